@@ -1,0 +1,5 @@
+pub mod Bytes
+pub mod Form
+pub mod Laws
+pub mod Codec
+pub mod Same

@@ -1,0 +1,296 @@
+// Expressions of RT0 and their 18 bytes.
+ghost use mathlib.Core.Path.{_≡_};
+ghost use Prim.Native.Nat.{_+_, _≤_, _<_};
+ghost use lib.ListN.{length};
+ghost use lib.Seq.{sets};
+ghost use Rattle.expression.specs.Bytes.{numberAt, rawAt, rawBytes, pasted};
+ghost use Rattle.expression.specs.Form.{candidateOf, rawOf, wellFormed, sameRaw, formOf, readOf, ascends, isRole, isEmpty, tailFormed, partsFormed, expressionOf};
+
+ghost use Rattle.expression.specs.Same.{sameRole, same as sameExpression};
+
+pub struct Role {
+    pub entity: u16,
+    pub name: u16,
+}
+
+// Two to four roles; those past count are zero.
+pub struct Parts {
+    pub count: u8,
+    pub first: Role,
+    pub second: Role,
+    pub third: Role,
+    pub fourth: Role,
+}
+
+pub enum Expression {
+    Entity(u16),
+    Role(Role),
+    Linked(Role, u16),
+    Intersection(Parts),
+    Goal(u16),
+}
+
+pub enum ExpressionAnswer {
+    Read(Expression),
+    Wrong,
+}
+
+// head <- body
+pub struct Credential {
+    pub head: Role,
+    pub body: Expression,
+}
+
+// The 18 bytes as numbers, of right form or not.
+pub struct Raw {
+    pub kind: u8,
+    pub count: u8,
+    pub n0: u16,
+    pub n1: u16,
+    pub n2: u16,
+    pub n3: u16,
+    pub n4: u16,
+    pub n5: u16,
+    pub n6: u16,
+    pub n7: u16,
+}
+
+fn wide(x: u8) -> u16
+    ensures { λ r. ⌜ r ≡ x ⌝ }
+{
+    x as u16
+}
+
+pub fn number_at(s: &[u8], at: usize) -> u16
+    requires { ⌜ at + 1 < length (now s) ⌝ }
+    ensures { λ r. ⌜ r ≡ numberAt (now (s .entry)) at ⌝ }
+{
+    (s[at] as u16) * 256 + (s[at + 1] as u16)
+}
+
+pub fn raw_at(s: &[u8], at: usize) -> Raw
+    requires { ⌜ at + 18 ≤ length (now s) ⌝ }
+    ensures { λ r. ⌜ r ≡ rawAt (now (s .entry)) at ⌝ }
+{
+    Raw {
+        kind: s[at],
+        count: s[at + 1],
+        n0: number_at(s, at + 2),
+        n1: number_at(s, at + 4),
+        n2: number_at(s, at + 6),
+        n3: number_at(s, at + 8),
+        n4: number_at(s, at + 10),
+        n5: number_at(s, at + 12),
+        n6: number_at(s, at + 14),
+        n7: number_at(s, at + 16),
+    }
+}
+
+pub fn raw_of(e: Expression) -> Raw
+    ensures { λ r. ⌜ r ≡ rawOf e ⌝ }
+{
+    match e {
+        Expression::Entity(n) => Raw { kind: 1, count: 0, n0: n, n1: 0, n2: 0, n3: 0, n4: 0, n5: 0, n6: 0, n7: 0 },
+        Expression::Role(r) => Raw { kind: 2, count: 0, n0: r.entity, n1: r.name, n2: 0, n3: 0, n4: 0, n5: 0, n6: 0, n7: 0 },
+        Expression::Linked(r, n) => Raw { kind: 3, count: 0, n0: r.entity, n1: r.name, n2: n, n3: 0, n4: 0, n5: 0, n6: 0, n7: 0 },
+        Expression::Intersection(p) => Raw {
+            kind: 4,
+            count: p.count,
+            n0: p.first.entity,
+            n1: p.first.name,
+            n2: p.second.entity,
+            n3: p.second.name,
+            n4: p.third.entity,
+            n5: p.third.name,
+            n6: p.fourth.entity,
+            n7: p.fourth.name,
+        },
+        Expression::Goal(n) => Raw { kind: 5, count: 0, n0: n, n1: 0, n2: 0, n3: 0, n4: 0, n5: 0, n6: 0, n7: 0 },
+    }
+}
+
+// The only expression whose numbers may be these.
+pub fn candidate(r: Raw) -> ExpressionAnswer
+    ensures { λ a. ⌜ a ≡ candidateOf r ⌝ }
+{
+    let kind = r.kind;
+    match kind {
+        1 => ExpressionAnswer::Read(Expression::Entity(r.n0)),
+        2 => ExpressionAnswer::Read(Expression::Role(Role { entity: r.n0, name: r.n1 })),
+        3 => ExpressionAnswer::Read(Expression::Linked(Role { entity: r.n0, name: r.n1 }, r.n2)),
+        4 => ExpressionAnswer::Read(Expression::Intersection(Parts {
+            count: r.count,
+            first: Role { entity: r.n0, name: r.n1 },
+            second: Role { entity: r.n2, name: r.n3 },
+            third: Role { entity: r.n4, name: r.n5 },
+            fourth: Role { entity: r.n6, name: r.n7 },
+        })),
+        5 => ExpressionAnswer::Read(Expression::Goal(r.n0)),
+        _ => ExpressionAnswer::Wrong,
+    }
+}
+
+pub fn is_role(r: Role) -> bool
+    ensures { λ b. ⌜ b ≡ isRole r ⌝ }
+{
+    (0 < r.entity) & (0 < r.name)
+}
+
+pub fn is_empty(r: Role) -> bool
+    ensures { λ b. ⌜ b ≡ isEmpty r ⌝ }
+{
+    (r.entity == 0) & (r.name == 0)
+}
+
+pub fn ascending(a: Role, b: Role) -> bool
+    ensures { λ r. ⌜ r ≡ ascends a b ⌝ }
+{
+    (a.entity < b.entity) | ((a.entity == b.entity) & (a.name < b.name))
+}
+
+fn tail_formed(p: Parts) -> bool
+    ensures { λ b. ⌜ b ≡ tailFormed p ⌝ }
+{
+    let second = p.second;
+    let third = p.third;
+    let fourth = p.fourth;
+    let count = p.count;
+    match count {
+        2 => is_empty(third) & is_empty(fourth),
+        3 => is_role(third) & ascending(second, third) & is_empty(fourth),
+        4 => is_role(third) & ascending(second, third) & is_role(fourth) & ascending(third, fourth),
+        _ => false,
+    }
+}
+
+fn parts_formed(p: Parts) -> bool
+    ensures { λ b. ⌜ b ≡ partsFormed p ⌝ }
+{
+    let first = p.first;
+    let second = p.second;
+    is_role(first) & is_role(second) & ascending(first, second) & tail_formed(p)
+}
+
+pub fn well_formed(e: Expression) -> bool
+    ensures { λ b. ⌜ b ≡ wellFormed e ⌝ }
+{
+    match e {
+        Expression::Entity(n) => 0 < n,
+        Expression::Role(r) => is_role(r),
+        Expression::Linked(r, n) => is_role(r) & (0 < n),
+        Expression::Intersection(p) => parts_formed(p),
+        Expression::Goal(n) => 0 < n,
+    }
+}
+
+pub fn same_role(p: Role, q: Role) -> bool
+    ensures { λ r. ⌜ r ≡ sameRole p q ⌝ }
+{
+    (p.entity == q.entity) & (p.name == q.name)
+}
+
+pub fn same(x: Expression, y: Expression) -> bool
+    ensures { λ r. ⌜ r ≡ sameExpression x y ⌝ }
+{
+    same_raw(raw_of(x), raw_of(y))
+}
+
+fn same_raw(a: Raw, b: Raw) -> bool
+    ensures { λ r. ⌜ r ≡ sameRaw a b ⌝ }
+{
+    (a.kind == b.kind)
+        & (a.count == b.count)
+        & (a.n0 == b.n0)
+        & (a.n1 == b.n1)
+        & (a.n2 == b.n2)
+        & (a.n3 == b.n3)
+        & (a.n4 == b.n4)
+        & (a.n5 == b.n5)
+        & (a.n6 == b.n6)
+        & (a.n7 == b.n7)
+}
+
+pub fn form(r: Raw) -> ExpressionAnswer
+    ensures { λ a. ⌜ a ≡ formOf r ⌝ }
+{
+    let ExpressionAnswer::Read(e) = candidate(r) else {
+        return ExpressionAnswer::Wrong;
+    };
+    if same_raw(raw_of(e), r) & well_formed(e) {
+        ExpressionAnswer::Read(e)
+    } else {
+        ExpressionAnswer::Wrong
+    }
+}
+
+pub fn read_expression(s: &[u8], at: usize) -> ExpressionAnswer
+    requires { ⌜ at + 18 ≤ length (now s) ⌝ }
+    ensures { λ r. ⌜ r ≡ readOf (now (s .entry)) at ⌝ }
+{
+    form(raw_at(s, at))
+}
+
+pub fn raw_bytes(r: Raw) -> [u8; 18]
+    ensures { λ b. ⌜ b ≡ rawBytes r ⌝ }
+{
+    [
+        r.kind,
+        r.count,
+        (r.n0 / 256) as u8,
+        (r.n0 % 256) as u8,
+        (r.n1 / 256) as u8,
+        (r.n1 % 256) as u8,
+        (r.n2 / 256) as u8,
+        (r.n2 % 256) as u8,
+        (r.n3 / 256) as u8,
+        (r.n3 % 256) as u8,
+        (r.n4 / 256) as u8,
+        (r.n4 % 256) as u8,
+        (r.n5 / 256) as u8,
+        (r.n5 % 256) as u8,
+        (r.n6 / 256) as u8,
+        (r.n6 % 256) as u8,
+        (r.n7 / 256) as u8,
+        (r.n7 % 256) as u8,
+    ]
+}
+
+// All of src goes into dst from index at.
+pub fn copy_in(dst: &mut [u8], at: usize, src: &[u8])
+    requires { ⌜ at + length (now src) ≤ length (now dst) ⌝ }
+    ensures { λ _. ⌜ now (dst .exit) ≡ pasted (now (dst .entry)) at (now (src .entry)) ⌝ }
+{
+    let mut j = 0;
+    while j < src.len() {
+        dst[at + j] = src[j];
+        j += 1;
+    }
+}
+
+pub fn write_expression(s: &mut [u8], at: usize, e: Expression)
+    requires { ⌜ at + 18 ≤ length (now s) ⌝ }
+    ensures { λ _. ⌜ now (s .exit) ≡ pasted (now (s .entry)) at (rawBytes (rawOf e)) ⌝ }
+{
+    let b = raw_bytes(raw_of(e));
+    copy_in(s, at, &b);
+}
+
+// The expression that such numbers would be; its numbers are these where they are of right form.
+pub fn expression_of(r: Raw) -> Expression
+    ensures { λ e. ⌜ e ≡ expressionOf r ⌝ }
+{
+    let kind = r.kind;
+    match kind {
+        1 => Expression::Entity(r.n0),
+        2 => Expression::Role(Role { entity: r.n0, name: r.n1 }),
+        3 => Expression::Linked(Role { entity: r.n0, name: r.n1 }, r.n2),
+        4 => Expression::Intersection(Parts {
+            count: r.count,
+            first: Role { entity: r.n0, name: r.n1 },
+            second: Role { entity: r.n2, name: r.n3 },
+            third: Role { entity: r.n4, name: r.n5 },
+            fourth: Role { entity: r.n6, name: r.n7 },
+        }),
+        _ => Expression::Goal(r.n0),
+    }
+}
