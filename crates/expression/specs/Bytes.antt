@@ -11,18 +11,18 @@ numberAt s at = getD s at 0 * 256 + getD s (at + 1) 0
 
 abbrev pub rawAt : List ℕ → ℕ → Raw
 rawAt s at =
-    record
-      { kind = getD s at 0
-      ; count = getD s (at + 1) 0
-      ; n0 = numberAt s (at + 2)
-      ; n1 = numberAt s (at + 4)
-      ; n2 = numberAt s (at + 6)
-      ; n3 = numberAt s (at + 8)
-      ; n4 = numberAt s (at + 10)
-      ; n5 = numberAt s (at + 12)
-      ; n6 = numberAt s (at + 14)
-      ; n7 = numberAt s (at + 16)
-      }
+    record {
+      kind = getD s at 0;
+      count = getD s (at + 1) 0;
+      n0 = numberAt s (at + 2);
+      n1 = numberAt s (at + 4);
+      n2 = numberAt s (at + 6);
+      n3 = numberAt s (at + 8);
+      n4 = numberAt s (at + 10);
+      n5 = numberAt s (at + 12);
+      n6 = numberAt s (at + 14);
+      n7 = numberAt s (at + 16);
+    }
 
 abbrev pub rawBytes : Raw → List ℕ
 rawBytes r =

@@ -34,9 +34,9 @@ module _ (d s : List ℕ) (at : ℕ) (room : at + length s ≤ length d) where
 pub raw-back : (d : List ℕ) (at : ℕ) (r : Raw) → at + 18 ≤ length d → rawAt (pasted d at (rawBytes r)) at ≡ r
 raw-back d at r room =
     let num : (i : ℕ) → i + 1 < 18 → numberAt (pasted d at (rawBytes r)) (at + i) ≡ getD (rawBytes r) i 0 * 256 + getD (rawBytes r) (i + 1) 0
-          = number-paste d (rawBytes r) at room in
+    = number-paste d (rawBytes r) at room in
     let k : getD (pasted d at (rawBytes r)) at 0 ≡ r .kind
-          = ap (λ (j : ℕ). getD (pasted d at (rawBytes r)) j 0) (sym (add-zero at)) ∙ getD-paste d (rawBytes r) at room 0 (omega arith) in
+    = ap (λ (j : ℕ). getD (pasted d at (rawBytes r)) j 0) (sym (add-zero at)) ∙ getD-paste d (rawBytes r) at room 0 (omega arith) in
     let c : getD (pasted d at (rawBytes r)) (at + 1) 0 ≡ r .count = getD-paste d (rawBytes r) at room 1 (omega arith) in
     let h0 : numberAt (pasted d at (rawBytes r)) (at + 2) ≡ r .n0 = num 2 (omega arith) ∙ div-add-mod' (r .n0) 256 in
     let h1 : numberAt (pasted d at (rawBytes r)) (at + 4) ≡ r .n1 = num 4 (omega arith) ∙ div-add-mod' (r .n1) 256 in
@@ -80,11 +80,11 @@ pub raw-only : (s : List ℕ) (at : ℕ) → ((i : ℕ) → getD s i 0 < 256) �
 raw-only s at bytes room =
     let hi : (i : ℕ) → numberAt s (at + i) / 256 ≡ getD s (at + i) 0 = λ i. high (getD s (at + i) 0) (getD s (at + i + 1) 0) (bytes (at + i + 1)) in
     let lo : (i : ℕ) → numberAt s (at + i) % 256 ≡ getD s (at + (i + 1)) 0
-          = λ i. low (getD s (at + i) 0) (getD s (at + i + 1) 0) (bytes (at + i + 1)) ∙ ap (λ (k : ℕ). getD s k 0) (add-assoc at i 1) in
+    = λ i. low (getD s (at + i) 0) (getD s (at + i + 1) 0) (bytes (at + i + 1)) ∙ ap (λ (k : ℕ). getD s k 0) (add-assoc at i 1) in
     let z : getD s at 0 ≡ getD s (at + 0) 0 = ap (λ (k : ℕ). getD s k 0) (sym (add-zero at)) in
     let written : rawBytes (rawAt s at) ≡ spell 18 s at 0
-          = λ i. z i ∷ getD s (at + 1) 0 ∷ hi 2 i ∷ lo 2 i ∷ hi 4 i ∷ lo 4 i ∷ hi 6 i ∷ lo 6 i ∷ hi 8 i ∷ lo 8 i
-              ∷ hi 10 i ∷ lo 10 i ∷ hi 12 i ∷ lo 12 i ∷ hi 14 i ∷ lo 14 i ∷ hi 16 i ∷ lo 16 i ∷ [] in
+    = λ i. z i ∷ getD s (at + 1) 0 ∷ hi 2 i ∷ lo 2 i ∷ hi 4 i ∷ lo 4 i ∷ hi 6 i ∷ lo 6 i ∷ hi 8 i ∷ lo 8 i
+    ∷ hi 10 i ∷ lo 10 i ∷ hi 12 i ∷ lo 12 i ∷ hi 14 i ∷ lo 14 i ∷ hi 16 i ∷ lo 16 i ∷ [] in
     written ∙ sym (spelled 18 s at 0 (omega arith)) ∙ ap (λ (k : ℕ). take 18 (drop k s)) (add-zero at)
 
 -- reading succeeds only on the bytes that writing yields

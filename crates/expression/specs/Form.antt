@@ -25,18 +25,18 @@ rawOf (x.Entity n) = record { kind = 1; count = 0; n0 = n; n1 = 0; n2 = 0; n3 = 
 rawOf (x.Role r) = record { kind = 2; count = 0; n0 = r .entity; n1 = r .name; n2 = 0; n3 = 0; n4 = 0; n5 = 0; n6 = 0; n7 = 0 }
 rawOf (x.Linked r n) = record { kind = 3; count = 0; n0 = r .entity; n1 = r .name; n2 = n; n3 = 0; n4 = 0; n5 = 0; n6 = 0; n7 = 0 }
 rawOf (x.Intersection p) =
-    record
-      { kind = 4
-      ; count = p .count
-      ; n0 = p .first .entity
-      ; n1 = p .first .name
-      ; n2 = p .second .entity
-      ; n3 = p .second .name
-      ; n4 = p .third .entity
-      ; n5 = p .third .name
-      ; n6 = p .fourth .entity
-      ; n7 = p .fourth .name
-      }
+    record {
+      kind = 4;
+      count = p .count;
+      n0 = p .first .entity;
+      n1 = p .first .name;
+      n2 = p .second .entity;
+      n3 = p .second .name;
+      n4 = p .third .entity;
+      n5 = p .third .name;
+      n6 = p .fourth .entity;
+      n7 = p .fourth .name;
+    }
 rawOf (x.Goal n) = record { kind = 5; count = 0; n0 = n; n1 = 0; n2 = 0; n3 = 0; n4 = 0; n5 = 0; n6 = 0; n7 = 0 }
 
 abbrev pub candidateOf : Raw → ExpressionAnswer
@@ -45,13 +45,13 @@ candidateOf r =
     (pick (eqb (r .kind) 2) (Read (x.Role (record { entity = r .n0; name = r .n1 })))
     (pick (eqb (r .kind) 3) (Read (x.Linked (record { entity = r .n0; name = r .n1 }) (r .n2)))
     (pick (eqb (r .kind) 4)
-    (Read (x.Intersection (record
-      { count = r .count
-      ; first = record { entity = r .n0; name = r .n1 }
-      ; second = record { entity = r .n2; name = r .n3 }
-      ; third = record { entity = r .n4; name = r .n5 }
-      ; fourth = record { entity = r .n6; name = r .n7 }
-      })))
+    (Read (x.Intersection (record {
+      count = r .count;
+      first = record { entity = r .n0; name = r .n1 };
+      second = record { entity = r .n2; name = r .n3 };
+      third = record { entity = r .n4; name = r .n5 };
+      fourth = record { entity = r .n6; name = r .n7 };
+    })))
     (pick (eqb (r .kind) 5) (Read (x.Goal (r .n0))) Wrong))))
 
 -- strictly ascending by entity, then name
@@ -108,11 +108,11 @@ expressionOf r =
     (pickExpression (eqb (r .kind) 2) (x.Role (record { entity = r .n0; name = r .n1 }))
     (pickExpression (eqb (r .kind) 3) (x.Linked (record { entity = r .n0; name = r .n1 }) (r .n2))
     (pickExpression (eqb (r .kind) 4)
-    (x.Intersection (record
-      { count = r .count
-      ; first = record { entity = r .n0; name = r .n1 }
-      ; second = record { entity = r .n2; name = r .n3 }
-      ; third = record { entity = r .n4; name = r .n5 }
-      ; fourth = record { entity = r .n6; name = r .n7 }
-      }))
+    (x.Intersection (record {
+      count = r .count;
+      first = record { entity = r .n0; name = r .n1 };
+      second = record { entity = r .n2; name = r .n3 };
+      third = record { entity = r .n4; name = r .n5 };
+      fourth = record { entity = r .n6; name = r .n7 };
+    }))
     (x.Goal (r .n0)))))

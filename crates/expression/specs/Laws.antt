@@ -73,9 +73,9 @@ canonical r e h = go (candidateOf r) h
       where
         at : (t : Bool) → sameRaw (rawOf f) r && wellFormed f ≡ t → pick t (Read f) Wrong ≡ Read e → (rawOf e ≡ r) × (wellFormed e ≡ true)
         at true p q =
-            let same : f ≡ e = cc in
-            ( ap rawOf (sym same) ∙ same-raw (rawOf f) r (and-left (sameRaw (rawOf f) r) (wellFormed f) p)
-            , ap wellFormed (sym same) ∙ and-right (sameRaw (rawOf f) r) (wellFormed f) p
+            let same : f ≡ e = cc in (
+              ap rawOf (sym same) ∙ same-raw (rawOf f) r (and-left (sameRaw (rawOf f) r) (wellFormed f) p),
+              ap wellFormed (sym same) ∙ and-right (sameRaw (rawOf f) r) (wellFormed f) p,
             )
         at false p q = let z : _≡_ {A = ℕ} 0 1 = cc in absurd (omega arith)
     go Wrong k = let z : _≡_ {A = ℕ} 0 1 = cc in absurd (omega arith)

@@ -5,7 +5,6 @@ ghost use lib.ListN.{length};
 ghost use lib.Seq.{sets};
 ghost use Rattle.expression.specs.Bytes.{numberAt, rawAt, rawBytes, pasted};
 ghost use Rattle.expression.specs.Form.{candidateOf, rawOf, wellFormed, sameRaw, formOf, readOf, ascends, isRole, isEmpty, tailFormed, partsFormed, expressionOf};
-
 ghost use Rattle.expression.specs.Same.{sameRole, same as sameExpression};
 
 pub struct Role {
@@ -90,9 +89,42 @@ pub fn raw_of(e: Expression) -> Raw
     ensures { λ r. ⌜ r ≡ rawOf e ⌝ }
 {
     match e {
-        Expression::Entity(n) => Raw { kind: 1, count: 0, n0: n, n1: 0, n2: 0, n3: 0, n4: 0, n5: 0, n6: 0, n7: 0 },
-        Expression::Role(r) => Raw { kind: 2, count: 0, n0: r.entity, n1: r.name, n2: 0, n3: 0, n4: 0, n5: 0, n6: 0, n7: 0 },
-        Expression::Linked(r, n) => Raw { kind: 3, count: 0, n0: r.entity, n1: r.name, n2: n, n3: 0, n4: 0, n5: 0, n6: 0, n7: 0 },
+        Expression::Entity(n) => Raw {
+            kind: 1,
+            count: 0,
+            n0: n,
+            n1: 0,
+            n2: 0,
+            n3: 0,
+            n4: 0,
+            n5: 0,
+            n6: 0,
+            n7: 0,
+        },
+        Expression::Role(r) => Raw {
+            kind: 2,
+            count: 0,
+            n0: r.entity,
+            n1: r.name,
+            n2: 0,
+            n3: 0,
+            n4: 0,
+            n5: 0,
+            n6: 0,
+            n7: 0,
+        },
+        Expression::Linked(r, n) => Raw {
+            kind: 3,
+            count: 0,
+            n0: r.entity,
+            n1: r.name,
+            n2: n,
+            n3: 0,
+            n4: 0,
+            n5: 0,
+            n6: 0,
+            n7: 0,
+        },
         Expression::Intersection(p) => Raw {
             kind: 4,
             count: p.count,
@@ -105,7 +137,18 @@ pub fn raw_of(e: Expression) -> Raw
             n6: p.fourth.entity,
             n7: p.fourth.name,
         },
-        Expression::Goal(n) => Raw { kind: 5, count: 0, n0: n, n1: 0, n2: 0, n3: 0, n4: 0, n5: 0, n6: 0, n7: 0 },
+        Expression::Goal(n) => Raw {
+            kind: 5,
+            count: 0,
+            n0: n,
+            n1: 0,
+            n2: 0,
+            n3: 0,
+            n4: 0,
+            n5: 0,
+            n6: 0,
+            n7: 0,
+        },
     }
 }
 
@@ -116,14 +159,35 @@ pub fn candidate(r: Raw) -> ExpressionAnswer
     let kind = r.kind;
     match kind {
         1 => ExpressionAnswer::Read(Expression::Entity(r.n0)),
-        2 => ExpressionAnswer::Read(Expression::Role(Role { entity: r.n0, name: r.n1 })),
-        3 => ExpressionAnswer::Read(Expression::Linked(Role { entity: r.n0, name: r.n1 }, r.n2)),
+        2 => ExpressionAnswer::Read(Expression::Role(Role {
+            entity: r.n0,
+            name: r.n1,
+        })),
+        3 => ExpressionAnswer::Read(Expression::Linked(
+            Role {
+                entity: r.n0,
+                name: r.n1,
+            },
+            r.n2,
+        )),
         4 => ExpressionAnswer::Read(Expression::Intersection(Parts {
             count: r.count,
-            first: Role { entity: r.n0, name: r.n1 },
-            second: Role { entity: r.n2, name: r.n3 },
-            third: Role { entity: r.n4, name: r.n5 },
-            fourth: Role { entity: r.n6, name: r.n7 },
+            first: Role {
+                entity: r.n0,
+                name: r.n1,
+            },
+            second: Role {
+                entity: r.n2,
+                name: r.n3,
+            },
+            third: Role {
+                entity: r.n4,
+                name: r.n5,
+            },
+            fourth: Role {
+                entity: r.n6,
+                name: r.n7,
+            },
         })),
         5 => ExpressionAnswer::Read(Expression::Goal(r.n0)),
         _ => ExpressionAnswer::Wrong,
@@ -282,14 +346,35 @@ pub fn expression_of(r: Raw) -> Expression
     let kind = r.kind;
     match kind {
         1 => Expression::Entity(r.n0),
-        2 => Expression::Role(Role { entity: r.n0, name: r.n1 }),
-        3 => Expression::Linked(Role { entity: r.n0, name: r.n1 }, r.n2),
+        2 => Expression::Role(Role {
+            entity: r.n0,
+            name: r.n1,
+        }),
+        3 => Expression::Linked(
+            Role {
+                entity: r.n0,
+                name: r.n1,
+            },
+            r.n2,
+        ),
         4 => Expression::Intersection(Parts {
             count: r.count,
-            first: Role { entity: r.n0, name: r.n1 },
-            second: Role { entity: r.n2, name: r.n3 },
-            third: Role { entity: r.n4, name: r.n5 },
-            fourth: Role { entity: r.n6, name: r.n7 },
+            first: Role {
+                entity: r.n0,
+                name: r.n1,
+            },
+            second: Role {
+                entity: r.n2,
+                name: r.n3,
+            },
+            third: Role {
+                entity: r.n4,
+                name: r.n5,
+            },
+            fourth: Role {
+                entity: r.n6,
+                name: r.n7,
+            },
         }),
         _ => Expression::Goal(r.n0),
     }

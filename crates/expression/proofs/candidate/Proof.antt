@@ -21,12 +21,12 @@ returns-5 c = simp (c .match .keys5)
 
 returns-6 : tie.Need-returns-6
 returns-6 c =
-    simp
-    ( ne-eqb _ _ (c .match .rest .0 .0 .0 .0 .1)
-    , ne-eqb _ _ (c .match .rest .0 .0 .0 .1)
-    , ne-eqb _ _ (c .match .rest .0 .0 .1)
-    , ne-eqb _ _ (c .match .rest .0 .1)
-    , ne-eqb _ _ (c .match .rest .1)
+    simp (
+      ne-eqb _ _ (c .match .rest .0 .0 .0 .0 .1),
+      ne-eqb _ _ (c .match .rest .0 .0 .0 .1),
+      ne-eqb _ _ (c .match .rest .0 .0 .1),
+      ne-eqb _ _ (c .match .rest .0 .1),
+      ne-eqb _ _ (c .match .rest .1),
     )
 
 pub candidate-spec : {M : Type 1} → statement M

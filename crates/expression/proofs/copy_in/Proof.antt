@@ -44,17 +44,17 @@ loop-less c = omega arith
 
 -- src/lib.rt:244:5
 loop-again : tie.Need-loop-again Inv-loop μ-loop
-loop-again c = 
+loop-again c =
     let s = c .before .before in
     let a = s .before in
     let j : ℕ = s .loop .j in
     let hd : a .args .at + j < length (a .args .dst .now) = omega arith in
-    let hs : j < length (a .args .src .now) = omega arith in
-    ( omega arith
-    , simp length-set (s .loop .inv .1)
-    , ap (λ (l : List ℕ). set l (a .args .at + j) (getD (a .args .src .now) j 0)) (s .loop .inv .2)
-      ∙ paste-suc (a .args .dst .now) (a .args .at) (a .args .src .now) j 0 hd hs
-      ∙ ap (paste (a .args .dst .now) (a .args .at) (a .args .src .now)) (sym (add-one j))
+    let hs : j < length (a .args .src .now) = omega arith in (
+      omega arith,
+      simp length-set (s .loop .inv .1),
+      ap (λ (l : List ℕ). set l (a .args .at + j) (getD (a .args .src .now) j 0)) (s .loop .inv .2)
+          ∙ paste-suc (a .args .dst .now) (a .args .at) (a .args .src .now) j 0 hd hs
+          ∙ ap (paste (a .args .dst .now) (a .args .at) (a .args .src .now)) (sym (add-one j)),
     )
 
 -- src/lib.rt:239:1

@@ -18,11 +18,11 @@ returns-4 c = simp (c .match .keys4)
 
 returns-5 : tie.Need-returns-5
 returns-5 c =
-    simp
-    ( ne-eqb _ _ (c .match .rest .0 .0 .0 .1)
-    , ne-eqb _ _ (c .match .rest .0 .0 .1)
-    , ne-eqb _ _ (c .match .rest .0 .1)
-    , ne-eqb _ _ (c .match .rest .1)
+    simp (
+      ne-eqb _ _ (c .match .rest .0 .0 .0 .1),
+      ne-eqb _ _ (c .match .rest .0 .0 .1),
+      ne-eqb _ _ (c .match .rest .0 .1),
+      ne-eqb _ _ (c .match .rest .1),
     )
 
 pub expression-of-spec : {M : Type 1} → statement M

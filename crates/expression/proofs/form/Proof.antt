@@ -42,7 +42,7 @@ well-formed-requires c κs = search needs
 
 -- src/lib.rt:193:1
 returns-2 : tie.Need-returns-2
-returns-2 c = 
+returns-2 c =
     let d = c .before .before .before .before .before in
     let r = d .before .before .before .args .r in
     let e = d .e .given .0 .0 in
@@ -51,7 +51,7 @@ returns-2 c =
 
 -- src/lib.rt:193:1
 returns-3 : tie.Need-returns-3
-returns-3 c = 
+returns-3 c =
     let d = c .before .before .before .before .before in
     let r = d .before .before .before .args .r in
     let e = d .e .given .0 .0 in
