@@ -3,3 +3,5 @@ pub mod Form
 pub mod Laws
 pub mod Codec
 pub mod Same
+pub mod Credential
+pub mod CredentialLaws

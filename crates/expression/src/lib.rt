@@ -8,6 +8,10 @@ ghost use Rattle.expression.specs.Form.{candidateOf, rawOf, wellFormed, 
 
 ghost use Rattle.expression.specs.Same.{sameRole, same as sameExpression};
 
+mod credentials;
+
+pub use credentials::{read_credential, role_bytes, well_formed_credential, write_credential};
+
 pub struct Role {
     pub entity: u16,
     pub name: u16,
@@ -41,6 +45,11 @@ pub struct Credential {
     pub body: Expression,
 }
 
+pub enum CredentialAnswer {
+    Read(Credential),
+    Wrong,
+}
+
 // The 18 bytes as numbers, of right form or not.
 pub struct Raw {
     pub kind: u8,
@@ -53,12 +62,6 @@ pub struct Raw {
     pub n5: u16,
     pub n6: u16,
     pub n7: u16,
-}
-
-fn wide(x: u8) -> u16
-    ensures { λ r. ⌜ r ≡ x ⌝ }
-{
-    x as u16
 }
 
 pub fn number_at(s: &[u8], at: usize) -> u16
