@@ -5,3 +5,5 @@ pub mod Codec
 pub mod Same
 pub mod Credential
 pub mod CredentialLaws
+pub mod Order
+pub mod OrderLaws

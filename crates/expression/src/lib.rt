@@ -9,8 +9,10 @@ ghost use Rattle.expression.specs.Form.{candidateOf, rawOf, wellFormed, 
 ghost use Rattle.expression.specs.Same.{sameRole, same as sameExpression};
 
 mod credentials;
+mod order;
 
 pub use credentials::{read_credential, role_bytes, well_formed_credential, write_credential};
+pub use order::{before, before_credential};
 
 pub struct Role {
     pub entity: u16,
