@@ -5,17 +5,17 @@ use mathlib.Core.List.{List, [], _∷_, _++_, append-assoc}
 use mathlib.Core.Bool.{true}
 use native.Mathlib.Omega.{arith}
 use native.Mathlib.Nat.{add-zero, add-assoc, div-add-mod'}
-use native.Mathlib.Numerals.{add-one}
 use lib.ListN.{length, getD, take, drop, length-append, List·getD-append}
 use lib.Seq.{take-length, length-take-le, length-paste-head, take-paste, drop-paste, drop-drop, getD-append-add, drop-cons}
 use Rattle.expression.specs.declared.Raw.{Raw}
 use Rattle.expression.specs.declared.Expression.{Expression}
-use Rattle.expression.specs.declared.ExpressionAnswer.the-variants.{Read, Wrong}
+use Rattle.expression.specs.declared.ExpressionAnswer.the-variants.{Read}
 use Rattle.expression.specs.Bytes.{rawAt, rawBytes, numberAt, pasted}
 use Rattle.expression.specs.Form.{rawOf, wellFormed, formOf, readOf}
 use Rattle.expression.specs.Laws.{complete, canonical}
 
 module _ (d s : List ℕ) (at : ℕ) (room : at + length s ≤ length d) where
+  -- a byte that was copied
   pub getD-paste : (i : ℕ) → i < length s → getD (pasted d at s) (at + i) 0 ≡ getD s i 0
   getD-paste i h =
       let e : length (take at d ++ take (length s) s) ≡ at + length s = length-paste-head d at s (length s) (omega arith) (omega arith) in
@@ -24,6 +24,7 @@ module _ (d s : List ℕ) (at : ℕ) (room : at + length s ≤ length d) where
       ∙ getD-append-add (take at d) (take (length s) s) i 0
       ∙ ap (λ (l : List ℕ). getD l i 0) (take-length s)
 
+  -- a number whose two bytes were copied
   pub number-paste : (i : ℕ) → i + 1 < length s → numberAt (pasted d at s) (at + i) ≡ getD s i 0 * 256 + getD s (i + 1) 0
   number-paste i h =
       let high : getD (pasted d at s) (at + i) 0 ≡ getD s i 0 = getD-paste i (omega arith) in
@@ -36,13 +37,13 @@ pub paste-paste : (d : List ℕ) (at : ℕ) (xs ys : List ℕ) → at + length x
 paste-paste d at xs ys h =
     let n : ℕ = at + length xs in
     let head : take n (pasted d at xs) ≡ take at d ++ xs
-          = take-paste d at xs (length xs) (omega arith) (omega arith) ∙ ap (λ (l : List ℕ). take at d ++ l) (take-length xs) in
+    = take-paste d at xs (length xs) (omega arith) (omega arith) ∙ ap (λ (l : List ℕ). take at d ++ l) (take-length xs) in
     let e : n + length ys ≡ at + length (xs ++ ys) = omega (arith, length-append xs ys) in
     let rest : drop (n + length ys) (pasted d at xs) ≡ drop (at + length (xs ++ ys)) d
-          = sym (drop-drop (length ys) n (pasted d at xs))
-            ∙ ap (drop (length ys)) (drop-paste d at xs (length xs) (omega arith) (omega arith))
-            ∙ drop-drop (length ys) n d
-            ∙ ap (λ (k : ℕ). drop k d) e in
+    = sym (drop-drop (length ys) n (pasted d at xs))
+    ∙ ap (drop (length ys)) (drop-paste d at xs (length xs) (omega arith) (omega arith))
+    ∙ drop-drop (length ys) n d
+    ∙ ap (λ (k : ℕ). drop k d) e in
     (λ j. head j ++ take-length ys j ++ rest j)
     ∙ ap (λ (l : List ℕ). l ++ drop (at + length (xs ++ ys)) d) (append-assoc (take at d) xs ys)
     ∙ ap (λ (l : List ℕ). take at d ++ l ++ drop (at + length (xs ++ ys)) d) (sym (take-length (xs ++ ys)))
@@ -51,9 +52,9 @@ paste-paste d at xs ys h =
 pub raw-back : (d : List ℕ) (at : ℕ) (r : Raw) → at + 18 ≤ length d → rawAt (pasted d at (rawBytes r)) at ≡ r
 raw-back d at r room =
     let num : (i : ℕ) → i + 1 < 18 → numberAt (pasted d at (rawBytes r)) (at + i) ≡ getD (rawBytes r) i 0 * 256 + getD (rawBytes r) (i + 1) 0
-          = number-paste d (rawBytes r) at room in
+    = number-paste d (rawBytes r) at room in
     let k : getD (pasted d at (rawBytes r)) at 0 ≡ r .kind
-          = ap (λ (j : ℕ). getD (pasted d at (rawBytes r)) j 0) (sym (add-zero at)) ∙ getD-paste d (rawBytes r) at room 0 (omega arith) in
+    = ap (λ (j : ℕ). getD (pasted d at (rawBytes r)) j 0) (sym (add-zero at)) ∙ getD-paste d (rawBytes r) at room 0 (omega arith) in
     let c : getD (pasted d at (rawBytes r)) (at + 1) 0 ≡ r .count = getD-paste d (rawBytes r) at room 1 (omega arith) in
     let h0 : numberAt (pasted d at (rawBytes r)) (at + 2) ≡ r .n0 = num 2 (omega arith) ∙ div-add-mod' (r .n0) 256 in
     let h1 : numberAt (pasted d at (rawBytes r)) (at + 4) ≡ r .n1 = num 4 (omega arith) ∙ div-add-mod' (r .n1) 256 in
@@ -65,7 +66,7 @@ raw-back d at r room =
     let h7 : numberAt (pasted d at (rawBytes r)) (at + 16) ≡ r .n7 = num 16 (omega arith) ∙ div-add-mod' (r .n7) 256 in
     λ i. record { kind = k i; count = c i; n0 = h0 i; n1 = h1 i; n2 = h2 i; n3 = h3 i; n4 = h4 i; n5 = h5 i; n6 = h6 i; n7 = h7 i }
 
--- read ∘ write
+-- a well-formed expression is read back from where it was written
 pub read-write : (d : List ℕ) (at : ℕ) (e : Expression) → at + 18 ≤ length d → wellFormed e ≡ true → readOf (pasted d at (rawBytes (rawOf e))) at ≡ Read e
 read-write d at e room h = ap formOf (raw-back d at (rawOf e) room) ∙ complete e h
 
@@ -91,22 +92,23 @@ low : (a b : ℕ) → b < 256 → (a * 256 + b) % 256 ≡ b
 low a b h = omega arith
 
 module _ (s : List ℕ) (at i : ℕ) (bytes : (i : ℕ) → getD s i 0 < 256) where
-  -- the bytes of a number that was read are those that were read
+  -- the high byte of a number is that read first
   pub high-byte : numberAt s (at + i) / 256 ≡ getD s (at + i) 0
   high-byte = high (getD s (at + i) 0) (getD s (at + i + 1) 0) (bytes (at + i + 1))
 
+  -- the low byte of a number is that read second
   pub low-byte : numberAt s (at + i) % 256 ≡ getD s (at + (i + 1)) 0
   low-byte = low (getD s (at + i) 0) (getD s (at + i + 1) 0) (bytes (at + i + 1)) ∙ ap (λ (k : ℕ). getD s k 0) (add-assoc at i 1)
 
--- what is read is what writing it yields
+-- the bytes of the numbers read are those that stand there
 pub raw-only : (s : List ℕ) (at : ℕ) → ((i : ℕ) → getD s i 0 < 256) → at + 18 ≤ length s → rawBytes (rawAt s at) ≡ take 18 (drop at s)
 raw-only s at bytes room =
     let hi : (i : ℕ) → numberAt s (at + i) / 256 ≡ getD s (at + i) 0 = λ i. high-byte s at i bytes in
     let lo : (i : ℕ) → numberAt s (at + i) % 256 ≡ getD s (at + (i + 1)) 0 = λ i. low-byte s at i bytes in
     let z : getD s at 0 ≡ getD s (at + 0) 0 = ap (λ (k : ℕ). getD s k 0) (sym (add-zero at)) in
     let written : rawBytes (rawAt s at) ≡ spell 18 s at 0
-          = λ i. z i ∷ getD s (at + 1) 0 ∷ hi 2 i ∷ lo 2 i ∷ hi 4 i ∷ lo 4 i ∷ hi 6 i ∷ lo 6 i ∷ hi 8 i ∷ lo 8 i
-              ∷ hi 10 i ∷ lo 10 i ∷ hi 12 i ∷ lo 12 i ∷ hi 14 i ∷ lo 14 i ∷ hi 16 i ∷ lo 16 i ∷ [] in
+    = λ i. z i ∷ getD s (at + 1) 0 ∷ hi 2 i ∷ lo 2 i ∷ hi 4 i ∷ lo 4 i ∷ hi 6 i ∷ lo 6 i ∷ hi 8 i ∷ lo 8 i
+    ∷ hi 10 i ∷ lo 10 i ∷ hi 12 i ∷ lo 12 i ∷ hi 14 i ∷ lo 14 i ∷ hi 16 i ∷ lo 16 i ∷ [] in
     written ∙ sym (spelled 18 s at 0 (omega arith)) ∙ ap (λ (k : ℕ). take 18 (drop k s)) (add-zero at)
 
 -- reading succeeds only on the bytes that writing yields

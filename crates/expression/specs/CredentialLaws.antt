@@ -11,24 +11,23 @@ use Rattle.expression.specs.declared.Role.{Role}
 use Rattle.expression.specs.declared.ExpressionAnswer.{ExpressionAnswer}
 use Rattle.expression.specs.declared.ExpressionAnswer.the-variants as e
 use Rattle.expression.specs.declared.Credential.{Credential}
-use Rattle.expression.specs.declared.CredentialAnswer.{CredentialAnswer}
 use Rattle.expression.specs.declared.CredentialAnswer.the-variants.{Read, Wrong}
 use Rattle.expression.specs.Bytes.{numberAt, rawBytes, pasted}
 use Rattle.expression.specs.Form.{rawOf, readOf, isRole, wellFormed}
 use Rattle.expression.specs.Laws.{and-left, and-right}
 use Rattle.expression.specs.Codec.{number-paste, paste-paste, read-write, read-only, high-byte, low-byte, next-byte}
-use Rattle.expression.specs.Credential.{isBody, beginsWith, wellFormedCredential, pickCredential, roleAt, credentialOf, readCredential, roleBytes, credentialBytes}
+use Rattle.expression.specs.Credential.{isBody, beginsWith, wellFormedCredential, pickCredential, checkedCredential, roleAt, credentialOf, readCredential, roleBytes, credentialBytes}
 
--- how the reader goes: a body of wrong form, and the test of the whole
+-- the reader, where the body is of wrong form
 pub wrong-body : (s : List ℕ) (at : ℕ) → readOf s (at + 4) ≡ e.Wrong → readCredential s at ≡ Wrong
 unfolding readCredential
 wrong-body s at h = ap (credentialOf (roleAt s at)) h
 
-pub tested : (s : List ℕ) (at : ℕ) (c : Credential) (t : Bool) → c .head .entity ≡ numberAt s at → c .head .name ≡ numberAt s (at + 2)
-    → readOf s (at + 4) ≡ e.Read (c .body) → wellFormedCredential c ≡ t → readCredential s at ≡ pickCredential t (Read c) Wrong
+-- the reader, where the body is read
+pub read-body : (s : List ℕ) (at : ℕ) (c : Credential) → c .head .entity ≡ numberAt s at → c .head .name ≡ numberAt s (at + 2)
+    → readOf s (at + 4) ≡ e.Read (c .body) → readCredential s at ≡ checkedCredential c
 unfolding readCredential
-tested s at c t p q h w =
-    (λ i. credentialOf (record { entity = sym p i; name = sym q i }) (h i)) ∙ ap (λ (b : Bool). pickCredential b (Read c) Wrong) w
+read-body s at c p q h = λ i. credentialOf (record { entity = sym p i; name = sym q i }) (h i)
 
 -- the test of a credential has that of its body in it
 body-formed : (c : Credential) → wellFormedCredential c ≡ true → wellFormed (c .body) ≡ true
@@ -44,7 +43,7 @@ module _ (d : List ℕ) (at : ℕ) (c : Credential) (room : at + 22 ≤ length d
   head-back =
       let l : List ℕ = credentialBytes c in
       let entity : numberAt (pasted d at l) at ≡ c .head .entity
-            = ap (numberAt (pasted d at l)) (sym (add-zero at)) ∙ number-paste d l at room 0 (omega arith) ∙ div-add-mod' (c .head .entity) 256 in
+      = ap (numberAt (pasted d at l)) (sym (add-zero at)) ∙ number-paste d l at room 0 (omega arith) ∙ div-add-mod' (c .head .entity) 256 in
       let name : numberAt (pasted d at l) (at + 2) ≡ c .head .name = number-paste d l at room 2 (omega arith) ∙ div-add-mod' (c .head .name) 256 in
       λ i. record { entity = entity i; name = name i }
 
@@ -85,20 +84,21 @@ credential-read h (e.Read b) c k = at (wellFormedCredential r) refl k
     at false p q = let z : _≡_ {A = ℕ} 0 1 = cc in absurd (omega arith)
 credential-read h e.Wrong c k = let z : _≡_ {A = ℕ} 0 1 = cc in absurd (omega arith)
 
+-- the bytes of the head read are those that stand there
 head-only : (s : List ℕ) (at : ℕ) → ((i : ℕ) → getD s i 0 < 256) → at + 4 ≤ length s
     → take 22 (drop at s) ≡ roleBytes (roleAt s at) ++ take 18 (drop (at + 4) s)
 head-only s at bytes room =
     let step : (n i : ℕ) → at + i < length s → take (suc n) (drop (at + i) s) ≡ getD s (at + i) 0 ∷ take n (drop (at + (i + 1)) s)
-          = λ n i h. next-byte n s at i h in
+    = λ n i h. next-byte n s at i h in
     let zero-on : take 22 (drop at s) ≡ take 22 (drop (at + 0) s) = ap (λ (k : ℕ). take 22 (drop k s)) (sym (add-zero at)) in
     let spelled : take 22 (drop at s) ≡ getD s (at + 0) 0 ∷ getD s (at + 1) 0 ∷ getD s (at + 2) 0 ∷ getD s (at + 3) 0 ∷ take 18 (drop (at + 4) s)
-          = zero-on
-            ∙ step 21 0 (omega arith)
-            ∙ ap (λ (l : List ℕ). getD s (at + 0) 0 ∷ l)
-                ( step 20 1 (omega arith)
-                  ∙ ap (λ (l : List ℕ). getD s (at + 1) 0 ∷ l)
-                      (step 19 2 (omega arith) ∙ ap (λ (l : List ℕ). getD s (at + 2) 0 ∷ l) (step 18 3 (omega arith)))
-                ) in
+    = zero-on
+    ∙ step 21 0 (omega arith)
+    ∙ ap (λ (l : List ℕ). getD s (at + 0) 0 ∷ l)
+    (step 20 1 (omega arith)
+    ∙ ap (λ (l : List ℕ). getD s (at + 1) 0 ∷ l)
+    (step 19 2 (omega arith) ∙ ap (λ (l : List ℕ). getD s (at + 2) 0 ∷ l) (step 18 3 (omega arith)))
+    ) in
     let z : numberAt s at ≡ numberAt s (at + 0) = ap (numberAt s) (sym (add-zero at)) in
     let hi : (i : ℕ) → numberAt s (at + i) / 256 ≡ getD s (at + i) 0 = λ i. high-byte s at i bytes in
     let lo : (i : ℕ) → numberAt s (at + i) % 256 ≡ getD s (at + (i + 1)) 0 = λ i. low-byte s at i bytes in

@@ -1,4 +1,4 @@
--- The order by bytes, as a comparison of numbers.
+-- The order by bytes (document 01: records "ascend strictly by bytes"), as a comparison of numbers.
 use Prim.Native.Nat.{ℕ}
 use mathlib.Core.List.{List, [], _∷_}
 use mathlib.Core.Bool.{Bool, true, false, _&&_, _||_}
@@ -24,8 +24,10 @@ rawNumbers r = r .kind ∷ r .count ∷ r .n0 ∷ r .n1 ∷ r .n2 ∷ r .n3 ∷ 
 abbrev pub credentialNumbers : Credential → List ℕ
 credentialNumbers c = c .head .entity ∷ c .head .name ∷ rawNumbers (rawOf (c .body))
 
+-- kind, part count and the eight numbers decide, in this order
 unfoldable pub beforeOf : Expression → Expression → Bool
 beforeOf x y = lexLess (rawNumbers (rawOf x)) (rawNumbers (rawOf y))
 
+-- issuer, name, body decide, in this order
 unfoldable pub beforeCredential : Credential → Credential → Bool
 beforeCredential c d = lexLess (credentialNumbers c) (credentialNumbers d)

@@ -1,10 +1,9 @@
 -- The comparison of numbers is that of the bytes written.
 use Prim.Native.Nat.{ℕ, _/_, _%_, _<_}
 use mathlib.Core.Path.{_≡_, refl, sym, ap, _∙_}
-use mathlib.Core.List.{List, [], _∷_}
-use mathlib.Core.Bool.{Bool, true, false, _&&_, _||_}
+use mathlib.Core.Bool.{Bool, true, false}
 use native.Mathlib.Omega.{arith}
-use lib.Dec.{ltb, eqb}
+use lib.Dec.{ltb}
 use borrow.Author.Tests.{ltb-true, ltb-false, lt-ltb, le-ltb, eq-eqb, ne-eqb}
 use Rattle.expression.specs.declared.Raw.{Raw}
 use Rattle.expression.specs.declared.Expression.{Expression}
@@ -12,11 +11,11 @@ use Rattle.expression.specs.declared.Credential.{Credential}
 use Rattle.expression.specs.Bytes.{rawBytes}
 use Rattle.expression.specs.Form.{rawOf}
 use Rattle.expression.specs.Credential.{credentialBytes}
-use Rattle.expression.specs.Order.{leads, lexLess, rawNumbers, credentialNumbers, beforeOf, beforeCredential}
+use Rattle.expression.specs.Order.{leads, lexLess, rawNumbers, beforeOf, beforeCredential}
 
 -- a comparison found from its end
-pub then : (m n : ℕ) {r s t : Bool} → r ≡ leads m n s → s ≡ t → r ≡ leads m n t
-then m n h k = h ∙ ap (leads m n) k
+pub leads-then : (m n : ℕ) {r s t : Bool} → r ≡ leads m n s → s ≡ t → r ≡ leads m n t
+leads-then m n h k = h ∙ ap (leads m n) k
 
 -- two numbers are in one of three orders
 by-order : {A : Type 0} (m n : ℕ) → (m < n → A) → (m ≡ n → A) → (n < m → A) → A
@@ -40,13 +39,13 @@ leads-more m n r h = rw (le-ltb m n (omega arith), ne-eqb m n (λ e. omega arith
 leads-bytes : (m n : ℕ) (r : Bool) → leads m n r ≡ leads (m / 256) (n / 256) (leads (m % 256) (n % 256) r)
 leads-bytes m n r =
     by-order (m / 256) (n / 256)
-      (λ h. leads-less m n r (omega arith) ∙ sym (leads-less (m / 256) (n / 256) low h))
-      (λ h.
-        by-order (m % 256) (n % 256)
-          (λ k. leads-less m n r (omega arith) ∙ sym (leads-equal (m / 256) (n / 256) low h ∙ leads-less (m % 256) (n % 256) r k))
-          (λ k. leads-equal m n r (omega arith) ∙ sym (leads-equal (m / 256) (n / 256) low h ∙ leads-equal (m % 256) (n % 256) r k))
-          (λ k. leads-more m n r (omega arith) ∙ sym (leads-equal (m / 256) (n / 256) low h ∙ leads-more (m % 256) (n % 256) r k)))
-      (λ h. leads-more m n r (omega arith) ∙ sym (leads-more (m / 256) (n / 256) low h))
+    (λ h. leads-less m n r (omega arith) ∙ sym (leads-less (m / 256) (n / 256) low h))
+    (λ h.
+    by-order (m % 256) (n % 256)
+    (λ k. leads-less m n r (omega arith) ∙ sym (leads-equal (m / 256) (n / 256) low h ∙ leads-less (m % 256) (n % 256) r k))
+    (λ k. leads-equal m n r (omega arith) ∙ sym (leads-equal (m / 256) (n / 256) low h ∙ leads-equal (m % 256) (n % 256) r k))
+    (λ k. leads-more m n r (omega arith) ∙ sym (leads-equal (m / 256) (n / 256) low h ∙ leads-more (m % 256) (n % 256) r k)))
+    (λ h. leads-more m n r (omega arith) ∙ sym (leads-more (m / 256) (n / 256) low h))
   where
     low : Bool
     low = leads (m % 256) (n % 256) r

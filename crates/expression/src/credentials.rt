@@ -1,12 +1,20 @@
 // Credentials and their 22 bytes.
-use crate::{copy_in, is_role, number_at, read_expression, well_formed, write_expression};
-use crate::{Credential, CredentialAnswer, Expression, ExpressionAnswer, Role};
-
+use crate::Credential;
+use crate::CredentialAnswer;
+use crate::Expression;
+use crate::ExpressionAnswer;
+use crate::Role;
+use crate::copy_in;
+use crate::is_role;
+use crate::number_at;
+use crate::read_expression;
+use crate::well_formed;
+use crate::write_expression;
 ghost use mathlib.Core.Path.{_≡_};
 ghost use Prim.Native.Nat.{_+_, _≤_};
 ghost use lib.ListN.{length};
 ghost use Rattle.expression.specs.Bytes.{pasted};
-ghost use Rattle.expression.specs.Credential.{isBody, beginsWith, wellFormedCredential, readCredential, roleBytes, credentialBytes};
+ghost use Rattle.expression.specs.Credential.{isBody, beginsWith, wellFormedCredential, checkedCredential, readCredential, roleBytes, credentialBytes};
 
 fn is_body(e: Expression) -> bool
     ensures { λ r. ⌜ r ≡ isBody e ⌝ }
@@ -40,15 +48,9 @@ pub fn well_formed_credential(c: Credential) -> bool
     is_role(head) & well_formed(body) & is_body(body) & begins_with(head.entity, body)
 }
 
-pub fn read_credential(s: &[u8], at: usize) -> CredentialAnswer
-    requires { ⌜ at + 22 ≤ length (now s) ⌝ }
-    ensures { λ r. ⌜ r ≡ readCredential (now (s .entry)) at ⌝ }
+fn checked(c: Credential) -> CredentialAnswer
+    ensures { λ r. ⌜ r ≡ checkedCredential c ⌝ }
 {
-    let head = Role { entity: number_at(s, at), name: number_at(s, at + 2) };
-    let ExpressionAnswer::Read(body) = read_expression(s, at + 4) else {
-        return CredentialAnswer::Wrong;
-    };
-    let c = Credential { head, body };
     if well_formed_credential(c) {
         CredentialAnswer::Read(c)
     } else {
@@ -56,10 +58,29 @@ pub fn read_credential(s: &[u8], at: usize) -> CredentialAnswer
     }
 }
 
+pub fn read_credential(s: &[u8], at: usize) -> CredentialAnswer
+    requires { ⌜ at + 22 ≤ length (now s) ⌝ }
+    ensures { λ r. ⌜ r ≡ readCredential (now (s .entry)) at ⌝ }
+{
+    let head = Role {
+        entity: number_at(s, at),
+        name: number_at(s, at + 2),
+    };
+    let ExpressionAnswer::Read(body) = read_expression(s, at + 4) else {
+        return CredentialAnswer::Wrong;
+    };
+    checked(Credential { head, body })
+}
+
 pub fn role_bytes(r: Role) -> [u8; 4]
     ensures { λ b. ⌜ b ≡ roleBytes r ⌝ }
 {
-    [(r.entity / 256) as u8, (r.entity % 256) as u8, (r.name / 256) as u8, (r.name % 256) as u8]
+    [
+        (r.entity / 256) as u8,
+        (r.entity % 256) as u8,
+        (r.name / 256) as u8,
+        (r.name % 256) as u8,
+    ]
 }
 
 pub fn write_credential(s: &mut [u8], at: usize, c: Credential)

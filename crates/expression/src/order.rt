@@ -1,7 +1,8 @@
 // The order by bytes, found from the numbers.
+use crate::Credential;
+use crate::Expression;
+use crate::Raw;
 use crate::raw_of;
-use crate::{Credential, Expression, Raw};
-
 ghost use mathlib.Core.Path.{_≡_};
 ghost use Rattle.expression.specs.Order.{leads, lexLess, rawNumbers, beforeOf, beforeCredential};
 
@@ -36,10 +37,10 @@ pub fn before(x: Expression, y: Expression) -> bool
 pub fn before_credential(c: Credential, d: Credential) -> bool
     ensures { λ r. ⌜ r ≡ beforeCredential c d ⌝ }
 {
-    let head = c.head;
-    let other = d.head;
+    let h = c.head;
+    let k = d.head;
     let body = c.body;
-    let with = d.body;
-    let rest = ahead(head.name, other.name, before(body, with));
-    ahead(head.entity, other.entity, rest)
+    let other = d.body;
+    let rest = before(body, other);
+    ahead(h.entity, k.entity, ahead(h.name, k.name, rest))
 }

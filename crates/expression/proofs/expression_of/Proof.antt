@@ -1,8 +1,6 @@
 use borrow.Author.Tests.{ne-eqb}
 use Rattle.expression.proofs.expression_of.Statement.{statement}
 use Rattle.expression.proofs.expression_of.Tie as tie
-use Rattle.expression.proofs.expression_of.Reads as reads
-use Rattle.expression.proofs.expression_of.Lts as lts
 
 returns : tie.Need-returns
 returns c = simp (c .match .keys1)
@@ -18,11 +16,11 @@ returns-4 c = simp (c .match .keys4)
 
 returns-5 : tie.Need-returns-5
 returns-5 c =
-    simp
-    ( ne-eqb _ _ (c .match .rest .0 .0 .0 .1)
-    , ne-eqb _ _ (c .match .rest .0 .0 .1)
-    , ne-eqb _ _ (c .match .rest .0 .1)
-    , ne-eqb _ _ (c .match .rest .1)
+    simp (
+      ne-eqb _ _ (c .match .rest .0 .0 .0 .1),
+      ne-eqb _ _ (c .match .rest .0 .0 .1),
+      ne-eqb _ _ (c .match .rest .0 .1),
+      ne-eqb _ _ (c .match .rest .1),
     )
 
 pub expression-of-spec : {M : Type 1} → statement M

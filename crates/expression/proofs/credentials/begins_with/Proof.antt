@@ -3,46 +3,34 @@ use Rattle.expression.specs.Credential.{beginsWith}
 use borrow.Author.Needs.{needs}
 use Rattle.expression.proofs.credentials.begins_with.Statement.{statement}
 use Rattle.expression.proofs.credentials.begins_with.Tie as tie
-use Rattle.expression.proofs.credentials.begins_with.Reads as reads
-use Rattle.expression.proofs.credentials.begins_with.Lts as lts
 
--- src/credentials.rt:27:34
 enum-told : tie.Need-enum-told
 enum-told c = search needs
 
--- src/credentials.rt:28:32
 enum-told-2 : tie.Need-enum-told-2
 enum-told-2 c = search needs
 
--- src/credentials.rt:29:28
 enum-known-e : tie.Need-enum-known-e
 enum-known-e c = search needs
 
--- src/credentials.rt:30:40
 enum-told-3 : tie.Need-enum-told-3
 enum-told-3 c = search needs
 
--- src/credentials.rt:31:32
 enum-told-4 : tie.Need-enum-told-4
 enum-told-4 c = search needs
 
--- src/credentials.rt:23:1
 returns : tie.Need-returns
 returns c = search needs
 
--- src/credentials.rt:23:1
 returns-2 : tie.Need-returns-2
 returns-2 c = search needs
 
--- src/credentials.rt:23:1
 returns-3 : tie.Need-returns-3
 returns-3 c = sym (ap (beginsWith (c .before .before .before .before .args .issuer)) (c .before .before .e .given .1))
 
--- src/credentials.rt:23:1
 returns-4 : tie.Need-returns-4
 returns-4 c = search needs
 
--- src/credentials.rt:23:1
 returns-5 : tie.Need-returns-5
 returns-5 c = search needs
 

@@ -1,47 +1,35 @@
 use mathlib.Core.Path.{ap}
 use mathlib.Core.Bool.{Bool}
 use Rattle.expression.specs.Order.{leads}
-use Rattle.expression.specs.OrderLaws.{then}
+use Rattle.expression.specs.OrderLaws.{leads-then}
 use borrow.Author.Needs.{needs}
 use Rattle.expression.proofs.order.before_raw.Statement.{statement}
 use Rattle.expression.proofs.order.before_raw.Tie as tie
-use Rattle.expression.proofs.order.before_raw.Reads as reads
-use Rattle.expression.proofs.order.before_raw.Lts as lts
-use Rattle.expression.proofs.order.ahead.Reads as ahead-reads
 
--- src/order.rt:18:9
 ahead-requires : tie.Need-ahead-requires
 ahead-requires c κs = search needs
 
--- src/order.rt:19:9
 ahead-requires-2 : tie.Need-ahead-requires-2
 ahead-requires-2 c κs = search needs
 
--- src/order.rt:20:9
 ahead-requires-3 : tie.Need-ahead-requires-3
 ahead-requires-3 c κs = search needs
 
--- src/order.rt:21:9
 ahead-requires-4 : tie.Need-ahead-requires-4
 ahead-requires-4 c κs = search needs
 
--- src/order.rt:22:9
 ahead-requires-5 : tie.Need-ahead-requires-5
 ahead-requires-5 c κs = search needs
 
--- src/order.rt:23:9
 ahead-requires-6 : tie.Need-ahead-requires-6
 ahead-requires-6 c κs = search needs
 
--- src/order.rt:24:9
 ahead-requires-7 : tie.Need-ahead-requires-7
 ahead-requires-7 c κs = search needs
 
--- src/order.rt:25:9
 ahead-requires-8 : tie.Need-ahead-requires-8
 ahead-requires-8 c κs = search needs
 
--- src/order.rt:15:1
 returns : tie.Need-returns
 returns c =
     let p8 = c .before .before .before .before .before .before .before .before in
@@ -55,13 +43,13 @@ returns c =
     let a = p1 .before .args .a in
     let b = p1 .before .args .b in
     ap (λ (r : Bool). leads (a .kind) (b .kind) (leads (a .count) (b .count) r))
-    (then (a .n0) (b .n0) (p8 .ahead8 .ensures)
-    (then (a .n1) (b .n1) (p7 .ahead7 .ensures)
-    (then (a .n2) (b .n2) (p6 .ahead6 .ensures)
-    (then (a .n3) (b .n3) (p5 .ahead5 .ensures)
-    (then (a .n4) (b .n4) (p4 .ahead4 .ensures)
-    (then (a .n5) (b .n5) (p3 .ahead3 .ensures)
-    (then (a .n6) (b .n6) (p2 .ahead2 .ensures)
+    (leads-then (a .n0) (b .n0) (p8 .ahead8 .ensures)
+    (leads-then (a .n1) (b .n1) (p7 .ahead7 .ensures)
+    (leads-then (a .n2) (b .n2) (p6 .ahead6 .ensures)
+    (leads-then (a .n3) (b .n3) (p5 .ahead5 .ensures)
+    (leads-then (a .n4) (b .n4) (p4 .ahead4 .ensures)
+    (leads-then (a .n5) (b .n5) (p3 .ahead3 .ensures)
+    (leads-then (a .n6) (b .n6) (p2 .ahead2 .ensures)
     (p1 .ahead .ensures))))))))
 
 pub before-raw-spec : {M : Type 1} → statement M
