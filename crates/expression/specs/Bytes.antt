@@ -1,4 +1,4 @@
--- Numbers and raw expressions in a list of bytes.
+-- Numbers and the 18 bytes of an expression, of right form or not.
 use Prim.Native.Nat.{ℕ, _+_, _*_, _/_, _%_}
 use mathlib.Core.List.{List, [], _∷_}
 use lib.ListN.{length, getD}
@@ -9,6 +9,7 @@ use Rattle.expression.specs.declared.Raw.{Raw}
 abbrev pub numberAt : List ℕ → ℕ → ℕ
 numberAt s at = getD s at 0 * 256 + getD s (at + 1) 0
 
+-- kind, part count, eight numbers
 abbrev pub rawAt : List ℕ → ℕ → Raw
 rawAt s at =
     record {
@@ -24,6 +25,7 @@ rawAt s at =
       n7 = numberAt s (at + 16);
     }
 
+-- the same as bytes
 abbrev pub rawBytes : Raw → List ℕ
 rawBytes r =
     r .kind ∷ r .count ∷

@@ -1,21 +1,21 @@
 -- The bytes of an expression: what was written is read back, and what is read is what writing yields.
 use Prim.Native.Nat.{ℕ, zero, suc, _+_, _*_, _/_, _%_, _<_, _≤_}
 use mathlib.Core.Path.{_≡_, refl, sym, ap, _∙_}
-use mathlib.Core.List.{List, [], _∷_, _++_}
+use mathlib.Core.List.{List, [], _∷_, _++_, append-assoc}
 use mathlib.Core.Bool.{true}
 use native.Mathlib.Omega.{arith}
 use native.Mathlib.Nat.{add-zero, add-assoc, div-add-mod'}
-use native.Mathlib.Numerals.{add-one}
-use lib.ListN.{length, getD, take, drop, List·getD-append}
-use lib.Seq.{take-length, length-take-le, length-paste-head, getD-append-add, drop-cons}
+use lib.ListN.{length, getD, take, drop, length-append, List·getD-append}
+use lib.Seq.{take-length, length-take-le, length-paste-head, take-paste, drop-paste, drop-drop, getD-append-add, drop-cons}
 use Rattle.expression.specs.declared.Raw.{Raw}
 use Rattle.expression.specs.declared.Expression.{Expression}
-use Rattle.expression.specs.declared.ExpressionAnswer.the-variants.{Read, Wrong}
+use Rattle.expression.specs.declared.ExpressionAnswer.the-variants.{Read}
 use Rattle.expression.specs.Bytes.{rawAt, rawBytes, numberAt, pasted}
 use Rattle.expression.specs.Form.{rawOf, wellFormed, formOf, readOf}
 use Rattle.expression.specs.Laws.{complete, canonical}
 
 module _ (d s : List ℕ) (at : ℕ) (room : at + length s ≤ length d) where
+  -- a byte that was copied
   pub getD-paste : (i : ℕ) → i < length s → getD (pasted d at s) (at + i) 0 ≡ getD s i 0
   getD-paste i h =
       let e : length (take at d ++ take (length s) s) ≡ at + length s = length-paste-head d at s (length s) (omega arith) (omega arith) in
@@ -24,11 +24,29 @@ module _ (d s : List ℕ) (at : ℕ) (room : at + length s ≤ length d) where
       ∙ getD-append-add (take at d) (take (length s) s) i 0
       ∙ ap (λ (l : List ℕ). getD l i 0) (take-length s)
 
+  -- a number whose two bytes were copied
   pub number-paste : (i : ℕ) → i + 1 < length s → numberAt (pasted d at s) (at + i) ≡ getD s i 0 * 256 + getD s (i + 1) 0
   number-paste i h =
       let high : getD (pasted d at s) (at + i) 0 ≡ getD s i 0 = getD-paste i (omega arith) in
       let low : getD (pasted d at s) (at + (i + 1)) 0 ≡ getD s (i + 1) 0 = getD-paste (i + 1) h in
       rw (add-assoc at i 1, high, low)
+
+-- two copies side by side are one
+pub paste-paste : (d : List ℕ) (at : ℕ) (xs ys : List ℕ) → at + length xs + length ys ≤ length d
+    → pasted (pasted d at xs) (at + length xs) ys ≡ pasted d at (xs ++ ys)
+paste-paste d at xs ys h =
+    let n : ℕ = at + length xs in
+    let head : take n (pasted d at xs) ≡ take at d ++ xs
+    = take-paste d at xs (length xs) (omega arith) (omega arith) ∙ ap (λ (l : List ℕ). take at d ++ l) (take-length xs) in
+    let e : n + length ys ≡ at + length (xs ++ ys) = omega (arith, length-append xs ys) in
+    let rest : drop (n + length ys) (pasted d at xs) ≡ drop (at + length (xs ++ ys)) d
+    = sym (drop-drop (length ys) n (pasted d at xs))
+    ∙ ap (drop (length ys)) (drop-paste d at xs (length xs) (omega arith) (omega arith))
+    ∙ drop-drop (length ys) n d
+    ∙ ap (λ (k : ℕ). drop k d) e in
+    (λ j. head j ++ take-length ys j ++ rest j)
+    ∙ ap (λ (l : List ℕ). l ++ drop (at + length (xs ++ ys)) d) (append-assoc (take at d) xs ys)
+    ∙ ap (λ (l : List ℕ). take at d ++ l ++ drop (at + length (xs ++ ys)) d) (sym (take-length (xs ++ ys)))
 
 -- an expression's numbers are read back from where they were written
 pub raw-back : (d : List ℕ) (at : ℕ) (r : Raw) → at + 18 ≤ length d → rawAt (pasted d at (rawBytes r)) at ≡ r
@@ -48,7 +66,7 @@ raw-back d at r room =
     let h7 : numberAt (pasted d at (rawBytes r)) (at + 16) ≡ r .n7 = num 16 (omega arith) ∙ div-add-mod' (r .n7) 256 in
     λ i. record { kind = k i; count = c i; n0 = h0 i; n1 = h1 i; n2 = h2 i; n3 = h3 i; n4 = h4 i; n5 = h5 i; n6 = h6 i; n7 = h7 i }
 
--- read ∘ write
+-- a well-formed expression is read back from where it was written
 pub read-write : (d : List ℕ) (at : ℕ) (e : Expression) → at + 18 ≤ length d → wellFormed e ≡ true → readOf (pasted d at (rawBytes (rawOf e))) at ≡ Read e
 read-write d at e room h = ap formOf (raw-back d at (rawOf e) room) ∙ complete e h
 
@@ -57,17 +75,15 @@ abbrev spell : ℕ → List ℕ → ℕ → ℕ → List ℕ
 spell zero s at i = []
 spell (suc n) s at i = getD s (at + i) 0 ∷ spell n s at (i + 1)
 
+-- one element more, at the front
+pub next-byte : (n : ℕ) (s : List ℕ) (at i : ℕ) → at + i < length s → take (suc n) (drop (at + i) s) ≡ getD s (at + i) 0 ∷ take n (drop (at + (i + 1)) s)
+next-byte n s at i inside =
+    let next : suc (at + i) ≡ at + (i + 1) = omega arith in
+    ap (take (suc n)) (drop-cons s (at + i) 0 inside) ∙ ap (λ (k : ℕ). getD s (at + i) 0 ∷ take n (drop k s)) next
+
 spelled : (n : ℕ) (s : List ℕ) (at i : ℕ) → at + i + n ≤ length s → take n (drop (at + i) s) ≡ spell n s at i
 spelled zero s at i h = refl
-spelled (suc n) s at i h =
-    let inside : at + i < length s = omega arith in
-    let next : suc (at + i) ≡ at + (i + 1) = omega arith in
-    ap (take (suc n)) (drop-cons s (at + i) 0 inside)
-    ∙ ap (λ (k : ℕ). getD s (at + i) 0 ∷ take n (drop k s)) next
-    ∙ ap (λ (l : List ℕ). getD s (at + i) 0 ∷ l) (spelled n s at (i + 1) (omega arith))
-
-pub Bytes : List ℕ → Type 0
-Bytes s = (i : ℕ) → getD s i 0 < 256
+spelled (suc n) s at i h = next-byte n s at i (omega arith) ∙ ap (λ (l : List ℕ). getD s (at + i) 0 ∷ l) (spelled n s at (i + 1) (omega arith))
 
 high : (a b : ℕ) → b < 256 → (a * 256 + b) / 256 ≡ a
 high a b h = omega arith
@@ -75,12 +91,20 @@ high a b h = omega arith
 low : (a b : ℕ) → b < 256 → (a * 256 + b) % 256 ≡ b
 low a b h = omega arith
 
--- what is read is what writing it yields
+module _ (s : List ℕ) (at i : ℕ) (bytes : (i : ℕ) → getD s i 0 < 256) where
+  -- the high byte of a number is that read first
+  pub high-byte : numberAt s (at + i) / 256 ≡ getD s (at + i) 0
+  high-byte = high (getD s (at + i) 0) (getD s (at + i + 1) 0) (bytes (at + i + 1))
+
+  -- the low byte of a number is that read second
+  pub low-byte : numberAt s (at + i) % 256 ≡ getD s (at + (i + 1)) 0
+  low-byte = low (getD s (at + i) 0) (getD s (at + i + 1) 0) (bytes (at + i + 1)) ∙ ap (λ (k : ℕ). getD s k 0) (add-assoc at i 1)
+
+-- the bytes of the numbers read are those that stand there
 pub raw-only : (s : List ℕ) (at : ℕ) → ((i : ℕ) → getD s i 0 < 256) → at + 18 ≤ length s → rawBytes (rawAt s at) ≡ take 18 (drop at s)
 raw-only s at bytes room =
-    let hi : (i : ℕ) → numberAt s (at + i) / 256 ≡ getD s (at + i) 0 = λ i. high (getD s (at + i) 0) (getD s (at + i + 1) 0) (bytes (at + i + 1)) in
-    let lo : (i : ℕ) → numberAt s (at + i) % 256 ≡ getD s (at + (i + 1)) 0
-    = λ i. low (getD s (at + i) 0) (getD s (at + i + 1) 0) (bytes (at + i + 1)) ∙ ap (λ (k : ℕ). getD s k 0) (add-assoc at i 1) in
+    let hi : (i : ℕ) → numberAt s (at + i) / 256 ≡ getD s (at + i) 0 = λ i. high-byte s at i bytes in
+    let lo : (i : ℕ) → numberAt s (at + i) % 256 ≡ getD s (at + (i + 1)) 0 = λ i. low-byte s at i bytes in
     let z : getD s at 0 ≡ getD s (at + 0) 0 = ap (λ (k : ℕ). getD s k 0) (sym (add-zero at)) in
     let written : rawBytes (rawAt s at) ≡ spell 18 s at 0
     = λ i. z i ∷ getD s (at + 1) 0 ∷ hi 2 i ∷ lo 2 i ∷ hi 4 i ∷ lo 4 i ∷ hi 6 i ∷ lo 6 i ∷ hi 8 i ∷ lo 8 i

@@ -1,8 +1,8 @@
--- Which 18 bytes are an expression.
-use Prim.Native.Nat.{ℕ, _+_}
+-- Which 18 bytes are an expression: the form of kinds 1 to 5 (document 01, "Bytes").
+use Prim.Native.Nat.{ℕ}
 use mathlib.Core.List.{List}
 use mathlib.Core.Bool.{Bool, true, false, _&&_, _||_}
-use lib.Dec.{ltb, leb, eqb}
+use lib.Dec.{ltb, eqb}
 use Rattle.expression.specs.declared.Role.{Role}
 use Rattle.expression.specs.declared.Parts.{Parts}
 use Rattle.expression.specs.declared.Raw.{Raw}
@@ -20,6 +20,11 @@ abbrev pub pick : Bool → ExpressionAnswer → ExpressionAnswer → ExpressionA
 pick true a b = a
 pick false a b = b
 
+-- the numbers of an expression with no parts
+abbrev pub plainRaw : ℕ → ℕ → ℕ → ℕ → Raw
+plainRaw kind n0 n1 n2 = record { kind = kind; count = 0; n0 = n0; n1 = n1; n2 = n2; n3 = 0; n4 = 0; n5 = 0; n6 = 0; n7 = 0 }
+
+-- the numbers of an expression: kind, part count, eight numbers, unused ones zero
 abbrev pub rawOf : Expression → Raw
 rawOf (x.Entity n) = record { kind = 1; count = 0; n0 = n; n1 = 0; n2 = 0; n3 = 0; n4 = 0; n5 = 0; n6 = 0; n7 = 0 }
 rawOf (x.Role r) = record { kind = 2; count = 0; n0 = r .entity; n1 = r .name; n2 = 0; n3 = 0; n4 = 0; n5 = 0; n6 = 0; n7 = 0 }
@@ -39,6 +44,7 @@ rawOf (x.Intersection p) =
     }
 rawOf (x.Goal n) = record { kind = 5; count = 0; n0 = n; n1 = 0; n2 = 0; n3 = 0; n4 = 0; n5 = 0; n6 = 0; n7 = 0 }
 
+-- the only expression whose numbers may be these
 abbrev pub candidateOf : Raw → ExpressionAnswer
 candidateOf r =
     pick (eqb (r .kind) 1) (Read (x.Entity (r .n0)))
@@ -58,9 +64,11 @@ candidateOf r =
 abbrev pub ascends : Role → Role → Bool
 ascends a b = ltb (a .entity) (b .entity) || (eqb (a .entity) (b .entity) && ltb (a .name) (b .name))
 
+-- entities and names are not zero
 abbrev pub isRole : Role → Bool
 isRole r = ltb 0 (r .entity) && ltb 0 (r .name)
 
+-- zero marks an unused field
 abbrev pub isEmpty : Role → Bool
 isEmpty r = eqb (r .entity) 0 && eqb (r .name) 0
 
@@ -73,6 +81,7 @@ tailFormed p =
     (isRole (p .third) && ascends (p .second) (p .third) && isRole (p .fourth) && ascends (p .third) (p .fourth))
     false))
 
+-- two to four roles, strictly ascending
 abbrev pub partsFormed : Parts → Bool
 partsFormed p = isRole (p .first) && isRole (p .second) && ascends (p .first) (p .second) && tailFormed p
 
@@ -88,6 +97,7 @@ sameRaw a b =
     eqb (a .kind) (b .kind) && eqb (a .count) (b .count) && eqb (a .n0) (b .n0) && eqb (a .n1) (b .n1) && eqb (a .n2) (b .n2)
     && eqb (a .n3) (b .n3) && eqb (a .n4) (b .n4) && eqb (a .n5) (b .n5) && eqb (a .n6) (b .n6) && eqb (a .n7) (b .n7)
 
+-- no other number stands where one is unused
 abbrev pub checked : Raw → ExpressionAnswer → ExpressionAnswer
 checked r (Read e) = pick (sameRaw (rawOf e) r && wellFormed e) (Read e) Wrong
 checked r Wrong = Wrong
@@ -95,6 +105,7 @@ checked r Wrong = Wrong
 abbrev pub formOf : Raw → ExpressionAnswer
 formOf r = checked r (candidateOf r)
 
+-- the expression that stands at an index
 abbrev pub readOf : List ℕ → ℕ → ExpressionAnswer
 readOf s at = formOf (rawAt s at)
 
@@ -102,6 +113,7 @@ abbrev pub pickExpression : Bool → Expression → Expression → Expression
 pickExpression true a b = a
 pickExpression false a b = b
 
+-- an expression found from its numbers
 abbrev pub expressionOf : Raw → Expression
 expressionOf r =
     pickExpression (eqb (r .kind) 1) (x.Entity (r .n0))

@@ -1,23 +1,21 @@
 -- Reading succeeds on the bytes of a well-formed expression, and on no others.
-use Prim.Native.Nat.{ℕ, _+_, _*_, _/_, _%_, _<_, _≤_}
+use Prim.Native.Nat.{ℕ, _<_}
 use mathlib.Core.Path.{_≡_, refl, sym, ap, _∙_}
-use mathlib.Core.List.{List, [], _∷_, _++_}
-use mathlib.Core.Bool.{Bool, true, false, _&&_, _||_}
-use lib.ListN.{length, getD, take, drop}
-use lib.Dec.{ltb, leb, eqb}
+use mathlib.Core.Bool.{Bool, true, false, _&&_}
+use lib.Dec.{ltb, eqb}
 use native.Mathlib.Omega.{arith}
-use borrow.Author.Tests.{eq-eqb, eqb-true}
+use borrow.Author.Tests.{ltb-true, lt-ltb, eqb-true, eqb-false, eq-eqb, ne-eqb}
 use Rattle.expression.specs.declared.Raw.{Raw}
 use Rattle.expression.specs.declared.Expression.{Expression}
 use Rattle.expression.specs.declared.Expression.the-variants as x
 use Rattle.expression.specs.declared.ExpressionAnswer.{ExpressionAnswer}
 use Rattle.expression.specs.declared.ExpressionAnswer.the-variants.{Read, Wrong}
-use Rattle.expression.specs.Bytes.{rawAt, rawBytes, numberAt}
-use Rattle.expression.specs.Form.{rawOf, candidateOf, sameRaw, wellFormed, checked, formOf, readOf, pick, expressionOf}
+use Rattle.expression.specs.Form.{rawOf, candidateOf, sameRaw, wellFormed, checked, formOf, pick, expressionOf}
 
 eqb-refl : (n : ℕ) → eqb n n ≡ true
 eqb-refl n = eq-eqb n n refl
 
+-- numbers are the same as themselves
 pub same-refl : (r : Raw) → sameRaw r r ≡ true
 same-refl r = simp eqb-refl
 
@@ -34,10 +32,12 @@ complete e h =
     ap (checked (rawOf e)) (candidate-raw e)
     ∙ ap (λ (b : Bool). pick b (Read e) Wrong) (ap (λ (b : Bool). b && wellFormed e) (same-refl (rawOf e)) ∙ h)
 
+-- the first of two tests that both pass
 pub and-left : (a b : Bool) → a && b ≡ true → a ≡ true
 and-left true b h = refl
 and-left false b h = h
 
+-- the second of two tests that both pass
 pub and-right : (a b : Bool) → a && b ≡ true → b ≡ true
 and-right true b h = h
 and-right false b h = cc
@@ -50,6 +50,7 @@ record-eq : (a b : Raw) → a .kind ≡ b .kind → a .count ≡ b .count → a 
 record-eq a b k c h0 h1 h2 h3 h4 h5 h6 h7 =
     λ i. record { kind = k i; count = c i; n0 = h0 i; n1 = h1 i; n2 = h2 i; n3 = h3 i; n4 = h4 i; n5 = h5 i; n6 = h6 i; n7 = h7 i }
 
+-- the test of all ten numbers leaves none out
 pub same-raw : (a b : Raw) → sameRaw a b ≡ true → a ≡ b
 same-raw a b h =
     let t7 = last (_) (a .n7) (b .n7) h in
@@ -80,9 +81,44 @@ canonical r e h = go (candidateOf r) h
         at false p q = let z : _≡_ {A = ℕ} 0 1 = cc in absurd (omega arith)
     go Wrong k = let z : _≡_ {A = ℕ} 0 1 = cc in absurd (omega arith)
 
+-- an expression is found from its numbers
 pub expression-raw : (e : Expression) → expressionOf (rawOf e) ≡ e
 expression-raw (x.Entity n) = refl
 expression-raw (x.Role r) = refl
 expression-raw (x.Linked r n) = refl
 expression-raw (x.Intersection p) = refl
 expression-raw (x.Goal n) = refl
+
+-- numbers of a kind from 1 to 5 may be an expression's
+pub candidate-some : (r : Raw) → ltb 0 (r .kind) && ltb (r .kind) 6 ≡ true → candidateOf r ≡ Read (expressionOf r)
+candidate-some r h = go (eqb k 1) (eqb k 2) (eqb k 3) (eqb k 4) refl refl refl refl
+  where
+    k : ℕ
+    k = r .kind
+
+    five : eqb k 1 ≡ false → eqb k 2 ≡ false → eqb k 3 ≡ false → eqb k 4 ≡ false → eqb k 5 ≡ true
+    five a b c d =
+        let low : 0 < k = ltb-true 0 k (and-left (ltb 0 k) (ltb k 6) h) in
+        let high : k < 6 = ltb-true k 6 (and-right (ltb 0 k) (ltb k 6) h) in
+        eq-eqb k 5 (omega (arith, eqb-false k 1 a, eqb-false k 2 b, eqb-false k 3 c, eqb-false k 4 d))
+
+    go : (a b c d : Bool) → eqb k 1 ≡ a → eqb k 2 ≡ b → eqb k 3 ≡ c → eqb k 4 ≡ d → candidateOf r ≡ Read (expressionOf r)
+    go true b c d p q s t = simp p
+    go false true c d p q s t = simp (p, q)
+    go false false true d p q s t = simp (p, q, s)
+    go false false false true p q s t = simp (p, q, s, t)
+    go false false false false p q s t = simp (p, q, s, t, five p q s t)
+
+-- other numbers may not
+pub candidate-none : (r : Raw) → ltb 0 (r .kind) && ltb (r .kind) 6 ≡ false → candidateOf r ≡ Wrong
+candidate-none r h = simp (other 1 (omega arith) (omega arith), other 2 (omega arith) (omega arith), other 3 (omega arith) (omega arith), other 4 (omega arith) (omega arith), other 5 (omega arith) (omega arith))
+  where
+    k : ℕ
+    k = r .kind
+
+    other : (i : ℕ) → 0 < i → i < 6 → eqb k i ≡ false
+    other i low high =
+        ne-eqb k i (λ e.
+        let t : ltb 0 k && ltb k 6 ≡ true = rw (lt-ltb 0 k (omega arith)) (lt-ltb k 6 (omega arith)) in
+        let z : _≡_ {A = ℕ} 0 1 = cc in
+        omega arith)

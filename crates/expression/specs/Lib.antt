@@ -3,3 +3,7 @@ pub mod Form
 pub mod Laws
 pub mod Codec
 pub mod Same
+pub mod Credential
+pub mod CredentialLaws
+pub mod Order
+pub mod OrderLaws

@@ -1,12 +1,22 @@
-// Expressions of RT0 and their 18 bytes.
+// Expressions of RT0, their 18 bytes and their equality. Credentials and the order by bytes are in modules of their own.
 ghost use mathlib.Core.Path.{_≡_};
 ghost use Prim.Native.Nat.{_+_, _≤_, _<_};
 ghost use lib.ListN.{length};
-ghost use lib.Seq.{sets};
 ghost use Rattle.expression.specs.Bytes.{numberAt, rawAt, rawBytes, pasted};
-ghost use Rattle.expression.specs.Form.{candidateOf, rawOf, wellFormed, sameRaw, formOf, readOf, ascends, isRole, isEmpty, tailFormed, partsFormed, expressionOf};
+ghost use Rattle.expression.specs.Form.{candidateOf, plainRaw, rawOf, wellFormed, sameRaw, formOf, readOf, ascends, isRole, isEmpty, tailFormed, partsFormed, expressionOf};
 ghost use Rattle.expression.specs.Same.{sameRole, same as sameExpression};
 
+mod credentials;
+mod order;
+
+pub use credentials::read_credential;
+pub use credentials::role_bytes;
+pub use credentials::well_formed_credential;
+pub use credentials::write_credential;
+pub use order::before;
+pub use order::before_credential;
+
+// A role's entity and name; both zero where a field is unused.
 pub struct Role {
     pub entity: u16,
     pub name: u16,
@@ -21,6 +31,7 @@ pub struct Parts {
     pub fourth: Role,
 }
 
+// Kinds 1 to 5.
 pub enum Expression {
     Entity(u16),
     Role(Role),
@@ -34,13 +45,18 @@ pub enum ExpressionAnswer {
     Wrong,
 }
 
-// head <- body
+// head <- body; the head's entity is the issuer.
 pub struct Credential {
     pub head: Role,
     pub body: Expression,
 }
 
-// The 18 bytes as numbers, of right form or not.
+pub enum CredentialAnswer {
+    Read(Credential),
+    Wrong,
+}
+
+// The 18 bytes as numbers, of right form or not: kind, part count, eight numbers.
 pub struct Raw {
     pub kind: u8,
     pub count: u8,
@@ -54,12 +70,7 @@ pub struct Raw {
     pub n7: u16,
 }
 
-fn wide(x: u8) -> u16
-    ensures { λ r. ⌜ r ≡ x ⌝ }
-{
-    x as u16
-}
-
+// Two bytes, high byte first.
 pub fn number_at(s: &[u8], at: usize) -> u16
     requires { ⌜ at + 1 < length (now s) ⌝ }
     ensures { λ r. ⌜ r ≡ numberAt (now (s .entry)) at ⌝ }
@@ -85,46 +96,31 @@ pub fn raw_at(s: &[u8], at: usize) -> Raw
     }
 }
 
+// An expression with no parts.
+fn plain(kind: u8, n0: u16, n1: u16, n2: u16) -> Raw
+    ensures { λ r. ⌜ r ≡ plainRaw kind n0 n1 n2 ⌝ }
+{
+    Raw {
+        kind,
+        count: 0,
+        n0,
+        n1,
+        n2,
+        n3: 0,
+        n4: 0,
+        n5: 0,
+        n6: 0,
+        n7: 0,
+    }
+}
+
 pub fn raw_of(e: Expression) -> Raw
     ensures { λ r. ⌜ r ≡ rawOf e ⌝ }
 {
     match e {
-        Expression::Entity(n) => Raw {
-            kind: 1,
-            count: 0,
-            n0: n,
-            n1: 0,
-            n2: 0,
-            n3: 0,
-            n4: 0,
-            n5: 0,
-            n6: 0,
-            n7: 0,
-        },
-        Expression::Role(r) => Raw {
-            kind: 2,
-            count: 0,
-            n0: r.entity,
-            n1: r.name,
-            n2: 0,
-            n3: 0,
-            n4: 0,
-            n5: 0,
-            n6: 0,
-            n7: 0,
-        },
-        Expression::Linked(r, n) => Raw {
-            kind: 3,
-            count: 0,
-            n0: r.entity,
-            n1: r.name,
-            n2: n,
-            n3: 0,
-            n4: 0,
-            n5: 0,
-            n6: 0,
-            n7: 0,
-        },
+        Expression::Entity(n) => plain(1, n, 0, 0),
+        Expression::Role(r) => plain(2, r.entity, r.name, 0),
+        Expression::Linked(r, n) => plain(3, r.entity, r.name, n),
         Expression::Intersection(p) => Raw {
             kind: 4,
             count: p.count,
@@ -137,45 +133,26 @@ pub fn raw_of(e: Expression) -> Raw
             n6: p.fourth.entity,
             n7: p.fourth.name,
         },
-        Expression::Goal(n) => Raw {
-            kind: 5,
-            count: 0,
-            n0: n,
-            n1: 0,
-            n2: 0,
-            n3: 0,
-            n4: 0,
-            n5: 0,
-            n6: 0,
-            n7: 0,
-        },
+        Expression::Goal(n) => plain(5, n, 0, 0),
     }
 }
 
-// The only expression whose numbers may be these.
-pub fn candidate(r: Raw) -> ExpressionAnswer
-    ensures { λ a. ⌜ a ≡ candidateOf r ⌝ }
+// The expression that such numbers would be; its numbers are these where they are of right form.
+pub fn expression_of(r: Raw) -> Expression
+    ensures { λ e. ⌜ e ≡ expressionOf r ⌝ }
 {
     let kind = r.kind;
+    let role = Role {
+        entity: r.n0,
+        name: r.n1,
+    };
     match kind {
-        1 => ExpressionAnswer::Read(Expression::Entity(r.n0)),
-        2 => ExpressionAnswer::Read(Expression::Role(Role {
-            entity: r.n0,
-            name: r.n1,
-        })),
-        3 => ExpressionAnswer::Read(Expression::Linked(
-            Role {
-                entity: r.n0,
-                name: r.n1,
-            },
-            r.n2,
-        )),
-        4 => ExpressionAnswer::Read(Expression::Intersection(Parts {
+        1 => Expression::Entity(r.n0),
+        2 => Expression::Role(role),
+        3 => Expression::Linked(role, r.n2),
+        4 => Expression::Intersection(Parts {
             count: r.count,
-            first: Role {
-                entity: r.n0,
-                name: r.n1,
-            },
+            first: role,
             second: Role {
                 entity: r.n2,
                 name: r.n3,
@@ -188,9 +165,19 @@ pub fn candidate(r: Raw) -> ExpressionAnswer
                 entity: r.n6,
                 name: r.n7,
             },
-        })),
-        5 => ExpressionAnswer::Read(Expression::Goal(r.n0)),
-        _ => ExpressionAnswer::Wrong,
+        }),
+        _ => Expression::Goal(r.n0),
+    }
+}
+
+// The only expression whose numbers may be these.
+pub fn candidate(r: Raw) -> ExpressionAnswer
+    ensures { λ a. ⌜ a ≡ candidateOf r ⌝ }
+{
+    if (0 < r.kind) & (r.kind < 6) {
+        ExpressionAnswer::Read(expression_of(r))
+    } else {
+        ExpressionAnswer::Wrong
     }
 }
 
@@ -206,6 +193,7 @@ pub fn is_empty(r: Role) -> bool
     (r.entity == 0) & (r.name == 0)
 }
 
+// Strictly, by entity, then name.
 pub fn ascending(a: Role, b: Role) -> bool
     ensures { λ r. ⌜ r ≡ ascends a b ⌝ }
 {
@@ -274,6 +262,7 @@ fn same_raw(a: Raw, b: Raw) -> bool
         & (a.n7 == b.n7)
 }
 
+// An expression's numbers, if they are of right form.
 pub fn form(r: Raw) -> ExpressionAnswer
     ensures { λ a. ⌜ a ≡ formOf r ⌝ }
 {
@@ -337,45 +326,4 @@ pub fn write_expression(s: &mut [u8], at: usize, e: Expression)
 {
     let b = raw_bytes(raw_of(e));
     copy_in(s, at, &b);
-}
-
-// The expression that such numbers would be; its numbers are these where they are of right form.
-pub fn expression_of(r: Raw) -> Expression
-    ensures { λ e. ⌜ e ≡ expressionOf r ⌝ }
-{
-    let kind = r.kind;
-    match kind {
-        1 => Expression::Entity(r.n0),
-        2 => Expression::Role(Role {
-            entity: r.n0,
-            name: r.n1,
-        }),
-        3 => Expression::Linked(
-            Role {
-                entity: r.n0,
-                name: r.n1,
-            },
-            r.n2,
-        ),
-        4 => Expression::Intersection(Parts {
-            count: r.count,
-            first: Role {
-                entity: r.n0,
-                name: r.n1,
-            },
-            second: Role {
-                entity: r.n2,
-                name: r.n3,
-            },
-            third: Role {
-                entity: r.n4,
-                name: r.n5,
-            },
-            fourth: Role {
-                entity: r.n6,
-                name: r.n7,
-            },
-        }),
-        _ => Expression::Goal(r.n0),
-    }
 }

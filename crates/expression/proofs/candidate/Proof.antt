@@ -1,33 +1,18 @@
-use borrow.Author.Tests.{ne-eqb}
+use mathlib.Core.Path.{sym, ap, _∙_}
+use Rattle.expression.specs.declared.ExpressionAnswer.the-variants.{Read}
+use Rattle.expression.specs.Laws.{candidate-some, candidate-none}
+use borrow.Author.Needs.{needs}
 use Rattle.expression.proofs.candidate.Statement.{statement}
 use Rattle.expression.proofs.candidate.Tie as tie
-use Rattle.expression.proofs.candidate.Reads as reads
-use Rattle.expression.proofs.candidate.Lts as lts
+
+expression-of-requires : tie.Need-expression-of-requires
+expression-of-requires c κs = search needs
 
 returns : tie.Need-returns
-returns c = simp (c .match .keys1)
+returns c = ap Read (c .expression-of .ensures) ∙ sym (candidate-some (c .before .before .before .before .args .r) (c .before .if1 .taken))
 
 returns-2 : tie.Need-returns-2
-returns-2 c = simp (c .match .keys2)
-
-returns-3 : tie.Need-returns-3
-returns-3 c = simp (c .match .keys3)
-
-returns-4 : tie.Need-returns-4
-returns-4 c = simp (c .match .keys4)
-
-returns-5 : tie.Need-returns-5
-returns-5 c = simp (c .match .keys5)
-
-returns-6 : tie.Need-returns-6
-returns-6 c =
-    simp (
-      ne-eqb _ _ (c .match .rest .0 .0 .0 .0 .1),
-      ne-eqb _ _ (c .match .rest .0 .0 .0 .1),
-      ne-eqb _ _ (c .match .rest .0 .0 .1),
-      ne-eqb _ _ (c .match .rest .0 .1),
-      ne-eqb _ _ (c .match .rest .1),
-    )
+returns-2 c = sym (candidate-none (c .before .before .before .args .r) (c .if1 .left))
 
 pub candidate-spec : {M : Type 1} → statement M
-candidate-spec = tie.close (tie.spec returns returns-2 returns-3 returns-4 returns-5 returns-6)
+candidate-spec = tie.close (tie.spec expression-of-requires returns returns-2)

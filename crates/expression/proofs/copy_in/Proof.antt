@@ -1,4 +1,4 @@
--- `expr::copy_in` meets its contract. The loop's invariant: dst is what it was with the first j bytes of src from at.
+-- The loop's invariant: dst is what it was, with the first j bytes of src from at.
 use mathlib.Core.Path.{_≡_, refl, sym, ap, _∙_}
 use mathlib.Core.List.{List}
 use Prim.Native.Nat.{ℕ, _+_, _-_, _<_, _≤_}
@@ -9,8 +9,6 @@ use lib.ListN.{length, getD, set, length-set}
 use lib.Seq.{paste, paste-zero, paste-suc}
 use Rattle.expression.proofs.copy_in.Statement.{statement}
 use Rattle.expression.proofs.copy_in.Tie as tie
-use Rattle.expression.proofs.copy_in.Reads as reads
-use Rattle.expression.proofs.copy_in.Lts as lts
 
 abbrev Inv-loop : tie.InvT-loop
 Inv-loop dst₀ at src j₀ dst j = (j ≤ length src) × (length dst ≡ length dst₀) × (dst ≡ paste dst₀ at src j)
@@ -18,31 +16,24 @@ Inv-loop dst₀ at src j₀ dst j = (j ≤ length src) × (length dst ≡ length
 abbrev μ-loop : tie.MeasureT-loop
 μ-loop dst₀ at src j₀ dst j = length src - j
 
--- src/lib.rt:244:5
 loop-holds : tie.Need-loop-holds Inv-loop μ-loop
 loop-holds c = (omega arith, refl, paste-zero (c .args .dst .now) (c .args .at) (c .args .src .now))
 
--- src/lib.rt:245:23
 shared-slice-read-dst : tie.Need-shared-slice-read-dst Inv-loop μ-loop
 shared-slice-read-dst c = omega arith
 
--- src/lib.rt:245:13
 add-dst : tie.Need-add-dst Inv-loop μ-loop
 add-dst c = omega arith
 
--- src/lib.rt:245:9
 slice-write-dst : tie.Need-slice-write-dst Inv-loop μ-loop
 slice-write-dst c = omega arith
 
--- src/lib.rt:246:9
 add-j : tie.Need-add-j Inv-loop μ-loop
 add-j c = omega arith
 
--- src/lib.rt:244:5
 loop-less : tie.Need-loop-less Inv-loop μ-loop
 loop-less c = omega arith
 
--- src/lib.rt:244:5
 loop-again : tie.Need-loop-again Inv-loop μ-loop
 loop-again c =
     let s = c .before .before in
@@ -57,11 +48,9 @@ loop-again c =
           ∙ ap (paste (a .args .dst .now) (a .args .at) (a .args .src .now)) (sym (add-one j)),
     )
 
--- src/lib.rt:239:1
 same-length : tie.Need-same-length Inv-loop μ-loop
 same-length c = c .before .loop .inv .1
 
--- src/lib.rt:239:1
 returns : tie.Need-returns Inv-loop μ-loop
 returns c =
     let a = c .before .before in

@@ -1,8 +1,6 @@
 use borrow.Author.Tests.{ne-eqb}
 use Rattle.expression.proofs.expression_of.Statement.{statement}
 use Rattle.expression.proofs.expression_of.Tie as tie
-use Rattle.expression.proofs.expression_of.Reads as reads
-use Rattle.expression.proofs.expression_of.Lts as lts
 
 returns : tie.Need-returns
 returns c = simp (c .match .keys1)

@@ -5,42 +5,28 @@ use Rattle.expression.specs.declared.ExpressionAnswer.the-variants.{Read
 use borrow.Author.Needs.{needs}
 use Rattle.expression.proofs.form.Statement.{statement}
 use Rattle.expression.proofs.form.Tie as tie
-use Rattle.expression.proofs.form.Reads as reads
-use Rattle.expression.proofs.form.Lts as lts
-use Rattle.expression.proofs.candidate.Reads as candidate-reads
-use Rattle.expression.proofs.raw_of.Reads as raw-of-reads
-use Rattle.expression.proofs.same_raw.Reads as same-raw-reads
-use Rattle.expression.proofs.well_formed.Reads as well-formed-reads
 
--- src/lib.rt:196:37
 candidate-requires : tie.Need-candidate-requires
 candidate-requires c κs = search needs
 
--- src/lib.rt:196:32
 enum-known-e : tie.Need-enum-known-e
 enum-known-e c = search needs
 
--- src/lib.rt:197:9
 enum-told : tie.Need-enum-told
 enum-told c = search needs
 
--- src/lib.rt:197:9
 returns : tie.Need-returns
 returns c = sym (ap (checked _) (sym (c .before .before .candidate .ensures) ∙ c .enum-told .given .1))
 
--- src/lib.rt:199:17
 raw-of-requires : tie.Need-raw-of-requires
 raw-of-requires c κs = search needs
 
--- src/lib.rt:199:8
 same-raw-requires : tie.Need-same-raw-requires
 same-raw-requires c κs = search needs
 
--- src/lib.rt:199:33
 well-formed-requires : tie.Need-well-formed-requires
 well-formed-requires c κs = search needs
 
--- src/lib.rt:193:1
 returns-2 : tie.Need-returns-2
 returns-2 c =
     let d = c .before .before .before .before .before in
@@ -49,7 +35,6 @@ returns-2 c =
     let h : sameRaw (rawOf e) r && wellFormed e ≡ true = cc in
     sym (ap (checked r) (sym (d .before .before .candidate .ensures) ∙ d .e .given .1) ∙ ap (λ (b : Bool). pick b (Read e) Wrong) h)
 
--- src/lib.rt:193:1
 returns-3 : tie.Need-returns-3
 returns-3 c =
     let d = c .before .before .before .before .before in

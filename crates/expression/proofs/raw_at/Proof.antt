@@ -1,87 +1,64 @@
 use borrow.Author.Needs.{needs}
 use Rattle.expression.proofs.raw_at.Statement.{statement}
 use Rattle.expression.proofs.raw_at.Tie as tie
-use Rattle.expression.proofs.raw_at.Reads as reads
-use Rattle.expression.proofs.raw_at.Lts as lts
-use Rattle.expression.proofs.number_at.Reads as number-at-reads
 
--- src/lib.rt:68:15
 shared-slice-read-t4 : tie.Need-shared-slice-read-t4
 shared-slice-read-t4 c = search needs
 
--- src/lib.rt:69:18
 add-t5 : tie.Need-add-t5
 add-t5 c = search needs
 
--- src/lib.rt:69:16
 shared-slice-read-t7 : tie.Need-shared-slice-read-t7
 shared-slice-read-t7 c = search needs
 
--- src/lib.rt:70:26
 add-number-at : tie.Need-add-number-at
 add-number-at c = search needs
 
--- src/lib.rt:70:13
 number-at-requires : tie.Need-number-at-requires
 number-at-requires c κs = search needs
 
--- src/lib.rt:71:26
 add-number-at-2 : tie.Need-add-number-at-2
 add-number-at-2 c = search needs
 
--- src/lib.rt:71:13
 number-at-requires-2 : tie.Need-number-at-requires-2
 number-at-requires-2 c κs = search needs
 
--- src/lib.rt:72:26
 add-number-at-3 : tie.Need-add-number-at-3
 add-number-at-3 c = search needs
 
--- src/lib.rt:72:13
 number-at-requires-3 : tie.Need-number-at-requires-3
 number-at-requires-3 c κs = search needs
 
--- src/lib.rt:73:26
 add-number-at-4 : tie.Need-add-number-at-4
 add-number-at-4 c = search needs
 
--- src/lib.rt:73:13
 number-at-requires-4 : tie.Need-number-at-requires-4
 number-at-requires-4 c κs = search needs
 
--- src/lib.rt:74:26
 add-number-at-5 : tie.Need-add-number-at-5
 add-number-at-5 c = search needs
 
--- src/lib.rt:74:13
 number-at-requires-5 : tie.Need-number-at-requires-5
 number-at-requires-5 c κs = search needs
 
--- src/lib.rt:75:26
 add-number-at-6 : tie.Need-add-number-at-6
 add-number-at-6 c = search needs
 
--- src/lib.rt:75:13
 number-at-requires-6 : tie.Need-number-at-requires-6
 number-at-requires-6 c κs = search needs
 
--- src/lib.rt:76:26
 add-number-at-7 : tie.Need-add-number-at-7
 add-number-at-7 c = search needs
 
--- src/lib.rt:76:13
 number-at-requires-7 : tie.Need-number-at-requires-7
 number-at-requires-7 c κs = search needs
 
--- src/lib.rt:77:26
 add-number-at-8 : tie.Need-add-number-at-8
 add-number-at-8 c = search needs
 
--- src/lib.rt:77:13
 number-at-requires-8 : tie.Need-number-at-requires-8
 number-at-requires-8 c κs = search needs
 
--- src/lib.rt:63:1
 returns : tie.Need-returns
 returns c = cc
 

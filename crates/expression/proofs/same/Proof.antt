@@ -1,27 +1,19 @@
-use mathlib.Core.Path.{_≡_, ap₂, _∙_}
+use mathlib.Core.Path.{ap₂, _∙_}
 use Rattle.expression.specs.Form.{sameRaw}
 use Rattle.expression.specs.Same.{same}
 use borrow.Author.Needs.{needs}
 use Rattle.expression.proofs.same.Statement.{statement}
 use Rattle.expression.proofs.same.Tie as tie
-use Rattle.expression.proofs.same.Reads as reads
-use Rattle.expression.proofs.same.Lts as lts
-use Rattle.expression.proofs.raw_of.Reads as raw-of-reads
-use Rattle.expression.proofs.same_raw.Reads as same-raw-reads
 
--- src/lib.rt:195:14
 raw-of-requires : tie.Need-raw-of-requires
 raw-of-requires c κs = search needs
 
--- src/lib.rt:195:25
 raw-of-requires-2 : tie.Need-raw-of-requires-2
 raw-of-requires-2 c κs = search needs
 
--- src/lib.rt:195:5
 same-raw-requires : tie.Need-same-raw-requires
 same-raw-requires c κs = search needs
 
--- src/lib.rt:192:1
 returns : tie.Need-returns
 unfolding same
 returns c = c .same-raw .ensures ∙ ap₂ sameRaw (c .before .before .raw-of .ensures) (c .before .raw-of2 .ensures)

@@ -2,10 +2,7 @@ use mathlib.Core.Path.{refl}
 use Rattle.expression.specs.Same.{sameRole}
 use Rattle.expression.proofs.same_role.Statement.{statement}
 use Rattle.expression.proofs.same_role.Tie as tie
-use Rattle.expression.proofs.same_role.Reads as reads
-use Rattle.expression.proofs.same_role.Lts as lts
 
--- src/lib.rt:186:1
 returns : tie.Need-returns
 unfolding sameRole
 returns c = refl

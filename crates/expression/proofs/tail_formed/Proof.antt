@@ -2,61 +2,43 @@ use borrow.Author.Tests.{ne-eqb}
 use borrow.Author.Needs.{needs}
 use Rattle.expression.proofs.tail_formed.Statement.{statement}
 use Rattle.expression.proofs.tail_formed.Tie as tie
-use Rattle.expression.proofs.tail_formed.Reads as reads
-use Rattle.expression.proofs.tail_formed.Lts as lts
-use Rattle.expression.proofs.ascending.Reads as ascending-reads
-use Rattle.expression.proofs.is_empty.Reads as is-empty-reads
-use Rattle.expression.proofs.is_role.Reads as is-role-reads
 
--- src/lib.rt:151:14
 is-empty-requires : tie.Need-is-empty-requires
 is-empty-requires c κs = search needs
 
--- src/lib.rt:151:32
 is-empty-requires-2 : tie.Need-is-empty-requires-2
 is-empty-requires-2 c κs = search needs
 
--- src/lib.rt:152:14
 is-role-requires : tie.Need-is-role-requires
 is-role-requires c κs = search needs
 
--- src/lib.rt:152:31
 ascending-requires : tie.Need-ascending-requires
 ascending-requires c κs = search needs
 
--- src/lib.rt:152:58
 is-empty-requires-3 : tie.Need-is-empty-requires-3
 is-empty-requires-3 c κs = search needs
 
--- src/lib.rt:153:14
 is-role-requires-2 : tie.Need-is-role-requires-2
 is-role-requires-2 c κs = search needs
 
--- src/lib.rt:153:31
 ascending-requires-2 : tie.Need-ascending-requires-2
 ascending-requires-2 c κs = search needs
 
--- src/lib.rt:153:58
 is-role-requires-3 : tie.Need-is-role-requires-3
 is-role-requires-3 c κs = search needs
 
--- src/lib.rt:153:76
 ascending-requires-3 : tie.Need-ascending-requires-3
 ascending-requires-3 c κs = search needs
 
--- src/lib.rt:143:1
 returns : tie.Need-returns
 returns c = simp (c .before .before .match .keys1, c .before .is-empty .ensures, c .is-empty2 .ensures)
 
--- src/lib.rt:143:1
 returns-2 : tie.Need-returns-2
 returns-2 c = simp (c .before .before .before .match .keys2, c .before .before .is-role .ensures, c .before .ascending .ensures, c .is-empty3 .ensures)
 
--- src/lib.rt:143:1
 returns-3 : tie.Need-returns-3
 returns-3 c = simp (c .before .before .before .before .match .keys3, c .before .before .before .is-role2 .ensures, c .before .before .ascending2 .ensures, c .before .is-role3 .ensures, c .ascending3 .ensures)
 
--- src/lib.rt:143:1
 returns-4 : tie.Need-returns-4
 returns-4 c = simp (ne-eqb _ _ (c .match .rest .0 .0 .1), ne-eqb _ _ (c .match .rest .0 .1), ne-eqb _ _ (c .match .rest .1))
 

@@ -3,33 +3,22 @@ use Rattle.expression.specs.Bytes.{pasted, rawBytes}
 use borrow.Author.Needs.{needs}
 use Rattle.expression.proofs.write_expression.Statement.{statement}
 use Rattle.expression.proofs.write_expression.Tie as tie
-use Rattle.expression.proofs.write_expression.Reads as reads
-use Rattle.expression.proofs.write_expression.Lts as lts
-use Rattle.expression.proofs.copy_in.Reads as copy-in-reads
-use Rattle.expression.proofs.raw_bytes.Reads as raw-bytes-reads
-use Rattle.expression.proofs.raw_of.Reads as raw-of-reads
 
--- src/lib.rt:254:23
 raw-of-requires : tie.Need-raw-of-requires
 raw-of-requires c κs = search needs
 
--- src/lib.rt:254:13
 raw-bytes-requires : tie.Need-raw-bytes-requires
 raw-bytes-requires c κs = search needs
 
--- src/lib.rt:255:20
 slice-aggregate-copy-in : tie.Need-slice-aggregate-copy-in
 slice-aggregate-copy-in c = search needs
 
--- src/lib.rt:255:5
 copy-in-requires : tie.Need-copy-in-requires
 copy-in-requires c κs = search needs
 
--- src/lib.rt:250:1
 same-length : tie.Need-same-length
 same-length c = search needs
 
--- src/lib.rt:250:1
 returns : tie.Need-returns
 returns c =
     let d = c .before .before in
