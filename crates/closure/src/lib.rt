@@ -361,7 +361,65 @@ fn sweep<'a>(
     Dirty { lo, hi }
 }
 
-// Rounds over the rules lo and hi, and those that read a row that grew. What is left out, a pass finds.
+// One round over the rules lo and hi: the rules to look at next.
+fn round<'a>(
+    n: usize,
+    words: usize,
+    head: &'a [usize; 128],
+    part: &'a [usize; 512],
+    first: &'a [usize; 128],
+    named: &'a [u64; 256],
+    src: &'a [usize; 128],
+    on: &'a [u8; 128],
+    mem: &'a [u64; 260],
+    own: bool,
+    deps: &'a [u64; 260],
+    lo: u64,
+    hi: u64,
+    rows: &'a mut [u64; 260],
+) -> Dirty
+    requires { ⌜ Fits (rulesOf n words (now head) (now part) (now first) (now named) (now src)) × (length (now rows) ≡ 260) ⌝ }
+    ensures { λ r. ⌜ Grown (rulesOf n words (now (head .entry)) (now (part .entry)) (now (first .entry)) (now (named .entry)) (now (src .entry))) (now (on .entry)) own (now (mem .entry)) (now (rows .entry)) (now (rows .exit)) ⌝ }
+{
+    let x = sweep(
+        n,
+        words,
+        head,
+        part,
+        first,
+        named,
+        src,
+        on,
+        mem,
+        own,
+        deps,
+        lo,
+        0,
+        rows,
+    );
+    let y = sweep(
+        n,
+        words,
+        head,
+        part,
+        first,
+        named,
+        src,
+        on,
+        mem,
+        own,
+        deps,
+        hi | x.hi,
+        64,
+        rows,
+    );
+    Dirty {
+        lo: x.lo | y.lo,
+        hi: y.hi,
+    }
+}
+
+// Rounds until there is no rule to look at. What is left out, a pass finds.
 fn drain<'a>(
     n: usize,
     words: usize,
@@ -381,14 +439,13 @@ fn drain<'a>(
     requires { ⌜ Fits (rulesOf n words (now head) (now part) (now first) (now named) (now src)) × (length (now rows) ≡ 260) ⌝ }
     ensures { λ u. ⌜ Grown (rulesOf n words (now (head .entry)) (now (part .entry)) (now (first .entry)) (now (named .entry)) (now (src .entry))) (now (on .entry)) own (now (mem .entry)) (now (rows .entry)) (now (rows .exit)) ⌝ }
 {
-    let mut a = lo;
-    let mut b = hi;
+    let mut todo = Dirty { lo, hi };
     let mut fuel = 4096usize;
     while fuel > 0 {
-        if a | b == 0 {
+        if todo.lo | todo.hi == 0 {
             return;
         }
-        let x = sweep(
+        todo = round(
             n,
             words,
             head,
@@ -400,29 +457,10 @@ fn drain<'a>(
             mem,
             own,
             deps,
-            a,
-            0,
+            todo.lo,
+            todo.hi,
             rows,
         );
-        b = b | x.hi;
-        let y = sweep(
-            n,
-            words,
-            head,
-            part,
-            first,
-            named,
-            src,
-            on,
-            mem,
-            own,
-            deps,
-            b,
-            64,
-            rows,
-        );
-        a = x.lo | y.lo;
-        b = y.hi;
         fuel -= 1;
     }
 }
