@@ -14,7 +14,7 @@ use lib.Seq.{getD-set-same, getD-set-other}
 use Rattle.word.specs.Bit.{bitAt, only, bit-or, bit-and, bit-zero, bit-only, without, without-sub, without-gone, without-less, or-more, false-true}
 use Rattle.closure.specs.declared.Rules.{Rules}
 use Rattle.closure.specs.Rules.{el, bits, Under, Fits, Takes, memOf, memRows, Used, Model, Within, Grown, Closed, Marked}
-use Rattle.closure.specs.Words.{InWord, LinksOf, WordOf, room, Quiet, TurnOf, RuleOf, PassOf}
+use Rattle.closure.specs.Words.{InWord, LinksOf, meetOf, WordOf, room, Quiet, TurnOf, RuleOf, PassOf}
 
 or-cases : (a b s : ℕ) → bitAt (bitOr a b) s ≡ true → (bitAt a s ≡ true) ⊎ (bitAt b s ≡ true)
 or-cases a b s h = go (bitAt a s) refl (sym (bit-or a b s) ∙ h)
@@ -129,17 +129,15 @@ module _ (X : Rules) (i h : ℕ) (L M : List ℕ) where
       let m : r .0 ≡ (q * 64 + r .0) % 64 = omega arith in
       (q * 64 + r .0, word-bits (X .named) i (q * 64 + r .0) q u d (subst (λ (x : ℕ). bitAt (el (X .named) (i * 2 + q)) x ≡ true) m (r .2)), r .3, word-bits L (q * 64 + r .0) s h v e (r .4))
 
-  abbrev meetOf : ℕ
-  meetOf =
-      bitAnd (bitAnd (bitAnd (el L (el (X .part) (i * 4) * 2 + h)) (el L (el (X .part) (i * 4 + 1) * 2 + h))) (el L (el (X .part) (i * 4 + 2) * 2 + h)))
-      (el L (el (X .part) (i * 4 + 3) * 2 + h))
+  abbrev shared : ℕ
+  shared = meetOf L (el (X .part) (i * 4)) (el (X .part) (i * 4 + 1)) (el (X .part) (i * 4 + 2)) (el (X .part) (i * 4 + 3)) h
 
   meet-in : (s : ℕ) → s / 64 ≡ h → bits L (el (X .part) (i * 4)) s ≡ true → bits L (el (X .part) (i * 4 + 1)) s ≡ true
-      → bits L (el (X .part) (i * 4 + 2)) s ≡ true → bits L (el (X .part) (i * 4 + 3)) s ≡ true → bitAt meetOf (s % 64) ≡ true
+      → bits L (el (X .part) (i * 4 + 2)) s ≡ true → bits L (el (X .part) (i * 4 + 3)) s ≡ true → bitAt shared (s % 64) ≡ true
   meet-in s z a b c d =
       and-both _ _ (s % 64) (and-both _ _ (s % 64) (and-both _ _ (s % 64) (bits-word L _ s h z a) (bits-word L _ s h z b)) (bits-word L _ s h z c)) (bits-word L _ s h z d)
 
-  meet-out : h < 2 → (s : ℕ) → s / 64 ≡ h → bitAt meetOf (s % 64) ≡ true → (bits L (el (X .part) (i * 4)) s ≡ true) × (bits L (el (X .part) (i * 4 + 1)) s ≡ true)
+  meet-out : h < 2 → (s : ℕ) → s / 64 ≡ h → bitAt shared (s % 64) ≡ true → (bits L (el (X .part) (i * 4)) s ≡ true) × (bits L (el (X .part) (i * 4 + 1)) s ≡ true)
       × (bits L (el (X .part) (i * 4 + 2)) s ≡ true) × (bits L (el (X .part) (i * 4 + 3)) s ≡ true)
   meet-out u s z q =
       let x = and-cases _ _ (s % 64) q in
@@ -154,14 +152,14 @@ module _ (X : Rules) (i h : ℕ) (L M : List ℕ) where
       go true e = let z : j < 64 = ltb-true j 64 e in inl (omega arith)
       go false e = let z : 64 ≤ j = ltb-false j 64 e in inr (omega arith)
 
-  word-at : (k l : ℕ) → h < 2 → Link 0 k → Link 1 l → WordOf X i h L M (bitOr (bitOr meetOf k) l)
+  word-at : (k l : ℕ) → h < 2 → Link 0 k → Link 1 l → WordOf X i h L M (bitOr (bitOr shared k) l)
   word-at k l u lo hi =
       record {
         taken =
             record {
-              meet = λ s z a b c d. or-left (bitOr meetOf k) l (s % 64) (or-left meetOf k (s % 64) (meet-in s z a b c d));
-              link = λ j s z n m v. ⊎-elim (λ e. or-left (bitOr meetOf k) l (s % 64) (or-right meetOf k (s % 64) (link-in 0 k lo j s e z n m v)))
-                  (λ e. or-right (bitOr meetOf k) l (s % 64) (link-in 1 l hi j s e z n m v)) (half j (bits-low (X .named) i j n));
+              meet = λ s z a b c d. or-left (bitOr shared k) l (s % 64) (or-left shared k (s % 64) (meet-in s z a b c d));
+              link = λ j s z n m v. ⊎-elim (λ e. or-left (bitOr shared k) l (s % 64) (or-right shared k (s % 64) (link-in 0 k lo j s e z n m v)))
+                  (λ e. or-right (bitOr shared k) l (s % 64) (link-in 1 l hi j s e z n m v)) (half j (bits-low (X .named) i j n));
             };
         least = λ m G g v w t s z b.
             let link : (q r : ℕ) → q < 2 → Link q r → bitAt r (s % 64) ≡ true → g s ≡ true =
@@ -169,13 +167,15 @@ module _ (X : Rules) (i h : ℕ) (L M : List ℕ) where
             ⊎-elim
             (λ p. ⊎-elim
             (λ p. let o = meet-out u s z p in t .meet s z (v .within _ s (o .0)) (v .within _ s (o .1)) (v .within _ s (o .2)) (v .within _ s (o .3)))
-            (λ p. link 0 k (omega arith) lo p) (or-cases meetOf k (s % 64) p))
-            (λ p. link 1 l (omega arith) hi p) (or-cases (bitOr meetOf k) l (s % 64) b);
+            (λ p. link 0 k (omega arith) lo p) (or-cases shared k (s % 64) p))
+            (λ p. link 1 l (omega arith) hi p) (or-cases (bitOr shared k) l (s % 64) b);
       }
 
-  pub word-of : (k l : ℕ) → h < 2 → LinksOf (el (X .named) (i * 2)) 0 h (el (X .first) i) (X .src) L M k
-      → LinksOf (el (X .named) (i * 2 + 1)) 64 h (el (X .first) i) (X .src) L M l → WordOf X i h L M (bitOr (bitOr meetOf k) l)
-  word-of k l u lo hi = word-at k l u (subst (λ (x : ℕ). LinksOf (el (X .named) x) 0 h (el (X .first) i) (X .src) L M k) (sym (add-zero (i * 2))) lo) hi
+  pub word-of : (w k l : ℕ) → h < 2 → w ≡ shared → LinksOf (el (X .named) (i * 2)) 0 h (el (X .first) i) (X .src) L M k
+      → LinksOf (el (X .named) (i * 2 + 1)) 64 h (el (X .first) i) (X .src) L M l → WordOf X i h L M (bitOr (bitOr w k) l)
+  word-of w k l u e lo hi =
+      subst (λ (x : ℕ). WordOf X i h L M (bitOr (bitOr x k) l)) (sym e)
+      (word-at k l u (subst (λ (x : ℕ). LinksOf (el (X .named) x) 0 h (el (X .first) i) (X .src) L M k) (sym (add-zero (i * 2))) lo) hi)
 
 -- Rows that take in a word
 
@@ -430,20 +430,18 @@ module _ (X : Rules) (on : List ℕ) (own : Bool) (M : List ℕ) where
   pub close-start : (K : List ℕ) → length K ≡ 260 → CloseTo K K true
   close-start K h = record { grown = grow-start K h; done = λ q. absurd (true-false q) }
 
-  pub close-pass : {K₀ K K′ : List ℕ} {more : Bool} {added : ℕ} → PassOf X on own M K K′ added → CloseTo K₀ K more → CloseTo K₀ K′ (ltb 0 added)
-  close-pass {added = added} p inv =
-      record { grown = grow-more (inv .grown) (p .grown); done = λ q. let z = ltb-false 0 added q in p .still (omega arith) }
+  pub close-pass : {K₀ K K′ : List ℕ} {more more′ : Bool} {added : ℕ} → PassOf X on own M K K′ added → (more′ ≡ false → added ≡ 0) → CloseTo K₀ K more → CloseTo K₀ K′ more′
+  close-pass p f inv = record { grown = grow-more (inv .grown) (p .grown); done = λ q. p .still (f q) }
 
   pub close-all : {K₀ K₁ K : List ℕ} {more : Bool} → more ≡ false → Grown X on own M K₀ K₁ → CloseTo K₁ K more → Closed X on own M K₀ K
   close-all e g inv = record { grown = grow-more g (inv .grown); model = inv .done e }
 
 -- what the rows can still take in, and the pass that is still to come
-abbrev pub left : List ℕ → Bool → ℕ
+unfoldable pub left : List ℕ → Bool → ℕ
 left K more = room K + cond more 1 0
 
-pub close-less : {X : Rules} {on : List ℕ} {own : Bool} {M K K′ : List ℕ} {added : ℕ} → PassOf X on own M K K′ added → left K′ (ltb 0 added) < left K true
-close-less {K = K} {K′ = K′} {added = added} p = go (ltb 0 added) refl
-  where
-    go : (t : Bool) → ltb 0 added ≡ t → left K′ t < left K true
-    go true e = omega (arith, p .fewer, ltb-true 0 added e)
-    go false e = omega (arith, p .fewer)
+pub close-less : {X : Rules} {on : List ℕ} {own : Bool} {M K K′ : List ℕ} {added : ℕ} → PassOf X on own M K K′ added
+    → (more : Bool) → (more ≡ true → 0 < added) → left K′ more < left K true
+unfolding left
+close-less p true f = omega (arith, p .fewer, f refl)
+close-less p false f = omega (arith, p .fewer)

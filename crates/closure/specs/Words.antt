@@ -3,6 +3,7 @@ use Prim.Native.Nat.{ℕ, zero, suc, _+_, _*_, _-_, _/_, _%_, _^_, _≤_, _<_}
 use mathlib.Core.Path.{_≡_}
 use mathlib.Core.Bool.{Bool, true, false, cond}
 use mathlib.Core.List.{List, [], _∷_}
+use lib.Bits.{bitAnd}
 use lib.ListN.{getD, length}
 use Rattle.word.specs.Bit.{bitAt}
 use Rattle.closure.specs.declared.Rules.{Rules}
@@ -17,6 +18,10 @@ pub record LinksOf (N b h f : ℕ) (S L M : List ℕ) (w : ℕ) : Type 0 where
   pub says : (t : ℕ) → bitAt w t ≡ true
       → (j : ℕ) × (j < 64) × (bitAt N j ≡ true) × (bits M f (el S (b + j)) ≡ true) × (bitAt (el L ((b + j) * 2 + h)) t ≡ true)
   pub all : (j t : ℕ) → bitAt N j ≡ true → bits M f (el S (b + j)) ≡ true → bitAt (el L ((b + j) * 2 + h)) t ≡ true → bitAt w t ≡ true
+
+-- what four rows share of word h
+abbrev pub meetOf : List ℕ → ℕ → ℕ → ℕ → ℕ → ℕ → ℕ
+meetOf L a b c d h = bitAnd (bitAnd (bitAnd (el L (a * 2 + h)) (el L (b * 2 + h))) (el L (c * 2 + h))) (el L (d * 2 + h))
 
 -- w is word h of what rule i gives from the rows L, with membership M
 pub record WordOf (X : Rules) (i h : ℕ) (L M : List ℕ) (w : ℕ) : Type 0 where

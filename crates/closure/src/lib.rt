@@ -11,7 +11,7 @@ ghost use mathlib.Core.Path.{_≡_};
 ghost use Prim.Native.Nat.{_<_, _≤_};
 ghost use lib.ListN.{length};
 ghost use Rattle.closure.specs.Rules.{rulesOf, bits, memRows, Under, Fits, Grown, Closed, Marked};
-ghost use Rattle.closure.specs.Words.{LinksOf, WordOf, TurnOf, RuleOf, PassOf};
+ghost use Rattle.closure.specs.Words.{LinksOf, meetOf, WordOf, TurnOf, RuleOf, PassOf};
 
 pub struct Rules {
     pub count: usize,
@@ -75,6 +75,14 @@ fn links<'a>(
     w
 }
 
+// What four rows share of word h.
+fn meet<'a>(vals: &'a [u64; 260], a: usize, b: usize, c: usize, d: usize, h: usize) -> u64
+    requires { ⌜ (a < 130) × (b < 130) × (c < 130) × (d < 130) × (h < 2) ⌝ }
+    ensures { λ w. ⌜ w ≡ meetOf (now (vals .entry)) a b c d h ⌝ }
+{
+    vals[a * 2 + h] & vals[b * 2 + h] & vals[c * 2 + h] & vals[d * 2 + h]
+}
+
 // What rule i gives of word h.
 fn word<'a>(
     n: usize,
@@ -92,11 +100,14 @@ fn word<'a>(
     requires { ⌜ (i < 128) × (h < 2) × Fits (rulesOf n words (now head) (now part) (now first) (now named) (now src)) ⌝ }
     ensures { λ w. ⌜ WordOf (rulesOf n words (now (head .entry)) (now (part .entry)) (now (first .entry)) (now (named .entry)) (now (src .entry))) i h (now (vals .entry)) (now (mem .entry)) w ⌝ }
 {
-    let a = part[i * 4];
-    let b = part[i * 4 + 1];
-    let c = part[i * 4 + 2];
-    let d = part[i * 4 + 3];
-    let w = vals[a * 2 + h] & vals[b * 2 + h] & vals[c * 2 + h] & vals[d * 2 + h];
+    let w = meet(
+        vals,
+        part[i * 4],
+        part[i * 4 + 1],
+        part[i * 4 + 2],
+        part[i * 4 + 3],
+        h,
+    );
     let f = first[i];
     let lo = links(named[i * 2], 0, h, f, src, vals, mem);
     let hi = links(named[i * 2 + 1], 64, h, f, src, vals, mem);

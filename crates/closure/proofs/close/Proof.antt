@@ -1,3 +1,5 @@
+use native.Mathlib.Omega.{arith}
+use borrow.Author.Tests.{ltb-true, ltb-false}
 use Rattle.closure.specs.Rules.{rulesOf}
 use Rattle.closure.specs.Laws.{CloseTo, left, close-start, close-pass, close-less, close-all}
 use Rattle.closure.proofs.close.Statement.{statement}
@@ -19,10 +21,10 @@ pass-requires : tie.Need-pass-requires Inv-loop μ-loop
 pass-requires c κs = (c .before .before .before .before .before .pre .0, c .before .before .loop .inv .grown .sized)
 
 loop-less : tie.Need-loop-less Inv-loop μ-loop
-loop-less c = rw (c .before .before .loop-test .taken) (close-less (c .pass .ensures))
+loop-less c = rw (c .before .before .loop-test .taken) (close-less (c .pass .ensures) _ (λ e. omega (arith, ltb-true)))
 
 loop-again : tie.Need-loop-again Inv-loop μ-loop
-loop-again c = close-pass (rulesOf _ _ _ _ _ _ _) _ _ _ (c .pass .ensures) (c .before .before .before .loop .inv)
+loop-again c = close-pass (rulesOf _ _ _ _ _ _ _) _ _ _ (c .pass .ensures) (λ e. omega (arith, ltb-false)) (c .before .before .before .loop .inv)
 
 returns : tie.Need-returns Inv-loop μ-loop
 returns c = close-all (rulesOf _ _ _ _ _ _ _) _ _ _ (c .loop-test .left) (c .before .before .drain .ensures) (c .before .loop .inv)
