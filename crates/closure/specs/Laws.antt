@@ -1,19 +1,19 @@
 -- Rows that rules make grow. Assumes nothing.
-use Prim.Native.Nat.{ℕ, zero, suc, _+_, _*_, _-_, _/_, _%_, _^_, _≤_, _<_}
+use Prim.Native.Nat.{ℕ, zero, suc, _+_, _*_, _/_, _%_, _^_, _≤_, _<_}
 use native.Mathlib.Nat.{add-zero}
 use native.Mathlib.Omega.{arith}
 use mathlib.Core.Path.{_≡_, refl, sym, _∙_, ap, subst}
 use mathlib.Core.Logic.{_⊎_, inl, inr, ⊎-elim}
-use mathlib.Core.Bool.{Bool, true, false, _&&_, _||_, not, cond}
+use mathlib.Core.Bool.{Bool, true, false, _&&_, _||_, cond}
 use mathlib.Core.List.{List, [], _∷_}
 use borrow.Author.Tests.{eqb-true, eqb-false, ltb-true, ltb-false, eq-eqb}
 use lib.Dec.{eqb, ltb}
 use lib.Bits.{bitAnd, bitOr}
-use lib.ListN.{getD, length, set, length-set}
+use lib.ListN.{length, set, length-set}
 use lib.Seq.{getD-set-same, getD-set-other}
-use Rattle.word.specs.Bit.{bitAt, only, bit-or, bit-and, bit-zero, bit-only, without, without-sub, without-gone, without-less, or-more, false-true}
+use Rattle.word.specs.Bit.{bitAt, only, bit-or, bit-and, bit-zero, bit-only, without, without-sub, without-gone, or-more, false-true}
 use Rattle.closure.specs.declared.Rules.{Rules}
-use Rattle.closure.specs.Rules.{el, bits, Under, Fits, Takes, memOf, memRows, Used, Model, Within, Grown, Closed, Marked}
+use Rattle.closure.specs.Rules.{el, bits, Fits, Takes, memOf, memRows, Used, Model, Within, Grown, Closed, Marked}
 use Rattle.closure.specs.Words.{InWord, LinksOf, meetOf, WordOf, room, Quiet, TurnOf, RuleOf, PassOf}
 
 or-cases : (a b s : ℕ) → bitAt (bitOr a b) s ≡ true → (bitAt a s ≡ true) ⊎ (bitAt b s ≡ true)

@@ -1,13 +1,13 @@
 -- What the steps of a closure promise: a rule's word, a turn, a pass. Assumes nothing.
-use Prim.Native.Nat.{ℕ, zero, suc, _+_, _*_, _-_, _/_, _%_, _^_, _≤_, _<_}
+use Prim.Native.Nat.{ℕ, _+_, _*_, _-_, _/_, _%_, _^_, _≤_, _<_}
 use mathlib.Core.Path.{_≡_}
 use mathlib.Core.Bool.{Bool, true, false, cond}
 use mathlib.Core.List.{List, [], _∷_}
 use lib.Bits.{bitAnd}
-use lib.ListN.{getD, length}
+use lib.ListN.{length}
 use Rattle.word.specs.Bit.{bitAt}
 use Rattle.closure.specs.declared.Rules.{Rules}
-use Rattle.closure.specs.Rules.{el, bits, memOf, memRows, Used, Takes, Model, Within, Grown}
+use Rattle.closure.specs.Rules.{el, bits, memOf, Used, Takes, Model, Within, Grown}
 
 -- the bits of word h
 abbrev pub InWord : ℕ → ℕ → Type 0

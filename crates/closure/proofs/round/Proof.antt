@@ -1,7 +1,6 @@
 use native.Mathlib.Omega.{arith}
 use Rattle.closure.specs.Rules.{rulesOf}
 use Rattle.closure.specs.Laws.{grow-more}
-use borrow.Author.Needs.{needs}
 use Rattle.closure.proofs.round.Statement.{statement}
 use Rattle.closure.proofs.round.Tie as tie
 
