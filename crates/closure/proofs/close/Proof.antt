@@ -1,0 +1,35 @@
+use native.Mathlib.Omega.{arith}
+use borrow.Author.Tests.{ltb-true, ltb-false}
+use Rattle.closure.specs.Rules.{rulesOf}
+use Rattle.closure.specs.Laws.{CloseTo, left, close-start, close-pass, close-less, close-all}
+use Rattle.closure.proofs.close.Statement.{statement}
+use Rattle.closure.proofs.close.Tie as tie
+
+abbrev Inv-loop : tie.InvT-loop
+Inv-loop n words head part first named src on mem own deps lo hi rows₀ more₀ rows more = CloseTo (rulesOf n words head part first named src) on own mem rows₀ rows more
+
+abbrev μ-loop : tie.MeasureT-loop
+μ-loop n words head part first named src on mem own deps lo hi rows₀ more₀ rows more = left rows more
+
+drain-requires : tie.Need-drain-requires Inv-loop μ-loop
+drain-requires c κs = c .before .pre
+
+loop-holds : tie.Need-loop-holds Inv-loop μ-loop
+loop-holds c = close-start (rulesOf _ _ _ _ _ _ _) _ _ _ _ (c .drain .ensures .sized)
+
+pass-requires : tie.Need-pass-requires Inv-loop μ-loop
+pass-requires c κs = (c .before .before .before .before .before .pre .0, c .before .before .loop .inv .grown .sized)
+
+loop-less : tie.Need-loop-less Inv-loop μ-loop
+loop-less c = rw (c .before .before .loop-test .taken) (close-less (c .pass .ensures) _ (λ e. omega (arith, ltb-true)))
+
+loop-again : tie.Need-loop-again Inv-loop μ-loop
+loop-again c = close-pass (rulesOf _ _ _ _ _ _ _) _ _ _ (c .pass .ensures) (λ e. omega (arith, ltb-false)) (c .before .before .before .loop .inv)
+
+returns : tie.Need-returns Inv-loop μ-loop
+returns c = close-all (rulesOf _ _ _ _ _ _ _) _ _ _ (c .loop-test .left) (c .before .before .drain .ensures) (c .before .loop .inv)
+
+pub close-spec : {M : Type 1} → statement M
+close-spec =
+    tie.close
+    (tie.spec Inv-loop μ-loop drain-requires loop-holds pass-requires loop-less loop-again returns)

@@ -1,0 +1,51 @@
+use lib.ListN.{length}
+use mathlib.Core.Path.{_≡_}
+use native.Mathlib.Omega.{arith}
+use Rattle.word.specs.Bit.{without-less}
+use Rattle.closure.proofs.read_word.Statement.{statement}
+use Rattle.closure.proofs.read_word.Tie as tie
+
+abbrev Inv-loop : tie.InvT-loop
+Inv-loop named base i rows₀ m₀ rows m = length rows ≡ 260
+
+abbrev μ-loop : tie.MeasureT-loop
+μ-loop named base i rows₀ m₀ rows m = m
+
+loop-holds : tie.Need-loop-holds Inv-loop μ-loop
+loop-holds c = c .pre .2
+
+lowest-requires : tie.Need-lowest-requires Inv-loop μ-loop
+lowest-requires c κs = omega arith
+
+without-requires : tie.Need-without-requires Inv-loop μ-loop
+without-requires c κs = omega arith
+
+add-mark : tie.Need-add-mark Inv-loop μ-loop
+add-mark c = omega arith
+
+mark-requires : tie.Need-mark-requires Inv-loop μ-loop
+mark-requires c κs = (omega arith, c .before .before .before .before .before .pre .1, c .before .before .before .before .loop .inv)
+
+loop-less : tie.Need-loop-less Inv-loop μ-loop
+loop-less c = rw (c .before .before .without .ensures) (without-less _ _ (c .before .before .before .lowest .ensures .1))
+
+loop-again : tie.Need-loop-again Inv-loop μ-loop
+loop-again c = c .mark .ensures .sized
+
+returns : tie.Need-returns Inv-loop μ-loop
+returns c = c .before .loop .inv
+
+pub read-word-spec : {M : Type 1} → statement M
+read-word-spec =
+    tie.close
+    (tie.spec
+    Inv-loop
+    μ-loop
+    loop-holds
+    lowest-requires
+    without-requires
+    add-mark
+    mark-requires
+    loop-less
+    loop-again
+    returns)
