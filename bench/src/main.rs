@@ -3,10 +3,9 @@
 //! engine: the whole call. making: the part of it that reads the bytes and makes the relation. one more: asking one
 //! more question over a relation that is made already. reference: the separate code.
 
-mod shapes;
-
 use reference::question::{self, Lent, Question};
-use reference::sample::Random;
+use reference::sample::{Random, World};
+use reference::shapes;
 use std::hint::black_box;
 use std::process::exit;
 use std::time::{Duration, Instant};
@@ -148,7 +147,7 @@ fn main() {
         for (e, role_asked) in [("entity", false), ("role", true)] {
             let set = format!("random: {entities} entities, {names} names");
             let rows = (0..15).map(|_| {
-                let question = shapes::random_question(&mut random, entities, names, role_asked);
+                let question = random.full_question(World::new(entities, names), role_asked);
                 Row::measure(set.clone(), e, &question)
             });
             for row in median_and_worst(rows.collect()) {
@@ -157,20 +156,16 @@ fn main() {
             }
         }
     }
-    let measure = |shape: &shapes::Shape, rows: &mut Vec<Row>| {
+    let mut chains = Vec::new();
+    for shape in &shapes::SHAPES {
         for order in shapes::ORDERS {
             for (e, end) in shapes::ends() {
                 let set = format!("{}, {order}", shape.name);
                 let row = Row::measure(set, e, &shapes::question(shape, order, &end));
                 row.print();
-                rows.push(row);
+                if shape.name == "chain" { &mut chains } else { &mut others }.push(row);
             }
         }
-    };
-    let mut chains = Vec::new();
-    measure(&shapes::CHAIN, &mut chains);
-    for shape in &shapes::SHAPES {
-        measure(shape, &mut others);
     }
 
     for (what, rows, most) in [("chain", &chains, MOST_CHAIN), ("other set", &others, MOST)] {

@@ -163,6 +163,15 @@ impl Random {
         Question { credentials, f, e }
     }
 
+    /// A question over 64 random credentials, with one of the heads as f.
+    pub fn full_question(&mut self, world: World, role_asked: bool) -> Question {
+        let credentials: Vec<Credential> = (0..MOST_CREDENTIALS).map(|_| self.credential(world)).collect();
+        let f = Expression::Role(credentials[self.below(MOST_CREDENTIALS)].head);
+        let end = self.role(world);
+        let e = if role_asked { Expression::Role(end) } else { Expression::Entity(end.entity) };
+        Question { credentials, f, e }
+    }
+
     /// Credentials that prove "f from e", often less one or two of them, among others.
     fn proved_question(&mut self, world: World) -> Question {
         let f = loop {
@@ -174,7 +183,8 @@ impl Random {
         let e = self.expression(world);
         let depth = if self.percent(20) { self.between(5, 60) } else { self.between(0, 5) };
         let mut credentials = Vec::new();
-        self.prove(world, &f, &e, depth, &mut credentials);
+        let bend = [2, 3, 5, 20][self.below(4)];
+        self.prove(world, &f, &e, depth, bend, &mut credentials);
         for _ in 0..[0, 0, 1, 1, 1, 2][self.below(6)] {
             if !credentials.is_empty() {
                 credentials.remove(self.below(credentials.len()));
@@ -199,9 +209,18 @@ impl Random {
         Question { credentials, f, e }
     }
 
-    /// Adds credentials that prove "f from e" through at most `depth` other expressions on each path. An entity f
-    /// cannot be proved.
-    fn prove(&mut self, world: World, f: &Expression, e: &Expression, depth: usize, out: &mut Vec<Credential>) {
+    /// Adds credentials that prove "f from e" through at most `depth` other expressions on one path, and few on the
+    /// side paths that links and intersections need. The greater `bend`, the fewer of these. An entity f cannot be
+    /// proved.
+    fn prove(
+        &mut self,
+        world: World,
+        f: &Expression,
+        e: &Expression,
+        depth: usize,
+        bend: usize,
+        out: &mut Vec<Credential>,
+    ) {
         if f == e {
             return;
         }
@@ -220,7 +239,7 @@ impl Random {
                     }
                     return;
                 } else {
-                    match self.below(if depth > 8 { 20 } else { 5 }) {
+                    match self.below(bend) {
                         0 => self.linked(world, head.entity),
                         1 => {
                             let part_count = self.between(2, 4);
@@ -230,16 +249,19 @@ impl Random {
                     }
                 };
                 out.push(Credential { head: *head, body: middle.clone() });
-                self.prove(world, &middle, e, less, out);
+                self.prove(world, &middle, e, less, bend, out);
             }
             Expression::Linked(base, name) => {
                 let entity = self.entity(world);
-                self.prove(world, &Expression::Role(*base), &Expression::Entity(entity), less.min(3), out);
-                self.prove(world, &Expression::Role(Role { entity, name: *name }), e, less, out);
+                let (to_base, to_e) = if self.percent(50) { (less, less.min(2)) } else { (less.min(2), less) };
+                self.prove(world, &Expression::Role(*base), &Expression::Entity(entity), to_base, bend, out);
+                self.prove(world, &Expression::Role(Role { entity, name: *name }), e, to_e, bend, out);
             }
             Expression::Intersection(parts) => {
-                for part in parts {
-                    self.prove(world, &Expression::Role(*part), e, less.min(6), out);
+                let long = self.below(parts.len());
+                for (i, part) in parts.iter().enumerate() {
+                    let depth = if i == long { less } else { less.min(1) };
+                    self.prove(world, &Expression::Role(*part), e, depth, bend, out);
                 }
             }
         }
@@ -260,7 +282,7 @@ impl Random {
 
     fn damage(&mut self, lent: &mut Lent) {
         let world = World::new(3, 3);
-        match self.below(17) {
+        match self.below(18) {
             // One byte.
             0 => {
                 let bytes = self.buffer(lent);
@@ -274,12 +296,19 @@ impl Random {
                 let bytes = self.buffer(lent);
                 bytes.truncate(self.below(bytes.len() + 1));
             }
-            // The end is missing.
+            // A cut command of zeros.
             2 => {
+                let at = self.command(lent);
+                lent.credentials.truncate(at);
+                lent.credentials.push(CREDENTIAL);
+                lent.credentials.resize(lent.credentials.len() + self.below(CREDENTIAL_BYTES), 0);
+            }
+            // The end is missing.
+            3 => {
                 lent.credentials.pop();
             }
             // Bytes after the end: random ones, a second end, a credential.
-            3 => {
+            4 => {
                 let more = match self.below(3) {
                     0 => {
                         let count = self.between(1, 30);
@@ -291,12 +320,12 @@ impl Random {
                 lent.credentials.extend(more);
             }
             // An end among the commands.
-            4 => {
+            5 => {
                 let at = self.command(lent);
                 lent.credentials.insert(at.min(lent.credentials.len()), END);
             }
             // Two commands change places, one of them perhaps the end.
-            5 => {
+            6 => {
                 let mut commands: Vec<Vec<u8>> = lent.credentials.chunks(COMMAND_BYTES).map(<[u8]>::to_vec).collect();
                 if !commands.is_empty() {
                     let (a, b) = (self.below(commands.len()), self.below(commands.len()));
@@ -305,7 +334,7 @@ impl Random {
                 }
             }
             // Another command, known in other messages or not.
-            6 => {
+            7 => {
                 let at = self.command(lent);
                 let first = if self.percent(70) { self.below(0x18) as u8 } else { self.byte() };
                 if let Some(byte) = lent.credentials.get_mut(at) {
@@ -313,7 +342,7 @@ impl Random {
                 }
             }
             // A zero number, in an expression or in a head.
-            7 => {
+            8 => {
                 if self.percent(70) {
                     let i = self.below(3);
                     self.change_expression(lent, |bytes| bytes[2 + 2 * i..4 + 2 * i].fill(0));
@@ -325,12 +354,12 @@ impl Random {
                 }
             }
             // A field that may be unused is not zero, in one byte alone.
-            8 => {
+            9 => {
                 let (at, byte) = (self.between(4, 17), self.byte());
                 self.change_expression(lent, |bytes| bytes[at] = byte);
             }
             // Equal or descending parts.
-            9 => {
+            10 => {
                 let part_count = self.between(2, 4);
                 let mut whole = encode_expression(&self.intersection(world, part_count));
                 let at = 2 + 4 * self.below(part_count - 1);
@@ -342,23 +371,23 @@ impl Random {
                 self.change_expression(lent, |bytes| bytes.copy_from_slice(&whole));
             }
             // Another part count.
-            10 => {
+            11 => {
                 let part_count = self.below(7) as u8;
                 self.change_expression(lent, |bytes| bytes[1] = part_count);
             }
             // Another kind.
-            11 => {
+            12 => {
                 let kind = [0, 1, 2, 3, 4, 5, 6, 255][self.below(8)];
                 self.change_expression(lent, |bytes| bytes[0] = kind);
             }
             // A goal.
-            12 => {
+            13 => {
                 let mut goal = encode_expression(&Expression::Entity(1));
                 goal[0] = 5;
                 self.change_expression(lent, |bytes| bytes.copy_from_slice(&goal));
             }
             // A linked body, often of another entity than the issuer.
-            13 => {
+            14 => {
                 let entity = self.between(1, 3) as u16;
                 let linked = encode_expression(&self.linked(world, entity));
                 let at = self.command(lent) + 5;
@@ -367,7 +396,7 @@ impl Random {
                 }
             }
             // Another length of f or e.
-            14 => {
+            15 => {
                 let length = match self.below(4) {
                     0 => 0,
                     1 => 17,
@@ -378,7 +407,7 @@ impl Random {
                 bytes.resize(length, 0);
             }
             // Another length of the credentials, within the sizes or not.
-            15 => {
+            16 => {
                 let length = match self.below(4) {
                     0 => 0,
                     1 => MOST_BYTES,

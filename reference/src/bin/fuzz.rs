@@ -1,9 +1,11 @@
 //! Compares the engine's answers with the reference's, and looks whether a lent buffer was changed.
 //!
-//! fuzz [SEED [RANDOM [DAMAGED]]]: the seed, and how many random and damaged questions to ask.
+//! fuzz [SEED [RANDOM [DAMAGED]]]: the seed, and how many random and damaged questions to ask. The large questions of
+//! `shapes` are asked besides, each whole and without each one of its credentials.
 
 use reference::question::{self, Lent};
 use reference::sample::Random;
+use reference::shapes;
 use std::process::exit;
 
 #[link(name = "engine", kind = "static")]
@@ -83,6 +85,25 @@ impl Counts {
     }
 }
 
+/// Returns how many questions were asked.
+fn ask_shapes(random: &mut Random, counts: &mut Counts) -> u64 {
+    let before = counts.passed + counts.failed;
+    for shape in &shapes::SHAPES {
+        for order in shapes::ORDERS {
+            for (_, e) in shapes::ends() {
+                let whole = shapes::question(shape, order, &e);
+                counts.ask(random, &question::encode(&whole));
+                for i in 0..whole.credentials.len() {
+                    let mut less = whole.clone();
+                    less.credentials.remove(i);
+                    counts.ask(random, &question::encode(&less));
+                }
+            }
+        }
+    }
+    counts.passed + counts.failed - before
+}
+
 fn hex(bytes: &[u8]) -> String {
     bytes.iter().map(|byte| format!("{byte:02x}")).collect()
 }
@@ -113,6 +134,9 @@ fn main() {
         let lent = random.damaged();
         counts.ask(&mut random, &lent);
     }
+    let shaped_count = ask_shapes(&mut random, &mut counts);
+    println!("{shaped_count} large questions");
+
     let Counts { passed, mut failed, no, yes, refused: [_, length, command, operand] } = counts;
     println!("answers: no {no}, yes {yes}, refused 1 {length}, refused 2 {command}, refused 3 {operand}");
 

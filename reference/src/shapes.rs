@@ -1,8 +1,8 @@
-//! Questions over 64 credentials that cost much, each with an e that can be an entity or a role.
+//! Questions over 64 credentials whose proofs are long or wide, each with an e that can be an entity or a role.
 
-use reference::expression::*;
-use reference::question::{Question, MOST_CREDENTIALS};
-use reference::sample::{Random, World};
+use crate::expression::*;
+use crate::question::{Question, MOST_CREDENTIALS};
+use crate::sample::Random;
 
 pub struct Shape {
     pub name: &'static str,
@@ -10,9 +10,8 @@ pub struct Shape {
     pub credentials: fn(&Expression) -> Vec<Credential>,
 }
 
-pub const CHAIN: Shape = Shape { name: "chain", credentials: chain };
-
-pub const SHAPES: [Shape; 7] = [
+pub const SHAPES: [Shape; 8] = [
+    Shape { name: "chain", credentials: chain },
     Shape { name: "links: one role of itself", credentials: one_role_of_itself },
     Shape { name: "links: each role of itself", credentials: each_role_of_itself },
     Shape { name: "links: each role of itself, in a ring", credentials: ring },
@@ -125,14 +124,4 @@ pub fn question(shape: &Shape, order: &str, e: &Expression) -> Question {
         _ => Random::new(1).shuffle(&mut credentials),
     }
     Question { credentials, f: Expression::Role(role(1, 1)), e: e.clone() }
-}
-
-/// A question over 64 random credentials, with a head as f.
-pub fn random_question(random: &mut Random, entities: usize, names: usize, role_asked: bool) -> Question {
-    let world = World::new(entities, names);
-    let credentials: Vec<Credential> = (0..MOST_CREDENTIALS).map(|_| random.credential(world)).collect();
-    let f = Expression::Role(credentials[random.below(MOST_CREDENTIALS)].head);
-    let end = random.role(world);
-    let e = if role_asked { Expression::Role(end) } else { Expression::Entity(end.entity) };
-    Question { credentials, f, e }
 }
