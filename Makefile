@@ -12,9 +12,9 @@ DAMAGED_COUNT = 2000000
 
 ENGINE = target/staticlib/libengine.a
 MEASURE = target/staticlib/libmeasure.a
-CRATES = crates.txt $(shell find crates)
-REFERENCE = $(wildcard reference/Cargo.* reference/build.rs reference/src/*.rs reference/src/bin/*.rs)
-BENCH = $(wildcard bench/Cargo.* bench/src/*.rs)
+CRATES := crates.txt $(shell find crates)
+REFERENCE := $(wildcard reference/Cargo.* reference/build.rs reference/src/*.rs reference/src/bin/*.rs)
+BENCH := $(wildcard bench/Cargo.* bench/src/*.rs)
 
 export CARGO_TARGET_DIR = $(CURDIR)/build/cargo
 export LAVUTREMO_LIB = $(CURDIR)/target/staticlib
