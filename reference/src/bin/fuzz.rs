@@ -1,0 +1,153 @@
+//! Compares the engine's answers with the reference's, and looks whether a lent buffer was changed.
+//!
+//! fuzz [SEED [RANDOM [DAMAGED]]]: the seed, and how many random and damaged questions to ask. The large questions of
+//! `shapes` are asked besides, each whole and without each one of its credentials.
+
+use reference::question::{self, Lent};
+use reference::sample::Random;
+use reference::shapes;
+use std::process::exit;
+
+#[link(name = "engine", kind = "static")]
+extern "C" {
+    fn lavutremo_question(
+        credentials: *const u8,
+        credentials_len: usize,
+        f: *const u8,
+        f_len: usize,
+        e: *const u8,
+        e_len: usize,
+    ) -> u64;
+}
+
+/// A buffer to lend, with random bytes before and after it.
+struct Guarded {
+    bytes: Vec<u8>,
+    start: usize,
+}
+
+impl Guarded {
+    fn new(random: &mut Random, content: &[u8]) -> Guarded {
+        // The start varies so that the buffer is aligned in every way.
+        let start = random.between(32, 47);
+        let bytes = [&random.bytes(start), content, &random.bytes(32)].concat();
+        Guarded { bytes, start }
+    }
+
+    fn pointer(&mut self) -> *const u8 {
+        self.bytes[self.start..].as_mut_ptr()
+    }
+}
+
+/// The engine's answer, and whether all bytes are still the same.
+fn ask_engine(random: &mut Random, lent: &Lent) -> (u64, bool) {
+    let mut buffers = [&lent.credentials, &lent.f, &lent.e].map(|content| Guarded::new(random, content));
+    let copies = buffers.each_ref().map(|buffer| buffer.bytes.clone());
+    let [credentials, f, e] = buffers.each_mut().map(Guarded::pointer);
+    // Each pointer goes with the length of what it points to, and the engine keeps none.
+    let answer = unsafe { lavutremo_question(credentials, lent.credentials.len(), f, lent.f.len(), e, lent.e.len()) };
+    let kept = buffers.iter().map(|buffer| &buffer.bytes).eq(&copies);
+    (answer, kept)
+}
+
+#[derive(Default)]
+struct Counts {
+    passed: u64,
+    failed: u64,
+    no: u64,
+    yes: u64,
+    refused: [u64; 4],
+}
+
+impl Counts {
+    fn ask(&mut self, random: &mut Random, lent: &Lent) {
+        let expected = question::answer(&lent.credentials, &lent.f, &lent.e);
+        match expected {
+            0 => self.no += 1,
+            256 => self.yes += 1,
+            number => self.refused[number as usize] += 1,
+        }
+        let (answer, kept) = ask_engine(random, lent);
+        if answer == expected && kept {
+            self.passed += 1;
+            return;
+        }
+        self.failed += 1;
+        if self.failed == 1 {
+            println!("first difference: engine {answer}, reference {expected}");
+            if !kept {
+                println!("  bytes in or beside a lent buffer were changed");
+            }
+            println!("  credentials {}", hex(&lent.credentials));
+            println!("  f           {}", hex(&lent.f));
+            println!("  e           {}", hex(&lent.e));
+        }
+    }
+}
+
+/// Returns how many questions were asked.
+fn ask_shapes(random: &mut Random, counts: &mut Counts) -> u64 {
+    let before = counts.passed + counts.failed;
+    for shape in &shapes::SHAPES {
+        for order in shapes::ORDERS {
+            for (_, e) in shapes::ends() {
+                let whole = shapes::question(shape, order, &e);
+                counts.ask(random, &question::encode(&whole));
+                for i in 0..whole.credentials.len() {
+                    let mut less = whole.clone();
+                    less.credentials.remove(i);
+                    counts.ask(random, &question::encode(&less));
+                }
+            }
+        }
+    }
+    counts.passed + counts.failed - before
+}
+
+fn hex(bytes: &[u8]) -> String {
+    bytes.iter().map(|byte| format!("{byte:02x}")).collect()
+}
+
+fn argument(at: usize, default: u64) -> u64 {
+    match std::env::args().nth(at) {
+        None => default,
+        Some(word) => word.parse().unwrap_or_else(|_| {
+            eprintln!("usage: fuzz [SEED [RANDOM [DAMAGED]]], each a number");
+            exit(2)
+        }),
+    }
+}
+
+fn main() {
+    let (seed, random_count, damaged_count) = (argument(1, 1), argument(2, 200_000), argument(3, 200_000));
+    let mut random = Random::new(seed);
+    let mut counts = Counts::default();
+
+    for _ in 0..random_count {
+        let lent = question::encode(&random.question());
+        counts.ask(&mut random, &lent);
+    }
+    let yes_share = 100.0 * counts.yes as f64 / random_count.max(1) as f64;
+    println!("seed {seed}: {random_count} random questions, {yes_share:.1}% yes; {damaged_count} damaged ones");
+
+    for _ in 0..damaged_count {
+        let lent = random.damaged();
+        counts.ask(&mut random, &lent);
+    }
+    let shaped_count = ask_shapes(&mut random, &mut counts);
+    println!("{shaped_count} large questions");
+
+    let Counts { passed, mut failed, no, yes, refused: [_, length, command, operand] } = counts;
+    println!("answers: no {no}, yes {yes}, refused 1 {length}, refused 2 {command}, refused 3 {operand}");
+
+    if [no, yes, length, command, operand].contains(&0) {
+        println!("an answer never occurred: ask more questions");
+        failed += 1;
+    }
+    if random_count >= 1000 && !(25.0..=75.0).contains(&yes_share) {
+        println!("the share of yes is not between 25% and 75%");
+        failed += 1;
+    }
+    println!("{passed} passed, {failed} failed");
+    exit((failed > 0) as i32);
+}

@@ -1,0 +1,109 @@
+/*
+ * Refusals, most of them at the exact lengths. Prints each answer that is not the expected one, and counts last.
+ */
+#include <stdio.h>
+#include <string.h>
+
+#include "lavutremo.h"
+
+#define MOST LAVUTREMO_MOST_CREDENTIALS_BYTES
+#define YES 256u
+#define NO 0u
+
+/* 1.1 <- 2, as a command. */
+static const uint8_t credential[LAVUTREMO_CREDENTIAL_BYTES] = {0x01, 0, 1, 0, 1, 1, 0, 0, 2};
+/* The role 1.1, the entity 2 and the goal 1; one byte more than an expression has. */
+static const uint8_t role[19] = {2, 0, 0, 1, 0, 1};
+static const uint8_t entity[19] = {1, 0, 0, 2};
+static const uint8_t goal[19] = {5, 0, 0, 1};
+static const uint8_t zero[19] = {0};
+
+static uint8_t credentials[MOST + 1];
+static int passed, failed;
+
+static void expect(const char *what, uint64_t expected, size_t credentials_len, const uint8_t *f, size_t f_len,
+                   const uint8_t *e, size_t e_len)
+{
+    uint8_t before[sizeof credentials];
+    memcpy(before, credentials, sizeof before);
+    uint64_t answer = lavutremo_question(credentials, credentials_len, f, f_len, e, e_len);
+    if (answer == expected && memcmp(before, credentials, sizeof before) == 0) {
+        passed++;
+        return;
+    }
+    failed++;
+    printf("%s: answer %llu, expected %llu\n", what, (unsigned long long)answer, (unsigned long long)expected);
+}
+
+/* Fills the buffer with this many credentials and an end. */
+static void fill(size_t count)
+{
+    memset(credentials, 0, sizeof credentials);
+    for (size_t i = 0; i < count; i++)
+        memcpy(credentials + i * sizeof credential, credential, sizeof credential);
+    credentials[count * sizeof credential] = 0x06;
+}
+
+static void lengths(void)
+{
+    fill(0);
+    expect("no bytes", LAVUTREMO_LENGTH, 0, role, 18, entity, 18);
+    expect("an end alone", NO, 1, role, 18, entity, 18);
+    expect("an end alone, f from f", YES, 1, role, 18, role, 18);
+    expect("f of 0 bytes", LAVUTREMO_LENGTH, 1, role, 0, entity, 18);
+    expect("f of 17 bytes", LAVUTREMO_LENGTH, 1, role, 17, entity, 18);
+    expect("f of 19 bytes", LAVUTREMO_LENGTH, 1, role, 19, entity, 18);
+    expect("e of 0 bytes", LAVUTREMO_LENGTH, 1, role, 18, entity, 0);
+    expect("e of 17 bytes", LAVUTREMO_LENGTH, 1, role, 18, entity, 17);
+    expect("e of 19 bytes", LAVUTREMO_LENGTH, 1, role, 18, entity, 19);
+    fill(64);
+    expect("1,473 bytes", YES, MOST, role, 18, entity, 18);
+    expect("1,472 bytes, no end", LAVUTREMO_COMMAND, MOST - 1, role, 18, entity, 18);
+    expect("1,474 bytes", LAVUTREMO_LENGTH, MOST + 1, role, 18, entity, 18);
+    credentials[MOST - 1] = 0x01;
+    expect("1,473 bytes, the 65th credential cut", LAVUTREMO_COMMAND, MOST, role, 18, entity, 18);
+}
+
+static void commands(void)
+{
+    fill(1);
+    expect("one credential", YES, 24, role, 18, entity, 18);
+    expect("the end missing", LAVUTREMO_COMMAND, 23, role, 18, entity, 18);
+    expect("a cut credential", LAVUTREMO_COMMAND, 22, role, 18, entity, 18);
+    expect("a byte after the end", LAVUTREMO_COMMAND, 25, role, 18, entity, 18);
+    for (int first = 0; first < 256; first++) {
+        fill(1);
+        credentials[23] = (uint8_t)first;
+        expect("a command of one byte", first == 0x06 ? YES : LAVUTREMO_COMMAND, 24, role, 18, entity, 18);
+    }
+}
+
+static void order(void)
+{
+    fill(2);
+    credentials[2] = 0;
+    expect("an issuer of zero", LAVUTREMO_OPERAND, 47, role, 18, entity, 18);
+    expect("an issuer of zero in a cut credential", LAVUTREMO_COMMAND, 22, role, 18, entity, 18);
+    expect("an issuer of zero before a cut credential", LAVUTREMO_OPERAND, 45, role, 18, entity, 18);
+    expect("an issuer of zero, and f of 17 bytes", LAVUTREMO_LENGTH, 47, role, 17, entity, 18);
+    fill(2);
+    credentials[25] = 0;
+    credentials[0] = 0x02;
+    expect("an unknown command before an issuer of zero", LAVUTREMO_COMMAND, 47, role, 18, entity, 18);
+    expect("an unknown command, and f of wrong form", LAVUTREMO_COMMAND, 47, zero, 18, entity, 18);
+    fill(0);
+    expect("f of wrong form", LAVUTREMO_OPERAND, 1, zero, 18, entity, 18);
+    expect("e of wrong form", LAVUTREMO_OPERAND, 1, role, 18, zero, 18);
+    expect("f a goal", LAVUTREMO_OPERAND, 1, goal, 18, entity, 18);
+    expect("e a goal", LAVUTREMO_OPERAND, 1, role, 18, goal, 18);
+    expect("f of wrong form, and e of 19 bytes", LAVUTREMO_LENGTH, 1, zero, 18, entity, 19);
+}
+
+int main(void)
+{
+    lengths();
+    commands();
+    order();
+    printf("%d passed, %d failed\n", passed, failed);
+    return failed > 0;
+}
