@@ -20,7 +20,7 @@ pub struct Rules {
     pub head: [usize; 128],
     pub part: [usize; 512],
     pub first: [usize; 128],
-    pub named: [u64; 256],
+    pub named: [u64; 260],
     pub src: [usize; 128],
 }
 
@@ -84,13 +84,13 @@ fn meet<'a>(vals: &'a [u64; 260], a: usize, b: usize, c: usize, d: usize, h: usi
 }
 
 // What rule i gives of word h.
-fn word<'a>(
+pub fn word<'a>(
     n: usize,
     words: usize,
     head: &'a [usize; 128],
     part: &'a [usize; 512],
     first: &'a [usize; 128],
-    named: &'a [u64; 256],
+    named: &'a [u64; 260],
     src: &'a [usize; 128],
     vals: &'a [u64; 260],
     mem: &'a [u64; 260],
@@ -121,7 +121,7 @@ fn gives<'a>(
     head: &'a [usize; 128],
     part: &'a [usize; 512],
     first: &'a [usize; 128],
-    named: &'a [u64; 256],
+    named: &'a [u64; 260],
     src: &'a [usize; 128],
     vals: &'a [u64; 260],
     mem: &'a [u64; 260],
@@ -145,7 +145,7 @@ fn turn<'a>(
     head: &'a [usize; 128],
     part: &'a [usize; 512],
     first: &'a [usize; 128],
-    named: &'a [u64; 256],
+    named: &'a [u64; 260],
     src: &'a [usize; 128],
     mem: &'a [u64; 260],
     own: bool,
@@ -189,7 +189,7 @@ fn rule<'a>(
     head: &'a [usize; 128],
     part: &'a [usize; 512],
     first: &'a [usize; 128],
-    named: &'a [u64; 256],
+    named: &'a [u64; 260],
     src: &'a [usize; 128],
     on: &'a [u8; 128],
     mem: &'a [u64; 260],
@@ -236,7 +236,7 @@ pub fn pass<'a>(
     head: &'a [usize; 128],
     part: &'a [usize; 512],
     first: &'a [usize; 128],
-    named: &'a [u64; 256],
+    named: &'a [u64; 260],
     src: &'a [usize; 128],
     on: &'a [u8; 128],
     mem: &'a [u64; 260],
@@ -287,7 +287,7 @@ fn read_word<'a>(named: u64, base: usize, i: usize, rows: &'a mut [u64; 260])
 fn read_rule<'a>(
     part: &'a [usize; 512],
     first: &'a [usize; 128],
-    named: &'a [u64; 256],
+    named: &'a [u64; 260],
     i: usize,
     rows: &'a mut [u64; 260],
 )
@@ -309,7 +309,7 @@ pub fn readers<'a>(
     n: usize,
     part: &'a [usize; 512],
     first: &'a [usize; 128],
-    named: &'a [u64; 256],
+    named: &'a [u64; 260],
 ) -> [u64; 260]
     requires { ⌜ (n ≤ 128) × Under 130 (now part) × Under 130 (now first) ⌝ }
     ensures { λ r. ⌜ length r ≡ 260 ⌝ }
@@ -330,7 +330,7 @@ fn sweep<'a>(
     head: &'a [usize; 128],
     part: &'a [usize; 512],
     first: &'a [usize; 128],
-    named: &'a [u64; 256],
+    named: &'a [u64; 260],
     src: &'a [usize; 128],
     on: &'a [u8; 128],
     mem: &'a [u64; 260],
@@ -379,7 +379,7 @@ fn round<'a>(
     head: &'a [usize; 128],
     part: &'a [usize; 512],
     first: &'a [usize; 128],
-    named: &'a [u64; 256],
+    named: &'a [u64; 260],
     src: &'a [usize; 128],
     on: &'a [u8; 128],
     mem: &'a [u64; 260],
@@ -437,7 +437,7 @@ fn drain<'a>(
     head: &'a [usize; 128],
     part: &'a [usize; 512],
     first: &'a [usize; 128],
-    named: &'a [u64; 256],
+    named: &'a [u64; 260],
     src: &'a [usize; 128],
     on: &'a [u8; 128],
     mem: &'a [u64; 260],
@@ -483,7 +483,7 @@ pub fn close<'a>(
     head: &'a [usize; 128],
     part: &'a [usize; 512],
     first: &'a [usize; 128],
-    named: &'a [u64; 256],
+    named: &'a [u64; 260],
     src: &'a [usize; 128],
     on: &'a [u8; 128],
     mem: &'a [u64; 260],
