@@ -12,9 +12,9 @@ use Rattle.rt0.specs.Decide.{from?}
 use Rattle.engine.specs.Sizes.{listSize, expressionSize}
 use Rattle.engine.specs.Credentials.{Listed, refused, listed, credentialsOf}
 
--- credentials of 1 to 1,473 bytes, expressions of 18
-unfoldable pub sized : List ℕ → List ℕ → List ℕ → Bool
-sized c f e = ltb 0 (length c) && leb (length c) listSize && eqb (length f) expressionSize && eqb (length e) expressionSize
+-- credentials of 1 to 1,473 bytes, f and e of 18
+unfoldable pub sized : ℕ → ℕ → ℕ → Bool
+sized c f e = ltb 0 c && leb c listSize && eqb f expressionSize && eqb e expressionSize
 
 -- an expression of kinds 1 to 4
 abbrev pub askable : ExpressionAnswer → ExpressionAnswer
@@ -38,4 +38,4 @@ answered (listed C) (Read x) (Read y) = answerOf (from? C x y)
 
 -- the whole call; "1 a lent length outside the sizes" comes before all else
 unfoldable pub questionOf : List ℕ → List ℕ → List ℕ → ℕ
-questionOf c f e = cond (sized c f e) (answered (credentialsOf c) (operandOf f) (operandOf e)) 1
+questionOf c f e = cond (sized (length c) (length f) (length e)) (answered (credentialsOf c) (operandOf f) (operandOf e)) 1

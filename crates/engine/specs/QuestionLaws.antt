@@ -35,45 +35,55 @@ unfolding operandOf
 operand-read s x b h k = sym (ap askable h ∙ ap (λ (t : Bool). cond t (Read x) Wrong) k)
 
 -- the three lengths are within the sizes
-pub record Sized (c f e : List ℕ) : Type 0 where
-  pub some : 0 < length c
-  pub most : length c ≤ listSize
-  pub first : length f ≡ expressionSize
-  pub second : length e ≡ expressionSize
+pub record Sized (c f e : ℕ) : Type 0 where
+  pub some : 0 < c
+  pub most : c ≤ listSize
+  pub first : f ≡ expressionSize
+  pub second : e ≡ expressionSize
+
+-- lengths within the sizes pass the test
+pub sized-true : {c f e : ℕ} → Sized c f e → sized c f e ≡ true
+unfolding sized
+sized-true {c} {f} {e} h = rw (lt-ltb 0 c (h .some), le-leb c listSize (h .most), eq-eqb f expressionSize (h .first), eq-eqb e expressionSize (h .second))
+
+-- lengths that pass the test are within the sizes
+pub true-sized : (c f e : ℕ) → sized c f e ≡ true → Sized c f e
+unfolding sized
+true-sized c f e h =
+    let p : Bool = ltb 0 c in
+    let q : Bool = leb c listSize in
+    let r : Bool = eqb f expressionSize in
+    let t : Bool = eqb e expressionSize in
+    let three : p && q && r ≡ true = and-left (p && q && r) t h in
+    let two : p && q ≡ true = and-left (p && q) r three in
+    record {
+      some = ltb-true 0 c (and-left p q two);
+      most = leb-true c listSize (and-right p q two);
+      first = eqb-true f expressionSize (and-right (p && q) r three);
+      second = eqb-true e expressionSize (and-right (p && q && r) t h);
+    }
 
 -- the lent bytes ask whether x from y over the credentials C
 pub record Asked (c f e : List ℕ) (C : List Credential) (x y : Expression) : Type 0 where
-  pub sizes : Sized c f e
+  pub sizes : Sized (length c) (length f) (length e)
   pub credentials : credentialsOf c ≡ listed C
   pub first : operandOf f ≡ Read x
   pub second : operandOf e ≡ Read y
 
--- the test of the sizes
-pub sized-true : {c f e : List ℕ} → Sized c f e → sized c f e ≡ true
-unfolding sized
-sized-true {c} {f} {e} h = rw (lt-ltb 0 (length c) (h .some), le-leb (length c) listSize (h .most), eq-eqb (length f) expressionSize (h .first), eq-eqb (length e) expressionSize (h .second))
+-- a length outside the sizes
+pub question-outside : (c f e : List ℕ) → sized (length c) (length f) (length e) ≡ false → 1 ≡ questionOf c f e
+unfolding questionOf
+question-outside c f e h = sym (ap (λ (t : Bool). cond t (answered (credentialsOf c) (operandOf f) (operandOf e)) 1) h)
 
-pub true-sized : (c f e : List ℕ) → sized c f e ≡ true → Sized c f e
-unfolding sized
-true-sized c f e h =
-    let p : Bool = ltb 0 (length c) in
-    let q : Bool = leb (length c) listSize in
-    let r : Bool = eqb (length f) expressionSize in
-    let t : Bool = eqb (length e) expressionSize in
-    let three : p && q && r ≡ true = and-left (p && q && r) t h in
-    let two : p && q ≡ true = and-left (p && q) r three in
-    record {
-      some = ltb-true 0 (length c) (and-left p q two);
-      most = leb-true (length c) listSize (and-right p q two);
-      first = eqb-true (length f) expressionSize (and-right (p && q) r three);
-      second = eqb-true (length e) expressionSize (and-right (p && q && r) t h);
-    }
+-- lengths within the sizes: the answer by what the bytes are read as
+pub question-inside : (c f e : List ℕ) (l : Listed) (p q : ExpressionAnswer) → sized (length c) (length f) (length e) ≡ true → credentialsOf c ≡ l → operandOf f ≡ p
+    → operandOf e ≡ q → answered l p q ≡ questionOf c f e
+unfolding questionOf
+question-inside c f e l p q h u v w = λ i. cond (sym h i) (answered (sym u i) (sym v i) (sym w i)) 1
 
 -- the answer to a question that is asked in right form
 pub question-asked : {c f e : List ℕ} {C : List Credential} {x y : Expression} → Asked c f e C x y → questionOf c f e ≡ answerOf (from? C x y)
-unfolding questionOf
-question-asked {c} {f} {e} {C} {x} {y} h =
-    λ i. cond (sized-true (h .sizes) i) (answered (h .credentials i) (h .first i) (h .second i)) 1
+question-asked {c} {f} {e} h = sym (question-inside c f e _ _ _ (sized-true (h .sizes)) (h .credentials) (h .first) (h .second))
 
 -- a refusal number
 abbrev pub Refused : ℕ → Type 0
@@ -86,16 +96,16 @@ Answered c f e n = (C : List Credential) × (x : Expression) × (y : Expression)
 -- every call is refused or answers a question
 pub question-cases : (c f e : List ℕ) → Refused (questionOf c f e) ⊎ Answered c f e (questionOf c f e)
 unfolding questionOf
-question-cases c f e = size (sized c f e) refl
+question-cases c f e = size (sized (length c) (length f) (length e)) refl
   where
-    read : (l : Listed) (p q : ExpressionAnswer) → sized c f e ≡ true → credentialsOf c ≡ l → operandOf f ≡ p → operandOf e ≡ q
+    read : (l : Listed) (p q : ExpressionAnswer) → sized (length c) (length f) (length e) ≡ true → credentialsOf c ≡ l → operandOf f ≡ p → operandOf e ≡ q
         → Refused (answered l p q) ⊎ Answered c f e (answered l p q)
     read (refused k) p q h l a b = inl (inr (list-refusal c k l))
     read (listed C) Wrong q h l a b = inl (inr (inr refl))
     read (listed C) (Read x) Wrong h l a b = inl (inr (inr refl))
-    read (listed C) (Read x) (Read y) h l a b = inr (C, x, y, record { sizes = true-sized c f e h; credentials = l; first = a; second = b }, refl)
+    read (listed C) (Read x) (Read y) h l a b = inr (C, x, y, record { sizes = true-sized (length c) (length f) (length e) h; credentials = l; first = a; second = b }, refl)
 
-    size : (t : Bool) → sized c f e ≡ t → (let n : ℕ = cond t (answered (credentialsOf c) (operandOf f) (operandOf e)) 1 in Refused n ⊎ Answered c f e n)
+    size : (t : Bool) → sized (length c) (length f) (length e) ≡ t → (let n : ℕ = cond t (answered (credentialsOf c) (operandOf f) (operandOf e)) 1 in Refused n ⊎ Answered c f e n)
     size true h = read (credentialsOf c) (operandOf f) (operandOf e) h refl refl refl
     size false h = inl (inl refl)
 

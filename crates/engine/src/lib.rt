@@ -6,7 +6,7 @@ use expression::read_expression;
 use rt0::Pool;
 ghost use mathlib.Core.Path.{_≡_};
 ghost use lib.ListN.{length};
-ghost use Rattle.engine.specs.Question.{operandOf};
+ghost use Rattle.engine.specs.Question.{sized as sizedOf, operandOf, answerOf};
 
 mod credentials;
 
@@ -21,6 +21,25 @@ pub enum Step {
 pub struct Listing {
     pub refusal: u64,
     pub pool: Pool,
+}
+
+// 64 credential commands and an end.
+const LIST_SIZE: usize = 1473;
+
+const EXPRESSION_SIZE: usize = 18;
+
+// Lengths of the credentials and the two expressions.
+fn sized(c: usize, f: usize, e: usize) -> bool
+    ensures { λ r. ⌜ r ≡ sizedOf c f e ⌝ }
+{
+    (0 < c) & (c <= LIST_SIZE) & (f == EXPRESSION_SIZE) & (e == EXPRESSION_SIZE)
+}
+
+// 256 times the value.
+fn answer(yes: bool) -> u64
+    ensures { λ r. ⌜ r ≡ answerOf yes ⌝ }
+{
+    if yes { 256 } else { 0 }
 }
 
 // An expression of kinds 1 to 4.
