@@ -1,0 +1,55 @@
+use mathlib.Core.Path.{_≡_, refl, sym, _∙_, ap, subst}
+use mathlib.Core.Bool.{true, false}
+use Prim.Native.Nat.{ℕ, _+_, _*_, _-_, _≤_, _<_}
+use lib.ListN.{length, length-set}
+use Rattle.rt0.specs.declared.Pool.{Pool}
+use Rattle.rt0.specs.Pool.{poolOf, headAt, bodyAt}
+use Rattle.relation.specs.Columns.{NamesTo}
+use Rattle.relation.specs.ColumnLaws.{names-start, names-add, names-end}
+use native.Mathlib.Omega.{arith}
+use Rattle.relation.proofs.names.Statement.{statement}
+use Rattle.relation.proofs.names.Tie as tie
+
+abbrev Inv-loop : tie.InvT-loop
+Inv-loop n heads kinds numbers able named₀ i₀ named i = NamesTo (poolOf n heads kinds numbers) able i named × (i ≤ n)
+
+abbrev μ-loop : tie.MeasureT-loop
+μ-loop n heads kinds numbers able named₀ i₀ named i = n - i
+
+abbrev pool : (c : tie.Start Inv-loop μ-loop) → Pool
+pool c = poolOf (c .args .n) (c .args .heads .now) (c .args .kinds .now) (c .args .numbers .now)
+
+loop-holds : tie.Need-loop-holds Inv-loop μ-loop
+loop-holds c = (names-start (pool (c)) (c .args .able .now), omega arith)
+
+body-at-requires : tie.Need-body-at-requires Inv-loop μ-loop
+body-at-requires c κs = omega arith
+
+name-link-requires : tie.Need-name-link-requires Inv-loop μ-loop
+name-link-requires c κs = (c .before .before .before .before .pre, omega arith, c .before .before .before .loop .inv .0 .sized)
+
+add-i : tie.Need-add-i Inv-loop μ-loop
+add-i c = omega arith
+
+loop-less : tie.Need-loop-less Inv-loop μ-loop
+loop-less c = omega arith
+
+loop-again : tie.Need-loop-again Inv-loop μ-loop
+loop-again c = (names-add (pool (c .before .before .before .before .before)) (c .before .before .before .before .before .args .able .now) (c .before .before .before .before .loop .i) (c .before .before .body-at .result) (c .before .before .before .before .loop .named) _ (c .before .before .body-at .ensures) (c .before .before .before .before .loop .inv .0) (c .name-link .ensures), omega arith)
+
+returns : tie.Need-returns Inv-loop μ-loop
+returns c = names-end (pool (c .before .before)) (c .before .before .args .able .now) (c .before .loop .i) (c .before .before .args .n) (c .before .loop .named) (c .before .loop .inv .1) (c .loop-test .left) (c .before .loop .inv .0)
+
+pub names-spec : {M : Type 1} → statement M
+names-spec =
+    tie.close
+    (tie.spec
+    Inv-loop
+    μ-loop
+    loop-holds
+    body-at-requires
+    name-link-requires
+    add-i
+    loop-less
+    loop-again
+    returns)

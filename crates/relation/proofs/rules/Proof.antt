@@ -1,0 +1,59 @@
+use borrow.Author.Needs.{needs}
+use mathlib.Core.Path.{_≡_, refl, sym, _∙_, ap, subst}
+use mathlib.Core.Bool.{true, false}
+use Prim.Native.Nat.{ℕ, _+_, _*_, _-_, _≤_, _<_}
+use lib.ListN.{length, length-set}
+use Rattle.rt0.specs.declared.Pool.{Pool}
+use Rattle.rt0.specs.Pool.{poolOf, headAt, bodyAt}
+use Rattle.relation.proofs.rules.Statement.{statement}
+use Rattle.relation.proofs.rules.Tie as tie
+
+head-rows-requires : tie.Need-head-rows-requires
+head-rows-requires c κs = search needs
+
+part-rows-requires : tie.Need-part-rows-requires
+part-rows-requires c κs = search needs
+
+first-rows-requires : tie.Need-first-rows-requires
+first-rows-requires c κs = search needs
+
+has-links-requires : tie.Need-has-links-requires
+has-links-requires c κs = search needs
+
+linkable-requires : tie.Need-linkable-requires
+linkable-requires c κs = search needs
+
+names-requires : tie.Need-names-requires
+names-requires c κs = search needs
+
+words-for-requires : tie.Need-words-for-requires
+words-for-requires c κs = search needs
+
+returns : tie.Need-returns
+returns c =
+    record {
+      count = refl;
+      wide = c .words-for .ensures .0;
+      words = c .words-for .ensures .1;
+      head = c .before .before .before .before .before .before .before .before .before .before .head-rows .ensures;
+      part = c .before .before .before .before .before .before .before .before .before .part-rows .ensures;
+      first = c .before .before .before .before .before .before .before .before .first-rows .ensures;
+      lit = c .before .before .before .before .before .before .before .has-links .result;
+      able = c .before .before .before .before .before .linkable .result .able;
+      links = c .before .before .before .before .before .linkable .ensures;
+      names = c .before .names .ensures;
+      linked = λ h. c .before .before .before .before .before .before .before .has-links .ensures ∙ h;
+    }
+
+pub rules-spec : {M : Type 1} → statement M
+rules-spec =
+    tie.close
+    (tie.spec
+    head-rows-requires
+    part-rows-requires
+    first-rows-requires
+    has-links-requires
+    linkable-requires
+    names-requires
+    words-for-requires
+    returns)

@@ -1,0 +1,41 @@
+use borrow.Author.Needs.{needs}
+use mathlib.Core.Path.{_≡_, refl, sym, _∙_, ap, subst}
+use mathlib.Core.Bool.{true, false}
+use Prim.Native.Nat.{ℕ, _+_, _*_, _-_, _≤_, _<_}
+use lib.ListN.{length, length-set}
+use Rattle.rt0.specs.declared.Pool.{Pool}
+use Rattle.rt0.specs.Pool.{poolOf, headAt, bodyAt}
+use Rattle.expression.specs.declared.Expression.the-variants as E
+use Rattle.closure.specs.declared.Rules.{Rules}
+use Rattle.closure.specs.Rules.{rulesOf}
+use Rattle.relation.specs.Answer.{related}
+use Rattle.relation.specs.QuestionLaws.{compiled-plain, start-more}
+use native.Mathlib.Omega.{arith}
+use native.Mathlib.Omega.{arith}
+use Rattle.relation.proofs.switch_on.Statement.{statement}
+use Rattle.relation.proofs.switch_on.Tie as tie
+
+abbrev pool : (c : tie.Start) → Pool
+pool c = poolOf (c .args .n) (c .args .heads .now) (c .args .kinds .now) (c .args .numbers .now)
+
+abbrev rules : (c : tie.Start) → Rules
+rules c = rulesOf (c .args .n) (c .args .words) (c .args .head .now) (c .args .part .now) (c .args .first .now) (c .args .named .now) (c .args .src .now)
+
+seed-requires : tie.Need-seed-requires
+seed-requires c κs = search needs
+
+element-write-on : tie.Need-element-write-on
+element-write-on c = search needs
+
+close-requires : tie.Need-close-requires
+close-requires c κs = search needs
+
+returns : tie.Need-returns
+returns c = (
+  refl,
+  related (pool (c .before .before .before .before .before .before)) _ (c .before .before .before .before .before .before .pre .0) (E.Entity 0) (rules (c .before .before .before .before .before .before)) (compiled-plain (pool (c .before .before .before .before .before .before)) (c .before .before .before .before .before .before .pre .0) (rules (c .before .before .before .before .before .before)) (c .before .before .before .before .before .before .pre .2)) (c .before .before .before .before .before .before .pre .2 .wide) _ _ _
+      (start-more (pool (c .before .before .before .before .before .before)) _ (c .before .before .before .before .before .before .pre .0) (c .before .before .before .before .before .before .args .on .now) (c .before .before .before .before .before .before .args .rows .now) _ (c .before .before .before .before .before .before .args .i) (c .before .before .before .before .before .before .pre .1) (omega (arith, c .before .before .before .before .before .before .pre .3)) refl (c .before .before .before .before .before .before .pre .4) (c .before .before .before .before .seed .ensures)) (c .close .ensures),
+)
+
+pub switch-on-spec : {M : Type 1} → statement M
+switch-on-spec = tie.close (tie.spec seed-requires element-write-on close-requires returns)

@@ -1,0 +1,183 @@
+-- Closed rows are the relation, and closed rows of a question answer it. Assumes nothing.
+use Prim.Native.Nat.{ℕ, zero, suc, _+_, _*_, _/_, _%_, _≤_, _<_}
+use native.Mathlib.Omega.{arith}
+use mathlib.Core.Path.{_≡_, refl, sym, _∙_, ap, subst}
+use mathlib.Core.Logic.{_⊎_, inl, inr, ⊎-elim}
+use mathlib.Core.Bool.{Bool, true, false, _&&_, _||_, cond}
+use mathlib.Core.List.{List, [], _∷_, List·Memᴰ}
+use borrow.Author.Tests.{eqb-true, eq-eqb}
+use lib.Dec.{eqb}
+use lib.ListN.{length}
+use Rattle.expression.specs.declared.Role.{Role}
+use Rattle.expression.specs.declared.Credential.{Credential}
+use Rattle.expression.specs.declared.Expression.{Expression}
+use Rattle.expression.specs.declared.Expression.the-variants as E
+use Rattle.expression.specs.Same.{same, same-eq, eq-same}
+use Rattle.rt0.specs.declared.Pool.{Pool}
+use Rattle.rt0.specs.From.{roleOf, From, reflexive, transitive, credential, linking, intersection}
+use Rattle.rt0.specs.Lists.{false-true, or-cases, or-left, or-right, and-parts, and-both}
+use Rattle.rt0.specs.Decide.{from?}
+use Rattle.rt0.specs.Laws.{Reach, reach, role-entity, sound, complete, decides}
+use Rattle.rt0.specs.Pool.{headAt, bodyAt}
+use Rattle.closure.specs.declared.Rules.{Rules}
+use Rattle.closure.specs.Rules.{el, bits, Takes, Used, Model, Within, Closed}
+use Rattle.relation.specs.Table.{rowOf, bitOf, rowFor, chosen, Row, Compiled, Relation, Start, ownRole, ownLink, atOnce, Asked}
+use Rattle.relation.specs.Exact.{unreach, row-found, row-cases, bit-found, bit-cases, bit-here, row-for, Truth, from-truth, to-truth, truth-row, truth-e, takes-sound, truth-model, takes-hold, all-held}
+
+not-asked : false ≡ true → {A : Type 0} → A
+not-asked h = absurd (false-true h)
+
+-- The relation of roles and entities
+
+module _ (P : Pool) (on : List ℕ) (small : P .count ≤ 128) (e : Expression) (X : Rules) (comp : Compiled P e X) (wide : P .count ≤ 64 * X .words)
+    (M K₀ K : List ℕ) (start : Start P on K₀) (closed : Closed X on true M K₀ K) where
+  abbrev Truly : ℕ → ℕ → Bool
+  Truly = Truth P on small e (bodyAt P) false (λ q. not-asked q)
+
+  row-true : (r s : ℕ) → Truly r s ≡ true → (r < P .count) × From (chosen P on) (E.Role (headAt P r)) (bodyAt P s)
+  row-true r s h = ⊎-elim (λ k. not-asked (k .1)) (λ l. (l, from-truth P on small e (bodyAt P) false (λ q. not-asked q) r s l h))
+      (truth-row P on small e (bodyAt P) false (λ q. not-asked q) r s h)
+
+  member-true : (a : Role) (b : ℕ) → bitOf P b < P .count → Truly (rowOf P a) (bitOf P b) ≡ true → From (chosen P on) (E.Role a) (E.Entity b)
+  member-true a b l h =
+      let r = row-true (rowOf P a) (bitOf P b) h in
+      let lr : rowOf P a < P .count = r .0 in
+      let ha = row-found P small a (omega arith) in
+      let hb = bit-found P small b (omega arith) in
+      subst (λ (x : Expression). From (chosen P on) (E.Role a) x) (hb .1) (subst (λ (p : Role). From (chosen P on) (E.Role p) (bodyAt P (bitOf P b))) (ha .1) (r .1))
+
+  within-true : Within (bits K) Truly
+  within-true = closed .grown .least Truly
+      (truth-model P on small e (bodyAt P) false (λ q. not-asked q) X comp true M member-true)
+      (record { within = λ r s h. let k = start .says r s h in to-truth P on small e (bodyAt P) false (λ q. not-asked q) r s (k .0) (k .1) })
+
+  abbrev Valid : ℕ → Type 0
+  Valid s = (b : ℕ) × (s ≡ bitOf P b) × (bitOf P b < P .count)
+
+  abbrev Held : ℕ → Role → Type 0
+  Held s p = bits K (rowFor P e p) s ≡ true
+
+  valid-used : (s : ℕ) → Valid s → Used X s
+  valid-used s v = let q : s ≡ bitOf P (v .0) = v .1 in let l : bitOf P (v .0) < P .count = v .2 in omega arith
+
+  valid-entity : (s : ℕ) → (v : Valid s) → bodyAt P s ≡ E.Entity (v .0)
+  valid-entity s v = let l : bitOf P (v .0) < P .count = v .2 in rw (v .1) (bit-found P small (v .0) (omega arith) .1)
+
+  held-row : (a : Role) (s : ℕ) → Held s a → bits K (rowOf P a) s ≡ true
+  held-row a s h = ⊎-elim (λ r. rw (r .0) at h)
+      (λ v. ⊎-elim (λ r. rw (r .0 ∙ sym (r .1)) at h)
+      (λ r. let k = row-true 129 s (within-true .within 129 s (rw (r .0) at h)) in absurd (let l : 129 < P .count = k .0 in omega arith)) v)
+      (row-for P on small e (bodyAt P) false (λ q. not-asked q) a)
+
+  seeded : (i s : ℕ) → i < P .count → el on i ≡ 1 → Valid s → bodyAt P i ≡ bodyAt P s → bits K (rowOf P (headAt P i)) s ≡ true
+  seeded i s l o v q = rw (v .1) (closed .grown .kept .within _ _ (start .seeds i (v .0) l o (q ∙ valid-entity s v)))
+
+  pub related : Relation P on K
+  related =
+      record {
+        sized = closed .grown .sized;
+        says = λ r s h. row-true r s (within-true .within r s h);
+        all = λ a b l h. held-row a (bitOf P b) (held a b (reach h) (bitOf P b) (b, refl, l) (sym (valid-entity (bitOf P b) (b, refl, l))));
+      }
+    where
+      held : (a : Role) (b : ℕ) → Reach (chosen P on) (E.Role a) (E.Entity b) → (s : ℕ) → Valid s → E.Entity b ≡ bodyAt P s → Held s a
+      held a b r s v q = all-held P on small e (bodyAt P) false (λ q. not-asked q) X (Used X) K (bits K) within-true comp
+          (λ i l o. closed .model .rule i (rw (comp .count) l) o) Valid valid-used
+          (λ s p v q. absurd (role-entity (q ∙ valid-entity s v))) seeded
+          (λ i s l o v w. absurd (role-entity (w .6 ∙ valid-entity s v)))
+          (λ a b l rec h. held-row a (bitOf P b) (rec (bitOf P b) (b, refl, l) (sym (valid-entity (bitOf P b) (b, refl, l))))) r s v q
+
+-- Membership by the relation
+
+module _ (P : Pool) (on : List ℕ) (small : P .count ≤ 128) (K : List ℕ) (rel : Relation P on K) where
+  pub member-says : (a : Role) (b : ℕ) → bits K (rowOf P a) (bitOf P b) ≡ true → bitOf P b < P .count → From (chosen P on) (E.Role a) (E.Entity b)
+  member-says a b h l =
+      let r = rel .says (rowOf P a) (bitOf P b) h in
+      let lr : rowOf P a < P .count = r .0 in
+      let ha = row-found P small a (omega arith) in
+      let hb = bit-found P small b (omega arith) in
+      subst (λ (x : Expression). From (chosen P on) (E.Role a) x) (hb .1) (subst (λ (p : Role). From (chosen P on) (E.Role p) (bodyAt P (bitOf P b))) (ha .1) (r .1))
+
+-- What is from e at once
+
+bits-below : (K : List ℕ) (r s : ℕ) → bits K r s ≡ true → s < 128
+unfolding bits
+bits-below K r s h = borrow.Author.Tests.ltb-true s 128 (and-parts (lib.Dec.ltb s 128) _ h .0)
+
+module _ (P : Pool) (on : List ℕ) (small : P .count ≤ 128) (K : List ℕ) (rel : Relation P on K) (e : Expression) where
+  own-says : (a : Role) (m : ℕ) (y : Expression) → ownRole P K a m y ≡ true → From (chosen P on) (E.Linked a m) y
+  own-says a m (E.Entity b) h = absurd (false-true h)
+  own-says a m (E.Role q) h =
+      let k = and-parts (eqb (q .name) m) _ h in
+      let l : bitOf P (q .entity) < P .count = ⊎-elim (λ l. l) (λ z. absurd (let s : bitOf P (q .entity) < 128 = bits-below K (rowOf P a) _ (k .1) in omega arith)) (bit-cases P small (q .entity)) in
+      subst (λ (z : ℕ). From (chosen P on) (E.Linked a m) (E.Role (roleOf (q .entity) z))) (sym (eqb-true (q .name) m (k .0))) (linking (member-says P on small K rel a (q .entity) (k .1) l))
+  own-says a m (E.Linked p n) h = absurd (false-true h)
+  own-says a m (E.Intersection p) h = absurd (false-true h)
+  own-says a m (E.Goal n) h = absurd (false-true h)
+
+  link-says : (x : Expression) → ownLink P K e x ≡ true → From (chosen P on) x e
+  link-says (E.Entity b) h = absurd (false-true h)
+  link-says (E.Role p) h = absurd (false-true h)
+  link-says (E.Linked a m) h = own-says a m e h
+  link-says (E.Intersection p) h = absurd (false-true h)
+  link-says (E.Goal n) h = absurd (false-true h)
+
+  pub once-says : (x : Expression) → atOnce P K e x ≡ true → From (chosen P on) x e
+  unfolding atOnce
+  once-says x h = ⊎-elim (λ q. subst (λ (y : Expression). From (chosen P on) x y) (same-eq x e q) reflexive) (λ q. link-says x q) (or-cases _ _ h)
+
+  pub once-same : (x : Expression) → x ≡ e → atOnce P K e x ≡ true
+  unfolding atOnce
+  once-same x q = or-left _ _ (eq-same x e q)
+
+  own-set : (a : Role) (m b : ℕ) (y : Expression) → bits K (rowOf P a) (bitOf P b) ≡ true → E.Role (roleOf b m) ≡ y → ownRole P K a m y ≡ true
+  own-set a m b y h q = subst (λ (z : Expression). ownRole P K a m z ≡ true) q (and-both _ _ (eq-eqb m m refl) h)
+
+  pub once-link : (x : Expression) (a : Role) (m b : ℕ) → x ≡ E.Linked a m → bits K (rowOf P a) (bitOf P b) ≡ true → E.Role (roleOf b m) ≡ e → atOnce P K e x ≡ true
+  unfolding atOnce
+  once-link x a m b q h z = rw q (or-right (same (E.Linked a m) e) _ (own-set a m b e h z))
+
+-- A question: bit 0 of the rows L stands for e
+
+module _ (P : Pool) (on : List ℕ) (small : P .count ≤ 128) (K : List ℕ) (rel : Relation P on K) (e : Expression) (X : Rules) (comp : Compiled P e X) (one : X .words ≡ 1)
+    (K₀ L : List ℕ) (asked : Asked P on K e K₀) (closed : Closed X on false K K₀ L) where
+  abbrev Truer : ℕ → ℕ → Bool
+  Truer = Truth P on small e (λ s. e) true (λ q s. refl)
+
+  members : (a : Role) (b : ℕ) → bitOf P b < P .count → bits K (rowOf P a) (bitOf P b) ≡ true → From (chosen P on) (E.Role a) (E.Entity b)
+  members a b l h = member-says P on small K rel a b h l
+
+  start-true : Within (bits K₀) Truer
+  unfolding Truth
+  start-true = record { within = λ r s h. ⊎-elim (λ q. rw q refl) (λ k. to-truth P on small e (λ s. e) true (λ q s. refl) r s (k .0) (k .1)) (asked .says r s h) }
+
+  within-asked : Within (bits L) Truer
+  within-asked = closed .grown .least Truer (truth-model P on small e (λ s. e) true (λ q s. refl) X comp false K members) start-true
+
+  in-zero : (s : ℕ) → s ≡ 0 → Used X s
+  in-zero s q = omega arith
+
+  at-start : (i s : ℕ) → i < P .count → el on i ≡ 1 → s ≡ 0 → atOnce P K e (bodyAt P i) ≡ true → bits L (rowOf P (headAt P i)) s ≡ true
+  at-start i s l o v h = rw v (closed .grown .kept .within _ 0 (asked .seeds i l o h))
+
+  -- a rule of the expression f, where bit 0 of what it gives is w, says whether f is from e
+  pub answered : (f : Expression) (Y : Rules) (i : ℕ) (w : Bool) → Row P e Y i f → Takes Y i (λ s. s ≡ 0) (bits K) (bits L) (λ s. w)
+      → ((m G : ℕ → ℕ → Bool) (g : Bool) → Within (bits L) G → Within (bits K) m → Takes Y i (λ s. s ≡ 0) m G (λ s. g) → w ≡ true → g ≡ true)
+      → (atOnce P K e f || w) ≡ from? (chosen P on) f e
+  answered f Y i w row taken least =
+      decides (chosen P on) f e (atOnce P K e f || w)
+      (λ h. ⊎-elim (λ q. once-says P on small K rel e f q)
+      (λ q. sound (chosen P on) f e
+      (least (bits K) Truer (from? (chosen P on) f e) within-asked (record { within = λ r s q. q })
+      (takes-sound P on small e (λ s. e) true (λ q s. refl) Y (λ s. s ≡ 0) (bits K) members i f row (λ s. from? (chosen P on) f e) (λ s u h. complete (chosen P on) f e h)) q))
+      (or-cases (atOnce P K e f) w h))
+      (λ h. takes-hold P on small e (λ s. e) true (λ q s. refl) Y (λ s. s ≡ 0) L (bits K) within-asked i 0 f refl row (λ s. atOnce P K e f || w)
+      (record { meet = λ s u a b c d. or-right (atOnce P K e f) w (taken .meet s u a b c d); link = λ j s u n m v. or-right (atOnce P K e f) w (taken .link j s u n m v) })
+      (λ q. or-left _ _ (once-same P on small K rel e f q))
+      (λ o. or-left _ _ (once-link P on small K rel e f (o .0) (o .1) (o .2) (o .3) (o .5) (o .6)))
+      (all-held P on small e (λ s. e) true (λ q s. refl) X (Used X) L (bits K) within-asked comp (λ i l o. closed .model .rule i (rw (comp .count) l) o) (λ s. s ≡ 0) in-zero
+      (λ s p v q. rw v (closed .grown .kept .within (rowFor P e p) 0 (asked .own p q)))
+      (λ i s l o v q. at-start i s l o v (once-same P on small K rel e (bodyAt P i) q))
+      (λ i s l o v k. at-start i s l o v (once-link P on small K rel e (bodyAt P i) (k .0) (k .1) (k .2) (k .3) (k .5) (k .6)))
+      (λ a b l rec r. rel .all a b l (unreach r))
+      (reach h) 0 refl refl))

@@ -1,0 +1,9 @@
+pub mod Table
+pub mod Search
+pub mod Exact
+pub mod Answer
+pub mod Columns
+pub mod ColumnLaws
+pub mod Question
+pub mod QuestionLaws
+pub mod Reached

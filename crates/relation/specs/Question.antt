@@ -1,0 +1,70 @@
+-- What the steps of a question promise. Assumes nothing.
+use Prim.Native.Nat.{ℕ, zero, suc, _+_, _*_, _≤_, _<_}
+use mathlib.Core.Path.{_≡_}
+use mathlib.Core.Logic.{_⊎_}
+use mathlib.Core.Bool.{Bool, true, false, _&&_, _||_, cond}
+use mathlib.Core.List.{List, [], _∷_}
+use lib.Dec.{eqb}
+use lib.ListN.{getD, length}
+use Rattle.expression.specs.declared.Role.{Role}
+use Rattle.expression.specs.declared.Expression.{Expression}
+use Rattle.expression.specs.declared.Expression.the-variants as E
+use Rattle.rt0.specs.declared.Pool.{Pool}
+use Rattle.rt0.specs.From.{From}
+use Rattle.rt0.specs.Pool.{headAt, bodyAt}
+use Rattle.closure.specs.declared.Rules.{Rules}
+use Rattle.closure.specs.Rules.{el, bits, Under, Takes, Within}
+use Rattle.relation.specs.Table.{anyTo, rowOf, bitOf, rowFor, chosen, Row, atOnce}
+use Rattle.relation.specs.Columns.{Column, headRow, bodyFirst, PartsTo, Able, NamesTo, hasLink}
+
+-- the columns of the rules of a pool
+pub record Ruled (P : Pool) (X : Rules) : Type 0 where
+  pub count : X .count ≡ P .count
+  pub wide : P .count ≤ 64 * X .words
+  pub words : X .words ≤ 2
+  pub head : Column (headRow P) 128 130 (P .count) (X .head)
+  pub part : PartsTo (rowOf P) P (P .count) (X .part)
+  pub first : Column (bodyFirst P) 128 130 (P .count) (X .first)
+  pub lit : Bool
+  pub able : List ℕ
+  pub links : Able P lit (P .count) (X .src) able
+  pub names : NamesTo P able (P .count) (X .named)
+  pub linked : anyTo (P .count) (hasLink P) ≡ true → lit ≡ true
+
+-- the rows K with what credential i says at once
+pub record Seeded (P : Pool) (i : ℕ) (K K′ : List ℕ) : Type 0 where
+  pub sized : length K′ ≡ 260
+  pub kept : Within (bits K) (bits K′)
+  pub says : (r s : ℕ) → bits K′ r s ≡ true → (bits K r s ≡ true) ⊎ ((b : ℕ) × (bodyAt P i ≡ E.Entity b) × (r ≡ rowOf P (headAt P i)) × (s ≡ bitOf P b))
+  pub all : (b : ℕ) → bodyAt P i ≡ E.Entity b → bits K′ (rowOf P (headAt P i)) (bitOf P b) ≡ true
+
+-- the rows with what the credentials below k that are on say at once
+pub record StartTo (P : Pool) (on : List ℕ) (k : ℕ) (K : List ℕ) : Type 0 where
+  pub sized : length K ≡ 260
+  pub says : (r s : ℕ) → bits K r s ≡ true → (r < P .count) × From (chosen P on) (E.Role (headAt P r)) (bodyAt P s)
+  pub seeds : (i b : ℕ) → i < k → el on i ≡ 1 → bodyAt P i ≡ E.Entity b → bits K (rowOf P (headAt P i)) (bitOf P b) ≡ true
+
+-- r is the row of e itself
+pub record OwnRow (P : Pool) (e : Expression) (r : ℕ) : Type 0 where
+  pub small : r < 130
+  pub says : (r ≡ 129) ⊎ ((r < P .count) × (E.Role (headAt P r) ≡ e))
+  pub own : (p : Role) → E.Role p ≡ e → r ≡ rowFor P e p
+
+unfoldable pub startsAt : Pool → List ℕ → List ℕ → Expression → ℕ → Bool
+startsAt P on K e i = eqb (el on i) 1 && atOnce P K e (bodyAt P i)
+
+-- b is whether f is from e at once, or by its rule from the rows L with membership K
+pub record Reached (P : Pool) (K L : List ℕ) (e f : Expression) (b : Bool) : Type 0 where
+  pub rules : Rules
+  pub row : Row P e rules 0 f
+  pub given : Bool
+  pub taken : Takes rules 0 (λ (s : ℕ). s ≡ 0) (bits K) (bits L) (λ (s : ℕ). given)
+  pub least : (m G : ℕ → ℕ → Bool) (g : Bool) → Within (bits L) G → Within (bits K) m → Takes rules 0 (λ (s : ℕ). s ≡ 0) m G (λ (s : ℕ). g) → given ≡ true → g ≡ true
+  pub is : b ≡ (atOnce P K e f || given)
+
+-- the rows that a question about e starts from, up to credential k
+pub record AskedTo (P : Pool) (on K : List ℕ) (e : Expression) (k : ℕ) (K₀ : List ℕ) : Type 0 where
+  pub sized : length K₀ ≡ 260
+  pub says : (r s : ℕ) → bits K₀ r s ≡ true → (r ≡ 129) ⊎ ((r < P .count) × From (chosen P on) (E.Role (headAt P r)) e)
+  pub own : (p : Role) → E.Role p ≡ e → bits K₀ (rowFor P e p) 0 ≡ true
+  pub seeds : (i : ℕ) → i < k → el on i ≡ 1 → atOnce P K e (bodyAt P i) ≡ true → bits K₀ (rowOf P (headAt P i)) 0 ≡ true

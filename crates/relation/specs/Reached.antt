@@ -1,0 +1,140 @@
+-- The expression asked about as one more rule, and the answer. Assumes nothing.
+use Prim.Native.Nat.{ℕ, zero, suc, _+_, _*_, _/_, _%_, _≤_, _<_}
+use native.Mathlib.Omega.{arith}
+use mathlib.Core.Path.{_≡_, refl, sym, _∙_, ap, subst}
+use mathlib.Core.Logic.{_⊎_, inl, inr, ⊎-elim}
+use mathlib.Core.Bool.{Bool, true, false, _&&_, _||_, cond}
+use mathlib.Core.List.{List, [], _∷_}
+use borrow.Author.Tests.{eqb-true, eqb-false, eq-eqb}
+use lib.Dec.{eqb}
+use lib.ListN.{getD, length, set, replicate, length-replicate}
+use lib.Seq.{getD-set-same}
+use Rattle.expression.specs.declared.Role.{Role}
+use Rattle.expression.specs.declared.Expression.{Expression}
+use Rattle.expression.specs.declared.Expression.the-variants as E
+use Rattle.word.specs.Bit.{bitAt}
+use Rattle.rt0.specs.declared.Pool.{Pool}
+use Rattle.rt0.specs.Lists.{false-true, or-right}
+use Rattle.rt0.specs.Decide.{from?}
+use Rattle.rt0.specs.Pool.{headAt, bodyAt, credentials}
+use Rattle.closure.specs.declared.Rules.{Rules}
+use Rattle.closure.specs.Rules.{el, bits, Fits, Under, Takes, Within, Closed, rulesOf}
+use Rattle.closure.specs.Words.{WordOf}
+use Rattle.relation.specs.declared.Four.{Four}
+use Rattle.relation.specs.Table.{rowOf, rowFor, chosen, Relation, Unnamed, Names, Row, Compiled, atOnce, Asked}
+use Rattle.relation.specs.Exact.{chosen-all}
+use Rattle.relation.specs.Answer.{answered}
+use Rattle.relation.specs.Columns.{fourRows, firstRow, isLinked, Able, NamedLink, Column, headRow, PartsTo, FourUnder}
+use Rattle.relation.specs.ColumnLaws.{put4, put-four, put-under, four-small, row-for-small, first-small, under-start, under-add, no-bits, not-linked}
+use Rattle.relation.specs.Question.{Ruled, Reached}
+use Rattle.relation.specs.QuestionLaws.{row-of, linked-name, false-of, compiled-of}
+
+-- the rule of f alone
+abbrev pub ruleOf : ℕ → List ℕ → Four → ℕ → List ℕ → List ℕ → Rules
+ruleOf n H x r N S = rulesOf n 1 H (put4 (replicate 512 128) 0 x) (set (replicate 128 128) 0 r) N S
+
+module _ (P : Pool) (small : P .count ≤ 128) (e f : Expression) (H : List ℕ) (x : Four) (r : ℕ) (lit : Bool) (src able N : List ℕ)
+    (head : Column (headRow P) 128 130 (P .count) H) (four : x ≡ fourRows (rowFor P e) f) (first : r ≡ firstRow P f) (is-lit : lit ≡ isLinked f)
+    (links : Able P lit (P .count) src able) (names : NamedLink P able 0 (P .count) f (replicate 260 0) N) where
+  X : Rules
+  X = ruleOf (P .count) H x r N src
+
+  pub rule-fits : Fits (ruleOf (P .count) H x r N src)
+  rule-fits =
+      record {
+        count = small;
+        words = omega arith;
+        head = head .under;
+        part = put-under (replicate 512 128) 0 x (omega (arith, length-replicate {A = ℕ} 512 128)) 130 (rw four (four-small (rowFor P e) (row-for-small P small e) f)) (under-start 130 512 128 (omega arith) (omega arith));
+        first = under-add 130 0 r (replicate 128 128) (omega (arith, length-replicate {A = ℕ} 128 128)) (rw first (first-small P small f)) (under-start 130 128 128 (omega arith) (omega arith));
+        src = links .under;
+      }
+
+  named : (q t : ℕ) → bits N q t ≡ true → (a : Role) × (m : ℕ) × (f ≡ E.Linked a m) × (q ≡ 0) × (t < P .count) × (el able t ≡ 1) × (headAt P t .name ≡ m)
+  named q t h = ⊎-elim (λ z. absurd (no-bits 260 q t z)) (λ z. z) (names .says q t h)
+
+  pub rule-row : Row P e (ruleOf (P .count) H x r N src) 0 f
+  rule-row = row-of P e (ruleOf (P .count) H x r N src) 0 f
+      (put-four (replicate 512 128) 0 x (omega (arith, length-replicate {A = ℕ} 512 128)) ∙ four)
+      (getD-set-same (replicate 128 128) 0 r 0 (omega (arith, length-replicate {A = ℕ} 128 128)) ∙ first)
+      (λ a m q.
+      record {
+        says = λ j h.
+            let w = named 0 j h in
+            let s = links .says j (w .5) in
+            (w .4, w .6 ∙ linked-name (sym (w .2) ∙ q), s .1, s .2);
+        all = λ j l nm self b. names .all a m j q l (links .all (is-lit ∙ ap isLinked q) j l self b) nm;
+      })
+      (λ n. record { none = λ j. false-of (bits N 0 j) (λ h. let w = named 0 j h in not-linked f n (w .0) (w .1) (w .2)) })
+
+-- word 0 of a rule, at bit 0
+module _ (X : Rules) (i : ℕ) (K L : List ℕ) (w : ℕ) (word : WordOf X i 0 L K w) where
+  zero-word : (s : ℕ) → s ≡ 0 → s / 64 ≡ 0
+  zero-word s q = omega arith
+
+  zero-bit : (s : ℕ) → s ≡ 0 → bitAt w (s % 64) ≡ true → bitAt w 0 ≡ true
+  zero-bit s q h = let z : s % 64 ≡ 0 = omega arith in rw z at h
+
+  pub word-taken : Takes X i (λ (s : ℕ). s ≡ 0) (bits K) (bits L) (λ (s : ℕ). bitAt w 0)
+  word-taken =
+      record {
+        meet = λ s u a b c d. zero-bit s u (word .taken .meet s (zero-word s u) a b c d);
+        link = λ j s u n m v. zero-bit s u (word .taken .link j s (zero-word s u) n m v);
+      }
+
+  pub word-least : (m G : ℕ → ℕ → Bool) (g : Bool) → Within (bits L) G → Within (bits K) m → Takes X i (λ (s : ℕ). s ≡ 0) m G (λ (s : ℕ). g) → bitAt w 0 ≡ true → g ≡ true
+  word-least m G g a b t h = word .least m G (λ s. cond (eqb s 0) g true) a b
+      (record { meet = λ s u c₀ c₁ c₂ c₃. at s (λ z. t .meet s z c₀ c₁ c₂ c₃); link = λ j s u n q v. at s (λ z. t .link j s z n q v) }) 0 refl h
+    where
+      at : (s : ℕ) → (s ≡ 0 → g ≡ true) → cond (eqb s 0) g true ≡ true
+      at s k = go (eqb s 0) refl
+        where
+          go : (u : Bool) → eqb s 0 ≡ u → cond u g true ≡ true
+          go true z = k (eqb-true s 0 z)
+          go false z = refl
+
+pub reached-of : (P : Pool) (K L : List ℕ) (e f : Expression) (X : Rules) (w : ℕ) (b : Bool) → Row P e X 0 f → WordOf X 0 0 L K w → b ≡ (atOnce P K e f || bitAt w 0) → Reached P K L e f b
+reached-of P K L e f X w b row word q =
+    record { rules = X; row = row; given = bitAt w 0; taken = word-taken X 0 K L w word; least = word-least X 0 K L w word; is = q }
+
+pub or-given : (a b : Bool) → b ≡ true → true ≡ (a || b)
+or-given a b h = sym (or-right a b h)
+
+pub or-once : (a b c : Bool) → b ≡ false → c ≡ a → c ≡ (a || b)
+or-once true b c h q = q
+or-once false b c h q = q ∙ sym h
+
+-- The answer
+
+pub ask-of : (P : Pool) (on : List ℕ) → P .count ≤ 128 → (K : List ℕ) → Relation P on K → (e f : Expression) (X Y : Rules) → Ruled P X
+    → Y .count ≡ X .count → Y .words ≡ 1 → Y .head ≡ X .head → Y .first ≡ X .first → Y .named ≡ X .named → Y .src ≡ X .src → PartsTo (rowFor P e) P (P .count) (Y .part)
+    → (K₀ L : List ℕ) → Asked P on K e K₀ → Closed Y on false K K₀ L → (b : Bool) → Reached P K L e f b → b ≡ from? (chosen P on) f e
+ask-of P on small K rel e f X Y ruled qc qw qh qf qn qs parts K₀ L asked closed b r =
+    r .is ∙ answered P on small K rel e Y (compiled-of P small e X Y ruled qc (omega arith) qh qf qn qs parts) qw K₀ L asked closed f (r .rules) 0 (r .given) (r .row) (r .taken) (r .least)
+
+ones : (n i : ℕ) → i < n → _≡_ {A = ℕ} (getD (replicate n 1) i 0) 1
+ones zero i l = absurd (omega arith)
+ones (suc n) zero l = refl
+ones (suc n) (suc i) l = ones n i (omega arith)
+
+-- with all credentials on
+pub all-on : (P : Pool) → P .count ≤ 128 → chosen P (replicate 128 1) ≡ credentials P
+unfolding chosen credentials
+all-on P small = chosen-all P (replicate 128 1) (P .count) (λ i l. ones 128 i (omega arith))
+
+-- the rules by their columns
+pub by-columns : (P : Pool) (X : Rules) → Ruled P X → Ruled P (rulesOf (P .count) (X .words) (X .head) (X .part) (X .first) (X .named) (X .src))
+by-columns P X r =
+    record {
+      count = refl;
+      wide = r .wide;
+      words = r .words;
+      head = r .head;
+      part = r .part;
+      first = r .first;
+      lit = r .lit;
+      able = r .able;
+      links = r .links;
+      names = r .names;
+      linked = r .linked;
+    }
