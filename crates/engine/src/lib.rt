@@ -1,12 +1,14 @@
 // RT0 questions: calls for a host in C.
+use credentials::list;
 use expression::Credential;
 use expression::ExpressionAnswer;
 use expression::is_body;
 use expression::read_expression;
+use relation::from;
 use rt0::Pool;
 ghost use mathlib.Core.Path.{_≡_};
 ghost use lib.ListN.{length};
-ghost use Rattle.engine.specs.Question.{sized as sizedOf, operandOf, answerOf};
+ghost use Rattle.engine.specs.Question.{sized as sizedOf, operandOf, answerOf, questionOf};
 
 mod credentials;
 
@@ -55,4 +57,27 @@ fn operand(s: &[u8]) -> ExpressionAnswer
     } else {
         ExpressionAnswer::Wrong
     }
+}
+
+// Whether f from e in RT0 over the lent credentials: 256 for yes, 0 for no, or a refusal number.
+#[no_mangle]
+pub extern "C" fn lavutremo_question(credentials: &[u8], f: &[u8], e: &[u8]) -> u64
+    ensures { λ r. ⌜ r ≡ questionOf (now (credentials .entry)) (now (f .entry)) (now (e .entry)) ⌝ }
+{
+    if !sized(credentials.len(), f.len(), e.len()) {
+        return 1;
+    }
+    let listing = list(credentials);
+    let refusal = listing.refusal;
+    let pool = listing.pool;
+    if refusal != 0 {
+        return refusal;
+    }
+    let ExpressionAnswer::Read(x) = operand(f) else {
+        return 3;
+    };
+    let ExpressionAnswer::Read(y) = operand(e) else {
+        return 3;
+    };
+    answer(from(pool, x, y))
 }
