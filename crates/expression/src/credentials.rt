@@ -16,7 +16,7 @@ ghost use lib.ListN.{length};
 ghost use Rattle.expression.specs.Bytes.{pasted};
 ghost use Rattle.expression.specs.Credential.{isBody, beginsWith, wellFormedCredential, checkedCredential, readCredential, roleBytes, credentialBytes};
 
-fn is_body(e: Expression) -> bool
+pub fn is_body(e: Expression) -> bool
     ensures { λ r. ⌜ r ≡ isBody e ⌝ }
 {
     match e {

@@ -9,6 +9,7 @@ ghost use Rattle.expression.specs.Same.{sameRole, same as sameExpression
 mod credentials;
 mod order;
 
+pub use credentials::is_body;
 pub use credentials::read_credential;
 pub use credentials::role_bytes;
 pub use credentials::well_formed_credential;

@@ -1,0 +1,17 @@
+use borrow.Author.Tests.{eq-eqb, ne-eqb}
+use Rattle.engine.specs.CredentialsLaws.{last}
+use borrow.Author.Needs.{needs}
+use Rattle.engine.proofs.credentials.end_step.Statement.{statement}
+use Rattle.engine.proofs.credentials.end_step.Tie as tie
+
+add-if1 : tie.Need-add-if1
+add-if1 c = search needs
+
+returns : tie.Need-returns
+returns c = last _ _ _ (eq-eqb _ _ (c .if1 .taken))
+
+returns-2 : tie.Need-returns-2
+returns-2 c = last _ _ _ (ne-eqb _ _ (c .if1 .left))
+
+pub end-step-spec : {M : Type 1} → statement M
+end-step-spec = tie.close (tie.spec add-if1 returns returns-2)

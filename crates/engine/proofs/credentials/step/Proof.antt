@@ -1,0 +1,34 @@
+use mathlib.Core.Path.{refl, _∙_}
+use Rattle.engine.specs.CredentialsLaws.{at-code, unknown}
+use borrow.Author.Needs.{needs}
+use Rattle.engine.proofs.credentials.step.Statement.{statement}
+use Rattle.engine.proofs.credentials.step.Tie as tie
+
+shared-slice-read-code : tie.Need-shared-slice-read-code
+shared-slice-read-code c = search needs
+
+credential-step-requires : tie.Need-credential-step-requires
+credential-step-requires c κs = search needs
+
+end-step-requires : tie.Need-end-step-requires
+end-step-requires c κs = search needs
+
+returns : tie.Need-returns
+returns c = c .credential-step .ensures ∙ at-code _ _ 1 (c .before .before .before .before .pre) (c .before .match .keys1)
+
+returns-2 : tie.Need-returns-2
+returns-2 c = c .end-step .ensures ∙ at-code _ _ 6 (c .before .before .before .before .pre) (c .before .match .keys2)
+
+returns-3 : tie.Need-returns-3
+returns-3 c = unknown _ _ _ (c .match .rest .0 .1) (c .match .rest .1) ∙ at-code _ _ _ (c .before .before .before .pre) refl
+
+pub step-spec : {M : Type 1} → statement M
+step-spec =
+    tie.close
+    (tie.spec
+    shared-slice-read-code
+    credential-step-requires
+    end-step-requires
+    returns
+    returns-2
+    returns-3)

@@ -1,0 +1,100 @@
+use mathlib.Core.Path.{_≡_, refl, sym, ap, _∙_}
+use mathlib.Core.Bool.{true}
+use borrow.Author.Tests.{not-true, not-false}
+use Prim.Native.Nat.{ℕ}
+use lib.ListN.{length}
+use Rattle.rt0.specs.Pool.{credentials}
+use Rattle.expression.specs.declared.ExpressionAnswer.{ExpressionAnswer}
+use Rattle.expression.specs.declared.ExpressionAnswer.the-variants.{Read}
+use Rattle.engine.specs.Credentials.{listed}
+use Rattle.engine.specs.CredentialsLaws.{listed-all, listed-refused}
+use Rattle.engine.specs.Question.{sized, operandOf, answerOf, answered, questionOf}
+use Rattle.engine.specs.QuestionLaws.{true-sized, question-outside, question-inside}
+use borrow.Author.Needs.{needs}
+use Rattle.engine.proofs.lavutremo_question.Statement.{statement}
+use Rattle.engine.proofs.lavutremo_question.Tie as tie
+
+abbrev Inside : tie.Start → Type 0
+Inside s = sized (length (s .args .credentials .now)) (length (s .args .f .now)) (length (s .args .e .now)) ≡ true
+
+abbrev answerAt : tie.Start → ℕ
+answerAt s = questionOf (s .args .credentials .now) (s .args .f .now) (s .args .e .now)
+
+-- the lengths are within the sizes
+inside : (c : tie.Else1) → Inside (c .before .before .before .before .before)
+inside c = sym (c .before .sized .ensures) ∙ not-false _ (c .if1 .left)
+
+-- the credentials were read
+with-list : (c : tie.Else2) {p q : ExpressionAnswer} → operandOf (c .before .before .before .before .before .before .before .before .args .f .now) ≡ p → operandOf (c .before .before .before .before .before .before .before .before .args .e .now) ≡ q
+    → answered (listed (credentials (c .before .before .list .result .pool))) p q ≡ answerAt (c .before .before .before .before .before .before .before .before)
+with-list c h k = question-inside _ _ _ _ _ _ (inside (c .before .before .before)) (sym (c .before .before .list .ensures .0) ∙ listed-all (c .before .before .list .result) (c .if2 .left)) h k
+
+-- and f
+with-first : (c : tie.After-known-told) {q : ExpressionAnswer} → operandOf (c .before .before .before .before .before .before .before .before .before .before .before .before .args .e .now) ≡ q
+    → answered (listed (credentials (c .before .before .before .before .before .before .list .result .pool))) (Read (c .before .x .given .0 .0)) q ≡ answerAt (c .before .before .before .before .before .before .before .before .before .before .before .before)
+with-first c k = with-list (c .before .before .before .before) (sym (c .before .before .before .operand .ensures) ∙ c .before .x .given .1) k
+
+sized-requires : tie.Need-sized-requires
+sized-requires c κs = search needs
+
+returns : tie.Need-returns
+returns c = question-outside _ _ _ (sym (c .before .sized .ensures) ∙ not-true _ (c .if1 .taken))
+
+list-requires : tie.Need-list-requires
+list-requires c κs = true-sized _ _ _ (inside c) .most
+
+returns-2 : tie.Need-returns-2
+returns-2 c = question-inside _ _ _ _ _ _ (inside (c .before .before .before)) (sym (c .before .before .list .ensures .0) ∙ listed-refused (c .before .before .list .result) (c .if2 .taken)) refl refl
+
+operand-requires : tie.Need-operand-requires
+operand-requires c κs = true-sized _ _ _ (inside (c .before .before .before)) .first
+
+enum-known-x : tie.Need-enum-known-x
+enum-known-x c = search needs
+
+enum-told : tie.Need-enum-told
+enum-told c = search needs
+
+returns-3 : tie.Need-returns-3
+returns-3 c = with-list (c .before .before .before) (sym (c .before .before .operand .ensures) ∙ c .enum-told .given .1) refl
+
+operand-requires-2 : tie.Need-operand-requires-2
+operand-requires-2 c κs = true-sized _ _ _ (inside (c .before .before .before .before .before .before .before)) .second
+
+enum-known-y : tie.Need-enum-known-y
+enum-known-y c = search needs
+
+enum-told-2 : tie.Need-enum-told-2
+enum-told-2 c = search needs
+
+returns-4 : tie.Need-returns-4
+returns-4 c = with-first (c .before .before .before) (sym (c .before .before .operand2 .ensures) ∙ c .enum-told2 .given .1)
+
+from-requires : tie.Need-from-requires
+from-requires c κs = search needs
+
+answer-requires : tie.Need-answer-requires
+answer-requires c κs = search needs
+
+returns-5 : tie.Need-returns-5
+returns-5 c = c .answer .ensures ∙ ap answerOf (c .before .from .ensures) ∙ with-first (c .before .before .before .before .before .before) (sym (c .before .before .before .before .before .operand2 .ensures) ∙ c .before .before .before .y .given .1)
+
+pub lavutremo-question-spec : {M : Type 1} → statement M
+lavutremo-question-spec =
+    tie.close
+    (tie.spec
+    sized-requires
+    returns
+    list-requires
+    returns-2
+    operand-requires
+    enum-known-x
+    enum-told
+    returns-3
+    operand-requires-2
+    enum-known-y
+    enum-told-2
+    returns-4
+    from-requires
+    answer-requires
+    returns-5)

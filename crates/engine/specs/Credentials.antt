@@ -1,0 +1,61 @@
+-- The credential list of an RT0 question: credential commands and an end (document 01, "RT0 and states"). Assumes nothing.
+use Prim.Native.Nat.{ℕ, zero, suc, _+_, _-_}
+use mathlib.Core.Bool.{cond}
+use mathlib.Core.List.{List, [], _∷_, _++_}
+use lib.Dec.{ltb, eqb}
+use lib.ListN.{length, getD}
+use Rattle.expression.specs.declared.Credential.{Credential}
+use Rattle.expression.specs.declared.CredentialAnswer.{CredentialAnswer}
+use Rattle.expression.specs.declared.CredentialAnswer.the-variants as a
+use Rattle.expression.specs.Credential.{readCredential}
+use Rattle.rt0.specs.Pool.{credentials}
+use Rattle.engine.specs.declared.Step.{Step}
+use Rattle.engine.specs.declared.Step.the-variants.{Taken, End, Refused}
+use Rattle.engine.specs.declared.Listing.{Listing}
+use Rattle.engine.specs.Sizes.{commandSize}
+
+-- "3 an operand of wrong form" ("From the input")
+abbrev pub taken : CredentialAnswer → Step
+taken (a.Read c) = Taken c
+taken a.Wrong = Refused 3
+
+-- 0x01 and the 22 bytes of a credential ("Bytes"); "2 .. cut command", whatever its bytes
+unfoldable pub credentialStep : List ℕ → ℕ → Step
+credentialStep s at = cond (ltb (length s - at) commandSize) (Refused 2) (taken (readCredential s (at + 1)))
+
+-- 0x06 "stands last and only there" ("Bytes"); "2 .. bytes after end"
+unfoldable pub endStep : List ℕ → ℕ → Step
+endStep s at = cond (eqb (at + 1) (length s)) End (Refused 2)
+
+-- the command by its first byte; "another command is refused 2"
+abbrev pub commandStep : List ℕ → ℕ → ℕ → Step
+commandStep s at code = cond (eqb code 1) (credentialStep s at) (cond (eqb code 6) (endStep s at) (Refused 2))
+
+-- the command at an index; "2 .. missing end" where no byte is left
+unfoldable pub stepAt : List ℕ → ℕ → Step
+stepAt s at = cond (ltb at (length s)) (commandStep s at (getD s at 0)) (Refused 2)
+
+-- a refusal number, or the credentials before the end
+pub data Listed : Type 0 where
+  refused : ℕ → Listed
+  listed : List Credential → Listed
+
+-- "the first command that cannot be read ends the call"
+abbrev pub after : (List Credential → Listed) → List Credential → Step → Listed
+after rest C (Taken c) = rest (C ++ (c ∷ []))
+after rest C End = listed C
+after rest C (Refused k) = refused k
+
+-- "read one command after another": those from an index on, behind the credentials C. The first number is at least that of the
+-- bytes left; at zero none is left, and the end is missing.
+unfoldable pub listFrom : ℕ → List ℕ → ℕ → List Credential → Listed
+listFrom zero s at C = refused 2
+listFrom (suc n) s at C = after (listFrom n s (at + commandSize)) C (stepAt s at)
+
+-- the meaning of the lent bytes
+unfoldable pub credentialsOf : List ℕ → Listed
+credentialsOf s = listFrom (length s) s 0 []
+
+-- what a listing says: its refusal number, or its pool's credentials where that is zero
+unfoldable pub listedOf : Listing → Listed
+listedOf l = cond (eqb (l .refusal) 0) (listed (credentials (l .pool))) (refused (l .refusal))

@@ -1,0 +1,5 @@
+pub mod Sizes
+pub mod Credentials
+pub mod CredentialsLaws
+pub mod Question
+pub mod QuestionLaws
