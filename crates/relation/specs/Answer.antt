@@ -17,12 +17,13 @@ use Rattle.rt0.specs.declared.Pool.{Pool}
 use Rattle.rt0.specs.From.{roleOf, From, reflexive, transitive, credential, linking, intersection}
 use Rattle.rt0.specs.Lists.{false-true, or-cases, or-left, or-right, and-parts, and-both}
 use Rattle.rt0.specs.Decide.{from?}
-use Rattle.rt0.specs.Laws.{Reach, reach, role-entity, sound, complete, decides}
+use Rattle.rt0.specs.Laws as R
+use Rattle.rt0.specs.Laws.{Reach, reach, ends, role-ends, role-entity, sound, complete, decides}
 use Rattle.rt0.specs.Pool.{headAt, bodyAt}
 use Rattle.closure.specs.declared.Rules.{Rules}
 use Rattle.closure.specs.Rules.{el, bits, Takes, Used, Model, Within, Closed}
 use Rattle.relation.specs.Table.{rowOf, bitOf, rowFor, chosen, Row, Compiled, Relation, Start, ownRole, ownLink, atOnce, Asked}
-use Rattle.relation.specs.Exact.{unreach, row-found, row-cases, bit-found, bit-cases, bit-here, row-for, Truth, from-truth, to-truth, truth-row, truth-e, takes-sound, truth-model, takes-hold, all-held}
+use Rattle.relation.specs.Exact.{chosen-find, known-of, Hold, unreach, row-found, row-cases, bit-found, bit-cases, bit-here, row-for, Truth, from-truth, to-truth, truth-row, truth-e, takes-sound, truth-model, takes-hold, all-held}
 
 not-asked : false ≡ true → {A : Type 0} → A
 not-asked h = absurd (false-true h)
@@ -181,3 +182,73 @@ module _ (P : Pool) (on : List ℕ) (small : P .count ≤ 128) (K : List ℕ) (r
       (λ i s l o v k. at-start i s l o v (once-link P on small K rel e (bodyAt P i) (k .0) (k .1) (k .2) (k .3) (k .5) (k .6)))
       (λ a b l rec r. rel .all a b l (unreach r))
       (reach h) 0 refl refl))
+
+-- An entity is asked about: bit bitOf b of the relation's rows stands for it
+
+module _ (P : Pool) (on : List ℕ) (small : P .count ≤ 128) (K : List ℕ) (rel : Relation P on K) (b : ℕ) where
+  abbrev Asks : ℕ → ℕ → Bool
+  Asks = Truth P on small (E.Entity b) (bodyAt P) false (λ q. not-asked q)
+
+  within-rel : Within (bits K) Asks
+  within-rel = record { within = λ r s h. let k = rel .says r s h in to-truth P on small (E.Entity b) (bodyAt P) false (λ q. not-asked q) r s (k .0) (k .1) }
+
+  -- where no credential has the entity as its body, it is from itself alone
+  pub answered-alone : bitOf P b ≡ 128 → (f : Expression) → same f (E.Entity b) ≡ from? (chosen P on) f (E.Entity b)
+  unfolding chosen
+  answered-alone none f = decides (chosen P on) f (E.Entity b) (same f (E.Entity b))
+      (λ h. subst (λ (y : Expression). From (chosen P on) f y) (same-eq f (E.Entity b) h) reflexive)
+      (λ h. ⊎-elim (λ q. eq-same f (E.Entity b) q)
+      (λ k.
+      let r = chosen-find P on (P .count) (k .0) (k .1) in
+      let l = bit-here P small b (r .0) (r .1) (ap (λ (x : Credential). x .body) (sym (r .3)) ∙ k .2) in
+      let m : bitOf P b < P .count = l .0 in
+      absurd (omega arith)) (ends b (reach h) refl))
+
+  module _ (here : bitOf P b < P .count) (Y : Rules) where
+    is-b : bodyAt P (bitOf P b) ≡ E.Entity b
+    is-b = bit-found P small b (omega arith) .1
+
+    known : (p : Role) → From (chosen P on) (E.Role p) (E.Entity b) → bits K (rowFor P (E.Entity b) p) (bitOf P b) ≡ true
+    known p h = known-of P on small (E.Entity b) (bodyAt P) false (λ q. not-asked q) Y (λ s. s ≡ bitOf P b) K (bits K) within-rel p (bitOf P b) (rel .all p b here h)
+
+    in-body : (c : ℕ) {a : Role} → Reach (chosen P on) (E.Role a) (E.Entity c) → bitOf P c < P .count
+    unfolding chosen
+    in-body c h =
+        let k = role-ends c h in
+        let r = chosen-find P on (P .count) (k .0) (k .1) in
+        bit-here P small c (r .0) (r .1) (ap (λ (x : Credential). x .body) (sym (r .3)) ∙ k .2) .0
+
+    held : {x y : Expression} → Reach (chosen P on) x y → y ≡ E.Entity b → Hold P on small (E.Entity b) (bodyAt P) false (λ q. not-asked q) Y (λ s. s ≡ bitOf P b) K (bits K) within-rel (bitOf P b) x
+    held {x} (R.here) q = at-once x q
+      where
+        at-once : (x : Expression) → x ≡ E.Entity b → Hold P on small (E.Entity b) (bodyAt P) false (λ q. not-asked q) Y (λ s. s ≡ bitOf P b) K (bits K) within-rel (bitOf P b) x
+        at-once (E.Entity c) q = q ∙ sym is-b
+        at-once (E.Role p) q = absurd (role-entity q)
+        at-once (E.Linked a m) q = inl (q ∙ sym is-b)
+        at-once (E.Intersection p) q = inl (q ∙ sym is-b)
+        at-once (E.Goal m) q = q ∙ sym is-b
+    held (R.step {c = c} m h) q = known (c .head) (transitive (credential m) (unreach (subst (λ (y : Expression). Reach (chosen P on) (c .body) y) q h)))
+    held (R.link {a = a} {n = n} {b = c} h₁ h₂) q =
+        let l = in-body c h₁ in
+        inr (c, l, rel .all a c l (unreach h₁), known (roleOf c n) (unreach (subst (λ (y : Expression). Reach (chosen P on) (E.Role (roleOf c n)) y) q h₂)))
+    held (R.each h) q = inr (λ p k. known p (unreach (subst (λ (y : Expression). Reach (chosen P on) (E.Role p) y) q (h p k))))
+
+    members-rel : (a : Role) (c : ℕ) → bitOf P c < P .count → bits K (rowOf P a) (bitOf P c) ≡ true → From (chosen P on) (E.Role a) (E.Entity c)
+    members-rel a c l h = member-says P on small K rel a c h l
+
+    pub answered-entity : (f : Expression) (i : ℕ) (w : Bool) → Row P (E.Entity b) Y i f → Takes Y i (λ s. s ≡ bitOf P b) (bits K) (bits K) (λ s. w)
+        → ((m G : ℕ → ℕ → Bool) (g : Bool) → Within (bits K) G → Within (bits K) m → Takes Y i (λ s. s ≡ bitOf P b) m G (λ s. g) → w ≡ true → g ≡ true)
+        → (atOnce P K (E.Entity b) f || w) ≡ from? (chosen P on) f (E.Entity b)
+    answered-entity f i w row taken least =
+        decides (chosen P on) f (E.Entity b) (atOnce P K (E.Entity b) f || w)
+        (λ h. ⊎-elim (λ q. once-says P on small K rel (E.Entity b) f q)
+        (λ q. sound (chosen P on) f (E.Entity b)
+        (least (bits K) Asks (from? (chosen P on) f (E.Entity b)) within-rel (record { within = λ r s q. q })
+        (takes-sound P on small (E.Entity b) (bodyAt P) false (λ q. not-asked q) Y (λ s. s ≡ bitOf P b) (bits K) members-rel i f row (λ s. from? (chosen P on) f (E.Entity b))
+        (λ s u h. complete (chosen P on) f (E.Entity b) (subst (λ (y : Expression). From (chosen P on) f y) (ap (bodyAt P) u ∙ is-b) h))) q))
+        (or-cases (atOnce P K (E.Entity b) f) w h))
+        (λ h. takes-hold P on small (E.Entity b) (bodyAt P) false (λ q. not-asked q) Y (λ s. s ≡ bitOf P b) K (bits K) within-rel i (bitOf P b) f refl row (λ s. atOnce P K (E.Entity b) f || w)
+        (record { meet = λ s u c₀ c₁ c₂ c₃. or-right (atOnce P K (E.Entity b) f) w (taken .meet s u c₀ c₁ c₂ c₃); link = λ j s u n m v. or-right (atOnce P K (E.Entity b) f) w (taken .link j s u n m v) })
+        (λ q. or-left _ _ (once-same P on small K rel (E.Entity b) f (q ∙ is-b)))
+        (λ o. absurd (role-entity (o .6 ∙ is-b)))
+        (held (reach h) refl))

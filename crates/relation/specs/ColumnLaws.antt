@@ -14,6 +14,7 @@ use Rattle.expression.specs.declared.Role.{Role}
 use Rattle.expression.specs.declared.Parts.{Parts}
 use Rattle.expression.specs.declared.Expression.{Expression}
 use Rattle.expression.specs.declared.Expression.the-variants as E
+use Rattle.expression.specs.Form.{pickExpression}
 use Rattle.rt0.specs.declared.Pool.{Pool}
 use Rattle.rt0.specs.Lists.{false-true, and-parts, and-both}
 use Rattle.rt0.specs.Pool.{headAt, bodyAt}
@@ -22,7 +23,7 @@ use Rattle.closure.specs.Rules.{el, bits, Under, Within, Marked}
 use Rattle.relation.specs.declared.Four.{Four}
 use Rattle.relation.specs.Table.{rowOf, bitOf, rowFor, third, fourth}
 use Rattle.relation.specs.Exact.{row-cases, bit-cases}
-use Rattle.relation.specs.Columns.{fourRows, firstRow, isLinked, Column, headRow, bodyFirst, fourAt, FourUnder, PartsTo, Able, NamedRow, NamedLink, NamesTo, isNamed, hasLink}
+use Rattle.relation.specs.Columns.{fourRows, firstRow, isLinked, Column, headRow, bodyFirst, fourAt, FourUnder, PartsTo, Able, NamedRow, NamedLink, NamesTo, isNamed, hasLink, linkSource}
 
 -- Numbers below a bound
 
@@ -161,7 +162,35 @@ module _ (ρ : Role → ℕ) (P : Pool) where
   pub parts-end : (i n : ℕ) (l : List ℕ) → i ≤ n → n ≤ i → PartsTo ρ P i l → PartsTo ρ P n l
   parts-end i n l a b c = let z : i ≡ n = omega arith in subst (λ (x : ℕ). PartsTo ρ P x l) z c
 
+-- a linked body has kind 3
+pub linked-kind : (P : Pool) (i : ℕ) (a : Role) (m : ℕ) → bodyAt P i ≡ E.Linked a m → hasLink P i ≡ true
+unfolding bodyAt
+linked-kind P i a m h = go (eqb (el (P .kinds) (i * 2)) 1) (eqb (el (P .kinds) (i * 2)) 2) (eqb (el (P .kinds) (i * 2)) 3) (eqb (el (P .kinds) (i * 2)) 4) _ _ _ _ _ _ h
+  where
+    go : (t u v w : Bool) (x : ℕ) (y z : Role) (n : ℕ) (p : Parts) (o : ℕ) → pickExpression t (E.Entity x) (pickExpression u (E.Role y) (pickExpression v (E.Linked z n) (pickExpression w (E.Intersection p) (E.Goal o)))) ≡ E.Linked a m → v ≡ true
+    go true u v w x y z n p o q = absurd (let d : _≡_ {A = ℕ} 0 1 = cc in omega arith)
+    go false true v w x y z n p o q = absurd (let d : _≡_ {A = ℕ} 0 1 = cc in omega arith)
+    go false false true w x y z n p o q = refl
+    go false false false true x y z n p o q = absurd (let d : _≡_ {A = ℕ} 0 1 = cc in omega arith)
+    go false false false false x y z n p o q = absurd (let d : _≡_ {A = ℕ} 0 1 = cc in omega arith)
+
 -- The heads that links can go by
+
+pub source-here : (P : Pool) (h j s : ℕ) → h ≡ rowOf P (headAt P j) → h ≡ j → s ≡ bitOf P (headAt P j .entity) → s ≡ linkSource P j
+source-here P h j s q e z = z ∙ sym (rw (eq-eqb (rowOf P (headAt P j)) j (sym q ∙ e)))
+
+pub source-none : (P : Pool) (h j : ℕ) → h ≡ rowOf P (headAt P j) → (h ≡ j → ⊥) → 128 ≡ linkSource P j
+source-none P h j q e = sym (rw (ne-eqb (rowOf P (headAt P j)) j (λ z. e (q ∙ z))))
+
+source-bit : (P : Pool) (j s : ℕ) → s ≡ linkSource P j → s < 128 → s ≡ bitOf P (headAt P j .entity)
+source-bit P j s q l = go (eqb (rowOf P (headAt P j)) j) q
+  where
+    go : (t : Bool) → s ≡ cond t (bitOf P (headAt P j .entity)) 128 → s ≡ bitOf P (headAt P j .entity)
+    go true z = z
+    go false z = absurd (omega arith)
+
+source-all : (P : Pool) (j s : ℕ) → s ≡ linkSource P j → rowOf P (headAt P j) ≡ j → s ≡ bitOf P (headAt P j .entity)
+source-all P j s q e = q ∙ rw (eq-eqb (rowOf P (headAt P j)) j e)
 
 module _ (P : Pool) where
   pub able-start : (lit : Bool) → Able P lit 0 (replicate 128 0) (replicate 128 0)
@@ -184,8 +213,9 @@ module _ (P : Pool) where
         all = λ z. absurd (false-true (sym q ∙ z));
       }
 
-  pub able-add : P .count ≤ 128 → (lit : Bool) (src able : List ℕ) (j s : ℕ) → j < P .count → s ≡ bitOf P (headAt P j .entity) → s < 128 → Able P lit j src able → Able P lit (j + 1) (set src j s) (set able j 1)
-  able-add small lit src able j s l qs b inv =
+  pub able-add : P .count ≤ 128 → (lit : Bool) (src able : List ℕ) (j s : ℕ) → j < P .count → s ≡ linkSource P j → s < 128 → Able P lit j src able → Able P lit (j + 1) (set src j s) (set able j 1)
+  able-add small lit src able j s l q b inv =
+      let qs : s ≡ bitOf P (headAt P j .entity) = source-bit P j s q b in
       let lj : j < length src = omega (arith, inv .sized) in
       record {
         sized = length-set src j s ∙ inv .sized;
@@ -195,8 +225,11 @@ module _ (P : Pool) where
         all = λ z k y x w. on z k y x w (eqb k j) refl;
       }
     where
+      qs : s ≡ bitOf P (headAt P j .entity)
+      qs = source-bit P j s q b
+
       have : bitOf P (headAt P j .entity) < P .count
-      have = ⊎-elim (λ z. z) (λ z. absurd (omega arith)) (bit-cases P small (headAt P j .entity))
+      have = ⊎-elim (λ z. z) (λ z. absurd (omega (arith, qs))) (bit-cases P small (headAt P j .entity))
 
       go : (k : ℕ) → el (set able j 1) k ≡ 1 → (t : Bool) → eqb k j ≡ t → (k < j + 1) × (el (set src j s) k ≡ bitOf P (headAt P k .entity)) × (bitOf P (headAt P k .entity) < P .count)
       go k z true e = let q : k ≡ j = eqb-true k j e in (omega arith, rw q (getD-set-same src j s 0 (omega (arith, inv .sized)) ∙ qs), rw q have)
@@ -209,8 +242,8 @@ module _ (P : Pool) where
       on z k y x w true e = rw (eqb-true k j e) (getD-set-same able j 1 0 (omega (arith, inv .sized′)))
       on z k y x w false e = getD-set-other able j k 1 0 (eqb-false k j e) ∙ inv .all z k (omega (arith, eqb-false k j e)) x w
 
-  pub able-skip : (lit : Bool) (src able : List ℕ) (j h s : ℕ) → h ≡ rowOf P (headAt P j) → s ≡ bitOf P (headAt P j .entity) → P .count ≤ 128 → (eqb h j && ltb s 128) ≡ false → Able P lit j src able → Able P lit (j + 1) src able
-  able-skip lit src able j h s qh qs small nay inv =
+  pub able-skip : (lit : Bool) (src able : List ℕ) (j s : ℕ) → s ≡ linkSource P j → P .count ≤ 128 → 128 ≤ s → Able P lit j src able → Able P lit (j + 1) src able
+  able-skip lit src able j s q small nay inv =
       record {
         sized = inv .sized;
         sized′ = inv .sized′;
@@ -221,9 +254,10 @@ module _ (P : Pool) where
     where
       go : lit ≡ true → (k : ℕ) → k < j + 1 → rowOf P (headAt P k) ≡ k → bitOf P (headAt P k .entity) < P .count → (t : Bool) → eqb k j ≡ t → el able k ≡ 1
       go z k y x w true e =
-          let q : k ≡ j = eqb-true k j e in
-          let w′ : bitOf P (headAt P j .entity) < P .count = rw q at w in
-          absurd (false-true (sym nay ∙ and-both (eqb h j) (ltb s 128) (eq-eqb h j (qh ∙ (rw q at x))) (lt-ltb s 128 (omega arith))))
+          let y : k ≡ j = eqb-true k j e in
+          let w′ : bitOf P (headAt P j .entity) < P .count = rw y at w in
+          let z′ : s ≡ bitOf P (headAt P j .entity) = source-all P j s q (rw y at x) in
+          absurd (omega arith)
       go z k y x w false e = inv .all z k (omega (arith, eqb-false k j e)) x w
 
   pub able-end : (lit : Bool) (src able : List ℕ) (j n : ℕ) → j ≤ n → n ≤ j → Able P lit j src able → Able P lit n src able
@@ -312,6 +346,18 @@ module _ (P : Pool) (able : List ℕ) where
       go : (q : ℕ) (a : Role) (m t : ℕ) → q < k + 1 → bodyAt P q ≡ E.Linked a m → t < P .count → el able t ≡ 1 → headAt P t .name ≡ m → (u : Bool) → eqb q k ≡ u → bits N′ q t ≡ true
       go q a m t l h b c d true z = let w : q ≡ k = eqb-true q k z in rw w (new .all a m t (e ∙ (rw w at h)) b c d)
       go q a m t l h b c d false z = new .kept .within q t (inv .all q a m t (omega (arith, eqb-false q k z)) h b c d)
+
+  pub names-skip : (k : ℕ) (N : List ℕ) → hasLink P k ≡ false → NamesTo P able k N → NamesTo P able (k + 1) N
+  names-skip k N none inv =
+      record {
+        sized = inv .sized;
+        says = λ q t z. let r = inv .says q t z in (r .0, r .1, omega (arith, r .2), r .3, r .4, r .5, r .6);
+        all = λ q a m t l h b c d. go q a m t l h b c d (eqb q k) refl;
+      }
+    where
+      go : (q : ℕ) (a : Role) (m t : ℕ) → q < k + 1 → bodyAt P q ≡ E.Linked a m → t < P .count → el able t ≡ 1 → headAt P t .name ≡ m → (u : Bool) → eqb q k ≡ u → bits N q t ≡ true
+      go q a m t l h b c d true z = let w : q ≡ k = eqb-true q k z in absurd (false-true (sym none ∙ linked-kind P k a m (rw w at h)))
+      go q a m t l h b c d false z = inv .all q a m t (omega (arith, eqb-false q k z)) h b c d
 
   pub names-end : (i n : ℕ) (N : List ℕ) → i ≤ n → n ≤ i → NamesTo P able i N → NamesTo P able n N
   names-end i n N a b c = let z : i ≡ n = omega arith in subst (λ (x : ℕ). NamesTo P able x N) z c

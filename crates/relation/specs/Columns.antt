@@ -98,5 +98,10 @@ pub record NamesTo (P : Pool) (able : List ℕ) (k : ℕ) (N : List ℕ) : Type 
 abbrev pub isNamed : Pool → List ℕ → ℕ → ℕ → Bool
 isNamed P able m t = eqb (el able t) 1 && eqb (headAt P t .name) m
 
+-- credential i has a linked body
 abbrev pub hasLink : Pool → ℕ → Bool
-hasLink P i = isLinked (bodyAt P i)
+hasLink P i = eqb (el (P .kinds) (i * 2)) 3
+
+-- the bit of the entity of head j, where j is the row of that head
+abbrev pub linkSource : Pool → ℕ → ℕ
+linkSource P j = cond (eqb (rowOf P (headAt P j)) j) (bitOf P (headAt P j .entity)) 128

@@ -53,13 +53,13 @@ pub record OwnRow (P : Pool) (e : Expression) (r : ℕ) : Type 0 where
 unfoldable pub startsAt : Pool → List ℕ → List ℕ → Expression → ℕ → Bool
 startsAt P on K e i = eqb (el on i) 1 && atOnce P K e (bodyAt P i)
 
--- b is whether f is from e at once, or by its rule from the rows L with membership K
-pub record Reached (P : Pool) (K L : List ℕ) (e f : Expression) (b : Bool) : Type 0 where
+-- b is whether f is from e at once, or by its rule from bit z of the rows L, with membership K
+pub record Reached (P : Pool) (K L : List ℕ) (z : ℕ) (e f : Expression) (b : Bool) : Type 0 where
   pub rules : Rules
   pub row : Row P e rules 0 f
   pub given : Bool
-  pub taken : Takes rules 0 (λ (s : ℕ). s ≡ 0) (bits K) (bits L) (λ (s : ℕ). given)
-  pub least : (m G : ℕ → ℕ → Bool) (g : Bool) → Within (bits L) G → Within (bits K) m → Takes rules 0 (λ (s : ℕ). s ≡ 0) m G (λ (s : ℕ). g) → given ≡ true → g ≡ true
+  pub taken : Takes rules 0 (λ (s : ℕ). s ≡ z) (bits K) (bits L) (λ (s : ℕ). given)
+  pub least : (m G : ℕ → ℕ → Bool) (g : Bool) → Within (bits L) G → Within (bits K) m → Takes rules 0 (λ (s : ℕ). s ≡ z) m G (λ (s : ℕ). g) → given ≡ true → g ≡ true
   pub is : b ≡ (atOnce P K e f || given)
 
 -- the rows that a question about e starts from, up to credential k

@@ -27,7 +27,7 @@ use Rattle.relation.specs.Search.{anyTo-here}
 use Rattle.relation.specs.Exact.{chosen-mem, chosen-find, row-found, row-here, row-cases, bit-found, bit-here}
 use Rattle.relation.specs.Answer.{once-says}
 use Rattle.relation.specs.Columns.{fourRows, firstRow, isLinked, Column, headRow, bodyFirst, fourAt, PartsTo, Able, NamesTo, hasLink}
-use Rattle.relation.specs.ColumnLaws.{no-bits, not-linked, row-for-small}
+use Rattle.relation.specs.ColumnLaws.{linked-kind, no-bits, not-linked, row-for-small}
 use Rattle.relation.specs.Question.{Ruled, Seeded, StartTo, OwnRow, startsAt, AskedTo}
 
 -- The row of a role where e is asked about
@@ -266,7 +266,7 @@ compiled-of P small e X Y ruled qc qw qh qf qn qs parts =
 
     named : (i : ℕ) → i < P .count → (a : Role) (m : ℕ) → bodyAt P i ≡ E.Linked a m → Names P Y i m
     named i l a m q =
-        let lit : ruled .lit ≡ true = ruled .linked (anyTo-here (P .count) (hasLink P) i l (ap isLinked q)) in
+        let lit : ruled .lit ≡ true = ruled .linked (anyTo-here (P .count) (hasLink P) i l (linked-kind P i a m q)) in
         record {
           says = λ j h.
               let r = ruled .names .says i j (rw qn at h) in

@@ -12,6 +12,7 @@ use lib.Seq.{getD-set-same}
 use Rattle.expression.specs.declared.Role.{Role}
 use Rattle.expression.specs.declared.Expression.{Expression}
 use Rattle.expression.specs.declared.Expression.the-variants as E
+use Rattle.expression.specs.Same.{same}
 use Rattle.word.specs.Bit.{bitAt}
 use Rattle.rt0.specs.declared.Pool.{Pool}
 use Rattle.rt0.specs.Lists.{false-true, or-right}
@@ -21,9 +22,9 @@ use Rattle.closure.specs.declared.Rules.{Rules}
 use Rattle.closure.specs.Rules.{el, bits, Fits, Under, Takes, Within, Closed, rulesOf}
 use Rattle.closure.specs.Words.{WordOf}
 use Rattle.relation.specs.declared.Four.{Four}
-use Rattle.relation.specs.Table.{rowOf, rowFor, chosen, Relation, Unnamed, Names, Row, Compiled, atOnce, Asked}
-use Rattle.relation.specs.Exact.{chosen-all}
-use Rattle.relation.specs.Answer.{answered}
+use Rattle.relation.specs.Table.{rowOf, bitOf, rowFor, chosen, Relation, Unnamed, Names, Row, Compiled, atOnce, Asked}
+use Rattle.relation.specs.Exact.{chosen-all, bit-cases}
+use Rattle.relation.specs.Answer.{answered, answered-entity, answered-alone}
 use Rattle.relation.specs.Columns.{fourRows, firstRow, isLinked, Able, NamedLink, Column, headRow, PartsTo, FourUnder}
 use Rattle.relation.specs.ColumnLaws.{put4, put-four, put-under, four-small, row-for-small, first-small, under-start, under-add, no-bits, not-linked}
 use Rattle.relation.specs.Question.{Ruled, Reached}
@@ -67,35 +68,38 @@ module _ (P : Pool) (small : P .count ≤ 128) (e f : Expression) (H : List ℕ)
       })
       (λ n. record { none = λ j. false-of (bits N 0 j) (λ h. let w = named 0 j h in not-linked f n (w .0) (w .1) (w .2)) })
 
--- word 0 of a rule, at bit 0
-module _ (X : Rules) (i : ℕ) (K L : List ℕ) (w : ℕ) (word : WordOf X i 0 L K w) where
-  zero-word : (s : ℕ) → s ≡ 0 → s / 64 ≡ 0
-  zero-word s q = omega arith
+-- a rule's word, at bit z
+module _ (X : Rules) (i z : ℕ) (K L : List ℕ) (w : ℕ) (word : WordOf X i (z / 64) L K w) where
+  the-word : (s : ℕ) → s ≡ z → s / 64 ≡ z / 64
+  the-word s q = ap (λ (y : ℕ). y / 64) q
 
-  zero-bit : (s : ℕ) → s ≡ 0 → bitAt w (s % 64) ≡ true → bitAt w 0 ≡ true
-  zero-bit s q h = let z : s % 64 ≡ 0 = omega arith in rw z at h
+  the-bit : (s : ℕ) → s ≡ z → bitAt w (s % 64) ≡ true → bitAt w (z % 64) ≡ true
+  the-bit s q h = rw q at h
 
-  pub word-taken : Takes X i (λ (s : ℕ). s ≡ 0) (bits K) (bits L) (λ (s : ℕ). bitAt w 0)
+  word-taken : Takes X i (λ (s : ℕ). s ≡ z) (bits K) (bits L) (λ (s : ℕ). bitAt w (z % 64))
   word-taken =
       record {
-        meet = λ s u a b c d. zero-bit s u (word .taken .meet s (zero-word s u) a b c d);
-        link = λ j s u n m v. zero-bit s u (word .taken .link j s (zero-word s u) n m v);
+        meet = λ s u a b c d. the-bit s u (word .taken .meet s (the-word s u) a b c d);
+        link = λ j s u n m v. the-bit s u (word .taken .link j s (the-word s u) n m v);
       }
 
-  pub word-least : (m G : ℕ → ℕ → Bool) (g : Bool) → Within (bits L) G → Within (bits K) m → Takes X i (λ (s : ℕ). s ≡ 0) m G (λ (s : ℕ). g) → bitAt w 0 ≡ true → g ≡ true
-  word-least m G g a b t h = word .least m G (λ s. cond (eqb s 0) g true) a b
-      (record { meet = λ s u c₀ c₁ c₂ c₃. at s (λ z. t .meet s z c₀ c₁ c₂ c₃); link = λ j s u n q v. at s (λ z. t .link j s z n q v) }) 0 refl h
+  word-least : (m G : ℕ → ℕ → Bool) (g : Bool) → Within (bits L) G → Within (bits K) m → Takes X i (λ (s : ℕ). s ≡ z) m G (λ (s : ℕ). g) → bitAt w (z % 64) ≡ true → g ≡ true
+  word-least m G g a b t h = is-g (word .least m G (λ s. cond (eqb s z) g true) a b
+      (record { meet = λ s u c₀ c₁ c₂ c₃. at s (λ y. t .meet s y c₀ c₁ c₂ c₃); link = λ j s u n q v. at s (λ y. t .link j s y n q v) }) z refl h)
     where
-      at : (s : ℕ) → (s ≡ 0 → g ≡ true) → cond (eqb s 0) g true ≡ true
-      at s k = go (eqb s 0) refl
+      at : (s : ℕ) → (s ≡ z → g ≡ true) → cond (eqb s z) g true ≡ true
+      at s k = go (eqb s z) refl
         where
-          go : (u : Bool) → eqb s 0 ≡ u → cond u g true ≡ true
-          go true z = k (eqb-true s 0 z)
-          go false z = refl
+          go : (u : Bool) → eqb s z ≡ u → cond u g true ≡ true
+          go true y = k (eqb-true s z y)
+          go false y = refl
 
-pub reached-of : (P : Pool) (K L : List ℕ) (e f : Expression) (X : Rules) (w : ℕ) (b : Bool) → Row P e X 0 f → WordOf X 0 0 L K w → b ≡ (atOnce P K e f || bitAt w 0) → Reached P K L e f b
-reached-of P K L e f X w b row word q =
-    record { rules = X; row = row; given = bitAt w 0; taken = word-taken X 0 K L w word; least = word-least X 0 K L w word; is = q }
+      is-g : cond (eqb z z) g true ≡ true → g ≡ true
+      is-g k = rw (eq-eqb z z refl) at k
+
+pub reached-of : (P : Pool) (K L : List ℕ) (z : ℕ) (e f : Expression) (X : Rules) (w : ℕ) (b : Bool) → Row P e X 0 f → WordOf X 0 (z / 64) L K w → b ≡ (atOnce P K e f || bitAt w (z % 64)) → Reached P K L z e f b
+reached-of P K L z e f X w b row word q =
+    record { rules = X; row = row; given = bitAt w (z % 64); taken = word-taken X 0 z K L w word; least = word-least X 0 z K L w word; is = q }
 
 pub or-given : (a b : Bool) → b ≡ true → true ≡ (a || b)
 or-given a b h = sym (or-right a b h)
@@ -108,9 +112,19 @@ or-once false b c h q = q ∙ sym h
 
 pub ask-of : (P : Pool) (on : List ℕ) → P .count ≤ 128 → (K : List ℕ) → Relation P on K → (e f : Expression) (X Y : Rules) → Ruled P X
     → Y .count ≡ X .count → Y .words ≡ 1 → Y .head ≡ X .head → Y .first ≡ X .first → Y .named ≡ X .named → Y .src ≡ X .src → PartsTo (rowFor P e) P (P .count) (Y .part)
-    → (K₀ L : List ℕ) → Asked P on K e K₀ → Closed Y on false K K₀ L → (b : Bool) → Reached P K L e f b → b ≡ from? (chosen P on) f e
+    → (K₀ L : List ℕ) → Asked P on K e K₀ → Closed Y on false K K₀ L → (b : Bool) → Reached P K L 0 e f b → b ≡ from? (chosen P on) f e
 ask-of P on small K rel e f X Y ruled qc qw qh qf qn qs parts K₀ L asked closed b r =
     r .is ∙ answered P on small K rel e Y (compiled-of P small e X Y ruled qc (omega arith) qh qf qn qs parts) qw K₀ L asked closed f (r .rules) 0 (r .given) (r .row) (r .taken) (r .least)
+
+pub entity-of : (P : Pool) (on : List ℕ) → P .count ≤ 128 → (K : List ℕ) → Relation P on K → (b s : ℕ) (f : Expression) (t : Bool) → s ≡ bitOf P b → s < 128 → Reached P K K s (E.Entity b) f t → t ≡ from? (chosen P on) f (E.Entity b)
+entity-of P on small K rel b s f t q l r =
+    let m : bitOf P b < P .count = ⊎-elim (λ k. k) (λ k. absurd (omega arith)) (bit-cases P small b) in
+    let r′ : Reached P K K (bitOf P b) (E.Entity b) f t = subst (λ (z : ℕ). Reached P K K z (E.Entity b) f t) q r in
+    r′ .is ∙ answered-entity P on small K rel b m (r′ .rules) f 0 (r′ .given) (r′ .row) (r′ .taken) (r′ .least)
+
+pub alone-of : (P : Pool) (on : List ℕ) → P .count ≤ 128 → (K : List ℕ) → Relation P on K → (b s : ℕ) (f : Expression) (t : Bool) → s ≡ bitOf P b → 128 ≤ s → t ≡ same f (E.Entity b) → t ≡ from? (chosen P on) f (E.Entity b)
+alone-of P on small K rel b s f t q l h =
+    h ∙ answered-alone P on small K rel b (⊎-elim (λ k. absurd (omega arith)) (λ k. k) (bit-cases P small b)) f
 
 ones : (n i : ℕ) → i < n → _≡_ {A = ℕ} (getD (replicate n 1) i 0) 1
 ones zero i l = absurd (omega arith)

@@ -25,7 +25,7 @@ ghost use Rattle.rt0.specs.Pool.{poolOf, headAt, bodyAt, credentials as credent
 ghost use Rattle.closure.specs.Rules.{rulesOf};
 ghost use Rattle.relation.specs.Table.{anyTo, isHead, rowOf, isBody, bitOf, rowFor, third, fourth, chosen, Relation, Start, Compiled, ownRole, ownLink, atOnce, Asked};
 ghost use Rattle.relation.specs.Question.{Ruled, Seeded, OwnRow, startsAt, Reached};
-ghost use Rattle.relation.specs.Columns.{fourRows, firstRow, isLinked, Column, headRow, bodyFirst, PartsTo, Able, NamedRow, NamedLink, NamesTo, isNamed, hasLink};
+ghost use Rattle.relation.specs.Columns.{fourRows, firstRow, isLinked, Column, headRow, bodyFirst, PartsTo, Able, NamedRow, NamedLink, NamesTo, isNamed, hasLink, linkSource};
 
 // Each rule of a word.
 const ALL: u64 = 18446744073709551615;
@@ -55,7 +55,10 @@ fn is_head<'a>(
     requires { ⌜ j < 128 ⌝ }
     ensures { λ r. ⌜ r ≡ isHead (poolOf n (now (heads .entry)) (now (kinds .entry)) (now (numbers .entry))) p j ⌝ }
 {
-    (heads[j * 2] == p.entity) & (heads[j * 2 + 1] == p.name)
+    if heads[j * 2] != p.entity {
+        return false;
+    }
+    heads[j * 2 + 1] == p.name
 }
 
 // The row of the role p.
@@ -90,7 +93,10 @@ fn is_body<'a>(
     requires { ⌜ s < 128 ⌝ }
     ensures { λ r. ⌜ r ≡ isBody (poolOf n (now (heads .entry)) (now (kinds .entry)) (now (numbers .entry))) b s ⌝ }
 {
-    (kinds[s * 2] == 1) & (numbers[s * 8] == b)
+    if kinds[s * 2] != 1 {
+        return false;
+    }
+    numbers[s * 8] == b
 }
 
 // The bit of the entity b.
@@ -309,7 +315,7 @@ fn has_link<'a>(
     requires { ⌜ i < 128 ⌝ }
     ensures { λ r. ⌜ r ≡ hasLink (poolOf n (now (heads .entry)) (now (kinds .entry)) (now (numbers .entry))) i ⌝ }
 {
-    is_linked(body_at(n, heads, kinds, numbers, i))
+    kinds[i * 2] == 3
 }
 
 // Whether a credential has a linked body.
@@ -332,6 +338,24 @@ fn has_links<'a>(
     false
 }
 
+// The bit of the entity of head j, where j is the row of that head, else 128.
+fn link_source<'a>(
+    n: usize,
+    heads: &'a [u16; 256],
+    kinds: &'a [u8; 256],
+    numbers: &'a [u16; 1024],
+    head: &'a [usize; 128],
+    j: usize,
+) -> usize
+    requires { ⌜ (n ≤ 128) × (j < n) × Column (headRow (poolOf n (now heads) (now kinds) (now numbers))) 128 130 n (now head) ⌝ }
+    ensures { λ r. ⌜ r ≡ linkSource (poolOf n (now (heads .entry)) (now (kinds .entry)) (now (numbers .entry))) j ⌝ }
+{
+    if head[j] != j {
+        return 128;
+    }
+    source(n, heads, kinds, numbers, heads[j * 2])
+}
+
 // The heads that links can go by. Without a linked expression there is no use for them.
 fn linkable<'a>(
     n: usize,
@@ -351,9 +375,8 @@ fn linkable<'a>(
         return Links { src, able };
     }
     while j < n {
-        let p = head_at(n, heads, kinds, numbers, j);
-        let s = source(n, heads, kinds, numbers, p.entity);
-        if (head[j] == j) & (s < 128) {
+        let s = link_source(n, heads, kinds, numbers, head, j);
+        if s < 128 {
             src[j] = s;
             able[j] = 1;
         }
@@ -437,8 +460,10 @@ fn names<'a>(
     let mut named = [0u64; 260];
     let mut i = 0;
     while i < n {
-        let x = body_at(n, heads, kinds, numbers, i);
-        name_link(n, heads, kinds, numbers, able, i, x, &mut named);
+        if has_link(n, heads, kinds, numbers, i) {
+            let x = body_at(n, heads, kinds, numbers, i);
+            name_link(n, heads, kinds, numbers, able, i, x, &mut named);
+        }
         i += 1;
     }
     named
@@ -858,7 +883,7 @@ pub fn switch_on<'a>(
     );
 }
 
-// Whether f is from e, where bit 0 of the rows vals says which roles are.
+// Whether f is from e, where bit s of the rows vals says which roles are.
 fn reached<'a>(
     n: usize,
     heads: &'a [u16; 256],
@@ -867,11 +892,12 @@ fn reached<'a>(
     head: &'a [usize; 128],
     mem: &'a [u64; 260],
     vals: &'a [u64; 260],
+    s: usize,
     e: Expression,
     f: Expression,
 ) -> bool
-    requires { ⌜ (n ≤ 128) × Column (headRow (poolOf n (now heads) (now kinds) (now numbers))) 128 130 n (now head) ⌝ }
-    ensures { λ r. ⌜ Reached (poolOf n (now (heads .entry)) (now (kinds .entry)) (now (numbers .entry))) (now (mem .entry)) (now (vals .entry)) e f r ⌝ }
+    requires { ⌜ (n ≤ 128) × (s < 128) × Column (headRow (poolOf n (now heads) (now kinds) (now numbers))) 128 130 n (now head) ⌝ }
+    ensures { λ r. ⌜ Reached (poolOf n (now (heads .entry)) (now (kinds .entry)) (now (numbers .entry))) (now (mem .entry)) (now (vals .entry)) s e f r ⌝ }
 {
     let x = aim_rows(
         n,
@@ -895,15 +921,60 @@ fn reached<'a>(
     let able = links.able;
     let mut named = [0u64; 260];
     name_link(n, heads, kinds, numbers, &able, 0, f, &mut named);
-    let w = word(n, 1, head, &part, &first, &named, &src, vals, mem, 0, 0);
-    if test(w, 0) {
+    let w = word(
+        n,
+        1,
+        head,
+        &part,
+        &first,
+        &named,
+        &src,
+        vals,
+        mem,
+        0,
+        s / 64,
+    );
+    if test(w, s % 64) {
         return true;
     }
     once(n, heads, kinds, numbers, mem, e, f)
 }
 
-// Whether f is from e over the credentials that are on, whose relation is mem.
-pub fn ask<'a>(
+// Whether f is from the entity b.
+fn by_entity<'a>(
+    n: usize,
+    heads: &'a [u16; 256],
+    kinds: &'a [u8; 256],
+    numbers: &'a [u16; 1024],
+    head: &'a [usize; 128],
+    on: &'a [u8; 128],
+    mem: &'a [u64; 260],
+    f: Expression,
+    b: u16,
+) -> bool
+    requires { ⌜ (n ≤ 128) × Column (headRow (poolOf n (now heads) (now kinds) (now numbers))) 128 130 n (now head) × Relation (poolOf n (now heads) (now kinds) (now numbers)) (now on) (now mem) ⌝ }
+    ensures { λ r. ⌜ r ≡ fromOf (chosen (poolOf n (now (heads .entry)) (now (kinds .entry)) (now (numbers .entry))) (now (on .entry))) f (Expression.Entity b) ⌝ }
+{
+    let s = source(n, heads, kinds, numbers, b);
+    if s >= 128 {
+        return same(f, Expression::Entity(b));
+    }
+    reached(
+        n,
+        heads,
+        kinds,
+        numbers,
+        head,
+        mem,
+        mem,
+        s,
+        Expression::Entity(b),
+        f,
+    )
+}
+
+// Whether f is from e, by the rules from the rows that e starts.
+fn by_rules<'a>(
     n: usize,
     heads: &'a [u16; 256],
     kinds: &'a [u8; 256],
@@ -941,7 +1012,50 @@ pub fn ask<'a>(
         ALL,
         &mut vals,
     );
-    reached(n, heads, kinds, numbers, head, mem, &vals, e, f)
+    reached(n, heads, kinds, numbers, head, mem, &vals, 0, e, f)
+}
+
+// Whether f is from e over the credentials that are on, whose relation is mem.
+pub fn ask<'a>(
+    n: usize,
+    heads: &'a [u16; 256],
+    kinds: &'a [u8; 256],
+    numbers: &'a [u16; 1024],
+    words: usize,
+    head: &'a [usize; 128],
+    part: &'a [usize; 512],
+    first: &'a [usize; 128],
+    named: &'a [u64; 260],
+    src: &'a [usize; 128],
+    deps: &'a [u64; 260],
+    on: &'a [u8; 128],
+    mem: &'a [u64; 260],
+    f: Expression,
+    e: Expression,
+) -> bool
+    requires { ⌜ (n ≤ 128) × Ruled (poolOf n (now heads) (now kinds) (now numbers)) (rulesOf n words (now head) (now part) (now first) (now named) (now src)) × Relation (poolOf n (now heads) (now kinds) (now numbers)) (now on) (now mem) ⌝ }
+    ensures { λ r. ⌜ r ≡ fromOf (chosen (poolOf n (now (heads .entry)) (now (kinds .entry)) (now (numbers .entry))) (now (on .entry))) f e ⌝ }
+{
+    if let Expression::Entity(b) = e {
+        return by_entity(n, heads, kinds, numbers, head, on, mem, f, b);
+    }
+    by_rules(
+        n,
+        heads,
+        kinds,
+        numbers,
+        words,
+        head,
+        part,
+        first,
+        named,
+        src,
+        deps,
+        on,
+        mem,
+        f,
+        e,
+    )
 }
 
 // Whether f is from e over the credentials of the pool.

@@ -144,3 +144,16 @@ add-credential P h b room z =
     ap (λ (m : ℕ). upTo m (credentialAt (added P h (rawOf b)))) (add-one (P .count))
     ∙ ap₂ (λ (l : List Credential) (x : Credential). l ++ (x ∷ [])) (upTo-same (P .count) (credentialAt (added P h (rawOf b))) (credentialAt P) (λ i l. add-other P h (rawOf b) room i l))
     (λ i. record { head = head-last P h (rawOf b) room z i; body = (ap expressionOf (raw-last P h (rawOf b) room z) ∙ expression-raw b) i })
+
+-- a pool with the credential c behind the i others
+pub record Stored (i : ℕ) (c : Credential) (P Q : Pool) : Type 0 where
+  pub sized : Sized Q
+  pub all : credentials Q ≡ credentials P ++ (c ∷ [])
+
+pub stored-of : (i : ℕ) (c : Credential) (P : Pool) (r : Raw) → i ≡ P .count → i < 128 → Sized P → r ≡ rawOf (c .body) → Stored i c P (added P (c .head) r)
+unfolding added
+stored-of i c P r q l z h =
+    record {
+      sized = record { heads = simp length-set (z .heads); kinds = simp length-set (z .kinds); numbers = simp length-set (z .numbers) };
+      all = rw h (add-credential P (c .head) (c .body) (omega arith) z);
+    }

@@ -7,9 +7,9 @@ use expression::expression_of;
 use expression::raw_of;
 ghost use mathlib.Core.Path.{_≡_};
 ghost use mathlib.Core.List.{[], _∷_, _++_};
-ghost use Prim.Native.Nat.{_<_};
+ghost use Prim.Native.Nat.{_<_, _+_};
 ghost use Rattle.rt0.specs.Pool.{poolOf, headAt, rawAtColumns, bodyAt, credentials as credentialsOf};
-ghost use Rattle.rt0.specs.Added.{added};
+ghost use Rattle.rt0.specs.Added.{Sized, Stored};
 
 // Credentials one after the other: head i at 2 i, the body's kind and part count at 2 i, its eight numbers at 8 i.
 pub struct Pool {
@@ -31,37 +31,51 @@ impl Pool {
         }
     }
 
-    // The columns with a credential behind the others.
-    fn put(mut self, head: Role, body: Raw) -> Self
-        requires { ⌜ self .count < 128 ⌝ }
-        ensures { λ r. ⌜ r ≡ added self head body ⌝ }
-    {
-        let i = self.count;
-        self.heads[i * 2] = head.entity;
-        self.heads[i * 2 + 1] = head.name;
-        self.kinds[i * 2] = body.kind;
-        self.kinds[i * 2 + 1] = body.count;
-        let at = i * 8;
-        self.numbers[at] = body.n0;
-        self.numbers[at + 1] = body.n1;
-        self.numbers[at + 2] = body.n2;
-        self.numbers[at + 3] = body.n3;
-        self.numbers[at + 4] = body.n4;
-        self.numbers[at + 5] = body.n5;
-        self.numbers[at + 6] = body.n6;
-        self.numbers[at + 7] = body.n7;
-        self.count = i + 1;
-        self
-    }
-
     pub fn add(self, c: Credential) -> Self
         requires { ⌜ self .count < 128 ⌝ }
         ensures { λ r. ⌜ credentialsOf r ≡ credentialsOf self ++ (c ∷ []) ⌝ }
     {
-        let head = c.head;
-        let body = c.body;
-        self.put(head, raw_of(body))
+        let i = self.count;
+        let mut heads = self.heads;
+        let mut kinds = self.kinds;
+        let mut numbers = self.numbers;
+        store(&mut heads, &mut kinds, &mut numbers, i, c);
+        Self {
+            count: i + 1,
+            heads,
+            kinds,
+            numbers,
+        }
     }
+}
+
+// The credential c goes into the columns as number i.
+pub fn store<'a>(
+    heads: &'a mut [u16; 256],
+    kinds: &'a mut [u8; 256],
+    numbers: &'a mut [u16; 1024],
+    i: usize,
+    c: Credential,
+)
+    requires { ⌜ (i < 128) × Sized (poolOf i (now heads) (now kinds) (now numbers)) ⌝ }
+    ensures { λ _. ⌜ Stored i c (poolOf i (now (heads .entry)) (now (kinds .entry)) (now (numbers .entry))) (poolOf (i + 1) (now (heads .exit)) (now (kinds .exit)) (now (numbers .exit))) ⌝ }
+{
+    let head = c.head;
+    let body = c.body;
+    let r = raw_of(body);
+    heads[i * 2] = head.entity;
+    heads[i * 2 + 1] = head.name;
+    kinds[i * 2] = r.kind;
+    kinds[i * 2 + 1] = r.count;
+    let at = i * 8;
+    numbers[at] = r.n0;
+    numbers[at + 1] = r.n1;
+    numbers[at + 2] = r.n2;
+    numbers[at + 3] = r.n3;
+    numbers[at + 4] = r.n4;
+    numbers[at + 5] = r.n5;
+    numbers[at + 6] = r.n6;
+    numbers[at + 7] = r.n7;
 }
 
 // The head of credential i.

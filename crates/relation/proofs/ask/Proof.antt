@@ -1,40 +1,21 @@
 use borrow.Author.Needs.{needs}
-use mathlib.Core.Path.{_≡_, refl, sym, _∙_, ap, subst}
-use mathlib.Core.Bool.{true, false}
-use Prim.Native.Nat.{ℕ, _+_, _*_, _-_, _≤_, _<_}
-use lib.ListN.{length, length-set}
-use Rattle.rt0.specs.declared.Pool.{Pool}
-use Rattle.rt0.specs.Pool.{poolOf, headAt, bodyAt}
-use Rattle.closure.specs.declared.Rules.{Rules}
-use Rattle.closure.specs.Rules.{rulesOf}
-use Rattle.relation.specs.Reached.{ask-of}
 use Rattle.relation.proofs.ask.Statement.{statement}
 use Rattle.relation.proofs.ask.Tie as tie
 
-abbrev pool : (c : tie.Start) → Pool
-pool c = poolOf (c .args .n) (c .args .heads .now) (c .args .kinds .now) (c .args .numbers .now)
+enum-known-e : tie.Need-enum-known-e
+enum-known-e c = search needs
 
-abbrev rules : (c : tie.Start) → Rules
-rules c = rulesOf (c .args .n) (c .args .words) (c .args .head .now) (c .args .part .now) (c .args .first .now) (c .args .named .now) (c .args .src .now)
-
-aim-parts-requires : tie.Need-aim-parts-requires
-aim-parts-requires c κs = search needs
-
-asked-requires : tie.Need-asked-requires
-asked-requires c κs = search needs
-
-close-requires : tie.Need-close-requires
-close-requires c κs = search needs
-
-reached-requires : tie.Need-reached-requires
-reached-requires c κs = search needs
+by-entity-requires : tie.Need-by-entity-requires
+by-entity-requires c κs = search needs
 
 returns : tie.Need-returns
-returns c =
-    ask-of (pool (c .before .before .before .before .before .before .before)) (c .before .before .before .before .before .before .before .args .on .now) (c .before .before .before .before .before .before .before .pre .0) (c .before .before .before .before .before .before .before .args .mem .now) (c .before .before .before .before .before .before .before .pre .2) (c .before .before .before .before .before .before .before .args .e) (c .before .before .before .before .before .before .before .args .f) (rules (c .before .before .before .before .before .before .before))
-    (rulesOf (c .before .before .before .before .before .before .before .args .n) 1 (c .before .before .before .before .before .before .before .args .head .now) (c .before .before .before .before .before .before .aim-parts .result) (c .before .before .before .before .before .before .before .args .first .now) (c .before .before .before .before .before .before .before .args .named .now) (c .before .before .before .before .before .before .before .args .src .now))
-    (c .before .before .before .before .before .before .before .pre .1) refl refl refl refl refl refl (c .before .before .before .before .before .before .aim-parts .ensures) (c .before .before .before .before .before .asked .result) _ (c .before .before .before .before .before .asked .ensures) (c .before .before .close .ensures) (c .reached .result) (c .reached .ensures)
+returns c = rw (c .before .before .e .given .1) (c .by-entity .ensures)
+
+by-rules-requires : tie.Need-by-rules-requires
+by-rules-requires c κs = search needs
+
+returns-2 : tie.Need-returns-2
+returns-2 c = search needs
 
 pub ask-spec : {M : Type 1} → statement M
-ask-spec =
-    tie.close (tie.spec aim-parts-requires asked-requires close-requires reached-requires returns)
+ask-spec = tie.close (tie.spec enum-known-e by-entity-requires returns by-rules-requires returns-2)

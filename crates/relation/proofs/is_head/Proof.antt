@@ -1,11 +1,27 @@
 use borrow.Author.Needs.{needs}
-use mathlib.Core.Path.{refl}
+use borrow.Author.Tests.{eq-eqb, ne-eqb}
 use Rattle.expression.specs.Same.{sameRole}
 use Rattle.relation.proofs.is_head.Statement.{statement}
 use Rattle.relation.proofs.is_head.Tie as tie
 
+mul-if1 : tie.Need-mul-if1
+mul-if1 c = search needs
+
+mul-if1-2 : tie.Need-mul-if1-2
+mul-if1-2 c = search needs
+
+element-copy-out-if1 : tie.Need-element-copy-out-if1
+element-copy-out-if1 c = search needs
+
+returns : tie.Need-returns
+unfolding sameRole
+returns c = rw (ne-eqb _ _ (c .if1 .taken))
+
 mul-result : tie.Need-mul-result
 mul-result c = search needs
+
+add-result : tie.Need-add-result
+add-result c = search needs
 
 mul-result-2 : tie.Need-mul-result-2
 mul-result-2 c = search needs
@@ -13,31 +29,20 @@ mul-result-2 c = search needs
 element-copy-out-result : tie.Need-element-copy-out-result
 element-copy-out-result c = search needs
 
-mul-result-3 : tie.Need-mul-result-3
-mul-result-3 c = search needs
-
-add-result : tie.Need-add-result
-add-result c = search needs
-
-mul-result-4 : tie.Need-mul-result-4
-mul-result-4 c = search needs
-
-element-copy-out-result-2 : tie.Need-element-copy-out-result-2
-element-copy-out-result-2 c = search needs
-
-returns : tie.Need-returns
+returns-2 : tie.Need-returns-2
 unfolding sameRole
-returns c = refl
+returns-2 c = rw (eq-eqb _ _ (c .before .before .if1 .left))
 
 pub is-head-spec : {M : Type 1} → statement M
 is-head-spec =
     tie.close
     (tie.spec
+    mul-if1
+    mul-if1-2
+    element-copy-out-if1
+    returns
     mul-result
+    add-result
     mul-result-2
     element-copy-out-result
-    mul-result-3
-    add-result
-    mul-result-4
-    element-copy-out-result-2
-    returns)
+    returns-2)

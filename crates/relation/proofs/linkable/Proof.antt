@@ -1,15 +1,11 @@
 use mathlib.Core.Path.{_≡_, refl, sym, _∙_, ap, subst}
 use mathlib.Core.Bool.{true, false}
-use Prim.Native.Nat.{ℕ, _+_, _*_, _-_, _≤_, _<_}
-use lib.ListN.{length, length-set, getD}
-use Rattle.expression.specs.declared.Role.{Role}
+use Prim.Native.Nat.{ℕ, _+_, _*_, _-_, _%_, _≤_, _<_}
+use lib.ListN.{length, length-set}
 use Rattle.rt0.specs.declared.Pool.{Pool}
 use Rattle.rt0.specs.Pool.{poolOf, headAt, bodyAt}
 use mathlib.Core.Logic.{⊎-elim}
-use borrow.Author.Tests.{not-true, not-false, ltb-true}
-use lib.Dec.{eqb, ltb}
-use Rattle.rt0.specs.Lists.{and-parts}
-use Rattle.relation.specs.Table.{bitOf}
+use borrow.Author.Tests.{not-true}
 use Rattle.relation.specs.Columns.{Able, headRow, Column}
 use Rattle.relation.specs.ColumnLaws.{able-start, able-off, able-add, able-skip, able-end}
 use native.Mathlib.Omega.{arith}
@@ -31,17 +27,8 @@ returns c = able-off (pool (c .before)) (c .before .args .lit) (c .before .args 
 loop-holds : tie.Need-loop-holds Inv-loop μ-loop
 loop-holds c = (able-start (pool (c .before)) (c .before .args .lit), omega arith)
 
-head-at-requires : tie.Need-head-at-requires Inv-loop μ-loop
-head-at-requires c κs = omega arith
-
-source-requires : tie.Need-source-requires Inv-loop μ-loop
-source-requires c κs = omega arith
-
-mul-if2 : tie.Need-mul-if2 Inv-loop μ-loop
-mul-if2 c = omega arith
-
-element-copy-out-if2 : tie.Need-element-copy-out-if2 Inv-loop μ-loop
-element-copy-out-if2 c = omega arith
+link-source-requires : tie.Need-link-source-requires Inv-loop μ-loop
+link-source-requires c κs = (c .before .before .before .pre .0, c .loop-test .taken, c .before .before .before .pre .1)
 
 mul-src : tie.Need-mul-src Inv-loop μ-loop
 mul-src c = omega arith
@@ -61,8 +48,8 @@ loop-less c = omega arith
 loop-again : tie.Need-loop-again Inv-loop μ-loop
 loop-again c = (
   ⊎-elim
-      (λ w. rw (w .1, w .2) (able-add (pool (c .before .before .before .before .before .before .before)) (c .before .before .before .before .before .before .before .pre .0) (c .before .before .before .before .before .before .before .args .lit) (c .before .before .before .before .before .loop .src) (c .before .before .before .before .before .loop .able) (c .before .before .before .before .before .loop .j) (c .before .before .source .result) (c .before .before .before .before .loop-test .taken) (c .before .before .source .ensures ∙ ap (λ (r : Role). bitOf (pool (c .before .before .before .before .before .before .before)) (r .entity)) (c .before .before .before .head-at .ensures)) (ltb-true (c .before .before .source .result) 128 (and-parts (eqb (getD (c .before .before .before .before .before .before .before .args .head .now) (c .before .before .before .before .before .loop .j) 0) (c .before .before .before .before .before .loop .j)) (ltb (c .before .before .source .result) 128) (w .0 .taken) .1)) (c .before .before .before .before .before .loop .inv .0)))
-      (λ w. rw (w .1, w .2) (able-skip (pool (c .before .before .before .before .before .before .before)) (c .before .before .before .before .before .before .before .args .lit) (c .before .before .before .before .before .loop .src) (c .before .before .before .before .before .loop .able) (c .before .before .before .before .before .loop .j) (getD (c .before .before .before .before .before .before .before .args .head .now) (c .before .before .before .before .before .loop .j) 0) (c .before .before .source .result) (c .before .before .before .before .before .before .before .pre .1 .upto (c .before .before .before .before .before .loop .j) (c .before .before .before .before .loop-test .taken)) (c .before .before .source .ensures ∙ ap (λ (r : Role). bitOf (pool (c .before .before .before .before .before .before .before)) (r .entity)) (c .before .before .before .head-at .ensures)) (c .before .before .before .before .before .before .before .pre .0) (w .0 .left) (c .before .before .before .before .before .loop .inv .0)))
+      (λ w. rw (w .1, w .2) (able-add (pool (c .before .before .before .before .before)) (c .before .before .before .before .before .pre .0) (c .before .before .before .before .before .args .lit) (c .before .before .before .loop .src) (c .before .before .before .loop .able) (c .before .before .before .loop .j) (c .before .link-source .result) (c .before .before .loop-test .taken) (c .before .link-source .ensures) (w .0 .taken) (c .before .before .before .loop .inv .0)))
+      (λ w. rw (w .1, w .2) (able-skip (pool (c .before .before .before .before .before)) (c .before .before .before .before .before .args .lit) (c .before .before .before .loop .src) (c .before .before .before .loop .able) (c .before .before .before .loop .j) (c .before .link-source .result) (c .before .link-source .ensures) (c .before .before .before .before .before .pre .0) (w .0 .left) (c .before .before .before .loop .inv .0)))
       (c .if2 .came),
   omega arith,
 )
@@ -78,10 +65,7 @@ linkable-spec =
     μ-loop
     returns
     loop-holds
-    head-at-requires
-    source-requires
-    mul-if2
-    element-copy-out-if2
+    link-source-requires
     mul-src
     array-write-src
     array-write-able

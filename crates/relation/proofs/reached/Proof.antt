@@ -1,14 +1,13 @@
 use borrow.Author.Needs.{needs}
 use mathlib.Core.Path.{_≡_, refl, sym, _∙_, ap, subst}
 use mathlib.Core.Bool.{true, false}
-use Prim.Native.Nat.{ℕ, _+_, _*_, _-_, _≤_, _<_}
+use Prim.Native.Nat.{ℕ, _+_, _*_, _-_, _%_, _≤_, _<_}
 use lib.ListN.{length, length-set}
 use Rattle.rt0.specs.declared.Pool.{Pool}
 use Rattle.rt0.specs.Pool.{poolOf, headAt, bodyAt}
 use Rattle.word.specs.Bit.{bitAt}
 use Rattle.relation.specs.Table.{atOnce}
 use Rattle.relation.specs.Reached.{ruleOf, rule-fits, rule-row, reached-of, or-given, or-once}
-use native.Mathlib.Omega.{arith}
 use native.Mathlib.Omega.{arith}
 use Rattle.relation.proofs.reached.Statement.{statement}
 use Rattle.relation.proofs.reached.Tie as tie
@@ -50,23 +49,23 @@ name-link-requires : tie.Need-name-link-requires
 name-link-requires c κs = search needs
 
 word-requires : tie.Need-word-requires
-word-requires c κs = (omega arith, omega arith, rule-fits (pool (c .before .before .before .before .before .before .before .before .before .before .before .before .before .before)) (c .before .before .before .before .before .before .before .before .before .before .before .before .before .before .pre .0) (c .before .before .before .before .before .before .before .before .before .before .before .before .before .before .args .e) (c .before .before .before .before .before .before .before .before .before .before .before .before .before .before .args .f) (c .before .before .before .before .before .before .before .before .before .before .before .before .before .before .args .head .now) (c .before .before .before .before .before .before .before .before .before .before .before .before .aim-rows .result) (c .before .before .before .before .before .before .before .before .before .before .before .first-of .result) (c .before .before .before .before .before .before .before .before .before .before .is-linked .result) (c .before .before .before .before .before .before .before .before .before .linkable .result .src) (c .before .before .before .before .before .before .before .before .before .linkable .result .able) _ (c .before .before .before .before .before .before .before .before .before .before .before .before .before .before .pre .1) (c .before .before .before .before .before .before .before .before .before .before .before .before .aim-rows .ensures) (c .before .before .before .before .before .before .before .before .before .before .before .first-of .ensures) (c .before .before .before .before .before .before .before .before .before .before .is-linked .ensures) (c .before .before .before .before .before .before .before .before .before .linkable .ensures) (c .before .before .before .before .name-link .ensures))
+word-requires c κs = (omega arith, omega arith, rule-fits (pool (c .before .before .before .before .before .before .before .before .before .before .before .before .before .before)) (c .before .before .before .before .before .before .before .before .before .before .before .before .before .before .pre .0) (c .before .before .before .before .before .before .before .before .before .before .before .before .before .before .args .e) (c .before .before .before .before .before .before .before .before .before .before .before .before .before .before .args .f) (c .before .before .before .before .before .before .before .before .before .before .before .before .before .before .args .head .now) (c .before .before .before .before .before .before .before .before .before .before .before .before .aim-rows .result) (c .before .before .before .before .before .before .before .before .before .before .before .first-of .result) (c .before .before .before .before .before .before .before .before .before .before .is-linked .result) (c .before .before .before .before .before .before .before .before .before .linkable .result .src) (c .before .before .before .before .before .before .before .before .before .linkable .result .able) _ (c .before .before .before .before .before .before .before .before .before .before .before .before .before .before .pre .2) (c .before .before .before .before .before .before .before .before .before .before .before .before .aim-rows .ensures) (c .before .before .before .before .before .before .before .before .before .before .before .first-of .ensures) (c .before .before .before .before .before .before .before .before .before .before .is-linked .ensures) (c .before .before .before .before .before .before .before .before .before .linkable .ensures) (c .before .before .before .before .name-link .ensures))
 
 test-requires : tie.Need-test-requires
 test-requires c κs = search needs
 
 returns : tie.Need-returns
 returns c =
-    reached-of (pool (c .before .before .before .before .before .before .before .before .before .before .before .before .before .before .before .before .before)) (c .before .before .before .before .before .before .before .before .before .before .before .before .before .before .before .before .before .args .mem .now) (c .before .before .before .before .before .before .before .before .before .before .before .before .before .before .before .before .before .args .vals .now) (c .before .before .before .before .before .before .before .before .before .before .before .before .before .before .before .before .before .args .e) (c .before .before .before .before .before .before .before .before .before .before .before .before .before .before .before .before .before .args .f) (ruleOf (c .before .before .before .before .before .before .before .before .before .before .before .before .before .before .before .before .before .args .n) (c .before .before .before .before .before .before .before .before .before .before .before .before .before .before .before .before .before .args .head .now) (c .before .before .before .before .before .before .before .before .before .before .before .before .before .before .before .aim-rows .result) (c .before .before .before .before .before .before .before .before .before .before .before .before .before .before .first-of .result) _ (c .before .before .before .before .before .before .before .before .before .before .before .before .linkable .result .src)) (c .before .before .word .result) true
-    (rule-row (pool (c .before .before .before .before .before .before .before .before .before .before .before .before .before .before .before .before .before)) (c .before .before .before .before .before .before .before .before .before .before .before .before .before .before .before .before .before .pre .0) (c .before .before .before .before .before .before .before .before .before .before .before .before .before .before .before .before .before .args .e) (c .before .before .before .before .before .before .before .before .before .before .before .before .before .before .before .before .before .args .f) (c .before .before .before .before .before .before .before .before .before .before .before .before .before .before .before .before .before .args .head .now) (c .before .before .before .before .before .before .before .before .before .before .before .before .before .before .before .aim-rows .result) (c .before .before .before .before .before .before .before .before .before .before .before .before .before .before .first-of .result) (c .before .before .before .before .before .before .before .before .before .before .before .before .before .is-linked .result) (c .before .before .before .before .before .before .before .before .before .before .before .before .linkable .result .src) (c .before .before .before .before .before .before .before .before .before .before .before .before .linkable .result .able) _ (c .before .before .before .before .before .before .before .before .before .before .before .before .before .before .before .before .before .pre .1) (c .before .before .before .before .before .before .before .before .before .before .before .before .before .before .before .aim-rows .ensures) (c .before .before .before .before .before .before .before .before .before .before .before .before .before .before .first-of .ensures) (c .before .before .before .before .before .before .before .before .before .before .before .before .before .is-linked .ensures) (c .before .before .before .before .before .before .before .before .before .before .before .before .linkable .ensures) (c .before .before .before .before .before .before .before .name-link .ensures)) (c .before .before .word .ensures) (or-given (atOnce (pool (c .before .before .before .before .before .before .before .before .before .before .before .before .before .before .before .before .before)) (c .before .before .before .before .before .before .before .before .before .before .before .before .before .before .before .before .before .args .mem .now) (c .before .before .before .before .before .before .before .before .before .before .before .before .before .before .before .before .before .args .e) (c .before .before .before .before .before .before .before .before .before .before .before .before .before .before .before .before .before .args .f)) (bitAt (c .before .before .word .result) 0) (sym (c .before .test .ensures) ∙ c .if1 .taken))
+    reached-of (pool (c .before .before .before .before .before .before .before .before .before .before .before .before .before .before .before .before .before)) (c .before .before .before .before .before .before .before .before .before .before .before .before .before .before .before .before .before .args .mem .now) (c .before .before .before .before .before .before .before .before .before .before .before .before .before .before .before .before .before .args .vals .now) (c .before .before .before .before .before .before .before .before .before .before .before .before .before .before .before .before .before .args .s) (c .before .before .before .before .before .before .before .before .before .before .before .before .before .before .before .before .before .args .e) (c .before .before .before .before .before .before .before .before .before .before .before .before .before .before .before .before .before .args .f) (ruleOf (c .before .before .before .before .before .before .before .before .before .before .before .before .before .before .before .before .before .args .n) (c .before .before .before .before .before .before .before .before .before .before .before .before .before .before .before .before .before .args .head .now) (c .before .before .before .before .before .before .before .before .before .before .before .before .before .before .before .aim-rows .result) (c .before .before .before .before .before .before .before .before .before .before .before .before .before .before .first-of .result) _ (c .before .before .before .before .before .before .before .before .before .before .before .before .linkable .result .src)) (c .before .before .word .result) true
+    (rule-row (pool (c .before .before .before .before .before .before .before .before .before .before .before .before .before .before .before .before .before)) (c .before .before .before .before .before .before .before .before .before .before .before .before .before .before .before .before .before .pre .0) (c .before .before .before .before .before .before .before .before .before .before .before .before .before .before .before .before .before .args .e) (c .before .before .before .before .before .before .before .before .before .before .before .before .before .before .before .before .before .args .f) (c .before .before .before .before .before .before .before .before .before .before .before .before .before .before .before .before .before .args .head .now) (c .before .before .before .before .before .before .before .before .before .before .before .before .before .before .before .aim-rows .result) (c .before .before .before .before .before .before .before .before .before .before .before .before .before .before .first-of .result) (c .before .before .before .before .before .before .before .before .before .before .before .before .before .is-linked .result) (c .before .before .before .before .before .before .before .before .before .before .before .before .linkable .result .src) (c .before .before .before .before .before .before .before .before .before .before .before .before .linkable .result .able) _ (c .before .before .before .before .before .before .before .before .before .before .before .before .before .before .before .before .before .pre .2) (c .before .before .before .before .before .before .before .before .before .before .before .before .before .before .before .aim-rows .ensures) (c .before .before .before .before .before .before .before .before .before .before .before .before .before .before .first-of .ensures) (c .before .before .before .before .before .before .before .before .before .before .before .before .before .is-linked .ensures) (c .before .before .before .before .before .before .before .before .before .before .before .before .linkable .ensures) (c .before .before .before .before .before .before .before .name-link .ensures)) (c .before .before .word .ensures) (or-given (atOnce (pool (c .before .before .before .before .before .before .before .before .before .before .before .before .before .before .before .before .before)) (c .before .before .before .before .before .before .before .before .before .before .before .before .before .before .before .before .before .args .mem .now) (c .before .before .before .before .before .before .before .before .before .before .before .before .before .before .before .before .before .args .e) (c .before .before .before .before .before .before .before .before .before .before .before .before .before .before .before .before .before .args .f)) (bitAt (c .before .before .word .result) (c .before .before .before .before .before .before .before .before .before .before .before .before .before .before .before .before .before .args .s % 64)) (sym (c .before .test .ensures) ∙ c .if1 .taken))
 
 once-requires : tie.Need-once-requires
 once-requires c κs = search needs
 
 returns-2 : tie.Need-returns-2
 returns-2 c =
-    reached-of (pool (c .before .before .before .before .before .before .before .before .before .before .before .before .before .before .before .before .before .before)) (c .before .before .before .before .before .before .before .before .before .before .before .before .before .before .before .before .before .before .args .mem .now) (c .before .before .before .before .before .before .before .before .before .before .before .before .before .before .before .before .before .before .args .vals .now) (c .before .before .before .before .before .before .before .before .before .before .before .before .before .before .before .before .before .before .args .e) (c .before .before .before .before .before .before .before .before .before .before .before .before .before .before .before .before .before .before .args .f) (ruleOf (c .before .before .before .before .before .before .before .before .before .before .before .before .before .before .before .before .before .before .args .n) (c .before .before .before .before .before .before .before .before .before .before .before .before .before .before .before .before .before .before .args .head .now) (c .before .before .before .before .before .before .before .before .before .before .before .before .before .before .before .before .aim-rows .result) (c .before .before .before .before .before .before .before .before .before .before .before .before .before .before .before .first-of .result) _ (c .before .before .before .before .before .before .before .before .before .before .before .before .before .linkable .result .src)) (c .before .before .before .word .result) (c .once .result)
-    (rule-row (pool (c .before .before .before .before .before .before .before .before .before .before .before .before .before .before .before .before .before .before)) (c .before .before .before .before .before .before .before .before .before .before .before .before .before .before .before .before .before .before .pre .0) (c .before .before .before .before .before .before .before .before .before .before .before .before .before .before .before .before .before .before .args .e) (c .before .before .before .before .before .before .before .before .before .before .before .before .before .before .before .before .before .before .args .f) (c .before .before .before .before .before .before .before .before .before .before .before .before .before .before .before .before .before .before .args .head .now) (c .before .before .before .before .before .before .before .before .before .before .before .before .before .before .before .before .aim-rows .result) (c .before .before .before .before .before .before .before .before .before .before .before .before .before .before .before .first-of .result) (c .before .before .before .before .before .before .before .before .before .before .before .before .before .before .is-linked .result) (c .before .before .before .before .before .before .before .before .before .before .before .before .before .linkable .result .src) (c .before .before .before .before .before .before .before .before .before .before .before .before .before .linkable .result .able) _ (c .before .before .before .before .before .before .before .before .before .before .before .before .before .before .before .before .before .before .pre .1) (c .before .before .before .before .before .before .before .before .before .before .before .before .before .before .before .before .aim-rows .ensures) (c .before .before .before .before .before .before .before .before .before .before .before .before .before .before .before .first-of .ensures) (c .before .before .before .before .before .before .before .before .before .before .before .before .before .before .is-linked .ensures) (c .before .before .before .before .before .before .before .before .before .before .before .before .before .linkable .ensures) (c .before .before .before .before .before .before .before .before .name-link .ensures)) (c .before .before .before .word .ensures) (or-once (atOnce (pool (c .before .before .before .before .before .before .before .before .before .before .before .before .before .before .before .before .before .before)) (c .before .before .before .before .before .before .before .before .before .before .before .before .before .before .before .before .before .before .args .mem .now) (c .before .before .before .before .before .before .before .before .before .before .before .before .before .before .before .before .before .before .args .e) (c .before .before .before .before .before .before .before .before .before .before .before .before .before .before .before .before .before .before .args .f)) (bitAt (c .before .before .before .word .result) 0) (c .once .result) (sym (c .before .before .test .ensures) ∙ c .before .if1 .left) (c .once .ensures))
+    reached-of (pool (c .before .before .before .before .before .before .before .before .before .before .before .before .before .before .before .before .before .before)) (c .before .before .before .before .before .before .before .before .before .before .before .before .before .before .before .before .before .before .args .mem .now) (c .before .before .before .before .before .before .before .before .before .before .before .before .before .before .before .before .before .before .args .vals .now) (c .before .before .before .before .before .before .before .before .before .before .before .before .before .before .before .before .before .before .args .s) (c .before .before .before .before .before .before .before .before .before .before .before .before .before .before .before .before .before .before .args .e) (c .before .before .before .before .before .before .before .before .before .before .before .before .before .before .before .before .before .before .args .f) (ruleOf (c .before .before .before .before .before .before .before .before .before .before .before .before .before .before .before .before .before .before .args .n) (c .before .before .before .before .before .before .before .before .before .before .before .before .before .before .before .before .before .before .args .head .now) (c .before .before .before .before .before .before .before .before .before .before .before .before .before .before .before .before .aim-rows .result) (c .before .before .before .before .before .before .before .before .before .before .before .before .before .before .before .first-of .result) _ (c .before .before .before .before .before .before .before .before .before .before .before .before .before .linkable .result .src)) (c .before .before .before .word .result) (c .once .result)
+    (rule-row (pool (c .before .before .before .before .before .before .before .before .before .before .before .before .before .before .before .before .before .before)) (c .before .before .before .before .before .before .before .before .before .before .before .before .before .before .before .before .before .before .pre .0) (c .before .before .before .before .before .before .before .before .before .before .before .before .before .before .before .before .before .before .args .e) (c .before .before .before .before .before .before .before .before .before .before .before .before .before .before .before .before .before .before .args .f) (c .before .before .before .before .before .before .before .before .before .before .before .before .before .before .before .before .before .before .args .head .now) (c .before .before .before .before .before .before .before .before .before .before .before .before .before .before .before .before .aim-rows .result) (c .before .before .before .before .before .before .before .before .before .before .before .before .before .before .before .first-of .result) (c .before .before .before .before .before .before .before .before .before .before .before .before .before .before .is-linked .result) (c .before .before .before .before .before .before .before .before .before .before .before .before .before .linkable .result .src) (c .before .before .before .before .before .before .before .before .before .before .before .before .before .linkable .result .able) _ (c .before .before .before .before .before .before .before .before .before .before .before .before .before .before .before .before .before .before .pre .2) (c .before .before .before .before .before .before .before .before .before .before .before .before .before .before .before .before .aim-rows .ensures) (c .before .before .before .before .before .before .before .before .before .before .before .before .before .before .before .first-of .ensures) (c .before .before .before .before .before .before .before .before .before .before .before .before .before .before .is-linked .ensures) (c .before .before .before .before .before .before .before .before .before .before .before .before .before .linkable .ensures) (c .before .before .before .before .before .before .before .before .name-link .ensures)) (c .before .before .before .word .ensures) (or-once (atOnce (pool (c .before .before .before .before .before .before .before .before .before .before .before .before .before .before .before .before .before .before)) (c .before .before .before .before .before .before .before .before .before .before .before .before .before .before .before .before .before .before .args .mem .now) (c .before .before .before .before .before .before .before .before .before .before .before .before .before .before .before .before .before .before .args .e) (c .before .before .before .before .before .before .before .before .before .before .before .before .before .before .before .before .before .before .args .f)) (bitAt (c .before .before .before .word .result) (c .before .before .before .before .before .before .before .before .before .before .before .before .before .before .before .before .before .before .args .s % 64)) (c .once .result) (sym (c .before .before .test .ensures) ∙ c .before .if1 .left) (c .once .ensures))
 
 pub reached-spec : {M : Type 1} → statement M
 reached-spec =

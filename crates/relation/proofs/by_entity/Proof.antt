@@ -1,0 +1,32 @@
+use borrow.Author.Needs.{needs}
+use mathlib.Core.Path.{_≡_, refl, sym, _∙_, ap, subst}
+use mathlib.Core.Bool.{true, false}
+use Prim.Native.Nat.{ℕ, _+_, _*_, _-_, _%_, _≤_, _<_}
+use lib.ListN.{length, length-set}
+use Rattle.rt0.specs.declared.Pool.{Pool}
+use Rattle.rt0.specs.Pool.{poolOf, headAt, bodyAt}
+use Rattle.relation.specs.Reached.{entity-of, alone-of}
+use Rattle.relation.proofs.by_entity.Statement.{statement}
+use Rattle.relation.proofs.by_entity.Tie as tie
+
+abbrev pool : (c : tie.Start) → Pool
+pool c = poolOf (c .args .n) (c .args .heads .now) (c .args .kinds .now) (c .args .numbers .now)
+
+source-requires : tie.Need-source-requires
+source-requires c κs = search needs
+
+same-requires : tie.Need-same-requires
+same-requires c κs = search needs
+
+returns : tie.Need-returns
+returns c = alone-of (pool (c .before .before .before)) (c .before .before .before .args .on .now) (c .before .before .before .pre .0) (c .before .before .before .args .mem .now) (c .before .before .before .pre .2) (c .before .before .before .args .b) (c .before .before .source .result) (c .before .before .before .args .f) (c .same .result) (c .before .before .source .ensures) (c .before .if1 .taken) (c .same .ensures)
+
+reached-requires : tie.Need-reached-requires
+reached-requires c κs = search needs
+
+returns-2 : tie.Need-returns-2
+returns-2 c = entity-of (pool (c .before .before .before)) (c .before .before .before .args .on .now) (c .before .before .before .pre .0) (c .before .before .before .args .mem .now) (c .before .before .before .pre .2) (c .before .before .before .args .b) (c .before .before .source .result) (c .before .before .before .args .f) (c .reached .result) (c .before .before .source .ensures) (c .before .if1 .left) (c .reached .ensures)
+
+pub by-entity-spec : {M : Type 1} → statement M
+by-entity-spec =
+    tie.close (tie.spec source-requires same-requires returns reached-requires returns-2)
