@@ -5,7 +5,6 @@ use mathlib.Core.Logic.{_⊎_, inl, inr, ⊎-elim}
 use mathlib.Core.Bool.{Bool, true, false, cond}
 use mathlib.Core.List.{List, [], _∷_, _++_}
 use native.Mathlib.Omega.{arith}
-use native.Mathlib.Numerals.{add-one}
 use borrow.Author.Tests.{lt-ltb, le-ltb, ltb-false, eq-eqb, ne-eqb}
 use lib.Dec.{ltb, eqb}
 use lib.ListN.{length, getD, length-append}
@@ -18,7 +17,7 @@ use Rattle.rt0.specs.Pool.{credentials, credentialAt, upTo}
 use Rattle.engine.specs.declared.Step.{Step}
 use Rattle.engine.specs.declared.Step.the-variants.{Taken, End, Refused}
 use Rattle.engine.specs.declared.Listing.{Listing}
-use Rattle.engine.specs.Sizes.{commandSize, listSize}
+use Rattle.engine.specs.Sizes.{commandSize, credentialsMost, listSize}
 use Rattle.engine.specs.Credentials.{taken, credentialStep, endStep, commandStep, stepAt, Listed, refused, listed, after, listFrom, credentialsOf, listedOf}
 
 -- The command at an index
@@ -143,7 +142,7 @@ listed-refused l h = ap (λ (t : Bool). cond t (listed (credentials (l .pool))) 
 
 -- a listing says what the bytes mean, and its pool has at most 64 credentials
 abbrev Lists : List ℕ → Listing → Type 0
-Lists s l = (listedOf l ≡ credentialsOf s) × (l .pool .count ≤ 64)
+Lists s l = (listedOf l ≡ credentialsOf s) × (l .pool .count ≤ credentialsMost)
 
 abbrev listing : ℕ → Pool → Listing
 listing k P = record { refusal = k; pool = P }
@@ -169,7 +168,7 @@ reading-start s P h =
     }
 
 -- a list of at most 1,473 bytes has at most 64 credentials
-pub reading-few : {s : List ℕ} {P : Pool} {at : ℕ} → Reading s P at → length s ≤ listSize → P .count ≤ 64
+pub reading-few : {s : List ℕ} {P : Pool} {at : ℕ} → Reading s P at → length s ≤ listSize → P .count ≤ credentialsMost
 reading-few r h = omega (arith, r .counted, r .inside)
 
 module _ {s : List ℕ} {P : Pool} {at : ℕ} (r : Reading s P at) (more : at < length s) where
