@@ -5,8 +5,7 @@ use mathlib.Core.Logic.{_⊎_, inl, inr, ⊎-elim}
 use mathlib.Core.Bool.{Bool, true, false, cond}
 use mathlib.Core.List.{List, [], _∷_, _++_}
 use native.Mathlib.Omega.{arith}
-use native.Mathlib.Numerals.{add-one}
-use borrow.Author.Tests.{lt-ltb, le-ltb, ltb-false, eq-eqb, ne-eqb}
+use borrow.Author.Tests.{lt-ltb, le-ltb, ltb-false, eq-eqb, eqb-true, ne-eqb}
 use lib.Dec.{ltb, eqb}
 use lib.ListN.{length, getD, length-append}
 use Rattle.expression.specs.declared.Credential.{Credential}
@@ -18,7 +17,7 @@ use Rattle.rt0.specs.Pool.{credentials, credentialAt, upTo}
 use Rattle.engine.specs.declared.Step.{Step}
 use Rattle.engine.specs.declared.Step.the-variants.{Taken, End, Refused}
 use Rattle.engine.specs.declared.Listing.{Listing}
-use Rattle.engine.specs.Sizes.{commandSize, listSize}
+use Rattle.engine.specs.Sizes.{commandSize, credentialsMost, listSize}
 use Rattle.engine.specs.Credentials.{taken, credentialStep, endStep, commandStep, stepAt, Listed, refused, listed, after, listFrom, credentialsOf, listedOf}
 
 -- The command at an index
@@ -55,41 +54,52 @@ unknown s at code h k = sym (simp (ne-eqb code 1 h, ne-eqb code 6 k))
 abbrev pub Refusal : ℕ → Type 0
 Refusal k = (k ≡ 2) ⊎ (k ≡ 3)
 
--- a credential ends within the bytes, and a refusal is 2 or 3
+-- what is known where a step was found: of a credential and of the end that they stand there, and that a refusal is 2 or 3
 abbrev Sure : List ℕ → ℕ → Step → Type 0
-Sure s at (Taken c) = at + commandSize ≤ length s
-Sure s at End = Unit {0}
+Sure s at (Taken c) = (at + commandSize ≤ length s) × (getD s at 0 ≡ 1) × (readCredential s (at + 1) ≡ a.Read c)
+Sure s at End = (at + 1 ≡ length s) × (getD s at 0 ≡ 6)
 Sure s at (Refused k) = Refusal k
 
-sure-cond : (s : List ℕ) (at : ℕ) (t : Bool) (p q : Step) → Sure s at p → Sure s at q → Sure s at (cond t p q)
-sure-cond s at true p q h k = h
-sure-cond s at false p q h k = k
-
-sure-taken : (s : List ℕ) (at : ℕ) (r : CredentialAnswer) → at + commandSize ≤ length s → Sure s at (taken r)
-sure-taken s at (a.Read c) h = h
-sure-taken s at a.Wrong h = inr refl
-
-sure-credential : (s : List ℕ) (at : ℕ) → Sure s at (credentialStep s at)
+sure-credential : (s : List ℕ) (at : ℕ) → getD s at 0 ≡ 1 → Sure s at (credentialStep s at)
 unfolding credentialStep
-sure-credential s at = go (ltb (length s - at) commandSize) refl
+sure-credential s at code = go (ltb (length s - at) commandSize) (readCredential s (at + 1)) refl refl
   where
-    go : (t : Bool) → ltb (length s - at) commandSize ≡ t → Sure s at (cond t (Refused 2) (taken (readCredential s (at + 1))))
-    go true h = inl refl
-    go false h = sure-taken s at (readCredential s (at + 1)) (omega (arith, ltb-false (length s - at) commandSize h))
+    go : (t : Bool) (r : CredentialAnswer) → ltb (length s - at) commandSize ≡ t → readCredential s (at + 1) ≡ r → Sure s at (cond t (Refused 2) (taken r))
+    go true r h q = inl refl
+    go false (a.Read c) h q = (omega (arith, ltb-false (length s - at) commandSize h), code, q)
+    go false a.Wrong h q = inr refl
+
+sure-end : (s : List ℕ) (at : ℕ) → getD s at 0 ≡ 6 → Sure s at (endStep s at)
+unfolding endStep
+sure-end s at code = go (eqb (at + 1) (length s)) refl
+  where
+    go : (t : Bool) → eqb (at + 1) (length s) ≡ t → Sure s at (cond t End (Refused 2))
+    go true h = (eqb-true (at + 1) (length s) h, code)
+    go false h = inl refl
+
+sure-command : (s : List ℕ) (at code : ℕ) → getD s at 0 ≡ code → Sure s at (commandStep s at code)
+sure-command s at code e = go (eqb code 1) (eqb code 6) refl refl
+  where
+    go : (t u : Bool) → eqb code 1 ≡ t → eqb code 6 ≡ u → Sure s at (cond t (credentialStep s at) (cond u (endStep s at) (Refused 2)))
+    go true u h k = sure-credential s at (e ∙ eqb-true code 1 h)
+    go false true h k = sure-end s at (e ∙ eqb-true code 6 k)
+    go false false h k = inl refl
 
 sure : (s : List ℕ) (at : ℕ) → Sure s at (stepAt s at)
-unfolding stepAt endStep
-sure s at =
-    let two : Sure s at (Refused 2) = inl refl in
-    let code : ℕ = getD s at 0 in
-    sure-cond s at (ltb at (length s)) (commandStep s at code) (Refused 2)
-    (sure-cond s at (eqb code 1) (credentialStep s at) _ (sure-credential s at)
-    (sure-cond s at (eqb code 6) (endStep s at) (Refused 2) (sure-cond s at (eqb (at + 1) (length s)) End (Refused 2) tt two) two))
-    two
+unfolding stepAt
+sure s at = go (ltb at (length s))
+  where
+    go : (t : Bool) → Sure s at (cond t (commandStep s at (getD s at 0)) (Refused 2))
+    go true = sure-command s at (getD s at 0) refl
+    go false = inl refl
 
--- a credential that was taken ends within the bytes
-pub taken-fits : (s : List ℕ) (at : ℕ) (c : Credential) → stepAt s at ≡ Taken c → at + commandSize ≤ length s
-taken-fits s at c h = subst (Sure s at) h (sure s at)
+-- a credential that was taken stands there, whole
+pub taken-sure : (s : List ℕ) (at : ℕ) (c : Credential) → stepAt s at ≡ Taken c → (at + commandSize ≤ length s) × (getD s at 0 ≡ 1) × (readCredential s (at + 1) ≡ a.Read c)
+taken-sure s at c h = subst (Sure s at) h (sure s at)
+
+-- an end that was found stands last
+pub end-sure : (s : List ℕ) (at : ℕ) → stepAt s at ≡ End → (at + 1 ≡ length s) × (getD s at 0 ≡ 6)
+end-sure s at h = subst (Sure s at) h (sure s at)
 
 -- a command is refused 2 or 3
 pub step-refusal : (s : List ℕ) (at k : ℕ) → stepAt s at ≡ Refused k → Refusal k
@@ -143,7 +153,7 @@ listed-refused l h = ap (λ (t : Bool). cond t (listed (credentials (l .pool))) 
 
 -- a listing says what the bytes mean, and its pool has at most 64 credentials
 abbrev Lists : List ℕ → Listing → Type 0
-Lists s l = (listedOf l ≡ credentialsOf s) × (l .pool .count ≤ 64)
+Lists s l = (listedOf l ≡ credentialsOf s) × (l .pool .count ≤ credentialsMost)
 
 abbrev listing : ℕ → Pool → Listing
 listing k P = record { refusal = k; pool = P }
@@ -169,7 +179,7 @@ reading-start s P h =
     }
 
 -- a list of at most 1,473 bytes has at most 64 credentials
-pub reading-few : {s : List ℕ} {P : Pool} {at : ℕ} → Reading s P at → length s ≤ listSize → P .count ≤ 64
+pub reading-few : {s : List ℕ} {P : Pool} {at : ℕ} → Reading s P at → length s ≤ listSize → P .count ≤ credentialsMost
 reading-few r h = omega (arith, r .counted, r .inside)
 
 module _ {s : List ℕ} {P : Pool} {at : ℕ} (r : Reading s P at) (more : at < length s) where
@@ -188,7 +198,7 @@ module _ {s : List ℕ} {P : Pool} {at : ℕ} (r : Reading s P at) (more : at < 
       let one : Q .count ≡ P .count + 1 = sym (count-length Q) ∙ ap length q ∙ length-append (credentials P) (c ∷ []) ∙ ap (λ (n : ℕ). n + 1) (count-length P) in
       record {
         counted = omega (arith, r .counted);
-        inside = taken-fits s at c h;
+        inside = taken-sure s at c h .0;
         fuel = t .0;
         enough = omega (arith, r .enough, t .1);
         rest = t .2 ∙ ap (listFrom (t .0) s (at + commandSize)) (sym q);

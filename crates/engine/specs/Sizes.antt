@@ -5,7 +5,10 @@ use Prim.Native.Nat.{ℕ}
 abbrev pub commandSize : ℕ
 commandSize = 23
 
--- 64 credential commands and an end
+abbrev pub credentialsMost : ℕ
+credentialsMost = 64
+
+-- that many credential commands and an end
 abbrev pub listSize : ℕ
 listSize = 1473
 

@@ -1,5 +1,7 @@
 // The credential list of an RT0 question.
+use crate::COMMAND;
 use crate::Listing;
+use crate::OPERAND;
 use crate::Step;
 use expression::CredentialAnswer;
 use expression::read_credential;
@@ -7,20 +9,22 @@ use rt0::Pool;
 ghost use mathlib.Core.Path.{_≡_};
 ghost use Prim.Native.Nat.{_≤_, _<_};
 ghost use lib.ListN.{length};
+ghost use Rattle.engine.specs.Sizes.{credentialsMost, listSize};
 ghost use Rattle.engine.specs.Credentials.{credentialStep, endStep, stepAt, credentialsOf, listedOf};
 
-// A credential command and its operands.
+// 0x01 and the 22 bytes of a credential.
 const COMMAND_SIZE: usize = 23;
 
+// A credential; a cut command is refused before its operands are looked at.
 fn credential_step(s: &[u8], at: usize) -> Step
     requires { ⌜ at < length (now s) ⌝ }
     ensures { λ r. ⌜ r ≡ credentialStep (now (s .entry)) at ⌝ }
 {
     if s.len() - at < COMMAND_SIZE {
-        return Step::Refused(2);
+        return Step::Refused(COMMAND);
     }
     let CredentialAnswer::Read(c) = read_credential(s, at + 1) else {
-        return Step::Refused(3);
+        return Step::Refused(OPERAND);
     };
     Step::Taken(c)
 }
@@ -33,10 +37,11 @@ fn end_step(s: &[u8], at: usize) -> Step
     if at + 1 == s.len() {
         Step::End
     } else {
-        Step::Refused(2)
+        Step::Refused(COMMAND)
     }
 }
 
+// The command at an index of the list.
 fn step(s: &[u8], at: usize) -> Step
     requires { ⌜ at < length (now s) ⌝ }
     ensures { λ r. ⌜ r ≡ stepAt (now (s .entry)) at ⌝ }
@@ -45,13 +50,14 @@ fn step(s: &[u8], at: usize) -> Step
     match code {
         1 => credential_step(s, at),
         6 => end_step(s, at),
-        _ => Step::Refused(2),
+        _ => Step::Refused(COMMAND),
     }
 }
 
+// The commands are read left to right, and the first that cannot be taken ends the reading.
 pub fn list(s: &[u8]) -> Listing
-    requires { ⌜ length (now s) ≤ 1473 ⌝ }
-    ensures { λ r. ⌜ (listedOf r ≡ credentialsOf (now (s .entry))) × (r .pool .count ≤ 64) ⌝ }
+    requires { ⌜ length (now s) ≤ listSize ⌝ }
+    ensures { λ r. ⌜ (listedOf r ≡ credentialsOf (now (s .entry))) × (r .pool .count ≤ credentialsMost) ⌝ }
 {
     let mut pool = Pool::empty();
     let mut at = 0;
@@ -65,5 +71,8 @@ pub fn list(s: &[u8]) -> Listing
             Step::Refused(k) => return Listing { refusal: k, pool },
         }
     }
-    Listing { refusal: 2, pool }
+    Listing {
+        refusal: COMMAND,
+        pool,
+    }
 }
