@@ -6,6 +6,7 @@ use crate::Step;
 use expression::CredentialAnswer;
 use expression::read_credential;
 use rt0::Pool;
+use rt0::store;
 ghost use mathlib.Core.Path.{_≡_};
 ghost use Prim.Native.Nat.{_≤_, _<_};
 ghost use lib.ListN.{length};
@@ -59,20 +60,49 @@ pub fn list(s: &[u8]) -> Listing
     requires { ⌜ length (now s) ≤ listSize ⌝ }
     ensures { λ r. ⌜ (listedOf r ≡ credentialsOf (now (s .entry))) × (r .pool .count ≤ credentialsMost) ⌝ }
 {
-    let mut pool = Pool::empty();
+    let mut heads = [0u16; 256];
+    let mut kinds = [0u8; 256];
+    let mut numbers = [0u16; 1024];
+    let mut count = 0;
     let mut at = 0;
     while at < s.len() {
         match step(s, at) {
             Step::Taken(c) => {
-                pool = pool.add(c);
+                store(&mut heads, &mut kinds, &mut numbers, count, c);
+                count += 1;
                 at += COMMAND_SIZE;
             }
-            Step::End => return Listing { refusal: 0, pool },
-            Step::Refused(k) => return Listing { refusal: k, pool },
+            Step::End => {
+                return Listing {
+                    refusal: 0,
+                    pool: Pool {
+                        count,
+                        heads,
+                        kinds,
+                        numbers,
+                    },
+                };
+            }
+            Step::Refused(k) => {
+                return Listing {
+                    refusal: k,
+                    pool: Pool {
+                        count,
+                        heads,
+                        kinds,
+                        numbers,
+                    },
+                };
+            }
         }
     }
     Listing {
         refusal: COMMAND,
-        pool,
+        pool: Pool {
+            count,
+            heads,
+            kinds,
+            numbers,
+        },
     }
 }

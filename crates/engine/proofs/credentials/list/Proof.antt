@@ -1,23 +1,24 @@
-use mathlib.Core.Path.{sym, _∙_}
-use Prim.Native.Nat.{_-_}
-use native.Mathlib.Omega.{arith}
 use borrow.Author.Needs.{needs}
-use lib.ListN.{length}
+use mathlib.Core.Path.{refl, sym, _∙_}
+use mathlib.Core.List.{[]}
+use Prim.Native.Nat.{ℕ, _-_, _≤_}
+use lib.ListN.{length, length-replicate}
+use Rattle.rt0.specs.Pool.{poolOf, credentials}
+use Rattle.rt0.specs.Added.{Sized}
 use Rattle.engine.specs.CredentialsLaws.{Reading, reading-start, reading-few, reading-next, list-end, list-refused, list-past}
+use native.Mathlib.Omega.{arith}
 use Rattle.engine.proofs.credentials.list.Statement.{statement}
 use Rattle.engine.proofs.credentials.list.Tie as tie
 
 abbrev Inv-loop : tie.InvT-loop
-Inv-loop s pool₀ at₀ pool at = Reading s pool at
+Inv-loop s heads₀ kinds₀ numbers₀ count₀ at₀ heads kinds numbers count at = Reading s (poolOf count heads kinds numbers) at × Sized (poolOf count heads kinds numbers)
 
 abbrev μ-loop : tie.MeasureT-loop
-μ-loop s pool₀ at₀ pool at = length s - at
-
-empty-requires : tie.Need-empty-requires Inv-loop μ-loop
-empty-requires c κs = search needs
+μ-loop s heads₀ kinds₀ numbers₀ count₀ at₀ heads kinds numbers count at = length s - at
 
 loop-holds : tie.Need-loop-holds Inv-loop μ-loop
-loop-holds c = reading-start _ _ (c .empty .ensures)
+unfolding credentials
+loop-holds c = (reading-start _ _ refl, record { heads = length-replicate {A = ℕ} 256 0; kinds = length-replicate {A = ℕ} 256 0; numbers = length-replicate {A = ℕ} 1024 0 })
 
 step-requires : tie.Need-step-requires Inv-loop μ-loop
 step-requires c κs = search needs
@@ -25,8 +26,11 @@ step-requires c κs = search needs
 enum-known-c : tie.Need-enum-known-c Inv-loop μ-loop
 enum-known-c c = search needs
 
-add-requires : tie.Need-add-requires Inv-loop μ-loop
-add-requires c κs = omega (arith, reading-few (c .before .before .before .before .before .loop .inv) (c .before .before .before .before .before .before .before .before .pre))
+store-requires : tie.Need-store-requires Inv-loop μ-loop
+store-requires c κs = (omega (arith, reading-few (c .before .before .before .before .before .before .before .before .loop .inv .0) (c .before .before .before .before .before .before .before .before .before .before .pre)), c .before .before .before .before .before .before .before .before .loop .inv .1)
+
+add-count : tie.Need-add-count Inv-loop μ-loop
+add-count c = omega (arith, reading-few (c .before .before .before .before .before .before .before .before .before .loop .inv .0) (c .before .before .before .before .before .before .before .before .before .before .before .pre))
 
 add-at : tie.Need-add-at Inv-loop μ-loop
 add-at c = search needs
@@ -35,22 +39,22 @@ loop-less : tie.Need-loop-less Inv-loop μ-loop
 loop-less c = omega arith
 
 loop-again : tie.Need-loop-again Inv-loop μ-loop
-loop-again c = reading-next (c .before .before .before .before .before .before .loop .inv) (c .before .before .before .before .before .loop-test .taken) (sym (c .before .before .before .before .step .ensures) ∙ c .before .before .c .given .1) (c .add .ensures)
+loop-again c = (reading-next (c .before .before .before .before .before .before .before .before .before .loop .inv .0) (c .before .before .before .before .before .before .before .before .loop-test .taken) (sym (c .before .before .before .before .before .before .before .step .ensures) ∙ c .before .before .before .before .before .c .given .1) (c .store .ensures .all), c .store .ensures .sized)
 
 enum-told : tie.Need-enum-told Inv-loop μ-loop
 enum-told c = search needs
 
 returns : tie.Need-returns Inv-loop μ-loop
-returns c = list-end (c .before .before .before .before .loop .inv) (c .before .before .before .loop-test .taken) (sym (c .before .before .step .ensures) ∙ c .enum-told .given .1) (c .before .before .before .before .before .before .before .pre)
+returns c = list-end (c .before .before .before .before .loop .inv .0) (c .before .before .before .loop-test .taken) (sym (c .before .before .step .ensures) ∙ c .enum-told .given .1) (c .before .before .before .before .before .before .pre)
 
 enum-known-k : tie.Need-enum-known-k Inv-loop μ-loop
 enum-known-k c = search needs
 
 returns-2 : tie.Need-returns-2 Inv-loop μ-loop
-returns-2 c = list-refused (c .before .before .before .before .before .loop .inv) (c .before .before .before .before .loop-test .taken) (sym (c .before .before .before .step .ensures) ∙ c .before .k .given .1) (c .before .before .before .before .before .before .before .before .pre)
+returns-2 c = list-refused (c .before .before .before .before .before .loop .inv .0) (c .before .before .before .before .loop-test .taken) (sym (c .before .before .before .step .ensures) ∙ c .before .k .given .1) (c .before .before .before .before .before .before .before .pre)
 
 returns-3 : tie.Need-returns-3 Inv-loop μ-loop
-returns-3 c = list-past (c .before .loop .inv) (c .loop-test .left) (c .before .before .before .before .pre)
+returns-3 c = list-past (c .before .loop .inv .0) (c .loop-test .left) (c .before .before .before .pre)
 
 pub list-spec : {M : Type 1} → statement M
 list-spec =
@@ -58,11 +62,11 @@ list-spec =
     (tie.spec
     Inv-loop
     μ-loop
-    empty-requires
     loop-holds
     step-requires
     enum-known-c
-    add-requires
+    store-requires
+    add-count
     add-at
     loop-less
     loop-again
