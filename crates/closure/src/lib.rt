@@ -30,6 +30,19 @@ pub struct Dirty {
     pub hi: u64,
 }
 
+// Rules to be run in this round and in the next.
+pub struct Todo {
+    pub lo: u64,
+    pub hi: u64,
+    pub later_lo: u64,
+    pub later_hi: u64,
+}
+
+pub struct Choice {
+    pub rule: usize,
+    pub todo: Todo,
+}
+
 // Bit s of row r.
 pub fn bit<'a>(rows: &'a [u64; 260], r: usize, s: usize) -> bool
     requires { ⌜ (r < 130) × (s < 128) ⌝ }
@@ -280,6 +293,7 @@ fn read_word<'a>(named: u64, base: usize, i: usize, rows: &'a mut [u64; 260])
         let j = lowest(m);
         m = without(m, j);
         mark(rows, base + j, i);
+        mark(rows, 129, i);
     }
 }
 
@@ -304,7 +318,7 @@ fn read_rule<'a>(
     }
 }
 
-// Which rules read each row: bit i of row r. It only says where to look first, and no closure leans on it.
+// Which rules read each row: bit i of row r; row 129 has the rules that name rows. It only says where to look first, and no closure leans on it.
 pub fn readers<'a>(
     n: usize,
     part: &'a [usize; 512],
@@ -323,114 +337,99 @@ pub fn readers<'a>(
     d
 }
 
-// The rules base + j, for each j in todo, once: the rules that read the rows that grew.
-fn sweep<'a>(
-    n: usize,
-    words: usize,
-    head: &'a [usize; 128],
-    part: &'a [usize; 512],
-    first: &'a [usize; 128],
-    named: &'a [u64; 260],
-    src: &'a [usize; 128],
-    on: &'a [u8; 128],
-    mem: &'a [u64; 260],
-    own: bool,
-    deps: &'a [u64; 260],
-    todo: u64,
-    base: usize,
-    rows: &'a mut [u64; 260],
-) -> Dirty
-    requires { ⌜ (base ≤ 64) × Fits (rulesOf n words (now head) (now part) (now first) (now named) (now src)) × (length (now rows) ≡ 260) ⌝ }
-    ensures { λ r. ⌜ Grown (rulesOf n words (now (head .entry)) (now (part .entry)) (now (first .entry)) (now (named .entry)) (now (src .entry))) (now (on .entry)) own (now (mem .entry)) (now (rows .entry)) (now (rows .exit)) ⌝ }
-{
+// The rules that read the rows that hold a bit.
+pub fn awake<'a>(deps: &'a [u64; 260], rows: &'a [u64; 260]) -> Dirty {
     let mut lo = 0u64;
     let mut hi = 0u64;
-    let mut m = todo;
-    while m != 0 {
-        let j = lowest(m);
-        m = without(m, j);
-        let i = base + j;
-        if rule(
-            n,
-            words,
-            head,
-            part,
-            first,
-            named,
-            src,
-            on,
-            mem,
-            own,
-            i,
-            rows,
-        ) {
-            let r = head[i] * 2;
-            lo = lo | deps[r];
-            hi = hi | deps[r + 1];
+    let mut r = 0;
+    while r < 128 {
+        if rows[r * 2] | rows[r * 2 + 1] != 0 {
+            lo = lo | deps[r * 2];
+            hi = hi | deps[r * 2 + 1];
         }
+        r += 1;
     }
     Dirty { lo, hi }
 }
 
-// One round over the rules lo and hi: the rules to look at next.
-fn round<'a>(
-    n: usize,
-    words: usize,
-    head: &'a [usize; 128],
-    part: &'a [usize; 512],
-    first: &'a [usize; 128],
-    named: &'a [u64; 260],
-    src: &'a [usize; 128],
-    on: &'a [u8; 128],
-    mem: &'a [u64; 260],
-    own: bool,
-    deps: &'a [u64; 260],
-    lo: u64,
-    hi: u64,
-    rows: &'a mut [u64; 260],
-) -> Dirty
-    requires { ⌜ Fits (rulesOf n words (now head) (now part) (now first) (now named) (now src)) × (length (now rows) ≡ 260) ⌝ }
-    ensures { λ r. ⌜ Grown (rulesOf n words (now (head .entry)) (now (part .entry)) (now (first .entry)) (now (named .entry)) (now (src .entry))) (now (on .entry)) own (now (mem .entry)) (now (rows .entry)) (now (rows .exit)) ⌝ }
+// The rules that read row r, and rule i.
+pub fn woken<'a>(deps: &'a [u64; 260], r: usize, i: usize) -> Dirty
+    requires { ⌜ (r < 130) × (i < 128) ⌝ }
 {
-    let x = sweep(
-        n,
-        words,
-        head,
-        part,
-        first,
-        named,
-        src,
-        on,
-        mem,
-        own,
-        deps,
-        lo,
-        0,
-        rows,
-    );
-    let y = sweep(
-        n,
-        words,
-        head,
-        part,
-        first,
-        named,
-        src,
-        on,
-        mem,
-        own,
-        deps,
-        hi | x.hi,
-        64,
-        rows,
-    );
+    let lo = deps[r * 2];
+    let hi = deps[r * 2 + 1];
+    if i < 64 {
+        return Dirty {
+            lo: lo | one(i),
+            hi,
+        };
+    }
     Dirty {
-        lo: x.lo | y.lo,
-        hi: y.hi,
+        lo,
+        hi: hi | one(i - 64),
     }
 }
 
-// Rounds until there is no rule to look at. What is left out, a pass finds.
+// The next round, where this one is over.
+fn turned(t: Todo) -> Todo {
+    if t.lo | t.hi != 0 {
+        return t;
+    }
+    Todo {
+        lo: t.later_lo,
+        hi: t.later_hi,
+        later_lo: 0,
+        later_hi: 0,
+    }
+}
+
+// A rule that is to be run, and those left; 128 where there is none.
+fn choose(todo: Todo) -> Choice
+    ensures { λ r. ⌜ r .rule ≤ 128 ⌝ }
+{
+    let t = turned(todo);
+    if t.lo != 0 {
+        let j = lowest(t.lo);
+        let lo = without(t.lo, j);
+        return Choice {
+            rule: j,
+            todo: Todo {
+                lo,
+                hi: t.hi,
+                later_lo: t.later_lo,
+                later_hi: t.later_hi,
+            },
+        };
+    }
+    if t.hi != 0 {
+        let j = lowest(t.hi);
+        let hi = without(t.hi, j);
+        return Choice {
+            rule: 64 + j,
+            todo: Todo {
+                lo: t.lo,
+                hi,
+                later_lo: t.later_lo,
+                later_hi: t.later_hi,
+            },
+        };
+    }
+    Choice { rule: 128, todo: t }
+}
+
+// The rules lo and hi are to be run too: those that name rows, link_lo and link_hi, in the next round.
+fn touched(t: Todo, lo: u64, hi: u64, link_lo: u64, link_hi: u64) -> Todo {
+    let a = lo & link_lo;
+    let b = hi & link_hi;
+    Todo {
+        lo: t.lo | (lo ^ a),
+        hi: t.hi | (hi ^ b),
+        later_lo: t.later_lo | a,
+        later_hi: t.later_hi | b,
+    }
+}
+
+// Rules are run, those of the sets lo and hi first, and then those that read a row that grew. What is left out, a pass finds.
 fn drain<'a>(
     n: usize,
     words: usize,
@@ -450,13 +449,21 @@ fn drain<'a>(
     requires { ⌜ Fits (rulesOf n words (now head) (now part) (now first) (now named) (now src)) × (length (now rows) ≡ 260) ⌝ }
     ensures { λ u. ⌜ Grown (rulesOf n words (now (head .entry)) (now (part .entry)) (now (first .entry)) (now (named .entry)) (now (src .entry))) (now (on .entry)) own (now (mem .entry)) (now (rows .entry)) (now (rows .exit)) ⌝ }
 {
-    let mut todo = Dirty { lo, hi };
-    let mut fuel = 4096usize;
+    let mut todo = Todo {
+        lo,
+        hi,
+        later_lo: 0,
+        later_hi: 0,
+    };
+    let mut fuel = 16384usize;
     while fuel > 0 {
-        if todo.lo | todo.hi == 0 {
+        let c = choose(todo);
+        todo = c.todo;
+        let i = c.rule;
+        if i == 128 {
             return;
         }
-        todo = round(
+        if rule(
             n,
             words,
             head,
@@ -467,11 +474,12 @@ fn drain<'a>(
             on,
             mem,
             own,
-            deps,
-            todo.lo,
-            todo.hi,
+            i,
             rows,
-        );
+        ) {
+            let r = head[i] * 2;
+            todo = touched(todo, deps[r], deps[r + 1], deps[258], deps[259]);
+        }
         fuel -= 1;
     }
 }

@@ -3,10 +3,12 @@
 // A role's row is the index of the first credential with that head, or 128; an entity's bit is the index of the first credential with that
 // body, or 128. Row 128 stays empty, and row 129 is that of a role asked about which no credential has as its head.
 use closure::Rules;
+use closure::awake;
 use closure::bit;
 use closure::close;
 use closure::mark;
 use closure::readers;
+use closure::woken;
 use closure::word;
 use expression::Expression;
 use expression::Parts;
@@ -26,9 +28,6 @@ ghost use Rattle.closure.specs.Rules.{rulesOf};
 ghost use Rattle.relation.specs.Table.{anyTo, isHead, rowOf, isBody, bitOf, rowFor, third, fourth, chosen, Relation, Start, Compiled, ownRole, ownLink, atOnce, Asked};
 ghost use Rattle.relation.specs.Question.{Ruled, Seeded, OwnRow, startsAt, Reached};
 ghost use Rattle.relation.specs.Columns.{fourRows, firstRow, isLinked, Column, headRow, bodyFirst, PartsTo, Able, NamedRow, NamedLink, NamesTo, isNamed, hasLink, linkSource};
-
-// Each rule of a word.
-const ALL: u64 = 18446744073709551615;
 
 // The four rows whose shared bits a rule takes in.
 pub struct Four {
@@ -822,6 +821,7 @@ pub fn relation<'a>(
 {
     let mut rows = seeds(n, heads, kinds, numbers, head, on);
     let none = [0u64; 260];
+    let todo = awake(deps, &rows);
     close(
         n,
         words,
@@ -834,8 +834,8 @@ pub fn relation<'a>(
         &none,
         true,
         deps,
-        ALL,
-        ALL,
+        todo.lo,
+        todo.hi,
         &mut rows,
     );
     rows
@@ -863,6 +863,7 @@ pub fn switch_on<'a>(
     ensures related { λ _. ⌜ Relation (poolOf n (now (heads .entry)) (now (kinds .entry)) (now (numbers .entry))) (now (on .exit)) (now (rows .exit)) ⌝ }
 {
     let none = [0u64; 260];
+    let todo = woken(deps, head[i], i);
     seed(n, heads, kinds, numbers, head, i, rows);
     on[i] = 1;
     close(
@@ -877,8 +878,8 @@ pub fn switch_on<'a>(
         &none,
         true,
         deps,
-        ALL,
-        ALL,
+        todo.lo,
+        todo.hi,
         rows,
     );
 }
@@ -996,6 +997,7 @@ fn by_rules<'a>(
 {
     let aimed = aim_parts(n, heads, kinds, numbers, part, e);
     let mut vals = asked(n, heads, kinds, numbers, head, on, mem, e);
+    let todo = awake(deps, &vals);
     close(
         n,
         1,
@@ -1008,8 +1010,8 @@ fn by_rules<'a>(
         mem,
         false,
         deps,
-        ALL,
-        ALL,
+        todo.lo,
+        todo.hi,
         &mut vals,
     );
     reached(n, heads, kinds, numbers, head, mem, &vals, 0, e, f)

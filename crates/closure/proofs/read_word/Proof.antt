@@ -1,7 +1,8 @@
-use lib.ListN.{length}
+use Prim.Native.Nat.{_+_}
 use mathlib.Core.Path.{_≡_}
-use native.Mathlib.Omega.{arith}
+use lib.ListN.{length}
 use Rattle.word.specs.Bit.{without-less}
+use native.Mathlib.Omega.{arith}
 use Rattle.closure.proofs.read_word.Statement.{statement}
 use Rattle.closure.proofs.read_word.Tie as tie
 
@@ -21,16 +22,19 @@ without-requires : tie.Need-without-requires Inv-loop μ-loop
 without-requires c κs = omega arith
 
 add-mark : tie.Need-add-mark Inv-loop μ-loop
-add-mark c = omega arith
+add-mark c = omega (arith, c .before .before .before .before .before .pre .0, c .before .before .lowest .ensures .0)
 
 mark-requires : tie.Need-mark-requires Inv-loop μ-loop
-mark-requires c κs = (omega arith, c .before .before .before .before .before .pre .1, c .before .before .before .before .loop .inv)
+mark-requires c κs = (omega (arith, c .before .before .before .before .before .pre .0, c .before .before .lowest .ensures .0), c .before .before .before .before .before .pre .1, c .before .before .before .before .loop .inv)
+
+mark-requires-2 : tie.Need-mark-requires-2 Inv-loop μ-loop
+mark-requires-2 c κs = (omega arith, c .before .before .before .before .before .before .before .pre .1, c .before .mark .ensures .sized)
 
 loop-less : tie.Need-loop-less Inv-loop μ-loop
-loop-less c = rw (c .before .before .without .ensures) (without-less _ _ (c .before .before .before .lowest .ensures .1))
+loop-less c = rw (c .before .before .before .before .without .ensures) (without-less _ _ (c .before .before .before .before .before .lowest .ensures .1))
 
 loop-again : tie.Need-loop-again Inv-loop μ-loop
-loop-again c = c .mark .ensures .sized
+loop-again c = c .mark2 .ensures .sized
 
 returns : tie.Need-returns Inv-loop μ-loop
 returns c = c .before .loop .inv
@@ -46,6 +50,7 @@ read-word-spec =
     without-requires
     add-mark
     mark-requires
+    mark-requires-2
     loop-less
     loop-again
     returns)

@@ -1,7 +1,7 @@
 use borrow.Author.Needs.{needs}
 use mathlib.Core.Path.{_≡_, refl, sym, _∙_, ap, subst}
 use mathlib.Core.Bool.{true, false}
-use Prim.Native.Nat.{ℕ, _+_, _*_, _-_, _%_, _≤_, _<_}
+use Prim.Native.Nat.{ℕ, _+_, _*_, _-_, _≤_, _<_}
 use lib.ListN.{length, length-set}
 use Rattle.rt0.specs.declared.Pool.{Pool}
 use Rattle.rt0.specs.Pool.{poolOf, headAt, bodyAt}
@@ -23,6 +23,9 @@ aim-parts-requires c κs = search needs
 asked-requires : tie.Need-asked-requires
 asked-requires c κs = search needs
 
+awake-requires : tie.Need-awake-requires
+awake-requires c κs = search needs
+
 close-requires : tie.Need-close-requires
 close-requires c κs = search needs
 
@@ -31,10 +34,17 @@ reached-requires c κs = search needs
 
 returns : tie.Need-returns
 returns c =
-    ask-of (pool (c .before .before .before .before .before .before .before)) (c .before .before .before .before .before .before .before .args .on .now) (c .before .before .before .before .before .before .before .pre .0) (c .before .before .before .before .before .before .before .args .mem .now) (c .before .before .before .before .before .before .before .pre .2) (c .before .before .before .before .before .before .before .args .e) (c .before .before .before .before .before .before .before .args .f) (rules (c .before .before .before .before .before .before .before))
-    (rulesOf (c .before .before .before .before .before .before .before .args .n) 1 (c .before .before .before .before .before .before .before .args .head .now) (c .before .before .before .before .before .before .aim-parts .result) (c .before .before .before .before .before .before .before .args .first .now) (c .before .before .before .before .before .before .before .args .named .now) (c .before .before .before .before .before .before .before .args .src .now))
-    (c .before .before .before .before .before .before .before .pre .1) refl refl refl refl refl refl (c .before .before .before .before .before .before .aim-parts .ensures) (c .before .before .before .before .before .asked .result) _ (c .before .before .before .before .before .asked .ensures) (c .before .before .close .ensures) (c .reached .result) (c .reached .ensures)
+    ask-of (pool (c .before .before .before .before .before .before .before .before .before)) (c .before .before .before .before .before .before .before .before .before .args .on .now) (c .before .before .before .before .before .before .before .before .before .pre .0) (c .before .before .before .before .before .before .before .before .before .args .mem .now) (c .before .before .before .before .before .before .before .before .before .pre .2) (c .before .before .before .before .before .before .before .before .before .args .e) (c .before .before .before .before .before .before .before .before .before .args .f) (rules (c .before .before .before .before .before .before .before .before .before))
+    (rulesOf (c .before .before .before .before .before .before .before .before .before .args .n) 1 (c .before .before .before .before .before .before .before .before .before .args .head .now) (c .before .before .before .before .before .before .before .before .aim-parts .result) (c .before .before .before .before .before .before .before .before .before .args .first .now) (c .before .before .before .before .before .before .before .before .before .args .named .now) (c .before .before .before .before .before .before .before .before .before .args .src .now))
+    (c .before .before .before .before .before .before .before .before .before .pre .1) refl refl refl refl refl refl (c .before .before .before .before .before .before .before .before .aim-parts .ensures) (c .before .before .before .before .before .before .before .asked .result) _ (c .before .before .before .before .before .before .before .asked .ensures) (c .before .before .close .ensures) (c .reached .result) (c .reached .ensures)
 
 pub by-rules-spec : {M : Type 1} → statement M
 by-rules-spec =
-    tie.close (tie.spec aim-parts-requires asked-requires close-requires reached-requires returns)
+    tie.close
+    (tie.spec
+    aim-parts-requires
+    asked-requires
+    awake-requires
+    close-requires
+    reached-requires
+    returns)

@@ -22,12 +22,15 @@ rules c = rulesOf (c .args .n) (c .args .words) (c .args .head .now) (c .args .p
 seeds-requires : tie.Need-seeds-requires
 seeds-requires c κs = search needs
 
+awake-requires : tie.Need-awake-requires
+awake-requires c κs = search needs
+
 close-requires : tie.Need-close-requires
 close-requires c κs = search needs
 
 returns : tie.Need-returns
 returns c =
-    related (pool (c .before .before .before .before)) (c .before .before .before .before .args .on .now) (c .before .before .before .before .pre .0) (E.Entity 0) (rules (c .before .before .before .before)) (compiled-plain (pool (c .before .before .before .before)) (c .before .before .before .before .pre .0) (rules (c .before .before .before .before)) (c .before .before .before .before .pre .1)) (c .before .before .before .before .pre .1 .wide) _ (c .before .before .before .seeds .result) _ (c .before .before .before .seeds .ensures) (c .close .ensures)
+    related (pool (c .before .before .before .before .before .before)) (c .before .before .before .before .before .before .args .on .now) (c .before .before .before .before .before .before .pre .0) (E.Entity 0) (rules (c .before .before .before .before .before .before)) (compiled-plain (pool (c .before .before .before .before .before .before)) (c .before .before .before .before .before .before .pre .0) (rules (c .before .before .before .before .before .before)) (c .before .before .before .before .before .before .pre .1)) (c .before .before .before .before .before .before .pre .1 .wide) _ (c .before .before .before .before .before .seeds .result) _ (c .before .before .before .before .before .seeds .ensures) (c .close .ensures)
 
 pub relation-spec : {M : Type 1} → statement M
-relation-spec = tie.close (tie.spec seeds-requires close-requires returns)
+relation-spec = tie.close (tie.spec seeds-requires awake-requires close-requires returns)

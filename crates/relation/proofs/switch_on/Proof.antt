@@ -11,7 +11,6 @@ use Rattle.closure.specs.Rules.{rulesOf}
 use Rattle.relation.specs.Answer.{related}
 use Rattle.relation.specs.QuestionLaws.{compiled-plain, start-more}
 use native.Mathlib.Omega.{arith}
-use native.Mathlib.Omega.{arith}
 use Rattle.relation.proofs.switch_on.Statement.{statement}
 use Rattle.relation.proofs.switch_on.Tie as tie
 
@@ -20,6 +19,15 @@ pool c = poolOf (c .args .n) (c .args .heads .now) (c .args .kinds .now) (c .arg
 
 abbrev rules : (c : tie.Start) → Rules
 rules c = rulesOf (c .args .n) (c .args .words) (c .args .head .now) (c .args .part .now) (c .args .first .now) (c .args .named .now) (c .args .src .now)
+
+mul-woken : tie.Need-mul-woken
+mul-woken c = search needs
+
+element-copy-out-woken : tie.Need-element-copy-out-woken
+element-copy-out-woken c = search needs
+
+woken-requires : tie.Need-woken-requires
+woken-requires c κs = (c .before .pre .2 .head .under .under (c .before .args .i), omega arith)
 
 seed-requires : tie.Need-seed-requires
 seed-requires c κs = search needs
@@ -33,9 +41,18 @@ close-requires c κs = search needs
 returns : tie.Need-returns
 returns c = (
   refl,
-  related (pool (c .before .before .before .before .before .before)) _ (c .before .before .before .before .before .before .pre .0) (E.Entity 0) (rules (c .before .before .before .before .before .before)) (compiled-plain (pool (c .before .before .before .before .before .before)) (c .before .before .before .before .before .before .pre .0) (rules (c .before .before .before .before .before .before)) (c .before .before .before .before .before .before .pre .2)) (c .before .before .before .before .before .before .pre .2 .wide) _ _ _
-      (start-more (pool (c .before .before .before .before .before .before)) _ (c .before .before .before .before .before .before .pre .0) (c .before .before .before .before .before .before .args .on .now) (c .before .before .before .before .before .before .args .rows .now) _ (c .before .before .before .before .before .before .args .i) (c .before .before .before .before .before .before .pre .1) (omega (arith, c .before .before .before .before .before .before .pre .3)) refl (c .before .before .before .before .before .before .pre .4) (c .before .before .before .before .seed .ensures)) (c .close .ensures),
+  related (pool (c .before .before .before .before .before .before .before .before)) _ (c .before .before .before .before .before .before .before .before .pre .0) (E.Entity 0) (rules (c .before .before .before .before .before .before .before .before)) (compiled-plain (pool (c .before .before .before .before .before .before .before .before)) (c .before .before .before .before .before .before .before .before .pre .0) (rules (c .before .before .before .before .before .before .before .before)) (c .before .before .before .before .before .before .before .before .pre .2)) (c .before .before .before .before .before .before .before .before .pre .2 .wide) _ _ _
+      (start-more (pool (c .before .before .before .before .before .before .before .before)) _ (c .before .before .before .before .before .before .before .before .pre .0) (c .before .before .before .before .before .before .before .before .args .on .now) (c .before .before .before .before .before .before .before .before .args .rows .now) _ (c .before .before .before .before .before .before .before .before .args .i) (c .before .before .before .before .before .before .before .before .pre .1) (omega (arith, c .before .before .before .before .before .before .before .before .pre .3)) refl (c .before .before .before .before .before .before .before .before .pre .4) (c .before .before .before .before .seed .ensures)) (c .close .ensures),
 )
 
 pub switch-on-spec : {M : Type 1} → statement M
-switch-on-spec = tie.close (tie.spec seed-requires element-write-on close-requires returns)
+switch-on-spec =
+    tie.close
+    (tie.spec
+    mul-woken
+    element-copy-out-woken
+    woken-requires
+    seed-requires
+    element-write-on
+    close-requires
+    returns)
