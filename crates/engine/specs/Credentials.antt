@@ -27,7 +27,7 @@ credentialStep s at = cond (ltb (length s - at) commandSize) (Refused 2) (taken 
 unfoldable pub endStep : List ℕ → ℕ → Step
 endStep s at = cond (eqb (at + 1) (length s)) End (Refused 2)
 
--- the command by its first byte; "another command is refused 2"
+-- the command by its first byte; "another command is refused 2" ("RT0 and states")
 abbrev pub commandStep : List ℕ → ℕ → ℕ → Step
 commandStep s at code = cond (eqb code 1) (credentialStep s at) (cond (eqb code 6) (endStep s at) (Refused 2))
 
@@ -52,7 +52,7 @@ unfoldable pub listFrom : ℕ → List ℕ → ℕ → List Credential → Liste
 listFrom zero s at C = refused 2
 listFrom (suc n) s at C = after (listFrom n s (at + commandSize)) C (stepAt s at)
 
--- the meaning of the lent bytes
+-- "credential commands and an end (.. repeats allowed, classes not consulted)" ("RT0 and states")
 unfoldable pub credentialsOf : List ℕ → Listed
 credentialsOf s = listFrom (length s) s 0 []
 
