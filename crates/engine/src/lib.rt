@@ -1,91 +1,11 @@
-// RT0 questions: calls for a host in C.
-use credentials::list;
-use expression::Credential;
-use expression::ExpressionAnswer;
-use expression::is_body;
-use expression::read_expression;
-use relation::from;
-use rt0::Pool;
+// The calls for a host in C. Each answers one number, 256 times a value plus a refusal number.
 ghost use mathlib.Core.Path.{_≡_};
-ghost use lib.ListN.{length};
-ghost use Rattle.engine.specs.Sizes.{expressionSize};
-ghost use Rattle.engine.specs.Question.{sized as sizedOf, operandOf, answerOf, questionOf};
+ghost use Rattle.question.specs.Question.{questionOf};
 
-mod credentials;
-
-// What stands next in a credential list: a credential, the end, or a command that is refused with a number.
-pub enum Step {
-    Taken(Credential),
-    End,
-    Refused(u64),
-}
-
-// The credentials of a list where the refusal is 0; else the pool does not count.
-pub struct Listing {
-    pub refusal: u64,
-    pub pool: Pool,
-}
-
-// Why a call is refused: a lent length, a command, or the form of an operand.
-const LENGTH: u64 = 1;
-
-const COMMAND: u64 = 2;
-
-const OPERAND: u64 = 3;
-
-// 64 credential commands and an end.
-const LIST_SIZE: usize = 1473;
-
-const EXPRESSION_SIZE: usize = 18;
-
-// Whether the credentials, f and e have lengths within the sizes.
-fn sized(c: usize, f: usize, e: usize) -> bool
-    ensures { λ r. ⌜ r ≡ sizedOf c f e ⌝ }
-{
-    (0 < c) & (c <= LIST_SIZE) & (f == EXPRESSION_SIZE) & (e == EXPRESSION_SIZE)
-}
-
-// 256 times the value: 1 for yes, 0 for no.
-fn answer(yes: bool) -> u64
-    ensures { λ r. ⌜ r ≡ answerOf yes ⌝ }
-{
-    if yes { 256 } else { 0 }
-}
-
-// An expression of kinds 1 to 4.
-fn operand(s: &[u8]) -> ExpressionAnswer
-    requires { ⌜ length (now s) ≡ expressionSize ⌝ }
-    ensures { λ r. ⌜ r ≡ operandOf (now (s .entry)) ⌝ }
-{
-    let ExpressionAnswer::Read(x) = read_expression(s, 0) else {
-        return ExpressionAnswer::Wrong;
-    };
-    if is_body(x) {
-        ExpressionAnswer::Read(x)
-    } else {
-        ExpressionAnswer::Wrong
-    }
-}
-
-// Whether "f from e" over the lent credentials: 256 for yes, 0 for no, or a refusal number.
+// Whether f is from e in RT0 over the lent credentials: 256 for yes, 0 for no, or a refusal number.
 #[no_mangle]
 pub extern "C" fn lavutremo_question(credentials: &[u8], f: &[u8], e: &[u8]) -> u64
     ensures { λ r. ⌜ r ≡ questionOf (now (credentials .entry)) (now (f .entry)) (now (e .entry)) ⌝ }
 {
-    if !sized(credentials.len(), f.len(), e.len()) {
-        return LENGTH;
-    }
-    let listing = list(credentials);
-    let refusal = listing.refusal;
-    let pool = listing.pool;
-    if refusal != 0 {
-        return refusal;
-    }
-    let ExpressionAnswer::Read(x) = operand(f) else {
-        return OPERAND;
-    };
-    let ExpressionAnswer::Read(y) = operand(e) else {
-        return OPERAND;
-    };
-    answer(from(pool, x, y))
+    question::question(credentials, f, e)
 }

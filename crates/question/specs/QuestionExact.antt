@@ -14,11 +14,11 @@ use Rattle.expression.specs.Bytes.{rawBytes}
 use Rattle.expression.specs.Form.{rawOf, readOf, wellFormed}
 use Rattle.expression.specs.Credential.{isBody, credentialBytes}
 use Rattle.expression.specs.Codec.{read-write, read-only}
-use Rattle.engine.specs.Sizes.{commandSize, credentialsMost, expressionSize}
-use Rattle.engine.specs.Credentials.{credentialsOf}
-use Rattle.engine.specs.CredentialsExact.{commands, Formed, self-paste, list-back, list-only}
-use Rattle.engine.specs.Question.{askable, operandOf}
-use Rattle.engine.specs.QuestionLaws.{Asked}
+use Rattle.question.specs.Sizes.{commandSize, credentialsMost, expressionSize}
+use Rattle.question.specs.Credentials.{credentialsOf}
+use Rattle.question.specs.CredentialsExact.{commands, Formed, self-paste, list-back, list-only}
+use Rattle.question.specs.Question.{askable, operandOf}
+use Rattle.question.specs.QuestionLaws.{Asked}
 
 abbrev pub expressionBytes : Expression → List ℕ
 expressionBytes x = rawBytes (rawOf x)

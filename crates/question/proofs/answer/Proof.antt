@@ -1,7 +1,7 @@
 use mathlib.Core.Path.{sym, ap}
-use Rattle.engine.specs.Question.{answerOf}
-use Rattle.engine.proofs.answer.Statement.{statement}
-use Rattle.engine.proofs.answer.Tie as tie
+use Rattle.question.specs.Question.{answerOf}
+use Rattle.question.proofs.answer.Statement.{statement}
+use Rattle.question.proofs.answer.Tie as tie
 
 returns : tie.Need-returns
 unfolding answerOf

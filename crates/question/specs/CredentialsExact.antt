@@ -14,11 +14,11 @@ use Rattle.expression.specs.declared.CredentialAnswer.the-variants as a
 use Rattle.expression.specs.Bytes.{pasted}
 use Rattle.expression.specs.Credential.{wellFormedCredential, readCredential, credentialBytes}
 use Rattle.expression.specs.CredentialLaws.{credential-back, credential-only}
-use Rattle.engine.specs.declared.Step.{Step}
-use Rattle.engine.specs.declared.Step.the-variants.{Taken, End, Refused}
-use Rattle.engine.specs.Sizes.{commandSize}
-use Rattle.engine.specs.Credentials.{stepAt, listed, after, listFrom, credentialsOf}
-use Rattle.engine.specs.CredentialsLaws.{whole, last, at-code, taken-sure, end-sure}
+use Rattle.question.specs.declared.Step.{Step}
+use Rattle.question.specs.declared.Step.the-variants.{Taken, End, Refused}
+use Rattle.question.specs.Sizes.{commandSize}
+use Rattle.question.specs.Credentials.{stepAt, listed, after, listFrom, credentialsOf}
+use Rattle.question.specs.CredentialsLaws.{whole, last, at-code, taken-sure, end-sure}
 
 -- a command for each credential, then the end
 abbrev pub commands : List Credential → List ℕ

@@ -6,13 +6,13 @@ use lib.ListN.{length}
 use Rattle.rt0.specs.Pool.{credentials}
 use Rattle.expression.specs.declared.ExpressionAnswer.{ExpressionAnswer}
 use Rattle.expression.specs.declared.ExpressionAnswer.the-variants.{Read}
-use Rattle.engine.specs.Credentials.{listed}
-use Rattle.engine.specs.CredentialsLaws.{listed-all, listed-refused}
-use Rattle.engine.specs.Question.{sized, operandOf, answerOf, answered, questionOf}
-use Rattle.engine.specs.QuestionLaws.{true-sized, question-outside, question-inside}
+use Rattle.question.specs.Credentials.{listed}
+use Rattle.question.specs.CredentialsLaws.{listed-all, listed-refused}
+use Rattle.question.specs.Question.{sized, operandOf, answerOf, answered, questionOf}
+use Rattle.question.specs.QuestionLaws.{true-sized, question-outside, question-inside}
 use borrow.Author.Needs.{needs}
-use Rattle.engine.proofs.lavutremo_question.Statement.{statement}
-use Rattle.engine.proofs.lavutremo_question.Tie as tie
+use Rattle.question.proofs.question.Statement.{statement}
+use Rattle.question.proofs.question.Tie as tie
 
 abbrev Inside : tie.Start → Type 0
 Inside s = sized (length (s .args .credentials .now)) (length (s .args .f .now)) (length (s .args .e .now)) ≡ true
@@ -79,8 +79,8 @@ answer-requires c κs = search needs
 returns-5 : tie.Need-returns-5
 returns-5 c = c .answer .ensures ∙ ap answerOf (c .before .from .ensures) ∙ with-first (c .before .before .before .before .before .before) (sym (c .before .before .before .before .before .operand2 .ensures) ∙ c .before .before .before .y .given .1)
 
-pub lavutremo-question-spec : {M : Type 1} → statement M
-lavutremo-question-spec =
+pub question-spec : {M : Type 1} → statement M
+question-spec =
     tie.close
     (tie.spec
     sized-requires

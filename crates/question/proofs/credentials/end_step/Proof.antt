@@ -1,8 +1,8 @@
 use borrow.Author.Tests.{eq-eqb, ne-eqb}
-use Rattle.engine.specs.CredentialsLaws.{last}
+use Rattle.question.specs.CredentialsLaws.{last}
 use borrow.Author.Needs.{needs}
-use Rattle.engine.proofs.credentials.end_step.Statement.{statement}
-use Rattle.engine.proofs.credentials.end_step.Tie as tie
+use Rattle.question.proofs.credentials.end_step.Statement.{statement}
+use Rattle.question.proofs.credentials.end_step.Tie as tie
 
 add-if1 : tie.Need-add-if1
 add-if1 c = search needs

@@ -1,8 +1,8 @@
 use mathlib.Core.Path.{sym, _∙_}
-use Rattle.engine.specs.QuestionLaws.{operand-wrong, operand-read}
+use Rattle.question.specs.QuestionLaws.{operand-wrong, operand-read}
 use borrow.Author.Needs.{needs}
-use Rattle.engine.proofs.operand.Statement.{statement}
-use Rattle.engine.proofs.operand.Tie as tie
+use Rattle.question.proofs.operand.Statement.{statement}
+use Rattle.question.proofs.operand.Tie as tie
 
 read-expression-requires : tie.Need-read-expression-requires
 read-expression-requires c κs = search needs

@@ -1,7 +1,7 @@
 use mathlib.Core.Path.{refl}
-use Rattle.engine.specs.Question.{sized}
-use Rattle.engine.proofs.sized.Statement.{statement}
-use Rattle.engine.proofs.sized.Tie as tie
+use Rattle.question.specs.Question.{sized}
+use Rattle.question.proofs.sized.Statement.{statement}
+use Rattle.question.proofs.sized.Tie as tie
 
 returns : tie.Need-returns
 unfolding sized

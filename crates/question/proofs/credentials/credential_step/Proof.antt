@@ -1,8 +1,8 @@
 use mathlib.Core.Path.{sym, _∙_}
-use Rattle.engine.specs.CredentialsLaws.{cut, whole}
+use Rattle.question.specs.CredentialsLaws.{cut, whole}
 use borrow.Author.Needs.{needs}
-use Rattle.engine.proofs.credentials.credential_step.Statement.{statement}
-use Rattle.engine.proofs.credentials.credential_step.Tie as tie
+use Rattle.question.proofs.credentials.credential_step.Statement.{statement}
+use Rattle.question.proofs.credentials.credential_step.Tie as tie
 
 sub-if1 : tie.Need-sub-if1
 sub-if1 c = search needs

@@ -9,8 +9,8 @@ use Rattle.expression.specs.declared.ExpressionAnswer.the-variants.{Read, Wrong
 use Rattle.expression.specs.Form.{readOf}
 use Rattle.expression.specs.Credential.{isBody}
 use Rattle.rt0.specs.Decide.{from?}
-use Rattle.engine.specs.Sizes.{listSize, expressionSize}
-use Rattle.engine.specs.Credentials.{Listed, refused, listed, credentialsOf}
+use Rattle.question.specs.Sizes.{listSize, expressionSize}
+use Rattle.question.specs.Credentials.{Listed, refused, listed, credentialsOf}
 
 -- credentials of "1 to 1,473 bytes", f and e of "18 bytes each" ("RT0 and states")
 unfoldable pub sized : ℕ → ℕ → ℕ → Bool

@@ -19,10 +19,10 @@ use Rattle.rt0.specs.From.{From}
 use Rattle.rt0.specs.Decide.{from?}
 use Rattle.rt0.specs.Lists.{false-true}
 use Rattle.rt0.specs.Laws.{from-exact}
-use Rattle.engine.specs.Sizes.{listSize, expressionSize}
-use Rattle.engine.specs.Credentials.{Listed, refused, listed, credentialsOf}
-use Rattle.engine.specs.CredentialsLaws.{Refusal, list-refusal}
-use Rattle.engine.specs.Question.{sized, askable, operandOf, answerOf, answered, questionOf}
+use Rattle.question.specs.Sizes.{listSize, expressionSize}
+use Rattle.question.specs.Credentials.{Listed, refused, listed, credentialsOf}
+use Rattle.question.specs.CredentialsLaws.{Refusal, list-refusal}
+use Rattle.question.specs.Question.{sized, askable, operandOf, answerOf, answered, questionOf}
 
 -- bytes of wrong form
 pub operand-wrong : (s : List ℕ) → readOf s 0 ≡ Wrong → Wrong ≡ operandOf s

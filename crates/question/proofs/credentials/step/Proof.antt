@@ -1,8 +1,8 @@
 use mathlib.Core.Path.{refl, _∙_}
-use Rattle.engine.specs.CredentialsLaws.{at-code, unknown}
+use Rattle.question.specs.CredentialsLaws.{at-code, unknown}
 use borrow.Author.Needs.{needs}
-use Rattle.engine.proofs.credentials.step.Statement.{statement}
-use Rattle.engine.proofs.credentials.step.Tie as tie
+use Rattle.question.proofs.credentials.step.Statement.{statement}
+use Rattle.question.proofs.credentials.step.Tie as tie
 
 shared-slice-read-code : tie.Need-shared-slice-read-code
 shared-slice-read-code c = search needs

@@ -10,8 +10,8 @@ use rt0::store;
 ghost use mathlib.Core.Path.{_≡_};
 ghost use Prim.Native.Nat.{_≤_, _<_};
 ghost use lib.ListN.{length};
-ghost use Rattle.engine.specs.Sizes.{credentialsMost, listSize};
-ghost use Rattle.engine.specs.Credentials.{credentialStep, endStep, stepAt, credentialsOf, listedOf};
+ghost use Rattle.question.specs.Sizes.{credentialsMost, listSize};
+ghost use Rattle.question.specs.Credentials.{credentialStep, endStep, stepAt, credentialsOf, listedOf};
 
 // 0x01 and the 22 bytes of a credential.
 const COMMAND_SIZE: usize = 23;

@@ -14,11 +14,11 @@ use Rattle.expression.specs.declared.CredentialAnswer.the-variants as a
 use Rattle.expression.specs.Credential.{readCredential}
 use Rattle.rt0.specs.declared.Pool.{Pool}
 use Rattle.rt0.specs.Pool.{credentials, credentialAt, upTo}
-use Rattle.engine.specs.declared.Step.{Step}
-use Rattle.engine.specs.declared.Step.the-variants.{Taken, End, Refused}
-use Rattle.engine.specs.declared.Listing.{Listing}
-use Rattle.engine.specs.Sizes.{commandSize, credentialsMost, listSize}
-use Rattle.engine.specs.Credentials.{taken, credentialStep, endStep, commandStep, stepAt, Listed, refused, listed, after, listFrom, credentialsOf, listedOf}
+use Rattle.question.specs.declared.Step.{Step}
+use Rattle.question.specs.declared.Step.the-variants.{Taken, End, Refused}
+use Rattle.question.specs.declared.Listing.{Listing}
+use Rattle.question.specs.Sizes.{commandSize, credentialsMost, listSize}
+use Rattle.question.specs.Credentials.{taken, credentialStep, endStep, commandStep, stepAt, Listed, refused, listed, after, listFrom, credentialsOf, listedOf}
 
 -- The command at an index
 

@@ -5,10 +5,10 @@ use Prim.Native.Nat.{ℕ, _-_, _≤_}
 use lib.ListN.{length, length-replicate}
 use Rattle.rt0.specs.Pool.{poolOf, credentials}
 use Rattle.rt0.specs.Added.{Sized}
-use Rattle.engine.specs.CredentialsLaws.{Reading, reading-start, reading-few, reading-next, list-end, list-refused, list-past}
+use Rattle.question.specs.CredentialsLaws.{Reading, reading-start, reading-few, reading-next, list-end, list-refused, list-past}
 use native.Mathlib.Omega.{arith}
-use Rattle.engine.proofs.credentials.list.Statement.{statement}
-use Rattle.engine.proofs.credentials.list.Tie as tie
+use Rattle.question.proofs.credentials.list.Statement.{statement}
+use Rattle.question.proofs.credentials.list.Tie as tie
 
 abbrev Inv-loop : tie.InvT-loop
 Inv-loop s heads₀ kinds₀ numbers₀ count₀ at₀ heads kinds numbers count at = Reading s (poolOf count heads kinds numbers) at × Sized (poolOf count heads kinds numbers)

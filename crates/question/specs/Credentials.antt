@@ -9,10 +9,10 @@ use Rattle.expression.specs.declared.CredentialAnswer.{CredentialAnswer}
 use Rattle.expression.specs.declared.CredentialAnswer.the-variants as a
 use Rattle.expression.specs.Credential.{readCredential}
 use Rattle.rt0.specs.Pool.{credentials}
-use Rattle.engine.specs.declared.Step.{Step}
-use Rattle.engine.specs.declared.Step.the-variants.{Taken, End, Refused}
-use Rattle.engine.specs.declared.Listing.{Listing}
-use Rattle.engine.specs.Sizes.{commandSize}
+use Rattle.question.specs.declared.Step.{Step}
+use Rattle.question.specs.declared.Step.the-variants.{Taken, End, Refused}
+use Rattle.question.specs.declared.Listing.{Listing}
+use Rattle.question.specs.Sizes.{commandSize}
 
 -- "3 an operand of wrong form" ("From the input")
 abbrev pub taken : CredentialAnswer → Step
