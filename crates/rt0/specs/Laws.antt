@@ -14,6 +14,7 @@ use Rattle.expression.specs.declared.Parts.{Parts}
 use Rattle.expression.specs.declared.Credential.{Credential}
 use Rattle.expression.specs.declared.Expression.{Expression}
 use Rattle.expression.specs.declared.Expression.the-variants as E
+use Rattle.expression.specs.Credential.{isBody}
 use Rattle.expression.specs.Same.{same, sameRole, same-eq, eq-same, sameRole-eq, eq-sameRole}
 use Rattle.rt0.specs.From.{roleOf, rolesOf, From, reflexive, transitive, credential, linking, intersection}
 use Rattle.rt0.specs.Lists.{false-true, or-cases, or-left, or-right, and-parts, and-both, any, all, any-find, any-here, all-each, all-of, map-find, map-mem}
@@ -287,20 +288,13 @@ same-set C D to fro f e = decides D f e (from? C f e) (λ h. more to (sound C f 
 pub from?-grows : (C D : List Credential) (f e : Expression) → from? C f e ≡ true → from? (C ++ D) f e ≡ true
 from?-grows C D f e h = complete (C ++ D) f e (from-more D (sound C f e h))
 
--- Goals stand apart: where no credential has a goal as its body, a goal is from itself alone, and from a goal is that goal alone
+-- Goals stand apart: where each credential's body has kind 1 to 4, what is from a goal is that goal
 
-abbrev pub isGoal : Expression → Bool
-isGoal (E.Entity b) = false
-isGoal (E.Role p) = false
-isGoal (E.Linked a n) = false
-isGoal (E.Intersection p) = false
-isGoal (E.Goal n) = true
+no-goal : {C : List Credential} → ((c : Credential) → List·Memᴰ c C → isBody (c .body) ≡ true) → {f e : Expression} → Reach C f e → isBody e ≡ false → f ≡ e
+no-goal bodies here g = refl
+no-goal bodies (step {c = c} m h) g = absurd (false-true (sym (sym (bodies c m) ∙ (ap isBody (no-goal bodies h g) ∙ g))))
+no-goal bodies (link h₁ h₂) g = absurd (false-true (sym (ap isBody (no-goal bodies h₂ g) ∙ g)))
+no-goal bodies (each {ps = ps} h) g = absurd (false-true (sym (ap isBody (no-goal bodies (h (first ps .0) (first ps .1)) g) ∙ g)))
 
-no-goal : {C : List Credential} → ((c : Credential) → List·Memᴰ c C → isGoal (c .body) ≡ false) → {f e : Expression} → Reach C f e → isGoal e ≡ true → f ≡ e
-no-goal none here g = refl
-no-goal none (step {c = c} m h) g = absurd (false-true (sym (none c m) ∙ (ap isGoal (no-goal none h g) ∙ g)))
-no-goal none (link h₁ h₂) g = absurd (false-true (ap isGoal (no-goal none h₂ g) ∙ g))
-no-goal none (each {ps = ps} h) g = absurd (false-true (ap isGoal (no-goal none (h (first ps .0) (first ps .1)) g) ∙ g))
-
-pub goal-alone : {C : List Credential} → ((c : Credential) → List·Memᴰ c C → isGoal (c .body) ≡ false) → {f e : Expression} → From C f e → isGoal e ≡ true → f ≡ e
-goal-alone none h g = no-goal none (reach h) g
+pub goal-alone : {C : List Credential} → ((c : Credential) → List·Memᴰ c C → isBody (c .body) ≡ true) → {f e : Expression} → From C f e → isBody e ≡ false → f ≡ e
+goal-alone bodies h g = no-goal bodies (reach h) g
