@@ -1,29 +1,29 @@
 -- Closed rows are the relation, and closed rows of a question answer it. Assumes nothing.
-use Prim.Native.Nat.{ℕ, zero, suc, _+_, _*_, _/_, _%_, _≤_, _<_}
+use Prim.Native.Nat.{ℕ, _*_, _≤_, _<_}
 use native.Mathlib.Omega.{arith}
 use mathlib.Core.Path.{_≡_, refl, sym, _∙_, ap, subst}
-use mathlib.Core.Logic.{_⊎_, inl, inr, ⊎-elim}
-use mathlib.Core.Bool.{Bool, true, false, _&&_, _||_, cond}
-use mathlib.Core.List.{List, [], _∷_, List·Memᴰ}
+use mathlib.Core.Logic.{inl, inr, ⊎-elim}
+use mathlib.Core.Bool.{Bool, true, false, _||_}
+use mathlib.Core.List.{List}
 use borrow.Author.Tests.{eqb-true, eq-eqb}
 use lib.Dec.{eqb}
-use lib.ListN.{length}
 use Rattle.expression.specs.declared.Role.{Role}
 use Rattle.expression.specs.declared.Credential.{Credential}
 use Rattle.expression.specs.declared.Expression.{Expression}
 use Rattle.expression.specs.declared.Expression.the-variants as E
 use Rattle.expression.specs.Same.{same, same-eq, eq-same}
 use Rattle.rt0.specs.declared.Pool.{Pool}
-use Rattle.rt0.specs.From.{roleOf, From, reflexive, transitive, credential, linking, intersection}
+use Rattle.rt0.specs.From.{roleOf, From, reflexive, transitive, credential, linking}
 use Rattle.rt0.specs.Lists.{false-true, or-cases, or-left, or-right, and-parts, and-both}
 use Rattle.rt0.specs.Decide.{from?}
 use Rattle.rt0.specs.Laws as R
 use Rattle.rt0.specs.Laws.{Reach, reach, ends, role-ends, role-entity, sound, complete, decides}
 use Rattle.rt0.specs.Pool.{headAt, bodyAt}
 use Rattle.closure.specs.declared.Rules.{Rules}
-use Rattle.closure.specs.Rules.{el, bits, Takes, Used, Model, Within, Closed}
-use Rattle.relation.specs.Table.{rowOf, bitOf, rowFor, chosen, Row, Compiled, Relation, Start, ownRole, ownLink, atOnce, Asked}
-use Rattle.relation.specs.Exact.{chosen-find, known-of, Hold, unreach, row-found, row-cases, bit-found, bit-cases, bit-here, row-for, Truth, from-truth, to-truth, truth-row, truth-e, takes-sound, truth-model, takes-hold, all-held}
+use Rattle.closure.specs.Rules.{el, bits, Takes, Used, Within, Closed}
+use Rattle.rules.specs.Table.{rowOf, bitOf, rowFor, chosen, Row, Compiled}
+use Rattle.rules.specs.Exact.{chosen-find, known-of, Hold, unreach, row-found, bit-found, bit-cases, bit-here, row-for, Truth, from-truth, to-truth, truth-row, takes-sound, truth-model, takes-hold, all-held}
+use Rattle.relation.specs.Relation.{Relation, Start, ownRole, ownLink, atOnce, Asked}
 
 not-asked : false ≡ true → {A : Type 0} → A
 not-asked h = absurd (false-true h)

@@ -1,13 +1,13 @@
 -- The expression asked about as one more rule, and the answer. Assumes nothing.
-use Prim.Native.Nat.{ℕ, zero, suc, _+_, _*_, _/_, _%_, _≤_, _<_}
+use Prim.Native.Nat.{ℕ, zero, suc, _/_, _%_, _≤_, _<_}
 use native.Mathlib.Omega.{arith}
 use mathlib.Core.Path.{_≡_, refl, sym, _∙_, ap, subst}
-use mathlib.Core.Logic.{_⊎_, inl, inr, ⊎-elim}
-use mathlib.Core.Bool.{Bool, true, false, _&&_, _||_, cond}
-use mathlib.Core.List.{List, [], _∷_}
-use borrow.Author.Tests.{eqb-true, eqb-false, eq-eqb}
+use mathlib.Core.Logic.{⊎-elim}
+use mathlib.Core.Bool.{Bool, true, false, _||_, cond}
+use mathlib.Core.List.{List}
+use borrow.Author.Tests.{eqb-true, eq-eqb}
 use lib.Dec.{eqb}
-use lib.ListN.{getD, length, set, replicate, length-replicate}
+use lib.ListN.{getD, set, replicate, length-replicate}
 use lib.Seq.{getD-set-same}
 use Rattle.expression.specs.declared.Role.{Role}
 use Rattle.expression.specs.declared.Expression.{Expression}
@@ -15,20 +15,21 @@ use Rattle.expression.specs.declared.Expression.the-variants as E
 use Rattle.expression.specs.Same.{same}
 use Rattle.word.specs.Bit.{bitAt}
 use Rattle.rt0.specs.declared.Pool.{Pool}
-use Rattle.rt0.specs.Lists.{false-true, or-right}
+use Rattle.rt0.specs.Lists.{or-right}
 use Rattle.rt0.specs.Decide.{from?}
-use Rattle.rt0.specs.Pool.{headAt, bodyAt, credentials}
+use Rattle.rt0.specs.Pool.{headAt, credentials}
 use Rattle.closure.specs.declared.Rules.{Rules}
-use Rattle.closure.specs.Rules.{el, bits, Fits, Under, Takes, Within, Closed, rulesOf}
+use Rattle.closure.specs.Rules.{el, bits, Fits, Takes, Within, Closed, rulesOf}
 use Rattle.closure.specs.Words.{WordOf}
-use Rattle.relation.specs.declared.Four.{Four}
-use Rattle.relation.specs.Table.{rowOf, bitOf, rowFor, chosen, Relation, Unnamed, Names, Row, Compiled, atOnce, Asked}
-use Rattle.relation.specs.Exact.{chosen-all, bit-cases}
+use Rattle.rules.specs.declared.Four.{Four}
+use Rattle.rules.specs.Table.{bitOf, rowFor, chosen, Row}
+use Rattle.rules.specs.Exact.{chosen-all, bit-cases}
+use Rattle.rules.specs.Columns.{fourRows, firstRow, isLinked, Able, NamedLink, Column, headRow, PartsTo}
+use Rattle.rules.specs.ColumnLaws.{put4, put-four, put-under, four-small, row-for-small, first-small, under-start, under-add, no-bits, not-linked}
+use Rattle.rules.specs.Ruled.{Ruled, row-of, linked-name, false-of, compiled-of}
+use Rattle.relation.specs.Relation.{Relation, atOnce, Asked}
 use Rattle.relation.specs.Answer.{answered, answered-entity, answered-alone}
-use Rattle.relation.specs.Columns.{fourRows, firstRow, isLinked, Able, NamedLink, Column, headRow, PartsTo, FourUnder}
-use Rattle.relation.specs.ColumnLaws.{put4, put-four, put-under, four-small, row-for-small, first-small, under-start, under-add, no-bits, not-linked}
-use Rattle.relation.specs.Question.{Ruled, Reached}
-use Rattle.relation.specs.QuestionLaws.{row-of, linked-name, false-of, compiled-of}
+use Rattle.relation.specs.Question.{Reached}
 
 -- the rule of f alone
 abbrev pub ruleOf : ℕ → List ℕ → Four → ℕ → List ℕ → List ℕ → Rules
@@ -135,20 +136,3 @@ ones (suc n) (suc i) l = ones n i (omega arith)
 pub all-on : (P : Pool) → P .count ≤ 128 → chosen P (replicate 128 1) ≡ credentials P
 unfolding chosen credentials
 all-on P small = chosen-all P (replicate 128 1) (P .count) (λ i l. ones 128 i (omega arith))
-
--- the rules by their columns
-pub by-columns : (P : Pool) (X : Rules) → Ruled P X → Ruled P (rulesOf (P .count) (X .words) (X .head) (X .part) (X .first) (X .named) (X .src))
-by-columns P X r =
-    record {
-      count = refl;
-      wide = r .wide;
-      words = r .words;
-      head = r .head;
-      part = r .part;
-      first = r .first;
-      lit = r .lit;
-      able = r .able;
-      links = r .links;
-      names = r .names;
-      linked = r .linked;
-    }
