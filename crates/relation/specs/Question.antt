@@ -36,6 +36,7 @@ pub record OwnRow (P : Pool) (e : Expression) (r : ℕ) : Type 0 where
   pub says : (r ≡ 129) ⊎ ((r < P .count) × (E.Role (headAt P r) ≡ e))
   pub own : (p : Role) → E.Role p ≡ e → r ≡ rowFor P e p
 
+-- credential i is on, and its body is from e at once
 unfoldable pub startsAt : Pool → List ℕ → List ℕ → Expression → ℕ → Bool
 startsAt P on K e i = eqb (el on i) 1 && atOnce P K e (bodyAt P i)
 

@@ -30,6 +30,7 @@ pub record Start (P : Pool) (on K : List ℕ) : Type 0 where
 
 -- What is from e at once: e itself, and a.m where e is B.m and B is in a by the rows K
 
+-- the expression is B.m, with B in a by the rows K
 abbrev pub ownRole : Pool → List ℕ → Role → ℕ → Expression → Bool
 ownRole P K a m (E.Entity b) = false
 ownRole P K a m (E.Role q) = eqb (q .name) m && bits K (rowOf P a) (bitOf P (q .entity))
@@ -37,6 +38,7 @@ ownRole P K a m (E.Linked p n) = false
 ownRole P K a m (E.Intersection p) = false
 ownRole P K a m (E.Goal n) = false
 
+-- x is a link a.m, and e is such a B.m
 abbrev pub ownLink : Pool → List ℕ → Expression → Expression → Bool
 ownLink P K e (E.Entity b) = false
 ownLink P K e (E.Role p) = false
@@ -44,6 +46,7 @@ ownLink P K e (E.Linked a m) = ownRole P K a m e
 ownLink P K e (E.Intersection p) = false
 ownLink P K e (E.Goal n) = false
 
+-- x is from e at once
 unfoldable pub atOnce : Pool → List ℕ → Expression → Expression → Bool
 atOnce P K e x = same x e || ownLink P K e x
 

@@ -14,6 +14,7 @@ ghost use Rattle.rules.specs.Table.{rowOf, rowFor};
 ghost use Rattle.rules.specs.Columns.{fourRows, PartsTo};
 ghost use Rattle.relation.specs.Question.{OwnRow};
 
+// The row of p where e is asked about; old is its row.
 fn aim<'a>(
     n: usize,
     heads: &'a [u16; 256],

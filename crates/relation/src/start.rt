@@ -40,6 +40,7 @@ fn own_role<'a>(
     bit(rows, r, s)
 }
 
+// Whether e is B.m, with B in the role a.
 fn own<'a>(
     n: usize,
     heads: &'a [u16; 256],

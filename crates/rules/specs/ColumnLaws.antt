@@ -14,6 +14,7 @@ use Rattle.expression.specs.declared.Parts.{Parts}
 use Rattle.expression.specs.declared.Expression.{Expression}
 use Rattle.expression.specs.declared.Expression.the-variants as E
 use Rattle.expression.specs.Form.{pickExpression}
+use Rattle.expression.specs.Same.{same}
 use Rattle.word.specs.Bit.{bitAt, bit-zero}
 use Rattle.rt0.specs.declared.Pool.{Pool}
 use Rattle.rt0.specs.Lists.{false-true, and-parts, and-both}
@@ -31,9 +32,11 @@ repeated zero v i = inr refl
 repeated (suc n) v zero = inl refl
 repeated (suc n) v (suc i) = repeated n v i
 
+-- a list of one number below the bound
 pub under-start : (bound len v : ℕ) → v < bound → 0 < bound → Under bound (replicate len v)
 under-start bound len v h z = record { under = λ i. ⊎-elim (λ q. rw q h) (λ q. rw q z) (repeated len v i) }
 
+-- a number below the bound stored in it
 pub under-add : (bound k v : ℕ) (l : List ℕ) → k < length l → v < bound → Under bound l → Under bound (set l k v)
 under-add bound k v l h b u = record { under = λ j. go j (eqb j k) refl }
   where
@@ -43,9 +46,11 @@ under-add bound k v l h b u = record { under = λ j. go j (eqb j k) refl }
 
 -- A column, one number after another
 
+-- a column with nothing filled
 pub column-start : (f : ℕ → ℕ) (len bound v : ℕ) → v < bound → 0 < bound → Column f len bound 0 (replicate len v)
 column-start f len bound v h z = record { sized = length-replicate {A = ℕ} len v; upto = λ j l. absurd (omega arith); under = under-start bound len v h z }
 
+-- the next number stored
 pub column-add : (f : ℕ → ℕ) (len bound k v : ℕ) (l : List ℕ) → k < len → v ≡ f k → v < bound → Column f len bound k l → Column f len bound (k + 1) (set l k v)
 column-add f len bound k v l h q b inv =
     record { sized = length-set l k v ∙ inv .sized; upto = λ j m. go j m (eqb j k) refl; under = under-add bound k v l (omega (arith, inv .sized)) b (inv .under) }
@@ -54,23 +59,27 @@ column-add f len bound k v l h q b inv =
     go j m true e = let z : j ≡ k = eqb-true j k e in rw z (getD-set-same l k v 0 (omega (arith, inv .sized)) ∙ q)
     go j m false e = getD-set-other l k j v 0 (eqb-false j k e) ∙ inv .upto j (omega (arith, eqb-false j k e))
 
+-- the column filled up to n
 pub column-end : (f : ℕ → ℕ) (len bound i n : ℕ) (l : List ℕ) → i ≤ n → n ≤ i → Column f len bound i l → Column f len bound n l
 column-end f len bound i n l a b c = let z : i ≡ n = omega arith in subst (λ (x : ℕ). Column f len bound x l) z c
 
 -- Rows are below 130
 
+-- a role's row
 pub row-small : (P : Pool) → P .count ≤ 128 → (p : Role) → rowOf P p < 130
 row-small P small p = ⊎-elim (λ h. omega arith) (λ h. omega arith) (row-cases P small p)
 
+-- a role's row where e is asked about
 pub row-for-small : (P : Pool) → P .count ≤ 128 → (e : Expression) (p : Role) → rowFor P e p < 130
 unfolding rowFor
-row-for-small P small e p = go (eqb (rowOf P p) 128) (Rattle.expression.specs.Same.same (E.Role p) e) (rowOf P p) (row-small P small p)
+row-for-small P small e p = go (eqb (rowOf P p) 128) (same (E.Role p) e) (rowOf P p) (row-small P small p)
   where
     go : (t u : Bool) (x : ℕ) → x < 130 → cond t (cond u 129 128) x < 130
     go true true x h = omega arith
     go true false x h = omega arith
     go false u x h = h
 
+-- a rule's membership row
 pub first-small : (P : Pool) → P .count ≤ 128 → (x : Expression) → firstRow P x < 130
 first-small P small (E.Entity b) = omega arith
 first-small P small (E.Role p) = omega arith
@@ -78,6 +87,7 @@ first-small P small (E.Linked a m) = row-small P small a
 first-small P small (E.Intersection p) = omega arith
 first-small P small (E.Goal m) = omega arith
 
+-- a rule's four rows
 pub four-small : (ρ : Role → ℕ) → ((p : Role) → ρ p < 130) → (x : Expression) → FourUnder 130 (fourRows ρ x)
 four-small ρ h (E.Entity b) = record { a = omega arith; b = omega arith; c = omega arith; d = omega arith }
 four-small ρ h (E.Role p) = record { a = h p; b = h p; c = h p; d = h p }
@@ -124,15 +134,18 @@ module _ (l : List ℕ) (at : ℕ) (r : Four) where
     put-d : el (put4 l at r) (at + 3) ≡ r .d
     put-d = getD-set-same (set (set (set l at (r .a)) (at + 1) (r .b)) (at + 2) (r .c)) (at + 3) (r .d) 0 (simp length-set (omega arith))
 
+    -- four numbers below the bound stay below it when stored
     pub put-under : (bound : ℕ) → FourUnder bound r → Under bound l → Under bound (put4 l at r)
     put-under bound f u =
         under-add bound (at + 3) (r .d) _ (simp length-set (omega arith)) (f .d)
         (under-add bound (at + 2) (r .c) _ (simp length-set (omega arith)) (f .c)
         (under-add bound (at + 1) (r .b) _ (omega (arith, length-set l at (r .a))) (f .b) (under-add bound at (r .a) l (omega arith) (f .a) u)))
 
+-- they are read back
 pub put-four : (l : List ℕ) (i : ℕ) (r : Four) → i * 4 + 3 < length l → fourAt (put4 l (i * 4) r) i ≡ r
 put-four l i r room = λ k. record { a = put-a l (i * 4) r room k; b = put-b l (i * 4) r room k; c = put-c l (i * 4) r room k; d = put-d l (i * 4) r room k }
 
+-- the other rules keep theirs
 pub put-before : (l : List ℕ) (i j : ℕ) (r : Four) → (j ≡ i → ⊥) → fourAt (put4 l (i * 4) r) j ≡ fourAt l j
 put-before l i j r ne = λ k. record {
   a = put-other l (i * 4) r (j * 4) (λ q. ne (omega arith)) (λ q. omega arith) (λ q. omega arith) (λ q. omega arith) k;
@@ -142,9 +155,11 @@ put-before l i j r ne = λ k. record {
 }
 
 module _ (ρ : Role → ℕ) (P : Pool) where
+  -- no rule stored
   pub parts-start : PartsTo ρ P 0 (replicate 512 128)
   parts-start = record { sized = length-replicate {A = ℕ} 512 128; under = under-start 130 512 128 (omega arith) (omega arith); four = λ i l. absurd (omega arith) }
 
+  -- the rows of the next rule stored
   pub parts-add : ((p : Role) → ρ p < 130) → (k : ℕ) (l : List ℕ) (r : Four) → k < 128 → r ≡ fourRows ρ (bodyAt P k) → PartsTo ρ P k l → PartsTo ρ P (k + 1) (put4 l (k * 4) r)
   parts-add small k l r h q inv =
       let room : k * 4 + 3 < length l = omega (arith, inv .sized) in
@@ -158,6 +173,7 @@ module _ (ρ : Role → ℕ) (P : Pool) where
       go i m true e = let z : i ≡ k = eqb-true i k e in rw z (put-four l k r (omega (arith, inv .sized)) ∙ q)
       go i m false e = put-before l k i r (eqb-false i k e) ∙ inv .four i (omega (arith, eqb-false i k e))
 
+  -- the rows of all rules
   pub parts-end : (i n : ℕ) (l : List ℕ) → i ≤ n → n ≤ i → PartsTo ρ P i l → PartsTo ρ P n l
   parts-end i n l a b c = let z : i ≡ n = omega arith in subst (λ (x : ℕ). PartsTo ρ P x l) z c
 
@@ -175,9 +191,11 @@ linked-kind P i a m h = go (eqb (el (P .kinds) (i * 2)) 1) (eqb (el (P .kinds) (
 
 -- The heads that links can go by
 
+-- head j is its own row: its entity's bit
 pub source-here : (P : Pool) (h j s : ℕ) → h ≡ rowOf P (headAt P j) → h ≡ j → s ≡ bitOf P (headAt P j .entity) → s ≡ linkSource P j
 source-here P h j s q e z = z ∙ sym (rw (eq-eqb (rowOf P (headAt P j)) j (sym q ∙ e)))
 
+-- head j is not its own row: none
 pub source-none : (P : Pool) (h j : ℕ) → h ≡ rowOf P (headAt P j) → (h ≡ j → ⊥) → 128 ≡ linkSource P j
 source-none P h j q e = sym (rw (ne-eqb (rowOf P (headAt P j)) j (λ z. e (q ∙ z))))
 
@@ -192,6 +210,7 @@ source-all : (P : Pool) (j s : ℕ) → s ≡ linkSource P j → rowOf P (headAt
 source-all P j s q e = q ∙ rw (eq-eqb (rowOf P (headAt P j)) j e)
 
 module _ (P : Pool) where
+  -- no head looked at
   pub able-start : (lit : Bool) → Able P lit 0 (replicate 128 0) (replicate 128 0)
   able-start lit =
       record {
@@ -202,6 +221,7 @@ module _ (P : Pool) where
         all = λ _ j l. absurd (omega arith);
       }
 
+  -- where none are sought, none are needed
   pub able-off : (lit : Bool) (n : ℕ) → lit ≡ false → Able P lit n (replicate 128 0) (replicate 128 0)
   able-off lit n q =
       record {
@@ -212,6 +232,7 @@ module _ (P : Pool) where
         all = λ z. absurd (false-true (sym q ∙ z));
       }
 
+  -- head j has a source: it is marked
   pub able-add : P .count ≤ 128 → (lit : Bool) (src able : List ℕ) (j s : ℕ) → j < P .count → s ≡ linkSource P j → s < 128 → Able P lit j src able → Able P lit (j + 1) (set src j s) (set able j 1)
   able-add small lit src able j s l q b inv =
       let qs : s ≡ bitOf P (headAt P j .entity) = source-bit P j s q b in
@@ -241,6 +262,7 @@ module _ (P : Pool) where
       on z k y x w true e = rw (eqb-true k j e) (getD-set-same able j 1 0 (omega (arith, inv .sized′)))
       on z k y x w false e = getD-set-other able j k 1 0 (eqb-false k j e) ∙ inv .all z k (omega (arith, eqb-false k j e)) x w
 
+  -- head j has no source
   pub able-skip : (lit : Bool) (src able : List ℕ) (j s : ℕ) → s ≡ linkSource P j → P .count ≤ 128 → 128 ≤ s → Able P lit j src able → Able P lit (j + 1) src able
   able-skip lit src able j s q small nay inv =
       record {
@@ -259,15 +281,18 @@ module _ (P : Pool) where
           absurd (omega arith)
       go z k y x w false e = inv .all z k (omega (arith, eqb-false k j e)) x w
 
+  -- all heads looked at
   pub able-end : (lit : Bool) (src able : List ℕ) (j n : ℕ) → j ≤ n → n ≤ j → Able P lit j src able → Able P lit n src able
   able-end lit src able j n a b c = let z : j ≡ n = omega arith in subst (λ (x : ℕ). Able P lit x src able) z c
 
 -- The heads that a link names
 
 module _ (P : Pool) (able : List ℕ) (i m : ℕ) (N : List ℕ) where
+  -- no head looked at
   pub name-start : length N ≡ 260 → NamedRow P able i m 0 N N
   name-start h = record { sized = h; kept = record { within = λ r s z. z }; says = λ q t z. inl z; all = λ t l. absurd (omega arith) }
 
+  -- head j is named: its bit is marked
   pub name-add : (j : ℕ) (N₁ N₂ : List ℕ) {b : Bool} → b ≡ isNamed P able m j → b ≡ true → NamedRow P able i m j N N₁ → Marked N₁ i j N₂ → NamedRow P able i m (j + 1) N N₂
   name-add j N₁ N₂ e h inv new =
       let k = and-parts (eqb (el able j) 1) (eqb (headAt P j .name) m) (sym e ∙ h) in
@@ -284,6 +309,7 @@ module _ (P : Pool) (able : List ℕ) (i m : ℕ) (N : List ℕ) where
       go t l a n true z = rw (eqb-true t j z) (new .here)
       go t l a n false z = new .kept .within i t (inv .all t (omega (arith, eqb-false t j z)) a n)
 
+  -- head j is not named
   pub name-skip : (j : ℕ) (N₁ : List ℕ) {b : Bool} → b ≡ isNamed P able m j → b ≡ false → NamedRow P able i m j N N₁ → NamedRow P able i m (j + 1) N N₁
   name-skip j N₁ e h inv =
       record {
@@ -299,13 +325,16 @@ module _ (P : Pool) (able : List ℕ) (i m : ℕ) (N : List ℕ) where
           absurd (false-true (sym (sym e ∙ h) ∙ and-both (eqb (el able j) 1) (eqb (headAt P j .name) m) (eq-eqb (el able j) 1 (rw q at a)) (eq-eqb (headAt P j .name) m (rw q at n))))
       go t l a n false z = inv .all t (omega (arith, eqb-false t j z)) a n
 
+  -- all heads looked at
   pub name-end : (j n : ℕ) (N₁ : List ℕ) → j ≤ n → n ≤ j → NamedRow P able i m j N N₁ → NamedRow P able i m n N N₁
   name-end j n N₁ a b c = let z : j ≡ n = omega arith in subst (λ (x : ℕ). NamedRow P able i m x N N₁) z c
 
+-- what is no link is not equal to one
 pub not-linked : (x : Expression) → isLinked x ≡ false → (a : Role) (m : ℕ) → x ≡ E.Linked a m → ⊥
 not-linked x h a m q = false-true (sym h ∙ ap isLinked q)
 
 module _ (P : Pool) (able : List ℕ) (i k : ℕ) (x : Expression) (N : List ℕ) where
+  -- a link names the heads of its name
   pub link-row : (a : Role) (m : ℕ) (N′ : List ℕ) → x ≡ E.Linked a m → NamedRow P able i m k N N′ → NamedLink P able i k x N N′
   link-row a m N′ q r =
       record {
@@ -318,9 +347,11 @@ module _ (P : Pool) (able : List ℕ) (i k : ℕ) (x : Expression) (N : List ℕ
       same-name : (a b : Role) (m n : ℕ) → E.Linked a m ≡ E.Linked b n → m ≡ n
       same-name a b m n e = cc
 
+  -- what is no link names nothing
   pub link-none : length N ≡ 260 → ((a : Role) (m : ℕ) → x ≡ E.Linked a m → ⊥) → NamedLink P able i k x N N
   link-none h none = record { sized = h; kept = record { within = λ r s z. z }; says = λ p t z. inl z; all = λ a m t q. absurd (none a m q) }
 
+-- a table of zeros has no bits
 pub no-bits : (n r s : ℕ) → bits (replicate n 0) r s ≡ true → ⊥
 unfolding bits
 no-bits n r s h =
@@ -329,9 +360,11 @@ no-bits n r s h =
     false-true (sym (bit-zero (s % 64)) ∙ sym (ap (λ (x : ℕ). bitAt x (s % 64)) z) ∙ k)
 
 module _ (P : Pool) (able : List ℕ) where
+  -- no body looked at
   pub names-start : NamesTo P able 0 (replicate 260 0)
   names-start = record { sized = length-replicate {A = ℕ} 260 0; says = λ q t z. absurd (no-bits 260 q t z); all = λ q a m t l. absurd (omega arith) }
 
+  -- the link of body k is taken in
   pub names-add : (k : ℕ) (x : Expression) (N N′ : List ℕ) → x ≡ bodyAt P k → NamesTo P able k N → NamedLink P able k (P .count) x N N′ → NamesTo P able (k + 1) N′
   names-add k x N N′ e inv new =
       record {
@@ -346,6 +379,7 @@ module _ (P : Pool) (able : List ℕ) where
       go q a m t l h b c d true z = let w : q ≡ k = eqb-true q k z in rw w (new .all a m t (e ∙ (rw w at h)) b c d)
       go q a m t l h b c d false z = new .kept .within q t (inv .all q a m t (omega (arith, eqb-false q k z)) h b c d)
 
+  -- body k is no link
   pub names-skip : (k : ℕ) (N : List ℕ) → hasLink P k ≡ false → NamesTo P able k N → NamesTo P able (k + 1) N
   names-skip k N none inv =
       record {
@@ -358,5 +392,6 @@ module _ (P : Pool) (able : List ℕ) where
       go q a m t l h b c d true z = let w : q ≡ k = eqb-true q k z in absurd (false-true (sym none ∙ linked-kind P k a m (rw w at h)))
       go q a m t l h b c d false z = inv .all q a m t (omega (arith, eqb-false q k z)) h b c d
 
+  -- all bodies looked at
   pub names-end : (i n : ℕ) (N : List ℕ) → i ≤ n → n ≤ i → NamesTo P able i N → NamesTo P able n N
   names-end i n N a b c = let z : i ≡ n = omega arith in subst (λ (x : ℕ). NamesTo P able x N) z c

@@ -31,6 +31,7 @@ firstRow P (E.Linked a m) = rowOf P a
 firstRow P (E.Intersection p) = 128
 firstRow P (E.Goal m) = 128
 
+-- the expression is a link
 abbrev pub isLinked : Expression → Bool
 isLinked (E.Entity b) = false
 isLinked (E.Role p) = false
@@ -44,15 +45,19 @@ pub record Column (f : ℕ → ℕ) (len bound k : ℕ) (l : List ℕ) : Type 0 
   pub upto : (j : ℕ) → j < k → el l j ≡ f j
   pub under : Under bound l
 
+-- the row of head i
 abbrev pub headRow : Pool → ℕ → ℕ
 headRow P i = rowOf P (headAt P i)
 
+-- the membership row of the rule of body i
 abbrev pub bodyFirst : Pool → ℕ → ℕ
 bodyFirst P i = firstRow P (bodyAt P i)
 
+-- the four rows at rule i of a column
 abbrev pub fourAt : List ℕ → ℕ → Four
 fourAt l i = record { a = el l (i * 4); b = el l (i * 4 + 1); c = el l (i * 4 + 2); d = el l (i * 4 + 3) }
 
+-- four rows below the bound
 pub record FourUnder (bound : ℕ) (r : Four) : Type 0 where
   pub a : r .a < bound
   pub b : r .b < bound
@@ -93,6 +98,7 @@ pub record NamesTo (P : Pool) (able : List ℕ) (k : ℕ) (N : List ℕ) : Type 
   pub says : (q t : ℕ) → bits N q t ≡ true → (a : Role) × (m : ℕ) × (q < k) × (bodyAt P q ≡ E.Linked a m) × (t < P .count) × (el able t ≡ 1) × (headAt P t .name ≡ m)
   pub all : (q : ℕ) (a : Role) (m t : ℕ) → q < k → bodyAt P q ≡ E.Linked a m → t < P .count → el able t ≡ 1 → headAt P t .name ≡ m → bits N q t ≡ true
 
+-- links can go by head t, and its name is m
 abbrev pub isNamed : Pool → List ℕ → ℕ → ℕ → Bool
 isNamed P able m t = eqb (el able t) 1 && eqb (headAt P t .name) m
 

@@ -25,6 +25,7 @@ use Rattle.closure.specs.Rules.{el, bits, Takes, memOf, Used, Model, Within}
 use Rattle.rules.specs.Table.{isHead, rowOf, isBody, bitOf, rowFor, chosenTo, chosen, third, fourth, Unnamed, Row, entity, goal, role, linked, intersection as meet, Compiled}
 use Rattle.rules.specs.Search.{anyTo-here, any-cases, first-found, first-none}
 
+-- what is reached is from
 pub unreach : {C : List Credential} {x y : Expression} → Reach C x y → From C x y
 unreach here = reflexive
 unreach (step m h) = transitive (credential m) (unreach h)
@@ -34,6 +35,7 @@ unreach (each h) = intersection (λ p m. unreach (h p m))
 -- The credentials that are on
 
 module _ (P : Pool) (on : List ℕ) where
+  -- a credential that is on is among the chosen
   pub chosen-mem : (n i : ℕ) → i < n → el on i ≡ 1 → List·Memᴰ (credentialAt P i) (chosenTo P on n)
   chosen-mem zero i l o = absurd (omega arith)
   chosen-mem (suc n) i l o = go (eqb i n) refl (λ k. chosen-mem n i k o)
@@ -45,6 +47,7 @@ module _ (P : Pool) (on : List ℕ) where
           rw o′ (Memᴰ·append-right (chosenTo P on n) (List·Memᴰ·head (ap (credentialAt P) z)))
       go false e ih = Memᴰ·append-left (cond (eqb (el on n) 1) (credentialAt P n ∷ []) []) (ih (omega (arith, eqb-false i n e)))
 
+  -- each of the chosen is a credential that is on
   pub chosen-find : (n : ℕ) (c : Credential) → List·Memᴰ c (chosenTo P on n) → (i : ℕ) × (i < n) × (el on i ≡ 1) × (c ≡ credentialAt P i)
   chosen-find zero c m = absurd (List·Memᴰ·not-nil m)
   chosen-find (suc n) c m =
@@ -65,18 +68,21 @@ module _ (P : Pool) (on : List ℕ) where
 -- Rows and bits
 
 module _ (P : Pool) (small : P .count ≤ 128) where
+  -- a row below 128 is that of a head
   pub row-found : (p : Role) → rowOf P p < 128 → (rowOf P p < P .count) × (headAt P (rowOf P p) ≡ p)
   unfolding rowOf
   row-found p l = ⊎-elim
       (λ h. let r = first-found (P .count) (isHead P p) h in (r .0, sameRole-eq (headAt P (rowOf P p)) p (r .1)))
       (λ h. absurd (omega (arith, first-none (P .count) (isHead P p) h))) (any-cases (P .count) (isHead P p))
 
+  -- a head has a row
   pub row-here : (p : Role) (i : ℕ) → i < P .count → headAt P i ≡ p → (rowOf P p < P .count) × (headAt P (rowOf P p) ≡ p)
   unfolding rowOf
   row-here p i l e =
       let r = first-found (P .count) (isHead P p) (anyTo-here (P .count) (isHead P p) i l (eq-sameRole (headAt P i) p e)) in
       (r .0, sameRole-eq (headAt P (rowOf P p)) p (r .1))
 
+  -- a row is below 128, or 128
   pub row-cases : (p : Role) → (rowOf P p < 128) ⊎ (rowOf P p ≡ 128)
   unfolding rowOf
   row-cases p = ⊎-elim
@@ -89,12 +95,14 @@ module _ (P : Pool) (small : P .count ≤ 128) where
       let q = and-parts (eqb (el (P .kinds) (s * 2)) 1) (eqb (el (P .numbers) (s * 8)) b) h in
       rw (q .0) (ap E.Entity (eqb-true (el (P .numbers) (s * 8)) b (q .1)))
 
+  -- a bit below 128 is that of a body
   pub bit-found : (b : ℕ) → bitOf P b < 128 → (bitOf P b < P .count) × (bodyAt P (bitOf P b) ≡ E.Entity b)
   unfolding bitOf
   bit-found b l = ⊎-elim
       (λ h. let r = first-found (P .count) (isBody P b) h in (r .0, body-at b (bitOf P b) (r .1)))
       (λ h. absurd (omega (arith, first-none (P .count) (isBody P b) h))) (any-cases (P .count) (isBody P b))
 
+  -- a bit is that of a credential, or 128
   pub bit-cases : (b : ℕ) → (bitOf P b < P .count) ⊎ (bitOf P b ≡ 128)
   unfolding bitOf
   bit-cases b = ⊎-elim (λ h. inl (first-found (P .count) (isBody P b) h .0)) (λ h. inr (first-none (P .count) (isBody P b) h)) (any-cases (P .count) (isBody P b))
@@ -111,6 +119,7 @@ module _ (P : Pool) (small : P .count ≤ 128) where
       go false false false true x y z n p m q h = absurd (let d : _≡_ {A = ℕ} 0 1 = cc in omega arith)
       go false false false false x y z n p m q h = absurd (let d : _≡_ {A = ℕ} 0 1 = cc in omega arith)
 
+  -- an entity that is a body has a bit
   pub bit-here : (b k : ℕ) → k < P .count → bodyAt P k ≡ E.Entity b → (bitOf P b < P .count) × (bodyAt P (bitOf P b) ≡ E.Entity b)
   unfolding bitOf
   bit-here b k l e =
@@ -120,6 +129,7 @@ module _ (P : Pool) (small : P .count ≤ 128) where
 -- The four roles of an intersection's rule are its roles
 
 module _ (p : Parts) (G : Role → Type 0) where
+  -- what holds of the four holds of each role
   pub four-all : G (p .first) → G (p .second) → G (third p) → G (fourth p) → (a : Role) → List·Memᴰ a (rolesOf p) → G a
   four-all g₀ g₁ g₂ g₃ a m = go (eqb (p .count) 2) (eqb (p .count) 3) g₂ g₃ m
     where
@@ -132,6 +142,7 @@ module _ (p : Parts) (G : Role → Type 0) where
       go false true h₂ h₃ m = ⊎-elim (λ q. hit q g₀) (λ k. ⊎-elim (λ q. hit q g₁) (λ k. ⊎-elim (λ q. hit q h₂) (λ k. absurd (List·Memᴰ·not-nil k)) (List·Memᴰ·cases-cons k)) (List·Memᴰ·cases-cons k)) (List·Memᴰ·cases-cons m)
       go false false h₂ h₃ m = ⊎-elim (λ q. hit q g₀) (λ k. ⊎-elim (λ q. hit q g₁) (λ k. ⊎-elim (λ q. hit q h₂) (λ k. ⊎-elim (λ q. hit q h₃) (λ k. absurd (List·Memᴰ·not-nil k)) (List·Memᴰ·cases-cons k)) (List·Memᴰ·cases-cons k)) (List·Memᴰ·cases-cons k)) (List·Memᴰ·cases-cons m)
 
+  -- what holds of each role holds of the four
   pub all-four : ((a : Role) → List·Memᴰ a (rolesOf p) → G a) → G (p .first) × G (p .second) × G (third p) × G (fourth p)
   all-four h = (h _ (List·Memᴰ·head refl), h _ (List·Memᴰ·tail (List·Memᴰ·head refl)), go (eqb (p .count) 2) (eqb (p .count) 3) h .0, go (eqb (p .count) 2) (eqb (p .count) 3) h .1)
     where
@@ -147,6 +158,7 @@ module _ (P : Pool) (on : List ℕ) (small : P .count ≤ 128) (e : Expression) 
   abbrev C : List Credential
   C = chosen P on
 
+  -- a role's row is that of a head, or 128, or 129 where the role is e
   pub row-for : (p : Role) → ((rowFor P e p ≡ rowOf P p) × (rowOf P p < P .count) × (headAt P (rowOf P p) ≡ p)) ⊎ (((rowFor P e p ≡ 128) × (rowOf P p ≡ 128)) ⊎ ((rowFor P e p ≡ 129) × (rowOf P p ≡ 128) × (E.Role p ≡ e)))
   unfolding rowFor
   row-for p = ⊎-elim
@@ -161,16 +173,19 @@ module _ (P : Pool) (on : List ℕ) (small : P .count ≤ 128) (e : Expression) 
   unfoldable pub Truth : ℕ → ℕ → Bool
   Truth r s = cond (eqb r 129) asked (ltb r (P .count) && from? C (E.Role (headAt P r)) (t s))
 
+  -- what a head's row says is true
   pub from-truth : (r s : ℕ) → r < P .count → Truth r s ≡ true → From C (E.Role (headAt P r)) (t s)
   unfolding Truth
   from-truth r s l h =
       let z : eqb r 129 ≡ false = ne-eqb r 129 (λ q. omega arith) in
       sound C (E.Role (headAt P r)) (t s) (and-parts (ltb r (P .count)) _ (rw z at h) .1)
 
+  -- what is true of a head its row says
   pub to-truth : (r s : ℕ) → r < P .count → From C (E.Role (headAt P r)) (t s) → Truth r s ≡ true
   unfolding Truth
   to-truth r s l h = rw (ne-eqb r 129 (λ q. omega arith)) (and-both (ltb r (P .count)) _ (lt-ltb r (P .count) l) (complete C (E.Role (headAt P r)) (t s) h))
 
+  -- only heads and row 129 have bits
   pub truth-row : (r s : ℕ) → Truth r s ≡ true → ((r ≡ 129) × (asked ≡ true)) ⊎ (r < P .count)
   unfolding Truth
   truth-row r s h = go (eqb r 129) refl h
@@ -179,12 +194,15 @@ module _ (P : Pool) (on : List ℕ) (small : P .count ≤ 128) (e : Expression) 
       go true q k = inl (eqb-true r 129 q, k)
       go false q k = inr (ltb-true r (P .count) (and-parts (ltb r (P .count)) _ k .0))
 
+  -- row 128 is empty
   pub no-truth : (s : ℕ) → Truth 128 s ≡ true → ⊥
   no-truth s h = ⊎-elim (λ k. let q : 128 ≡ 129 = k .0 in omega arith) (λ l. omega arith) (truth-row 128 s h)
 
+  -- where row 129 has bit s, it stands for e
   pub truth-e : (s : ℕ) → Truth 129 s ≡ true → t s ≡ e
   truth-e s h = ⊎-elim (λ k. is-e (k .1) s) (λ l. absurd (omega arith)) (truth-row 129 s h)
 
+  -- what a role's row says is true of the role
   pub good : (p : Role) (s : ℕ) → Truth (rowFor P e p) s ≡ true → From C (E.Role p) (t s)
   good p s h = ⊎-elim
       (λ k. subst (λ (q : Role). From C (E.Role q) (t s)) (k .2) (from-truth (rowOf P p) s (k .1) (rw (k .0) at h)))
@@ -196,8 +214,8 @@ module _ (P : Pool) (on : List ℕ) (small : P .count ≤ 128) (e : Expression) 
     unnamed : (i j : ℕ) → Unnamed X i → bits (X .named) i j ≡ true → ⊥
     unnamed i j z h = false-true (sym (z .none j) ∙ h)
 
-    -- what a rule gives is true of its expression
     module _ (In : ℕ → Type 0) (M : ℕ → ℕ → Bool) (members : (a : Role) (b : ℕ) → bitOf P b < P .count → M (rowOf P a) (bitOf P b) ≡ true → From C (E.Role a) (E.Entity b)) where
+      -- a rule gives no more than what is true of its expression
       pub takes-sound : (i : ℕ) (x : Expression) → Row P e X i x → (g : ℕ → Bool) → ((s : ℕ) → In s → From C x (t s) → g s ≡ true) → Takes X i In M Truth g
       takes-sound i x (entity q z) g up = record { meet = λ s u a b c d. absurd (no-truth s (rw (q .p0) at a)); link = λ j s u n m v. absurd (unnamed i j z n) }
       takes-sound i x (goal q z) g up = record { meet = λ s u a b c d. absurd (no-truth s (rw (q .p0) at a)); link = λ j s u n m v. absurd (unnamed i j z n) }
@@ -217,6 +235,7 @@ module _ (P : Pool) (on : List ℕ) (small : P .count ≤ 128) (e : Expression) 
             link = λ j s u n m v. absurd (unnamed i j z n);
           }
 
+    -- what is true is a model of the rules
     pub truth-model : Compiled P e X → (own : Bool) (M : List ℕ)
         → ((a : Role) (b : ℕ) → bitOf P b < P .count → memOf own Truth (bits M) (rowOf P a) (bitOf P b) ≡ true → From C (E.Role a) (E.Entity b)) → Model X on own (bits M) Truth
     unfolding chosen
@@ -232,9 +251,11 @@ module _ (P : Pool) (on : List ℕ) (small : P .count ≤ 128) (e : Expression) 
 
     -- what is true of an expression its rule gives
     module _ (In : ℕ → Type 0) (K : List ℕ) (M : ℕ → ℕ → Bool) (within : Within (bits K) Truth) where
+      -- the rows K say that role p is from what bit s stands for
       abbrev pub Known : ℕ → Role → Type 0
       Known s p = bits K (rowFor P e p) s ≡ true
 
+      -- the rows K say so of the expression, or of the roles that it is made of
       abbrev pub Hold : ℕ → Expression → Type 0
       Hold s (E.Entity b) = E.Entity b ≡ t s
       Hold s (E.Role p) = Known s p
@@ -246,6 +267,7 @@ module _ (P : Pool) (on : List ℕ) (small : P .count ≤ 128) (e : Expression) 
       abbrev pub Own : ℕ → Expression → Type 0
       Own s x = (a : Role) × (m : ℕ) × (b : ℕ) × (x ≡ E.Linked a m) × (bitOf P b < P .count) × (M (rowOf P a) (bitOf P b) ≡ true) × (E.Role (roleOf b m) ≡ t s)
 
+      -- what holds of an expression its rule gives
       pub takes-hold : (i s : ℕ) (x : Expression) → In s → Row P e X i x → (g : ℕ → Bool) → Takes X i In M (bits K) g → (x ≡ t s → g s ≡ true) → (Own s x → g s ≡ true) → Hold s x → g s ≡ true
       takes-hold i s x u (entity q z) g take base own h = base h
       takes-hold i s x u (goal q z) g take base own h = base h
@@ -269,6 +291,7 @@ module _ (P : Pool) (on : List ℕ) (small : P .count ≤ 128) (e : Expression) 
       takes-hold i s x u (meet {p = p} q z) g take base own h = ⊎-elim (λ z. base z)
           (λ k. let f = all-four p (Known s) k in take .meet s u (rw (q .p0) (f .0)) (rw (q .p1) (f .1)) (rw (q .p2) (f .2)) (rw (q .p3) (f .3))) h
 
+      -- a bit in a role's own row makes the role known
       pub known-of : (p : Role) (s : ℕ) → bits K (rowOf P p) s ≡ true → Known s p
       known-of p s h = ⊎-elim (λ k. rw (k .0) h)
           (λ v. ⊎-elim (λ k. absurd (no-truth s (within .within 128 s (rw (k .1) at h)))) (λ k. absurd (no-truth s (within .within 128 s (rw (k .1) at h)))) v) (row-for p)
@@ -286,6 +309,7 @@ module _ (P : Pool) (on : List ℕ) (small : P .count ≤ 128) (e : Expression) 
         at-once (E.Intersection p) s v q = inl q
         at-once (E.Goal m) s v q = q
 
+        -- rows that are closed, and have what is so at once, have all that is reached
         pub all-held : {x y : Expression} → Reach C x y → (s : ℕ) → Valid s → y ≡ t s → Hold s x
         unfolding chosen
         all-held {x = x} here s v q = at-once x s v q

@@ -48,10 +48,12 @@ row-of P e X i x four first names none = go x four first names none
     go (E.Intersection p) q f n u = intersection (quad q) (u refl)
     go (E.Goal m) q f n u = goal (quad q) (u refl)
 
+-- what is not true is false
 pub false-of : (b : Bool) → (b ≡ true → ⊥) → b ≡ false
 false-of true h = absurd (h refl)
 false-of false h = refl
 
+-- equal links have equal names
 pub linked-name : {a b : Role} {m n : ℕ} → E.Linked a m ≡ E.Linked b n → m ≡ n
 linked-name e = cc
 
@@ -104,6 +106,7 @@ four-map ρ σ h (E.Linked a m) = refl
 four-map ρ σ h (E.Intersection p) = λ i. record { a = h (p .first) i; b = h (p .second) i; c = h (third p) i; d = h (fourth p) i }
 four-map ρ σ h (E.Goal m) = refl
 
+-- the rules where no role is asked about
 pub compiled-plain : (P : Pool) → P .count ≤ 128 → (X : Rules) → Ruled P X → Compiled P (E.Entity 0) X
 compiled-plain P small X ruled =
     compiled-of P small (E.Entity 0) X X ruled refl (ruled .words) refl refl refl refl

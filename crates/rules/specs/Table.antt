@@ -25,6 +25,7 @@ abbrev pub firstTo : ℕ → (ℕ → Bool) → ℕ
 firstTo zero f = 128
 firstTo (suc n) f = cond (anyTo n f) (firstTo n f) (cond (f n) n 128)
 
+-- credential j has the role p as its head
 abbrev pub isHead : Pool → Role → ℕ → Bool
 isHead P p j = sameRole (headAt P j) p
 
@@ -32,6 +33,7 @@ isHead P p j = sameRole (headAt P j) p
 unfoldable pub rowOf : Pool → Role → ℕ
 rowOf P p = firstTo (P .count) (isHead P p)
 
+-- credential s has the entity b as its body
 abbrev pub isBody : Pool → ℕ → ℕ → Bool
 isBody P b s = eqb (el (P .kinds) (s * 2)) 1 && eqb (el (P .numbers) (s * 8)) b
 
@@ -43,23 +45,26 @@ bitOf P b = firstTo (P .count) (isBody P b)
 unfoldable pub rowFor : Pool → Expression → Role → ℕ
 rowFor P e p = cond (eqb (rowOf P p) 128) (cond (same (E.Role p) e) 129 128) (rowOf P p)
 
--- the credentials of a pool that are on
+-- the credentials below k that are on
 abbrev pub chosenTo : Pool → List ℕ → ℕ → List Credential
 chosenTo P on zero = []
 chosenTo P on (suc k) = chosenTo P on k ++ cond (eqb (el on k) 1) (credentialAt P k ∷ []) []
 
+-- the credentials of a pool that are on
 unfoldable pub chosen : Pool → List ℕ → List Credential
 chosen P on = chosenTo P on (P .count)
 
 -- The rule of an expression
 
--- four roles that stand for those of an intersection
+-- the third role of an intersection, or the first where there is none
 abbrev pub third : Parts → Role
 third p = cond (eqb (p .count) 2) (p .first) (p .third)
 
+-- the fourth role, or the first
 abbrev pub fourth : Parts → Role
 fourth p = cond (eqb (p .count) 2) (p .first) (cond (eqb (p .count) 3) (p .first) (p .fourth))
 
+-- the four parts of rule i
 pub record Quad (X : Rules) (i a b c d : ℕ) : Type 0 where
   pub p0 : el (X .part) (i * 4) ≡ a
   pub p1 : el (X .part) (i * 4 + 1) ≡ b

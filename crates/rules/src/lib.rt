@@ -39,6 +39,7 @@ pub struct Links {
     pub able: [u8; 128],
 }
 
+// The third role of an intersection, or the first where there is none.
 pub fn third_of(p: Parts) -> Role
     ensures { λ r. ⌜ r ≡ third p ⌝ }
 {
@@ -48,6 +49,7 @@ pub fn third_of(p: Parts) -> Role
     p.third
 }
 
+// The fourth role, or the first.
 pub fn fourth_of(p: Parts) -> Role
     ensures { λ r. ⌜ r ≡ fourth p ⌝ }
 {
@@ -60,6 +62,7 @@ pub fn fourth_of(p: Parts) -> Role
     p.fourth
 }
 
+// The rows of an intersection's roles.
 fn meet_rows<'a>(
     n: usize,
     heads: &'a [u16; 256],
@@ -126,6 +129,7 @@ pub fn rows_of<'a>(
     }
 }
 
+// The membership row of the rule of x: that of a in a link a.m.
 pub fn first_of<'a>(
     n: usize,
     heads: &'a [u16; 256],
@@ -145,6 +149,7 @@ pub fn first_of<'a>(
     }
 }
 
+// Whether x is a link.
 pub fn is_linked(x: Expression) -> bool
     ensures { λ r. ⌜ r ≡ isLinked x ⌝ }
 {

@@ -11,6 +11,7 @@ ghost use Rattle.rt0.specs.Pool.{poolOf};
 ghost use Rattle.rules.specs.Table.{anyTo};
 ghost use Rattle.rules.specs.Columns.{Column, headRow, Able, NamedRow, NamedLink, NamesTo, isNamed, hasLink, linkSource};
 
+// Whether body i is a link.
 fn has_link<'a>(
     n: usize,
     heads: &'a [u16; 256],
@@ -91,6 +92,7 @@ pub fn linkable<'a>(
     Links { src, able }
 }
 
+// Whether links can go by head j, and its name is m.
 fn is_named<'a>(
     n: usize,
     heads: &'a [u16; 256],

@@ -5,6 +5,7 @@ ghost use Prim.Native.Nat.{_<_, _≤_};
 ghost use Rattle.rt0.specs.Pool.{poolOf};
 ghost use Rattle.rules.specs.Table.{isHead, rowOf, isBody, bitOf};
 
+// Whether credential j has p as its head.
 fn is_head<'a>(
     n: usize,
     heads: &'a [u16; 256],
@@ -43,6 +44,7 @@ pub fn row<'a>(
     128
 }
 
+// Whether credential s has the entity b as its body.
 fn is_body<'a>(
     n: usize,
     heads: &'a [u16; 256],
