@@ -1,29 +1,29 @@
 -- Closed rows are the relation, and closed rows of a question answer it. Assumes nothing.
-use Prim.Native.Nat.{ℕ, zero, suc, _+_, _*_, _/_, _%_, _≤_, _<_}
+use Prim.Native.Nat.{ℕ, _*_, _≤_, _<_}
 use native.Mathlib.Omega.{arith}
 use mathlib.Core.Path.{_≡_, refl, sym, _∙_, ap, subst}
-use mathlib.Core.Logic.{_⊎_, inl, inr, ⊎-elim}
-use mathlib.Core.Bool.{Bool, true, false, _&&_, _||_, cond}
-use mathlib.Core.List.{List, [], _∷_, List·Memᴰ}
-use borrow.Author.Tests.{eqb-true, eq-eqb}
-use lib.Dec.{eqb}
-use lib.ListN.{length}
+use mathlib.Core.Logic.{inl, inr, ⊎-elim}
+use mathlib.Core.Bool.{Bool, true, false, _||_}
+use mathlib.Core.List.{List}
+use borrow.Author.Tests.{eqb-true, eq-eqb, ltb-true}
+use lib.Dec.{eqb, ltb}
 use Rattle.expression.specs.declared.Role.{Role}
 use Rattle.expression.specs.declared.Credential.{Credential}
 use Rattle.expression.specs.declared.Expression.{Expression}
 use Rattle.expression.specs.declared.Expression.the-variants as E
 use Rattle.expression.specs.Same.{same, same-eq, eq-same}
 use Rattle.rt0.specs.declared.Pool.{Pool}
-use Rattle.rt0.specs.From.{roleOf, From, reflexive, transitive, credential, linking, intersection}
+use Rattle.rt0.specs.From.{roleOf, From, reflexive, transitive, credential, linking}
 use Rattle.rt0.specs.Lists.{false-true, or-cases, or-left, or-right, and-parts, and-both}
 use Rattle.rt0.specs.Decide.{from?}
 use Rattle.rt0.specs.Laws as R
 use Rattle.rt0.specs.Laws.{Reach, reach, ends, role-ends, role-entity, sound, complete, decides}
 use Rattle.rt0.specs.Pool.{headAt, bodyAt}
 use Rattle.closure.specs.declared.Rules.{Rules}
-use Rattle.closure.specs.Rules.{el, bits, Takes, Used, Model, Within, Closed}
-use Rattle.relation.specs.Table.{rowOf, bitOf, rowFor, chosen, Row, Compiled, Relation, Start, ownRole, ownLink, atOnce, Asked}
-use Rattle.relation.specs.Exact.{chosen-find, known-of, Hold, unreach, row-found, row-cases, bit-found, bit-cases, bit-here, row-for, Truth, from-truth, to-truth, truth-row, truth-e, takes-sound, truth-model, takes-hold, all-held}
+use Rattle.closure.specs.Rules.{el, bits, Takes, Used, Within, Closed}
+use Rattle.rules.specs.Table.{rowOf, bitOf, rowFor, chosen, Row, Compiled}
+use Rattle.rules.specs.Exact.{chosen-find, known-of, Hold, unreach, row-found, bit-found, bit-cases, bit-here, row-for, Truth, from-truth, to-truth, truth-row, takes-sound, truth-model, takes-hold, all-held}
+use Rattle.relation.specs.Relation.{Relation, Start, ownRole, ownLink, atOnce, Asked}
 
 not-asked : false ≡ true → {A : Type 0} → A
 not-asked h = absurd (false-true h)
@@ -73,6 +73,7 @@ module _ (P : Pool) (on : List ℕ) (small : P .count ≤ 128) (e : Expression) 
   seeded : (i s : ℕ) → i < P .count → el on i ≡ 1 → Valid s → bodyAt P i ≡ bodyAt P s → bits K (rowOf P (headAt P i)) s ≡ true
   seeded i s l o v q = rw (v .1) (closed .grown .kept .within _ _ (start .seeds i (v .0) l o (q ∙ valid-entity s v)))
 
+  -- rows closed from a start are the relation
   pub related : Relation P on K
   related =
       record {
@@ -91,6 +92,7 @@ module _ (P : Pool) (on : List ℕ) (small : P .count ≤ 128) (e : Expression) 
 -- Membership by the relation
 
 module _ (P : Pool) (on : List ℕ) (small : P .count ≤ 128) (K : List ℕ) (rel : Relation P on K) where
+  -- a bit that the relation has is a membership
   pub member-says : (a : Role) (b : ℕ) → bits K (rowOf P a) (bitOf P b) ≡ true → bitOf P b < P .count → From (chosen P on) (E.Role a) (E.Entity b)
   member-says a b h l =
       let r = rel .says (rowOf P a) (bitOf P b) h in
@@ -103,7 +105,7 @@ module _ (P : Pool) (on : List ℕ) (small : P .count ≤ 128) (K : List ℕ) (r
 
 bits-below : (K : List ℕ) (r s : ℕ) → bits K r s ≡ true → s < 128
 unfolding bits
-bits-below K r s h = borrow.Author.Tests.ltb-true s 128 (and-parts (lib.Dec.ltb s 128) _ h .0)
+bits-below K r s h = ltb-true s 128 (and-parts (ltb s 128) _ h .0)
 
 module _ (P : Pool) (on : List ℕ) (small : P .count ≤ 128) (K : List ℕ) (rel : Relation P on K) (e : Expression) where
   own-says : (a : Role) (m : ℕ) (y : Expression) → ownRole P K a m y ≡ true → From (chosen P on) (E.Linked a m) y
@@ -123,10 +125,12 @@ module _ (P : Pool) (on : List ℕ) (small : P .count ≤ 128) (K : List ℕ) (r
   link-says (E.Intersection p) h = absurd (false-true h)
   link-says (E.Goal n) h = absurd (false-true h)
 
+  -- what is from e at once is from e
   pub once-says : (x : Expression) → atOnce P K e x ≡ true → From (chosen P on) x e
   unfolding atOnce
   once-says x h = ⊎-elim (λ q. subst (λ (y : Expression). From (chosen P on) x y) (same-eq x e q) reflexive) (λ q. link-says x q) (or-cases _ _ h)
 
+  -- e is from e at once
   pub once-same : (x : Expression) → x ≡ e → atOnce P K e x ≡ true
   unfolding atOnce
   once-same x q = or-left _ _ (eq-same x e q)
@@ -134,6 +138,7 @@ module _ (P : Pool) (on : List ℕ) (small : P .count ≤ 128) (K : List ℕ) (r
   own-set : (a : Role) (m b : ℕ) (y : Expression) → bits K (rowOf P a) (bitOf P b) ≡ true → E.Role (roleOf b m) ≡ y → ownRole P K a m y ≡ true
   own-set a m b y h q = subst (λ (z : Expression). ownRole P K a m z ≡ true) q (and-both _ _ (eq-eqb m m refl) h)
 
+  -- a.m is from B.m at once, where B is in a
   pub once-link : (x : Expression) (a : Role) (m b : ℕ) → x ≡ E.Linked a m → bits K (rowOf P a) (bitOf P b) ≡ true → E.Role (roleOf b m) ≡ e → atOnce P K e x ≡ true
   unfolding atOnce
   once-link x a m b q h z = rw q (or-right (same (E.Linked a m) e) _ (own-set a m b e h z))
@@ -236,6 +241,7 @@ module _ (P : Pool) (on : List ℕ) (small : P .count ≤ 128) (K : List ℕ) (r
     members-rel : (a : Role) (c : ℕ) → bitOf P c < P .count → bits K (rowOf P a) (bitOf P c) ≡ true → From (chosen P on) (E.Role a) (E.Entity c)
     members-rel a c l h = member-says P on small K rel a c h l
 
+    -- a rule of the expression f, where bit bitOf b of what it gives is w, says whether f is from the entity
     pub answered-entity : (f : Expression) (i : ℕ) (w : Bool) → Row P (E.Entity b) Y i f → Takes Y i (λ s. s ≡ bitOf P b) (bits K) (bits K) (λ s. w)
         → ((m G : ℕ → ℕ → Bool) (g : Bool) → Within (bits K) G → Within (bits K) m → Takes Y i (λ s. s ≡ bitOf P b) m G (λ s. g) → w ≡ true → g ≡ true)
         → (atOnce P K (E.Entity b) f || w) ≡ from? (chosen P on) f (E.Entity b)

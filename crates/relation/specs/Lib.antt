@@ -1,9 +1,5 @@
-pub mod Table
-pub mod Search
-pub mod Exact
+pub mod Relation
 pub mod Answer
-pub mod Columns
-pub mod ColumnLaws
 pub mod Question
 pub mod QuestionLaws
 pub mod Reached

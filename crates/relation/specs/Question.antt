@@ -1,11 +1,11 @@
 -- What the steps of a question promise. Assumes nothing.
-use Prim.Native.Nat.{ℕ, zero, suc, _+_, _*_, _≤_, _<_}
+use Prim.Native.Nat.{ℕ, _<_}
 use mathlib.Core.Path.{_≡_}
 use mathlib.Core.Logic.{_⊎_}
-use mathlib.Core.Bool.{Bool, true, false, _&&_, _||_, cond}
-use mathlib.Core.List.{List, [], _∷_}
+use mathlib.Core.Bool.{Bool, true, _&&_, _||_}
+use mathlib.Core.List.{List}
 use lib.Dec.{eqb}
-use lib.ListN.{getD, length}
+use lib.ListN.{length}
 use Rattle.expression.specs.declared.Role.{Role}
 use Rattle.expression.specs.declared.Expression.{Expression}
 use Rattle.expression.specs.declared.Expression.the-variants as E
@@ -13,23 +13,9 @@ use Rattle.rt0.specs.declared.Pool.{Pool}
 use Rattle.rt0.specs.From.{From}
 use Rattle.rt0.specs.Pool.{headAt, bodyAt}
 use Rattle.closure.specs.declared.Rules.{Rules}
-use Rattle.closure.specs.Rules.{el, bits, Under, Takes, Within}
-use Rattle.relation.specs.Table.{anyTo, rowOf, bitOf, rowFor, chosen, Row, atOnce}
-use Rattle.relation.specs.Columns.{Column, headRow, bodyFirst, PartsTo, Able, NamesTo, hasLink}
-
--- the columns of the rules of a pool
-pub record Ruled (P : Pool) (X : Rules) : Type 0 where
-  pub count : X .count ≡ P .count
-  pub wide : P .count ≤ 64 * X .words
-  pub words : X .words ≤ 2
-  pub head : Column (headRow P) 128 130 (P .count) (X .head)
-  pub part : PartsTo (rowOf P) P (P .count) (X .part)
-  pub first : Column (bodyFirst P) 128 130 (P .count) (X .first)
-  pub lit : Bool
-  pub able : List ℕ
-  pub links : Able P lit (P .count) (X .src) able
-  pub names : NamesTo P able (P .count) (X .named)
-  pub linked : anyTo (P .count) (hasLink P) ≡ true → lit ≡ true
+use Rattle.closure.specs.Rules.{el, bits, Takes, Within}
+use Rattle.rules.specs.Table.{rowOf, bitOf, rowFor, chosen, Row}
+use Rattle.relation.specs.Relation.{atOnce}
 
 -- the rows K with what credential i says at once
 pub record Seeded (P : Pool) (i : ℕ) (K K′ : List ℕ) : Type 0 where
@@ -50,6 +36,7 @@ pub record OwnRow (P : Pool) (e : Expression) (r : ℕ) : Type 0 where
   pub says : (r ≡ 129) ⊎ ((r < P .count) × (E.Role (headAt P r) ≡ e))
   pub own : (p : Role) → E.Role p ≡ e → r ≡ rowFor P e p
 
+-- credential i is on, and its body is from e at once
 unfoldable pub startsAt : Pool → List ℕ → List ℕ → Expression → ℕ → Bool
 startsAt P on K e i = eqb (el on i) 1 && atOnce P K e (bodyAt P i)
 

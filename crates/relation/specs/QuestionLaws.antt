@@ -1,52 +1,53 @@
 -- The steps of a question, one after another. Assumes nothing.
-use Prim.Native.Nat.{ℕ, zero, suc, _+_, _*_, _/_, _%_, _≤_, _<_}
+use Prim.Native.Nat.{ℕ, _+_, _≤_, _<_}
 use native.Mathlib.Omega.{arith}
 use mathlib.Core.Path.{_≡_, refl, sym, _∙_, ap, subst}
 use mathlib.Core.Logic.{_⊎_, inl, inr, ⊎-elim}
-use mathlib.Core.Bool.{Bool, true, false, _&&_, _||_, cond}
-use mathlib.Core.List.{List, [], _∷_}
+use mathlib.Core.Bool.{Bool, true, false}
+use mathlib.Core.List.{List, List·Memᴰ}
 use borrow.Author.Tests.{eqb-true, eqb-false, eq-eqb, ne-eqb}
 use lib.Dec.{eqb}
-use lib.ListN.{getD, length, set, replicate, length-replicate}
+use lib.ListN.{length, set, replicate, length-replicate}
 use lib.Seq.{getD-set-same, getD-set-other}
 use Rattle.expression.specs.declared.Role.{Role}
-use Rattle.expression.specs.declared.Parts.{Parts}
+use Rattle.expression.specs.declared.Credential.{Credential}
 use Rattle.expression.specs.declared.Expression.{Expression}
 use Rattle.expression.specs.declared.Expression.the-variants as E
-use Rattle.expression.specs.Same.{same, same-eq}
+use Rattle.expression.specs.Same.{same, eq-same}
 use Rattle.rt0.specs.declared.Pool.{Pool}
 use Rattle.rt0.specs.From.{From, reflexive, transitive, credential}
 use Rattle.rt0.specs.Lists.{false-true, and-parts, and-both}
 use Rattle.rt0.specs.Laws.{more}
-use Rattle.rt0.specs.Pool.{headAt, bodyAt, credentialAt}
-use Rattle.closure.specs.declared.Rules.{Rules}
-use Rattle.closure.specs.Rules.{el, bits, Fits, Under, Within, Marked, rulesOf}
-use Rattle.relation.specs.declared.Four.{Four}
-use Rattle.relation.specs.Table.{anyTo, rowOf, bitOf, rowFor, chosen, third, fourth, Relation, Start, Quad, Unnamed, Names, Row, entity, goal, role, linked, intersection, Compiled, atOnce, Asked}
-use Rattle.relation.specs.Search.{anyTo-here}
-use Rattle.relation.specs.Exact.{chosen-mem, chosen-find, row-found, row-here, row-cases, bit-found, bit-here}
+use Rattle.rt0.specs.Pool.{headAt, bodyAt}
+use Rattle.closure.specs.Rules.{el, bits, Marked}
+use Rattle.rules.specs.Table.{rowOf, bitOf, rowFor, chosen}
+use Rattle.rules.specs.Exact.{chosen-mem, chosen-find, row-found, row-here, row-cases, bit-here}
+use Rattle.rules.specs.ColumnLaws.{no-bits, row-for-small}
+use Rattle.relation.specs.Relation.{Relation, Start, atOnce, Asked}
 use Rattle.relation.specs.Answer.{once-says}
-use Rattle.relation.specs.Columns.{fourRows, firstRow, isLinked, Column, headRow, bodyFirst, fourAt, PartsTo, Able, NamesTo, hasLink}
-use Rattle.relation.specs.ColumnLaws.{linked-kind, no-bits, not-linked, row-for-small}
-use Rattle.relation.specs.Question.{Ruled, Seeded, StartTo, OwnRow, startsAt, AskedTo}
+use Rattle.relation.specs.Question.{Seeded, StartTo, OwnRow, startsAt, AskedTo}
 
 -- The row of a role where e is asked about
 
 module _ (P : Pool) (e : Expression) (p : Role) (old : ℕ) (q : old ≡ rowOf P p) where
+  -- a role that is a head keeps its row
   pub aim-kept : (old ≡ 128 → ⊥) → old ≡ rowFor P e p
   unfolding rowFor
   aim-kept z = rw (← q, ne-eqb old 128 z)
 
+  -- e itself, where it is no head, has row 129
   pub aim-own : old ≡ 128 → {b : Bool} → b ≡ same (E.Role p) e → b ≡ true → 129 ≡ rowFor P e p
   unfolding rowFor
   aim-own z h k = rw (← q, eq-eqb old 128 z, sym h ∙ k)
 
+  -- any other role that is no head has row 128
   pub aim-none : old ≡ 128 → {b : Bool} → b ≡ same (E.Role p) e → b ≡ false → 128 ≡ rowFor P e p
   unfolding rowFor
   aim-none z h k = rw (← q, eq-eqb old 128 z, sym h ∙ k)
 
 -- The row of e itself
 
+-- the expression is a role
 abbrev pub isRole : Expression → Bool
 isRole (E.Entity b) = false
 isRole (E.Role p) = true
@@ -54,9 +55,11 @@ isRole (E.Linked a m) = false
 isRole (E.Intersection p) = false
 isRole (E.Goal m) = false
 
+-- where e is no role, row 129 stands for it
 pub own-none : (P : Pool) (e : Expression) → isRole e ≡ false → OwnRow P e 129
 own-none P e h = record { small = omega arith; says = inl refl; own = λ p q. absurd (false-true (sym h ∙ sym (ap isRole q))) }
 
+-- where e is a role, its row where it is asked about stands for it
 pub own-role : (P : Pool) → P .count ≤ 128 → (e : Expression) (q : Role) (r : ℕ) → e ≡ E.Role q → r ≡ rowFor P e q → OwnRow P e r
 unfolding rowFor
 own-role P small e q r z h =
@@ -71,7 +74,7 @@ own-role P small e q r z h =
 
     go : (t u : Bool) → eqb (rowOf P q) 128 ≡ t → same (E.Role q) e ≡ u → (r ≡ 129) ⊎ ((r < P .count) × (E.Role (headAt P r) ≡ e))
     go true true x y = inl (h ∙ rw (x, y))
-    go true false x y = absurd (false-true (sym y ∙ Rattle.expression.specs.Same.eq-same (E.Role q) e (sym z)))
+    go true false x y = absurd (false-true (sym y ∙ eq-same (E.Role q) e (sym z)))
     go false u x y =
         let k : r ≡ rowOf P q = h ∙ rw x in
         let f = ⊎-elim (λ l. row-found P small q l) (λ w. absurd (eqb-false (rowOf P q) 128 x w)) (row-cases P small q) in
@@ -79,6 +82,7 @@ own-role P small e q r z h =
 
 -- What a credential says at once
 
+-- the expression is an entity
 abbrev pub isEntity : Expression → Bool
 isEntity (E.Entity b) = true
 isEntity (E.Role p) = false
@@ -87,9 +91,11 @@ isEntity (E.Intersection p) = false
 isEntity (E.Goal m) = false
 
 module _ (P : Pool) (i : ℕ) (K : List ℕ) where
+  -- a body that is no entity says nothing at once
   pub seed-none : length K ≡ 260 → (x : Expression) → x ≡ bodyAt P i → isEntity x ≡ false → Seeded P i K K
   seed-none h x q n = record { sized = h; kept = record { within = λ r s z. z }; says = λ r s z. inl z; all = λ b z. absurd (false-true (sym n ∙ ap isEntity (q ∙ z))) }
 
+  -- a body that is an entity says its bit
   pub seed-mark : (x : Expression) (b r s : ℕ) (K′ : List ℕ) → x ≡ bodyAt P i → x ≡ E.Entity b → r ≡ rowOf P (headAt P i) → s ≡ bitOf P b → Marked K r s K′ → Seeded P i K K′
   seed-mark x b r s K′ q z hr hs m =
       record {
@@ -115,9 +121,11 @@ module _ (P : Pool) (on : List ℕ) (small : P .count ≤ 128) where
       let g = bit-here P small b i l q in
       (rw hr (f .0), rw (hr, hs) (rw (f .1, g .1) (rw q at (credential (chosen-mem P on (P .count) i l o)))))
 
+  -- no credential looked at
   pub start-start : StartTo P on 0 (replicate 260 0)
   start-start = record { sized = length-replicate {A = ℕ} 260 0; says = λ r s z. absurd (no-bits 260 r s z); seeds = λ i b l. absurd (omega arith) }
 
+  -- credential k is on: what it says is taken in
   pub start-add : (k : ℕ) (K K′ : List ℕ) → k < P .count → el on k ≡ 1 → Seeded P k K K′ → StartTo P on k K → StartTo P on (k + 1) K′
   start-add k K K′ l o new inv =
       record {
@@ -130,6 +138,7 @@ module _ (P : Pool) (on : List ℕ) (small : P .count ≤ 128) where
       go i b m p q true z = let y : i ≡ k = eqb-true i k z in rw y (new .all b (rw y at q))
       go i b m p q false z = new .kept .within _ _ (inv .seeds i b (omega (arith, eqb-false i k z)) p q)
 
+  -- credential k is off
   pub start-skip : (k : ℕ) (K : List ℕ) → (el on k ≡ 1 → ⊥) → StartTo P on k K → StartTo P on (k + 1) K
   start-skip k K off inv = record { sized = inv .sized; says = inv .says; seeds = λ i b m p q. go i b m p q (eqb i k) refl }
     where
@@ -137,6 +146,7 @@ module _ (P : Pool) (on : List ℕ) (small : P .count ≤ 128) where
       go i b m p q true z = let y : i ≡ k = eqb-true i k z in absurd (off (rw y at p))
       go i b m p q false z = inv .seeds i b (omega (arith, eqb-false i k z)) p q
 
+  -- all credentials looked at
   pub start-end : (k : ℕ) (K : List ℕ) → P .count ≤ k → StartTo P on k K → Start P on K
   start-end k K l inv = record { sized = inv .sized; says = inv .says; seeds = λ i b m p q. inv .seeds i b (omega arith) p q }
 
@@ -160,10 +170,10 @@ module _ (P : Pool) (on : List ℕ) (small : P .count ≤ 128) where
           pick true z = rw (eqb-true j i z) here
           pick false z = rw q (getD-set-other was i j 1 0 (eqb-false j i z) ∙ h)
 
-      keep : (c : Rattle.expression.specs.declared.Credential.Credential) → mathlib.Core.List.List·Memᴰ c (chosen P was) → mathlib.Core.List.List·Memᴰ c (chosen P on)
+      keep : (c : Credential) → List·Memᴰ c (chosen P was) → List·Memᴰ c (chosen P on)
       keep c m =
           let r = chosen-find P was (P .count) c m in
-          subst (λ (d : Rattle.expression.specs.declared.Credential.Credential). mathlib.Core.List.List·Memᴰ d (chosen P on)) (sym (r .3)) (chosen-mem P on (P .count) (r .0) (r .1) (still (r .0) (r .2)))
+          subst (λ (d : Credential). List·Memᴰ d (chosen P on)) (sym (r .3)) (chosen-mem P on (P .count) (r .0) (r .1) (still (r .0) (r .2)))
 
       go : (j b : ℕ) → j < P .count → el on j ≡ 1 → bodyAt P j ≡ E.Entity b → (t : Bool) → eqb j i ≡ t → bits K′ (rowOf P (headAt P j)) (bitOf P b) ≡ true
       go j b m p w true z = let y : j ≡ i = eqb-true j i z in rw y (new .all b (rw y at w))
@@ -175,6 +185,7 @@ module _ (P : Pool) (on : List ℕ) (small : P .count ≤ 128) where
 -- The rows that a question starts from
 
 module _ (P : Pool) (on K : List ℕ) (small : P .count ≤ 128) (rel : Relation P on K) (e : Expression) where
+  -- the row of e itself
   pub asked-start : (r : ℕ) (K₀ : List ℕ) → OwnRow P e r → Marked (replicate 260 0) r 0 K₀ → AskedTo P on K e 0 K₀
   asked-start r K₀ own m =
       record {
@@ -188,6 +199,7 @@ module _ (P : Pool) (on K : List ℕ) (small : P .count ≤ 128) (rel : Relation
   unfolding startsAt
   starts-parts i h k = let r = and-parts (eqb (el on i) 1) _ (sym h ∙ k) in (eqb-true (el on i) 1 (r .0), r .1)
 
+  -- credential k starts: its head's row is marked
   pub asked-add : (k r : ℕ) (K₀ K₁ : List ℕ) {b : Bool} → k < P .count → b ≡ startsAt P on K e k → b ≡ true → r ≡ rowOf P (headAt P k) → Marked K₀ r 0 K₁ → AskedTo P on K e k K₀ → AskedTo P on K e (k + 1) K₁
   unfolding chosen
   asked-add k r K₀ K₁ l h w hr m inv =
@@ -205,6 +217,7 @@ module _ (P : Pool) (on K : List ℕ) (small : P .count ≤ 128) (rel : Relation
       go i n o a true z = rw (eqb-true i k z) (rw (← hr) (m .here))
       go i n o a false z = m .kept .within _ _ (inv .seeds i (omega (arith, eqb-false i k z)) o a)
 
+  -- credential k does not start
   pub asked-skip : (k : ℕ) (K₀ : List ℕ) {b : Bool} → b ≡ startsAt P on K e k → b ≡ false → AskedTo P on K e k K₀ → AskedTo P on K e (k + 1) K₀
   unfolding startsAt
   asked-skip k K₀ h w inv = record { sized = inv .sized; says = inv .says; own = inv .own; seeds = λ i n o a. go i n o a (eqb i k) refl }
@@ -215,83 +228,6 @@ module _ (P : Pool) (on K : List ℕ) (small : P .count ≤ 128) (rel : Relation
           absurd (false-true (sym (sym h ∙ w) ∙ and-both (eqb (el on k) 1) _ (eq-eqb (el on k) 1 (rw y at o)) (rw y at a)))
       go i n o a false z = inv .seeds i (omega (arith, eqb-false i k z)) o a
 
+  -- all credentials looked at
   pub asked-end : (k : ℕ) (K₀ : List ℕ) → P .count ≤ k → AskedTo P on K e k K₀ → Asked P on K e K₀
   asked-end k K₀ l inv = record { sized = inv .sized; says = inv .says; own = inv .own; seeds = λ i n o a. inv .seeds i (omega arith) o a }
-
--- The columns are the rules
-
--- a column of rows that names no row, or those of a link, is the rule of an expression
-pub row-of : (P : Pool) (e : Expression) (X : Rules) (i : ℕ) (x : Expression) → fourAt (X .part) i ≡ fourRows (rowFor P e) x → el (X .first) i ≡ firstRow P x
-    → ((a : Role) (m : ℕ) → x ≡ E.Linked a m → Names P X i m) → (isLinked x ≡ false → Unnamed X i) → Row P e X i x
-row-of P e X i x four first names none = go x four first names none
-  where
-    quad : {r : Four} → fourAt (X .part) i ≡ r → Quad X i (r .a) (r .b) (r .c) (r .d)
-    quad q = record { p0 = ap (λ (r : Four). r .a) q; p1 = ap (λ (r : Four). r .b) q; p2 = ap (λ (r : Four). r .c) q; p3 = ap (λ (r : Four). r .d) q }
-
-    go : (x : Expression) → fourAt (X .part) i ≡ fourRows (rowFor P e) x → el (X .first) i ≡ firstRow P x → ((a : Role) (m : ℕ) → x ≡ E.Linked a m → Names P X i m) → (isLinked x ≡ false → Unnamed X i) → Row P e X i x
-    go (E.Entity b) q f n u = entity (quad q) (u refl)
-    go (E.Role p) q f n u = role (quad q) (u refl)
-    go (E.Linked a m) q f n u = linked (quad q) f (n a m refl)
-    go (E.Intersection p) q f n u = intersection (quad q) (u refl)
-    go (E.Goal m) q f n u = goal (quad q) (u refl)
-
-pub false-of : (b : Bool) → (b ≡ true → ⊥) → b ≡ false
-false-of true h = absurd (h refl)
-false-of false h = refl
-
-pub linked-name : {a b : Role} {m n : ℕ} → E.Linked a m ≡ E.Linked b n → m ≡ n
-linked-name e = cc
-
--- rules with other parts, where e is asked about
-pub compiled-of : (P : Pool) → P .count ≤ 128 → (e : Expression) (X Y : Rules) → Ruled P X → Y .count ≡ X .count → Y .words ≤ 2 → Y .head ≡ X .head → Y .first ≡ X .first → Y .named ≡ X .named → Y .src ≡ X .src
-    → PartsTo (rowFor P e) P (P .count) (Y .part) → Compiled P e Y
-compiled-of P small e X Y ruled qc qw qh qf qn qs parts =
-    record {
-      count = qc ∙ ruled .count;
-      fits =
-          record {
-            count = rw (qc ∙ ruled .count) small;
-            words = qw;
-            head = rw qh (ruled .head .under);
-            part = parts .under;
-            first = rw qf (ruled .first .under);
-            src = rw qs (ruled .links .under);
-          };
-      head = λ i l. rw qh (ruled .head .upto i l);
-      row = λ i l. row-of P e Y i (bodyAt P i) (parts .four i l) (rw qf (ruled .first .upto i l)) (λ a m q. named i l a m q) (λ n. unnamed i n);
-    }
-  where
-    unnamed : (i : ℕ) → isLinked (bodyAt P i) ≡ false → Unnamed Y i
-    unnamed i n = record { none = λ j. false-of (bits (Y .named) i j) (λ h. let r = ruled .names .says i j (rw qn at h) in not-linked (bodyAt P i) n (r .0) (r .1) (r .3)) }
-
-    named : (i : ℕ) → i < P .count → (a : Role) (m : ℕ) → bodyAt P i ≡ E.Linked a m → Names P Y i m
-    named i l a m q =
-        let lit : ruled .lit ≡ true = ruled .linked (anyTo-here (P .count) (hasLink P) i l (linked-kind P i a m q)) in
-        record {
-          says = λ j h.
-              let r = ruled .names .says i j (rw qn at h) in
-              let s = ruled .links .says j (r .5) in
-              (r .4, r .6 ∙ linked-name (sym (r .3) ∙ q), rw qs (s .1), s .2);
-          all = λ j k nm self b. rw qn (ruled .names .all i a m j l q k (ruled .links .all lit j k self b) nm);
-        }
-
--- where no role is asked about, a role's row is its own
-pub row-plain : (P : Pool) (b : ℕ) (p : Role) → rowOf P p ≡ rowFor P (E.Entity b) p
-unfolding rowFor same
-row-plain P b p = go (eqb (rowOf P p) 128) refl
-  where
-    go : (t : Bool) → eqb (rowOf P p) 128 ≡ t → rowOf P p ≡ cond t 128 (rowOf P p)
-    go true z = eqb-true (rowOf P p) 128 z
-    go false z = refl
-
-four-map : (ρ σ : Role → ℕ) → ((p : Role) → ρ p ≡ σ p) → (x : Expression) → fourRows ρ x ≡ fourRows σ x
-four-map ρ σ h (E.Entity b) = refl
-four-map ρ σ h (E.Role p) = λ i. record { a = h p i; b = h p i; c = h p i; d = h p i }
-four-map ρ σ h (E.Linked a m) = refl
-four-map ρ σ h (E.Intersection p) = λ i. record { a = h (p .first) i; b = h (p .second) i; c = h (third p) i; d = h (fourth p) i }
-four-map ρ σ h (E.Goal m) = refl
-
-pub compiled-plain : (P : Pool) → P .count ≤ 128 → (X : Rules) → Ruled P X → Compiled P (E.Entity 0) X
-compiled-plain P small X ruled =
-    compiled-of P small (E.Entity 0) X X ruled refl (ruled .words) refl refl refl refl
-    (record { sized = ruled .part .sized; under = ruled .part .under; four = λ i l. ruled .part .four i l ∙ four-map (rowOf P) (rowFor P (E.Entity 0)) (row-plain P 0) (bodyAt P i) })

@@ -1,13 +1,13 @@
 -- The expression asked about as one more rule, and the answer. Assumes nothing.
-use Prim.Native.Nat.{ℕ, zero, suc, _+_, _*_, _/_, _%_, _≤_, _<_}
+use Prim.Native.Nat.{ℕ, zero, suc, _/_, _%_, _≤_, _<_}
 use native.Mathlib.Omega.{arith}
 use mathlib.Core.Path.{_≡_, refl, sym, _∙_, ap, subst}
-use mathlib.Core.Logic.{_⊎_, inl, inr, ⊎-elim}
-use mathlib.Core.Bool.{Bool, true, false, _&&_, _||_, cond}
-use mathlib.Core.List.{List, [], _∷_}
-use borrow.Author.Tests.{eqb-true, eqb-false, eq-eqb}
+use mathlib.Core.Logic.{⊎-elim}
+use mathlib.Core.Bool.{Bool, true, false, _||_, cond}
+use mathlib.Core.List.{List}
+use borrow.Author.Tests.{eqb-true, eq-eqb}
 use lib.Dec.{eqb}
-use lib.ListN.{getD, length, set, replicate, length-replicate}
+use lib.ListN.{getD, set, replicate, length-replicate}
 use lib.Seq.{getD-set-same}
 use Rattle.expression.specs.declared.Role.{Role}
 use Rattle.expression.specs.declared.Expression.{Expression}
@@ -15,20 +15,21 @@ use Rattle.expression.specs.declared.Expression.the-variants as E
 use Rattle.expression.specs.Same.{same}
 use Rattle.word.specs.Bit.{bitAt}
 use Rattle.rt0.specs.declared.Pool.{Pool}
-use Rattle.rt0.specs.Lists.{false-true, or-right}
+use Rattle.rt0.specs.Lists.{or-right}
 use Rattle.rt0.specs.Decide.{from?}
-use Rattle.rt0.specs.Pool.{headAt, bodyAt, credentials}
+use Rattle.rt0.specs.Pool.{headAt, credentials}
 use Rattle.closure.specs.declared.Rules.{Rules}
-use Rattle.closure.specs.Rules.{el, bits, Fits, Under, Takes, Within, Closed, rulesOf}
+use Rattle.closure.specs.Rules.{el, bits, Fits, Takes, Within, Closed, rulesOf}
 use Rattle.closure.specs.Words.{WordOf}
-use Rattle.relation.specs.declared.Four.{Four}
-use Rattle.relation.specs.Table.{rowOf, bitOf, rowFor, chosen, Relation, Unnamed, Names, Row, Compiled, atOnce, Asked}
-use Rattle.relation.specs.Exact.{chosen-all, bit-cases}
+use Rattle.rules.specs.declared.Four.{Four}
+use Rattle.rules.specs.Table.{bitOf, rowFor, chosen, Row}
+use Rattle.rules.specs.Exact.{chosen-all, bit-cases}
+use Rattle.rules.specs.Columns.{fourRows, firstRow, isLinked, Able, NamedLink, Column, headRow, PartsTo}
+use Rattle.rules.specs.ColumnLaws.{put4, put-four, put-under, four-small, row-for-small, first-small, under-start, under-add, no-bits, not-linked}
+use Rattle.rules.specs.Ruled.{Ruled, row-of, linked-name, false-of, compiled-of}
+use Rattle.relation.specs.Relation.{Relation, atOnce, Asked}
 use Rattle.relation.specs.Answer.{answered, answered-entity, answered-alone}
-use Rattle.relation.specs.Columns.{fourRows, firstRow, isLinked, Able, NamedLink, Column, headRow, PartsTo, FourUnder}
-use Rattle.relation.specs.ColumnLaws.{put4, put-four, put-under, four-small, row-for-small, first-small, under-start, under-add, no-bits, not-linked}
-use Rattle.relation.specs.Question.{Ruled, Reached}
-use Rattle.relation.specs.QuestionLaws.{row-of, linked-name, false-of, compiled-of}
+use Rattle.relation.specs.Question.{Reached}
 
 -- the rule of f alone
 abbrev pub ruleOf : ℕ → List ℕ → Four → ℕ → List ℕ → List ℕ → Rules
@@ -40,6 +41,7 @@ module _ (P : Pool) (small : P .count ≤ 128) (e f : Expression) (H : List ℕ)
   X : Rules
   X = ruleOf (P .count) H x r N src
 
+  -- it fits the closure
   pub rule-fits : Fits (ruleOf (P .count) H x r N src)
   rule-fits =
       record {
@@ -54,6 +56,7 @@ module _ (P : Pool) (small : P .count ≤ 128) (e f : Expression) (H : List ℕ)
   named : (q t : ℕ) → bits N q t ≡ true → (a : Role) × (m : ℕ) × (f ≡ E.Linked a m) × (q ≡ 0) × (t < P .count) × (el able t ≡ 1) × (headAt P t .name ≡ m)
   named q t h = ⊎-elim (λ z. absurd (no-bits 260 q t z)) (λ z. z) (names .says q t h)
 
+  -- it is the rule of f
   pub rule-row : Row P e (ruleOf (P .count) H x r N src) 0 f
   rule-row = row-of P e (ruleOf (P .count) H x r N src) 0 f
       (put-four (replicate 512 128) 0 x (omega (arith, length-replicate {A = ℕ} 512 128)) ∙ four)
@@ -97,31 +100,37 @@ module _ (X : Rules) (i z : ℕ) (K L : List ℕ) (w : ℕ) (word : WordOf X i (
       is-g : cond (eqb z z) g true ≡ true → g ≡ true
       is-g k = rw (eq-eqb z z refl) at k
 
+-- the bit of the rule's word, or that f is from e at once, is what is reached
 pub reached-of : (P : Pool) (K L : List ℕ) (z : ℕ) (e f : Expression) (X : Rules) (w : ℕ) (b : Bool) → Row P e X 0 f → WordOf X 0 (z / 64) L K w → b ≡ (atOnce P K e f || bitAt w (z % 64)) → Reached P K L z e f b
 reached-of P K L z e f X w b row word q =
     record { rules = X; row = row; given = bitAt w (z % 64); taken = word-taken X 0 z K L w word; least = word-least X 0 z K L w word; is = q }
 
+-- an or whose right side is true
 pub or-given : (a b : Bool) → b ≡ true → true ≡ (a || b)
 or-given a b h = sym (or-right a b h)
 
+-- an or whose right side is false
 pub or-once : (a b c : Bool) → b ≡ false → c ≡ a → c ≡ (a || b)
 or-once true b c h q = q
 or-once false b c h q = q ∙ sym h
 
 -- The answer
 
+-- what is reached from the closed rows of a question is the answer
 pub ask-of : (P : Pool) (on : List ℕ) → P .count ≤ 128 → (K : List ℕ) → Relation P on K → (e f : Expression) (X Y : Rules) → Ruled P X
     → Y .count ≡ X .count → Y .words ≡ 1 → Y .head ≡ X .head → Y .first ≡ X .first → Y .named ≡ X .named → Y .src ≡ X .src → PartsTo (rowFor P e) P (P .count) (Y .part)
     → (K₀ L : List ℕ) → Asked P on K e K₀ → Closed Y on false K K₀ L → (b : Bool) → Reached P K L 0 e f b → b ≡ from? (chosen P on) f e
 ask-of P on small K rel e f X Y ruled qc qw qh qf qn qs parts K₀ L asked closed b r =
     r .is ∙ answered P on small K rel e Y (compiled-of P small e X Y ruled qc (omega arith) qh qf qn qs parts) qw K₀ L asked closed f (r .rules) 0 (r .given) (r .row) (r .taken) (r .least)
 
+-- what is reached from the relation's rows is the answer about an entity that is a body
 pub entity-of : (P : Pool) (on : List ℕ) → P .count ≤ 128 → (K : List ℕ) → Relation P on K → (b s : ℕ) (f : Expression) (t : Bool) → s ≡ bitOf P b → s < 128 → Reached P K K s (E.Entity b) f t → t ≡ from? (chosen P on) f (E.Entity b)
 entity-of P on small K rel b s f t q l r =
     let m : bitOf P b < P .count = ⊎-elim (λ k. k) (λ k. absurd (omega arith)) (bit-cases P small b) in
     let r′ : Reached P K K (bitOf P b) (E.Entity b) f t = subst (λ (z : ℕ). Reached P K K z (E.Entity b) f t) q r in
     r′ .is ∙ answered-entity P on small K rel b m (r′ .rules) f 0 (r′ .given) (r′ .row) (r′ .taken) (r′ .least)
 
+-- an entity that is no body is from itself alone
 pub alone-of : (P : Pool) (on : List ℕ) → P .count ≤ 128 → (K : List ℕ) → Relation P on K → (b s : ℕ) (f : Expression) (t : Bool) → s ≡ bitOf P b → 128 ≤ s → t ≡ same f (E.Entity b) → t ≡ from? (chosen P on) f (E.Entity b)
 alone-of P on small K rel b s f t q l h =
     h ∙ answered-alone P on small K rel b (⊎-elim (λ k. absurd (omega arith)) (λ k. k) (bit-cases P small b)) f
@@ -131,24 +140,7 @@ ones zero i l = absurd (omega arith)
 ones (suc n) zero l = refl
 ones (suc n) (suc i) l = ones n i (omega arith)
 
--- with all credentials on
+-- with all credentials on, the chosen are those of the pool
 pub all-on : (P : Pool) → P .count ≤ 128 → chosen P (replicate 128 1) ≡ credentials P
 unfolding chosen credentials
 all-on P small = chosen-all P (replicate 128 1) (P .count) (λ i l. ones 128 i (omega arith))
-
--- the rules by their columns
-pub by-columns : (P : Pool) (X : Rules) → Ruled P X → Ruled P (rulesOf (P .count) (X .words) (X .head) (X .part) (X .first) (X .named) (X .src))
-by-columns P X r =
-    record {
-      count = refl;
-      wide = r .wide;
-      words = r .words;
-      head = r .head;
-      part = r .part;
-      first = r .first;
-      lit = r .lit;
-      able = r .able;
-      links = r .links;
-      names = r .names;
-      linked = r .linked;
-    }

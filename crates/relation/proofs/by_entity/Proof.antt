@@ -1,10 +1,6 @@
 use borrow.Author.Needs.{needs}
-use mathlib.Core.Path.{_≡_, refl, sym, _∙_, ap, subst}
-use mathlib.Core.Bool.{true, false}
-use Prim.Native.Nat.{ℕ, _+_, _*_, _-_, _%_, _≤_, _<_}
-use lib.ListN.{length, length-set}
 use Rattle.rt0.specs.declared.Pool.{Pool}
-use Rattle.rt0.specs.Pool.{poolOf, headAt, bodyAt}
+use Rattle.rt0.specs.Pool.{poolOf}
 use Rattle.relation.specs.Reached.{entity-of, alone-of}
 use Rattle.relation.proofs.by_entity.Statement.{statement}
 use Rattle.relation.proofs.by_entity.Tie as tie

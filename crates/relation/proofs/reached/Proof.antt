@@ -1,14 +1,13 @@
-use borrow.Author.Needs.{needs}
-use mathlib.Core.Path.{_≡_, refl, sym, _∙_, ap, subst}
-use mathlib.Core.Bool.{true, false}
-use Prim.Native.Nat.{ℕ, _+_, _*_, _-_, _%_, _≤_, _<_}
-use lib.ListN.{length, length-set}
-use Rattle.rt0.specs.declared.Pool.{Pool}
-use Rattle.rt0.specs.Pool.{poolOf, headAt, bodyAt}
-use Rattle.word.specs.Bit.{bitAt}
-use Rattle.relation.specs.Table.{atOnce}
-use Rattle.relation.specs.Reached.{ruleOf, rule-fits, rule-row, reached-of, or-given, or-once}
+use Prim.Native.Nat.{_%_}
 use native.Mathlib.Omega.{arith}
+use mathlib.Core.Path.{sym, _∙_}
+use mathlib.Core.Bool.{true}
+use borrow.Author.Needs.{needs}
+use Rattle.word.specs.Bit.{bitAt}
+use Rattle.rt0.specs.declared.Pool.{Pool}
+use Rattle.rt0.specs.Pool.{poolOf}
+use Rattle.relation.specs.Relation.{atOnce}
+use Rattle.relation.specs.Reached.{ruleOf, rule-fits, rule-row, reached-of, or-given, or-once}
 use Rattle.relation.proofs.reached.Statement.{statement}
 use Rattle.relation.proofs.reached.Tie as tie
 

@@ -1,15 +1,11 @@
 use borrow.Author.Needs.{needs}
-use mathlib.Core.Path.{_≡_, refl, sym, _∙_, ap, subst}
-use mathlib.Core.Bool.{true, false}
-use Prim.Native.Nat.{ℕ, _+_, _*_, _-_, _≤_, _<_}
-use lib.ListN.{length, length-set}
-use Rattle.rt0.specs.declared.Pool.{Pool}
-use Rattle.rt0.specs.Pool.{poolOf, headAt, bodyAt}
 use Rattle.expression.specs.declared.Expression.the-variants as E
+use Rattle.rt0.specs.declared.Pool.{Pool}
+use Rattle.rt0.specs.Pool.{poolOf}
 use Rattle.closure.specs.declared.Rules.{Rules}
 use Rattle.closure.specs.Rules.{rulesOf}
+use Rattle.rules.specs.Ruled.{compiled-plain}
 use Rattle.relation.specs.Answer.{related}
-use Rattle.relation.specs.QuestionLaws.{compiled-plain}
 use Rattle.relation.proofs.relation.Statement.{statement}
 use Rattle.relation.proofs.relation.Tie as tie
 

@@ -1,0 +1,84 @@
+use mathlib.Core.Path.{sym, _∙_, ap}
+use borrow.Author.Needs.{needs}
+use Rattle.rt0.specs.declared.Pool.{Pool}
+use Rattle.rt0.specs.Pool.{poolOf}
+use Rattle.rules.specs.declared.Four.{Four}
+use Rattle.rules.specs.Table.{rowOf, rowFor}
+use Rattle.relation.proofs.aimed.aim_rows.Statement.{statement}
+use Rattle.relation.proofs.aimed.aim_rows.Tie as tie
+
+abbrev pool : (c : tie.Start) → Pool
+pool c = poolOf (c .args .n) (c .args .heads .now) (c .args .kinds .now) (c .args .numbers .now)
+
+enum-told : tie.Need-enum-told
+enum-told c = search needs
+
+enum-known-x : tie.Need-enum-known-x
+enum-known-x c = search needs
+
+aim-requires : tie.Need-aim-requires
+aim-requires c κs = ap (λ (r : Four). r .a) (rw (c .before .x .given .1) at (c .before .before .before .pre))
+
+enum-told-2 : tie.Need-enum-told-2
+enum-told-2 c = search needs
+
+enum-known-x-2 : tie.Need-enum-known-x-2
+enum-known-x-2 c = search needs
+
+aim-requires-2 : tie.Need-aim-requires-2
+aim-requires-2 c κs = ap (λ (r : Four). r .a) (rw (c .before .x2 .given .1) at (c .before .before .before .pre))
+
+aim-requires-3 : tie.Need-aim-requires-3
+aim-requires-3 c κs = ap (λ (r : Four). r .b) (rw (c .before .before .x2 .given .1) at (c .before .before .before .before .pre))
+
+third-of-requires : tie.Need-third-of-requires
+third-of-requires c κs = search needs
+
+aim-requires-4 : tie.Need-aim-requires-4
+aim-requires-4 c κs = ap (λ (r : Four). r .c) (rw (c .before .before .before .before .x2 .given .1) at (c .before .before .before .before .before .before .pre)) ∙ ap (rowOf (pool (c .before .before .before .before .before .before))) (sym (c .third-of .ensures))
+
+fourth-of-requires : tie.Need-fourth-of-requires
+fourth-of-requires c κs = search needs
+
+aim-requires-5 : tie.Need-aim-requires-5
+aim-requires-5 c κs = ap (λ (r : Four). r .d) (rw (c .before .before .before .before .before .before .x2 .given .1) at (c .before .before .before .before .before .before .before .before .pre)) ∙ ap (rowOf (pool (c .before .before .before .before .before .before .before .before))) (sym (c .fourth-of .ensures))
+
+enum-told-3 : tie.Need-enum-told-3
+enum-told-3 c = search needs
+
+returns : tie.Need-returns
+returns c = c .before .before .pre ∙ rw (c .enum-told .given .1)
+
+returns-2 : tie.Need-returns-2
+returns-2 c = rw (c .before .before .x .given .1) (λ i. record { a = c .aim .ensures i; b = c .aim .ensures i; c = c .aim .ensures i; d = c .aim .ensures i })
+
+returns-3 : tie.Need-returns-3
+returns-3 c = c .before .before .pre ∙ rw (c .enum-told2 .given .1)
+
+returns-4 : tie.Need-returns-4
+returns-4 c = rw (c .before .before .before .before .before .before .before .x2 .given .1) (λ i. record { a = c .before .before .before .before .before .aim2 .ensures i; b = c .before .before .before .before .aim3 .ensures i; c = (c .before .before .aim4 .ensures ∙ ap (rowFor (pool (c .before .before .before .before .before .before .before .before .before)) (c .before .before .before .before .before .before .before .before .before .args .e)) (c .before .before .before .third-of .ensures)) i; d = (c .aim5 .ensures ∙ ap (rowFor (pool (c .before .before .before .before .before .before .before .before .before)) (c .before .before .before .before .before .before .before .before .before .args .e)) (c .before .fourth-of .ensures)) i })
+
+returns-5 : tie.Need-returns-5
+returns-5 c = c .before .before .pre ∙ rw (c .enum-told3 .given .1)
+
+pub aim-rows-spec : {M : Type 1} → statement M
+aim-rows-spec =
+    tie.close
+    (tie.spec
+    enum-told
+    enum-known-x
+    aim-requires
+    enum-told-2
+    enum-known-x-2
+    aim-requires-2
+    aim-requires-3
+    third-of-requires
+    aim-requires-4
+    fourth-of-requires
+    aim-requires-5
+    enum-told-3
+    returns
+    returns-2
+    returns-3
+    returns-4
+    returns-5)

@@ -1,0 +1,68 @@
+use mathlib.Core.Path.{sym, _∙_}
+use borrow.Author.Needs.{needs}
+use Rattle.relation.specs.Relation.{atOnce}
+use Rattle.relation.proofs.start.once.Statement.{statement}
+use Rattle.relation.proofs.start.once.Tie as tie
+
+same-requires : tie.Need-same-requires
+same-requires c κs = search needs
+
+returns : tie.Need-returns
+unfolding atOnce
+returns c = rw (sym (c .before .same .ensures) ∙ c .if1 .taken)
+
+enum-told : tie.Need-enum-told
+enum-told c = search needs
+
+enum-told-2 : tie.Need-enum-told-2
+enum-told-2 c = search needs
+
+enum-known-x : tie.Need-enum-known-x
+enum-known-x c = search needs
+
+own-requires : tie.Need-own-requires
+own-requires c κs = search needs
+
+enum-told-3 : tie.Need-enum-told-3
+enum-told-3 c = search needs
+
+enum-told-4 : tie.Need-enum-told-4
+enum-told-4 c = search needs
+
+returns-2 : tie.Need-returns-2
+unfolding atOnce
+returns-2 c = rw (sym (c .before .before .before .same .ensures) ∙ c .before .before .if1 .left, c .enum-told .given .1)
+
+returns-3 : tie.Need-returns-3
+unfolding atOnce
+returns-3 c = rw (sym (c .before .before .before .same .ensures) ∙ c .before .before .if1 .left, c .enum-told2 .given .1)
+
+returns-4 : tie.Need-returns-4
+unfolding atOnce
+returns-4 c = rw (sym (c .before .before .before .before .before .same .ensures) ∙ c .before .before .before .before .if1 .left, c .before .before .x .given .1) (c .own .ensures)
+
+returns-5 : tie.Need-returns-5
+unfolding atOnce
+returns-5 c = rw (sym (c .before .before .before .same .ensures) ∙ c .before .before .if1 .left, c .enum-told3 .given .1)
+
+returns-6 : tie.Need-returns-6
+unfolding atOnce
+returns-6 c = rw (sym (c .before .before .before .same .ensures) ∙ c .before .before .if1 .left, c .enum-told4 .given .1)
+
+pub once-spec : {M : Type 1} → statement M
+once-spec =
+    tie.close
+    (tie.spec
+    same-requires
+    returns
+    enum-told
+    enum-told-2
+    enum-known-x
+    own-requires
+    enum-told-3
+    enum-told-4
+    returns-2
+    returns-3
+    returns-4
+    returns-5
+    returns-6)

@@ -1,0 +1,34 @@
+use borrow.Author.Needs.{needs}
+use borrow.Author.Tests.{eq-eqb, ne-eqb, le-ltb}
+use Rattle.rt0.specs.declared.Pool.{Pool}
+use Rattle.rt0.specs.Pool.{poolOf}
+use Rattle.closure.specs.Rules.{bits}
+use Rattle.rules.specs.ColumnLaws.{row-small}
+use Rattle.relation.proofs.start.own_role.Statement.{statement}
+use Rattle.relation.proofs.start.own_role.Tie as tie
+
+abbrev pool : (c : tie.Start) → Pool
+pool c = poolOf (c .args .n) (c .args .heads .now) (c .args .kinds .now) (c .args .numbers .now)
+
+returns : tie.Need-returns
+returns c = rw (ne-eqb _ _ (c .if1 .taken))
+
+source-requires : tie.Need-source-requires
+source-requires c κs = search needs
+
+returns-2 : tie.Need-returns-2
+unfolding bits
+returns-2 c = rw (eq-eqb _ _ (c .before .before .if1 .left), ← c .before .source .ensures, le-ltb (c .before .source .result) 128 (c .if2 .taken))
+
+row-requires : tie.Need-row-requires
+row-requires c κs = search needs
+
+bit-requires : tie.Need-bit-requires
+bit-requires c κs = (rw (c .row .ensures) (row-small (pool (c .before .before .before .before .before)) (c .before .before .before .before .before .pre) (c .before .before .before .before .before .args .a)), c .before .if2 .left)
+
+returns-3 : tie.Need-returns-3
+returns-3 c = rw (eq-eqb _ _ (c .before .before .before .before .if1 .left), ← c .before .before .before .source .ensures, ← c .before .row .ensures) (c .bit .ensures)
+
+pub own-role-spec : {M : Type 1} → statement M
+own-role-spec =
+    tie.close (tie.spec returns source-requires returns-2 row-requires bit-requires returns-3)

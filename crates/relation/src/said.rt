@@ -1,0 +1,62 @@
+// What credentials say at once: that an entity is in a role.
+use closure::mark;
+use expression::Expression;
+use rt0::body_at;
+use rules::source;
+ghost use mathlib.Core.Path.{_≡_};
+ghost use Prim.Native.Nat.{_<_, _≤_};
+ghost use lib.ListN.{length};
+ghost use Rattle.rt0.specs.Pool.{poolOf};
+ghost use Rattle.rules.specs.Columns.{Column, headRow};
+ghost use Rattle.relation.specs.Relation.{Start};
+ghost use Rattle.relation.specs.Question.{Seeded};
+
+// Where credential i says that an entity is in a role, the role's row takes in the entity's bit.
+pub fn seed<'a>(
+    n: usize,
+    heads: &'a [u16; 256],
+    kinds: &'a [u8; 256],
+    numbers: &'a [u16; 1024],
+    head: &'a [usize; 128],
+    i: usize,
+    rows: &'a mut [u64; 260],
+)
+    requires { ⌜ (n ≤ 128) × (i < n) × Column (headRow (poolOf n (now heads) (now kinds) (now numbers))) 128 130 n (now head) × (length (now rows) ≡ 260) ⌝ }
+    ensures { λ _. ⌜ Seeded (poolOf n (now (heads .entry)) (now (kinds .entry)) (now (numbers .entry))) i (now (rows .entry)) (now (rows .exit)) ⌝ }
+{
+    let x = body_at(n, heads, kinds, numbers, i);
+    let r = head[i];
+    match x {
+        Expression::Entity(b) => {
+            let s = source(n, heads, kinds, numbers, b);
+            mark(rows, r, s)
+        }
+        Expression::Role(_) => {}
+        Expression::Linked(_, _) => {}
+        Expression::Intersection(_) => {}
+        Expression::Goal(_) => {}
+    }
+}
+
+// What the credentials that are on say at once.
+pub fn seeds<'a>(
+    n: usize,
+    heads: &'a [u16; 256],
+    kinds: &'a [u8; 256],
+    numbers: &'a [u16; 1024],
+    head: &'a [usize; 128],
+    on: &'a [u8; 128],
+) -> [u64; 260]
+    requires { ⌜ (n ≤ 128) × Column (headRow (poolOf n (now heads) (now kinds) (now numbers))) 128 130 n (now head) ⌝ }
+    ensures { λ r. ⌜ Start (poolOf n (now (heads .entry)) (now (kinds .entry)) (now (numbers .entry))) (now (on .entry)) r ⌝ }
+{
+    let mut rows = [0u64; 260];
+    let mut i = 0;
+    while i < n {
+        if on[i] == 1 {
+            seed(n, heads, kinds, numbers, head, i, &mut rows);
+        }
+        i += 1;
+    }
+    rows
+}

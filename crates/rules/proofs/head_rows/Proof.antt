@@ -1,0 +1,62 @@
+use Prim.Native.Nat.{_-_, _≤_}
+use native.Mathlib.Omega.{arith}
+use mathlib.Core.Path.{_∙_, ap}
+use Rattle.rt0.specs.declared.Pool.{Pool}
+use Rattle.rt0.specs.Pool.{poolOf}
+use Rattle.rules.specs.Table.{rowOf}
+use Rattle.rules.specs.Columns.{Column, headRow}
+use Rattle.rules.specs.ColumnLaws.{column-start, column-add, column-end, row-small}
+use Rattle.rules.proofs.head_rows.Statement.{statement}
+use Rattle.rules.proofs.head_rows.Tie as tie
+
+abbrev Inv-loop : tie.InvT-loop
+Inv-loop n heads kinds numbers head₀ i₀ head i = Column (headRow (poolOf n heads kinds numbers)) 128 130 i head × (i ≤ n)
+
+abbrev μ-loop : tie.MeasureT-loop
+μ-loop n heads kinds numbers head₀ i₀ head i = n - i
+
+abbrev pool : (c : tie.Start Inv-loop μ-loop) → Pool
+pool c = poolOf (c .args .n) (c .args .heads .now) (c .args .kinds .now) (c .args .numbers .now)
+
+loop-holds : tie.Need-loop-holds Inv-loop μ-loop
+loop-holds c = (column-start _ 128 130 128 (omega arith) (omega arith), omega arith)
+
+head-at-requires : tie.Need-head-at-requires Inv-loop μ-loop
+head-at-requires c κs = omega arith
+
+row-requires : tie.Need-row-requires Inv-loop μ-loop
+row-requires c κs = omega arith
+
+mul-head : tie.Need-mul-head Inv-loop μ-loop
+mul-head c = omega arith
+
+array-write-head : tie.Need-array-write-head Inv-loop μ-loop
+array-write-head c = omega (arith, c .before .before .before .loop .inv .0 .sized)
+
+add-i : tie.Need-add-i Inv-loop μ-loop
+add-i c = omega arith
+
+loop-less : tie.Need-loop-less Inv-loop μ-loop
+loop-less c = omega arith
+
+loop-again : tie.Need-loop-again Inv-loop μ-loop
+loop-again c = (column-add (headRow (pool (c .before .before .before .before))) 128 130 (c .before .before .before .loop .i) (c .row .result) (c .before .before .before .loop .head) (omega arith) (c .row .ensures ∙ ap (rowOf (pool (c .before .before .before .before))) (c .before .head-at .ensures)) (rw (c .row .ensures) (row-small (pool (c .before .before .before .before)) (c .before .before .before .before .pre) (c .before .head-at .result))) (c .before .before .before .loop .inv .0), omega arith)
+
+returns : tie.Need-returns Inv-loop μ-loop
+returns c = column-end _ 128 130 (c .before .loop .i) (c .before .before .args .n) (c .before .loop .head) (c .before .loop .inv .1) (c .loop-test .left) (c .before .loop .inv .0)
+
+pub head-rows-spec : {M : Type 1} → statement M
+head-rows-spec =
+    tie.close
+    (tie.spec
+    Inv-loop
+    μ-loop
+    loop-holds
+    head-at-requires
+    row-requires
+    mul-head
+    array-write-head
+    add-i
+    loop-less
+    loop-again
+    returns)

@@ -1,0 +1,55 @@
+use Prim.Native.Nat.{_-_, _≤_}
+use native.Mathlib.Omega.{arith}
+use mathlib.Core.Path.{_≡_, refl}
+use mathlib.Core.Bool.{false}
+use Rattle.rt0.specs.declared.Pool.{Pool}
+use Rattle.rt0.specs.Pool.{poolOf}
+use Rattle.rules.specs.Table.{anyTo}
+use Rattle.rules.specs.Columns.{hasLink}
+use Rattle.rules.specs.Search.{found-at, not-at, nowhere}
+use Rattle.rules.proofs.linking.has_links.Statement.{statement}
+use Rattle.rules.proofs.linking.has_links.Tie as tie
+
+abbrev Inv-loop : tie.InvT-loop
+Inv-loop n heads kinds numbers i₀ i = (i ≤ n) × (anyTo i (hasLink (poolOf n heads kinds numbers)) ≡ false)
+
+abbrev μ-loop : tie.MeasureT-loop
+μ-loop n heads kinds numbers i₀ i = n - i
+
+abbrev pool : (c : tie.Start Inv-loop μ-loop) → Pool
+pool c = poolOf (c .args .n) (c .args .heads .now) (c .args .kinds .now) (c .args .numbers .now)
+
+loop-holds : tie.Need-loop-holds Inv-loop μ-loop
+loop-holds c = (omega arith, refl)
+
+has-link-requires : tie.Need-has-link-requires Inv-loop μ-loop
+has-link-requires c κs = omega arith
+
+returns : tie.Need-returns Inv-loop μ-loop
+returns c = found-at (hasLink (pool (c .before .before .before .before))) (c .before .before .before .loop .i) (c .before .before .loop-test .taken) (c .before .has-link .ensures) (c .if1 .taken)
+
+add-i : tie.Need-add-i Inv-loop μ-loop
+add-i c = omega arith
+
+loop-less : tie.Need-loop-less Inv-loop μ-loop
+loop-less c = omega arith
+
+loop-again : tie.Need-loop-again Inv-loop μ-loop
+loop-again c = (omega arith, not-at (hasLink (pool (c .before .before .before .before))) (c .before .before .before .loop .i) (c .before .before .before .loop .inv .1) (c .before .has-link .ensures) (c .if1 .left))
+
+returns-2 : tie.Need-returns-2 Inv-loop μ-loop
+returns-2 c = nowhere (hasLink (pool (c .before .before))) (c .before .loop .i) (c .before .loop .inv .0) (c .loop-test .left) (c .before .loop .inv .1)
+
+pub has-links-spec : {M : Type 1} → statement M
+has-links-spec =
+    tie.close
+    (tie.spec
+    Inv-loop
+    μ-loop
+    loop-holds
+    has-link-requires
+    returns
+    add-i
+    loop-less
+    loop-again
+    returns-2)

@@ -1,0 +1,72 @@
+use Prim.Native.Nat.{_-_, _≤_}
+use native.Mathlib.Omega.{arith}
+use mathlib.Core.Logic.{⊎-elim}
+use borrow.Author.Tests.{not-true}
+use Rattle.rt0.specs.declared.Pool.{Pool}
+use Rattle.rt0.specs.Pool.{poolOf}
+use Rattle.rules.specs.Columns.{Able}
+use Rattle.rules.specs.ColumnLaws.{able-start, able-off, able-add, able-skip, able-end}
+use Rattle.rules.proofs.linking.linkable.Statement.{statement}
+use Rattle.rules.proofs.linking.linkable.Tie as tie
+
+abbrev Inv-loop : tie.InvT-loop
+Inv-loop n heads kinds numbers head lit src₀ able₀ j₀ src able j = Able (poolOf n heads kinds numbers) lit j src able × (j ≤ n)
+
+abbrev μ-loop : tie.MeasureT-loop
+μ-loop n heads kinds numbers head lit src₀ able₀ j₀ src able j = n - j
+
+abbrev pool : (c : tie.Start Inv-loop μ-loop) → Pool
+pool c = poolOf (c .args .n) (c .args .heads .now) (c .args .kinds .now) (c .args .numbers .now)
+
+returns : tie.Need-returns Inv-loop μ-loop
+returns c = able-off (pool (c .before)) (c .before .args .lit) (c .before .args .n) (not-true (c .before .args .lit) (c .if1 .taken))
+
+loop-holds : tie.Need-loop-holds Inv-loop μ-loop
+loop-holds c = (able-start (pool (c .before)) (c .before .args .lit), omega arith)
+
+link-source-requires : tie.Need-link-source-requires Inv-loop μ-loop
+link-source-requires c κs = (c .before .before .before .pre .0, c .loop-test .taken, c .before .before .before .pre .1)
+
+mul-src : tie.Need-mul-src Inv-loop μ-loop
+mul-src c = omega arith
+
+array-write-src : tie.Need-array-write-src Inv-loop μ-loop
+array-write-src c = omega arith
+
+array-write-able : tie.Need-array-write-able Inv-loop μ-loop
+array-write-able c = omega arith
+
+add-j : tie.Need-add-j Inv-loop μ-loop
+add-j c = omega arith
+
+loop-less : tie.Need-loop-less Inv-loop μ-loop
+loop-less c = omega arith
+
+loop-again : tie.Need-loop-again Inv-loop μ-loop
+loop-again c = (
+  ⊎-elim
+      (λ w. rw (w .1, w .2) (able-add (pool (c .before .before .before .before .before)) (c .before .before .before .before .before .pre .0) (c .before .before .before .before .before .args .lit) (c .before .before .before .loop .src) (c .before .before .before .loop .able) (c .before .before .before .loop .j) (c .before .link-source .result) (c .before .before .loop-test .taken) (c .before .link-source .ensures) (w .0 .taken) (c .before .before .before .loop .inv .0)))
+      (λ w. rw (w .1, w .2) (able-skip (pool (c .before .before .before .before .before)) (c .before .before .before .before .before .args .lit) (c .before .before .before .loop .src) (c .before .before .before .loop .able) (c .before .before .before .loop .j) (c .before .link-source .result) (c .before .link-source .ensures) (c .before .before .before .before .before .pre .0) (w .0 .left) (c .before .before .before .loop .inv .0)))
+      (c .if2 .came),
+  omega arith,
+)
+
+returns-2 : tie.Need-returns-2 Inv-loop μ-loop
+returns-2 c = able-end (pool (c .before .before .before)) (c .before .before .before .args .lit) (c .before .loop .src) (c .before .loop .able) (c .before .loop .j) (c .before .before .before .args .n) (c .before .loop .inv .1) (c .loop-test .left) (c .before .loop .inv .0)
+
+pub linkable-spec : {M : Type 1} → statement M
+linkable-spec =
+    tie.close
+    (tie.spec
+    Inv-loop
+    μ-loop
+    returns
+    loop-holds
+    link-source-requires
+    mul-src
+    array-write-src
+    array-write-able
+    add-j
+    loop-less
+    loop-again
+    returns-2)

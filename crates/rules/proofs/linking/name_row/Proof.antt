@@ -1,0 +1,59 @@
+use Prim.Native.Nat.{_-_, _≤_}
+use native.Mathlib.Omega.{arith}
+use mathlib.Core.Logic.{⊎-elim}
+use Rattle.rt0.specs.declared.Pool.{Pool}
+use Rattle.rt0.specs.Pool.{poolOf}
+use Rattle.rules.specs.Columns.{NamedRow}
+use Rattle.rules.specs.ColumnLaws.{name-start, name-add, name-skip, name-end}
+use Rattle.rules.proofs.linking.name_row.Statement.{statement}
+use Rattle.rules.proofs.linking.name_row.Tie as tie
+
+abbrev Inv-loop : tie.InvT-loop
+Inv-loop n heads kinds numbers able i m named₀ j₀ named j = NamedRow (poolOf n heads kinds numbers) able i m j named₀ named × (j ≤ n)
+
+abbrev μ-loop : tie.MeasureT-loop
+μ-loop n heads kinds numbers able i m named₀ j₀ named j = n - j
+
+abbrev pool : (c : tie.Start Inv-loop μ-loop) → Pool
+pool c = poolOf (c .args .n) (c .args .heads .now) (c .args .kinds .now) (c .args .numbers .now)
+
+loop-holds : tie.Need-loop-holds Inv-loop μ-loop
+loop-holds c = (name-start (pool (c)) (c .args .able .now) (c .args .i) (c .args .m) (c .args .named .now) (c .pre .2), omega arith)
+
+is-named-requires : tie.Need-is-named-requires Inv-loop μ-loop
+is-named-requires c κs = omega arith
+
+mark-requires : tie.Need-mark-requires Inv-loop μ-loop
+mark-requires c κs = (omega arith, omega arith, c .before .before .before .before .loop .inv .0 .sized)
+
+add-j : tie.Need-add-j Inv-loop μ-loop
+add-j c = omega arith
+
+loop-less : tie.Need-loop-less Inv-loop μ-loop
+loop-less c = omega arith
+
+loop-again : tie.Need-loop-again Inv-loop μ-loop
+loop-again c = (
+  ⊎-elim
+      (λ w. rw (w .3) (name-add (pool (c .before .before .before .before)) (c .before .before .before .before .args .able .now) (c .before .before .before .before .args .i) (c .before .before .before .before .args .m) (c .before .before .before .before .args .named .now) (c .before .before .before .loop .j) (c .before .before .before .loop .named) _ (c .before .is-named .ensures) (w .0 .taken) (c .before .before .before .loop .inv .0) (w .2 .ensures)))
+      (λ w. rw (w .1) (name-skip (pool (c .before .before .before .before)) (c .before .before .before .before .args .able .now) (c .before .before .before .before .args .i) (c .before .before .before .before .args .m) (c .before .before .before .before .args .named .now) (c .before .before .before .loop .j) (c .before .before .before .loop .named) (c .before .is-named .ensures) (w .0 .left) (c .before .before .before .loop .inv .0)))
+      (c .if1 .came),
+  omega arith,
+)
+
+returns : tie.Need-returns Inv-loop μ-loop
+returns c = name-end (pool (c .before .before)) (c .before .before .args .able .now) (c .before .before .args .i) (c .before .before .args .m) (c .before .before .args .named .now) (c .before .loop .j) (c .before .before .args .n) (c .before .loop .named) (c .before .loop .inv .1) (c .loop-test .left) (c .before .loop .inv .0)
+
+pub name-row-spec : {M : Type 1} → statement M
+name-row-spec =
+    tie.close
+    (tie.spec
+    Inv-loop
+    μ-loop
+    loop-holds
+    is-named-requires
+    mark-requires
+    add-j
+    loop-less
+    loop-again
+    returns)

@@ -1,0 +1,56 @@
+use Prim.Native.Nat.{_-_, _≤_}
+use native.Mathlib.Omega.{arith}
+use mathlib.Core.Path.{_≡_, refl}
+use mathlib.Core.Bool.{false}
+use Rattle.rt0.specs.declared.Pool.{Pool}
+use Rattle.rt0.specs.Pool.{poolOf}
+use Rattle.rules.specs.Table.{anyTo, isBody, bitOf}
+use Rattle.rules.specs.Search.{first-at, first-nowhere, not-at}
+use Rattle.rules.proofs.rows.source.Statement.{statement}
+use Rattle.rules.proofs.rows.source.Tie as tie
+
+abbrev Inv-loop : tie.InvT-loop
+Inv-loop n heads kinds numbers b s₀ s = (s ≤ n) × (anyTo s (isBody (poolOf n heads kinds numbers) b) ≡ false)
+
+abbrev μ-loop : tie.MeasureT-loop
+μ-loop n heads kinds numbers b s₀ s = n - s
+
+abbrev pool : (c : tie.Start Inv-loop μ-loop) → Pool
+pool c = poolOf (c .args .n) (c .args .heads .now) (c .args .kinds .now) (c .args .numbers .now)
+
+loop-holds : tie.Need-loop-holds Inv-loop μ-loop
+loop-holds c = (omega arith, refl)
+
+is-body-requires : tie.Need-is-body-requires Inv-loop μ-loop
+is-body-requires c κs = omega arith
+
+returns : tie.Need-returns Inv-loop μ-loop
+unfolding bitOf
+returns c = first-at (c .before .before .before .before .args .n) (isBody (pool (c .before .before .before .before)) (c .before .before .before .before .args .b)) (c .before .before .before .loop .s) (c .before .before .loop-test .taken) (c .before .before .before .loop .inv .1) (c .before .is-body .ensures) (c .if1 .taken)
+
+add-s : tie.Need-add-s Inv-loop μ-loop
+add-s c = omega arith
+
+loop-less : tie.Need-loop-less Inv-loop μ-loop
+loop-less c = omega arith
+
+loop-again : tie.Need-loop-again Inv-loop μ-loop
+loop-again c = (omega arith, not-at (isBody (pool (c .before .before .before .before)) (c .before .before .before .before .args .b)) (c .before .before .before .loop .s) (c .before .before .before .loop .inv .1) (c .before .is-body .ensures) (c .if1 .left))
+
+returns-2 : tie.Need-returns-2 Inv-loop μ-loop
+unfolding bitOf
+returns-2 c = first-nowhere (c .before .before .args .n) (isBody (pool (c .before .before)) (c .before .before .args .b)) (c .before .loop .s) (c .before .loop .inv .0) (c .loop-test .left) (c .before .loop .inv .1)
+
+pub source-spec : {M : Type 1} → statement M
+source-spec =
+    tie.close
+    (tie.spec
+    Inv-loop
+    μ-loop
+    loop-holds
+    is-body-requires
+    returns
+    add-s
+    loop-less
+    loop-again
+    returns-2)

@@ -1,0 +1,54 @@
+use mathlib.Core.Path.{refl, _∙_}
+use borrow.Author.Needs.{needs}
+use Rattle.rules.proofs.rules_of.Statement.{statement}
+use Rattle.rules.proofs.rules_of.Tie as tie
+
+head-rows-requires : tie.Need-head-rows-requires
+head-rows-requires c κs = search needs
+
+part-rows-requires : tie.Need-part-rows-requires
+part-rows-requires c κs = search needs
+
+first-rows-requires : tie.Need-first-rows-requires
+first-rows-requires c κs = search needs
+
+has-links-requires : tie.Need-has-links-requires
+has-links-requires c κs = search needs
+
+linkable-requires : tie.Need-linkable-requires
+linkable-requires c κs = search needs
+
+names-requires : tie.Need-names-requires
+names-requires c κs = search needs
+
+words-for-requires : tie.Need-words-for-requires
+words-for-requires c κs = search needs
+
+returns : tie.Need-returns
+returns c =
+    record {
+      count = refl;
+      wide = c .words-for .ensures .0;
+      words = c .words-for .ensures .1;
+      head = c .before .before .before .before .before .before .before .before .before .before .head-rows .ensures;
+      part = c .before .before .before .before .before .before .before .before .before .part-rows .ensures;
+      first = c .before .before .before .before .before .before .before .before .first-rows .ensures;
+      lit = c .before .before .before .before .before .before .before .has-links .result;
+      able = c .before .before .before .before .before .linkable .result .able;
+      links = c .before .before .before .before .before .linkable .ensures;
+      names = c .before .names .ensures;
+      linked = λ h. c .before .before .before .before .before .before .before .has-links .ensures ∙ h;
+    }
+
+pub rules-of-spec : {M : Type 1} → statement M
+rules-of-spec =
+    tie.close
+    (tie.spec
+    head-rows-requires
+    part-rows-requires
+    first-rows-requires
+    has-links-requires
+    linkable-requires
+    names-requires
+    words-for-requires
+    returns)

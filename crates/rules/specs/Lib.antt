@@ -1,0 +1,6 @@
+pub mod Table
+pub mod Search
+pub mod Exact
+pub mod Columns
+pub mod ColumnLaws
+pub mod Ruled

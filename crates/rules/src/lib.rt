@@ -1,0 +1,268 @@
+// A pool of credentials as rules over rows of bits.
+//
+// A role's row is the index of the first credential with that head, or 128; an entity's bit is the index of the first credential with that
+// body, or 128. Row 128 stays empty, and row 129 is that of a role asked about which no credential has as its head.
+use closure::Rules;
+use expression::Expression;
+use expression::Parts;
+use expression::Role;
+use rt0::body_at;
+use rt0::head_at;
+ghost use mathlib.Core.Path.{_≡_};
+ghost use Prim.Native.Nat.{_≤_, _*_};
+ghost use Rattle.rt0.specs.Pool.{poolOf};
+ghost use Rattle.rules.specs.Table.{rowOf, third, fourth};
+ghost use Rattle.rules.specs.Columns.{fourRows, firstRow, isLinked, Column, headRow, bodyFirst, PartsTo};
+ghost use Rattle.rules.specs.Ruled.{Ruled};
+
+mod linking;
+mod rows;
+
+use linking::has_links;
+pub use linking::linkable;
+pub use linking::name_link;
+use linking::names;
+pub use rows::row;
+pub use rows::source;
+
+// The four rows whose shared bits a rule takes in.
+pub struct Four {
+    pub a: usize,
+    pub b: usize,
+    pub c: usize,
+    pub d: usize,
+}
+
+// The heads that links can go by (able is 1), and the bits of their entities.
+pub struct Links {
+    pub src: [usize; 128],
+    pub able: [u8; 128],
+}
+
+// The third role of an intersection, or the first where there is none.
+pub fn third_of(p: Parts) -> Role
+    ensures { λ r. ⌜ r ≡ third p ⌝ }
+{
+    if p.count == 2 {
+        return p.first;
+    }
+    p.third
+}
+
+// The fourth role, or the first.
+pub fn fourth_of(p: Parts) -> Role
+    ensures { λ r. ⌜ r ≡ fourth p ⌝ }
+{
+    if p.count == 2 {
+        return p.first;
+    }
+    if p.count == 3 {
+        return p.first;
+    }
+    p.fourth
+}
+
+// The rows of an intersection's roles.
+fn meet_rows<'a>(
+    n: usize,
+    heads: &'a [u16; 256],
+    kinds: &'a [u8; 256],
+    numbers: &'a [u16; 1024],
+    p: Parts,
+) -> Four
+    requires { ⌜ n ≤ 128 ⌝ }
+    ensures { λ r. ⌜ r ≡ fourRows (rowOf (poolOf n (now (heads .entry)) (now (kinds .entry)) (now (numbers .entry)))) (Expression.Intersection p) ⌝ }
+{
+    let a = row(n, heads, kinds, numbers, p.first);
+    let b = row(n, heads, kinds, numbers, p.second);
+    if p.count == 2 {
+        return Four { a, b, c: a, d: a };
+    }
+    let c = row(n, heads, kinds, numbers, p.third);
+    if p.count == 3 {
+        return Four { a, b, c, d: a };
+    }
+    let d = row(n, heads, kinds, numbers, p.fourth);
+    Four { a, b, c, d }
+}
+
+// The rows of the rule of x.
+pub fn rows_of<'a>(
+    n: usize,
+    heads: &'a [u16; 256],
+    kinds: &'a [u8; 256],
+    numbers: &'a [u16; 1024],
+    x: Expression,
+) -> Four
+    requires { ⌜ n ≤ 128 ⌝ }
+    ensures { λ r. ⌜ r ≡ fourRows (rowOf (poolOf n (now (heads .entry)) (now (kinds .entry)) (now (numbers .entry)))) x ⌝ }
+{
+    match x {
+        Expression::Entity(_) => Four {
+            a: 128,
+            b: 128,
+            c: 128,
+            d: 128,
+        },
+        Expression::Role(p) => {
+            let r = row(n, heads, kinds, numbers, p);
+            Four {
+                a: r,
+                b: r,
+                c: r,
+                d: r,
+            }
+        }
+        Expression::Linked(_, _) => Four {
+            a: 128,
+            b: 128,
+            c: 128,
+            d: 128,
+        },
+        Expression::Intersection(p) => meet_rows(n, heads, kinds, numbers, p),
+        Expression::Goal(_) => Four {
+            a: 128,
+            b: 128,
+            c: 128,
+            d: 128,
+        },
+    }
+}
+
+// The membership row of the rule of x: that of a in a link a.m.
+pub fn first_of<'a>(
+    n: usize,
+    heads: &'a [u16; 256],
+    kinds: &'a [u8; 256],
+    numbers: &'a [u16; 1024],
+    x: Expression,
+) -> usize
+    requires { ⌜ n ≤ 128 ⌝ }
+    ensures { λ r. ⌜ r ≡ firstRow (poolOf n (now (heads .entry)) (now (kinds .entry)) (now (numbers .entry))) x ⌝ }
+{
+    match x {
+        Expression::Entity(_) => 128,
+        Expression::Role(_) => 128,
+        Expression::Linked(a, _) => row(n, heads, kinds, numbers, a),
+        Expression::Intersection(_) => 128,
+        Expression::Goal(_) => 128,
+    }
+}
+
+// Whether x is a link.
+pub fn is_linked(x: Expression) -> bool
+    ensures { λ r. ⌜ r ≡ isLinked x ⌝ }
+{
+    match x {
+        Expression::Entity(_) => false,
+        Expression::Role(_) => false,
+        Expression::Linked(_, _) => true,
+        Expression::Intersection(_) => false,
+        Expression::Goal(_) => false,
+    }
+}
+
+// The rows of the heads.
+fn head_rows<'a>(
+    n: usize,
+    heads: &'a [u16; 256],
+    kinds: &'a [u8; 256],
+    numbers: &'a [u16; 1024],
+) -> [usize; 128]
+    requires { ⌜ n ≤ 128 ⌝ }
+    ensures { λ r. ⌜ Column (headRow (poolOf n (now (heads .entry)) (now (kinds .entry)) (now (numbers .entry)))) 128 130 n r ⌝ }
+{
+    let mut head = [128usize; 128];
+    let mut i = 0;
+    while i < n {
+        let p = head_at(n, heads, kinds, numbers, i);
+        let r = row(n, heads, kinds, numbers, p);
+        head[i] = r;
+        i += 1;
+    }
+    head
+}
+
+// The membership rows of the rules.
+fn first_rows<'a>(
+    n: usize,
+    heads: &'a [u16; 256],
+    kinds: &'a [u8; 256],
+    numbers: &'a [u16; 1024],
+) -> [usize; 128]
+    requires { ⌜ n ≤ 128 ⌝ }
+    ensures { λ r. ⌜ Column (bodyFirst (poolOf n (now (heads .entry)) (now (kinds .entry)) (now (numbers .entry)))) 128 130 n r ⌝ }
+{
+    let mut first = [128usize; 128];
+    let mut i = 0;
+    while i < n {
+        let x = body_at(n, heads, kinds, numbers, i);
+        let r = first_of(n, heads, kinds, numbers, x);
+        first[i] = r;
+        i += 1;
+    }
+    first
+}
+
+// The four rows of each rule.
+fn part_rows<'a>(
+    n: usize,
+    heads: &'a [u16; 256],
+    kinds: &'a [u8; 256],
+    numbers: &'a [u16; 1024],
+) -> [usize; 512]
+    requires { ⌜ n ≤ 128 ⌝ }
+    ensures { λ r. ⌜ PartsTo (rowOf (poolOf n (now (heads .entry)) (now (kinds .entry)) (now (numbers .entry)))) (poolOf n (now (heads .entry)) (now (kinds .entry)) (now (numbers .entry))) n r ⌝ }
+{
+    let mut part = [128usize; 512];
+    let mut i = 0;
+    while i < n {
+        let x = body_at(n, heads, kinds, numbers, i);
+        let r = rows_of(n, heads, kinds, numbers, x);
+        let at = i * 4;
+        part[at] = r.a;
+        part[at + 1] = r.b;
+        part[at + 2] = r.c;
+        part[at + 3] = r.d;
+        i += 1;
+    }
+    part
+}
+
+// How many words of a row n bits take up.
+fn words_for(n: usize) -> usize
+    requires { ⌜ n ≤ 128 ⌝ }
+    ensures { λ r. ⌜ (n ≤ 64 * r) × (r ≤ 2) ⌝ }
+{
+    if n <= 64 { 1 } else { 2 }
+}
+
+// The rules of a pool.
+pub fn rules_of<'a>(
+    n: usize,
+    heads: &'a [u16; 256],
+    kinds: &'a [u8; 256],
+    numbers: &'a [u16; 1024],
+) -> Rules
+    requires { ⌜ n ≤ 128 ⌝ }
+    ensures { λ r. ⌜ Ruled (poolOf n (now (heads .entry)) (now (kinds .entry)) (now (numbers .entry))) r ⌝ }
+{
+    let head = head_rows(n, heads, kinds, numbers);
+    let part = part_rows(n, heads, kinds, numbers);
+    let first = first_rows(n, heads, kinds, numbers);
+    let lit = has_links(n, heads, kinds, numbers);
+    let links = linkable(n, heads, kinds, numbers, &head, lit);
+    let src = links.src;
+    let able = links.able;
+    let named = names(n, heads, kinds, numbers, &able);
+    let words = words_for(n);
+    Rules {
+        count: n,
+        words,
+        head,
+        part,
+        first,
+        named,
+        src,
+    }
+}

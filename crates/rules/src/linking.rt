@@ -1,0 +1,178 @@
+// What linked bodies go by: the heads whose entity has a bit, and which of them each rule names.
+use crate::Links;
+use crate::rows::source;
+use closure::mark;
+use expression::Expression;
+use rt0::body_at;
+ghost use mathlib.Core.Path.{_≡_};
+ghost use Prim.Native.Nat.{_<_, _≤_};
+ghost use lib.ListN.{length};
+ghost use Rattle.rt0.specs.Pool.{poolOf};
+ghost use Rattle.rules.specs.Table.{anyTo};
+ghost use Rattle.rules.specs.Columns.{Column, headRow, Able, NamedRow, NamedLink, NamesTo, isNamed, hasLink, linkSource};
+
+// Whether body i is a link.
+fn has_link<'a>(
+    n: usize,
+    heads: &'a [u16; 256],
+    kinds: &'a [u8; 256],
+    numbers: &'a [u16; 1024],
+    i: usize,
+) -> bool
+    requires { ⌜ i < 128 ⌝ }
+    ensures { λ r. ⌜ r ≡ hasLink (poolOf n (now (heads .entry)) (now (kinds .entry)) (now (numbers .entry))) i ⌝ }
+{
+    kinds[i * 2] == 3
+}
+
+// Whether a credential has a linked body.
+pub fn has_links<'a>(
+    n: usize,
+    heads: &'a [u16; 256],
+    kinds: &'a [u8; 256],
+    numbers: &'a [u16; 1024],
+) -> bool
+    requires { ⌜ n ≤ 128 ⌝ }
+    ensures { λ r. ⌜ r ≡ anyTo n (hasLink (poolOf n (now (heads .entry)) (now (kinds .entry)) (now (numbers .entry)))) ⌝ }
+{
+    let mut i = 0;
+    while i < n {
+        if has_link(n, heads, kinds, numbers, i) {
+            return true;
+        }
+        i += 1;
+    }
+    false
+}
+
+// The bit of the entity of head j, where j is the row of that head, else 128.
+fn link_source<'a>(
+    n: usize,
+    heads: &'a [u16; 256],
+    kinds: &'a [u8; 256],
+    numbers: &'a [u16; 1024],
+    head: &'a [usize; 128],
+    j: usize,
+) -> usize
+    requires { ⌜ (n ≤ 128) × (j < n) × Column (headRow (poolOf n (now heads) (now kinds) (now numbers))) 128 130 n (now head) ⌝ }
+    ensures { λ r. ⌜ r ≡ linkSource (poolOf n (now (heads .entry)) (now (kinds .entry)) (now (numbers .entry))) j ⌝ }
+{
+    if head[j] != j {
+        return 128;
+    }
+    source(n, heads, kinds, numbers, heads[j * 2])
+}
+
+// The heads that links can go by. Without a linked expression there is no use for them.
+pub fn linkable<'a>(
+    n: usize,
+    heads: &'a [u16; 256],
+    kinds: &'a [u8; 256],
+    numbers: &'a [u16; 1024],
+    head: &'a [usize; 128],
+    lit: bool,
+) -> Links
+    requires { ⌜ (n ≤ 128) × Column (headRow (poolOf n (now heads) (now kinds) (now numbers))) 128 130 n (now head) ⌝ }
+    ensures { λ r. ⌜ Able (poolOf n (now (heads .entry)) (now (kinds .entry)) (now (numbers .entry))) lit n (r .src) (r .able) ⌝ }
+{
+    let mut src = [0usize; 128];
+    let mut able = [0u8; 128];
+    let mut j = 0;
+    if !lit {
+        return Links { src, able };
+    }
+    while j < n {
+        let s = link_source(n, heads, kinds, numbers, head, j);
+        if s < 128 {
+            src[j] = s;
+            able[j] = 1;
+        }
+        j += 1;
+    }
+    Links { src, able }
+}
+
+// Whether links can go by head j, and its name is m.
+fn is_named<'a>(
+    n: usize,
+    heads: &'a [u16; 256],
+    kinds: &'a [u8; 256],
+    numbers: &'a [u16; 1024],
+    able: &'a [u8; 128],
+    m: u16,
+    j: usize,
+) -> bool
+    requires { ⌜ j < 128 ⌝ }
+    ensures { λ r. ⌜ r ≡ isNamed (poolOf n (now (heads .entry)) (now (kinds .entry)) (now (numbers .entry))) (now (able .entry)) m j ⌝ }
+{
+    (able[j] == 1) & (heads[j * 2 + 1] == m)
+}
+
+// Row i of the table takes in the heads with name m that links can go by.
+fn name_row<'a>(
+    n: usize,
+    heads: &'a [u16; 256],
+    kinds: &'a [u8; 256],
+    numbers: &'a [u16; 1024],
+    able: &'a [u8; 128],
+    i: usize,
+    m: u16,
+    named: &'a mut [u64; 260],
+)
+    requires { ⌜ (n ≤ 128) × (i < 128) × (length (now named) ≡ 260) ⌝ }
+    ensures { λ _. ⌜ NamedRow (poolOf n (now (heads .entry)) (now (kinds .entry)) (now (numbers .entry))) (now (able .entry)) i m n (now (named .entry)) (now (named .exit)) ⌝ }
+{
+    let mut j = 0;
+    while j < n {
+        if is_named(n, heads, kinds, numbers, able, m, j) {
+            mark(named, i, j);
+        }
+        j += 1;
+    }
+}
+
+// Row i of the table takes in what the link of x names.
+pub fn name_link<'a>(
+    n: usize,
+    heads: &'a [u16; 256],
+    kinds: &'a [u8; 256],
+    numbers: &'a [u16; 1024],
+    able: &'a [u8; 128],
+    i: usize,
+    x: Expression,
+    named: &'a mut [u64; 260],
+)
+    requires { ⌜ (n ≤ 128) × (i < 128) × (length (now named) ≡ 260) ⌝ }
+    ensures { λ _. ⌜ NamedLink (poolOf n (now (heads .entry)) (now (kinds .entry)) (now (numbers .entry))) (now (able .entry)) i n x (now (named .entry)) (now (named .exit)) ⌝ }
+{
+    match x {
+        Expression::Entity(_) => {}
+        Expression::Role(_) => {}
+        Expression::Linked(_, m) => name_row(n, heads, kinds, numbers, able, i, m, named),
+        Expression::Intersection(_) => {}
+        Expression::Goal(_) => {}
+    }
+}
+
+// The heads that each rule names.
+pub fn names<'a>(
+    n: usize,
+    heads: &'a [u16; 256],
+    kinds: &'a [u8; 256],
+    numbers: &'a [u16; 1024],
+    able: &'a [u8; 128],
+) -> [u64; 260]
+    requires { ⌜ n ≤ 128 ⌝ }
+    ensures { λ r. ⌜ NamesTo (poolOf n (now (heads .entry)) (now (kinds .entry)) (now (numbers .entry))) (now (able .entry)) n r ⌝ }
+{
+    let mut named = [0u64; 260];
+    let mut i = 0;
+    while i < n {
+        if has_link(n, heads, kinds, numbers, i) {
+            let x = body_at(n, heads, kinds, numbers, i);
+            name_link(n, heads, kinds, numbers, able, i, x, &mut named);
+        }
+        i += 1;
+    }
+    named
+}

@@ -1,0 +1,84 @@
+// The row of a role and the bit of an entity.
+use expression::Role;
+ghost use mathlib.Core.Path.{_≡_};
+ghost use Prim.Native.Nat.{_<_, _≤_};
+ghost use Rattle.rt0.specs.Pool.{poolOf};
+ghost use Rattle.rules.specs.Table.{isHead, rowOf, isBody, bitOf};
+
+// Whether credential j has p as its head.
+fn is_head<'a>(
+    n: usize,
+    heads: &'a [u16; 256],
+    kinds: &'a [u8; 256],
+    numbers: &'a [u16; 1024],
+    p: Role,
+    j: usize,
+) -> bool
+    requires { ⌜ j < 128 ⌝ }
+    ensures { λ r. ⌜ r ≡ isHead (poolOf n (now (heads .entry)) (now (kinds .entry)) (now (numbers .entry))) p j ⌝ }
+{
+    if heads[j * 2] != p.entity {
+        return false;
+    }
+    heads[j * 2 + 1] == p.name
+}
+
+// The row of the role p.
+pub fn row<'a>(
+    n: usize,
+    heads: &'a [u16; 256],
+    kinds: &'a [u8; 256],
+    numbers: &'a [u16; 1024],
+    p: Role,
+) -> usize
+    requires { ⌜ n ≤ 128 ⌝ }
+    ensures { λ r. ⌜ r ≡ rowOf (poolOf n (now (heads .entry)) (now (kinds .entry)) (now (numbers .entry))) p ⌝ }
+{
+    let mut j = 0;
+    while j < n {
+        if is_head(n, heads, kinds, numbers, p, j) {
+            return j;
+        }
+        j += 1;
+    }
+    128
+}
+
+// Whether credential s has the entity b as its body.
+fn is_body<'a>(
+    n: usize,
+    heads: &'a [u16; 256],
+    kinds: &'a [u8; 256],
+    numbers: &'a [u16; 1024],
+    b: u16,
+    s: usize,
+) -> bool
+    requires { ⌜ s < 128 ⌝ }
+    ensures { λ r. ⌜ r ≡ isBody (poolOf n (now (heads .entry)) (now (kinds .entry)) (now (numbers .entry))) b s ⌝ }
+{
+    if kinds[s * 2] != 1 {
+        return false;
+    }
+    numbers[s * 8] == b
+}
+
+// The bit of the entity b.
+pub fn source<'a>(
+    n: usize,
+    heads: &'a [u16; 256],
+    kinds: &'a [u8; 256],
+    numbers: &'a [u16; 1024],
+    b: u16,
+) -> usize
+    requires { ⌜ n ≤ 128 ⌝ }
+    ensures { λ r. ⌜ r ≡ bitOf (poolOf n (now (heads .entry)) (now (kinds .entry)) (now (numbers .entry))) b ⌝ }
+{
+    let mut s = 0;
+    while s < n {
+        if is_body(n, heads, kinds, numbers, b, s) {
+            return s;
+        }
+        s += 1;
+    }
+    128
+}
