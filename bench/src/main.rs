@@ -1,14 +1,18 @@
-//! Times the engine beside the reference, in microseconds a question over 64 credentials.
+//! Times the engine beside the reference, in microseconds a question over 64 credentials. `bench search STEPS [SEED]`
+//! looks for sets that take longest.
 //!
 //! engine: the whole call. making: the part of it that reads the bytes and makes the relation. one more: asking one
 //! more question over a relation that is made already. reference: the separate code.
 
+mod search;
+
 use reference::question::{self, Lent, Question};
 use reference::sample::{Random, World};
 use reference::shapes;
+use std::env;
 use std::hint::black_box;
 use std::process::exit;
-use std::time::{Duration, Instant};
+use std::time::Instant;
 
 /// What a question may cost, in microseconds.
 const MOST: f64 = 20.0;
@@ -16,7 +20,8 @@ const MOST_CHAIN: f64 = 6.0;
 
 #[link(name = "measure", kind = "static")]
 extern "C" {
-    fn lavutremo_question(
+    /// The engine's own call, `lavutremo_question`.
+    fn measure_question(
         credentials: *const u8,
         credentials_len: usize,
         f: *const u8,
@@ -40,7 +45,7 @@ extern "C" {
 fn ask(lent: &Lent) -> u64 {
     let Lent { credentials, f, e } = lent;
     // Each pointer goes with the length of what it points to.
-    unsafe { lavutremo_question(credentials.as_ptr(), credentials.len(), f.as_ptr(), f.len(), e.as_ptr(), e.len()) }
+    unsafe { measure_question(credentials.as_ptr(), credentials.len(), f.as_ptr(), f.len(), e.as_ptr(), e.len()) }
 }
 
 fn ask_times(lent: &Lent, times: u32) -> u64 {
@@ -56,26 +61,27 @@ fn ask_reference(lent: &Lent) -> u64 {
     question::answer(&lent.credentials, &lent.f, &lent.e)
 }
 
-/// Microseconds a call: the median of several batches.
-fn time(call: impl Fn() -> u64) -> f64 {
-    let batch = |count: u32| {
+/// Microseconds a call: the least of so many batches of so many calls, as other work on the machine only adds to it.
+fn least(call: impl Fn() -> u64, count: u32, batches: u32) -> f64 {
+    let batch = |_| {
         let start = Instant::now();
         for _ in 0..count {
             black_box(call());
         }
-        start.elapsed()
+        start.elapsed().as_secs_f64() * 1e6 / count as f64
     };
-    let mut count = 1;
-    while batch(count) < Duration::from_millis(1) {
-        count *= 2;
-    }
-    let mut times: Vec<f64> = (0..11).map(|_| batch(count).as_secs_f64() * 1e6 / count as f64).collect();
-    median(&mut times)
+    (0..batches).map(batch).fold(f64::INFINITY, f64::min)
 }
 
-fn median(times: &mut [f64]) -> f64 {
-    times.sort_by(f64::total_cmp);
-    times[times.len() / 2]
+/// The same in batches of a quarter of a millisecond or more.
+fn time(call: impl Fn() -> u64) -> f64 {
+    let count = 250.0 / least(&call, 1, 3);
+    least(&call, count.ceil() as u32, 30)
+}
+
+/// Microseconds for asking once more over a relation that is made already.
+fn one_more(lent: &Lent) -> f64 {
+    (time(|| ask_times(lent, 101)) - time(|| ask_times(lent, 1))) / 100.0
 }
 
 struct Row {
@@ -95,13 +101,12 @@ impl Row {
             println!("{set}, e {e}: the answers differ");
             exit(1);
         }
-        let one_more = (time(|| ask_times(&lent, 1001)) - time(|| ask_times(&lent, 1))) / 1000.0;
         Row {
             set,
             e,
             answer: if answer == 256 { "yes" } else { "no" },
             engine: time(|| ask(&lent)),
-            one_more,
+            one_more: one_more(&lent),
             reference: time(|| ask_reference(&lent)),
         }
     }
@@ -137,6 +142,26 @@ fn worst(rows: &[Row]) -> &Row {
 }
 
 fn main() {
+    let arguments: Vec<String> = env::args().skip(1).collect();
+    let arguments: Vec<&str> = arguments.iter().map(String::as_str).collect();
+    let number = |text: &str| {
+        text.parse().unwrap_or_else(|_| {
+            println!("{text} is no number");
+            exit(2);
+        })
+    };
+    match arguments[..] {
+        [] => table(),
+        ["search", steps] => search::search(number(steps), 1),
+        ["search", steps, seed] => search::search(number(steps), number(seed).into()),
+        _ => {
+            println!("usage: bench | bench search STEPS [SEED]");
+            exit(2);
+        }
+    }
+}
+
+fn table() {
     println!(
         "{:<50} {:<7} {:<6} {:>8} {:>8} {:>9} {:>10} {:>7}",
         "64 credentials, microseconds", "e", "answer", "engine", "making", "one more", "reference", "ratio"

@@ -27,11 +27,11 @@ pub struct Listing {
 }
 
 // Why a call is refused: a lent length, a command, or the form of an operand.
-const LENGTH: u64 = 1;
+pub const LENGTH: u64 = 1;
 
 const COMMAND: u64 = 2;
 
-const OPERAND: u64 = 3;
+pub const OPERAND: u64 = 3;
 
 // 64 credential commands and an end.
 const LIST_SIZE: usize = 1473;
@@ -39,7 +39,7 @@ const LIST_SIZE: usize = 1473;
 const EXPRESSION_SIZE: usize = 18;
 
 // Whether the credentials, f and e have lengths within the sizes.
-fn sized(c: usize, f: usize, e: usize) -> bool
+pub fn sized(c: usize, f: usize, e: usize) -> bool
     ensures { λ r. ⌜ r ≡ sizedOf c f e ⌝ }
 {
     (0 < c) & (c <= LIST_SIZE) & (f == EXPRESSION_SIZE) & (e == EXPRESSION_SIZE)

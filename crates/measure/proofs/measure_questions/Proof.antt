@@ -1,0 +1,105 @@
+use mathlib.Core.Path.{_≡_, refl, sym, _∙_}
+use mathlib.Core.Logic.{inl, inr}
+use mathlib.Core.Bool.{true}
+use native.Mathlib.Omega.{arith}
+use borrow.Author.Tests.{not-true, not-false}
+use Prim.Native.Nat.{ℕ}
+use lib.ListN.{length}
+use Rattle.rt0.specs.Pool.{credentials}
+use Rattle.expression.specs.declared.ExpressionAnswer.{ExpressionAnswer}
+use Rattle.expression.specs.declared.ExpressionAnswer.the-variants.{Read}
+use Rattle.question.specs.Credentials.{listed}
+use Rattle.question.specs.CredentialsLaws.{listed-all, listed-refused, list-refusal}
+use Rattle.question.specs.Question.{sized, operandOf, answered, questionOf}
+use Rattle.question.specs.QuestionLaws.{true-sized, question-outside, question-inside}
+use Rattle.measure.specs.RepeatedLaws.{count-most, repeated-refused, repeated-answer}
+use borrow.Author.Needs.{needs}
+use Rattle.measure.proofs.measure_questions.Statement.{statement}
+use Rattle.measure.proofs.measure_questions.Tie as tie
+
+abbrev Inside : tie.Start → Type 0
+Inside s = sized (length (s .args .credentials .now)) (length (s .args .f .now)) (length (s .args .e .now)) ≡ true
+
+abbrev answerAt : tie.Start → ℕ
+answerAt s = questionOf (s .args .credentials .now) (s .args .f .now) (s .args .e .now)
+
+-- the lengths are within the sizes
+inside : (c : tie.Else1) → Inside (c .before .before .before .before .before)
+inside c = sym (c .before .sized .ensures) ∙ not-false _ (c .if1 .left)
+
+-- the credentials were read
+with-list : (c : tie.Else2) {p q : ExpressionAnswer} → operandOf (c .before .before .before .before .before .before .before .before .args .f .now) ≡ p → operandOf (c .before .before .before .before .before .before .before .before .args .e .now) ≡ q
+    → answered (listed (credentials (c .before .before .list .result .pool))) p q ≡ answerAt (c .before .before .before .before .before .before .before .before)
+with-list c h k = question-inside _ _ _ _ _ _ (inside (c .before .before .before)) (sym (c .before .before .list .ensures .0) ∙ listed-all (c .before .before .list .result) (c .if2 .left)) h k
+
+-- and f
+with-first : (c : tie.After-known-told) {q : ExpressionAnswer} → operandOf (c .before .before .before .before .before .before .before .before .before .before .before .before .args .e .now) ≡ q
+    → answered (listed (credentials (c .before .before .before .before .before .before .list .result .pool))) (Read (c .before .x .given .0 .0)) q ≡ answerAt (c .before .before .before .before .before .before .before .before .before .before .before .before)
+with-first c k = with-list (c .before .before .before .before) (sym (c .before .before .before .operand .ensures) ∙ c .before .x .given .1) k
+
+sized-requires : tie.Need-sized-requires
+sized-requires c κs = search needs
+
+returns : tie.Need-returns
+returns c = repeated-refused _ _ _ (inl refl) (question-outside _ _ _ (sym (c .before .sized .ensures) ∙ not-true _ (c .if1 .taken)))
+
+list-requires : tie.Need-list-requires
+list-requires c κs = true-sized _ _ _ (inside c) .most
+
+returns-2 : tie.Need-returns-2
+returns-2 c =
+    let read = sym (c .before .before .list .ensures .0) ∙ listed-refused (c .before .before .list .result) (c .if2 .taken) in
+    repeated-refused _ _ _ (inr (list-refusal _ _ read)) (question-inside _ _ _ _ _ _ (inside (c .before .before .before)) read refl refl)
+
+operand-requires : tie.Need-operand-requires
+operand-requires c κs = true-sized _ _ _ (inside (c .before .before .before)) .first
+
+enum-known-x : tie.Need-enum-known-x
+enum-known-x c = search needs
+
+enum-told : tie.Need-enum-told
+enum-told c = search needs
+
+returns-3 : tie.Need-returns-3
+returns-3 c = repeated-refused _ _ _ (inr (inr refl)) (with-list (c .before .before .before) (sym (c .before .before .operand .ensures) ∙ c .enum-told .given .1) refl)
+
+operand-requires-2 : tie.Need-operand-requires-2
+operand-requires-2 c κs = true-sized _ _ _ (inside (c .before .before .before .before .before .before .before)) .second
+
+enum-known-y : tie.Need-enum-known-y
+enum-known-y c = search needs
+
+enum-told-2 : tie.Need-enum-told-2
+enum-told-2 c = search needs
+
+returns-4 : tie.Need-returns-4
+returns-4 c = repeated-refused _ _ _ (inr (inr refl)) (with-first (c .before .before .before) (sym (c .before .before .operand2 .ensures) ∙ c .enum-told2 .given .1))
+
+from-times-requires : tie.Need-from-times-requires
+from-times-requires c κs = search needs
+
+mul-result : tie.Need-mul-result
+mul-result c = omega (arith, count-most _ _ _ (c .from-times .ensures))
+
+returns-5 : tie.Need-returns-5
+returns-5 c = repeated-answer _ _ _ _ (c .from-times .ensures) (with-first (c .before .before .before .before .before) (sym (c .before .before .before .before .operand2 .ensures) ∙ c .before .before .y .given .1))
+
+pub measure-questions-spec : {M : Type 1} → statement M
+measure-questions-spec =
+    tie.close
+    (tie.spec
+    sized-requires
+    returns
+    list-requires
+    returns-2
+    operand-requires
+    enum-known-x
+    enum-told
+    returns-3
+    operand-requires-2
+    enum-known-y
+    enum-told-2
+    returns-4
+    from-times-requires
+    mul-result
+    returns-5)
