@@ -9,15 +9,16 @@ use question::operand;
 use question::sized;
 use relation::ask;
 use relation::relation;
-use relation::rules;
 use rt0::Pool;
+use rules::rules_of;
 ghost use mathlib.Core.Path.{_≡_};
 ghost use Prim.Native.Nat.{_*_, _≤_};
 ghost use Rattle.rt0.specs.Decide.{from? as fromOf};
 ghost use Rattle.rt0.specs.Pool.{poolOf, credentials as credentialsOf};
 ghost use Rattle.closure.specs.Rules.{rulesOf};
-ghost use Rattle.relation.specs.Table.{chosen, Relation};
-ghost use Rattle.relation.specs.Question.{Ruled};
+ghost use Rattle.rules.specs.Table.{chosen};
+ghost use Rattle.relation.specs.Relation.{Relation};
+ghost use Rattle.rules.specs.Ruled.{Ruled};
 ghost use Rattle.question.specs.Question.{questionOf};
 ghost use Rattle.measure.specs.Repeated.{countOf, repeatedOf};
 
@@ -76,7 +77,7 @@ fn from_times(pool: Pool, f: Expression, e: Expression, times: u32) -> u64
     ensures { λ r. ⌜ r ≡ countOf (fromOf (credentialsOf pool) f e) times ⌝ }
 {
     let n = pool.count;
-    let x = rules(n, &pool.heads, &pool.kinds, &pool.numbers);
+    let x = rules_of(n, &pool.heads, &pool.kinds, &pool.numbers);
     let deps = readers(n, &x.part, &x.first, &x.named);
     let on = [1u8; 128];
     let mem = relation(

@@ -5,7 +5,7 @@ use Prim.Native.Nat.{_-_, _≤_}
 use native.Mathlib.Omega.{arith}
 use Rattle.rt0.specs.Decide.{from?}
 use Rattle.rt0.specs.Pool.{poolOf}
-use Rattle.relation.specs.Table.{chosen}
+use Rattle.rules.specs.Table.{chosen}
 use Rattle.measure.specs.Repeated.{countOf}
 use Rattle.measure.specs.RepeatedLaws.{count-start, count-yes, count-no, count-most}
 use Rattle.measure.proofs.ask_times.Statement.{statement}
