@@ -1,5 +1,5 @@
 -- The steps of a question, one after another. Assumes nothing.
-use Prim.Native.Nat.{ℕ, _+_, _≤_, _<_}
+use Prim.Native.Nat.{ℕ, _*_, _+_, _≤_, _<_}
 use native.Mathlib.Omega.{arith}
 use mathlib.Core.Path.{_≡_, refl, sym, _∙_, ap, subst}
 use mathlib.Core.Logic.{_⊎_, inl, inr, ⊎-elim}
@@ -21,7 +21,7 @@ use Rattle.rt0.specs.Laws.{more}
 use Rattle.rt0.specs.Pool.{headAt, bodyAt}
 use Rattle.closure.specs.Rules.{el, bits, Marked}
 use Rattle.rules.specs.Table.{rowOf, bitOf, rowFor, chosen}
-use Rattle.rules.specs.Exact.{chosen-mem, chosen-find, row-found, row-here, row-cases, bit-here}
+use Rattle.rules.specs.Exact.{body-entity, chosen-mem, chosen-find, row-found, row-here, row-cases, bit-here}
 use Rattle.rules.specs.ColumnLaws.{no-bits, row-for-small}
 use Rattle.relation.specs.Relation.{Relation, Start, atOnce, Asked}
 use Rattle.relation.specs.Answer.{once-says}
@@ -82,35 +82,32 @@ own-role P small e q r z h =
 
 -- What a credential says at once
 
--- the expression is an entity
-abbrev pub isEntity : Expression → Bool
-isEntity (E.Entity b) = true
-isEntity (E.Role p) = false
-isEntity (E.Linked a m) = false
-isEntity (E.Intersection p) = false
-isEntity (E.Goal m) = false
+-- a body that is no entity says nothing at once
+pub seed-none : (P : Pool) → P .count ≤ 128 → (i : ℕ) (K : List ℕ) → length K ≡ 260 → (el (P .kinds) (i * 2) ≡ 1 → ⊥) → Seeded P i K K
+seed-none P small i K h off =
+    record {
+      sized = h;
+      kept = record { within = λ r s z. z };
+      says = λ r s z. inl z;
+      all = λ b z. absurd (off (eqb-true (el (P .kinds) (i * 2)) 1 (and-parts (eqb (el (P .kinds) (i * 2)) 1) _ (body-entity P small i b z) .0)));
+    }
 
-module _ (P : Pool) (i : ℕ) (K : List ℕ) where
-  -- a body that is no entity says nothing at once
-  pub seed-none : length K ≡ 260 → (x : Expression) → x ≡ bodyAt P i → isEntity x ≡ false → Seeded P i K K
-  seed-none h x q n = record { sized = h; kept = record { within = λ r s z. z }; says = λ r s z. inl z; all = λ b z. absurd (false-true (sym n ∙ ap isEntity (q ∙ z))) }
+same-entity : (a b : ℕ) → E.Entity a ≡ E.Entity b → a ≡ b
+same-entity a b e = cc
 
-  -- a body that is an entity says its bit
-  pub seed-mark : (x : Expression) (b r s : ℕ) (K′ : List ℕ) → x ≡ bodyAt P i → x ≡ E.Entity b → r ≡ rowOf P (headAt P i) → s ≡ bitOf P b → Marked K r s K′ → Seeded P i K K′
-  seed-mark x b r s K′ q z hr hs m =
-      record {
-        sized = m .sized;
-        kept = m .kept;
-        says = λ u t w. ⊎-elim (λ y. inl y) (λ y. inr (b, sym q ∙ z, y .0 ∙ hr, y .1 ∙ hs)) (m .says u t w);
-        all = λ b′ w. let y : b′ ≡ b = same-entity b′ b (sym w ∙ (sym q ∙ z)) in rw y (rw (← hr, ← hs) (m .here));
-      }
-    where
-      same-entity : (a b : ℕ) → E.Entity a ≡ E.Entity b → a ≡ b
-      same-entity a b e = cc
+-- a body that is an entity says its bit
+pub seed-mark : (P : Pool) (i : ℕ) (K : List ℕ) (b r s : ℕ) (K′ : List ℕ) → bodyAt P i ≡ E.Entity b → r ≡ rowOf P (headAt P i) → s ≡ bitOf P b → Marked K r s K′ → Seeded P i K K′
+seed-mark P i K b r s K′ q hr hs m =
+    record {
+      sized = m .sized;
+      kept = m .kept;
+      says = λ u t w. ⊎-elim (λ y. inl y) (λ y. inr (b, q, y .0 ∙ hr, y .1 ∙ hs)) (m .says u t w);
+      all = λ b′ w. let y : b′ ≡ b = same-entity b′ b (sym w ∙ q) in rw y (rw (← hr, ← hs) (m .here));
+    }
 
 -- the bit of an entity that is a body
-pub body-bit : (P : Pool) → P .count ≤ 128 → (x : Expression) (i b s : ℕ) → i < P .count → x ≡ bodyAt P i → x ≡ E.Entity b → s ≡ bitOf P b → s < 128
-body-bit P small x i b s l q z h = let k : bitOf P b < P .count = bit-here P small b i l (sym q ∙ z) .0 in omega arith
+pub body-bit : (P : Pool) → P .count ≤ 128 → (i b s : ℕ) → i < P .count → bodyAt P i ≡ E.Entity b → s ≡ bitOf P b → s < 128
+body-bit P small i b s l q h = let k : bitOf P b < P .count = bit-here P small b i l q .0 in omega arith
 
 module _ (P : Pool) (on : List ℕ) (small : P .count ≤ 128) where
   -- what is seeded is true

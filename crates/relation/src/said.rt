@@ -1,7 +1,5 @@
 // What credentials say at once: that an entity is in a role.
 use closure::mark;
-use expression::Expression;
-use rt0::body_at;
 use rules::source;
 ghost use mathlib.Core.Path.{_≡_};
 ghost use Prim.Native.Nat.{_<_, _≤_};
@@ -24,18 +22,11 @@ pub fn seed<'a>(
     requires { ⌜ (n ≤ 128) × (i < n) × Column (headRow (poolOf n (now heads) (now kinds) (now numbers))) 128 130 n (now head) × (length (now rows) ≡ 260) ⌝ }
     ensures { λ _. ⌜ Seeded (poolOf n (now (heads .entry)) (now (kinds .entry)) (now (numbers .entry))) i (now (rows .entry)) (now (rows .exit)) ⌝ }
 {
-    let x = body_at(n, heads, kinds, numbers, i);
-    let r = head[i];
-    match x {
-        Expression::Entity(b) => {
-            let s = source(n, heads, kinds, numbers, b);
-            mark(rows, r, s)
-        }
-        Expression::Role(_) => {}
-        Expression::Linked(_, _) => {}
-        Expression::Intersection(_) => {}
-        Expression::Goal(_) => {}
+    if kinds[i * 2] != 1 {
+        return;
     }
+    let s = source(n, heads, kinds, numbers, numbers[i * 8]);
+    mark(rows, head[i], s)
 }
 
 // What the credentials that are on say at once.

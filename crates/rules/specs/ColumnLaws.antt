@@ -23,7 +23,7 @@ use Rattle.closure.specs.Rules.{el, bits, Under, Marked}
 use Rattle.rules.specs.declared.Four.{Four}
 use Rattle.rules.specs.Table.{rowOf, bitOf, rowFor, third, fourth}
 use Rattle.rules.specs.Exact.{row-cases, bit-cases}
-use Rattle.rules.specs.Columns.{fourRows, firstRow, isLinked, Column, fourAt, FourUnder, PartsTo, Able, NamedRow, NamedLink, NamesTo, isNamed, hasLink, linkSource}
+use Rattle.rules.specs.Columns.{bodyFirst, fourRows, firstRow, isLinked, Column, fourAt, FourUnder, PartsTo, Able, NamedRow, NamedLink, NamesTo, isNamed, hasLink, linkSource}
 
 -- Numbers below a bound
 
@@ -188,6 +188,17 @@ linked-kind P i a m h = go (eqb (el (P .kinds) (i * 2)) 1) (eqb (el (P .kinds) (
     go false false true w x y z n p o q = refl
     go false false false true x y z n p o q = absurd (let d : _≡_ {A = ℕ} 0 1 = cc in omega arith)
     go false false false false x y z n p o q = absurd (let d : _≡_ {A = ℕ} 0 1 = cc in omega arith)
+
+-- a body that is no link has no membership row
+pub first-none : (P : Pool) (i : ℕ) → hasLink P i ≡ false → 128 ≡ bodyFirst P i
+first-none P i h = go (bodyAt P i) refl
+  where
+    go : (x : Expression) → bodyAt P i ≡ x → 128 ≡ firstRow P x
+    go (E.Entity b) q = refl
+    go (E.Role p) q = refl
+    go (E.Linked a m) q = absurd (false-true (sym h ∙ linked-kind P i a m q))
+    go (E.Intersection p) q = refl
+    go (E.Goal m) q = refl
 
 -- The heads that links can go by
 

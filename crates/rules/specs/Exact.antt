@@ -107,7 +107,13 @@ module _ (P : Pool) (small : P .count ≤ 128) where
   unfolding bitOf
   bit-cases b = ⊎-elim (λ h. inl (first-found (P .count) (isBody P b) h .0)) (λ h. inr (first-none (P .count) (isBody P b) h)) (any-cases (P .count) (isBody P b))
 
-  body-entity : (k b : ℕ) → bodyAt P k ≡ E.Entity b → isBody P b k ≡ true
+  -- a body of kind 1 is an entity
+  pub body-one : (s : ℕ) → el (P .kinds) (s * 2) ≡ 1 → bodyAt P s ≡ E.Entity (el (P .numbers) (s * 8))
+  unfolding bodyAt
+  body-one s h = rw (eq-eqb (el (P .kinds) (s * 2)) 1 h)
+
+  -- a body that is an entity passes the test for it
+  pub body-entity : (k b : ℕ) → bodyAt P k ≡ E.Entity b → isBody P b k ≡ true
   unfolding bodyAt
   body-entity k b h = go (eqb (el (P .kinds) (k * 2)) 1) (eqb (el (P .kinds) (k * 2)) 2) (eqb (el (P .kinds) (k * 2)) 3) (eqb (el (P .kinds) (k * 2)) 4) _ _ _ _ _ _ refl h
     where

@@ -9,7 +9,7 @@ use expression::Role;
 use rt0::body_at;
 use rt0::head_at;
 ghost use mathlib.Core.Path.{_≡_};
-ghost use Prim.Native.Nat.{_≤_, _*_};
+ghost use Prim.Native.Nat.{_<_, _≤_, _*_};
 ghost use Rattle.rt0.specs.Pool.{poolOf};
 ghost use Rattle.rules.specs.Table.{rowOf, third, fourth};
 ghost use Rattle.rules.specs.Columns.{fourRows, firstRow, isLinked, Column, headRow, bodyFirst, PartsTo};
@@ -18,6 +18,7 @@ ghost use Rattle.rules.specs.Ruled.{Ruled};
 mod linking;
 mod rows;
 
+use linking::has_link;
 use linking::has_links;
 pub use linking::linkable;
 pub use linking::name_link;
@@ -183,6 +184,29 @@ fn head_rows<'a>(
     head
 }
 
+// The membership row of rule i.
+fn first_at<'a>(
+    n: usize,
+    heads: &'a [u16; 256],
+    kinds: &'a [u8; 256],
+    numbers: &'a [u16; 1024],
+    i: usize,
+) -> usize
+    requires { ⌜ (n ≤ 128) × (i < 128) ⌝ }
+    ensures { λ r. ⌜ r ≡ bodyFirst (poolOf n (now (heads .entry)) (now (kinds .entry)) (now (numbers .entry))) i ⌝ }
+{
+    if !has_link(n, heads, kinds, numbers, i) {
+        return 128;
+    }
+    first_of(
+        n,
+        heads,
+        kinds,
+        numbers,
+        body_at(n, heads, kinds, numbers, i),
+    )
+}
+
 // The membership rows of the rules.
 fn first_rows<'a>(
     n: usize,
@@ -196,8 +220,7 @@ fn first_rows<'a>(
     let mut first = [128usize; 128];
     let mut i = 0;
     while i < n {
-        let x = body_at(n, heads, kinds, numbers, i);
-        let r = first_of(n, heads, kinds, numbers, x);
+        let r = first_at(n, heads, kinds, numbers, i);
         first[i] = r;
         i += 1;
     }

@@ -12,7 +12,7 @@ ghost use Rattle.rules.specs.Table.{anyTo};
 ghost use Rattle.rules.specs.Columns.{Column, headRow, Able, NamedRow, NamedLink, NamesTo, isNamed, hasLink, linkSource};
 
 // Whether body i is a link.
-fn has_link<'a>(
+pub fn has_link<'a>(
     n: usize,
     heads: &'a [u16; 256],
     kinds: &'a [u8; 256],

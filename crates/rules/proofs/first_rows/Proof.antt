@@ -1,10 +1,9 @@
 use Prim.Native.Nat.{_-_, _≤_}
-use native.Mathlib.Omega.{arith}
-use mathlib.Core.Path.{_∙_, ap}
 use Rattle.rt0.specs.declared.Pool.{Pool}
-use Rattle.rt0.specs.Pool.{poolOf}
-use Rattle.rules.specs.Columns.{Column, bodyFirst, firstRow}
+use Rattle.rt0.specs.Pool.{poolOf, bodyAt}
+use Rattle.rules.specs.Columns.{Column, bodyFirst}
 use Rattle.rules.specs.ColumnLaws.{column-start, column-add, column-end, first-small}
+use native.Mathlib.Omega.{arith}
 use Rattle.rules.proofs.first_rows.Statement.{statement}
 use Rattle.rules.proofs.first_rows.Tie as tie
 
@@ -20,17 +19,14 @@ pool c = poolOf (c .args .n) (c .args .heads .now) (c .args .kinds .now) (c .arg
 loop-holds : tie.Need-loop-holds Inv-loop μ-loop
 loop-holds c = (column-start _ 128 130 128 (omega arith) (omega arith), omega arith)
 
-body-at-requires : tie.Need-body-at-requires Inv-loop μ-loop
-body-at-requires c κs = omega arith
-
-first-of-requires : tie.Need-first-of-requires Inv-loop μ-loop
-first-of-requires c κs = omega arith
+first-at-requires : tie.Need-first-at-requires Inv-loop μ-loop
+first-at-requires c κs = (c .before .before .pre, omega arith)
 
 mul-first : tie.Need-mul-first Inv-loop μ-loop
 mul-first c = omega arith
 
 array-write-first : tie.Need-array-write-first Inv-loop μ-loop
-array-write-first c = omega (arith, c .before .before .before .loop .inv .0 .sized)
+array-write-first c = omega (arith, c .before .before .loop .inv .0 .sized)
 
 add-i : tie.Need-add-i Inv-loop μ-loop
 add-i c = omega arith
@@ -39,7 +35,7 @@ loop-less : tie.Need-loop-less Inv-loop μ-loop
 loop-less c = omega arith
 
 loop-again : tie.Need-loop-again Inv-loop μ-loop
-loop-again c = (column-add (bodyFirst (pool (c .before .before .before .before))) 128 130 (c .before .before .before .loop .i) (c .first-of .result) (c .before .before .before .loop .first) (omega arith) (c .first-of .ensures ∙ ap (firstRow (pool (c .before .before .before .before))) (c .before .body-at .ensures)) (rw (c .first-of .ensures) (first-small (pool (c .before .before .before .before)) (c .before .before .before .before .pre) (c .before .body-at .result))) (c .before .before .before .loop .inv .0), omega arith)
+loop-again c = (column-add (bodyFirst (pool (c .before .before .before))) 128 130 (c .before .before .loop .i) (c .first-at .result) (c .before .before .loop .first) (omega arith) (c .first-at .ensures) (rw (c .first-at .ensures) (first-small (pool (c .before .before .before)) (c .before .before .before .pre) (bodyAt (pool (c .before .before .before)) (c .before .before .loop .i)))) (c .before .before .loop .inv .0), omega arith)
 
 returns : tie.Need-returns Inv-loop μ-loop
 returns c = column-end _ 128 130 (c .before .loop .i) (c .before .before .args .n) (c .before .loop .first) (c .before .loop .inv .1) (c .loop-test .left) (c .before .loop .inv .0)
@@ -51,8 +47,7 @@ first-rows-spec =
     Inv-loop
     μ-loop
     loop-holds
-    body-at-requires
-    first-of-requires
+    first-at-requires
     mul-first
     array-write-first
     add-i

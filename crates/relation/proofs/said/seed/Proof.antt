@@ -1,75 +1,59 @@
-use mathlib.Core.Path.{ap}
 use borrow.Author.Needs.{needs}
 use Rattle.rt0.specs.declared.Pool.{Pool}
 use Rattle.rt0.specs.Pool.{poolOf}
-use Rattle.relation.specs.QuestionLaws.{isEntity, seed-none, seed-mark, body-bit}
+use Rattle.rules.specs.Exact.{body-one}
+use Rattle.relation.specs.QuestionLaws.{seed-none, seed-mark, body-bit}
 use Rattle.relation.proofs.said.seed.Statement.{statement}
 use Rattle.relation.proofs.said.seed.Tie as tie
 
 abbrev pool : (c : tie.Start) → Pool
 pool c = poolOf (c .args .n) (c .args .heads .now) (c .args .kinds .now) (c .args .numbers .now)
 
-body-at-requires : tie.Need-body-at-requires
-body-at-requires c κs = search needs
+mul-if1 : tie.Need-mul-if1
+mul-if1 c = search needs
 
-mul-r : tie.Need-mul-r
-mul-r c = search needs
+element-copy-out-if1 : tie.Need-element-copy-out-if1
+element-copy-out-if1 c = search needs
 
-element-copy-out-r : tie.Need-element-copy-out-r
-element-copy-out-r c = search needs
+returns : tie.Need-returns
+returns c = seed-none (pool (c .before .before)) (c .before .before .pre .0) (c .before .before .args .i) (c .before .before .args .rows .now) (c .before .before .pre .3) (c .if1 .taken)
 
-enum-known-x : tie.Need-enum-known-x
-enum-known-x c = search needs
+mul-source : tie.Need-mul-source
+mul-source c = search needs
+
+mul-source-2 : tie.Need-mul-source-2
+mul-source-2 c = search needs
+
+element-copy-out-source : tie.Need-element-copy-out-source
+element-copy-out-source c = search needs
 
 source-requires : tie.Need-source-requires
 source-requires c κs = search needs
 
+mul-mark : tie.Need-mul-mark
+mul-mark c = search needs
+
+element-copy-out-mark : tie.Need-element-copy-out-mark
+element-copy-out-mark c = search needs
+
 mark-requires : tie.Need-mark-requires
-mark-requires c κs = (c .before .before .before .before .before .before .before .pre .2 .under .under (c .before .before .before .before .before .before .before .args .i), body-bit (pool (c .before .before .before .before .before .before .before)) (c .before .before .before .before .before .before .before .pre .0) (c .before .before .before .before .before .before .body-at .result) (c .before .before .before .before .before .before .before .args .i) _ (c .before .source .result) (c .before .before .before .before .before .before .before .pre .1) (c .before .before .before .before .before .before .body-at .ensures) (c .before .before .before .x .given .1) (c .before .source .ensures), c .before .before .before .before .before .before .before .pre .3)
-
-enum-told : tie.Need-enum-told
-enum-told c = search needs
-
-enum-told-2 : tie.Need-enum-told-2
-enum-told-2 c = search needs
-
-enum-told-3 : tie.Need-enum-told-3
-enum-told-3 c = search needs
-
-enum-told-4 : tie.Need-enum-told-4
-enum-told-4 c = search needs
-
-returns : tie.Need-returns
-returns c = seed-mark (pool (c .before .before .before .before .before .before .before .before)) (c .before .before .before .before .before .before .before .before .args .i) (c .before .before .before .before .before .before .before .before .args .rows .now) (c .before .before .before .before .before .before .before .body-at .result) _ _ (c .before .before .source .result) _ (c .before .before .before .before .before .before .before .body-at .ensures) (c .before .before .before .before .x .given .1) (c .before .before .before .before .before .before .before .before .pre .2 .upto (c .before .before .before .before .before .before .before .before .args .i) (c .before .before .before .before .before .before .before .before .pre .1)) (c .before .before .source .ensures) (c .mark .ensures)
+mark-requires c κs = (c .before .before .before .before .before .before .pre .2 .under .under (c .before .before .before .before .before .before .args .i), body-bit (pool (c .before .before .before .before .before .before)) (c .before .before .before .before .before .before .pre .0) (c .before .before .before .before .before .before .args .i) _ (c .before .before .source .result) (c .before .before .before .before .before .before .pre .1) (body-one (pool (c .before .before .before .before .before .before)) (c .before .before .before .before .before .before .pre .0) (c .before .before .before .before .before .before .args .i) (c .before .before .before .before .if1 .left)) (c .before .before .source .ensures), c .before .before .before .before .before .before .pre .3)
 
 returns-2 : tie.Need-returns-2
-returns-2 c = seed-none (pool (c .before .before .before .before)) (c .before .before .before .before .args .i) (c .before .before .before .before .args .rows .now) (c .before .before .before .before .pre .3) (c .before .before .before .body-at .result) (c .before .before .before .body-at .ensures) (ap isEntity (c .enum-told .given .1))
-
-returns-3 : tie.Need-returns-3
-returns-3 c = seed-none (pool (c .before .before .before .before)) (c .before .before .before .before .args .i) (c .before .before .before .before .args .rows .now) (c .before .before .before .before .pre .3) (c .before .before .before .body-at .result) (c .before .before .before .body-at .ensures) (ap isEntity (c .enum-told2 .given .1))
-
-returns-4 : tie.Need-returns-4
-returns-4 c = seed-none (pool (c .before .before .before .before)) (c .before .before .before .before .args .i) (c .before .before .before .before .args .rows .now) (c .before .before .before .before .pre .3) (c .before .before .before .body-at .result) (c .before .before .before .body-at .ensures) (ap isEntity (c .enum-told3 .given .1))
-
-returns-5 : tie.Need-returns-5
-returns-5 c = seed-none (pool (c .before .before .before .before)) (c .before .before .before .before .args .i) (c .before .before .before .before .args .rows .now) (c .before .before .before .before .pre .3) (c .before .before .before .body-at .result) (c .before .before .before .body-at .ensures) (ap isEntity (c .enum-told4 .given .1))
+returns-2 c = seed-mark (pool (c .before .before .before .before .before .before .before)) (c .before .before .before .before .before .before .before .args .i) (c .before .before .before .before .before .before .before .args .rows .now) _ _ (c .before .before .before .source .result) _ (body-one (pool (c .before .before .before .before .before .before .before)) (c .before .before .before .before .before .before .before .pre .0) (c .before .before .before .before .before .before .before .args .i) (c .before .before .before .before .before .if1 .left)) (c .before .before .before .before .before .before .before .pre .2 .upto (c .before .before .before .before .before .before .before .args .i) (c .before .before .before .before .before .before .before .pre .1)) (c .before .before .before .source .ensures) (c .mark .ensures)
 
 pub seed-spec : {M : Type 1} → statement M
 seed-spec =
     tie.close
     (tie.spec
-    body-at-requires
-    mul-r
-    element-copy-out-r
-    enum-known-x
-    source-requires
-    mark-requires
-    enum-told
-    enum-told-2
-    enum-told-3
-    enum-told-4
+    mul-if1
+    element-copy-out-if1
     returns
-    returns-2
-    returns-3
-    returns-4
-    returns-5)
+    mul-source
+    mul-source-2
+    element-copy-out-source
+    source-requires
+    mul-mark
+    element-copy-out-mark
+    mark-requires
+    returns-2)
