@@ -117,6 +117,34 @@ impl Climb<'_> {
     }
 }
 
+#[derive(Clone, Copy)]
+enum Base {
+    /// Each role links by 1.1.
+    First,
+    /// Each by the one before, and 1.1 by itself.
+    Before,
+    /// Each by the one before, and 1.1 by the seventh; the entities are a ring.
+    Ring,
+}
+
+/// 1.1 finds the entities from 2 on one after another, and so do other roles of 1 by their links. The last entity has e.
+fn readers(linked: u16, base: Base, e: &Expression) -> Question {
+    let role = |entity, name| Role { entity, name };
+    let link = |name, base| Credential { head: role(1, name), body: Expression::Linked(role(1, base), 99) };
+    let way = |from, to| Credential { head: role(from, 99), body: Expression::Entity(to) };
+    let mut credentials = vec![Credential { head: role(1, 1), body: Expression::Entity(2) }];
+    credentials.push(link(1, if matches!(base, Base::Ring) { 7 } else { 1 }));
+    credentials.extend((2..=linked).map(|name| link(name, if matches!(base, Base::First) { 1 } else { name - 1 })));
+    let last = (MOST_CREDENTIALS - credentials.len()) as u16 + 1;
+    credentials.extend((2..last).map(|entity| way(entity, entity + 1)));
+    if matches!(base, Base::Ring) {
+        credentials.pop();
+        credentials.push(way(last - 1, 2));
+    }
+    credentials.push(Credential { head: role(last, 99), body: e.clone() });
+    Question { credentials, f: Expression::Role(role(1, 1)), e: e.clone() }
+}
+
 fn starts(random: &mut Random) -> Vec<(String, Question)> {
     let mut starts = Vec::new();
     for (e, role_asked) in [("entity", false), ("role", true)] {
@@ -128,6 +156,17 @@ fn starts(random: &mut Random) -> Vec<(String, Question)> {
     for shape in &shapes::SHAPES {
         for (e, end) in shapes::ends() {
             starts.push((format!("{}, e {e}", shape.name), shapes::question(shape, "shuffled", &end)));
+        }
+    }
+    for linked in [12, 21, 30] {
+        for (how, base) in
+            [("one role", Base::First), ("the one before", Base::Before), ("the one before, in a ring", Base::Ring)]
+        {
+            for (e, end) in shapes::ends() {
+                let mut question = readers(linked, base, &end);
+                random.shuffle(&mut question.credentials);
+                starts.push((format!("links: {linked} by {how}, e {e}"), question));
+            }
         }
     }
     starts
