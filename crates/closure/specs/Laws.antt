@@ -4,7 +4,7 @@ use native.Mathlib.Nat.{add-zero}
 use native.Mathlib.Omega.{arith}
 use mathlib.Core.Path.{_≡_, refl, sym, _∙_, ap, subst}
 use mathlib.Core.Logic.{_⊎_, inl, inr, ⊎-elim}
-use mathlib.Core.Bool.{Bool, true, false, _&&_, _||_, cond}
+use mathlib.Core.Bool.{Bool, true, false, _&&_, _||_, not, cond}
 use mathlib.Core.List.{List, [], _∷_}
 use borrow.Author.Tests.{eqb-true, eqb-false, ltb-true, ltb-false, eq-eqb}
 use lib.Dec.{eqb, ltb}
@@ -14,7 +14,7 @@ use lib.Seq.{getD-set-same, getD-set-other}
 use Rattle.word.specs.Bit.{bitAt, only, bit-or, bit-and, bit-zero, bit-only, without, without-sub, without-gone, or-more, false-true}
 use Rattle.closure.specs.declared.Rules.{Rules}
 use Rattle.closure.specs.Rules.{el, bits, Fits, Takes, memOf, memRows, Used, Model, Within, Grown, Closed, Marked}
-use Rattle.closure.specs.Words.{InWord, LinksOf, meetOf, WordOf, room, Quiet, TurnOf, RuleOf, PassOf}
+use Rattle.closure.specs.Words.{InWord, LinksOf, meetOf, WordOf, room, Quiet, TurnOf, RuleOf, PassOf, Poured}
 
 or-cases : (a b s : ℕ) → bitAt (bitOr a b) s ≡ true → (bitAt a s ≡ true) ⊎ (bitAt b s ≡ true)
 or-cases a b s h = go (bitAt a s) refl (sym (bit-or a b s) ∙ h)
@@ -445,3 +445,36 @@ pub close-less : {X : Rules} {on : List ℕ} {own : Bool} {M K K′ : List ℕ} 
 unfolding left
 close-less p true f = omega (arith, p .fewer, f refl)
 close-less p false f = omega (arith, p .fewer)
+
+-- A row that takes in a row, word by word
+
+module _ (w j r : ℕ) where
+  pub pour-start : (K : List ℕ) → length K ≡ 260 → Poured w j r K K
+  pour-start K h = record { sized = h; kept = record { within = λ q s b. b }; least = λ G f k. k }
+
+  pub pour-word : {K₀ K : List ℕ} (h v : ℕ) → w ≤ 2 → h < w → r < 130 → v ≡ bitOr (el K (r * 2 + h)) (el K (j * 2 + h)) → Poured w j r K₀ K
+      → Poured w j r K₀ (set K (r * 2 + h) v)
+  pour-word {K₀} {K} h v m n l e inv =
+      let u : h < 2 = omega arith in
+      let z : r * 2 + h < length K = omega (arith, inv .sized) in
+      subst (λ (x : ℕ). Poured w j r K₀ (set K (r * 2 + h) x)) (sym e)
+      record {
+        sized = length-set K (r * 2 + h) _ ∙ inv .sized;
+        kept = within-trans (inv .kept) (take-kept K r h (el K (j * 2 + h)) u z);
+        least = λ G f k.
+            let y = inv .least G f k in
+            take-in K r h (el K (j * 2 + h)) u z G y (λ s q b. f s (omega arith) (y .within j s (word-bits K j s h u q b)));
+      }
+
+pub not-left : (b : Bool) → not b ≡ false → b ≡ true
+not-left true h = refl
+not-left false h = absurd (true-false h)
+
+pub link-grown : {X : Rules} {on : List ℕ} {own : Bool} {M K K′ : List ℕ} {i j : ℕ} → i < X .count → el on i ≡ 1 → bits (X .named) i j ≡ true
+    → bits (memRows own K M) (el (X .first) i) (el (X .src) j) ≡ true → Poured (X .words) j (el (X .head) i) K K′ → Grown X on own M K K′
+link-grown {own = own} {M} {K} {i = i} {j} l o n m p =
+    record {
+      sized = p .sized;
+      kept = p .kept;
+      least = λ G g k. p .least G (λ s u b. g .rule i l o .link j s u n (mem-within own K M G k .within _ _ m) b) k;
+    }

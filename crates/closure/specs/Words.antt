@@ -59,3 +59,9 @@ pub record PassOf (X : Rules) (on : List ℕ) (own : Bool) (M K K′ : List ℕ)
   pub grown : Grown X on own M K K′
   pub fewer : room K′ + added ≤ room K
   pub still : added ≡ 0 → Model X on own (bits M) (bits K′)
+
+-- the rows K, where row r took in row j, of the words below w
+pub record Poured (w j r : ℕ) (K K′ : List ℕ) : Type 0 where
+  pub sized : length K′ ≡ 260
+  pub kept : Within (bits K) (bits K′)
+  pub least : (G : ℕ → ℕ → Bool) → ((s : ℕ) → s / 64 < w → G j s ≡ true → G r s ≡ true) → Within (bits K) G → Within (bits K′) G
