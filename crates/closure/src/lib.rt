@@ -283,12 +283,15 @@ fn read_word<'a>(named: u64, base: usize, i: usize, rows: &'a mut [u64; 260])
     requires { ⌜ (base ≤ 64) × (i < 128) × (length (now rows) ≡ 260) ⌝ }
     ensures { λ u. ⌜ length (now (rows .exit)) ≡ 260 ⌝ }
 {
+    if named == 0 {
+        return;
+    }
+    mark(rows, 129, i);
     let mut m = named;
     while m != 0 {
         let j = lowest(m);
         m = without(m, j);
         mark(rows, base + j, i);
-        mark(rows, 129, i);
     }
 }
 

@@ -12,8 +12,14 @@ Inv-loop named base i rows₀ m₀ rows m = length rows ≡ 260
 abbrev μ-loop : tie.MeasureT-loop
 μ-loop named base i rows₀ m₀ rows m = m
 
+returns : tie.Need-returns Inv-loop μ-loop
+returns c = c .before .pre .2
+
+mark-requires : tie.Need-mark-requires Inv-loop μ-loop
+mark-requires c κs = (omega arith, c .before .before .pre .1, c .before .before .pre .2)
+
 loop-holds : tie.Need-loop-holds Inv-loop μ-loop
-loop-holds c = c .pre .2
+loop-holds c = c .mark .ensures .sized
 
 lowest-requires : tie.Need-lowest-requires Inv-loop μ-loop
 lowest-requires c κs = omega arith
@@ -22,22 +28,19 @@ without-requires : tie.Need-without-requires Inv-loop μ-loop
 without-requires c κs = omega arith
 
 add-mark : tie.Need-add-mark Inv-loop μ-loop
-add-mark c = omega (arith, c .before .before .before .before .before .pre .0, c .before .before .lowest .ensures .0)
-
-mark-requires : tie.Need-mark-requires Inv-loop μ-loop
-mark-requires c κs = (omega (arith, c .before .before .before .before .before .pre .0, c .before .before .lowest .ensures .0), c .before .before .before .before .before .pre .1, c .before .before .before .before .loop .inv)
+add-mark c = omega (arith, c .before .before .before .before .before .before .before .before .pre .0, c .before .before .lowest .ensures .0)
 
 mark-requires-2 : tie.Need-mark-requires-2 Inv-loop μ-loop
-mark-requires-2 c κs = (omega arith, c .before .before .before .before .before .before .before .pre .1, c .before .mark .ensures .sized)
+mark-requires-2 c κs = (omega (arith, c .before .before .before .before .before .before .before .before .pre .0, c .before .before .lowest .ensures .0), c .before .before .before .before .before .before .before .before .pre .1, c .before .before .before .before .loop .inv)
 
 loop-less : tie.Need-loop-less Inv-loop μ-loop
-loop-less c = rw (c .before .before .before .before .without .ensures) (without-less _ _ (c .before .before .before .before .before .lowest .ensures .1))
+loop-less c = rw (c .before .before .without .ensures) (without-less _ _ (c .before .before .before .lowest .ensures .1))
 
 loop-again : tie.Need-loop-again Inv-loop μ-loop
 loop-again c = c .mark2 .ensures .sized
 
-returns : tie.Need-returns Inv-loop μ-loop
-returns c = c .before .loop .inv
+returns-2 : tie.Need-returns-2 Inv-loop μ-loop
+returns-2 c = c .before .loop .inv
 
 pub read-word-spec : {M : Type 1} → statement M
 read-word-spec =
@@ -45,12 +48,13 @@ read-word-spec =
     (tie.spec
     Inv-loop
     μ-loop
+    returns
+    mark-requires
     loop-holds
     lowest-requires
     without-requires
     add-mark
-    mark-requires
     mark-requires-2
     loop-less
     loop-again
-    returns)
+    returns-2)
