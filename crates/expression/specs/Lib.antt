@@ -7,3 +7,4 @@ pub mod Credential
 pub mod CredentialLaws
 pub mod Order
 pub mod OrderLaws
+pub mod There

@@ -4,16 +4,16 @@ use mathlib.Core.Path.{_≡_, refl, sym, ap, _∙_, subst}
 use mathlib.Core.Bool.{true}
 use mathlib.Core.List.{List, [], _∷_, _++_, append-assoc, append-nil}
 use native.Mathlib.Omega.{arith}
-use native.Mathlib.Nat.{add-zero, add-assoc}
+use native.Mathlib.Nat.{add-assoc}
 use native.Mathlib.Numerals.{add-one}
 use borrow.Author.Tests.{eq-eqb}
-use lib.ListN.{length, getD, take, drop, length-append, length-drop, take-append-drop, drop-of-length-le}
-use lib.Seq.{take-length, take-add, take-at, drop-at, drop-drop, drop-cons, getD-drop}
+use lib.ListN.{length, getD, drop, length-append, take-append-drop, drop-of-length-le}
+use lib.Seq.{drop-at, drop-drop, drop-cons}
 use Rattle.expression.specs.declared.Credential.{Credential}
 use Rattle.expression.specs.declared.CredentialAnswer.the-variants as a
-use Rattle.expression.specs.Bytes.{pasted}
-use Rattle.expression.specs.Credential.{wellFormedCredential, readCredential, credentialBytes}
-use Rattle.expression.specs.CredentialLaws.{credential-back, credential-only}
+use Rattle.expression.specs.Credential.{wellFormedCredential, credentialBytes}
+use Rattle.expression.specs.CredentialLaws.{credential-only}
+use Rattle.expression.specs.There.{code-there, size-there, read-there}
 use Rattle.question.specs.declared.Step.{Step}
 use Rattle.question.specs.declared.Step.the-variants.{Taken, End, Refused}
 use Rattle.question.specs.Sizes.{commandSize}
@@ -30,31 +30,11 @@ abbrev pub Formed : List Credential → Type 0
 Formed [] = Unit {0}
 Formed (c ∷ C) = (wellFormedCredential c ≡ true) × Formed C
 
--- bytes that stand there already
-pub self-paste : (s : List ℕ) (at : ℕ) (b : List ℕ) → take (length b) (drop at s) ≡ b → pasted s at b ≡ s
-self-paste s at b h =
-    ap (λ (l : List ℕ). (take at s ++ l) ++ drop (at + length b) s) (take-length b ∙ sym h)
-    ∙ ap (λ (l : List ℕ). l ++ drop (at + length b) s) (sym (take-add at (length b) s))
-    ∙ take-append-drop (at + length b) s
-
 module _ (s : List ℕ) (at : ℕ) (inside : at ≤ length s) where
-  code-there : (code : ℕ) (l : List ℕ) → drop at s ≡ code ∷ l → getD s at 0 ≡ code
-  code-there code l h = ap (λ (k : ℕ). getD s k 0) (sym (add-zero at)) ∙ sym (getD-drop at s 0 0) ∙ ap (λ (m : List ℕ). getD m 0 0) h
-
-  size-there : (l : List ℕ) → drop at s ≡ l → length s ≡ at + length l
-  size-there l h = omega (arith, length-drop at s, ap length h)
-
-  read-there : (c : Credential) (l : List ℕ) → wellFormedCredential c ≡ true → drop at s ≡ credentialBytes c ++ l → readCredential s at ≡ a.Read c
-  read-there c l formed h =
-      let b : List ℕ = credentialBytes c in
-      let there : take 22 (drop at s) ≡ b = ap (take 22) h ∙ take-at b l 22 refl in
-      let room : at + 22 ≤ length s = omega (arith, size-there (b ++ l) h, length-append b l) in
-      ap (λ (m : List ℕ). readCredential m at) (sym (self-paste s at b there)) ∙ credential-back s at c room formed
-
   end-there : drop at s ≡ 6 ∷ [] → stepAt s at ≡ End
   end-there h =
-      let size : length s ≡ at + 1 = size-there (6 ∷ []) h in
-      sym (last s at true (eq-eqb (at + 1) (length s) (sym size)) ∙ at-code s at 6 (omega arith) (code-there 6 [] h))
+      let size : length s ≡ at + 1 = size-there s at inside (6 ∷ []) h in
+      sym (last s at true (eq-eqb (at + 1) (length s) (sym size)) ∙ at-code s at 6 (omega arith) (code-there s at 6 [] h))
 
 module _ (s : List ℕ) (at : ℕ) (inside : at ≤ length s) (c : Credential) (l : List ℕ) (formed : wellFormedCredential c ≡ true) (h : drop at s ≡ 1 ∷ (credentialBytes c ++ l)) where
   fits-there : at + commandSize ≤ length s
@@ -67,7 +47,7 @@ module _ (s : List ℕ) (at : ℕ) (inside : at ≤ length s) (c : Credential) (
   taken-there =
       let fits : at + commandSize ≤ length s = fits-there in
       let next : drop (at + 1) s ≡ credentialBytes c ++ l = sym (drop-drop 1 at s) ∙ ap (drop 1) h in
-      sym (whole s at (a.Read c) (omega arith) (read-there s (at + 1) (omega arith) c l formed next) ∙ at-code s at 1 (omega arith) (code-there s at inside 1 _ h))
+      sym (whole s at (a.Read c) (omega arith) (read-there s (at + 1) (omega arith) c l formed next) ∙ at-code s at 1 (omega arith) (code-there s at 1 _ h))
 
 from-commands : (n : ℕ) (s : List ℕ) (at : ℕ) (C D : List Credential) → at ≤ length s → Formed C → drop at s ≡ commands C → length C < n → listFrom n s at D ≡ listed (D ++ C)
 unfolding listFrom

@@ -13,7 +13,8 @@ use Rattle.expression.specs.declared.CredentialAnswer.{CredentialAnswer}
 use Rattle.expression.specs.declared.CredentialAnswer.the-variants as a
 use Rattle.expression.specs.Credential.{readCredential}
 use Rattle.rt0.specs.declared.Pool.{Pool}
-use Rattle.rt0.specs.Pool.{credentials, credentialAt, upTo}
+use Rattle.rt0.specs.Pool.{credentials}
+use Rattle.rt0.specs.Added.{count-length}
 use Rattle.question.specs.declared.Step.{Step}
 use Rattle.question.specs.declared.Step.the-variants.{Taken, End, Refused}
 use Rattle.question.specs.declared.Listing.{Listing}
@@ -125,15 +126,6 @@ sure-list (suc n) s at C = go (stepAt s at) (λ k h. step-refusal s at k h) (λ 
 pub list-refusal : (s : List ℕ) (k : ℕ) → credentialsOf s ≡ refused k → Refusal k
 unfolding credentialsOf
 list-refusal s k h = subst SureList h (sure-list (length s) s 0 [])
-
-length-upTo : {A : Type 0} (n : ℕ) (f : ℕ → A) → length (upTo n f) ≡ n
-length-upTo zero f = refl
-length-upTo (suc n) f = omega (arith, length-append (upTo n f) (f n ∷ []), length-upTo n f)
-
--- a pool has as many credentials as it counts
-pub count-length : (P : Pool) → length (credentials P) ≡ P .count
-unfolding credentials
-count-length P = length-upTo (P .count) (credentialAt P)
 
 -- no byte is left
 past : (n : ℕ) (s : List ℕ) (at : ℕ) (C : List Credential) → length s ≤ at → listFrom n s at C ≡ refused 2

@@ -14,9 +14,10 @@ use Rattle.expression.specs.Bytes.{rawBytes}
 use Rattle.expression.specs.Form.{rawOf, readOf, wellFormed}
 use Rattle.expression.specs.Credential.{isBody, credentialBytes}
 use Rattle.expression.specs.Codec.{read-write, read-only}
+use Rattle.expression.specs.There.{self-paste}
 use Rattle.question.specs.Sizes.{commandSize, credentialsMost, expressionSize}
 use Rattle.question.specs.Credentials.{credentialsOf}
-use Rattle.question.specs.CredentialsExact.{commands, Formed, self-paste, list-back, list-only}
+use Rattle.question.specs.CredentialsExact.{commands, Formed, list-back, list-only}
 use Rattle.question.specs.Question.{askable, operandOf}
 use Rattle.question.specs.QuestionLaws.{Asked}
 

@@ -4,7 +4,7 @@ use native.Mathlib.Omega.{arith}
 use native.Mathlib.Numerals.{add-one, towards-suc}
 use mathlib.Core.Path.{_≡_, refl, sym, _∙_, ap, ap₂, subst}
 use mathlib.Core.List.{List, [], _∷_, _++_}
-use lib.ListN.{getD, length, set, length-set}
+use lib.ListN.{getD, length, set, length-set, length-append}
 use lib.Seq.{getD-set-same, getD-set-other, sets}
 use Rattle.expression.specs.declared.Role.{Role}
 use Rattle.expression.specs.declared.Raw.{Raw}
@@ -61,18 +61,20 @@ stored-at : (M : List ℕ) (at : ℕ) (r : Raw) (j k : ℕ) → j ≡ at + k →
 unfolding values
 stored-at M at r j k e f l = rw (e, stored-sets M at r) (sets-at (values r) M at k f l)
 
-pair-before : (M : List ℕ) (at a b j : ℕ) → j < at → getD (pair M at a b) j 0 ≡ getD M j 0
+-- two numbers stored one after the other, read back
+pub pair-before : (M : List ℕ) (at a b j : ℕ) → j < at → getD (pair M at a b) j 0 ≡ getD M j 0
 pair-before M at a b j l = getD-set-other (set M at a) (at + 1) j b 0 (λ e. omega arith) ∙ getD-set-other M at j a 0 (λ e. omega arith)
 
-pair-first : (M : List ℕ) (at a b : ℕ) → at < length M → getD (pair M at a b) at 0 ≡ a
+pub pair-first : (M : List ℕ) (at a b : ℕ) → at < length M → getD (pair M at a b) at 0 ≡ a
 pair-first M at a b l = getD-set-other (set M at a) (at + 1) at b 0 (λ e. omega arith) ∙ getD-set-same M at a 0 l
 
-pair-second : (M : List ℕ) (at a b : ℕ) → at + 1 < length M → getD (pair M at a b) (at + 1) 0 ≡ b
+pub pair-second : (M : List ℕ) (at a b : ℕ) → at + 1 < length M → getD (pair M at a b) (at + 1) 0 ≡ b
 pair-second M at a b l = getD-set-same (set M at a) (at + 1) b 0 (omega (arith, length-set M at a))
 
 -- The credentials
 
-upTo-same : {A : Type 0} (n : ℕ) (f g : ℕ → A) → ((i : ℕ) → i < n → f i ≡ g i) → upTo n f ≡ upTo n g
+-- equal elements give equal lists
+pub upTo-same : {A : Type 0} (n : ℕ) (f g : ℕ → A) → ((i : ℕ) → i < n → f i ≡ g i) → upTo n f ≡ upTo n g
 upTo-same zero f g h = refl
 upTo-same (suc n) f g h = ap₂ (λ (l : List _) (x : _). l ++ (x ∷ [])) (upTo-same n f g (λ i l. h i (omega arith))) (h n (omega arith))
 
@@ -157,3 +159,13 @@ stored-of i c P r q l z h =
       sized = record { heads = simp length-set (z .heads); kinds = simp length-set (z .kinds); numbers = simp length-set (z .numbers) };
       all = rw h (add-credential P (c .head) (c .body) (omega arith) z);
     }
+
+-- a list from columns is as long as the count
+pub length-upTo : {A : Type 0} (n : ℕ) (f : ℕ → A) → length (upTo n f) ≡ n
+length-upTo zero f = refl
+length-upTo (suc n) f = omega (arith, length-append (upTo n f) (f n ∷ []), length-upTo n f)
+
+-- a pool has as many credentials as it counts
+pub count-length : (P : Pool) → length (credentials P) ≡ P .count
+unfolding credentials
+count-length P = length-upTo (P .count) (credentialAt P)
