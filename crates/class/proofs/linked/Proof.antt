@@ -1,0 +1,30 @@
+use Rattle.class.specs.Typing.{linked}
+use Rattle.class.proofs.linked.Statement.{statement}
+use Rattle.class.proofs.linked.Tie as tie
+
+returns : tie.Need-returns
+unfolding linked
+returns c = rw (c .if1 .taken)
+
+returns-2 : tie.Need-returns-2
+unfolding linked
+returns-2 c = rw (c .before .if1 .left, c .if2 .taken)
+
+returns-3 : tie.Need-returns-3
+unfolding linked
+returns-3 c = rw (c .before .before .if1 .left, c .before .if2 .left, c .if3 .taken)
+
+returns-4 : tie.Need-returns-4
+unfolding linked
+returns-4 c = rw (c .before .before .before .if1 .left, c .before .before .if2 .left, c .before .if3 .left, c .if4 .taken)
+
+returns-5 : tie.Need-returns-5
+unfolding linked
+returns-5 c = rw (c .before .before .before .before .if1 .left, c .before .before .before .if2 .left, c .before .before .if3 .left, c .before .if4 .left, c .if5 .taken)
+
+returns-6 : tie.Need-returns-6
+unfolding linked
+returns-6 c = rw (c .before .before .before .before .if1 .left, c .before .before .before .if2 .left, c .before .before .if3 .left, c .before .if4 .left, c .if5 .left)
+
+pub linked-spec : {M : Type 1} → statement M
+linked-spec = tie.close (tie.spec returns returns-2 returns-3 returns-4 returns-5 returns-6)

@@ -1,0 +1,5 @@
+pub mod Find
+pub mod Names
+pub mod NamesLaws
+pub mod Typing
+pub mod TypingLaws

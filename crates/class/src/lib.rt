@@ -1,0 +1,185 @@
+// Classes of role names, and what class an expression has by them.
+use expression::Credential;
+use expression::Expression;
+use expression::Parts;
+ghost use mathlib.Core.Path.{_≡_};
+ghost use mathlib.Core.Bool.{cond};
+ghost use mathlib.Core.List.{[], _∷_};
+ghost use Prim.Native.Nat.{_≤_};
+ghost use Rattle.class.specs.Names.{namesFrom, namesOf, Ascending, classOf};
+ghost use Rattle.class.specs.Typing.{named as namedOf, linked as linkedOf, together, typeOf, isUnnamed, suits as suitsOf, credentialNumber};
+
+// A role name and its class: 1 issuer-def, 2 issuer-all, 3 subject-all.
+pub struct Name {
+    pub name: u16,
+    pub class: u8,
+}
+
+// Names in ascending order, and their classes.
+pub struct Names {
+    pub count: usize,
+    pub name: [u16; 64],
+    pub class: [u8; 64],
+}
+
+// What an expression is by its names: one of them has no class; it is ill-typed; it suits every class; or it has a class.
+pub enum Typing {
+    Unnamed,
+    Ill,
+    Any,
+    Class(u8),
+}
+
+pub const ISSUER_DEF: u8 = 1;
+
+pub const ISSUER_ALL: u8 = 2;
+
+pub const SUBJECT_ALL: u8 = 3;
+
+// Why a credential is refused: a name without class, or a class rule broken.
+pub const NAME: u64 = 4;
+
+pub const CLASS: u64 = 5;
+
+// The class of the name m, or zero where it has none.
+pub fn class_of<'a>(n: usize, name: &'a [u16; 64], class: &'a [u8; 64], m: u16) -> u8
+    requires { ⌜ (n ≤ 64) × Ascending n (now name) ⌝ }
+    ensures { λ r. ⌜ r ≡ classOf (namesOf (namesFrom n (now (name .entry)) (now (class .entry)))) m ⌝ }
+{
+    let mut low = 0;
+    let mut high = n;
+    while low < high {
+        let mid = low + (high - low) / 2;
+        if name[mid] < m {
+            low = mid + 1;
+        } else {
+            high = mid;
+        }
+    }
+    if low == n {
+        return 0;
+    }
+    if name[low] != m {
+        return 0;
+    }
+    class[low]
+}
+
+// A role or a goal, by the class of its name.
+fn named(a: u8) -> Typing
+    ensures { λ r. ⌜ r ≡ namedOf a ⌝ }
+{
+    if a == 0 {
+        return Typing::Unnamed;
+    }
+    Typing::Class(a)
+}
+
+// A linked role, by the classes of its two names.
+fn linked(a: u8, b: u8) -> Typing
+    ensures { λ r. ⌜ r ≡ linkedOf a b ⌝ }
+{
+    if (a == 0) | (b == 0) {
+        return Typing::Unnamed;
+    }
+    if (a == SUBJECT_ALL) & (b == SUBJECT_ALL) {
+        return Typing::Class(SUBJECT_ALL);
+    }
+    if (a == ISSUER_ALL) & (b == ISSUER_ALL) {
+        return Typing::Class(ISSUER_ALL);
+    }
+    if ((a == ISSUER_DEF) | (a == ISSUER_ALL)) & (b == SUBJECT_ALL) {
+        return Typing::Class(ISSUER_DEF);
+    }
+    if (a == ISSUER_ALL) & (b == ISSUER_DEF) {
+        return Typing::Class(ISSUER_DEF);
+    }
+    Typing::Ill
+}
+
+// An intersection, by the classes of its four roles; a role that is missing is given as another.
+fn meet(a: u8, b: u8, c: u8, d: u8) -> Typing
+    ensures { λ r. ⌜ r ≡ together (a ∷ b ∷ c ∷ d ∷ []) ⌝ }
+{
+    if (a == 0) | (b == 0) | (c == 0) | (d == 0) {
+        return Typing::Unnamed;
+    }
+    if (a == SUBJECT_ALL) & (b == SUBJECT_ALL) & (c == SUBJECT_ALL) & (d == SUBJECT_ALL) {
+        return Typing::Class(SUBJECT_ALL);
+    }
+    if (a == ISSUER_ALL) & (b == ISSUER_ALL) & (c == ISSUER_ALL) & (d == ISSUER_ALL) {
+        return Typing::Class(ISSUER_ALL);
+    }
+    Typing::Class(ISSUER_DEF)
+}
+
+// An intersection.
+fn type_of_parts<'a>(n: usize, name: &'a [u16; 64], class: &'a [u8; 64], p: Parts) -> Typing
+    requires { ⌜ (n ≤ 64) × Ascending n (now name) ⌝ }
+    ensures { λ r. ⌜ r ≡ typeOf (namesOf (namesFrom n (now (name .entry)) (now (class .entry)))) (Expression.Intersection p) ⌝ }
+{
+    let a = class_of(n, name, class, p.first.name);
+    let b = class_of(n, name, class, p.second.name);
+    if p.count == 2 {
+        return meet(a, b, a, a);
+    }
+    let c = class_of(n, name, class, p.third.name);
+    if p.count == 3 {
+        return meet(a, b, c, a);
+    }
+    let d = class_of(n, name, class, p.fourth.name);
+    meet(a, b, c, d)
+}
+
+// What class an expression has.
+pub fn type_of<'a>(n: usize, name: &'a [u16; 64], class: &'a [u8; 64], x: Expression) -> Typing
+    requires { ⌜ (n ≤ 64) × Ascending n (now name) ⌝ }
+    ensures { λ r. ⌜ r ≡ typeOf (namesOf (namesFrom n (now (name .entry)) (now (class .entry)))) x ⌝ }
+{
+    match x {
+        Expression::Entity(_) => Typing::Any,
+        Expression::Role(r) => named(class_of(n, name, class, r.name)),
+        Expression::Linked(r, m) => linked(
+            class_of(n, name, class, r.name),
+            class_of(n, name, class, m),
+        ),
+        Expression::Intersection(p) => type_of_parts(n, name, class, p),
+        Expression::Goal(m) => named(class_of(n, name, class, m)),
+    }
+}
+
+// The number of a body of type t under a head of class k: a name without class, a class rule broken, or zero.
+fn suits(t: Typing, k: u8) -> u64
+    ensures { λ r. ⌜ r ≡ cond (isUnnamed t) 4 (cond (suitsOf t k) 0 5) ⌝ }
+{
+    match t {
+        Typing::Unnamed => NAME,
+        Typing::Ill => CLASS,
+        Typing::Any => 0,
+        Typing::Class(a) => {
+            if (k == ISSUER_DEF) | (a == k) {
+                return 0;
+            }
+            CLASS
+        }
+    }
+}
+
+// The class rules for a credential: zero where it keeps them.
+pub fn credential_number<'a>(
+    n: usize,
+    name: &'a [u16; 64],
+    class: &'a [u8; 64],
+    c: Credential,
+) -> u64
+    requires { ⌜ (n ≤ 64) × Ascending n (now name) ⌝ }
+    ensures { λ r. ⌜ r ≡ credentialNumber (namesOf (namesFrom n (now (name .entry)) (now (class .entry)))) c ⌝ }
+{
+    let head = c.head;
+    let body = c.body;
+    let k = class_of(n, name, class, head.name);
+    if k == 0 {
+        return NAME;
+    }
+    suits(type_of(n, name, class, body), k)
+}
