@@ -1,0 +1,72 @@
+use native.Mathlib.Omega.{arith}
+use borrow.Author.Needs.{needs}
+use mathlib.Core.Path.{refl}
+use Prim.Native.Nat.{ℕ, _-_}
+use lib.ListN.{length, length-replicate}
+use Rattle.rt0.specs.Pool.{poolOf, credentials}
+use Rattle.class.specs.Names.{namesFrom, namesOf}
+use Rattle.tables.specs.Tables.{pairsFrom, pairsOf}
+use Rattle.tables.specs.Reading.{tablesFor}
+use Rattle.tables.specs.PairsReading.{ReadingPairs, pairs-start, pairs-past, pairs-room, pairs-next, pairs-stop}
+use Rattle.tables.proofs.sensitive.read_pairs.Statement.{statement}
+use Rattle.tables.proofs.sensitive.read_pairs.Tie as tie
+
+abbrev Inv-loop : tie.InvT-loop
+Inv-loop s start access n name class own c heads kinds numbers p roles others first₀ second₀ count₀ last₀ at₀ first second count last at =
+    ReadingPairs (tablesFor own (namesOf (namesFrom n name class)) (credentials (poolOf c heads kinds numbers)) (pairsOf (pairsFrom p roles others))) access s start (pairsFrom count first second) last at
+
+abbrev μ-loop : tie.MeasureT-loop
+μ-loop s start access n name class own c heads kinds numbers p roles others first₀ second₀ count₀ last₀ at₀ first second count last at =
+    length s - at
+
+loop-holds : tie.Need-loop-holds Inv-loop μ-loop
+unfolding pairsOf
+loop-holds c = pairs-start _ _ _ _ (pairsFrom 0 _ _) _ refl (record { roles = length-replicate {A = ℕ} 64 0; others = length-replicate {A = ℕ} 64 0 })
+
+next-pair-requires : tie.Need-next-pair-requires Inv-loop μ-loop
+next-pair-requires c κs = search needs
+
+enum-known-x : tie.Need-enum-known-x Inv-loop μ-loop
+enum-known-x c = search needs
+
+store-pair-requires : tie.Need-store-pair-requires Inv-loop μ-loop
+store-pair-requires c κs = (pairs-room (c .before .before .before .before .before .before .before .loop .inv) (c .before .before .before .before .before .before .loop-test .taken) (c .before .before .before .before .before .next-pair .ensures) _ (c .before .before .before .x .given .1), c .before .before .before .before .before .before .before .loop .inv .sized)
+
+add-count : tie.Need-add-count Inv-loop μ-loop
+add-count c = omega (arith, pairs-room (c .before .before .before .before .before .before .before .before .loop .inv) (c .before .before .before .before .before .before .before .loop-test .taken) (c .before .before .before .before .before .before .next-pair .ensures) _ (c .before .before .before .before .x .given .1))
+
+add-at : tie.Need-add-at Inv-loop μ-loop
+add-at c = search needs
+
+loop-less : tie.Need-loop-less Inv-loop μ-loop
+loop-less c = omega arith
+
+loop-again : tie.Need-loop-again Inv-loop μ-loop
+loop-again c = pairs-next (c .before .before .before .before .before .before .before .before .loop .inv) (c .before .before .before .before .before .before .before .loop-test .taken) (c .before .before .before .before .before .before .next-pair .ensures) _ (c .before .before .before .before .x .given .1) (c .store-pair .ensures)
+
+enum-known-k : tie.Need-enum-known-k Inv-loop μ-loop
+enum-known-k c = search needs
+
+returns : tie.Need-returns Inv-loop μ-loop
+returns c = pairs-stop (c .before .before .before .before .before .loop .inv) (c .before .before .before .before .loop-test .taken) (c .before .before .before .next-pair .ensures) _ (c .before .k .given .1)
+
+returns-2 : tie.Need-returns-2 Inv-loop μ-loop
+returns-2 c = pairs-past (c .before .loop .inv) (c .loop-test .left)
+
+pub read-pairs-spec : {M : Type 1} → statement M
+read-pairs-spec =
+    tie.close
+    (tie.spec
+    Inv-loop
+    μ-loop
+    loop-holds
+    next-pair-requires
+    enum-known-x
+    store-pair-requires
+    add-count
+    add-at
+    loop-less
+    loop-again
+    enum-known-k
+    returns
+    returns-2)

@@ -1,0 +1,168 @@
+// The house tables: their check, what they hold, and what is looked up in them.
+use class::Name;
+use class::Names;
+use expression::Credential;
+use expression::Role;
+use record::Pair;
+use record::RecordAnswer;
+use rt0::Pool;
+ghost use mathlib.Core.Path.{_≡_};
+ghost use mathlib.Core.Bool.{cond};
+ghost use Prim.Native.Nat.{ℕ};
+ghost use Rattle.tables.specs.Check.{orElse};
+ghost use Rattle.tables.specs.Decoding.{Housed};
+ghost use Rattle.tables.specs.Group.{rising as risingOf, refusalOf};
+
+mod columns;
+mod lookup;
+mod names;
+mod sensitive;
+mod stored;
+mod whole;
+
+pub use lookup::holds;
+pub use lookup::is_direct;
+pub use lookup::is_sensitive;
+pub use lookup::other_of;
+pub use whole::check;
+pub use whole::decode;
+
+// How many records of a command there may be, and how many bytes.
+const NAMES_MOST: usize = 64;
+
+const STORED_MOST: usize = 64;
+
+const SENSITIVE_MOST: usize = 32;
+
+const ACCESS_MOST: usize = 32;
+
+const TABLES_MOST: usize = 4096;
+
+// Tables out of order, repeated, self missing, or a size passed.
+const ORDER: u64 = 6;
+
+// Pairs of roles one after the other: sensitive role i at 2 i, and its Ack or AC role at 2 i.
+pub struct Pairs {
+    pub count: usize,
+    pub roles: [u16; 64],
+    pub others: [u16; 64],
+}
+
+// The tables, decoded: self, names and classes, the credentials of each storage, sensitive roles with Ack roles, AC records.
+pub struct House {
+    pub own: u16,
+    pub names: Names,
+    pub issuer: Pool,
+    pub subject: Pool,
+    pub sensitive: Pairs,
+    pub access: Pairs,
+}
+
+// A house where the refusal is 0; else it does not count.
+pub struct Decoded {
+    pub refusal: u64,
+    pub house: House,
+}
+
+pub enum RoleAnswer {
+    Found(Role),
+    Absent,
+}
+
+// What stands next where the records of a command are read: one of them, or a stop, with a refusal number or with 0 where another
+// command's record stands.
+pub enum NameStep {
+    Taken(Name),
+    Stop(u64),
+}
+
+pub enum StoredStep {
+    Taken(Credential),
+    Stop(u64),
+}
+
+pub enum PairStep {
+    Taken(Pair),
+    Stop(u64),
+}
+
+// Self, or the number of another first record.
+pub enum OwnAnswer {
+    Read(u16),
+    Refused(u64),
+}
+
+// The records of a command, the index behind them, and why the reading stopped there.
+pub struct NamesRead {
+    pub refusal: u64,
+    pub at: usize,
+    pub names: Names,
+}
+
+pub struct StoredRead {
+    pub refusal: u64,
+    pub at: usize,
+    pub pool: Pool,
+}
+
+pub struct PairsRead {
+    pub refusal: u64,
+    pub at: usize,
+    pub pairs: Pairs,
+}
+
+impl House {
+    // No record of any command.
+    pub fn empty() -> Self
+        ensures { λ r. ⌜ Housed r ⌝ }
+    {
+        let none = [0u16; 64];
+        let pairs = Pairs {
+            count: 0,
+            roles: none,
+            others: none,
+        };
+        Self {
+            own: 0,
+            names: Names {
+                count: 0,
+                name: none,
+                class: [0u8; 64],
+            },
+            issuer: Pool::empty(),
+            subject: Pool::empty(),
+            sensitive: pairs,
+            access: pairs,
+        }
+    }
+}
+
+// The number of a record that was not read.
+fn refusal_of(a: RecordAnswer) -> u64
+    ensures { λ r. ⌜ r ≡ refusalOf a ⌝ }
+{
+    match a {
+        RecordAnswer::Read(_) => 0,
+        RecordAnswer::Refused(k) => k,
+    }
+}
+
+// A record that comes after the others of its command where up says so, there being room for it: zero, else out of order.
+fn rising(up: bool, count: usize, most: usize) -> u64
+    ensures { λ r. ⌜ r ≡ risingOf up count most ⌝ }
+{
+    if up & (count < most) {
+        return 0;
+    }
+    ORDER
+}
+
+// The first number that is not zero.
+fn or_else(k: u64, rest: u64) -> u64
+    ensures { λ r. ⌜ r ≡ orElse k rest ⌝ }
+{
+    if k == 0 {
+        return rest;
+    }
+    k
+}

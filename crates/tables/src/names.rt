@@ -1,0 +1,92 @@
+// The names of the tables.
+use crate::NAMES_MOST;
+use crate::NameStep;
+use crate::NamesRead;
+use crate::columns::store_name;
+use crate::refusal_of;
+use crate::rising;
+use class::Name;
+use class::Names;
+use record::Record;
+use record::RecordAnswer;
+use record::read_record;
+ghost use mathlib.Core.Path.{_≡_};
+ghost use Prim.Native.Nat.{_<_};
+ghost use lib.ListN.{length};
+ghost use Rattle.record.specs.Record.{recordAt};
+ghost use Rattle.tables.specs.Group.{numberBehind, judgedStep, pickedStep, stepOf};
+ghost use Rattle.tables.specs.Groups.{names as namesGroup, pickName};
+ghost use Rattle.tables.specs.Reading.{nameStep, noNumber, NamesGone};
+
+// 0x11, the name and its class.
+const NAME_SIZE: usize = 4;
+
+// The name n behind others, so many, the last of which is last.
+fn judged_name(n: Name, count: usize, last: Name) -> NameStep
+    ensures { λ r. ⌜ nameStep r ≡ judgedStep (numberBehind namesGroup noNumber count last n) n ⌝ }
+{
+    let k = rising((count == 0) | (last.name < n.name), count, NAMES_MOST);
+    if k == 0 {
+        return NameStep::Taken(n);
+    }
+    NameStep::Stop(k)
+}
+
+// A record, where a name may stand.
+fn name_of(r: Record, count: usize, last: Name) -> NameStep
+    ensures { λ a. ⌜ nameStep a ≡ pickedStep (numberBehind namesGroup noNumber count last) (pickName r) ⌝ }
+{
+    match r {
+        Record::Own(_) => NameStep::Stop(0),
+        Record::Named(n) => judged_name(n, count, last),
+        Record::IssuerStored(_) => NameStep::Stop(0),
+        Record::SubjectStored(_) => NameStep::Stop(0),
+        Record::Sensitive(_) => NameStep::Stop(0),
+        Record::Access(_) => NameStep::Stop(0),
+    }
+}
+
+// What stands at an index, where a name may stand.
+fn next_name(s: &[u8], at: usize, count: usize, last: Name) -> NameStep
+    requires { ⌜ at < length (now s) ⌝ }
+    ensures { λ r. ⌜ nameStep r ≡ stepOf namesGroup (numberBehind namesGroup noNumber count last) (recordAt (now (s .entry)) at) ⌝ }
+{
+    let a = read_record(s, at);
+    let RecordAnswer::Read(r) = a else {
+        return NameStep::Stop(refusal_of(a));
+    };
+    name_of(r, count, last)
+}
+
+// The names from an index on.
+pub fn read_names(s: &[u8], start: usize) -> NamesRead
+    ensures { λ r. ⌜ NamesGone (now (s .entry)) start r ⌝ }
+{
+    let mut name = [0u16; 64];
+    let mut class = [0u8; 64];
+    let mut count = 0;
+    let mut last = Name { name: 0, class: 0 };
+    let mut at = start;
+    while at < s.len() {
+        match next_name(s, at, count, last) {
+            NameStep::Taken(n) => {
+                store_name(&mut name, &mut class, count, n);
+                count += 1;
+                last = n;
+                at += NAME_SIZE;
+            }
+            NameStep::Stop(k) => {
+                return NamesRead {
+                    refusal: k,
+                    at,
+                    names: Names { count, name, class },
+                };
+            }
+        }
+    }
+    NamesRead {
+        refusal: 0,
+        at,
+        names: Names { count, name, class },
+    }
+}

@@ -1,0 +1,277 @@
+// Sensitive roles with their Ack roles, and AC records.
+use crate::ACCESS_MOST;
+use crate::PairStep;
+use crate::Pairs;
+use crate::PairsRead;
+use crate::SENSITIVE_MOST;
+use crate::columns::store_pair;
+use crate::lookup::holds;
+use crate::lookup::is_sensitive;
+use crate::or_else;
+use crate::refusal_of;
+use crate::rising;
+use class::CLASS;
+use class::NAME;
+use class::SUBJECT_ALL;
+use class::class_of;
+use expression::Role;
+use expression::ascending;
+use record::Pair;
+use record::Record;
+use record::RecordAnswer;
+use record::read_record;
+ghost use mathlib.Core.Path.{_≡_};
+ghost use mathlib.Core.Bool.{cond, _&&_};
+ghost use lib.Dec.{eqb};
+ghost use Prim.Native.Nat.{_<_, _≤_};
+ghost use lib.ListN.{length};
+ghost use Rattle.rt0.specs.Pool.{poolOf, credentials};
+ghost use Rattle.class.specs.Names.{namesFrom, namesOf, Ascending};
+ghost use Rattle.record.specs.Record.{recordAt};
+ghost use Rattle.tables.specs.Tables.{pairsFrom, pairsOf};
+ghost use Rattle.tables.specs.Lookup.{holds as holdsOf, isSensitive};
+ghost use Rattle.tables.specs.Check.{pairNumber};
+ghost use Rattle.tables.specs.Group.{behind, numberBehind, judgedStep, pickedStep, stepOf};
+ghost use Rattle.tables.specs.Groups.{pairs as pairsGroup, pairsMost, pickPair};
+ghost use Rattle.tables.specs.Reading.{pairStep, tablesFor, PairsGone};
+
+// 0x14 or 0x15 and two roles.
+const PAIR_SIZE: usize = 9;
+
+fn pairs_most(access: bool) -> usize
+    ensures { λ r. ⌜ r ≡ pairsMost access ⌝ }
+{
+    if access { ACCESS_MOST } else { SENSITIVE_MOST }
+}
+
+// Whether the role r, whose name has class k, may stand: in 0x15 we hold it and it is sensitive, in 0x14 its class is subject-all.
+fn suits_pair<'a>(
+    access: bool,
+    k: u8,
+    own: u16,
+    c: usize,
+    heads: &'a [u16; 256],
+    kinds: &'a [u8; 256],
+    numbers: &'a [u16; 1024],
+    p: usize,
+    roles: &'a [u16; 64],
+    others: &'a [u16; 64],
+    r: Role,
+) -> bool
+    requires { ⌜ (c ≤ 128) × (p ≤ 32) ⌝ }
+    ensures { λ b. ⌜ b ≡ cond access (holdsOf own (credentials (poolOf c (now (heads .entry)) (now (kinds .entry)) (now (numbers .entry)))) r && isSensitive (pairsOf (pairsFrom p (now (roles .entry)) (now (others .entry)))) r) (eqb k 3) ⌝ }
+{
+    if !access {
+        return k == SUBJECT_ALL;
+    }
+    holds(own, c, heads, kinds, numbers, r) & is_sensitive(p, roles, others, r)
+}
+
+// The class rules for a sensitive role and its Ack or AC role: zero where they are kept.
+pub fn pair_number<'a>(
+    access: bool,
+    n: usize,
+    name: &'a [u16; 64],
+    class: &'a [u8; 64],
+    own: u16,
+    c: usize,
+    heads: &'a [u16; 256],
+    kinds: &'a [u8; 256],
+    numbers: &'a [u16; 1024],
+    p: usize,
+    roles: &'a [u16; 64],
+    others: &'a [u16; 64],
+    x: Pair,
+) -> u64
+    requires { ⌜ (n ≤ 64) × Ascending n (now name) × (c ≤ 128) × (p ≤ 32) ⌝ }
+    ensures { λ r. ⌜ r ≡ pairNumber access (tablesFor own (namesOf (namesFrom n (now (name .entry)) (now (class .entry)))) (credentials (poolOf c (now (heads .entry)) (now (kinds .entry)) (now (numbers .entry)))) (pairsOf (pairsFrom p (now (roles .entry)) (now (others .entry))))) x ⌝ }
+{
+    let role = x.role;
+    let other = x.other;
+    let k = class_of(n, name, class, role.name);
+    let m = class_of(n, name, class, other.name);
+    if (k == 0) | (m == 0) {
+        return NAME;
+    }
+    if suits_pair(
+        access,
+        k,
+        own,
+        c,
+        heads,
+        kinds,
+        numbers,
+        p,
+        roles,
+        others,
+        role,
+    ) {
+        return 0;
+    }
+    CLASS
+}
+
+// The pair of a record of the command.
+fn pick_pair(access: bool, r: Record) -> PairStep
+    ensures { λ a. ⌜ pairStep a ≡ pickedStep (λ p. 0) (pickPair access r) ⌝ }
+{
+    match r {
+        Record::Own(_) => PairStep::Stop(0),
+        Record::Named(_) => PairStep::Stop(0),
+        Record::IssuerStored(_) => PairStep::Stop(0),
+        Record::SubjectStored(_) => PairStep::Stop(0),
+        Record::Sensitive(p) => {
+            if access {
+                return PairStep::Stop(0);
+            }
+            PairStep::Taken(p)
+        }
+        Record::Access(p) => {
+            if access {
+                return PairStep::Taken(p);
+            }
+            PairStep::Stop(0)
+        }
+    }
+}
+
+// The pair x, whose class rules give k, behind others, so many, the last of which is last.
+fn judged_pair(access: bool, k: u64, x: Pair, count: usize, last: Pair) -> PairStep
+    ensures { λ r. ⌜ pairStep r ≡ judgedStep (behind (pairsGroup access) k count last x) x ⌝ }
+{
+    let role = last.role;
+    let next = x.role;
+    let up = (count == 0) | ascending(role, next);
+    let j = or_else(k, rising(up, count, pairs_most(access)));
+    if j == 0 {
+        return PairStep::Taken(x);
+    }
+    PairStep::Stop(j)
+}
+
+// What stands at an index, where a pair of the command may stand.
+fn next_pair<'a>(
+    s: &'a [u8],
+    at: usize,
+    access: bool,
+    n: usize,
+    name: &'a [u16; 64],
+    class: &'a [u8; 64],
+    own: u16,
+    c: usize,
+    heads: &'a [u16; 256],
+    kinds: &'a [u8; 256],
+    numbers: &'a [u16; 1024],
+    p: usize,
+    roles: &'a [u16; 64],
+    others: &'a [u16; 64],
+    count: usize,
+    last: Pair,
+) -> PairStep
+    requires { ⌜ (at < length (now s)) × (n ≤ 64) × Ascending n (now name) × (c ≤ 128) × (p ≤ 32) ⌝ }
+    ensures { λ r. ⌜ pairStep r ≡ stepOf (pairsGroup access) (numberBehind (pairsGroup access) (pairNumber access (tablesFor own (namesOf (namesFrom n (now (name .entry)) (now (class .entry)))) (credentials (poolOf c (now (heads .entry)) (now (kinds .entry)) (now (numbers .entry)))) (pairsOf (pairsFrom p (now (roles .entry)) (now (others .entry)))))) count last) (recordAt (now (s .entry)) at) ⌝ }
+{
+    let a = read_record(s, at);
+    let RecordAnswer::Read(r) = a else {
+        return PairStep::Stop(refusal_of(a));
+    };
+    match pick_pair(access, r) {
+        PairStep::Taken(x) => {
+            let k = pair_number(
+                access,
+                n,
+                name,
+                class,
+                own,
+                c,
+                heads,
+                kinds,
+                numbers,
+                p,
+                roles,
+                others,
+                x,
+            );
+            judged_pair(access, k, x, count, last)
+        }
+        PairStep::Stop(_) => PairStep::Stop(0),
+    }
+}
+
+// The pairs of a command from an index on.
+pub fn read_pairs<'a>(
+    s: &'a [u8],
+    start: usize,
+    access: bool,
+    n: usize,
+    name: &'a [u16; 64],
+    class: &'a [u8; 64],
+    own: u16,
+    c: usize,
+    heads: &'a [u16; 256],
+    kinds: &'a [u8; 256],
+    numbers: &'a [u16; 1024],
+    p: usize,
+    roles: &'a [u16; 64],
+    others: &'a [u16; 64],
+) -> PairsRead
+    requires { ⌜ (n ≤ 64) × Ascending n (now name) × (c ≤ 128) × (p ≤ 32) ⌝ }
+    ensures { λ r. ⌜ PairsGone (tablesFor own (namesOf (namesFrom n (now (name .entry)) (now (class .entry)))) (credentials (poolOf c (now (heads .entry)) (now (kinds .entry)) (now (numbers .entry)))) (pairsOf (pairsFrom p (now (roles .entry)) (now (others .entry))))) access (now (s .entry)) start r ⌝ }
+{
+    let mut first = [0u16; 64];
+    let mut second = [0u16; 64];
+    let mut count = 0;
+    let zero = Role { entity: 0, name: 0 };
+    let mut last = Pair {
+        role: zero,
+        other: zero,
+    };
+    let mut at = start;
+    while at < s.len() {
+        match next_pair(
+            s,
+            at,
+            access,
+            n,
+            name,
+            class,
+            own,
+            c,
+            heads,
+            kinds,
+            numbers,
+            p,
+            roles,
+            others,
+            count,
+            last,
+        ) {
+            PairStep::Taken(x) => {
+                store_pair(&mut first, &mut second, count, x);
+                count += 1;
+                last = x;
+                at += PAIR_SIZE;
+            }
+            PairStep::Stop(k) => {
+                return PairsRead {
+                    refusal: k,
+                    at,
+                    pairs: Pairs {
+                        count,
+                        roles: first,
+                        others: second,
+                    },
+                };
+            }
+        }
+    }
+    PairsRead {
+        refusal: 0,
+        at,
+        pairs: Pairs {
+            count,
+            roles: first,
+            others: second,
+        },
+    }
+}

@@ -1,0 +1,190 @@
+// The credentials of a storage.
+use crate::STORED_MOST;
+use crate::StoredRead;
+use crate::StoredStep;
+use crate::or_else;
+use crate::refusal_of;
+use crate::rising;
+use class::CLASS;
+use class::ISSUER_ALL;
+use class::ISSUER_DEF;
+use class::SUBJECT_ALL;
+use class::class_of;
+use class::credential_number;
+use expression::Credential;
+use expression::Expression;
+use expression::Role;
+use expression::before_credential;
+use record::Record;
+use record::RecordAnswer;
+use record::read_record;
+use rt0::Pool;
+use rt0::store;
+ghost use mathlib.Core.Path.{_≡_};
+ghost use Prim.Native.Nat.{_<_, _≤_};
+ghost use lib.ListN.{length};
+ghost use Rattle.class.specs.Names.{namesFrom, namesOf, Ascending};
+ghost use Rattle.record.specs.Record.{recordAt};
+ghost use Rattle.tables.specs.Check.{suitsStorage, storedNumber};
+ghost use Rattle.tables.specs.Group.{numberBehind, judgedStep, pickedStep, stepOf};
+ghost use Rattle.tables.specs.Groups.{credentialsOf, pickStored};
+ghost use Rattle.tables.specs.Reading.{storedStep, StoredGone};
+
+// 0x12 or 0x13 and the 22 bytes of a credential.
+const STORED_SIZE: usize = 23;
+
+// Whether a head of class k may stand in a storage.
+fn suits_storage(subject: bool, k: u8) -> bool
+    ensures { λ r. ⌜ r ≡ suitsStorage subject k ⌝ }
+{
+    if subject {
+        return k == SUBJECT_ALL;
+    }
+    (k == ISSUER_DEF) | (k == ISSUER_ALL)
+}
+
+// The class rules for a stored credential: zero where it keeps them.
+pub fn stored_number<'a>(
+    n: usize,
+    name: &'a [u16; 64],
+    class: &'a [u8; 64],
+    subject: bool,
+    c: Credential,
+) -> u64
+    requires { ⌜ (n ≤ 64) × Ascending n (now name) ⌝ }
+    ensures { λ r. ⌜ r ≡ storedNumber (namesOf (namesFrom n (now (name .entry)) (now (class .entry)))) subject c ⌝ }
+{
+    let k = credential_number(n, name, class, c);
+    let head = c.head;
+    if suits_storage(subject, class_of(n, name, class, head.name)) {
+        return k;
+    }
+    or_else(k, CLASS)
+}
+
+// The credential c behind others, so many, the last of which is last.
+fn judged_stored<'a>(
+    n: usize,
+    name: &'a [u16; 64],
+    class: &'a [u8; 64],
+    subject: bool,
+    c: Credential,
+    count: usize,
+    last: Credential,
+) -> StoredStep
+    requires { ⌜ (n ≤ 64) × Ascending n (now name) ⌝ }
+    ensures { λ r. ⌜ storedStep r ≡ judgedStep (numberBehind (credentialsOf subject) (storedNumber (namesOf (namesFrom n (now (name .entry)) (now (class .entry)))) subject) count last c) c ⌝ }
+{
+    let up = (count == 0) | before_credential(last, c);
+    let k = or_else(
+        stored_number(n, name, class, subject, c),
+        rising(up, count, STORED_MOST),
+    );
+    if k == 0 {
+        return StoredStep::Taken(c);
+    }
+    StoredStep::Stop(k)
+}
+
+// The credential of a record of the storage.
+fn pick_stored(subject: bool, r: Record) -> StoredStep
+    ensures { λ a. ⌜ storedStep a ≡ pickedStep (λ c. 0) (pickStored subject r) ⌝ }
+{
+    match r {
+        Record::Own(_) => StoredStep::Stop(0),
+        Record::Named(_) => StoredStep::Stop(0),
+        Record::IssuerStored(c) => {
+            if subject {
+                return StoredStep::Stop(0);
+            }
+            StoredStep::Taken(c)
+        }
+        Record::SubjectStored(c) => {
+            if subject {
+                return StoredStep::Taken(c);
+            }
+            StoredStep::Stop(0)
+        }
+        Record::Sensitive(_) => StoredStep::Stop(0),
+        Record::Access(_) => StoredStep::Stop(0),
+    }
+}
+
+// What stands at an index, where a credential of the storage may stand.
+fn next_stored<'a>(
+    s: &'a [u8],
+    at: usize,
+    n: usize,
+    name: &'a [u16; 64],
+    class: &'a [u8; 64],
+    subject: bool,
+    count: usize,
+    last: Credential,
+) -> StoredStep
+    requires { ⌜ (at < length (now s)) × (n ≤ 64) × Ascending n (now name) ⌝ }
+    ensures { λ r. ⌜ storedStep r ≡ stepOf (credentialsOf subject) (numberBehind (credentialsOf subject) (storedNumber (namesOf (namesFrom n (now (name .entry)) (now (class .entry)))) subject) count last) (recordAt (now (s .entry)) at) ⌝ }
+{
+    let a = read_record(s, at);
+    let RecordAnswer::Read(r) = a else {
+        return StoredStep::Stop(refusal_of(a));
+    };
+    match pick_stored(subject, r) {
+        StoredStep::Taken(c) => judged_stored(n, name, class, subject, c, count, last),
+        StoredStep::Stop(_) => StoredStep::Stop(0),
+    }
+}
+
+// The credentials of a storage from an index on.
+pub fn read_stored<'a>(
+    s: &'a [u8],
+    start: usize,
+    n: usize,
+    name: &'a [u16; 64],
+    class: &'a [u8; 64],
+    subject: bool,
+) -> StoredRead
+    requires { ⌜ (n ≤ 64) × Ascending n (now name) ⌝ }
+    ensures { λ r. ⌜ StoredGone (namesOf (namesFrom n (now (name .entry)) (now (class .entry)))) subject (now (s .entry)) start r ⌝ }
+{
+    let mut heads = [0u16; 256];
+    let mut kinds = [0u8; 256];
+    let mut numbers = [0u16; 1024];
+    let mut count = 0;
+    let mut last = Credential {
+        head: Role { entity: 0, name: 0 },
+        body: Expression::Entity(0),
+    };
+    let mut at = start;
+    while at < s.len() {
+        match next_stored(s, at, n, name, class, subject, count, last) {
+            StoredStep::Taken(c) => {
+                store(&mut heads, &mut kinds, &mut numbers, count, c);
+                count += 1;
+                last = c;
+                at += STORED_SIZE;
+            }
+            StoredStep::Stop(k) => {
+                return StoredRead {
+                    refusal: k,
+                    at,
+                    pool: Pool {
+                        count,
+                        heads,
+                        kinds,
+                        numbers,
+                    },
+                };
+            }
+        }
+    }
+    StoredRead {
+        refusal: 0,
+        at,
+        pool: Pool {
+            count,
+            heads,
+            kinds,
+            numbers,
+        },
+    }
+}
