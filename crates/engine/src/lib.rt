@@ -1,6 +1,15 @@
 // The calls for a host in C. Each answers one number, 256 times a value plus a refusal number.
 ghost use mathlib.Core.Path.{_≡_};
 ghost use Rattle.question.specs.Question.{questionOf};
+ghost use Rattle.tables.specs.Check.{checkOf};
+
+// The check of house tables: 0 where they are accepted, or a refusal number.
+#[no_mangle]
+pub extern "C" fn lavutremo_check(tables: &[u8]) -> u64
+    ensures { λ r. ⌜ r ≡ checkOf (now (tables .entry)) ⌝ }
+{
+    tables::check(tables)
+}
 
 // Whether f is from e in RT0 over the lent credentials: 256 for yes, 0 for no, or a refusal number.
 #[no_mangle]
