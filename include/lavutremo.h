@@ -14,6 +14,20 @@
  *   0x01 credential, 23 bytes: 0x01, issuer, name, body. The body is an expression of kind 1 to 4, and a linked body
  *        begins with the issuer. It says that every member of the body is a member of the role issuer.name.
  *   0x06 end, 1 byte: stands last and only there.
+ *
+ * House tables are records one after another, in this order, without an end:
+ *   0x10 self, 3 bytes: one number; the first record, and once.
+ *   0x11 name, 4 bytes: a role name and its class byte, 1 issuer-def, 2 issuer-all, 3 subject-all.
+ *   0x12 issuer-stored and 0x13 subject-stored credential, 23 bytes: as 0x01.
+ *   0x14 sensitive role, 9 bytes: the role and its Ack role, entity and name each.
+ *   0x15 access control, 9 bytes: a sensitive role and its AC role.
+ * Records of one command ascend strictly by bytes; 0x11, 0x14 and 0x15 never repeat their first operand.
+ *
+ * Class rules: a linked role is subject-all if both names are, issuer-all if both are, issuer-def if the first is 1 or
+ * 2 and the second 3, or the first 2 and the second 1, and otherwise ill-typed. An intersection is of class 2 or 3 if
+ * all parts are, else 1. An entity suits every class. A credential whose head is class 2 or 3 needs a body of that
+ * class; class 1 takes any well-typed body. Heads of 0x12 have class 1 or 2, of 0x13 class 3. Sensitive roles have
+ * class 3. An 0x15 record needs the credential role <- self in 0x13, and the role in 0x14.
  */
 #ifndef LAVUTREMO_H
 #define LAVUTREMO_H
@@ -25,16 +39,48 @@
 #define LAVUTREMO_LENGTH 1u  /* a lent length outside the sizes */
 #define LAVUTREMO_COMMAND 2u /* an unknown or cut command, a missing end, bytes after the end */
 #define LAVUTREMO_OPERAND 3u /* an operand of wrong form */
+#define LAVUTREMO_NAME 4u    /* a name without class */
+#define LAVUTREMO_CLASS 5u   /* a class rule broken */
+#define LAVUTREMO_ORDER 6u   /* tables out of order, repeated, self missing, or a size passed */
 
 /* Sizes in bytes. */
 #define LAVUTREMO_EXPRESSION_BYTES 18
 #define LAVUTREMO_CREDENTIAL_BYTES 23
 #define LAVUTREMO_MOST_CREDENTIALS 64
 #define LAVUTREMO_MOST_CREDENTIALS_BYTES (LAVUTREMO_MOST_CREDENTIALS * LAVUTREMO_CREDENTIAL_BYTES + 1)
+#define LAVUTREMO_MOST_TABLES_BYTES 4096
+
+/* Sizes of tables in records. */
+#define LAVUTREMO_MOST_NAMES 64
+#define LAVUTREMO_MOST_STORED 64 /* of each storage */
+#define LAVUTREMO_MOST_SENSITIVE 32
+#define LAVUTREMO_MOST_ACCESS 32
 
 #ifdef __cplusplus
 extern "C" {
 #endif
+
+/*
+ * Are these house tables sound?
+ *
+ * Reads
+ *   tables  records as above: 1 to 4,096 bytes
+ *
+ * Writes nothing. It keeps no pointer and no state between calls, so threads may ask at the same time.
+ *
+ * Returns 0 if the tables are accepted, else a number alone:
+ *   LAVUTREMO_LENGTH   the length is outside the sizes;
+ * else the records are judged left to right, each before the next is read, and the first that cannot be taken ends the
+ * call with the first of these that applies; a rule that looks at other records looks at earlier ones only:
+ *   LAVUTREMO_COMMAND  it is unknown or cut,
+ *   LAVUTREMO_OPERAND  an operand has a wrong form: a zero number, a class byte outside 1 to 3, a wrong credential,
+ *   LAVUTREMO_NAME     a name in it has no class,
+ *   LAVUTREMO_CLASS    it breaks a class rule,
+ *   LAVUTREMO_ORDER    it is out of order, repeated or one too many, or it is the first and not self.
+ *
+ * The buffer may have any content and any length. The caller sees to the pointer as below.
+ */
+uint64_t lavutremo_check(const uint8_t *tables, size_t tables_len);
 
 /*
  * Does "f from e" hold in RT0 over these credentials? Where e is an entity: is e a member of f?

@@ -19,6 +19,8 @@ static const uint8_t goal[19] = {5, 0, 0, 1};
 static const uint8_t zero[19] = {0};
 
 static uint8_t credentials[MOST + 1];
+static uint8_t tables[LAVUTREMO_MOST_TABLES_BYTES + 1];
+static size_t tables_len;
 static int passed, failed;
 
 static void expect(const char *what, uint64_t expected, size_t credentials_len, const uint8_t *f, size_t f_len,
@@ -99,11 +101,124 @@ static void order(void)
     expect("f of wrong form, and e of 19 bytes", LAVUTREMO_LENGTH, 1, zero, 18, entity, 19);
 }
 
+static void expect_tables(const char *what, uint64_t expected, size_t len)
+{
+    uint8_t before[sizeof tables];
+    memcpy(before, tables, sizeof before);
+    uint64_t answer = lavutremo_check(tables, len);
+    if (answer == expected && memcmp(before, tables, sizeof before) == 0) {
+        passed++;
+        return;
+    }
+    failed++;
+    printf("%s: answer %llu, expected %llu\n", what, (unsigned long long)answer, (unsigned long long)expected);
+}
+
+static void put(const uint8_t *record, size_t size)
+{
+    memcpy(tables + tables_len, record, size);
+    tables_len += size;
+}
+
+static void put_self(void)
+{
+    tables_len = 0;
+    put((const uint8_t[]){0x10, 0, 2}, 3);
+}
+
+static void put_name(unsigned name, unsigned class)
+{
+    put((const uint8_t[]){0x11, (uint8_t)(name >> 8), (uint8_t)name, (uint8_t)class}, 4);
+}
+
+/* issuer.3 <- 2, subject-stored. */
+static void put_stored(unsigned issuer)
+{
+    put((const uint8_t[23]){0x13, (uint8_t)(issuer >> 8), (uint8_t)issuer, 0, 3, 1, 0, 0, 2}, 23);
+}
+
+/* A pair for the role issuer.3, its other role 1.2. */
+static void put_pair(unsigned command, unsigned issuer)
+{
+    put((const uint8_t[]){(uint8_t)command, (uint8_t)(issuer >> 8), (uint8_t)issuer, 0, 3, 0, 1, 0, 2}, 9);
+}
+
+/* The House of marked case (i), with an AC record: names 1, 2, 3 of classes 1, 3, 3; 4.3 <- 2; 4.3 sensitive, Ack 1.2,
+ * AC 1.2. */
+static void put_house(void)
+{
+    put_self();
+    put_name(1, 1);
+    put_name(2, 3);
+    put_name(3, 3);
+    put_stored(4);
+    put_pair(0x14, 4);
+    put_pair(0x15, 4);
+}
+
+static void table_records(void)
+{
+    put_house();
+    expect_tables("the House", 0, tables_len);
+    expect_tables("no bytes", LAVUTREMO_LENGTH, 0);
+    expect_tables("4,097 bytes", LAVUTREMO_LENGTH, sizeof tables);
+    expect_tables("a cut record", LAVUTREMO_COMMAND, tables_len - 1);
+    expect_tables("without the AC record", 0, tables_len - 9);
+    tables[tables_len - 9] = 0x16;
+    expect_tables("an unknown record", LAVUTREMO_COMMAND, tables_len);
+    put_house();
+    tables[6] = 4;
+    expect_tables("class 4", LAVUTREMO_OPERAND, tables_len);
+    put_house();
+    tables[15 + 4] = 9;
+    expect_tables("a name without class", LAVUTREMO_NAME, tables_len);
+    put_house();
+    tables[15] = 0x12;
+    expect_tables("subject-all in 0x12", LAVUTREMO_CLASS, tables_len);
+    put_self();
+    expect_tables("self alone", 0, tables_len);
+    put((const uint8_t[]){0x10, 0, 2}, 3);
+    expect_tables("self twice", LAVUTREMO_ORDER, tables_len);
+    tables_len = 0;
+    put_name(1, 1);
+    expect_tables("self missing", LAVUTREMO_ORDER, tables_len);
+}
+
+static void table_sizes(void)
+{
+    put_self();
+    for (unsigned name = 1; name <= LAVUTREMO_MOST_NAMES; name++)
+        put_name(name, 3);
+    expect_tables("64 names", 0, tables_len);
+    put_name(65, 3);
+    expect_tables("65 names", LAVUTREMO_ORDER, tables_len);
+    tables_len -= 4;
+    for (unsigned issuer = 1; issuer <= LAVUTREMO_MOST_STORED; issuer++)
+        put_stored(issuer);
+    expect_tables("64 credentials", 0, tables_len);
+    put_stored(65);
+    expect_tables("65 credentials", LAVUTREMO_ORDER, tables_len);
+    tables_len -= 23;
+    for (unsigned issuer = 1; issuer <= LAVUTREMO_MOST_SENSITIVE; issuer++)
+        put_pair(0x14, issuer);
+    expect_tables("32 sensitive roles", 0, tables_len);
+    put_pair(0x14, 33);
+    expect_tables("33 sensitive roles", LAVUTREMO_ORDER, tables_len);
+    tables_len -= 9;
+    for (unsigned issuer = 1; issuer <= LAVUTREMO_MOST_ACCESS; issuer++)
+        put_pair(0x15, issuer);
+    expect_tables("32 AC records", 0, tables_len);
+    put_pair(0x15, 33);
+    expect_tables("an AC record of a role that is not sensitive", LAVUTREMO_CLASS, tables_len);
+}
+
 int main(void)
 {
     lengths();
     commands();
     order();
+    table_records();
+    table_sizes();
     printf("%d passed, %d failed\n", passed, failed);
     return failed > 0;
 }
