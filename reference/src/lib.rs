@@ -15,6 +15,7 @@ pub mod sample;
 pub mod shapes;
 pub mod table_faults;
 pub mod table_sample;
+pub mod table_shapes;
 #[cfg(test)]
 mod table_tests;
 pub mod tables;
