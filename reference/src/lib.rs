@@ -2,8 +2,9 @@
 //!
 //! `expression` has the types and their bytes. `question` reads a question's bytes and refuses wrong ones, `relation`
 //! builds "f from e" by the five conditions, `sample` makes random and damaged questions, `shapes` large ones.
-//! `classes` has the class rules, `records` the records of tables, `tables` checks them, `table_sample` makes random and
-//! faulty tables. `refusal` numbers the refusals.
+//! `classes` has the class rules, `records` the records of tables, `tables` checks them. `table_sample` makes random
+//! tables, `table_faults` puts faults in them, `table_bytes` makes both into bytes, `table_shapes` makes full tables whose
+//! check takes long. `refusal` numbers the refusals.
 
 pub mod classes;
 pub mod expression;
@@ -13,6 +14,7 @@ pub mod refusal;
 pub mod relation;
 pub mod sample;
 pub mod shapes;
+pub mod table_bytes;
 pub mod table_faults;
 pub mod table_sample;
 pub mod table_shapes;

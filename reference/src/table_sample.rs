@@ -106,6 +106,23 @@ impl Random {
         }
     }
 
+    /// So many records with heads of these classes. The second count are direct; the roles of these are given too.
+    fn credentials(
+        &mut self,
+        house: &House,
+        count: usize,
+        held_count: usize,
+        heads: &[Class],
+        record: fn(Credential) -> Record,
+    ) -> (BTreeSet<Role>, BTreeSet<Vec<u8>>) {
+        let mut held = BTreeSet::new();
+        self.fill(&mut held, held_count, |random| random.role_of(house, heads));
+        let direct = |&head: &Role| Credential { head, body: Expression::Entity(house.own) };
+        let mut records = held.iter().map(|role| encode_record(&record(direct(role)))).collect();
+        self.fill(&mut records, count, |random| Some(encode_record(&record(random.stored(house, heads)?))));
+        (held, records)
+    }
+
     /// A record for each of the roles, with any role that has a class.
     fn guards(&mut self, house: &House, roles: BTreeSet<Role>, record: fn(Guard) -> Record) -> Vec<Vec<u8>> {
         let by = |random: &mut Random| random.role_of(house, &[IssuerDef, IssuerAll, SubjectAll]);
@@ -123,20 +140,12 @@ impl Random {
         let mut names: Vec<Record> = house.names.iter().map(|&(name, class)| Record::Name(name, class)).collect();
         names.sort_by_key(encode_record);
 
-        let mut issuer_stored = BTreeSet::new();
-        self.fill(&mut issuer_stored, issuer_count, |random| {
-            Some(encode_record(&Record::IssuerStored(random.stored(house, &[IssuerDef, IssuerAll])?)))
-        });
-
+        let (_, issuer_stored) =
+            self.credentials(house, issuer_count, 0, &[IssuerDef, IssuerAll], Record::IssuerStored);
         // Some of the other storage are direct, enough for the AC records.
-        let mut held = BTreeSet::new();
         let held_count = self.between(access_count.min(subject_count), subject_count);
-        self.fill(&mut held, held_count, |random| random.role_of(house, &[SubjectAll]));
-        let direct = |&head: &Role| Record::SubjectStored(Credential { head, body: Expression::Entity(house.own) });
-        let mut subject_stored: BTreeSet<Vec<u8>> = held.iter().map(|role| encode_record(&direct(role))).collect();
-        self.fill(&mut subject_stored, subject_count, |random| {
-            Some(encode_record(&Record::SubjectStored(random.stored(house, &[SubjectAll])?)))
-        });
+        let (held, subject_stored) =
+            self.credentials(house, subject_count, held_count, &[SubjectAll], Record::SubjectStored);
 
         // AC roles are held and sensitive; other sensitive roles may be held or not.
         let mut held: Vec<Role> = held.into_iter().collect();

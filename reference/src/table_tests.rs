@@ -4,6 +4,7 @@ use crate::classes::decode_class;
 use crate::expression::*;
 use crate::records::*;
 use crate::tables::*;
+use std::slice::from_ref;
 
 fn role(entity: u16, name: u16) -> Role {
     Role { entity, name }
@@ -188,7 +189,7 @@ fn credential_forms() {
         stored(parts(&[(1, 1), (2, 2), (3, 3), (3, 3)])),
     ];
     for record in wrong {
-        assert_eq!(after_start(&[record.clone()]), 3, "{record:?}");
+        assert_eq!(after_start(from_ref(&record)), 3, "{record:?}");
         assert_eq!(after_start(&[with(record, 0, 0x13)]), 3);
     }
     assert_eq!(after_start(&[stored(linked(9, 2, 2))]), 0);
@@ -212,7 +213,7 @@ fn names_without_class() {
         access((5, 3), (5, 4)),
     ];
     for record in records {
-        assert_eq!(after_start(&[record.clone()]), 4, "{record:?}");
+        assert_eq!(after_start(from_ref(&record)), 4, "{record:?}");
         // A later record does not help.
         assert_eq!(after_start(&[record, name(4, 3)]), 4);
     }

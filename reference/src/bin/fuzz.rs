@@ -7,7 +7,7 @@
 use reference::question::{self, Lent};
 use reference::sample::Random;
 use reference::shapes;
-use reference::table_faults::each_fault_of_each_size;
+use reference::table_bytes::each_fault_of_each_size;
 use reference::tables;
 use std::process::exit;
 
