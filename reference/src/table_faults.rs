@@ -34,11 +34,14 @@ pub enum Fault {
     OtherTable,
     /// The direct credential of its role goes.
     NotHeld,
+    /// The same is from another entity, or from a role of self.
+    FromOther,
+    FromRole,
     /// The 0x14 record of its role goes.
     NotSensitive,
 }
 
-pub const FAULTS: [Fault; 18] = [
+pub const FAULTS: [Fault; 20] = [
     Fault::Drop,
     Fault::Double,
     Fault::Repeat,
@@ -56,6 +59,8 @@ pub const FAULTS: [Fault; 18] = [
     Fault::ForeignLink,
     Fault::OtherTable,
     Fault::NotHeld,
+    Fault::FromOther,
+    Fault::FromRole,
     Fault::NotSensitive,
 ];
 
@@ -199,7 +204,9 @@ impl Random {
             Fault::Drop | Fault::Double | Fault::Repeat | Fault::SwapWithNext | Fault::Move | Fault::Loose => {
                 self.change_places(sample, fault, at)
             }
-            Fault::NotHeld | Fault::NotSensitive => remove_need(&mut sample.records, fault, at),
+            Fault::NotHeld | Fault::FromOther | Fault::FromRole | Fault::NotSensitive => {
+                change_need(&mut sample.records, fault, at)
+            }
             _ => self.change_operands(sample, fault, at),
         }
     }
@@ -258,13 +265,23 @@ fn repeated(record: &[u8]) -> Vec<u8> {
     record
 }
 
-/// Removes the direct credential or the 0x14 record of the role that the record begins with.
-fn remove_need(records: &mut Vec<Vec<u8>>, fault: Fault, at: usize) {
+/// Removes or changes what an AC record of the role that this record begins with would need.
+fn change_need(records: &mut Vec<Vec<u8>>, fault: Fault, at: usize) {
     let role = records[at].get(1..5).map(<[u8]>::to_vec);
     let of_role = |record: &[u8]| role.is_some() && record.get(1..5) == role.as_deref();
-    if fault == Fault::NotHeld {
-        records.retain(|record| !(record[0] == SUBJECT_STORED && record.get(BODY) == Some(&1) && of_role(record)));
-    } else {
-        records.retain(|record| !(record[0] == SENSITIVE && of_role(record)));
+    let direct = |record: &[u8]| command(record) == SUBJECT_STORED && record[BODY] == 1 && of_role(record);
+    match fault {
+        Fault::NotHeld => records.retain(|record| !direct(record)),
+        Fault::NotSensitive => records.retain(|record| !(record[0] == SENSITIVE && of_role(record))),
+        _ => {
+            for record in records.iter_mut().filter(|record| direct(record)) {
+                if fault == Fault::FromRole {
+                    record[BODY] = 2;
+                    record.copy_within(3..5, BODY + 4);
+                } else {
+                    record[BODY + 3] ^= 2;
+                }
+            }
+        }
     }
 }
