@@ -1,10 +1,11 @@
-//! Times the engine beside the reference, in microseconds a question over 64 credentials. `bench search STEPS [SEED]`
-//! looks for sets that take longest.
+//! Times the engine beside the reference, in microseconds a question over 64 credentials, then a check of tables at
+//! their sizes; `bench tables` does the latter alone. `bench search STEPS [SEED]` looks for sets that take longest.
 //!
 //! engine: the whole call. making: the part of it that reads the bytes and makes the relation. one more: asking one
 //! more question over a relation that is made already. reference: the separate code.
 
 mod search;
+mod tables;
 
 use reference::question::{self, Lent, Question};
 use reference::sample::{Random, World};
@@ -151,11 +152,16 @@ fn main() {
         })
     };
     match arguments[..] {
-        [] => table(),
+        [] => {
+            table();
+            println!();
+            tables::table();
+        }
+        ["tables"] => tables::table(),
         ["search", steps] => search::search(number(steps), 1),
         ["search", steps, seed] => search::search(number(steps), number(seed).into()),
         _ => {
-            println!("usage: bench | bench search STEPS [SEED]");
+            println!("usage: bench | bench tables | bench search STEPS [SEED]");
             exit(2);
         }
     }

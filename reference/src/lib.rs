@@ -1,10 +1,23 @@
-//! RT0 questions answered straight from their definition, to compare the engine with.
+//! RT0 questions answered and house tables checked straight from their definitions, to compare the engine with.
 //!
-//! `expression` has the types and their bytes, `question` reads a question's bytes and refuses wrong ones, `relation`
+//! `expression` has the types and their bytes. `question` reads a question's bytes and refuses wrong ones, `relation`
 //! builds "f from e" by the five conditions, `sample` makes random and damaged questions, `shapes` large ones.
+//! `classes` has the class rules, `records` the records of tables, `tables` checks them. `table_sample` makes random
+//! tables, `table_faults` puts faults in them, `table_bytes` makes both into bytes, `table_shapes` makes full tables whose
+//! check takes long. `refusal` numbers the refusals.
 
+pub mod classes;
 pub mod expression;
 pub mod question;
+pub mod records;
+pub mod refusal;
 pub mod relation;
 pub mod sample;
 pub mod shapes;
+pub mod table_bytes;
+pub mod table_faults;
+pub mod table_sample;
+pub mod table_shapes;
+#[cfg(test)]
+mod table_tests;
+pub mod tables;

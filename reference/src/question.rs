@@ -1,6 +1,7 @@
 //! A question's bytes: up to 64 credential commands and an end, and the two expressions of "f from e".
 
 use crate::expression::*;
+use crate::refusal::Refusal;
 use crate::relation;
 
 pub const MOST_CREDENTIALS: usize = 64;
@@ -10,17 +11,6 @@ pub const MOST_BYTES: usize = MOST_CREDENTIALS * COMMAND_BYTES + 1;
 
 pub const CREDENTIAL: u8 = 0x01;
 pub const END: u8 = 0x06;
-
-/// Why a question is refused; the value is its number.
-#[derive(Clone, Copy, Debug, PartialEq, Eq)]
-pub enum Refusal {
-    /// A lent length outside the sizes.
-    Length = 1,
-    /// An unknown or cut command, a missing end, bytes after the end.
-    Command = 2,
-    /// An operand of wrong form.
-    Operand = 3,
-}
 
 #[derive(Clone, Debug, PartialEq, Eq)]
 pub struct Question {

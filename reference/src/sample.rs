@@ -63,10 +63,16 @@ impl World {
         World { entities, names, spread: 0 }
     }
 
+    /// The numbers are of one sort for a spread of 0 to 3, of all four for 4.
+    pub fn spread(entities: usize, names: usize, spread: usize) -> World {
+        World { entities, names, spread }
+    }
+
     /// The i-th number, low or high, or different from its neighbours in its high byte alone.
-    fn number(self, i: usize) -> u16 {
+    pub fn number(self, i: usize) -> u16 {
+        let sort = if self.spread == 4 { i % 4 } else { self.spread };
         let i = i as u16;
-        match self.spread {
+        match sort {
             0 => i,
             1 => 256 * i,
             2 => 257 * i,
@@ -82,7 +88,7 @@ impl Random {
         World { entities: self.between(2, most), names: self.between(2, most), spread: self.below(4) }
     }
 
-    fn entity(&mut self, world: World) -> u16 {
+    pub fn entity(&mut self, world: World) -> u16 {
         world.number(self.between(1, world.entities))
     }
 

@@ -1,11 +1,14 @@
 //! Compares the engine's answers with the reference's, and looks whether a lent buffer was changed.
 //!
-//! fuzz [SEED [RANDOM [DAMAGED]]]: the seed, and how many random and damaged questions to ask. The large questions of
-//! `shapes` are asked besides, each whole and without each one of its credentials.
+//! fuzz [SEED [RANDOM [DAMAGED [TABLES]]]]: the seed, how many random and damaged questions to ask, and how many random
+//! tables to check. The large questions of `shapes` are asked besides, each whole and without each one of its
+//! credentials, and some tables are checked with each fault at each place.
 
 use reference::question::{self, Lent};
 use reference::sample::Random;
 use reference::shapes;
+use reference::table_bytes::each_fault_of_each_size;
+use reference::tables;
 use std::process::exit;
 
 #[link(name = "engine", kind = "static")]
@@ -18,6 +21,8 @@ extern "C" {
         e: *const u8,
         e_len: usize,
     ) -> u64;
+
+    fn lavutremo_check(tables: *const u8, tables_len: usize) -> u64;
 }
 
 /// A buffer to lend, with random bytes before and after it.
@@ -104,6 +109,65 @@ fn ask_shapes(random: &mut Random, counts: &mut Counts) -> u64 {
     counts.passed + counts.failed - before
 }
 
+/// The same for tables.
+fn check_engine(random: &mut Random, bytes: &[u8]) -> (u64, bool) {
+    let mut buffer = Guarded::new(random, bytes);
+    let copy = buffer.bytes.clone();
+    // As above.
+    let answer = unsafe { lavutremo_check(buffer.pointer(), bytes.len()) };
+    (answer, buffer.bytes == copy)
+}
+
+/// How often each number 0 to 6 occurred.
+#[derive(Default)]
+struct TableCounts {
+    passed: u64,
+    failed: u64,
+    numbers: [u64; 7],
+}
+
+impl TableCounts {
+    fn ask(&mut self, random: &mut Random, bytes: &[u8]) {
+        let expected = tables::check(bytes);
+        self.numbers[expected as usize] += 1;
+        let (answer, kept) = check_engine(random, bytes);
+        if answer == expected && kept {
+            self.passed += 1;
+            return;
+        }
+        self.failed += 1;
+        if self.failed == 1 {
+            println!("first difference in tables: engine {answer}, reference {expected}");
+            if !kept {
+                println!("  bytes in or beside the lent buffer were changed");
+            }
+            println!("  tables {}", hex(bytes));
+        }
+    }
+}
+
+/// Returns how many tables passed and failed.
+fn ask_tables(seed: u64, count: u64) -> (u64, u64) {
+    let (mut random, mut guards) = (Random::new(seed), Random::new(!seed));
+    let mut counts = TableCounts::default();
+    for _ in 0..count {
+        let bytes = random.tables();
+        counts.ask(&mut guards, &bytes);
+    }
+    each_fault_of_each_size(&mut random, |bytes| counts.ask(&mut guards, bytes));
+
+    let TableCounts { passed, mut failed, numbers } = counts;
+    println!("{count} random tables, {} with each fault at each place", passed + failed - count);
+    let [accepted, refused @ ..] = numbers;
+    let refused: Vec<String> = (1..).zip(refused).map(|(number, count)| format!("refused {number} {count}")).collect();
+    println!("tables: accepted {accepted}, {}", refused.join(", "));
+    if numbers.contains(&0) {
+        println!("a number never occurred: check more tables");
+        failed += 1;
+    }
+    (passed, failed)
+}
+
 fn hex(bytes: &[u8]) -> String {
     bytes.iter().map(|byte| format!("{byte:02x}")).collect()
 }
@@ -112,7 +176,7 @@ fn argument(at: usize, default: u64) -> u64 {
     match std::env::args().nth(at) {
         None => default,
         Some(word) => word.parse().unwrap_or_else(|_| {
-            eprintln!("usage: fuzz [SEED [RANDOM [DAMAGED]]], each a number");
+            eprintln!("usage: fuzz [SEED [RANDOM [DAMAGED [TABLES]]]], each a number");
             exit(2)
         }),
     }
@@ -120,6 +184,7 @@ fn argument(at: usize, default: u64) -> u64 {
 
 fn main() {
     let (seed, random_count, damaged_count) = (argument(1, 1), argument(2, 200_000), argument(3, 200_000));
+    let tables_count = argument(4, 100_000);
     let mut random = Random::new(seed);
     let mut counts = Counts::default();
 
@@ -137,7 +202,7 @@ fn main() {
     let shaped_count = ask_shapes(&mut random, &mut counts);
     println!("{shaped_count} large questions");
 
-    let Counts { passed, mut failed, no, yes, refused: [_, length, command, operand] } = counts;
+    let Counts { mut passed, mut failed, no, yes, refused: [_, length, command, operand] } = counts;
     println!("answers: no {no}, yes {yes}, refused 1 {length}, refused 2 {command}, refused 3 {operand}");
 
     if [no, yes, length, command, operand].contains(&0) {
@@ -148,6 +213,9 @@ fn main() {
         println!("the share of yes is not between 25% and 75%");
         failed += 1;
     }
+    let (tables_passed, tables_failed) = ask_tables(seed, tables_count);
+    passed += tables_passed;
+    failed += tables_failed;
     println!("{passed} passed, {failed} failed");
     exit((failed > 0) as i32);
 }
