@@ -1,6 +1,6 @@
 # make demo    builds the engine and the C program host/demo.c, and runs it
 # make test    runs all tests; its last line is 'N passed, M failed'
-# make fuzz    compares the engine with the reference on many questions (SEED, RANDOM_COUNT, DAMAGED_COUNT)
+# make fuzz    compares the engine with the reference on many questions and tables (SEED, RANDOM_COUNT, DAMAGED_COUNT, TABLES_COUNT)
 # make bench   times the engine beside the reference
 # make clean   removes what the others made
 
@@ -9,6 +9,7 @@ CFLAGS = -std=c11 -O2 -Wall -Wextra -pedantic -Werror -Iinclude
 SEED = 1
 RANDOM_COUNT = 2000000
 DAMAGED_COUNT = 2000000
+TABLES_COUNT = 1000000
 
 ENGINE = target/staticlib/libengine.a
 MEASURE = target/staticlib/libmeasure.a
@@ -28,7 +29,7 @@ test:
 	@exec tests/run
 
 fuzz: build/fuzz
-	build/fuzz $(SEED) $(RANDOM_COUNT) $(DAMAGED_COUNT)
+	build/fuzz $(SEED) $(RANDOM_COUNT) $(DAMAGED_COUNT) $(TABLES_COUNT)
 
 bench: build/bench
 	@build/bench
@@ -56,7 +57,7 @@ build/fuzz: $(REFERENCE) $(ENGINE) | cargo
 	cargo build --quiet --release --locked --manifest-path reference/Cargo.toml --bin fuzz
 	@cp $(CARGO_TARGET_DIR)/release/fuzz $@
 
-build/bench: $(REFERENCE) $(BENCH) $(MEASURE) | cargo
+build/bench: $(REFERENCE) $(BENCH) $(ENGINE) $(MEASURE) | cargo
 	cargo build --quiet --release --locked --manifest-path bench/Cargo.toml
 	@cp $(CARGO_TARGET_DIR)/release/bench $@
 
