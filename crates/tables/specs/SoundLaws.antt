@@ -25,6 +25,8 @@ use Rattle.tables.specs.Sorted.{Rising, rising-parts}
 use Rattle.tables.specs.Bytes.{bytesOf, tablesBytes}
 use Rattle.tables.specs.Accepted.{Records, Sound}
 use Rattle.tables.specs.AcceptedLaws.{accepted-length, accepted-sound, accepted-bytes}
+use Rattle.tables.specs.Public.{DifferOnly, publicOf}
+use Rattle.tables.specs.PublicLaws.{differ-public, public-differ}
 
 -- each element of an ascending list comes after all before it
 rising-middle : {A : Type 0} {before : A → A → Bool} (L : List A) (x : A) (M : List A) → Rising before (L ++ (x ∷ M)) → all (λ y. before y x) L ≡ true
@@ -125,4 +127,11 @@ pub accepted-exactly : (s : List ℕ) (T : Tables) → ((i : ℕ) → getD s i 0
 accepted-exactly s T bytes = (
   λ h. (accepted-sound s T h, accepted-bytes s T bytes h, accepted-length s T h .1),
   λ w. ap readTables (w .1) ∙ sound-accepted T (w .0) (subst (λ (t : List ℕ). length t ≤ tablesMost) (w .1) (w .2)),
+)
+
+-- two accepted tables differ only in direct credentials of sensitive roles and in AC records exactly where they have one public part
+pub accepted-public : (s t : List ℕ) (T U : Tables) → readTables s ≡ accepted T → readTables t ≡ accepted U → DifferOnly T U ↔ (publicOf T ≡ publicOf U)
+accepted-public s t T U h k = (
+  λ d. differ-public T U (accepted-sound s T h .subjectStored .ascend) (accepted-sound t U k .subjectStored .ascend) d,
+  λ e. public-differ T U e,
 )
