@@ -449,21 +449,17 @@ close-less p false f = omega (arith, p .fewer)
 -- A row that takes in a row, word by word
 
 module _ (w j r : ℕ) where
-  pub pour-start : (K : List ℕ) → length K ≡ 260 → Poured w j r K K
-  pour-start K h = record { sized = h; kept = record { within = λ q s b. b }; least = λ G f k. k }
+  pub pour-more : {K₀ K K′ : List ℕ} → Poured w j r K₀ K → Poured w j r K K′ → Poured w j r K₀ K′
+  pour-more a b = record { sized = b .sized; kept = within-trans (a .kept) (b .kept); least = λ G f k. b .least G f (a .least G f k) }
 
-  pub pour-word : {K₀ K : List ℕ} (h v : ℕ) → w ≤ 2 → h < w → r < 130 → v ≡ bitOr (el K (r * 2 + h)) (el K (j * 2 + h)) → Poured w j r K₀ K
-      → Poured w j r K₀ (set K (r * 2 + h) v)
-  pour-word {K₀} {K} h v m n l e inv =
+  pub pour-word : (K : List ℕ) (h : ℕ) → w ≤ 2 → h < w → r < 130 → length K ≡ 260 → Poured w j r K (take K (r * 2 + h) (el K (j * 2 + h)))
+  pour-word K h m n l e =
       let u : h < 2 = omega arith in
-      let z : r * 2 + h < length K = omega (arith, inv .sized) in
-      subst (λ (x : ℕ). Poured w j r K₀ (set K (r * 2 + h) x)) (sym e)
+      let z : r * 2 + h < length K = omega arith in
       record {
-        sized = length-set K (r * 2 + h) _ ∙ inv .sized;
-        kept = within-trans (inv .kept) (take-kept K r h (el K (j * 2 + h)) u z);
-        least = λ G f k.
-            let y = inv .least G f k in
-            take-in K r h (el K (j * 2 + h)) u z G y (λ s q b. f s (omega arith) (y .within j s (word-bits K j s h u q b)));
+        sized = length-set K (r * 2 + h) _ ∙ e;
+        kept = take-kept K r h (el K (j * 2 + h)) u z;
+        least = λ G f k. take-in K r h (el K (j * 2 + h)) u z G k (λ s q b. f s (omega arith) (k .within j s (word-bits K j s h u q b)));
       }
 
 pub not-left : (b : Bool) → not b ≡ false → b ≡ true

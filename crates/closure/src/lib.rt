@@ -478,22 +478,32 @@ fn member<'a>(vals: &'a [u64; 260], mem: &'a [u64; 260], own: bool, r: usize, s:
     bit(mem, r, s)
 }
 
+// Row r takes in row j, in word h, one of those in use: whether it grew.
+fn pour_word<'a>(words: usize, j: usize, r: usize, h: usize, rows: &'a mut [u64; 260]) -> bool
+    requires { ⌜ (words ≤ 2) × (j < 130) × (r < 130) × (h < words) × (length (now rows) ≡ 260) ⌝ }
+    ensures { λ g. ⌜ Poured words j r (now (rows .entry)) (now (rows .exit)) ⌝ }
+{
+    let at = r * 2 + h;
+    let old = rows[at];
+    let w = old | rows[j * 2 + h];
+    rows[at] = w;
+    w != old
+}
+
 // Row r takes in row j, in each word in use: whether it grew.
 fn pour<'a>(words: usize, j: usize, r: usize, rows: &'a mut [u64; 260]) -> bool
     requires { ⌜ (words ≤ 2) × (j < 130) × (r < 130) × (length (now rows) ≡ 260) ⌝ }
     ensures { λ g. ⌜ Poured words j r (now (rows .entry)) (now (rows .exit)) ⌝ }
 {
-    let mut grew = false;
-    let mut h = 0;
-    while h < words {
-        let at = r * 2 + h;
-        let old = rows[at];
-        let w = old | rows[j * 2 + h];
-        rows[at] = w;
-        grew = grew | (w != old);
-        h += 1;
+    if words == 0 {
+        return false;
     }
-    grew
+    let a = pour_word(words, j, r, 0, rows);
+    if words == 1 {
+        return a;
+    }
+    let b = pour_word(words, j, r, 1, rows);
+    a | b
 }
 
 // The row of rule i takes in row j, where the rule is on and names j, and the source of j is in its membership row: whether it grew.
@@ -518,7 +528,8 @@ fn link<'a>(
     if n <= i {
         return false;
     }
-    if on[i] != 1 {
+    let state = on[i];
+    if state != 1 {
         return false;
     }
     if !bit(named, i, j) {
@@ -715,6 +726,17 @@ fn filled<'a>(own: bool, rows: &'a [u64; 260]) -> Dirty {
     Dirty { lo, hi }
 }
 
+// The first round, of the rules lo and hi.
+fn begun<'a>(own: bool, lo: u64, hi: u64, rows: &'a [u64; 260]) -> Work {
+    let start = filled(own, rows);
+    Work {
+        now: Dirty { lo, hi },
+        later: Dirty { lo: 0, hi: 0 },
+        rows: start,
+        grew: Dirty { lo: 0, hi: 0 },
+    }
+}
+
 // The next round, where this one is over.
 fn turned(w: Work) -> Work {
     if w.now.lo | w.now.hi != 0 {
@@ -773,14 +795,7 @@ fn drain_links<'a>(
 {
     let owners = owners_of(n, src);
     let mut seen = [0u64; 260];
-    let start = filled(own, rows);
-    let none = Dirty { lo: 0, hi: 0 };
-    let mut w = Work {
-        now: Dirty { lo, hi },
-        later: none,
-        rows: start,
-        grew: none,
-    };
+    let mut w = begun(own, lo, hi, rows);
     let mut fuel = 16384usize;
     while fuel > 0 {
         w = turned(w);
