@@ -83,7 +83,7 @@ module _ (N b h f : ℕ) (S L M : List ℕ) where
   pub links-start : LinksTo N b h f S L M N 0
   links-start = record { left = λ j q. q; says = λ t q. absurd (false-true (sym (bit-zero t) ∙ q)); all = λ j t q k. absurd (false-true (sym k ∙ q)) }
 
-  pub links-add : (m w j : ℕ) → j < 64 → bitAt m j ≡ true → bits M f (el S (b + j)) ≡ true
+  links-add : (m w j : ℕ) → j < 64 → bitAt m j ≡ true → bits M f (el S (b + j)) ≡ true
       → LinksTo N b h f S L M m w → LinksTo N b h f S L M (without m j) (bitOr w (el L ((b + j) * 2 + h)))
   links-add m w j l q p inv =
       let v = el L ((b + j) * 2 + h) in
@@ -94,7 +94,7 @@ module _ (N b h f : ℕ) (S L M : List ℕ) where
             (λ e. or-right w v t (subst (λ (k : ℕ). bitAt (el L ((b + k) * 2 + h)) t ≡ true) e x)) (split m j k z);
       }
 
-  pub links-skip : (m w j : ℕ) → bitAt m j ≡ true → bits M f (el S (b + j)) ≡ false → LinksTo N b h f S L M m w → LinksTo N b h f S L M (without m j) w
+  links-skip : (m w j : ℕ) → bitAt m j ≡ true → bits M f (el S (b + j)) ≡ false → LinksTo N b h f S L M m w → LinksTo N b h f S L M (without m j) w
   links-skip m w j q p inv =
       record {
         left = λ k z. inv .left k (without-sub m j k q z);
@@ -102,6 +102,14 @@ module _ (N b h f : ℕ) (S L M : List ℕ) where
         all = λ k t n z y x. ⊎-elim (λ e. inv .all k t n e y x)
             (λ e. absurd (false-true (sym p ∙ subst (λ (k : ℕ). bits M f (el S (b + k)) ≡ true) e y))) (split m j k z);
       }
+
+  pub links-next : (m w j : ℕ) → j < 64 → bitAt m j ≡ true → (b′ : Bool) → b′ ≡ bits M f (el S (b + j)) → (m′ w′ : ℕ) → m′ ≡ without m j → w′ ≡ cond b′ (bitOr w (el L ((b + j) * 2 + h))) w
+      → LinksTo N b h f S L M m w → LinksTo N b h f S L M m′ w′
+  links-next m w j l q b′ e m′ w′ d g inv = subst (λ (x : ℕ). LinksTo N b h f S L M x w′) (sym d) (subst (λ (x : ℕ). LinksTo N b h f S L M (without m j) x) (sym g) (go b′ e))
+    where
+      go : (t : Bool) → t ≡ bits M f (el S (b + j)) → LinksTo N b h f S L M (without m j) (cond t (bitOr w (el L ((b + j) * 2 + h))) w)
+      go true z = links-add m w j l q (sym z) inv
+      go false z = links-skip m w j q (sym z) inv
 
   pub links-all : (m w : ℕ) → m ≡ 0 → LinksTo N b h f S L M m w → LinksOf N b h f S L M w
   links-all m w e inv = record { says = inv .says; all = λ j t n p v. inv .all j t n (ap (λ (x : ℕ). bitAt x j) e ∙ bit-zero j) p v }
@@ -120,10 +128,15 @@ module _ (X : Rules) (i h : ℕ) (L M : List ℕ) where
       l .all (j % 64) (s % 64) (bits-word (X .named) i j q e a) (subst (λ (x : ℕ). bits M (el (X .first) i) (el (X .src) x) ≡ true) (sym z) b)
       (subst (λ (x : ℕ). bitAt (el L (x * 2 + h)) (s % 64) ≡ true) (sym z) (bits-word L j s h f c))
 
-  link-out : (q k : ℕ) → q < 2 → h < 2 → Link q k → (s : ℕ) → s / 64 ≡ h → bitAt k (s % 64) ≡ true
+  -- what the links of word q say
+  abbrev Says : ℕ → ℕ → Type 0
+  Says q k = (t : ℕ) → bitAt k t ≡ true → (j : ℕ) × (j < 64) × (bitAt (el (X .named) (i * 2 + q)) j ≡ true)
+      × (bits M (el (X .first) i) (el (X .src) (q * 64 + j)) ≡ true) × (bitAt (el L ((q * 64 + j) * 2 + h)) t ≡ true)
+
+  link-out : (q k : ℕ) → q < 2 → h < 2 → Says q k → (s : ℕ) → s / 64 ≡ h → bitAt k (s % 64) ≡ true
       → (j : ℕ) × (bits (X .named) i j ≡ true) × (bits M (el (X .first) i) (el (X .src) j) ≡ true) × (bits L j s ≡ true)
   link-out q k u v l s e b =
-      let r = l .says (s % 64) b in
+      let r = l (s % 64) b in
       let z : r .0 < 64 = r .1 in
       let d : (q * 64 + r .0) / 64 ≡ q = omega arith in
       let m : r .0 ≡ (q * 64 + r .0) % 64 = omega arith in
@@ -163,7 +176,7 @@ module _ (X : Rules) (i h : ℕ) (L M : List ℕ) where
             };
         least = λ m G g v w t s z b.
             let link : (q r : ℕ) → q < 2 → Link q r → bitAt r (s % 64) ≡ true → g s ≡ true =
-            λ q r y x p. (let o = link-out q r y u x s z p in t .link (o .0) s z (o .1) (w .within _ _ (o .2)) (v .within _ s (o .3))) in
+            λ q r y x p. (let o = link-out q r y u (x .says) s z p in t .link (o .0) s z (o .1) (w .within _ _ (o .2)) (v .within _ s (o .3))) in
             ⊎-elim
             (λ p. ⊎-elim
             (λ p. let o = meet-out u s z p in t .meet s z (v .within _ s (o .0)) (v .within _ s (o .1)) (v .within _ s (o .2)) (v .within _ s (o .3)))
@@ -473,4 +486,25 @@ link-grown {own = own} {M} {K} {i = i} {j} l o n m p =
       sized = p .sized;
       kept = p .kept;
       least = λ G g k. p .least G (λ s u b. g .rule i l o .link j s u n (mem-within own K M G k .within _ _ m) b) k;
+    }
+
+-- A rule along some of its links, in the first word
+pub along-grown : (X : Rules) (on : List ℕ) (own : Bool) (M K : List ℕ) (i m w : ℕ) → Fits X → 0 < X .words → length K ≡ 260 → i < X .count → el on i ≡ 1
+    → LinksOf (bitAnd m (el (X .named) (i * 2))) 0 0 (el (X .first) i) (X .src) K (memRows own K M) w → Grown X on own M K (take K (el (X .head) i * 2) w)
+along-grown X on own M K i m w fits some size l o links =
+    let r = el (X .head) i in
+    let e : r * 2 + 0 ≡ r * 2 = add-zero (r * 2) in
+    let u : _<_ 0 2 = omega arith in
+    let z : r * 2 + 0 < length K = omega (arith, fits .head .under i) in
+    let says : Says X i 0 K (memRows own K M) 0 w = λ t b.
+    (let q = links .says t b in
+    (q .0, q .1, subst (λ (x : ℕ). bitAt (el (X .named) x) (q .0) ≡ true) (sym (add-zero (i * 2))) (and-cases m (el (X .named) (i * 2)) (q .0) (q .2) .1), q .3, q .4)) in
+    subst (λ (x : ℕ). Grown X on own M K (take K x w)) e
+    record {
+      sized = length-set K (r * 2 + 0) _ ∙ size;
+      kept = take-kept K r 0 w u z;
+      least = λ G g k. take-in K r 0 w u z G k
+          (λ s d b.
+          let p = link-out X i 0 K (memRows own K M) 0 w u u says s d b in
+          g .rule i l o .link (p .0) s (omega arith) (p .1) (mem-within own K M G k .within _ _ (p .2)) (k .within _ s (p .3)));
     }

@@ -5,13 +5,18 @@
 use word::join;
 use word::lowest;
 use word::one;
+use word::others;
 use word::test;
-use word::without;
+use word::with;
 ghost use mathlib.Core.Path.{_≡_};
 ghost use Prim.Native.Nat.{_<_, _≤_};
 ghost use lib.ListN.{length};
 ghost use Rattle.closure.specs.Rules.{rulesOf, bits, memRows, Under, Fits, Grown, Closed, Marked};
 ghost use Rattle.closure.specs.Words.{LinksOf, meetOf, WordOf, TurnOf, RuleOf, PassOf, Poured};
+
+mod narrow;
+
+use narrow::drain_narrow;
 
 pub struct Rules {
     pub count: usize,
@@ -73,12 +78,9 @@ fn links<'a>(
     let mut w = 0u64;
     let mut m = named;
     while m != 0 {
-        let j = lowest(m);
-        m = without(m, j);
-        let q = base + j;
-        if bit(mem, first, src[q]) {
-            w = w | vals[q * 2 + h];
-        }
+        let q = base + lowest(m);
+        w = with(w, vals[q * 2 + h], bit(mem, first, src[q]));
+        m = others(m);
     }
     w
 }
@@ -278,8 +280,8 @@ pub fn pass<'a>(
     added
 }
 
-// Rule i reads the rows base + j, for each j in the word `named`.
-fn read_word<'a>(named: u64, base: usize, i: usize, rows: &'a mut [u64; 260])
+// Rule i reads the rows base + j, for each j in the word `named`; where there are few rules, it is only noted that it names rows.
+fn read_word<'a>(named: u64, base: usize, i: usize, few: bool, rows: &'a mut [u64; 260])
     requires { ⌜ (base ≤ 64) × (i < 128) × (length (now rows) ≡ 260) ⌝ }
     ensures { λ u. ⌜ length (now (rows .exit)) ≡ 260 ⌝ }
 {
@@ -287,11 +289,13 @@ fn read_word<'a>(named: u64, base: usize, i: usize, rows: &'a mut [u64; 260])
         return;
     }
     mark(rows, 129, i);
+    if few {
+        return;
+    }
     let mut m = named;
     while m != 0 {
-        let j = lowest(m);
-        m = without(m, j);
-        mark(rows, base + j, i);
+        mark(rows, base + lowest(m), i);
+        m = others(m);
     }
 }
 
@@ -301,14 +305,15 @@ fn read_rule<'a>(
     first: &'a [usize; 128],
     named: &'a [u64; 260],
     i: usize,
+    few: bool,
     rows: &'a mut [u64; 260],
 )
     requires { ⌜ Under 130 (now part) × Under 130 (now first) × (i < 128) × (length (now rows) ≡ 260) ⌝ }
     ensures { λ u. ⌜ length (now (rows .exit)) ≡ 260 ⌝ }
 {
     mark(rows, first[i], i);
-    read_word(named[i * 2], 0, i, rows);
-    read_word(named[i * 2 + 1], 64, i, rows);
+    read_word(named[i * 2], 0, i, few, rows);
+    read_word(named[i * 2 + 1], 64, i, few, rows);
     let mut k = 0;
     while k < 4 {
         mark(rows, part[i * 4 + k], i);
@@ -326,10 +331,11 @@ pub fn readers<'a>(
     requires { ⌜ (n ≤ 128) × Under 130 (now part) × Under 130 (now first) ⌝ }
     ensures { λ r. ⌜ length r ≡ 260 ⌝ }
 {
+    let few = n <= 64;
     let mut d = [0u64; 260];
     let mut i = 0;
     while i < n {
-        read_rule(part, first, named, i, &mut d);
+        read_rule(part, first, named, i, few, &mut d);
         i += 1;
     }
     d
@@ -870,6 +876,26 @@ fn drain<'a>(
             rows,
         );
         return;
+    }
+    if n <= 64 {
+        if 0 < words {
+            drain_narrow(
+                n,
+                words,
+                head,
+                part,
+                first,
+                named,
+                src,
+                on,
+                mem,
+                own,
+                deps,
+                lo,
+                rows,
+            );
+            return;
+        }
     }
     drain_links(
         n,
