@@ -12,9 +12,10 @@ ghost use lib.Bits.{bitAnd};
 ghost use Rattle.closure.specs.Rules.{rulesOf, el, memRows, Under, Fits, Grown};
 ghost use Rattle.closure.specs.Words.{LinksOf};
 
-// Rules to be run in this round, rows that grew in the round before, and rows that grew in this one.
+// Rules to be run in this round and in the next, rows that grew in the round before, and rows that grew in this one.
 struct Round {
     now: u64,
+    later: u64,
     rows: u64,
     grew: u64,
 }
@@ -273,6 +274,7 @@ fn begun<'a>(own: bool, lo: u64, links: u64, rows: &'a [u64; 260]) -> Round {
     if own {
         return Round {
             now: lo,
+            later: 0,
             rows: 0,
             grew: 0,
         };
@@ -280,42 +282,70 @@ fn begun<'a>(own: bool, lo: u64, links: u64, rows: &'a [u64; 260]) -> Round {
     let rows = filled(rows);
     Round {
         now: lo | links,
+        later: 0,
         rows,
         grew: 0,
     }
 }
 
-// The next round, where this one is over: of the rules that name rows, links, where a row that one of them names grew.
+// The next round, where this one is over: of all rules that name rows, links, where a row that one of them names grew.
 fn turned(w: Round, named: u64, links: u64) -> Round {
     if w.now != 0 {
         return w;
     }
     if w.grew & named == 0 {
-        return w;
+        return Round {
+            now: w.later,
+            later: 0,
+            rows: w.grew,
+            grew: 0,
+        };
     }
     Round {
         now: links,
+        later: 0,
         rows: w.grew,
         grew: 0,
     }
 }
 
-// Row r grew, which the rules of the set read.
-fn touched(w: Round, r: usize, readers: u64) -> Round {
+// Rule i made row r grow, which the rules of the set read; the rule itself is for the next round.
+fn touched(w: Round, i: usize, r: usize, readers: u64) -> Round
+    requires { ⌜ i < 64 ⌝ }
+{
+    let again = readers & one(i);
     Round {
-        now: w.now | readers,
+        now: w.now | (readers ^ again),
+        later: w.later | again,
         rows: w.rows,
         grew: w.grew | one(r % 64),
     }
 }
 
-// The rule that was run last, where it is in the set, else the first one.
-fn next(now: u64, last: usize) -> usize
-    requires { ⌜ (0 < now) × (last < 64) ⌝ }
+// The rules whose rows are read or named.
+fn read_on<'a>(n: usize, head: &'a [usize; 128], deps: &'a [u64; 260], named: u64) -> u64
+    requires { ⌜ (n ≤ 64) × Under 130 (now head) ⌝ }
+{
+    let mut w = 0u64;
+    let mut i = 0;
+    while i < n {
+        let r = head[i];
+        if (deps[r * 2] != 0) | test(named, r % 64) {
+            w = w | one(i);
+        }
+        i += 1;
+    }
+    w
+}
+
+// The next rule: one of those that are read on goes first.
+fn next(now: u64, read: u64) -> usize
+    requires { ⌜ 0 < now ⌝ }
     ensures { λ r. ⌜ r < 64 ⌝ }
 {
-    if test(now, last) {
-        return last;
+    let m = now & read;
+    if m != 0 {
+        return lowest(m);
     }
     lowest(now)
 }
@@ -342,10 +372,10 @@ pub fn drain_narrow<'a>(
     let owners = owners_of(n, src);
     let all = all_named(n, named);
     let links = deps[258];
+    let read = read_on(n, head, deps, all);
     let mut seen = [0u64; 260];
     let mut done = unseen(own);
     let mut w = begun(own, lo, links, rows);
-    let mut i = 0;
     let mut fuel = 16384usize;
     while fuel > 0 {
         w = turned(w, all, links);
@@ -353,7 +383,7 @@ pub fn drain_narrow<'a>(
         if now == 0 {
             return;
         }
-        i = next(now, i);
+        let i = next(now, read);
         w.now = now ^ one(i);
         if step(
             n,
@@ -375,7 +405,7 @@ pub fn drain_narrow<'a>(
             rows,
         ) {
             let r = head[i];
-            w = touched(w, r, deps[r * 2]);
+            w = touched(w, i, r, deps[r * 2]);
         }
         fuel -= 1;
     }
