@@ -9,12 +9,12 @@ use mathlib.Core.List.{List, [], _∷_}
 use borrow.Author.Tests.{eqb-true, eqb-false, ltb-true, ltb-false, eq-eqb}
 use lib.Dec.{eqb, ltb}
 use lib.Bits.{bitAnd, bitOr}
-use lib.ListN.{length, set, length-set}
+use lib.ListN.{length, set, length-set, List·getD-eq-default}
 use lib.Seq.{getD-set-same, getD-set-other}
 use Rattle.word.specs.Bit.{bitAt, only, bit-or, bit-and, bit-zero, bit-only, without, without-sub, without-gone, or-more, false-true}
 use Rattle.closure.specs.declared.Rules.{Rules}
 use Rattle.closure.specs.Rules.{el, bits, Fits, Takes, memOf, memRows, Used, Model, Within, Grown, Closed, Marked}
-use Rattle.closure.specs.Words.{InWord, LinksOf, meetOf, WordOf, room, Quiet, TurnOf, RuleOf, PassOf, Poured}
+use Rattle.closure.specs.Words.{InWord, LinksOf, meetOf, WordOf, room, Quiet, TurnOf, RuleOf, PassOf, Poured, HeldOf, FullOf, level}
 
 or-cases : (a b s : ℕ) → bitAt (bitOr a b) s ≡ true → (bitAt a s ≡ true) ⊎ (bitAt b s ≡ true)
 or-cases a b s h = go (bitAt a s) refl (sym (bit-or a b s) ∙ h)
@@ -508,3 +508,76 @@ along-grown X on own M K i m w fits some size l o links =
           let p = link-out X i 0 K (memRows own K M) 0 w u u says s d b in
           g .rule i l o .link (p .0) s (omega arith) (p .1) (mem-within own K M G k .within _ _ (p .2)) (k .within _ s (p .3)));
     }
+
+-- Rows that hold all that a row holds
+
+pub held-next : {h k w : ℕ} {K : List ℕ} → HeldOf h k K w → HeldOf h (k + 1) K (bitOr w (el K (k * 2 + h)))
+held-next {h} {k} {w} {K} inv = record { all = λ r t l b. go r t l b (eqb r k) refl }
+  where
+    go : (r t : ℕ) → r < k + 1 → bitAt (el K (r * 2 + h)) t ≡ true → (x : Bool) → eqb r k ≡ x → bitAt (bitOr w (el K (k * 2 + h))) t ≡ true
+    go r t l b true e = or-right w (el K (k * 2 + h)) t (subst (λ (x : ℕ). bitAt (el K (x * 2 + h)) t ≡ true) (eqb-true r k e) b)
+    go r t l b false e = or-left w (el K (k * 2 + h)) t (inv .all r t (omega (arith, eqb-false r k e)) b)
+
+-- a row that has a bit is one of the list
+row-low : (K : List ℕ) (r h t : ℕ) → length K ≡ 260 → h < 2 → bitAt (el K (r * 2 + h)) t ≡ true → r < 130
+row-low K r h t e u b = go (ltb r 130) refl
+  where
+    go : (x : Bool) → ltb r 130 ≡ x → r < 130
+    go true z = ltb-true r 130 z
+    go false z =
+        let l : 130 ≤ r = ltb-false r 130 z in
+        absurd (false-true (sym (bit-zero t) ∙ sym (ap (λ (x : ℕ). bitAt x t) (List·getD-eq-default K 0 (omega arith))) ∙ b))
+
+pub level-start : (K : List ℕ) (lo hi : ℕ) → length K ≡ 260 → HeldOf 0 130 K lo → HeldOf 1 130 K hi → Within (bits K) (level lo hi)
+unfolding level
+level-start K lo hi size low high =
+    record {
+      within = λ r s b.
+          let l : s < 128 = bits-low K r s b in
+          ⊎-elim
+          (λ e. let q = bits-word K r s 0 e b in word-bits (lo ∷ hi ∷ []) 0 s 0 (omega arith) e (low .all r (s % 64) (row-low K r 0 (s % 64) size (omega arith) q) q))
+          (λ e. let q = bits-word K r s 1 e b in word-bits (lo ∷ hi ∷ []) 0 s 1 (omega arith) e (high .all r (s % 64) (row-low K r 1 (s % 64) size (omega arith) q) q))
+          (in-half s l);
+    }
+  where
+    in-half : (j : ℕ) → j < 128 → (j / 64 ≡ 0) ⊎ (j / 64 ≡ 1)
+    in-half j l = go (ltb j 64) refl
+      where
+        go : (t : Bool) → ltb j 64 ≡ t → (j / 64 ≡ 0) ⊎ (j / 64 ≡ 1)
+        go true e = let z : j < 64 = ltb-true j 64 e in inl (omega arith)
+        go false e = let z : 64 ≤ j = ltb-false j 64 e in inr (omega arith)
+
+-- what grows by rules stays within the words
+pub level-grown : {X : Rules} {on : List ℕ} {own : Bool} {M K K′ : List ℕ} (lo hi : ℕ) → Grown X on own M K K′ → Within (bits K) (level lo hi) → Within (bits K′) (level lo hi)
+unfolding level
+level-grown lo hi g k = g .least (λ r s. bits (lo ∷ hi ∷ []) 0 s) (record { rule = λ i l o. record { meet = λ s z a b c d. a; link = λ j s z n m v. v } }) k
+
+pub rule-full : (X : Rules) (on : List ℕ) (own : Bool) (M K : List ℕ) (i lo hi : ℕ) {b : Bool} → Fits X → length K ≡ 260 → Within (bits K) (level lo hi) → FullOf (X .words) lo hi (el (X .head) i) K b → b ≡ true
+    → RuleOf X on own M i K K false
+unfolding level
+rule-full X on own M K i lo hi fits size within full e =
+    record {
+      grown = grow-start X on own M K size;
+      fewer = omega arith;
+      same = λ q. refl;
+      still = λ q l o. record { meet = λ s z a b c d. in′ s z (within .within _ s a); link = λ j s z n m v. in′ s z (within .within j s v) };
+    }
+  where
+    r : ℕ
+    r = el (X .head) i
+
+    in′ : (s : ℕ) → s / 64 < X .words → bits (lo ∷ hi ∷ []) 0 s ≡ true → bits K r s ≡ true
+    in′ s z b = go (ltb s 64) refl
+      where
+        l : s < 128
+        l = bits-low (lo ∷ hi ∷ []) 0 s b
+
+        go : (t : Bool) → ltb s 64 ≡ t → bits K r s ≡ true
+        go true q =
+            let y : s < 64 = ltb-true s 64 q in
+            let h : s / 64 ≡ 0 = omega arith in
+            word-bits K r s 0 (omega arith) h (ap (λ (x : ℕ). bitAt x (s % 64)) (ap (el K) (add-zero (r * 2)) ∙ full .low e) ∙ bits-word (lo ∷ hi ∷ []) 0 s 0 h b)
+        go false q =
+            let y : 64 ≤ s = ltb-false s 64 q in
+            let h : s / 64 ≡ 1 = omega arith in
+            word-bits K r s 1 (omega arith) h (ap (λ (x : ℕ). bitAt x (s % 64)) (full .high e (omega arith)) ∙ bits-word (lo ∷ hi ∷ []) 0 s 1 h b)

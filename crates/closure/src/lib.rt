@@ -11,8 +11,8 @@ use word::with;
 ghost use mathlib.Core.Path.{_≡_};
 ghost use Prim.Native.Nat.{_<_, _≤_};
 ghost use lib.ListN.{length};
-ghost use Rattle.closure.specs.Rules.{rulesOf, bits, memRows, Under, Fits, Grown, Closed, Marked};
-ghost use Rattle.closure.specs.Words.{LinksOf, meetOf, WordOf, TurnOf, RuleOf, PassOf, Poured};
+ghost use Rattle.closure.specs.Rules.{rulesOf, bits, memRows, Under, Fits, Within, Grown, Closed, Marked};
+ghost use Rattle.closure.specs.Words.{LinksOf, meetOf, WordOf, TurnOf, RuleOf, PassOf, Poured, HeldOf, FullOf, level};
 
 mod narrow;
 
@@ -239,6 +239,73 @@ fn rule<'a>(
     grew
 }
 
+// Word h of what the rows hold together.
+fn held<'a>(h: usize, rows: &'a [u64; 260]) -> u64
+    requires { ⌜ h < 2 ⌝ }
+    ensures { λ w. ⌜ HeldOf h 130 (now (rows .entry)) w ⌝ }
+{
+    let mut w = 0u64;
+    let mut r = 0;
+    while r < 130 {
+        w = w | rows[r * 2 + h];
+        r += 1;
+    }
+    w
+}
+
+// Whether row r has the words lo and hi, of those in use.
+fn is_full<'a>(words: usize, lo: u64, hi: u64, r: usize, rows: &'a [u64; 260]) -> bool
+    requires { ⌜ r < 130 ⌝ }
+    ensures { λ b. ⌜ FullOf words lo hi r (now (rows .entry)) b ⌝ }
+{
+    if rows[r * 2] != lo {
+        return false;
+    }
+    if words <= 1 {
+        return true;
+    }
+    rows[r * 2 + 1] == hi
+}
+
+// Rule i, as above; but where its row holds all that a row holds, lo and hi, there is nothing to be done.
+fn rule_below<'a>(
+    n: usize,
+    words: usize,
+    head: &'a [usize; 128],
+    part: &'a [usize; 512],
+    first: &'a [usize; 128],
+    named: &'a [u64; 260],
+    src: &'a [usize; 128],
+    on: &'a [u8; 128],
+    mem: &'a [u64; 260],
+    own: bool,
+    i: usize,
+    lo: u64,
+    hi: u64,
+    rows: &'a mut [u64; 260],
+) -> bool
+    requires { ⌜ (i < 128) × Fits (rulesOf n words (now head) (now part) (now first) (now named) (now src)) × (length (now rows) ≡ 260) × Within (bits (now rows)) (level lo hi) ⌝ }
+    ensures { λ r. ⌜ RuleOf (rulesOf n words (now (head .entry)) (now (part .entry)) (now (first .entry)) (now (named .entry)) (now (src .entry))) (now (on .entry)) own (now (mem .entry)) i (now (rows .entry)) (now (rows .exit)) r ⌝ }
+{
+    if is_full(words, lo, hi, head[i], rows) {
+        return false;
+    }
+    rule(
+        n,
+        words,
+        head,
+        part,
+        first,
+        named,
+        src,
+        on,
+        mem,
+        own,
+        i,
+        rows,
+    )
+}
+
 // Each rule that is on once: how many made their rows grow.
 pub fn pass<'a>(
     n: usize,
@@ -256,10 +323,12 @@ pub fn pass<'a>(
     requires { ⌜ Fits (rulesOf n words (now head) (now part) (now first) (now named) (now src)) × (length (now rows) ≡ 260) ⌝ }
     ensures { λ r. ⌜ PassOf (rulesOf n words (now (head .entry)) (now (part .entry)) (now (first .entry)) (now (named .entry)) (now (src .entry))) (now (on .entry)) own (now (mem .entry)) (now (rows .entry)) (now (rows .exit)) r ⌝ }
 {
+    let lo = held(0, rows);
+    let hi = held(1, rows);
     let mut added = 0;
     let mut i = 0;
     while i < n {
-        if rule(
+        if rule_below(
             n,
             words,
             head,
@@ -271,6 +340,8 @@ pub fn pass<'a>(
             mem,
             own,
             i,
+            lo,
+            hi,
             rows,
         ) {
             added += 1;
