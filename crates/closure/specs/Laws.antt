@@ -9,12 +9,12 @@ use mathlib.Core.List.{List, [], _∷_}
 use borrow.Author.Tests.{eqb-true, eqb-false, ltb-true, ltb-false, eq-eqb}
 use lib.Dec.{eqb, ltb}
 use lib.Bits.{bitAnd, bitOr}
-use lib.ListN.{length, set, length-set}
+use lib.ListN.{length, set, length-set, List·getD-eq-default}
 use lib.Seq.{getD-set-same, getD-set-other}
 use Rattle.word.specs.Bit.{bitAt, only, bit-or, bit-and, bit-zero, bit-only, without, without-sub, without-gone, or-more, false-true}
 use Rattle.closure.specs.declared.Rules.{Rules}
 use Rattle.closure.specs.Rules.{el, bits, Fits, Takes, memOf, memRows, Used, Model, Within, Grown, Closed, Marked}
-use Rattle.closure.specs.Words.{InWord, LinksOf, meetOf, WordOf, room, Quiet, TurnOf, RuleOf, PassOf, Poured}
+use Rattle.closure.specs.Words.{InWord, LinksOf, meetOf, WordOf, room, Quiet, TurnOf, RuleOf, PassOf, Poured, HeldOf, FullOf, level}
 
 or-cases : (a b s : ℕ) → bitAt (bitOr a b) s ≡ true → (bitAt a s ≡ true) ⊎ (bitAt b s ≡ true)
 or-cases a b s h = go (bitAt a s) refl (sym (bit-or a b s) ∙ h)
@@ -83,7 +83,7 @@ module _ (N b h f : ℕ) (S L M : List ℕ) where
   pub links-start : LinksTo N b h f S L M N 0
   links-start = record { left = λ j q. q; says = λ t q. absurd (false-true (sym (bit-zero t) ∙ q)); all = λ j t q k. absurd (false-true (sym k ∙ q)) }
 
-  pub links-add : (m w j : ℕ) → j < 64 → bitAt m j ≡ true → bits M f (el S (b + j)) ≡ true
+  links-add : (m w j : ℕ) → j < 64 → bitAt m j ≡ true → bits M f (el S (b + j)) ≡ true
       → LinksTo N b h f S L M m w → LinksTo N b h f S L M (without m j) (bitOr w (el L ((b + j) * 2 + h)))
   links-add m w j l q p inv =
       let v = el L ((b + j) * 2 + h) in
@@ -94,7 +94,7 @@ module _ (N b h f : ℕ) (S L M : List ℕ) where
             (λ e. or-right w v t (subst (λ (k : ℕ). bitAt (el L ((b + k) * 2 + h)) t ≡ true) e x)) (split m j k z);
       }
 
-  pub links-skip : (m w j : ℕ) → bitAt m j ≡ true → bits M f (el S (b + j)) ≡ false → LinksTo N b h f S L M m w → LinksTo N b h f S L M (without m j) w
+  links-skip : (m w j : ℕ) → bitAt m j ≡ true → bits M f (el S (b + j)) ≡ false → LinksTo N b h f S L M m w → LinksTo N b h f S L M (without m j) w
   links-skip m w j q p inv =
       record {
         left = λ k z. inv .left k (without-sub m j k q z);
@@ -102,6 +102,14 @@ module _ (N b h f : ℕ) (S L M : List ℕ) where
         all = λ k t n z y x. ⊎-elim (λ e. inv .all k t n e y x)
             (λ e. absurd (false-true (sym p ∙ subst (λ (k : ℕ). bits M f (el S (b + k)) ≡ true) e y))) (split m j k z);
       }
+
+  pub links-next : (m w j : ℕ) → j < 64 → bitAt m j ≡ true → (b′ : Bool) → b′ ≡ bits M f (el S (b + j)) → (m′ w′ : ℕ) → m′ ≡ without m j → w′ ≡ cond b′ (bitOr w (el L ((b + j) * 2 + h))) w
+      → LinksTo N b h f S L M m w → LinksTo N b h f S L M m′ w′
+  links-next m w j l q b′ e m′ w′ d g inv = subst (λ (x : ℕ). LinksTo N b h f S L M x w′) (sym d) (subst (λ (x : ℕ). LinksTo N b h f S L M (without m j) x) (sym g) (go b′ e))
+    where
+      go : (t : Bool) → t ≡ bits M f (el S (b + j)) → LinksTo N b h f S L M (without m j) (cond t (bitOr w (el L ((b + j) * 2 + h))) w)
+      go true z = links-add m w j l q (sym z) inv
+      go false z = links-skip m w j q (sym z) inv
 
   pub links-all : (m w : ℕ) → m ≡ 0 → LinksTo N b h f S L M m w → LinksOf N b h f S L M w
   links-all m w e inv = record { says = inv .says; all = λ j t n p v. inv .all j t n (ap (λ (x : ℕ). bitAt x j) e ∙ bit-zero j) p v }
@@ -120,10 +128,15 @@ module _ (X : Rules) (i h : ℕ) (L M : List ℕ) where
       l .all (j % 64) (s % 64) (bits-word (X .named) i j q e a) (subst (λ (x : ℕ). bits M (el (X .first) i) (el (X .src) x) ≡ true) (sym z) b)
       (subst (λ (x : ℕ). bitAt (el L (x * 2 + h)) (s % 64) ≡ true) (sym z) (bits-word L j s h f c))
 
-  link-out : (q k : ℕ) → q < 2 → h < 2 → Link q k → (s : ℕ) → s / 64 ≡ h → bitAt k (s % 64) ≡ true
+  -- what the links of word q say
+  abbrev Says : ℕ → ℕ → Type 0
+  Says q k = (t : ℕ) → bitAt k t ≡ true → (j : ℕ) × (j < 64) × (bitAt (el (X .named) (i * 2 + q)) j ≡ true)
+      × (bits M (el (X .first) i) (el (X .src) (q * 64 + j)) ≡ true) × (bitAt (el L ((q * 64 + j) * 2 + h)) t ≡ true)
+
+  link-out : (q k : ℕ) → q < 2 → h < 2 → Says q k → (s : ℕ) → s / 64 ≡ h → bitAt k (s % 64) ≡ true
       → (j : ℕ) × (bits (X .named) i j ≡ true) × (bits M (el (X .first) i) (el (X .src) j) ≡ true) × (bits L j s ≡ true)
   link-out q k u v l s e b =
-      let r = l .says (s % 64) b in
+      let r = l (s % 64) b in
       let z : r .0 < 64 = r .1 in
       let d : (q * 64 + r .0) / 64 ≡ q = omega arith in
       let m : r .0 ≡ (q * 64 + r .0) % 64 = omega arith in
@@ -163,7 +176,7 @@ module _ (X : Rules) (i h : ℕ) (L M : List ℕ) where
             };
         least = λ m G g v w t s z b.
             let link : (q r : ℕ) → q < 2 → Link q r → bitAt r (s % 64) ≡ true → g s ≡ true =
-            λ q r y x p. (let o = link-out q r y u x s z p in t .link (o .0) s z (o .1) (w .within _ _ (o .2)) (v .within _ s (o .3))) in
+            λ q r y x p. (let o = link-out q r y u (x .says) s z p in t .link (o .0) s z (o .1) (w .within _ _ (o .2)) (v .within _ s (o .3))) in
             ⊎-elim
             (λ p. ⊎-elim
             (λ p. let o = meet-out u s z p in t .meet s z (v .within _ s (o .0)) (v .within _ s (o .1)) (v .within _ s (o .2)) (v .within _ s (o .3)))
@@ -449,21 +462,17 @@ close-less p false f = omega (arith, p .fewer)
 -- A row that takes in a row, word by word
 
 module _ (w j r : ℕ) where
-  pub pour-start : (K : List ℕ) → length K ≡ 260 → Poured w j r K K
-  pour-start K h = record { sized = h; kept = record { within = λ q s b. b }; least = λ G f k. k }
+  pub pour-more : {K₀ K K′ : List ℕ} → Poured w j r K₀ K → Poured w j r K K′ → Poured w j r K₀ K′
+  pour-more a b = record { sized = b .sized; kept = within-trans (a .kept) (b .kept); least = λ G f k. b .least G f (a .least G f k) }
 
-  pub pour-word : {K₀ K : List ℕ} (h v : ℕ) → w ≤ 2 → h < w → r < 130 → v ≡ bitOr (el K (r * 2 + h)) (el K (j * 2 + h)) → Poured w j r K₀ K
-      → Poured w j r K₀ (set K (r * 2 + h) v)
-  pour-word {K₀} {K} h v m n l e inv =
+  pub pour-word : (K : List ℕ) (h : ℕ) → w ≤ 2 → h < w → r < 130 → length K ≡ 260 → Poured w j r K (take K (r * 2 + h) (el K (j * 2 + h)))
+  pour-word K h m n l e =
       let u : h < 2 = omega arith in
-      let z : r * 2 + h < length K = omega (arith, inv .sized) in
-      subst (λ (x : ℕ). Poured w j r K₀ (set K (r * 2 + h) x)) (sym e)
+      let z : r * 2 + h < length K = omega arith in
       record {
-        sized = length-set K (r * 2 + h) _ ∙ inv .sized;
-        kept = within-trans (inv .kept) (take-kept K r h (el K (j * 2 + h)) u z);
-        least = λ G f k.
-            let y = inv .least G f k in
-            take-in K r h (el K (j * 2 + h)) u z G y (λ s q b. f s (omega arith) (y .within j s (word-bits K j s h u q b)));
+        sized = length-set K (r * 2 + h) _ ∙ e;
+        kept = take-kept K r h (el K (j * 2 + h)) u z;
+        least = λ G f k. take-in K r h (el K (j * 2 + h)) u z G k (λ s q b. f s (omega arith) (k .within j s (word-bits K j s h u q b)));
       }
 
 pub not-left : (b : Bool) → not b ≡ false → b ≡ true
@@ -478,3 +487,97 @@ link-grown {own = own} {M} {K} {i = i} {j} l o n m p =
       kept = p .kept;
       least = λ G g k. p .least G (λ s u b. g .rule i l o .link j s u n (mem-within own K M G k .within _ _ m) b) k;
     }
+
+-- A rule along some of its links, in the first word
+pub along-grown : (X : Rules) (on : List ℕ) (own : Bool) (M K : List ℕ) (i m w : ℕ) → Fits X → 0 < X .words → length K ≡ 260 → i < X .count → el on i ≡ 1
+    → LinksOf (bitAnd m (el (X .named) (i * 2))) 0 0 (el (X .first) i) (X .src) K (memRows own K M) w → Grown X on own M K (take K (el (X .head) i * 2) w)
+along-grown X on own M K i m w fits some size l o links =
+    let r = el (X .head) i in
+    let e : r * 2 + 0 ≡ r * 2 = add-zero (r * 2) in
+    let u : _<_ 0 2 = omega arith in
+    let z : r * 2 + 0 < length K = omega (arith, fits .head .under i) in
+    let says : Says X i 0 K (memRows own K M) 0 w = λ t b.
+    (let q = links .says t b in
+    (q .0, q .1, subst (λ (x : ℕ). bitAt (el (X .named) x) (q .0) ≡ true) (sym (add-zero (i * 2))) (and-cases m (el (X .named) (i * 2)) (q .0) (q .2) .1), q .3, q .4)) in
+    subst (λ (x : ℕ). Grown X on own M K (take K x w)) e
+    record {
+      sized = length-set K (r * 2 + 0) _ ∙ size;
+      kept = take-kept K r 0 w u z;
+      least = λ G g k. take-in K r 0 w u z G k
+          (λ s d b.
+          let p = link-out X i 0 K (memRows own K M) 0 w u u says s d b in
+          g .rule i l o .link (p .0) s (omega arith) (p .1) (mem-within own K M G k .within _ _ (p .2)) (k .within _ s (p .3)));
+    }
+
+-- Rows that hold all that a row holds
+
+pub held-next : {h k w : ℕ} {K : List ℕ} → HeldOf h k K w → HeldOf h (k + 1) K (bitOr w (el K (k * 2 + h)))
+held-next {h} {k} {w} {K} inv = record { all = λ r t l b. go r t l b (eqb r k) refl }
+  where
+    go : (r t : ℕ) → r < k + 1 → bitAt (el K (r * 2 + h)) t ≡ true → (x : Bool) → eqb r k ≡ x → bitAt (bitOr w (el K (k * 2 + h))) t ≡ true
+    go r t l b true e = or-right w (el K (k * 2 + h)) t (subst (λ (x : ℕ). bitAt (el K (x * 2 + h)) t ≡ true) (eqb-true r k e) b)
+    go r t l b false e = or-left w (el K (k * 2 + h)) t (inv .all r t (omega (arith, eqb-false r k e)) b)
+
+-- a row that has a bit is one of the list
+row-low : (K : List ℕ) (r h t : ℕ) → length K ≡ 260 → h < 2 → bitAt (el K (r * 2 + h)) t ≡ true → r < 130
+row-low K r h t e u b = go (ltb r 130) refl
+  where
+    go : (x : Bool) → ltb r 130 ≡ x → r < 130
+    go true z = ltb-true r 130 z
+    go false z =
+        let l : 130 ≤ r = ltb-false r 130 z in
+        absurd (false-true (sym (bit-zero t) ∙ sym (ap (λ (x : ℕ). bitAt x t) (List·getD-eq-default K 0 (omega arith))) ∙ b))
+
+pub level-start : (K : List ℕ) (lo hi : ℕ) → length K ≡ 260 → HeldOf 0 130 K lo → HeldOf 1 130 K hi → Within (bits K) (level lo hi)
+unfolding level
+level-start K lo hi size low high =
+    record {
+      within = λ r s b.
+          let l : s < 128 = bits-low K r s b in
+          ⊎-elim
+          (λ e. let q = bits-word K r s 0 e b in word-bits (lo ∷ hi ∷ []) 0 s 0 (omega arith) e (low .all r (s % 64) (row-low K r 0 (s % 64) size (omega arith) q) q))
+          (λ e. let q = bits-word K r s 1 e b in word-bits (lo ∷ hi ∷ []) 0 s 1 (omega arith) e (high .all r (s % 64) (row-low K r 1 (s % 64) size (omega arith) q) q))
+          (in-half s l);
+    }
+  where
+    in-half : (j : ℕ) → j < 128 → (j / 64 ≡ 0) ⊎ (j / 64 ≡ 1)
+    in-half j l = go (ltb j 64) refl
+      where
+        go : (t : Bool) → ltb j 64 ≡ t → (j / 64 ≡ 0) ⊎ (j / 64 ≡ 1)
+        go true e = let z : j < 64 = ltb-true j 64 e in inl (omega arith)
+        go false e = let z : 64 ≤ j = ltb-false j 64 e in inr (omega arith)
+
+-- what grows by rules stays within the words
+pub level-grown : {X : Rules} {on : List ℕ} {own : Bool} {M K K′ : List ℕ} (lo hi : ℕ) → Grown X on own M K K′ → Within (bits K) (level lo hi) → Within (bits K′) (level lo hi)
+unfolding level
+level-grown lo hi g k = g .least (λ r s. bits (lo ∷ hi ∷ []) 0 s) (record { rule = λ i l o. record { meet = λ s z a b c d. a; link = λ j s z n m v. v } }) k
+
+pub rule-full : (X : Rules) (on : List ℕ) (own : Bool) (M K : List ℕ) (i lo hi : ℕ) {b : Bool} → Fits X → length K ≡ 260 → Within (bits K) (level lo hi) → FullOf (X .words) lo hi (el (X .head) i) K b → b ≡ true
+    → RuleOf X on own M i K K false
+unfolding level
+rule-full X on own M K i lo hi fits size within full e =
+    record {
+      grown = grow-start X on own M K size;
+      fewer = omega arith;
+      same = λ q. refl;
+      still = λ q l o. record { meet = λ s z a b c d. in′ s z (within .within _ s a); link = λ j s z n m v. in′ s z (within .within j s v) };
+    }
+  where
+    r : ℕ
+    r = el (X .head) i
+
+    in′ : (s : ℕ) → s / 64 < X .words → bits (lo ∷ hi ∷ []) 0 s ≡ true → bits K r s ≡ true
+    in′ s z b = go (ltb s 64) refl
+      where
+        l : s < 128
+        l = bits-low (lo ∷ hi ∷ []) 0 s b
+
+        go : (t : Bool) → ltb s 64 ≡ t → bits K r s ≡ true
+        go true q =
+            let y : s < 64 = ltb-true s 64 q in
+            let h : s / 64 ≡ 0 = omega arith in
+            word-bits K r s 0 (omega arith) h (ap (λ (x : ℕ). bitAt x (s % 64)) (ap (el K) (add-zero (r * 2)) ∙ full .low e) ∙ bits-word (lo ∷ hi ∷ []) 0 s 0 h b)
+        go false q =
+            let y : 64 ≤ s = ltb-false s 64 q in
+            let h : s / 64 ≡ 1 = omega arith in
+            word-bits K r s 1 (omega arith) h (ap (λ (x : ℕ). bitAt x (s % 64)) (full .high e (omega arith)) ∙ bits-word (lo ∷ hi ∷ []) 0 s 1 h b)

@@ -65,3 +65,16 @@ pub record Poured (w j r : ℕ) (K K′ : List ℕ) : Type 0 where
   pub sized : length K′ ≡ 260
   pub kept : Within (bits K) (bits K′)
   pub least : (G : ℕ → ℕ → Bool) → ((s : ℕ) → s / 64 < w → G j s ≡ true → G r s ≡ true) → Within (bits K) G → Within (bits K′) G
+
+-- the rows below k of K hold, in word h, only what w does
+pub record HeldOf (h k : ℕ) (K : List ℕ) (w : ℕ) : Type 0 where
+  pub all : (r t : ℕ) → r < k → bitAt (el K (r * 2 + h)) t ≡ true → bitAt w t ≡ true
+
+-- where b is true, row r of K has the words lo and hi, of those below w
+pub record FullOf (w lo hi r : ℕ) (K : List ℕ) (b : Bool) : Type 0 where
+  pub low : b ≡ true → el K (r * 2) ≡ lo
+  pub high : b ≡ true → 1 < w → el K (r * 2 + 1) ≡ hi
+
+-- the relation in which each row has the words lo and hi
+unfoldable pub level : ℕ → ℕ → ℕ → ℕ → Bool
+level lo hi r s = bits (lo ∷ hi ∷ []) 0 s

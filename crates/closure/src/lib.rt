@@ -5,13 +5,18 @@
 use word::join;
 use word::lowest;
 use word::one;
+use word::others;
 use word::test;
-use word::without;
+use word::with;
 ghost use mathlib.Core.Path.{_≡_};
 ghost use Prim.Native.Nat.{_<_, _≤_};
 ghost use lib.ListN.{length};
-ghost use Rattle.closure.specs.Rules.{rulesOf, bits, memRows, Under, Fits, Grown, Closed, Marked};
-ghost use Rattle.closure.specs.Words.{LinksOf, meetOf, WordOf, TurnOf, RuleOf, PassOf, Poured};
+ghost use Rattle.closure.specs.Rules.{rulesOf, bits, memRows, Under, Fits, Within, Grown, Closed, Marked};
+ghost use Rattle.closure.specs.Words.{LinksOf, meetOf, WordOf, TurnOf, RuleOf, PassOf, Poured, HeldOf, FullOf, level};
+
+mod narrow;
+
+use narrow::drain_narrow;
 
 pub struct Rules {
     pub count: usize,
@@ -73,12 +78,9 @@ fn links<'a>(
     let mut w = 0u64;
     let mut m = named;
     while m != 0 {
-        let j = lowest(m);
-        m = without(m, j);
-        let q = base + j;
-        if bit(mem, first, src[q]) {
-            w = w | vals[q * 2 + h];
-        }
+        let q = base + lowest(m);
+        w = with(w, vals[q * 2 + h], bit(mem, first, src[q]));
+        m = others(m);
     }
     w
 }
@@ -237,6 +239,73 @@ fn rule<'a>(
     grew
 }
 
+// Word h of what the rows hold together.
+fn held<'a>(h: usize, rows: &'a [u64; 260]) -> u64
+    requires { ⌜ h < 2 ⌝ }
+    ensures { λ w. ⌜ HeldOf h 130 (now (rows .entry)) w ⌝ }
+{
+    let mut w = 0u64;
+    let mut r = 0;
+    while r < 130 {
+        w = w | rows[r * 2 + h];
+        r += 1;
+    }
+    w
+}
+
+// Whether row r has the words lo and hi, of those in use.
+fn is_full<'a>(words: usize, lo: u64, hi: u64, r: usize, rows: &'a [u64; 260]) -> bool
+    requires { ⌜ r < 130 ⌝ }
+    ensures { λ b. ⌜ FullOf words lo hi r (now (rows .entry)) b ⌝ }
+{
+    if rows[r * 2] != lo {
+        return false;
+    }
+    if words <= 1 {
+        return true;
+    }
+    rows[r * 2 + 1] == hi
+}
+
+// Rule i, as above; but where its row holds all that a row holds, lo and hi, there is nothing to be done.
+fn rule_below<'a>(
+    n: usize,
+    words: usize,
+    head: &'a [usize; 128],
+    part: &'a [usize; 512],
+    first: &'a [usize; 128],
+    named: &'a [u64; 260],
+    src: &'a [usize; 128],
+    on: &'a [u8; 128],
+    mem: &'a [u64; 260],
+    own: bool,
+    i: usize,
+    lo: u64,
+    hi: u64,
+    rows: &'a mut [u64; 260],
+) -> bool
+    requires { ⌜ (i < 128) × Fits (rulesOf n words (now head) (now part) (now first) (now named) (now src)) × (length (now rows) ≡ 260) × Within (bits (now rows)) (level lo hi) ⌝ }
+    ensures { λ r. ⌜ RuleOf (rulesOf n words (now (head .entry)) (now (part .entry)) (now (first .entry)) (now (named .entry)) (now (src .entry))) (now (on .entry)) own (now (mem .entry)) i (now (rows .entry)) (now (rows .exit)) r ⌝ }
+{
+    if is_full(words, lo, hi, head[i], rows) {
+        return false;
+    }
+    rule(
+        n,
+        words,
+        head,
+        part,
+        first,
+        named,
+        src,
+        on,
+        mem,
+        own,
+        i,
+        rows,
+    )
+}
+
 // Each rule that is on once: how many made their rows grow.
 pub fn pass<'a>(
     n: usize,
@@ -254,10 +323,12 @@ pub fn pass<'a>(
     requires { ⌜ Fits (rulesOf n words (now head) (now part) (now first) (now named) (now src)) × (length (now rows) ≡ 260) ⌝ }
     ensures { λ r. ⌜ PassOf (rulesOf n words (now (head .entry)) (now (part .entry)) (now (first .entry)) (now (named .entry)) (now (src .entry))) (now (on .entry)) own (now (mem .entry)) (now (rows .entry)) (now (rows .exit)) r ⌝ }
 {
+    let lo = held(0, rows);
+    let hi = held(1, rows);
     let mut added = 0;
     let mut i = 0;
     while i < n {
-        if rule(
+        if rule_below(
             n,
             words,
             head,
@@ -269,6 +340,8 @@ pub fn pass<'a>(
             mem,
             own,
             i,
+            lo,
+            hi,
             rows,
         ) {
             added += 1;
@@ -278,8 +351,8 @@ pub fn pass<'a>(
     added
 }
 
-// Rule i reads the rows base + j, for each j in the word `named`.
-fn read_word<'a>(named: u64, base: usize, i: usize, rows: &'a mut [u64; 260])
+// Rule i reads the rows base + j, for each j in the word `named`; where there are few rules, it is only noted that it names rows.
+fn read_word<'a>(named: u64, base: usize, i: usize, few: bool, rows: &'a mut [u64; 260])
     requires { ⌜ (base ≤ 64) × (i < 128) × (length (now rows) ≡ 260) ⌝ }
     ensures { λ u. ⌜ length (now (rows .exit)) ≡ 260 ⌝ }
 {
@@ -287,11 +360,13 @@ fn read_word<'a>(named: u64, base: usize, i: usize, rows: &'a mut [u64; 260])
         return;
     }
     mark(rows, 129, i);
+    if few {
+        return;
+    }
     let mut m = named;
     while m != 0 {
-        let j = lowest(m);
-        m = without(m, j);
-        mark(rows, base + j, i);
+        mark(rows, base + lowest(m), i);
+        m = others(m);
     }
 }
 
@@ -301,14 +376,15 @@ fn read_rule<'a>(
     first: &'a [usize; 128],
     named: &'a [u64; 260],
     i: usize,
+    few: bool,
     rows: &'a mut [u64; 260],
 )
     requires { ⌜ Under 130 (now part) × Under 130 (now first) × (i < 128) × (length (now rows) ≡ 260) ⌝ }
     ensures { λ u. ⌜ length (now (rows .exit)) ≡ 260 ⌝ }
 {
     mark(rows, first[i], i);
-    read_word(named[i * 2], 0, i, rows);
-    read_word(named[i * 2 + 1], 64, i, rows);
+    read_word(named[i * 2], 0, i, few, rows);
+    read_word(named[i * 2 + 1], 64, i, few, rows);
     let mut k = 0;
     while k < 4 {
         mark(rows, part[i * 4 + k], i);
@@ -326,10 +402,11 @@ pub fn readers<'a>(
     requires { ⌜ (n ≤ 128) × Under 130 (now part) × Under 130 (now first) ⌝ }
     ensures { λ r. ⌜ length r ≡ 260 ⌝ }
 {
+    let few = n <= 64;
     let mut d = [0u64; 260];
     let mut i = 0;
     while i < n {
-        read_rule(part, first, named, i, &mut d);
+        read_rule(part, first, named, i, few, &mut d);
         i += 1;
     }
     d
@@ -478,22 +555,32 @@ fn member<'a>(vals: &'a [u64; 260], mem: &'a [u64; 260], own: bool, r: usize, s:
     bit(mem, r, s)
 }
 
+// Row r takes in row j, in word h, one of those in use: whether it grew.
+fn pour_word<'a>(words: usize, j: usize, r: usize, h: usize, rows: &'a mut [u64; 260]) -> bool
+    requires { ⌜ (words ≤ 2) × (j < 130) × (r < 130) × (h < words) × (length (now rows) ≡ 260) ⌝ }
+    ensures { λ g. ⌜ Poured words j r (now (rows .entry)) (now (rows .exit)) ⌝ }
+{
+    let at = r * 2 + h;
+    let old = rows[at];
+    let w = old | rows[j * 2 + h];
+    rows[at] = w;
+    w != old
+}
+
 // Row r takes in row j, in each word in use: whether it grew.
 fn pour<'a>(words: usize, j: usize, r: usize, rows: &'a mut [u64; 260]) -> bool
     requires { ⌜ (words ≤ 2) × (j < 130) × (r < 130) × (length (now rows) ≡ 260) ⌝ }
     ensures { λ g. ⌜ Poured words j r (now (rows .entry)) (now (rows .exit)) ⌝ }
 {
-    let mut grew = false;
-    let mut h = 0;
-    while h < words {
-        let at = r * 2 + h;
-        let old = rows[at];
-        let w = old | rows[j * 2 + h];
-        rows[at] = w;
-        grew = grew | (w != old);
-        h += 1;
+    if words == 0 {
+        return false;
     }
-    grew
+    let a = pour_word(words, j, r, 0, rows);
+    if words == 1 {
+        return a;
+    }
+    let b = pour_word(words, j, r, 1, rows);
+    a | b
 }
 
 // The row of rule i takes in row j, where the rule is on and names j, and the source of j is in its membership row: whether it grew.
@@ -518,7 +605,8 @@ fn link<'a>(
     if n <= i {
         return false;
     }
-    if on[i] != 1 {
+    let state = on[i];
+    if state != 1 {
         return false;
     }
     if !bit(named, i, j) {
@@ -715,6 +803,17 @@ fn filled<'a>(own: bool, rows: &'a [u64; 260]) -> Dirty {
     Dirty { lo, hi }
 }
 
+// The first round, of the rules lo and hi.
+fn begun<'a>(own: bool, lo: u64, hi: u64, rows: &'a [u64; 260]) -> Work {
+    let start = filled(own, rows);
+    Work {
+        now: Dirty { lo, hi },
+        later: Dirty { lo: 0, hi: 0 },
+        rows: start,
+        grew: Dirty { lo: 0, hi: 0 },
+    }
+}
+
 // The next round, where this one is over.
 fn turned(w: Work) -> Work {
     if w.now.lo | w.now.hi != 0 {
@@ -773,14 +872,7 @@ fn drain_links<'a>(
 {
     let owners = owners_of(n, src);
     let mut seen = [0u64; 260];
-    let start = filled(own, rows);
-    let none = Dirty { lo: 0, hi: 0 };
-    let mut w = Work {
-        now: Dirty { lo, hi },
-        later: none,
-        rows: start,
-        grew: none,
-    };
+    let mut w = begun(own, lo, hi, rows);
     let mut fuel = 16384usize;
     while fuel > 0 {
         w = turned(w);
@@ -855,6 +947,26 @@ fn drain<'a>(
             rows,
         );
         return;
+    }
+    if n <= 64 {
+        if 0 < words {
+            drain_narrow(
+                n,
+                words,
+                head,
+                part,
+                first,
+                named,
+                src,
+                on,
+                mem,
+                own,
+                deps,
+                lo,
+                rows,
+            );
+            return;
+        }
     }
     drain_links(
         n,

@@ -3,9 +3,10 @@ use Prim.Native.Nat.{ℕ, zero, suc, _+_, _*_, _/_, _%_, _≤_, _<_}
 use native.Mathlib.Omega.{arith}
 use mathlib.Core.Path.{_≡_, refl, sym, _∙_, ap, subst}
 use mathlib.Core.Logic.{_⊎_, inl, inr, ⊎-elim}
-use mathlib.Core.Bool.{Bool, true, false, cond}
+use mathlib.Core.Bool.{Bool, true, false, _&&_, cond}
 use mathlib.Core.List.{List}
-use borrow.Author.Tests.{eqb-true, eqb-false, eq-eqb, ne-eqb}
+use native.Mathlib.Nat.{add-zero}
+use borrow.Author.Tests.{eqb-true, eqb-false, eq-eqb, ne-eqb, ltb-true}
 use lib.Dec.{eqb, ltb}
 use lib.ListN.{getD, length, set, length-set, replicate, length-replicate}
 use lib.Seq.{getD-set-same, getD-set-other}
@@ -23,7 +24,7 @@ use Rattle.closure.specs.Rules.{el, bits, Under, Marked}
 use Rattle.rules.specs.declared.Four.{Four}
 use Rattle.rules.specs.Table.{rowOf, bitOf, rowFor, third, fourth}
 use Rattle.rules.specs.Exact.{row-cases, bit-cases}
-use Rattle.rules.specs.Columns.{bodyFirst, fourRows, firstRow, isLinked, Column, fourAt, FourUnder, PartsTo, Able, NamedRow, NamedLink, NamesTo, isNamed, hasLink, linkSource}
+use Rattle.rules.specs.Columns.{bodyFirst, fourRows, firstRow, isLinked, Column, fourAt, FourUnder, PartsTo, Able, NamedRow, NamedLink, NamesTo, isNamed, hasLink, linkSource, SameLink, copied}
 
 -- Numbers below a bound
 
@@ -406,3 +407,85 @@ module _ (P : Pool) (able : List ℕ) where
   -- all bodies looked at
   pub names-end : (i n : ℕ) (N : List ℕ) → i ≤ n → n ≤ i → NamesTo P able i N → NamesTo P able n N
   names-end i n N a b c = let z : i ≡ n = omega arith in subst (λ (x : ℕ). NamesTo P able x N) z c
+
+-- a body of kind 3 is a link
+linked-body : (P : Pool) (i : ℕ) → hasLink P i ≡ true
+    → bodyAt P i ≡ E.Linked (record { entity = el (P .numbers) (i * 8); name = el (P .numbers) (i * 8 + 1) }) (el (P .numbers) (i * 8 + 2))
+unfolding bodyAt
+linked-body P i h = rw (eqb-true (el (P .kinds) (i * 2)) 3 h)
+
+-- A row that is copied
+
+module _ (N : List ℕ) (k i : ℕ) (size : length N ≡ 260) (l : i < 128) where
+  copy-here : (h : ℕ) → h < 2 → el (copied N k i) (i * 2 + h) ≡ el N (k * 2 + h)
+  unfolding copied
+  copy-here zero u =
+      ap (el (copied N k i)) (add-zero (i * 2)) ∙ getD-set-other (set N (i * 2) (el N (k * 2))) (i * 2 + 1) (i * 2) (el N (k * 2 + 1)) 0 (λ q. omega arith)
+      ∙ getD-set-same N (i * 2) (el N (k * 2)) 0 (omega arith) ∙ ap (el N) (sym (add-zero (k * 2)))
+  copy-here (suc zero) u = getD-set-same (set N (i * 2) (el N (k * 2))) (i * 2 + 1) (el N (k * 2 + 1)) 0 (omega (arith, length-set N (i * 2) (el N (k * 2))))
+  copy-here (suc (suc h)) u = absurd (omega arith)
+
+  copy-else : (r h : ℕ) → h < 2 → (r ≡ i → ⊥) → el (copied N k i) (r * 2 + h) ≡ el N (r * 2 + h)
+  unfolding copied
+  copy-else r h u ne =
+      getD-set-other (set N (i * 2) (el N (k * 2))) (i * 2 + 1) (r * 2 + h) (el N (k * 2 + 1)) 0 (λ q. ne (omega arith))
+      ∙ getD-set-other N (i * 2) (r * 2 + h) (el N (k * 2)) 0 (λ q. ne (omega arith))
+
+  -- its bits
+  copy-bits : (t : ℕ) → bits (copied N k i) i t ≡ bits N k t
+  unfolding bits
+  copy-bits t = go (ltb t 128) refl
+    where
+      go : (b : Bool) → ltb t 128 ≡ b → (b && bitAt (el (copied N k i) (i * 2 + t / 64)) (t % 64)) ≡ (b && bitAt (el N (k * 2 + t / 64)) (t % 64))
+      go true e = let z : t < 128 = ltb-true t 128 e in ap (λ (x : ℕ). bitAt x (t % 64)) (copy-here (t / 64) (omega arith))
+      go false e = refl
+
+  -- those of other rows
+  copy-rest : (r t : ℕ) → (r ≡ i → ⊥) → bits (copied N k i) r t ≡ bits N r t
+  unfolding bits
+  copy-rest r t ne = go (ltb t 128) refl
+    where
+      go : (b : Bool) → ltb t 128 ≡ b → (b && bitAt (el (copied N k i) (r * 2 + t / 64)) (t % 64)) ≡ (b && bitAt (el N (r * 2 + t / 64)) (t % 64))
+      go true e = let z : t < 128 = ltb-true t 128 e in ap (λ (x : ℕ). bitAt x (t % 64)) (copy-else r (t / 64) (omega arith) ne)
+      go false e = refl
+
+  copy-size : length (copied N k i) ≡ 260
+  unfolding copied
+  copy-size = length-set (set N (i * 2) (el N (k * 2))) (i * 2 + 1) (el N (k * 2 + 1)) ∙ length-set N (i * 2) (el N (k * 2)) ∙ size
+
+-- a link with the name of one before names the same heads
+pub names-copy : (P : Pool) (able : List ℕ) (k i : ℕ) (N N′ : List ℕ) {b : Bool} → i < 128 → hasLink P i ≡ true → SameLink P k i b → b ≡ true → N′ ≡ copied N k i
+    → NamesTo P able i N → NamesTo P able (i + 1) N′
+names-copy P able k i N N′ l link same e new inv = subst (λ (x : List ℕ). NamesTo P able (i + 1) x) (sym new)
+    record {
+      sized = copy-size N k i (inv .sized) l;
+      says = λ q t z. go q t z (eqb q i) refl;
+      all = λ q a m t u h b c d. in′ q a m t u h b c d (eqb q i) refl;
+    }
+  where
+    m : ℕ
+    m = el (P .numbers) (i * 8 + 2)
+
+    at-k : bodyAt P k ≡ E.Linked (record { entity = el (P .numbers) (k * 8); name = el (P .numbers) (k * 8 + 1) }) m
+    at-k = linked-body P k (same .link e) ∙ ap (E.Linked (record { entity = el (P .numbers) (k * 8); name = el (P .numbers) (k * 8 + 1) })) (same .name e)
+
+    one-name : (a b : Role) (m n : ℕ) → E.Linked a m ≡ E.Linked b n → m ≡ n
+    one-name a b m n q = cc
+
+    go : (q t : ℕ) → bits (copied N k i) q t ≡ true → (u : Bool) → eqb q i ≡ u
+        → (a : Role) × (m : ℕ) × (q < i + 1) × (bodyAt P q ≡ E.Linked a m) × (t < P .count) × (el able t ≡ 1) × (headAt P t .name ≡ m)
+    go q t z true w =
+        let y : q ≡ i = eqb-true q i w in
+        let r = inv .says k t (sym (copy-bits N k i (inv .sized) l t) ∙ (rw y at z)) in
+        (_, m, omega arith, ap (bodyAt P) y ∙ linked-body P i link, r .4, r .5, r .6 ∙ one-name (r .0) _ (r .1) m (sym (r .3) ∙ at-k))
+    go q t z false w =
+        let r = inv .says q t (sym (copy-rest N k i (inv .sized) l q t (eqb-false q i w)) ∙ z) in
+        (r .0, r .1, omega (arith, r .2), r .3, r .4, r .5, r .6)
+
+    in′ : (q : ℕ) (a : Role) (n t : ℕ) → q < i + 1 → bodyAt P q ≡ E.Linked a n → t < P .count → el able t ≡ 1 → headAt P t .name ≡ n → (u : Bool) → eqb q i ≡ u → bits (copied N k i) q t ≡ true
+    in′ q a n t u h b c d true w =
+        let y : q ≡ i = eqb-true q i w in
+        let z : n ≡ m = one-name a _ n m (sym h ∙ ap (bodyAt P) y ∙ linked-body P i link) in
+        ap (λ (x : ℕ). bits (copied N k i) x t) y ∙ copy-bits N k i (inv .sized) l t ∙ inv .all k _ m t (same .before e) at-k b c (d ∙ z)
+    in′ q a n t u h b c d false w =
+        copy-rest N k i (inv .sized) l q t (eqb-false q i w) ∙ inv .all q a n t (omega (arith, eqb-false q i w)) h b c d

@@ -5,7 +5,7 @@ use mathlib.Core.Logic.{_⊎_}
 use mathlib.Core.Bool.{Bool, true, false, _&&_, cond}
 use mathlib.Core.List.{List}
 use lib.Dec.{eqb}
-use lib.ListN.{length}
+use lib.ListN.{length, set}
 use Rattle.expression.specs.declared.Role.{Role}
 use Rattle.expression.specs.declared.Expression.{Expression}
 use Rattle.expression.specs.declared.Expression.the-variants as E
@@ -109,3 +109,13 @@ hasLink P i = eqb (el (P .kinds) (i * 2)) 3
 -- the bit of the entity of head j, where j is the row of that head
 abbrev pub linkSource : Pool → ℕ → ℕ
 linkSource P j = cond (eqb (rowOf P (headAt P j)) j) (bitOf P (headAt P j .entity)) 128
+
+-- where b is true, bodies k and i are links with one name, if i is a link, and k comes before i
+pub record SameLink (P : Pool) (k i : ℕ) (b : Bool) : Type 0 where
+  pub before : b ≡ true → k < i
+  pub link : b ≡ true → hasLink P k ≡ true
+  pub name : b ≡ true → el (P .numbers) (k * 8 + 2) ≡ el (P .numbers) (i * 8 + 2)
+
+-- the table with row k as its row i
+unfoldable pub copied : List ℕ → ℕ → ℕ → List ℕ
+copied N k i = set (set N (i * 2) (el N (k * 2))) (i * 2 + 1) (el N (k * 2 + 1))

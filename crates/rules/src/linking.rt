@@ -5,11 +5,12 @@ use closure::mark;
 use expression::Expression;
 use rt0::body_at;
 ghost use mathlib.Core.Path.{_≡_};
-ghost use Prim.Native.Nat.{_<_, _≤_};
+ghost use mathlib.Core.Bool.{true};
+ghost use Prim.Native.Nat.{_<_, _≤_, _+_};
 ghost use lib.ListN.{length};
 ghost use Rattle.rt0.specs.Pool.{poolOf};
 ghost use Rattle.rules.specs.Table.{anyTo};
-ghost use Rattle.rules.specs.Columns.{Column, headRow, Able, NamedRow, NamedLink, NamesTo, isNamed, hasLink, linkSource};
+ghost use Rattle.rules.specs.Columns.{Column, headRow, Able, NamedRow, NamedLink, NamesTo, isNamed, hasLink, linkSource, SameLink, copied};
 
 // Whether body i is a link.
 pub fn has_link<'a>(
@@ -154,6 +155,60 @@ pub fn name_link<'a>(
     }
 }
 
+// Whether bodies k and i are links with one name, and k comes before i, a link.
+fn same_link<'a>(
+    n: usize,
+    heads: &'a [u16; 256],
+    kinds: &'a [u8; 256],
+    numbers: &'a [u16; 1024],
+    k: usize,
+    i: usize,
+) -> bool
+    requires { ⌜ (k < 128) × (i < 128) ⌝ }
+    ensures { λ r. ⌜ SameLink (poolOf n (now (heads .entry)) (now (kinds .entry)) (now (numbers .entry))) k i r ⌝ }
+{
+    if i <= k {
+        return false;
+    }
+    if !has_link(n, heads, kinds, numbers, k) {
+        return false;
+    }
+    numbers[k * 8 + 2] == numbers[i * 8 + 2]
+}
+
+// Row i of the table becomes row k.
+fn copy_row<'a>(k: usize, i: usize, named: &'a mut [u64; 260])
+    requires { ⌜ (k < 128) × (i < 128) × (length (now named) ≡ 260) ⌝ }
+    ensures { λ _. ⌜ now (named .exit) ≡ copied (now (named .entry)) k i ⌝ }
+{
+    let lo = named[k * 2];
+    let hi = named[k * 2 + 1];
+    named[i * 2] = lo;
+    named[i * 2 + 1] = hi;
+}
+
+// Row i of the table takes in what the link of body i names: as row k, where that has the same name.
+fn name_next<'a>(
+    n: usize,
+    heads: &'a [u16; 256],
+    kinds: &'a [u8; 256],
+    numbers: &'a [u16; 1024],
+    able: &'a [u8; 128],
+    k: usize,
+    i: usize,
+    named: &'a mut [u64; 260],
+)
+    requires { ⌜ (n ≤ 128) × (i < n) × (k < 128) × (hasLink (poolOf n (now heads) (now kinds) (now numbers)) i ≡ true) × NamesTo (poolOf n (now heads) (now kinds) (now numbers)) (now able) i (now named) ⌝ }
+    ensures { λ _. ⌜ NamesTo (poolOf n (now (heads .entry)) (now (kinds .entry)) (now (numbers .entry))) (now (able .entry)) (i + 1) (now (named .exit)) ⌝ }
+{
+    if same_link(n, heads, kinds, numbers, k, i) {
+        copy_row(k, i, named);
+        return;
+    }
+    let x = body_at(n, heads, kinds, numbers, i);
+    name_link(n, heads, kinds, numbers, able, i, x, named);
+}
+
 // The heads that each rule names.
 pub fn names<'a>(
     n: usize,
@@ -166,11 +221,12 @@ pub fn names<'a>(
     ensures { λ r. ⌜ NamesTo (poolOf n (now (heads .entry)) (now (kinds .entry)) (now (numbers .entry))) (now (able .entry)) n r ⌝ }
 {
     let mut named = [0u64; 260];
+    let mut k = 0;
     let mut i = 0;
     while i < n {
         if has_link(n, heads, kinds, numbers, i) {
-            let x = body_at(n, heads, kinds, numbers, i);
-            name_link(n, heads, kinds, numbers, able, i, x, &mut named);
+            name_next(n, heads, kinds, numbers, able, k, i, &mut named);
+            k = i;
         }
         i += 1;
     }

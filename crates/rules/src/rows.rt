@@ -56,10 +56,10 @@ fn is_body<'a>(
     requires { ⌜ s < 128 ⌝ }
     ensures { λ r. ⌜ r ≡ isBody (poolOf n (now (heads .entry)) (now (kinds .entry)) (now (numbers .entry))) b s ⌝ }
 {
-    if kinds[s * 2] != 1 {
+    if numbers[s * 8] != b {
         return false;
     }
-    numbers[s * 8] == b
+    kinds[s * 2] == 1
 }
 
 // The bit of the entity b.

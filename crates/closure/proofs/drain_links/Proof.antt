@@ -16,8 +16,8 @@ abbrev μ-loop : tie.MeasureT-loop
 owners-of-requires : tie.Need-owners-of-requires Inv-loop μ-loop
 owners-of-requires c κs = (c .pre .0 .count, c .pre .0 .src)
 
-filled-requires : tie.Need-filled-requires Inv-loop μ-loop
-filled-requires c κs = omega arith
+begun-requires : tie.Need-begun-requires Inv-loop μ-loop
+begun-requires c κs = omega arith
 
 loop-holds : tie.Need-loop-holds Inv-loop μ-loop
 loop-holds c = (search needs, grow-start (rulesOf _ _ _ _ _ _ _) _ _ _ _ (c .before .before .before .pre .1))
@@ -92,7 +92,7 @@ drain-links-spec =
     Inv-loop
     μ-loop
     owners-of-requires
-    filled-requires
+    begun-requires
     loop-holds
     turned-requires
     least-requires

@@ -9,8 +9,8 @@ use Rattle.closure.proofs.link.Tie as tie
 returns : tie.Need-returns
 returns c = grow-start (rulesOf _ _ _ _ _ _ _) _ _ _ _ (c .before .pre .3)
 
-element-copy-out-if2 : tie.Need-element-copy-out-if2
-element-copy-out-if2 c = search needs
+element-copy-out-state : tie.Need-element-copy-out-state
+element-copy-out-state c = search needs
 
 returns-2 : tie.Need-returns-2
 returns-2 c = grow-start (rulesOf _ _ _ _ _ _ _) _ _ _ _ (c .before .before .before .pre .3)
@@ -56,7 +56,7 @@ link-spec =
     tie.close
     (tie.spec
     returns
-    element-copy-out-if2
+    element-copy-out-state
     returns-2
     bit-requires
     returns-3

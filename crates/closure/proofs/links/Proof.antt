@@ -1,7 +1,7 @@
+use mathlib.Core.Path.{_≡_, sym, _∙_, ap}
+use Rattle.word.specs.Bit.{without, without-less}
+use Rattle.closure.specs.Laws.{LinksTo, links-start, links-next, links-all}
 use native.Mathlib.Omega.{arith}
-use mathlib.Core.Path.{sym, _∙_}
-use Rattle.word.specs.Bit.{without-less}
-use Rattle.closure.specs.Laws.{LinksTo, links-start, links-add, links-skip, links-all}
 use Rattle.closure.proofs.links.Statement.{statement}
 use Rattle.closure.proofs.links.Tie as tie
 
@@ -17,11 +17,20 @@ loop-holds c = links-start _ _ _ _ _ _ _
 lowest-requires : tie.Need-lowest-requires Inv-loop μ-loop
 lowest-requires c κs = omega arith
 
-without-requires : tie.Need-without-requires Inv-loop μ-loop
-without-requires c κs = omega arith
-
 add-q : tie.Need-add-q Inv-loop μ-loop
 add-q c = omega arith
+
+mul-with : tie.Need-mul-with Inv-loop μ-loop
+mul-with c = omega arith
+
+add-with : tie.Need-add-with Inv-loop μ-loop
+add-with c = omega arith
+
+mul-with-2 : tie.Need-mul-with-2 Inv-loop μ-loop
+mul-with-2 c = omega arith
+
+element-copy-out-with : tie.Need-element-copy-out-with Inv-loop μ-loop
+element-copy-out-with c = omega arith
 
 mul-bit : tie.Need-mul-bit Inv-loop μ-loop
 mul-bit c = omega arith
@@ -32,29 +41,17 @@ element-copy-out-bit c = omega arith
 bit-requires : tie.Need-bit-requires Inv-loop μ-loop
 bit-requires c κs = (c .before .before .before .before .before .pre .2, c .before .before .before .before .before .pre .3 .under _)
 
-mul-w : tie.Need-mul-w Inv-loop μ-loop
-mul-w c = omega arith
+with-requires : tie.Need-with-requires Inv-loop μ-loop
+with-requires c κs = omega arith
 
-add-w : tie.Need-add-w Inv-loop μ-loop
-add-w c = omega arith
-
-mul-w-2 : tie.Need-mul-w-2 Inv-loop μ-loop
-mul-w-2 c = omega arith
-
-element-copy-out-w : tie.Need-element-copy-out-w Inv-loop μ-loop
-element-copy-out-w c = omega arith
+others-requires : tie.Need-others-requires Inv-loop μ-loop
+others-requires c κs = omega arith
 
 loop-less : tie.Need-loop-less Inv-loop μ-loop
-loop-less c = rw (c .before .before .before .before .without .ensures) (without-less _ _ (c .before .before .before .before .before .lowest .ensures .1))
+loop-less c = rw (c .others .ensures ∙ ap (without _) (sym (c .before .before .before .before .before .lowest .ensures .2))) (without-less _ _ (c .before .before .before .before .before .lowest .ensures .1))
 
 loop-again : tie.Need-loop-again Inv-loop μ-loop
-loop-again c = rw (c .before .before .before .before .without .ensures) (links-add _ _ _ _ _ _ _ _ _ _ (c .before .before .before .before .before .lowest .ensures .0) (c .before .before .before .before .before .lowest .ensures .1) (sym (c .before .before .bit .ensures) ∙ c .before .if1 .taken) (c .before .before .before .before .before .before .before .loop .inv))
-
-loop-less-2 : tie.Need-loop-less-2 Inv-loop μ-loop
-loop-less-2 c = rw (c .before .before .before .without .ensures) (without-less _ _ (c .before .before .before .before .lowest .ensures .1))
-
-loop-again-2 : tie.Need-loop-again-2 Inv-loop μ-loop
-loop-again-2 c = rw (c .before .before .before .without .ensures) (links-skip _ _ _ _ _ _ _ _ _ _ (c .before .before .before .before .lowest .ensures .1) (sym (c .before .bit .ensures) ∙ c .if1 .left) (c .before .before .before .before .before .before .loop .inv))
+loop-again c = links-next _ _ _ _ _ _ _ _ _ _ (c .before .before .before .before .before .lowest .ensures .0) (c .before .before .before .before .before .lowest .ensures .1) _ (c .before .before .bit .ensures) _ _ (c .others .ensures ∙ ap (without _) (sym (c .before .before .before .before .before .lowest .ensures .2))) (c .before .with .ensures) (c .before .before .before .before .before .before .before .loop .inv)
 
 returns : tie.Need-returns Inv-loop μ-loop
 returns c = links-all _ _ _ _ _ _ _ _ _ (c .loop-test .left) (c .before .loop .inv)
@@ -67,17 +64,16 @@ links-spec =
     μ-loop
     loop-holds
     lowest-requires
-    without-requires
     add-q
+    mul-with
+    add-with
+    mul-with-2
+    element-copy-out-with
     mul-bit
     element-copy-out-bit
     bit-requires
-    mul-w
-    add-w
-    mul-w-2
-    element-copy-out-w
+    with-requires
+    others-requires
     loop-less
     loop-again
-    loop-less-2
-    loop-again-2
     returns)

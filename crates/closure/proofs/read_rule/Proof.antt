@@ -6,10 +6,10 @@ use Rattle.closure.proofs.read_rule.Statement.{statement}
 use Rattle.closure.proofs.read_rule.Tie as tie
 
 abbrev Inv-loop : tie.InvT-loop
-Inv-loop part first named i rows₀ k₀ rows k = length rows ≡ 260
+Inv-loop part first named i few rows₀ k₀ rows k = length rows ≡ 260
 
 abbrev μ-loop : tie.MeasureT-loop
-μ-loop part first named i rows₀ k₀ rows k = 4 - k
+μ-loop part first named i few rows₀ k₀ rows k = 4 - k
 
 mul-mark : tie.Need-mul-mark Inv-loop μ-loop
 mul-mark c = omega (arith, c .before .pre .2)

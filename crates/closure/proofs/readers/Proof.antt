@@ -7,10 +7,10 @@ use Rattle.closure.proofs.readers.Statement.{statement}
 use Rattle.closure.proofs.readers.Tie as tie
 
 abbrev Inv-loop : tie.InvT-loop
-Inv-loop n part first named d₀ i₀ d i = length d ≡ 260
+Inv-loop n part first named few d₀ i₀ d i = length d ≡ 260
 
 abbrev μ-loop : tie.MeasureT-loop
-μ-loop n part first named d₀ i₀ d i = n - i
+μ-loop n part first named few d₀ i₀ d i = n - i
 
 loop-holds : tie.Need-loop-holds Inv-loop μ-loop
 loop-holds c = search needs

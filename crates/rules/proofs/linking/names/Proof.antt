@@ -1,34 +1,27 @@
-use Prim.Native.Nat.{_-_, _≤_}
-use native.Mathlib.Omega.{arith}
+use Prim.Native.Nat.{_-_, _≤_, _<_}
 use mathlib.Core.Path.{sym, _∙_}
 use mathlib.Core.Logic.{⊎-elim}
-use Rattle.rt0.specs.declared.Pool.{Pool}
 use Rattle.rt0.specs.Pool.{poolOf}
 use Rattle.rules.specs.Columns.{NamesTo}
-use Rattle.rules.specs.ColumnLaws.{names-start, names-add, names-skip, names-end}
+use Rattle.rules.specs.ColumnLaws.{names-start, names-skip, names-end}
+use native.Mathlib.Omega.{arith}
 use Rattle.rules.proofs.linking.names.Statement.{statement}
 use Rattle.rules.proofs.linking.names.Tie as tie
 
 abbrev Inv-loop : tie.InvT-loop
-Inv-loop n heads kinds numbers able named₀ i₀ named i = NamesTo (poolOf n heads kinds numbers) able i named × (i ≤ n)
+Inv-loop n heads kinds numbers able named₀ k₀ i₀ named k i = NamesTo (poolOf n heads kinds numbers) able i named × (i ≤ n) × (k < 128)
 
 abbrev μ-loop : tie.MeasureT-loop
-μ-loop n heads kinds numbers able named₀ i₀ named i = n - i
-
-abbrev pool : (c : tie.Start Inv-loop μ-loop) → Pool
-pool c = poolOf (c .args .n) (c .args .heads .now) (c .args .kinds .now) (c .args .numbers .now)
+μ-loop n heads kinds numbers able named₀ k₀ i₀ named k i = n - i
 
 loop-holds : tie.Need-loop-holds Inv-loop μ-loop
-loop-holds c = (names-start (pool (c)) (c .args .able .now), omega arith)
+loop-holds c = (names-start (poolOf (c .args .n) (c .args .heads .now) (c .args .kinds .now) (c .args .numbers .now)) (c .args .able .now), omega arith, omega arith)
 
 has-link-requires : tie.Need-has-link-requires Inv-loop μ-loop
 has-link-requires c κs = omega arith
 
-body-at-requires : tie.Need-body-at-requires Inv-loop μ-loop
-body-at-requires c κs = omega arith
-
-name-link-requires : tie.Need-name-link-requires Inv-loop μ-loop
-name-link-requires c κs = (c .before .before .before .before .before .before .pre, omega arith, c .before .before .before .before .before .loop .inv .0 .sized)
+name-next-requires : tie.Need-name-next-requires Inv-loop μ-loop
+name-next-requires c κs = (c .before .before .before .before .before .pre, c .before .before .before .loop-test .taken, c .before .before .before .before .loop .inv .2, sym (c .before .before .has-link .ensures) ∙ c .before .if1 .taken, c .before .before .before .before .loop .inv .0)
 
 add-i : tie.Need-add-i Inv-loop μ-loop
 add-i c = omega arith
@@ -37,16 +30,10 @@ loop-less : tie.Need-loop-less Inv-loop μ-loop
 loop-less c = omega arith
 
 loop-again : tie.Need-loop-again Inv-loop μ-loop
-loop-again c = (
-  ⊎-elim
-      (λ w. rw (w .4) (names-add (pool (c .before .before .before .before)) (c .before .before .before .before .args .able .now) (c .before .before .before .loop .i) (w .1 .result) (c .before .before .before .loop .named) _ (w .1 .ensures) (c .before .before .before .loop .inv .0) (w .3 .ensures)))
-      (λ w. rw (w .1) (names-skip (pool (c .before .before .before .before)) (c .before .before .before .before .args .able .now) (c .before .before .before .loop .i) (c .before .before .before .loop .named) (sym (c .before .has-link .ensures) ∙ w .0 .left) (c .before .before .before .loop .inv .0)))
-      (c .if1 .came),
-  omega arith,
-)
+loop-again c = ⊎-elim (λ w. rw (w .3, w .4) (w .2 .ensures, omega arith, omega arith)) (λ w. rw (w .1, w .2) (names-skip (poolOf (c .before .before .before .before .args .n) (c .before .before .before .before .args .heads .now) (c .before .before .before .before .args .kinds .now) (c .before .before .before .before .args .numbers .now)) (c .before .before .before .before .args .able .now) (c .before .before .before .loop .i) (c .before .before .before .loop .named) (sym (c .before .has-link .ensures) ∙ w .0 .left) (c .before .before .before .loop .inv .0), omega arith, c .before .before .before .loop .inv .2)) (c .if1 .came)
 
 returns : tie.Need-returns Inv-loop μ-loop
-returns c = names-end (pool (c .before .before)) (c .before .before .args .able .now) (c .before .loop .i) (c .before .before .args .n) (c .before .loop .named) (c .before .loop .inv .1) (c .loop-test .left) (c .before .loop .inv .0)
+returns c = names-end (poolOf (c .before .before .args .n) (c .before .before .args .heads .now) (c .before .before .args .kinds .now) (c .before .before .args .numbers .now)) (c .before .before .args .able .now) (c .before .loop .i) (c .before .before .args .n) (c .before .loop .named) (c .before .loop .inv .1) (c .loop-test .left) (c .before .loop .inv .0)
 
 pub names-spec : {M : Type 1} → statement M
 names-spec =
@@ -56,8 +43,7 @@ names-spec =
     μ-loop
     loop-holds
     has-link-requires
-    body-at-requires
-    name-link-requires
+    name-next-requires
     add-i
     loop-less
     loop-again
