@@ -1,0 +1,72 @@
+use Prim.Native.Nat.{_-_}
+use native.Mathlib.Omega.{arith}
+use mathlib.Core.Logic.{⊎-elim}
+use Rattle.propagation.specs.Failed.{Swept}
+use Rattle.propagation.specs.FailedLaws.{sweep-start, sweep-add-at, sweep-skip-at, sweep-all, cnt-few}
+use Rattle.propagation.proofs.swept.Statement.{statement}
+use Rattle.propagation.proofs.swept.Tie as tie
+
+abbrev Inv-loop : tie.InvT-loop
+Inv-loop way alive hit next₀ added₀ i₀ next added i = Swept way alive hit next₀ i next added
+
+abbrev μ-loop : tie.MeasureT-loop
+μ-loop way alive hit next₀ added₀ i₀ next added i = 128 - i
+
+loop-holds : tie.Need-loop-holds Inv-loop μ-loop
+loop-holds c = sweep-start _ _ _ _ (c .pre)
+
+element-copy-out-falls : tie.Need-element-copy-out-falls Inv-loop μ-loop
+element-copy-out-falls c = omega arith
+
+element-copy-out-falls-2 : tie.Need-element-copy-out-falls-2 Inv-loop μ-loop
+element-copy-out-falls-2 c = omega arith
+
+element-copy-out-falls-3 : tie.Need-element-copy-out-falls-3 Inv-loop μ-loop
+element-copy-out-falls-3 c = omega arith
+
+array-read-falls : tie.Need-array-read-falls Inv-loop μ-loop
+array-read-falls c = omega arith
+
+falls-requires : tie.Need-falls-requires Inv-loop μ-loop
+falls-requires c κs = tt
+
+array-write-next : tie.Need-array-write-next Inv-loop μ-loop
+array-write-next c = omega arith
+
+add-added : tie.Need-add-added Inv-loop μ-loop
+add-added c = omega (arith, c .before .before .before .before .before .before .loop .inv .counted, cnt-few (c .before .before .before .before .before .before .loop .next))
+
+add-i : tie.Need-add-i Inv-loop μ-loop
+add-i c = omega arith
+
+loop-less : tie.Need-loop-less Inv-loop μ-loop
+loop-less c = omega arith
+
+loop-again : tie.Need-loop-again Inv-loop μ-loop
+loop-again c =
+    let l = c .before .before .before .before .before .before .loop in
+    let t = c .before .falls in
+    ⊎-elim (λ w. sweep-add-at _ _ _ _ (l .next) _ (l .i) (l .added) _ _ (omega arith) (t .ensures) (w .0 .taken) (w .1) (w .2) (l .inv))
+    (λ w. sweep-skip-at _ _ _ _ (l .next) _ (l .i) (l .added) _ _ (omega arith) (t .ensures) (w .0 .left) (w .1) (w .2) (l .inv)) (c .if1 .came)
+
+returns : tie.Need-returns Inv-loop μ-loop
+returns c = sweep-all _ _ _ _ _ _ _ (c .before .loop .inv .within) (c .loop-test .left) (c .before .loop .inv)
+
+pub swept-spec : {M : Type 1} → statement M
+swept-spec =
+    tie.close
+    (tie.spec
+    Inv-loop
+    μ-loop
+    loop-holds
+    element-copy-out-falls
+    element-copy-out-falls-2
+    element-copy-out-falls-3
+    array-read-falls
+    falls-requires
+    array-write-next
+    add-added
+    add-i
+    loop-less
+    loop-again
+    returns)
