@@ -1,0 +1,49 @@
+use Prim.Native.Nat.{_-_, _≤_}
+use native.Mathlib.Omega.{arith}
+use Rattle.class.specs.Find.{Missed, missed-start, missed-more}
+use Rattle.graph.specs.Graph.{nodesFrom, nodeAt}
+use Rattle.graph.specs.Find.{isNode}
+use Rattle.graph.specs.FindLaws.{node-at, node-none}
+use Rattle.graph.proofs.find.find_node.Statement.{statement}
+use Rattle.graph.proofs.find.find_node.Tie as tie
+
+abbrev Inv-loop : tie.InvT-loop
+Inv-loop n kind parts n0 n1 n2 n3 n4 n5 n6 n7 subject verifier state x v s i₀ i = (i ≤ n) × Missed (isNode x v s) (nodeAt (nodesFrom n kind parts n0 n1 n2 n3 n4 n5 n6 n7 subject verifier state)) i
+
+abbrev μ-loop : tie.MeasureT-loop
+μ-loop n kind parts n0 n1 n2 n3 n4 n5 n6 n7 subject verifier state x v s i₀ i = n - i
+
+loop-holds : tie.Need-loop-holds Inv-loop μ-loop
+loop-holds c = (omega arith, missed-start _ _)
+
+is-node-requires : tie.Need-is-node-requires Inv-loop μ-loop
+is-node-requires c κs = omega arith
+
+returns : tie.Need-returns Inv-loop μ-loop
+returns c = node-at _ _ _ _ (c .before .before .before .loop .inv .1) (c .before .before .loop-test .taken) (c .before .is-node .ensures) (c .if1 .taken)
+
+add-i : tie.Need-add-i Inv-loop μ-loop
+add-i c = omega arith
+
+loop-less : tie.Need-loop-less Inv-loop μ-loop
+loop-less c = omega arith
+
+loop-again : tie.Need-loop-again Inv-loop μ-loop
+loop-again c = (omega arith, missed-more (c .before .before .before .loop .inv .1) (c .before .is-node .ensures) (c .if1 .left))
+
+returns-2 : tie.Need-returns-2 Inv-loop μ-loop
+returns-2 c = node-none _ _ _ _ (c .before .loop .inv .1) (c .before .loop .inv .0) (c .loop-test .left)
+
+pub find-node-spec : {M : Type 1} → statement M
+find-node-spec =
+    tie.close
+    (tie.spec
+    Inv-loop
+    μ-loop
+    loop-holds
+    is-node-requires
+    returns
+    add-i
+    loop-less
+    loop-again
+    returns-2)

@@ -1,0 +1,212 @@
+// Nodes and edges read from lent columns, and searched for.
+use crate::Edge;
+use crate::Node;
+use expression::Expression;
+use expression::Raw;
+use expression::expression_of;
+use expression::same;
+ghost use mathlib.Core.Path.{_≡_};
+ghost use Prim.Native.Nat.{_≤_, _<_};
+ghost use Rattle.graph.specs.Graph.{nodesFrom, edgesFrom, expressionFrom, nodeAt, edgeAt, nodesOf, edgesOf, nodeIn, edgeIn};
+ghost use Rattle.graph.specs.Find.{isNode, findNode, sameEdge, hasEdge};
+
+const NODES_MOST: usize = 128;
+
+// The expression of node i.
+pub fn expression_at<'a>(
+    kind: &'a [u8; 128],
+    parts: &'a [u8; 128],
+    n0: &'a [u16; 128],
+    n1: &'a [u16; 128],
+    n2: &'a [u16; 128],
+    n3: &'a [u16; 128],
+    n4: &'a [u16; 128],
+    n5: &'a [u16; 128],
+    n6: &'a [u16; 128],
+    n7: &'a [u16; 128],
+    i: usize,
+) -> Expression
+    requires { ⌜ i < 128 ⌝ }
+    ensures { λ r. ⌜ r ≡ expressionFrom (now (kind .entry)) (now (parts .entry)) (now (n0 .entry)) (now (n1 .entry)) (now (n2 .entry)) (now (n3 .entry)) (now (n4 .entry)) (now (n5 .entry)) (now (n6 .entry)) (now (n7 .entry)) i ⌝ }
+{
+    expression_of(Raw {
+        kind: kind[i],
+        count: parts[i],
+        n0: n0[i],
+        n1: n1[i],
+        n2: n2[i],
+        n3: n3[i],
+        n4: n4[i],
+        n5: n5[i],
+        n6: n6[i],
+        n7: n7[i],
+    })
+}
+
+// Node i.
+pub fn node_at<'a>(
+    n: usize,
+    kind: &'a [u8; 128],
+    parts: &'a [u8; 128],
+    n0: &'a [u16; 128],
+    n1: &'a [u16; 128],
+    n2: &'a [u16; 128],
+    n3: &'a [u16; 128],
+    n4: &'a [u16; 128],
+    n5: &'a [u16; 128],
+    n6: &'a [u16; 128],
+    n7: &'a [u16; 128],
+    subject: &'a [u16; 128],
+    verifier: &'a [u8; 128],
+    state: &'a [u8; 128],
+    i: usize,
+) -> Node
+    requires { ⌜ (i < n) × (n ≤ 128) ⌝ }
+    ensures { λ r. ⌜ r ≡ nodeIn (nodesOf (nodesFrom n (now (kind .entry)) (now (parts .entry)) (now (n0 .entry)) (now (n1 .entry)) (now (n2 .entry)) (now (n3 .entry)) (now (n4 .entry)) (now (n5 .entry)) (now (n6 .entry)) (now (n7 .entry)) (now (subject .entry)) (now (verifier .entry)) (now (state .entry)))) i ⌝ }
+{
+    Node {
+        expression: expression_at(kind, parts, n0, n1, n2, n3, n4, n5, n6, n7, i),
+        subject: subject[i],
+        verifier: verifier[i],
+        state: state[i],
+    }
+}
+
+// Whether node i has expression x, verifier v and subject s.
+fn is_node<'a>(
+    n: usize,
+    kind: &'a [u8; 128],
+    parts: &'a [u8; 128],
+    n0: &'a [u16; 128],
+    n1: &'a [u16; 128],
+    n2: &'a [u16; 128],
+    n3: &'a [u16; 128],
+    n4: &'a [u16; 128],
+    n5: &'a [u16; 128],
+    n6: &'a [u16; 128],
+    n7: &'a [u16; 128],
+    subject: &'a [u16; 128],
+    verifier: &'a [u8; 128],
+    state: &'a [u8; 128],
+    x: Expression,
+    v: u8,
+    s: u16,
+    i: usize,
+) -> bool
+    requires { ⌜ i < 128 ⌝ }
+    ensures { λ r. ⌜ r ≡ isNode x v s (nodeAt (nodesFrom n (now (kind .entry)) (now (parts .entry)) (now (n0 .entry)) (now (n1 .entry)) (now (n2 .entry)) (now (n3 .entry)) (now (n4 .entry)) (now (n5 .entry)) (now (n6 .entry)) (now (n7 .entry)) (now (subject .entry)) (now (verifier .entry)) (now (state .entry))) i) ⌝ }
+{
+    if (verifier[i] != v) | (subject[i] != s) {
+        return false;
+    }
+    same(
+        expression_at(kind, parts, n0, n1, n2, n3, n4, n5, n6, n7, i),
+        x,
+    )
+}
+
+// The first node with expression x, verifier v and subject s, or 128.
+pub fn find_node<'a>(
+    n: usize,
+    kind: &'a [u8; 128],
+    parts: &'a [u8; 128],
+    n0: &'a [u16; 128],
+    n1: &'a [u16; 128],
+    n2: &'a [u16; 128],
+    n3: &'a [u16; 128],
+    n4: &'a [u16; 128],
+    n5: &'a [u16; 128],
+    n6: &'a [u16; 128],
+    n7: &'a [u16; 128],
+    subject: &'a [u16; 128],
+    verifier: &'a [u8; 128],
+    state: &'a [u8; 128],
+    x: Expression,
+    v: u8,
+    s: u16,
+) -> usize
+    requires { ⌜ n ≤ 128 ⌝ }
+    ensures { λ r. ⌜ r ≡ findNode (nodesOf (nodesFrom n (now (kind .entry)) (now (parts .entry)) (now (n0 .entry)) (now (n1 .entry)) (now (n2 .entry)) (now (n3 .entry)) (now (n4 .entry)) (now (n5 .entry)) (now (n6 .entry)) (now (n7 .entry)) (now (subject .entry)) (now (verifier .entry)) (now (state .entry)))) x v s ⌝ }
+{
+    let mut i = 0;
+    while i < n {
+        if is_node(
+            n,
+            kind,
+            parts,
+            n0,
+            n1,
+            n2,
+            n3,
+            n4,
+            n5,
+            n6,
+            n7,
+            subject,
+            verifier,
+            state,
+            x,
+            v,
+            s,
+            i,
+        ) {
+            return i;
+        }
+        i += 1;
+    }
+    NODES_MOST
+}
+
+// Edge j.
+pub fn edge_at<'a>(
+    m: usize,
+    kind: &'a [u8; 256],
+    parent: &'a [u8; 256],
+    child: &'a [u8; 256],
+    j: usize,
+) -> Edge
+    requires { ⌜ (j < m) × (m ≤ 256) ⌝ }
+    ensures { λ r. ⌜ r ≡ edgeIn (edgesOf (edgesFrom m (now (kind .entry)) (now (parent .entry)) (now (child .entry)))) j ⌝ }
+{
+    Edge {
+        kind: kind[j],
+        parent: parent[j],
+        child: child[j],
+    }
+}
+
+// Whether edge j is x.
+fn is_edge<'a>(
+    m: usize,
+    kind: &'a [u8; 256],
+    parent: &'a [u8; 256],
+    child: &'a [u8; 256],
+    x: Edge,
+    j: usize,
+) -> bool
+    requires { ⌜ j < 256 ⌝ }
+    ensures { λ r. ⌜ r ≡ sameEdge (edgeAt (edgesFrom m (now (kind .entry)) (now (parent .entry)) (now (child .entry))) j) x ⌝ }
+{
+    (kind[j] == x.kind) & (parent[j] == x.parent) & (child[j] == x.child)
+}
+
+// Whether x is one of the edges.
+pub fn has_edge<'a>(
+    m: usize,
+    kind: &'a [u8; 256],
+    parent: &'a [u8; 256],
+    child: &'a [u8; 256],
+    x: Edge,
+) -> bool
+    requires { ⌜ m ≤ 256 ⌝ }
+    ensures { λ r. ⌜ r ≡ hasEdge (edgesOf (edgesFrom m (now (kind .entry)) (now (parent .entry)) (now (child .entry)))) x ⌝ }
+{
+    let mut j = 0;
+    while j < m {
+        if is_edge(m, kind, parent, child, x, j) {
+            return true;
+        }
+        j += 1;
+    }
+    false
+}
