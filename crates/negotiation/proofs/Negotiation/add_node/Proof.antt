@@ -1,0 +1,14 @@
+use Rattle.negotiation.specs.State.{stateOf, withNode}
+use borrow.Author.Needs.{needs}
+use Rattle.negotiation.proofs.Negotiation.add_node.Statement.{statement}
+use Rattle.negotiation.proofs.Negotiation.add_node.Tie as tie
+
+add-requires : tie.Need-add-requires
+add-requires c κs = search needs
+
+returns : tie.Need-returns
+unfolding stateOf withNode
+returns c = rw (c .add .ensures)
+
+pub add-node-spec : {M : Type 1} → statement M
+add-node-spec = tie.close (tie.spec add-requires returns)

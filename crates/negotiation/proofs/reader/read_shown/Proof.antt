@@ -1,0 +1,73 @@
+use mathlib.Core.Path.{_≡_, refl, ap, _∙_}
+use Prim.Native.Nat.{ℕ, _+_, _*_, _-_, _≤_}
+use native.Mathlib.Omega.{arith}
+use native.Mathlib.Nat.{le-antisymm}
+use lib.ListN.{length-replicate}
+use Rattle.rt0.specs.Pool.{poolOf, credentials, upTo}
+use Rattle.rt0.specs.Added.{Sized}
+use Rattle.negotiation.specs.Layout.{credentialFrom}
+use Rattle.negotiation.specs.ReadLaws.{upTo-next}
+use Rattle.negotiation.proofs.reader.read_shown.Statement.{statement}
+use Rattle.negotiation.proofs.reader.read_shown.Tie as tie
+
+abbrev Inv-loop : tie.InvT-loop
+Inv-loop s count heads₀ kinds₀ numbers₀ k₀ heads kinds numbers k =
+    (k ≤ count) × Sized (poolOf k heads kinds numbers) × (credentials (poolOf k heads kinds numbers) ≡ upTo k (λ (i : ℕ). credentialFrom s (3712 + i * 22)))
+
+abbrev μ-loop : tie.MeasureT-loop
+μ-loop s count heads₀ kinds₀ numbers₀ k₀ heads kinds numbers k = count - k
+
+loop-holds : tie.Need-loop-holds Inv-loop μ-loop
+unfolding credentials
+loop-holds c = (omega arith, record { heads = length-replicate {A = ℕ} 256 0; kinds = length-replicate {A = ℕ} 256 0; numbers = length-replicate {A = ℕ} 1024 0 }, refl)
+
+mul-credential-from : tie.Need-mul-credential-from Inv-loop μ-loop
+mul-credential-from c = omega arith
+
+add-credential-from : tie.Need-add-credential-from Inv-loop μ-loop
+add-credential-from c = omega arith
+
+credential-from-requires : tie.Need-credential-from-requires Inv-loop μ-loop
+credential-from-requires c κs = omega arith
+
+store-requires : tie.Need-store-requires Inv-loop μ-loop
+store-requires c κs = (omega arith, c .before .before .before .before .before .loop .inv .1)
+
+add-k : tie.Need-add-k Inv-loop μ-loop
+add-k c = omega arith
+
+loop-less : tie.Need-loop-less Inv-loop μ-loop
+loop-less c = omega arith
+
+loop-again : tie.Need-loop-again Inv-loop μ-loop
+loop-again c =
+    let s = c .before .before .before .before .before .before in
+    let a = s .before .before .args in
+    let k : ℕ = s .loop .k in (
+      omega arith,
+      c .store .ensures .sized,
+      upTo-next (credentials (poolOf k (s .loop .heads) (s .loop .kinds) (s .loop .numbers))) (credentials (poolOf (k + 1) (c .store .last .0) (c .store .last .1 .0) (c .store .last .1 .1 .0))) k
+          (λ (i : ℕ). credentialFrom (a .s .now) (3712 + i * 22)) (c .before .before .before .before .credential-from .result) (s .loop .inv .2) (c .before .before .before .before .credential-from .ensures) (c .store .ensures .all),
+    )
+
+returns : tie.Need-returns Inv-loop μ-loop
+returns c =
+    let s = c .before in
+    let a = s .before .before .args in
+    s .loop .inv .2 ∙ ap (λ (n : ℕ). upTo n (λ (i : ℕ). credentialFrom (a .s .now) (3712 + i * 22))) (le-antisymm (s .loop .inv .0) (c .loop-test .left))
+
+pub read-shown-spec : {M : Type 1} → statement M
+read-shown-spec =
+    tie.close
+    (tie.spec
+    Inv-loop
+    μ-loop
+    loop-holds
+    mul-credential-from
+    add-credential-from
+    credential-from-requires
+    store-requires
+    add-k
+    loop-less
+    loop-again
+    returns)

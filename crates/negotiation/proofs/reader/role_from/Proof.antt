@@ -1,0 +1,18 @@
+use borrow.Author.Needs.{needs}
+use Rattle.negotiation.proofs.reader.role_from.Statement.{statement}
+use Rattle.negotiation.proofs.reader.role_from.Tie as tie
+
+number-at-requires : tie.Need-number-at-requires
+number-at-requires c κs = search needs
+
+add-number-at : tie.Need-add-number-at
+add-number-at c = search needs
+
+number-at-requires-2 : tie.Need-number-at-requires-2
+number-at-requires-2 c κs = search needs
+
+returns : tie.Need-returns
+returns c = cc
+
+pub role-from-spec : {M : Type 1} → statement M
+role-from-spec = tie.close (tie.spec number-at-requires add-number-at number-at-requires-2 returns)

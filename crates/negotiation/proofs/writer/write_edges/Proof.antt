@@ -1,0 +1,107 @@
+use mathlib.Core.Path.{_≡_, refl, ap, _∙_}
+use Prim.Native.Nat.{ℕ, _+_, _*_, _-_, _≤_}
+use native.Mathlib.Omega.{arith}
+use native.Mathlib.Nat.{le-antisymm}
+use borrow.Author.Needs.{needs}
+use mathlib.Core.List.{List, []}
+use lib.ListN.{length}
+use lib.Seq.{paste-zero}
+use Rattle.expression.specs.Bytes.{pasted}
+use Rattle.rt0.specs.Pool.{upTo}
+use Rattle.graph.specs.Graph.{edgeAt, edgesOf}
+use Rattle.negotiation.specs.Layout.{edgeBytes, records, zeros}
+use Rattle.negotiation.specs.LayoutLaws.{record-next, part-written, edge-size}
+use Rattle.negotiation.proofs.writer.write_edges.Statement.{statement}
+use Rattle.negotiation.proofs.writer.write_edges.Tie as tie
+
+abbrev Inv-loop : tie.InvT-loop
+Inv-loop buf₀ edges count j₀ buf j = (j ≤ count) × (length buf ≡ length buf₀) × (buf ≡ pasted buf₀ 2944 (records edgeBytes (upTo j (edgeAt edges))))
+
+abbrev μ-loop : tie.MeasureT-loop
+μ-loop buf₀ edges count j₀ buf j = count - j
+
+loop-holds : tie.Need-loop-holds Inv-loop μ-loop
+loop-holds c = (omega arith, refl, paste-zero (c .before .args .buf .now) 2944 [])
+
+element-copy-out-t10 : tie.Need-element-copy-out-t10 Inv-loop μ-loop
+element-copy-out-t10 c = search needs
+
+element-copy-out-t13 : tie.Need-element-copy-out-t13 Inv-loop μ-loop
+element-copy-out-t13 c = search needs
+
+element-copy-out-t16 : tie.Need-element-copy-out-t16 Inv-loop μ-loop
+element-copy-out-t16 c = search needs
+
+mul-write-edge : tie.Need-mul-write-edge Inv-loop μ-loop
+mul-write-edge c = omega arith
+
+add-write-edge : tie.Need-add-write-edge Inv-loop μ-loop
+add-write-edge c = omega arith
+
+write-edge-requires : tie.Need-write-edge-requires Inv-loop μ-loop
+write-edge-requires c κs = omega arith
+
+add-j : tie.Need-add-j Inv-loop μ-loop
+add-j c = omega arith
+
+loop-less : tie.Need-loop-less Inv-loop μ-loop
+loop-less c = omega arith
+
+loop-again : tie.Need-loop-again Inv-loop μ-loop
+loop-again c =
+    let w = c .before .before in
+    let s = w .before .before .before .before .before .before in
+    let a = s .before .before .args in
+    let j : ℕ = s .loop .j in (
+      omega arith,
+      w .write-edge .kept .0 ∙ s .loop .inv .1,
+      w .write-edge .ensures
+          ∙ ap (λ (l : List ℕ). pasted l (2944 + j * 3) (edgeBytes (edgeAt (a .t2) j))) (s .loop .inv .2)
+          ∙ record-next edgeBytes 3 edge-size (a .buf .now) 2944 j (edgeAt (a .t2)) (omega arith),
+    )
+
+mul-write-zeros : tie.Need-mul-write-zeros Inv-loop μ-loop
+mul-write-zeros c = omega arith
+
+add-write-zeros : tie.Need-add-write-zeros Inv-loop μ-loop
+add-write-zeros c = omega arith
+
+write-zeros-requires : tie.Need-write-zeros-requires Inv-loop μ-loop
+write-zeros-requires c κs = (omega arith, omega arith)
+
+same-length : tie.Need-same-length Inv-loop μ-loop
+same-length c = c .before .before .write-zeros .kept .0 ∙ c .before .before .before .before .before .loop .inv .1
+
+returns : tie.Need-returns Inv-loop μ-loop
+unfolding edgesOf
+returns c =
+    let w = c .before .before in
+    let s = w .before .before .before in
+    let a = s .before .before .args in
+    let n : ℕ = a .t2 .count in
+    let all : s .loop .j ≡ n = le-antisymm (s .loop .inv .0) (w .before .before .loop-test .left) in
+    w .write-zeros .ensures
+    ∙ ap (λ (l : List ℕ). pasted l (2944 + n * 3) (zeros (3712 - (2944 + n * 3)))) (s .loop .inv .2 ∙ ap (λ (m : ℕ). pasted (a .buf .now) 2944 (records edgeBytes (upTo m (edgeAt (a .t2))))) all)
+    ∙ part-written edgeBytes 3 edge-size (a .buf .now) 2944 (2944 + n * 3) 3712 n (edgeAt (a .t2)) refl (omega arith) (omega arith)
+
+pub write-edges-spec : {M : Type 1} → statement M
+write-edges-spec =
+    tie.close
+    (tie.spec
+    Inv-loop
+    μ-loop
+    loop-holds
+    element-copy-out-t10
+    element-copy-out-t13
+    element-copy-out-t16
+    mul-write-edge
+    add-write-edge
+    write-edge-requires
+    add-j
+    loop-less
+    loop-again
+    mul-write-zeros
+    add-write-zeros
+    write-zeros-requires
+    same-length
+    returns)

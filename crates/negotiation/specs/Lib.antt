@@ -1,0 +1,5 @@
+pub mod State
+pub mod Layout
+pub mod LayoutLaws
+pub mod ReadLaws
+pub mod Codec

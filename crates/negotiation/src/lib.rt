@@ -1,0 +1,129 @@
+// The state of one end of a negotiation.
+use expression::Credential;
+use expression::Role;
+use graph::Edge;
+use graph::Edges;
+use graph::Node;
+use graph::Nodes;
+use rt0::Pool;
+ghost use mathlib.Core.Path.{_≡_};
+ghost use Prim.Native.Nat.{_≤_, _<_};
+ghost use Rattle.negotiation.specs.State.{stateOf, freshState, withNode, withEdge, withShown, withMark, withHeader};
+
+mod reader;
+mod writer;
+
+pub use reader::candidate;
+pub use reader::read;
+pub use writer::write;
+
+// Our side (0 mediator, 1 requester), self and the other end, the wanted role (zeros for the requester, who is not told it), the end,
+// whether the last message had no open, edge or mark, and how many messages were accepted and replies given.
+pub struct Header {
+    pub side: u8,
+    pub own: u16,
+    pub other: u16,
+    pub wanted: Role,
+    pub end: u8,
+    pub idle: u8,
+    pub messages: u16,
+}
+
+// The graph, and the credentials shown so far by either end.
+pub struct Negotiation {
+    pub header: Header,
+    pub nodes: Nodes,
+    pub edges: Edges,
+    pub shown: Pool,
+}
+
+// Where in the bytes the nodes, the edges and the credentials shown begin.
+const NODES_AT: usize = 128;
+
+const EDGES_AT: usize = 2944;
+
+const SHOWN_AT: usize = 3712;
+
+impl Negotiation {
+    pub const NODES: usize = 128;
+
+    pub const EDGES: usize = 256;
+
+    pub const SHOWN: usize = 64;
+
+    pub const BYTES: usize = 5120;
+
+    // "A fresh negotiation holds no node, no edge and no credential."
+    pub fn fresh(side: u8, own: u16, other: u16, wanted: Role) -> Self
+        ensures { λ r. ⌜ stateOf r ≡ freshState side own other wanted ⌝ }
+    {
+        Self {
+            header: Header {
+                side,
+                own,
+                other,
+                wanted,
+                end: 0,
+                idle: 0,
+                messages: 0,
+            },
+            nodes: Nodes::empty(),
+            edges: Edges::empty(),
+            shown: Pool::empty(),
+        }
+    }
+
+    pub fn show(mut self, c: Credential) -> Self
+        requires { ⌜ self .shown .count < 64 ⌝ }
+        ensures { λ r. ⌜ stateOf r ≡ withShown (stateOf self) c ⌝ }
+    {
+        let shown = self.shown;
+        let next = shown.add(c);
+        self.shown = next;
+        self
+    }
+
+    pub fn add_node(mut self, x: Node) -> Self
+        requires { ⌜ self .nodes .count < 128 ⌝ }
+        ensures { λ r. ⌜ stateOf r ≡ withNode (stateOf self) x ⌝ }
+    {
+        let nodes = self.nodes;
+        let next = nodes.add(x);
+        self.nodes = next;
+        self
+    }
+
+    pub fn add_edge(mut self, e: Edge) -> Self
+        requires { ⌜ self .edges .count < 256 ⌝ }
+        ensures { λ r. ⌜ stateOf r ≡ withEdge (stateOf self) e ⌝ }
+    {
+        let edges = self.edges;
+        let next = edges.add(e);
+        self.edges = next;
+        self
+    }
+
+    // Node i goes into another state.
+    pub fn mark(mut self, i: usize, state: u8) -> Self
+        requires { ⌜ (i < self .nodes .count) × (self .nodes .count ≤ 128) ⌝ }
+        ensures { λ r. ⌜ stateOf r ≡ withMark (stateOf self) i state ⌝ }
+    {
+        let nodes = self.nodes;
+        let next = nodes.mark(i, state);
+        self.nodes = next;
+        self
+    }
+
+    pub fn with_header(mut self, h: Header) -> Self
+        ensures { λ r. ⌜ stateOf r ≡ withHeader (stateOf self) h ⌝ }
+    {
+        self.header = h;
+        self
+    }
+}
+
+// The negotiation counts only where ok.
+pub struct Reading {
+    pub ok: bool,
+    pub negotiation: Negotiation,
+}
