@@ -42,6 +42,7 @@
 #define LAVUTREMO_NAME 4u    /* a name without class */
 #define LAVUTREMO_CLASS 5u   /* a class rule broken */
 #define LAVUTREMO_ORDER 6u   /* tables out of order, repeated, self missing, or a size passed */
+#define LAVUTREMO_OTHER 7u   /* at begin: the other end is zero or self */
 
 /* Sizes in bytes. */
 #define LAVUTREMO_EXPRESSION_BYTES 18
@@ -49,6 +50,7 @@
 #define LAVUTREMO_MOST_CREDENTIALS 64
 #define LAVUTREMO_MOST_CREDENTIALS_BYTES (LAVUTREMO_MOST_CREDENTIALS * LAVUTREMO_CREDENTIAL_BYTES + 1)
 #define LAVUTREMO_MOST_TABLES_BYTES 4096
+#define LAVUTREMO_NEGOTIATION_BYTES 5120
 
 /* Sizes of tables in records. */
 #define LAVUTREMO_MOST_NAMES 64
@@ -81,6 +83,30 @@ extern "C" {
  * The buffer may have any content and any length. The caller sees to the pointer as below.
  */
 uint64_t lavutremo_check(const uint8_t *tables, size_t tables_len);
+
+/*
+ * Begins a negotiation with another end: as the mediator, who wants the role entity.name proved of the other end, or, with
+ * entity and name both zero, as the requester.
+ *
+ * Reads
+ *   tables       as above
+ *   other        the other end's entity
+ *   entity, name the wanted role, or zeros
+ *
+ * Writes
+ *   negotiation  5,120 bytes: the fresh negotiation, as docs/LAYOUT.md describes; what they held before does not count
+ *
+ * Returns 0 if the call is accepted, else a number alone, the first of these that applies, and then no byte changes:
+ *   LAVUTREMO_LENGTH   a length is outside the sizes,
+ *   LAVUTREMO_COMMAND, LAVUTREMO_OPERAND, LAVUTREMO_NAME, LAVUTREMO_CLASS, LAVUTREMO_ORDER   the tables, as above,
+ *   LAVUTREMO_OPERAND  just one of entity and name is zero,
+ *   LAVUTREMO_NAME     the wanted name has no class,
+ *   LAVUTREMO_OTHER    the other end is zero or self.
+ *
+ * The buffers may have any content and any length. They must not overlap.
+ */
+uint64_t lavutremo_begin(const uint8_t *tables, size_t tables_len, uint8_t *negotiation, size_t negotiation_len,
+                         uint16_t other, uint16_t entity, uint16_t name);
 
 /*
  * Does "f from e" hold in RT0 over these credentials? Where e is an entity: is e a member of f?

@@ -212,6 +212,54 @@ static void table_sizes(void)
     expect_tables("an AC record of a role that is not sensitive", LAVUTREMO_CLASS, tables_len);
 }
 
+/* Begins with these arguments; the negotiation must hold the fresh one, or what it held before. */
+static void expect_begin(const char *what, uint64_t expected, size_t tables_size, size_t size, uint16_t other,
+                         uint16_t wanted_entity, uint16_t wanted_name)
+{
+    static uint8_t negotiation[LAVUTREMO_NEGOTIATION_BYTES + 1], after[LAVUTREMO_NEGOTIATION_BYTES + 1];
+    memset(negotiation, 0xa5, sizeof negotiation);
+    memcpy(after, negotiation, sizeof after);
+    if (expected == 0) {
+        const uint8_t header[18] = {1,
+                                    wanted_entity == 0,
+                                    0,
+                                    2,
+                                    (uint8_t)(other >> 8),
+                                    (uint8_t)other,
+                                    (uint8_t)(wanted_entity >> 8),
+                                    (uint8_t)wanted_entity,
+                                    (uint8_t)(wanted_name >> 8),
+                                    (uint8_t)wanted_name};
+        memset(after, 0, LAVUTREMO_NEGOTIATION_BYTES);
+        memcpy(after, header, sizeof header);
+    }
+    uint64_t answer = lavutremo_begin(tables, tables_size, negotiation, size, other, wanted_entity, wanted_name);
+    if (answer == expected && memcmp(negotiation, after, sizeof after) == 0) {
+        passed++;
+        return;
+    }
+    failed++;
+    printf("%s: answer %llu, expected %llu, or other bytes\n", what, (unsigned long long)answer,
+           (unsigned long long)expected);
+}
+
+static void begins(void)
+{
+    put_house();
+    const size_t size = LAVUTREMO_NEGOTIATION_BYTES;
+    expect_begin("a requester", 0, tables_len, size, 3, 0, 0);
+    expect_begin("a mediator", 0, tables_len, size, 3, 300, 1);
+    expect_begin("5,119 bytes", LAVUTREMO_LENGTH, tables_len, size - 1, 3, 0, 0);
+    expect_begin("5,121 bytes", LAVUTREMO_LENGTH, tables_len, size + 1, 3, 0, 0);
+    expect_begin("tables of no bytes", LAVUTREMO_LENGTH, 0, size, 3, 0, 0);
+    expect_begin("cut tables, and one zero", LAVUTREMO_COMMAND, tables_len - 1, size, 3, 1, 0);
+    expect_begin("an entity of zero", LAVUTREMO_OPERAND, tables_len, size, 3, 0, 1);
+    expect_begin("a name of zero, and no other end", LAVUTREMO_OPERAND, tables_len, size, 0, 1, 0);
+    expect_begin("a name without class, and no other end", LAVUTREMO_NAME, tables_len, size, 0, 1, 9);
+    expect_begin("no other end", LAVUTREMO_OTHER, tables_len, size, 0, 1, 1);
+    expect_begin("self as the other end", LAVUTREMO_OTHER, tables_len, size, 2, 0, 0);
+}
+
 int main(void)
 {
     lengths();
@@ -219,6 +267,7 @@ int main(void)
     order();
     table_records();
     table_sizes();
+    begins();
     printf("%d passed, %d failed\n", passed, failed);
     return failed > 0;
 }

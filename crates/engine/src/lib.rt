@@ -1,5 +1,6 @@
 // The calls for a host in C. Each answers one number, 256 times a value plus a refusal number.
 ghost use mathlib.Core.Path.{_≡_};
+ghost use Rattle.begin.specs.Begin.{beginOf, answerOf, leftOf};
 ghost use Rattle.question.specs.Question.{questionOf};
 ghost use Rattle.tables.specs.Check.{checkOf};
 
@@ -9,6 +10,22 @@ pub extern "C" fn lavutremo_check(tables: &[u8]) -> u64
     ensures { λ r. ⌜ r ≡ checkOf (now (tables .entry)) ⌝ }
 {
     tables::check(tables)
+}
+
+// A fresh negotiation for the tables, the other end and the wanted role goes into its buffer: 0, or a refusal number, and then
+// nothing changes.
+#[no_mangle]
+pub extern "C" fn lavutremo_begin(
+    tables: &[u8],
+    negotiation: &mut [u8],
+    other: u16,
+    entity: u16,
+    name: u16,
+) -> u64
+    ensures answered { λ r. ⌜ r ≡ answerOf (beginOf (now (tables .entry)) (now (negotiation .entry)) other entity name) ⌝ }
+    ensures left { λ _. ⌜ now (negotiation .exit) ≡ leftOf (now (negotiation .entry)) (beginOf (now (tables .entry)) (now (negotiation .entry)) other entity name) ⌝ }
+{
+    begin::begin(tables, negotiation, other, entity, name)
 }
 
 // Whether f is from e in RT0 over the lent credentials: 256 for yes, 0 for no, or a refusal number.

@@ -1,0 +1,72 @@
+-- Begin (document 01, "The reply", "From the input"). Assumes nothing.
+use Prim.Native.Nat.{ℕ, zero, suc}
+use mathlib.Core.Bool.{Bool, true, false, cond, _&&_, _||_}
+use mathlib.Core.List.{List}
+use lib.Dec.{eqb}
+use lib.ListN.{length}
+use Rattle.rt0.specs.From.{roleOf}
+use Rattle.class.specs.declared.Name.{Name}
+use Rattle.class.specs.Names.{classOf}
+use Rattle.tables.specs.Tables.{Tables}
+use Rattle.tables.specs.Check.{orElse, Outcome, refused, accepted, readTables}
+use Rattle.negotiation.specs.State.{State, freshState}
+use Rattle.negotiation.specs.Layout.{stateBytes}
+
+-- "negotiation 5,120 exactly" ("Bytes")
+abbrev pub negotiationSize : ℕ
+negotiationSize = 5120
+
+-- "both zero makes us the requester"
+abbrev pub isRequester : ℕ → ℕ → Bool
+isRequester entity name = eqb entity 0 && eqb name 0
+
+-- the wanted role: "3 .. at begin just one zero in the role", "4 a name without class", or zero
+unfoldable pub roleNumber : List Name → ℕ → ℕ → ℕ
+roleNumber ns entity name =
+    cond (isRequester entity name) 0
+    (cond (eqb entity 0 || eqb name 0) 3
+    (cond (eqb (classOf ns name) 0) 4 0))
+
+-- "7 at begin: other end is zero or self", or zero
+unfoldable pub otherNumber : ℕ → ℕ → ℕ
+otherNumber own other = cond (eqb other 0 || eqb other own) 7 0
+
+-- "begin's role by 3 and 4, 7"
+unfoldable pub beginNumber : Tables → ℕ → ℕ → ℕ → ℕ
+beginNumber T other entity name = orElse (roleNumber (T .names) entity name) (otherNumber (T .own) other)
+
+-- the mediator is side 0, the requester side 1
+abbrev pub sideOf : ℕ → ℕ → ℕ
+sideOf entity name = cond (isRequester entity name) 1 0
+
+-- "Begin is given the other end and the wanted role, entity and name"
+unfoldable pub begunState : Tables → ℕ → ℕ → ℕ → State
+begunState T other entity name = freshState (sideOf entity name) (T .own) other (roleOf entity name)
+
+-- a refusal number, or the state of the fresh negotiation
+pub data Begun : Type 0 where
+  refusal : ℕ → Begun
+  begun : State → Begun
+
+abbrev pub numbered : ℕ → State → Begun
+numbered zero S = begun S
+numbered (suc k) S = refusal (suc k)
+
+abbrev pub behindTables : ℕ → ℕ → ℕ → Outcome → Begun
+behindTables other entity name (refused k) = refusal k
+behindTables other entity name (accepted T) = numbered (beginNumber T other entity name) (begunState T other entity name)
+
+-- "Order: 1, tables 2 to 6 record by record .., begin's role by 3 and 4, 7"; of the negotiation only the length counts
+unfoldable pub beginOf : List ℕ → List ℕ → ℕ → ℕ → ℕ → Begun
+beginOf tables negotiation other entity name =
+    cond (eqb (length negotiation) negotiationSize) (behindTables other entity name (readTables tables)) (refusal 1)
+
+-- "Each returns its number alone"; begin returns 0
+abbrev pub answerOf : Begun → ℕ
+answerOf (refusal k) = k
+answerOf (begun S) = 0
+
+-- "begin sets the negotiation only"; refused, "no buffer changes"
+abbrev pub leftOf : List ℕ → Begun → List ℕ
+leftOf negotiation (refusal k) = negotiation
+leftOf negotiation (begun S) = stateBytes S

@@ -1,0 +1,94 @@
+// Begin: a fresh negotiation for the tables of a house.
+use class::NAME;
+use class::class_of;
+use expression::Role;
+use negotiation::Negotiation;
+use negotiation::write;
+use tables::decode;
+ghost use mathlib.Core.Path.{_≡_};
+ghost use Prim.Native.Nat.{_≤_};
+ghost use lib.ListN.{length};
+ghost use Rattle.class.specs.Names.{namesFrom, namesOf, Ascending};
+ghost use Rattle.begin.specs.Begin.{isRequester, roleNumber, otherNumber, sideOf, beginOf, answerOf, leftOf};
+
+// Why a call is refused: a lent length, just one zero in the role, or the other end zero or self.
+const LENGTH: u64 = 1;
+
+const OPERAND: u64 = 3;
+
+const OTHER: u64 = 7;
+
+// Whether no role is wanted: we are the requester.
+fn is_requester(entity: u16, name: u16) -> bool
+    ensures { λ r. ⌜ r ≡ isRequester entity name ⌝ }
+{
+    (entity == 0) & (name == 0)
+}
+
+// The wanted role: zero where it may be wanted.
+fn role_number<'a>(
+    n: usize,
+    names: &'a [u16; 64],
+    classes: &'a [u8; 64],
+    entity: u16,
+    name: u16,
+) -> u64
+    requires { ⌜ (n ≤ 64) × Ascending n (now names) ⌝ }
+    ensures { λ r. ⌜ r ≡ roleNumber (namesOf (namesFrom n (now (names .entry)) (now (classes .entry)))) entity name ⌝ }
+{
+    if is_requester(entity, name) {
+        return 0;
+    }
+    if (entity == 0) | (name == 0) {
+        return OPERAND;
+    }
+    if class_of(n, names, classes, name) == 0 {
+        return NAME;
+    }
+    0
+}
+
+// The other end: zero where it may be one.
+fn other_number(own: u16, other: u16) -> u64
+    ensures { λ r. ⌜ r ≡ otherNumber own other ⌝ }
+{
+    if (other == 0) | (other == own) {
+        return OTHER;
+    }
+    0
+}
+
+// The mediator is side 0, the requester side 1.
+fn side_of(entity: u16, name: u16) -> u8
+    ensures { λ r. ⌜ r ≡ sideOf entity name ⌝ }
+{
+    if is_requester(entity, name) { 1 } else { 0 }
+}
+
+// The fresh negotiation goes into its buffer: 0, or a refusal number, and then nothing changes.
+pub fn begin(tables: &[u8], negotiation: &mut [u8], other: u16, entity: u16, name: u16) -> u64
+    ensures answered { λ r. ⌜ r ≡ answerOf (beginOf (now (tables .entry)) (now (negotiation .entry)) other entity name) ⌝ }
+    ensures left { λ _. ⌜ now (negotiation .exit) ≡ leftOf (now (negotiation .entry)) (beginOf (now (tables .entry)) (now (negotiation .entry)) other entity name) ⌝ }
+{
+    if negotiation.len() != Negotiation::BYTES {
+        return LENGTH;
+    }
+    let d = decode(tables);
+    let house = d.house;
+    let names = house.names;
+    let own = house.own;
+    if d.refusal != 0 {
+        return d.refusal;
+    }
+    let k = role_number(names.count, &names.name, &names.class, entity, name);
+    if k != 0 {
+        return k;
+    }
+    let m = other_number(own, other);
+    if m != 0 {
+        return m;
+    }
+    let fresh = Negotiation::fresh(side_of(entity, name), own, other, Role { entity, name });
+    write(fresh, negotiation);
+    0
+}
