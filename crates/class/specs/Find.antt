@@ -2,11 +2,12 @@
 use Prim.Native.Nat.{ℕ, zero, suc, _+_, _≤_, _<_}
 use native.Mathlib.Omega.{arith}
 use mathlib.Core.Path.{_≡_, refl, sym, _∙_, ap}
-use mathlib.Core.Bool.{Bool, true, false, cond}
+use mathlib.Core.Bool.{Bool, true, false, cond, _||_}
 use mathlib.Core.List.{List, [], _∷_, _++_}
 use borrow.Author.Tests.{eqb-true, eqb-false}
 use lib.Dec.{eqb}
 use Rattle.rt0.specs.Pool.{upTo}
+use Rattle.rt0.specs.Lists.{any}
 
 module _ {A B : Type 0} where
   -- the value of the first element that passes the test, or the other value where none does
@@ -61,3 +62,22 @@ module _ {A B : Type 0} {t : A → Bool} {g : ℕ → A} (v : A → B) where
           let z : j ≡ n = eqb-true j n q in
           first-next t v d g n true (sym (ap (λ (k : ℕ). t (g k)) z) ∙ e) ∙ (first-none (v (g n)) n (missed-fewer h (omega arith)) ∙ sym (ap (λ (k : ℕ). v (g k)) z))
       go false q ih = first-next t v d g n (t (g n)) refl ∙ ih (omega (arith, eqb-false j n q))
+
+module _ {A : Type 0} where
+  -- whether any element passes is whether one is found
+  pub any-first : (t : A → Bool) (L : List A) → any t L ≡ firstOr t (λ x. true) false L
+  any-first t [] = refl
+  any-first t (x ∷ xs) = go (t x) (any-first t xs)
+    where
+      go : (s : Bool) → any t xs ≡ firstOr t (λ x. true) false xs → (s || any t xs) ≡ cond s true (firstOr t (λ x. true) false xs)
+      go true h = refl
+      go false h = h
+
+module _ {A : Type 0} {t : A → Bool} {g : ℕ → A} where
+  -- the search has come to an element that passes
+  pub any-at : (n : ℕ) {j : ℕ} {b : Bool} → Missed t g j → j < n → b ≡ t (g j) → b ≡ true → true ≡ any t (upTo n g)
+  any-at n h l e p = sym (any-first t (upTo n g) ∙ first-at (λ x. true) false n h l (sym e ∙ p))
+
+  -- the search has come to the end
+  pub any-none : (n : ℕ) {j : ℕ} → Missed t g j → n ≤ j → false ≡ any t (upTo n g)
+  any-none n h l = sym (any-first t (upTo n g) ∙ first-none (λ x. true) false n (missed-fewer h l))

@@ -1,8 +1,7 @@
 -- A node or an edge read, one more of them, and a node marked. Assumes nothing.
 use Prim.Native.Nat.{ℕ, zero, suc, _+_, _≤_, _<_}
 use native.Mathlib.Omega.{arith}
-use native.Mathlib.Numerals.{add-one}
-use mathlib.Core.Path.{_≡_, refl, sym, _∙_, ap, ap₂}
+use mathlib.Core.Path.{_≡_, refl, sym, _∙_, ap}
 use mathlib.Core.Bool.{Bool, true, false}
 use mathlib.Core.List.{List, [], _∷_, _++_}
 use borrow.Author.Tests.{eqb-true, eqb-false}
@@ -12,7 +11,7 @@ use lib.Seq.{getD-set-same, getD-set-other, getD-append-seam, ext-getD}
 use Rattle.expression.specs.declared.Raw.{Raw}
 use Rattle.expression.specs.Form.{expressionOf}
 use Rattle.rt0.specs.Pool.{upTo}
-use Rattle.rt0.specs.Added.{upTo-same, length-upTo}
+use Rattle.rt0.specs.Added.{length-upTo, snoc-upTo}
 use Rattle.graph.specs.declared.Node.{Node}
 use Rattle.graph.specs.declared.Edge.{Edge}
 use Rattle.graph.specs.declared.Nodes.{Nodes}
@@ -32,10 +31,6 @@ module _ {A : Type 0} where
       go false e ih =
           let k : i < n = omega (arith, eqb-false i n e) in
           List·getD-append (upTo n f) (f n ∷ []) d i (omega (arith, length-upTo n f)) ∙ ih k
-
-  -- one element more at the end
-  snoc-upTo : (n : ℕ) (f g : ℕ → A) (x : A) → ((i : ℕ) → i < n → f i ≡ g i) → f n ≡ x → upTo (n + 1) f ≡ upTo n g ++ (x ∷ [])
-  snoc-upTo n f g x h k = ap (λ (m : ℕ). upTo m f) (add-one n) ∙ ap₂ (λ (l : List A) (y : A). l ++ (y ∷ [])) (upTo-same n f g h) k
 
   -- another element at an index
   set-upTo : (n : ℕ) (f g : ℕ → A) (i : ℕ) (x d : A) → i < n → f i ≡ x → ((j : ℕ) → (j ≡ i → ⊥) → f j ≡ g j) → upTo n f ≡ set (upTo n g) i x

@@ -7,9 +7,9 @@ use mathlib.Core.List.{List, [], _∷_}
 use lib.Dec.{eqb}
 use Rattle.expression.specs.declared.Expression.{Expression}
 use Rattle.expression.specs.Same.{same}
-use Rattle.rt0.specs.Lists.{false-true, any}
+use Rattle.rt0.specs.Lists.{false-true}
 use Rattle.rt0.specs.Pool.{upTo}
-use Rattle.class.specs.Find.{firstOr, Missed, missed-fewer, first-at, first-none}
+use Rattle.class.specs.Find.{firstOr, Missed, missed-fewer, first-at, first-none, any-at, any-none}
 use Rattle.graph.specs.declared.Node.{Node}
 use Rattle.graph.specs.declared.Edge.{Edge}
 use Rattle.graph.specs.declared.Nodes.{Nodes}
@@ -17,16 +17,6 @@ use Rattle.graph.specs.declared.Edges.{Edges}
 use Rattle.graph.specs.Graph.{nodeIn, nodeAt, edgeAt, nodesOf, edgesOf}
 use Rattle.graph.specs.Find.{isNode, findNode, sameEdge, hasEdge}
 use Rattle.graph.specs.Columns.{nodes-length, node-in}
-
-module _ {A : Type 0} where
-  -- whether any element passes is whether one is found
-  any-first : (t : A → Bool) (L : List A) → any t L ≡ firstOr t (λ x. true) false L
-  any-first t [] = refl
-  any-first t (x ∷ xs) = go (t x) (any-first t xs)
-    where
-      go : (s : Bool) → any t xs ≡ firstOr t (λ x. true) false xs → (s || any t xs) ≡ cond s true (firstOr t (λ x. true) false xs)
-      go true h = refl
-      go false h = h
 
 -- Nodes
 
@@ -74,8 +64,8 @@ module _ (N : Nodes) (x : Expression) (v s : ℕ) {j : ℕ} (h : Missed (isNode 
 module _ (E : Edges) (d : Edge) {j : ℕ} (h : Missed (λ e. sameEdge e d) (edgeAt E) j) where
   pub edge-at : {b : Bool} → j < E .count → b ≡ sameEdge (edgeAt E j) d → b ≡ true → true ≡ hasEdge (edgesOf E) d
   unfolding hasEdge edgesOf
-  edge-at l e t = sym (any-first (λ e. sameEdge e d) (upTo (E .count) (edgeAt E)) ∙ first-at (λ e. true) false (E .count) h l (sym e ∙ t))
+  edge-at l e t = any-at (E .count) h l e t
 
   pub edge-none : E .count ≤ j → false ≡ hasEdge (edgesOf E) d
   unfolding hasEdge edgesOf
-  edge-none l = sym (any-first (λ e. sameEdge e d) (upTo (E .count) (edgeAt E)) ∙ first-none (λ e. true) false (E .count) (missed-fewer h l))
+  edge-none l = any-none (E .count) h l

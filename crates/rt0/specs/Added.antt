@@ -78,6 +78,10 @@ pub upTo-same : {A : Type 0} (n : ℕ) (f g : ℕ → A) → ((i : ℕ) → i < 
 upTo-same zero f g h = refl
 upTo-same (suc n) f g h = ap₂ (λ (l : List _) (x : _). l ++ (x ∷ [])) (upTo-same n f g (λ i l. h i (omega arith))) (h n (omega arith))
 
+-- one element more at the end
+pub snoc-upTo : {A : Type 0} (n : ℕ) (f g : ℕ → A) (x : A) → ((i : ℕ) → i < n → f i ≡ g i) → f n ≡ x → upTo (n + 1) f ≡ upTo n g ++ (x ∷ [])
+snoc-upTo n f g x h k = ap (λ (m : ℕ). upTo m f) (add-one n) ∙ ap₂ (λ (l : List _) (y : _). l ++ (y ∷ [])) (upTo-same n f g h) k
+
 -- the columns have their lengths
 pub record Sized (P : Pool) : Type 0 where
   pub heads : length (P .heads) ≡ 256
@@ -143,8 +147,7 @@ module _ (P : Pool) (h : Role) (r : Raw) (room : P .count < 128) where
 pub add-credential : (P : Pool) (h : Role) (b : Expression) → P .count < 128 → Sized P → credentials (added P h (rawOf b)) ≡ credentials P ++ (record { head = h; body = b } ∷ [])
 unfolding credentials added bodyAt
 add-credential P h b room z =
-    ap (λ (m : ℕ). upTo m (credentialAt (added P h (rawOf b)))) (add-one (P .count))
-    ∙ ap₂ (λ (l : List Credential) (x : Credential). l ++ (x ∷ [])) (upTo-same (P .count) (credentialAt (added P h (rawOf b))) (credentialAt P) (λ i l. add-other P h (rawOf b) room i l))
+    snoc-upTo (P .count) (credentialAt (added P h (rawOf b))) (credentialAt P) (record { head = h; body = b }) (λ i l. add-other P h (rawOf b) room i l)
     (λ i. record { head = head-last P h (rawOf b) room z i; body = (ap expressionOf (raw-last P h (rawOf b) room z) ∙ expression-raw b) i })
 
 -- a pool with the credential c behind the i others

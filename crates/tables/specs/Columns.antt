@@ -1,23 +1,18 @@
 -- Names and pairs in columns, with one more. Assumes nothing.
 use Prim.Native.Nat.{ℕ, zero, suc, _+_, _*_, _≤_, _<_}
 use native.Mathlib.Omega.{arith}
-use native.Mathlib.Numerals.{add-one}
-use mathlib.Core.Path.{_≡_, refl, sym, _∙_, ap, ap₂}
+use mathlib.Core.Path.{_≡_}
 use mathlib.Core.List.{List, [], _∷_, _++_}
 use lib.ListN.{getD, length, set, length-set}
 use lib.Seq.{getD-set-same, getD-set-other}
 use Rattle.rt0.specs.Pool.{upTo}
-use Rattle.rt0.specs.Added.{pair, upTo-same, pair-before, pair-first, pair-second, length-upTo}
+use Rattle.rt0.specs.Added.{pair, snoc-upTo, pair-before, pair-first, pair-second, length-upTo}
 use Rattle.class.specs.declared.Name.{Name}
 use Rattle.class.specs.declared.Names.{Names}
 use Rattle.class.specs.Names.{nameAt, namesOf}
 use Rattle.record.specs.declared.Pair.{Pair}
 use Rattle.tables.specs.declared.Pairs.{Pairs}
 use Rattle.tables.specs.Tables.{pairAt, pairsOf}
-
--- one element more at the end
-snoc-upTo : {A : Type 0} (n : ℕ) (f g : ℕ → A) (x : A) → ((i : ℕ) → i < n → f i ≡ g i) → f n ≡ x → upTo (n + 1) f ≡ upTo n g ++ (x ∷ [])
-snoc-upTo n f g x h k = ap (λ (m : ℕ). upTo m f) (add-one n) ∙ ap₂ (λ (l : List _) (y : _). l ++ (y ∷ [])) (upTo-same n f g h) k
 
 -- Names
 

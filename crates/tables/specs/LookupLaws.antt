@@ -5,9 +5,8 @@ use mathlib.Core.Bool.{Bool, true, false, cond, not, _&&_, _||_}
 use mathlib.Core.List.{List, [], _∷_}
 use Rattle.expression.specs.declared.Role.{Role}
 use Rattle.expression.specs.Same.{sameRole}
-use Rattle.rt0.specs.Pool.{upTo}
-use Rattle.rt0.specs.Lists.{any, false-true}
-use Rattle.class.specs.Find.{firstOr, Missed, missed-more, missed-fewer, first-at, first-none}
+use Rattle.rt0.specs.Lists.{false-true}
+use Rattle.class.specs.Find.{firstOr, Missed, missed-more, missed-fewer, first-at, first-none, any-first}
 use Rattle.record.specs.declared.Pair.{Pair}
 use Rattle.tables.specs.declared.Pairs.{Pairs}
 use Rattle.tables.specs.declared.RoleAnswer.{RoleAnswer}
@@ -38,25 +37,6 @@ module _ {A B C : Type 0} where
       go : (s : Bool) → f (firstOr t v d xs) ≡ firstOr t (λ x. f (v x)) (f d) xs → f (cond s (v x) (firstOr t v d xs)) ≡ cond s (f (v x)) (firstOr t (λ x. f (v x)) (f d) xs)
       go true h = refl
       go false h = h
-
-module _ {A : Type 0} where
-  -- whether any element passes is whether one is found
-  any-first : (t : A → Bool) (L : List A) → any t L ≡ firstOr t (λ x. true) false L
-  any-first t [] = refl
-  any-first t (x ∷ xs) = go (t x) (any-first t xs)
-    where
-      go : (s : Bool) → any t xs ≡ firstOr t (λ x. true) false xs → (s || any t xs) ≡ cond s true (firstOr t (λ x. true) false xs)
-      go true h = refl
-      go false h = h
-
-module _ {A : Type 0} {t : A → Bool} {g : ℕ → A} where
-  -- the search has come to an element that passes
-  pub any-at : (n : ℕ) {j : ℕ} {b : Bool} → Missed t g j → j < n → b ≡ t (g j) → b ≡ true → true ≡ any t (upTo n g)
-  any-at n h l e p = sym (any-first t (upTo n g) ∙ first-at (λ x. true) false n h l (sym e ∙ p))
-
-  -- the search has come to the end
-  pub any-none : (n : ℕ) {j : ℕ} → Missed t g j → n ≤ j → false ≡ any t (upTo n g)
-  any-none n h l = sym (any-first t (upTo n g) ∙ first-none (λ x. true) false n (missed-fewer h l))
 
 -- Pairs by their role
 

@@ -2,9 +2,8 @@ use Prim.Native.Nat.{_-_}
 use native.Mathlib.Omega.{arith}
 use Rattle.expression.specs.declared.Credential.{Credential}
 use Rattle.rt0.specs.Pool.{poolOf, credentialAt, credentials}
-use Rattle.class.specs.Find.{Missed, missed-start, missed-more}
+use Rattle.class.specs.Find.{Missed, missed-start, missed-more, any-at, any-none}
 use Rattle.tables.specs.Lookup.{directOf, sameCredential, holds}
-use Rattle.tables.specs.LookupLaws.{any-at, any-none}
 use Rattle.tables.proofs.lookup.holds.Statement.{statement}
 use Rattle.tables.proofs.lookup.holds.Tie as tie
 
