@@ -172,7 +172,7 @@ fn reached<'a>(
     if test(w, s % 64) {
         return true;
     }
-    once(n, heads, kinds, numbers, mem, e, f)
+    once(n, heads, kinds, numbers, mem, e, f, r)
 }
 
 // Whether f is from the entity b.
@@ -230,7 +230,7 @@ fn by_rules<'a>(
     ensures { λ r. ⌜ r ≡ fromOf (chosen (poolOf n (now (heads .entry)) (now (kinds .entry)) (now (numbers .entry))) (now (on .entry))) f e ⌝ }
 {
     let aimed = aim_parts(n, heads, kinds, numbers, part, e);
-    let mut vals = asked(n, heads, kinds, numbers, head, on, mem, e);
+    let mut vals = asked(n, heads, kinds, numbers, head, first, on, mem, e);
     let todo = awake(deps, &vals);
     close(
         n,
