@@ -12,6 +12,7 @@ use rules::first_of;
 use rules::is_linked;
 use rules::linkable;
 use rules::name_link;
+use rules::open_table;
 use rules::rows_of;
 use rules::rules_of;
 use rules::source;
@@ -102,7 +103,8 @@ pub fn switch_on<'a>(
 {
     let none = [0u64; 260];
     let todo = woken(deps, head[i], i);
-    seed(n, heads, kinds, numbers, head, i, rows);
+    let open = open_table();
+    seed(n, heads, kinds, numbers, head, &open, i, rows);
     on[i] = 1;
     close(
         n,
@@ -138,22 +140,16 @@ fn reached<'a>(
     requires { ⌜ (n ≤ 128) × (s < 128) × Column (headRow (poolOf n (now heads) (now kinds) (now numbers))) 128 130 n (now head) ⌝ }
     ensures { λ r. ⌜ Reached (poolOf n (now (heads .entry)) (now (kinds .entry)) (now (numbers .entry))) (now (mem .entry)) (now (vals .entry)) s e f r ⌝ }
 {
-    let x = aim_rows(
-        n,
-        heads,
-        kinds,
-        numbers,
-        e,
-        f,
-        rows_of(n, heads, kinds, numbers, f),
-    );
+    let open = open_table();
+    let old = rows_of(n, heads, kinds, numbers, &open, &open, f);
+    let x = aim_rows(n, heads, kinds, numbers, e, f, old);
     let mut part = [128usize; 512];
     part[0] = x.a;
     part[1] = x.b;
     part[2] = x.c;
     part[3] = x.d;
     let mut first = [128usize; 128];
-    let r = first_of(n, heads, kinds, numbers, f);
+    let r = first_of(n, heads, kinds, numbers, &open, &open, f);
     first[0] = r;
     let links = linkable(n, heads, kinds, numbers, head, is_linked(f));
     let src = links.src;
@@ -176,7 +172,7 @@ fn reached<'a>(
     if test(w, s % 64) {
         return true;
     }
-    once(n, heads, kinds, numbers, mem, e, f)
+    once(n, heads, kinds, numbers, mem, e, f, r)
 }
 
 // Whether f is from the entity b.
@@ -234,7 +230,7 @@ fn by_rules<'a>(
     ensures { λ r. ⌜ r ≡ fromOf (chosen (poolOf n (now (heads .entry)) (now (kinds .entry)) (now (numbers .entry))) (now (on .entry))) f e ⌝ }
 {
     let aimed = aim_parts(n, heads, kinds, numbers, part, e);
-    let mut vals = asked(n, heads, kinds, numbers, head, on, mem, e);
+    let mut vals = asked(n, heads, kinds, numbers, head, first, on, mem, e);
     let todo = awake(deps, &vals);
     close(
         n,

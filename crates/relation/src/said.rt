@@ -1,11 +1,13 @@
 // What credentials say at once: that an entity is in a role.
 use closure::mark;
-use rules::source;
+use rules::find_source;
+use rules::note_bodies;
 ghost use mathlib.Core.Path.{_≡_};
 ghost use Prim.Native.Nat.{_<_, _≤_};
 ghost use lib.ListN.{length};
 ghost use Rattle.rt0.specs.Pool.{poolOf};
 ghost use Rattle.rules.specs.Columns.{Column, headRow};
+ghost use Rattle.rules.specs.Digits.{BodiesIn};
 ghost use Rattle.relation.specs.Relation.{Start};
 ghost use Rattle.relation.specs.Question.{Seeded};
 
@@ -16,16 +18,17 @@ pub fn seed<'a>(
     kinds: &'a [u8; 256],
     numbers: &'a [u16; 1024],
     head: &'a [usize; 128],
+    body: &'a [u64; 260],
     i: usize,
     rows: &'a mut [u64; 260],
 )
-    requires { ⌜ (n ≤ 128) × (i < n) × Column (headRow (poolOf n (now heads) (now kinds) (now numbers))) 128 130 n (now head) × (length (now rows) ≡ 260) ⌝ }
+    requires { ⌜ (n ≤ 128) × (i < n) × Column (headRow (poolOf n (now heads) (now kinds) (now numbers))) 128 130 n (now head) × BodiesIn (poolOf n (now heads) (now kinds) (now numbers)) n (now body) × (length (now rows) ≡ 260) ⌝ }
     ensures { λ _. ⌜ Seeded (poolOf n (now (heads .entry)) (now (kinds .entry)) (now (numbers .entry))) i (now (rows .entry)) (now (rows .exit)) ⌝ }
 {
     if kinds[i * 2] != 1 {
         return;
     }
-    let s = source(n, heads, kinds, numbers, numbers[i * 8]);
+    let s = find_source(n, heads, kinds, numbers, body, numbers[i * 8]);
     mark(rows, head[i], s)
 }
 
@@ -42,10 +45,12 @@ pub fn seeds<'a>(
     ensures { λ r. ⌜ Start (poolOf n (now (heads .entry)) (now (kinds .entry)) (now (numbers .entry))) (now (on .entry)) r ⌝ }
 {
     let mut rows = [0u64; 260];
+    let mut body = [0u64; 260];
+    note_bodies(n, heads, kinds, numbers, &mut body);
     let mut i = 0;
     while i < n {
         if on[i] == 1 {
-            seed(n, heads, kinds, numbers, head, i, &mut rows);
+            seed(n, heads, kinds, numbers, head, &body, i, &mut rows);
         }
         i += 1;
     }

@@ -6,16 +6,16 @@ use expression::Expression;
 use expression::Role;
 use expression::same;
 use rt0::body_at;
-use rules::row;
 use rules::source;
 ghost use mathlib.Core.Path.{_≡_};
 ghost use Prim.Native.Nat.{_<_, _≤_};
 ghost use Rattle.rt0.specs.Pool.{poolOf};
-ghost use Rattle.rules.specs.Columns.{Column, headRow};
+ghost use Rattle.rules.specs.Table.{rowOf};
+ghost use Rattle.rules.specs.Columns.{Column, headRow, bodyFirst, firstRow};
 ghost use Rattle.relation.specs.Relation.{Relation, ownRole, atOnce, Asked};
 ghost use Rattle.relation.specs.Question.{startsAt};
 
-// Whether q is B.m, with B in the role a.
+// Whether q is B.m, with B in the role a, whose row is r.
 fn own_role<'a>(
     n: usize,
     heads: &'a [u16; 256],
@@ -25,8 +25,9 @@ fn own_role<'a>(
     a: Role,
     m: u16,
     q: Role,
+    r: usize,
 ) -> bool
-    requires { ⌜ n ≤ 128 ⌝ }
+    requires { ⌜ (n ≤ 128) × (r ≡ rowOf (poolOf n (now heads) (now kinds) (now numbers)) a) ⌝ }
     ensures { λ r. ⌜ r ≡ ownRole (poolOf n (now (heads .entry)) (now (kinds .entry)) (now (numbers .entry))) (now (rows .entry)) a m (Expression.Role q) ⌝ }
 {
     if q.name != m {
@@ -36,11 +37,10 @@ fn own_role<'a>(
     if s >= 128 {
         return false;
     }
-    let r = row(n, heads, kinds, numbers, a);
     bit(rows, r, s)
 }
 
-// Whether e is B.m, with B in the role a.
+// Whether e is B.m, with B in the role a, whose row is r.
 fn own<'a>(
     n: usize,
     heads: &'a [u16; 256],
@@ -50,20 +50,21 @@ fn own<'a>(
     a: Role,
     m: u16,
     e: Expression,
+    r: usize,
 ) -> bool
-    requires { ⌜ n ≤ 128 ⌝ }
+    requires { ⌜ (n ≤ 128) × (r ≡ rowOf (poolOf n (now heads) (now kinds) (now numbers)) a) ⌝ }
     ensures { λ r. ⌜ r ≡ ownRole (poolOf n (now (heads .entry)) (now (kinds .entry)) (now (numbers .entry))) (now (rows .entry)) a m e ⌝ }
 {
     match e {
         Expression::Entity(_) => false,
-        Expression::Role(q) => own_role(n, heads, kinds, numbers, rows, a, m, q),
+        Expression::Role(q) => own_role(n, heads, kinds, numbers, rows, a, m, q, r),
         Expression::Linked(_, _) => false,
         Expression::Intersection(_) => false,
         Expression::Goal(_) => false,
     }
 }
 
-// Whether x is from e at once: it is e, or a link that leads to e.
+// Whether x is from e at once: it is e, or a link that leads to e. The membership row of x is r.
 pub fn once<'a>(
     n: usize,
     heads: &'a [u16; 256],
@@ -72,8 +73,9 @@ pub fn once<'a>(
     rows: &'a [u64; 260],
     e: Expression,
     x: Expression,
+    r: usize,
 ) -> bool
-    requires { ⌜ n ≤ 128 ⌝ }
+    requires { ⌜ (n ≤ 128) × (r ≡ firstRow (poolOf n (now heads) (now kinds) (now numbers)) x) ⌝ }
     ensures { λ r. ⌜ r ≡ atOnce (poolOf n (now (heads .entry)) (now (kinds .entry)) (now (numbers .entry))) (now (rows .entry)) e x ⌝ }
 {
     if same(x, e) {
@@ -82,7 +84,7 @@ pub fn once<'a>(
     match x {
         Expression::Entity(_) => false,
         Expression::Role(_) => false,
-        Expression::Linked(a, m) => own(n, heads, kinds, numbers, rows, a, m, e),
+        Expression::Linked(a, m) => own(n, heads, kinds, numbers, rows, a, m, e, r),
         Expression::Intersection(_) => false,
         Expression::Goal(_) => false,
     }
@@ -94,26 +96,20 @@ fn starts<'a>(
     heads: &'a [u16; 256],
     kinds: &'a [u8; 256],
     numbers: &'a [u16; 1024],
+    first: &'a [usize; 128],
     on: &'a [u8; 128],
     rows: &'a [u64; 260],
     e: Expression,
     i: usize,
 ) -> bool
-    requires { ⌜ (n ≤ 128) × (i < 128) ⌝ }
+    requires { ⌜ (n ≤ 128) × (i < n) × Column (bodyFirst (poolOf n (now heads) (now kinds) (now numbers))) 128 130 n (now first) ⌝ }
     ensures { λ r. ⌜ r ≡ startsAt (poolOf n (now (heads .entry)) (now (kinds .entry)) (now (numbers .entry))) (now (on .entry)) (now (rows .entry)) e i ⌝ }
 {
     if on[i] != 1 {
         return false;
     }
-    once(
-        n,
-        heads,
-        kinds,
-        numbers,
-        rows,
-        e,
-        body_at(n, heads, kinds, numbers, i),
-    )
+    let x = body_at(n, heads, kinds, numbers, i);
+    once(n, heads, kinds, numbers, rows, e, x, first[i])
 }
 
 // The rows that a question about e starts from.
@@ -123,11 +119,12 @@ pub fn asked<'a>(
     kinds: &'a [u8; 256],
     numbers: &'a [u16; 1024],
     head: &'a [usize; 128],
+    first: &'a [usize; 128],
     on: &'a [u8; 128],
     mem: &'a [u64; 260],
     e: Expression,
 ) -> [u64; 260]
-    requires { ⌜ (n ≤ 128) × Column (headRow (poolOf n (now heads) (now kinds) (now numbers))) 128 130 n (now head) × Relation (poolOf n (now heads) (now kinds) (now numbers)) (now on) (now mem) ⌝ }
+    requires { ⌜ (n ≤ 128) × Column (headRow (poolOf n (now heads) (now kinds) (now numbers))) 128 130 n (now head) × Column (bodyFirst (poolOf n (now heads) (now kinds) (now numbers))) 128 130 n (now first) × Relation (poolOf n (now heads) (now kinds) (now numbers)) (now on) (now mem) ⌝ }
     ensures { λ r. ⌜ Asked (poolOf n (now (heads .entry)) (now (kinds .entry)) (now (numbers .entry))) (now (on .entry)) (now (mem .entry)) e r ⌝ }
 {
     let mut rows = [0u64; 260];
@@ -135,7 +132,7 @@ pub fn asked<'a>(
     mark(&mut rows, r, 0);
     let mut i = 0;
     while i < n {
-        if starts(n, heads, kinds, numbers, on, mem, e, i) {
+        if starts(n, heads, kinds, numbers, first, on, mem, e, i) {
             mark(&mut rows, head[i], 0);
         }
         i += 1;

@@ -4,3 +4,5 @@ pub mod Exact
 pub mod Columns
 pub mod ColumnLaws
 pub mod Ruled
+pub mod Digits
+pub mod DigitLaws

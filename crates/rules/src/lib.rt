@@ -13,11 +13,18 @@ ghost use Prim.Native.Nat.{_<_, _≤_, _*_};
 ghost use Rattle.rt0.specs.Pool.{poolOf};
 ghost use Rattle.rules.specs.Table.{rowOf, third, fourth};
 ghost use Rattle.rules.specs.Columns.{fourRows, firstRow, isLinked, Column, headRow, bodyFirst, PartsTo};
+ghost use Rattle.rules.specs.Digits.{HeadsIn};
 ghost use Rattle.rules.specs.Ruled.{Ruled};
 
+mod digits;
 mod linking;
 mod rows;
 
+use digits::find_row;
+pub use digits::find_source;
+pub use digits::note_bodies;
+use digits::note_heads;
+pub use digits::open_table;
 use linking::has_link;
 use linking::has_links;
 pub use linking::linkable;
@@ -69,21 +76,23 @@ fn meet_rows<'a>(
     heads: &'a [u16; 256],
     kinds: &'a [u8; 256],
     numbers: &'a [u16; 1024],
+    entity: &'a [u64; 260],
+    name: &'a [u64; 260],
     p: Parts,
 ) -> Four
-    requires { ⌜ n ≤ 128 ⌝ }
+    requires { ⌜ (n ≤ 128) × HeadsIn (poolOf n (now heads) (now kinds) (now numbers)) n (now entity) (now name) ⌝ }
     ensures { λ r. ⌜ r ≡ fourRows (rowOf (poolOf n (now (heads .entry)) (now (kinds .entry)) (now (numbers .entry)))) (Expression.Intersection p) ⌝ }
 {
-    let a = row(n, heads, kinds, numbers, p.first);
-    let b = row(n, heads, kinds, numbers, p.second);
+    let a = find_row(n, heads, kinds, numbers, entity, name, p.first);
+    let b = find_row(n, heads, kinds, numbers, entity, name, p.second);
     if p.count == 2 {
         return Four { a, b, c: a, d: a };
     }
-    let c = row(n, heads, kinds, numbers, p.third);
+    let c = find_row(n, heads, kinds, numbers, entity, name, p.third);
     if p.count == 3 {
         return Four { a, b, c, d: a };
     }
-    let d = row(n, heads, kinds, numbers, p.fourth);
+    let d = find_row(n, heads, kinds, numbers, entity, name, p.fourth);
     Four { a, b, c, d }
 }
 
@@ -93,9 +102,11 @@ pub fn rows_of<'a>(
     heads: &'a [u16; 256],
     kinds: &'a [u8; 256],
     numbers: &'a [u16; 1024],
+    entity: &'a [u64; 260],
+    name: &'a [u64; 260],
     x: Expression,
 ) -> Four
-    requires { ⌜ n ≤ 128 ⌝ }
+    requires { ⌜ (n ≤ 128) × HeadsIn (poolOf n (now heads) (now kinds) (now numbers)) n (now entity) (now name) ⌝ }
     ensures { λ r. ⌜ r ≡ fourRows (rowOf (poolOf n (now (heads .entry)) (now (kinds .entry)) (now (numbers .entry)))) x ⌝ }
 {
     match x {
@@ -106,7 +117,7 @@ pub fn rows_of<'a>(
             d: 128,
         },
         Expression::Role(p) => {
-            let r = row(n, heads, kinds, numbers, p);
+            let r = find_row(n, heads, kinds, numbers, entity, name, p);
             Four {
                 a: r,
                 b: r,
@@ -120,7 +131,7 @@ pub fn rows_of<'a>(
             c: 128,
             d: 128,
         },
-        Expression::Intersection(p) => meet_rows(n, heads, kinds, numbers, p),
+        Expression::Intersection(p) => meet_rows(n, heads, kinds, numbers, entity, name, p),
         Expression::Goal(_) => Four {
             a: 128,
             b: 128,
@@ -136,15 +147,17 @@ pub fn first_of<'a>(
     heads: &'a [u16; 256],
     kinds: &'a [u8; 256],
     numbers: &'a [u16; 1024],
+    entity: &'a [u64; 260],
+    name: &'a [u64; 260],
     x: Expression,
 ) -> usize
-    requires { ⌜ n ≤ 128 ⌝ }
+    requires { ⌜ (n ≤ 128) × HeadsIn (poolOf n (now heads) (now kinds) (now numbers)) n (now entity) (now name) ⌝ }
     ensures { λ r. ⌜ r ≡ firstRow (poolOf n (now (heads .entry)) (now (kinds .entry)) (now (numbers .entry))) x ⌝ }
 {
     match x {
         Expression::Entity(_) => 128,
         Expression::Role(_) => 128,
-        Expression::Linked(a, _) => row(n, heads, kinds, numbers, a),
+        Expression::Linked(a, _) => find_row(n, heads, kinds, numbers, entity, name, a),
         Expression::Intersection(_) => 128,
         Expression::Goal(_) => 128,
     }
@@ -169,15 +182,17 @@ fn head_rows<'a>(
     heads: &'a [u16; 256],
     kinds: &'a [u8; 256],
     numbers: &'a [u16; 1024],
+    entity: &'a [u64; 260],
+    name: &'a [u64; 260],
 ) -> [usize; 128]
-    requires { ⌜ n ≤ 128 ⌝ }
+    requires { ⌜ (n ≤ 128) × HeadsIn (poolOf n (now heads) (now kinds) (now numbers)) n (now entity) (now name) ⌝ }
     ensures { λ r. ⌜ Column (headRow (poolOf n (now (heads .entry)) (now (kinds .entry)) (now (numbers .entry)))) 128 130 n r ⌝ }
 {
     let mut head = [128usize; 128];
     let mut i = 0;
     while i < n {
         let p = head_at(n, heads, kinds, numbers, i);
-        let r = row(n, heads, kinds, numbers, p);
+        let r = find_row(n, heads, kinds, numbers, entity, name, p);
         head[i] = r;
         i += 1;
     }
@@ -190,9 +205,11 @@ fn first_at<'a>(
     heads: &'a [u16; 256],
     kinds: &'a [u8; 256],
     numbers: &'a [u16; 1024],
+    entity: &'a [u64; 260],
+    name: &'a [u64; 260],
     i: usize,
 ) -> usize
-    requires { ⌜ (n ≤ 128) × (i < 128) ⌝ }
+    requires { ⌜ (n ≤ 128) × (i < 128) × HeadsIn (poolOf n (now heads) (now kinds) (now numbers)) n (now entity) (now name) ⌝ }
     ensures { λ r. ⌜ r ≡ bodyFirst (poolOf n (now (heads .entry)) (now (kinds .entry)) (now (numbers .entry))) i ⌝ }
 {
     if !has_link(n, heads, kinds, numbers, i) {
@@ -203,6 +220,8 @@ fn first_at<'a>(
         heads,
         kinds,
         numbers,
+        entity,
+        name,
         body_at(n, heads, kinds, numbers, i),
     )
 }
@@ -213,14 +232,16 @@ fn first_rows<'a>(
     heads: &'a [u16; 256],
     kinds: &'a [u8; 256],
     numbers: &'a [u16; 1024],
+    entity: &'a [u64; 260],
+    name: &'a [u64; 260],
 ) -> [usize; 128]
-    requires { ⌜ n ≤ 128 ⌝ }
+    requires { ⌜ (n ≤ 128) × HeadsIn (poolOf n (now heads) (now kinds) (now numbers)) n (now entity) (now name) ⌝ }
     ensures { λ r. ⌜ Column (bodyFirst (poolOf n (now (heads .entry)) (now (kinds .entry)) (now (numbers .entry)))) 128 130 n r ⌝ }
 {
     let mut first = [128usize; 128];
     let mut i = 0;
     while i < n {
-        let r = first_at(n, heads, kinds, numbers, i);
+        let r = first_at(n, heads, kinds, numbers, entity, name, i);
         first[i] = r;
         i += 1;
     }
@@ -233,15 +254,17 @@ fn part_rows<'a>(
     heads: &'a [u16; 256],
     kinds: &'a [u8; 256],
     numbers: &'a [u16; 1024],
+    entity: &'a [u64; 260],
+    name: &'a [u64; 260],
 ) -> [usize; 512]
-    requires { ⌜ n ≤ 128 ⌝ }
+    requires { ⌜ (n ≤ 128) × HeadsIn (poolOf n (now heads) (now kinds) (now numbers)) n (now entity) (now name) ⌝ }
     ensures { λ r. ⌜ PartsTo (rowOf (poolOf n (now (heads .entry)) (now (kinds .entry)) (now (numbers .entry)))) (poolOf n (now (heads .entry)) (now (kinds .entry)) (now (numbers .entry))) n r ⌝ }
 {
     let mut part = [128usize; 512];
     let mut i = 0;
     while i < n {
         let x = body_at(n, heads, kinds, numbers, i);
-        let r = rows_of(n, heads, kinds, numbers, x);
+        let r = rows_of(n, heads, kinds, numbers, entity, name, x);
         let at = i * 4;
         part[at] = r.a;
         part[at + 1] = r.b;
@@ -270,9 +293,12 @@ pub fn rules_of<'a>(
     requires { ⌜ n ≤ 128 ⌝ }
     ensures { λ r. ⌜ Ruled (poolOf n (now (heads .entry)) (now (kinds .entry)) (now (numbers .entry))) r ⌝ }
 {
-    let head = head_rows(n, heads, kinds, numbers);
-    let part = part_rows(n, heads, kinds, numbers);
-    let first = first_rows(n, heads, kinds, numbers);
+    let mut entity = [0u64; 260];
+    let mut name = [0u64; 260];
+    note_heads(n, heads, kinds, numbers, &mut entity, &mut name);
+    let head = head_rows(n, heads, kinds, numbers, &entity, &name);
+    let part = part_rows(n, heads, kinds, numbers, &entity, &name);
+    let first = first_rows(n, heads, kinds, numbers, &entity, &name);
     let lit = has_links(n, heads, kinds, numbers);
     let links = linkable(n, heads, kinds, numbers, &head, lit);
     let src = links.src;

@@ -1,6 +1,7 @@
 // What linked bodies go by: the heads whose entity has a bit, and which of them each rule names.
 use crate::Links;
-use crate::rows::source;
+use crate::digits::find_source;
+use crate::digits::note_bodies;
 use closure::mark;
 use expression::Expression;
 use rt0::body_at;
@@ -11,6 +12,7 @@ ghost use lib.ListN.{length};
 ghost use Rattle.rt0.specs.Pool.{poolOf};
 ghost use Rattle.rules.specs.Table.{anyTo};
 ghost use Rattle.rules.specs.Columns.{Column, headRow, Able, NamedRow, NamedLink, NamesTo, isNamed, hasLink, linkSource, SameLink, copied};
+ghost use Rattle.rules.specs.Digits.{BodiesIn};
 
 // Whether body i is a link.
 pub fn has_link<'a>(
@@ -53,15 +55,16 @@ fn link_source<'a>(
     kinds: &'a [u8; 256],
     numbers: &'a [u16; 1024],
     head: &'a [usize; 128],
+    body: &'a [u64; 260],
     j: usize,
 ) -> usize
-    requires { ⌜ (n ≤ 128) × (j < n) × Column (headRow (poolOf n (now heads) (now kinds) (now numbers))) 128 130 n (now head) ⌝ }
+    requires { ⌜ (n ≤ 128) × (j < n) × Column (headRow (poolOf n (now heads) (now kinds) (now numbers))) 128 130 n (now head) × BodiesIn (poolOf n (now heads) (now kinds) (now numbers)) n (now body) ⌝ }
     ensures { λ r. ⌜ r ≡ linkSource (poolOf n (now (heads .entry)) (now (kinds .entry)) (now (numbers .entry))) j ⌝ }
 {
     if head[j] != j {
         return 128;
     }
-    source(n, heads, kinds, numbers, heads[j * 2])
+    find_source(n, heads, kinds, numbers, body, heads[j * 2])
 }
 
 // The heads that links can go by. Without a linked expression there is no use for them.
@@ -82,8 +85,10 @@ pub fn linkable<'a>(
     if !lit {
         return Links { src, able };
     }
+    let mut body = [0u64; 260];
+    note_bodies(n, heads, kinds, numbers, &mut body);
     while j < n {
-        let s = link_source(n, heads, kinds, numbers, head, j);
+        let s = link_source(n, heads, kinds, numbers, head, &body, j);
         if s < 128 {
             src[j] = s;
             able[j] = 1;

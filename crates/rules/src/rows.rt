@@ -6,7 +6,7 @@ ghost use Rattle.rt0.specs.Pool.{poolOf};
 ghost use Rattle.rules.specs.Table.{isHead, rowOf, isBody, bitOf};
 
 // Whether credential j has p as its head.
-fn is_head<'a>(
+pub fn is_head<'a>(
     n: usize,
     heads: &'a [u16; 256],
     kinds: &'a [u8; 256],
@@ -45,7 +45,7 @@ pub fn row<'a>(
 }
 
 // Whether credential s has the entity b as its body.
-fn is_body<'a>(
+pub fn is_body<'a>(
     n: usize,
     heads: &'a [u16; 256],
     kinds: &'a [u8; 256],

@@ -6,6 +6,7 @@ use Rattle.rt0.specs.declared.Pool.{Pool}
 use Rattle.rt0.specs.Pool.{poolOf}
 use Rattle.closure.specs.declared.Rules.{Rules}
 use Rattle.closure.specs.Rules.{rulesOf}
+use Rattle.rules.specs.DigitLaws.{open-bodies}
 use Rattle.rules.specs.Ruled.{compiled-plain}
 use Rattle.relation.specs.Answer.{related}
 use Rattle.relation.specs.QuestionLaws.{start-more}
@@ -27,8 +28,11 @@ element-copy-out-woken c = search needs
 woken-requires : tie.Need-woken-requires
 woken-requires c κs = (c .before .pre .2 .head .under .under (c .before .args .i), omega arith)
 
+open-table-requires : tie.Need-open-table-requires
+open-table-requires c κs = search needs
+
 seed-requires : tie.Need-seed-requires
-seed-requires c κs = search needs
+seed-requires c κs = (c .before .before .before .before .before .pre .0, c .before .before .before .before .before .pre .1, c .before .before .before .before .before .pre .2 .head, open-bodies (pool (c .before .before .before .before .before)) (c .before .before .before .before .before .args .n) _ (c .before .before .before .before .before .pre .0) (c .before .before .open-table .ensures), c .before .before .before .before .before .pre .4 .sized)
 
 element-write-on : tie.Need-element-write-on
 element-write-on c = search needs
@@ -39,8 +43,8 @@ close-requires c κs = search needs
 returns : tie.Need-returns
 returns c = (
   refl,
-  related (pool (c .before .before .before .before .before .before .before .before)) _ (c .before .before .before .before .before .before .before .before .pre .0) (E.Entity 0) (rules (c .before .before .before .before .before .before .before .before)) (compiled-plain (pool (c .before .before .before .before .before .before .before .before)) (c .before .before .before .before .before .before .before .before .pre .0) (rules (c .before .before .before .before .before .before .before .before)) (c .before .before .before .before .before .before .before .before .pre .2)) (c .before .before .before .before .before .before .before .before .pre .2 .wide) _ _ _
-      (start-more (pool (c .before .before .before .before .before .before .before .before)) _ (c .before .before .before .before .before .before .before .before .pre .0) (c .before .before .before .before .before .before .before .before .args .on .now) (c .before .before .before .before .before .before .before .before .args .rows .now) _ (c .before .before .before .before .before .before .before .before .args .i) (c .before .before .before .before .before .before .before .before .pre .1) (omega (arith, c .before .before .before .before .before .before .before .before .pre .3)) refl (c .before .before .before .before .before .before .before .before .pre .4) (c .before .before .before .before .seed .ensures)) (c .close .ensures),
+  related (pool (c .before .before .before .before .before .before .before .before .before .before)) _ (c .before .before .before .before .before .before .before .before .before .before .pre .0) (E.Entity 0) (rules (c .before .before .before .before .before .before .before .before .before .before)) (compiled-plain (pool (c .before .before .before .before .before .before .before .before .before .before)) (c .before .before .before .before .before .before .before .before .before .before .pre .0) (rules (c .before .before .before .before .before .before .before .before .before .before)) (c .before .before .before .before .before .before .before .before .before .before .pre .2)) (c .before .before .before .before .before .before .before .before .before .before .pre .2 .wide) _ _ _
+      (start-more (pool (c .before .before .before .before .before .before .before .before .before .before)) _ (c .before .before .before .before .before .before .before .before .before .before .pre .0) (c .before .before .before .before .before .before .before .before .before .before .args .on .now) (c .before .before .before .before .before .before .before .before .before .before .args .rows .now) _ (c .before .before .before .before .before .before .before .before .before .before .args .i) (c .before .before .before .before .before .before .before .before .before .before .pre .1) (omega (arith, c .before .before .before .before .before .before .before .before .before .before .pre .3)) refl (c .before .before .before .before .before .before .before .before .before .before .pre .4) (c .before .before .before .before .seed .ensures)) (c .close .ensures),
 )
 
 pub switch-on-spec : {M : Type 1} → statement M
@@ -50,6 +54,7 @@ switch-on-spec =
     mul-woken
     element-copy-out-woken
     woken-requires
+    open-table-requires
     seed-requires
     element-write-on
     close-requires

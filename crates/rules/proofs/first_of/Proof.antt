@@ -11,8 +11,8 @@ enum-told-2 c = search needs
 enum-known-x : tie.Need-enum-known-x
 enum-known-x c = search needs
 
-row-requires : tie.Need-row-requires
-row-requires c κs = search needs
+find-row-requires : tie.Need-find-row-requires
+find-row-requires c κs = search needs
 
 enum-told-3 : tie.Need-enum-told-3
 enum-told-3 c = search needs
@@ -21,19 +21,19 @@ enum-told-4 : tie.Need-enum-told-4
 enum-told-4 c = search needs
 
 returns : tie.Need-returns
-returns c = search needs
+returns c = rw (c .enum-told .given .1)
 
 returns-2 : tie.Need-returns-2
-returns-2 c = search needs
+returns-2 c = rw (c .enum-told2 .given .1)
 
 returns-3 : tie.Need-returns-3
-returns-3 c = rw (c .before .before .x .given .1) (c .row .ensures)
+returns-3 c = rw (c .before .before .x .given .1) (c .find-row .ensures)
 
 returns-4 : tie.Need-returns-4
-returns-4 c = search needs
+returns-4 c = rw (c .enum-told3 .given .1)
 
 returns-5 : tie.Need-returns-5
-returns-5 c = search needs
+returns-5 c = rw (c .enum-told4 .given .1)
 
 pub first-of-spec : {M : Type 1} → statement M
 first-of-spec =
@@ -42,7 +42,7 @@ first-of-spec =
     enum-told
     enum-told-2
     enum-known-x
-    row-requires
+    find-row-requires
     enum-told-3
     enum-told-4
     returns

@@ -8,10 +8,10 @@ use Rattle.rules.proofs.first_rows.Statement.{statement}
 use Rattle.rules.proofs.first_rows.Tie as tie
 
 abbrev Inv-loop : tie.InvT-loop
-Inv-loop n heads kinds numbers first₀ i₀ first i = Column (bodyFirst (poolOf n heads kinds numbers)) 128 130 i first × (i ≤ n)
+Inv-loop n heads kinds numbers entity name first₀ i₀ first i = Column (bodyFirst (poolOf n heads kinds numbers)) 128 130 i first × (i ≤ n)
 
 abbrev μ-loop : tie.MeasureT-loop
-μ-loop n heads kinds numbers first₀ i₀ first i = n - i
+μ-loop n heads kinds numbers entity name first₀ i₀ first i = n - i
 
 abbrev pool : (c : tie.Start Inv-loop μ-loop) → Pool
 pool c = poolOf (c .args .n) (c .args .heads .now) (c .args .kinds .now) (c .args .numbers .now)
@@ -20,7 +20,7 @@ loop-holds : tie.Need-loop-holds Inv-loop μ-loop
 loop-holds c = (column-start _ 128 130 128 (omega arith) (omega arith), omega arith)
 
 first-at-requires : tie.Need-first-at-requires Inv-loop μ-loop
-first-at-requires c κs = (c .before .before .pre, omega arith)
+first-at-requires c κs = (c .before .before .pre .0, omega arith, c .before .before .pre .1)
 
 mul-first : tie.Need-mul-first Inv-loop μ-loop
 mul-first c = omega arith
@@ -35,7 +35,7 @@ loop-less : tie.Need-loop-less Inv-loop μ-loop
 loop-less c = omega arith
 
 loop-again : tie.Need-loop-again Inv-loop μ-loop
-loop-again c = (column-add (bodyFirst (pool (c .before .before .before))) 128 130 (c .before .before .loop .i) (c .first-at .result) (c .before .before .loop .first) (omega arith) (c .first-at .ensures) (rw (c .first-at .ensures) (first-small (pool (c .before .before .before)) (c .before .before .before .pre) (bodyAt (pool (c .before .before .before)) (c .before .before .loop .i)))) (c .before .before .loop .inv .0), omega arith)
+loop-again c = (column-add (bodyFirst (pool (c .before .before .before))) 128 130 (c .before .before .loop .i) (c .first-at .result) (c .before .before .loop .first) (omega arith) (c .first-at .ensures) (rw (c .first-at .ensures) (first-small (pool (c .before .before .before)) (c .before .before .before .pre .0) (bodyAt (pool (c .before .before .before)) (c .before .before .loop .i)))) (c .before .before .loop .inv .0), omega arith)
 
 returns : tie.Need-returns Inv-loop μ-loop
 returns c = column-end _ 128 130 (c .before .loop .i) (c .before .before .args .n) (c .before .loop .first) (c .before .loop .inv .1) (c .loop-test .left) (c .before .loop .inv .0)

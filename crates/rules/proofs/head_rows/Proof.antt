@@ -10,10 +10,10 @@ use Rattle.rules.proofs.head_rows.Statement.{statement}
 use Rattle.rules.proofs.head_rows.Tie as tie
 
 abbrev Inv-loop : tie.InvT-loop
-Inv-loop n heads kinds numbers head₀ i₀ head i = Column (headRow (poolOf n heads kinds numbers)) 128 130 i head × (i ≤ n)
+Inv-loop n heads kinds numbers entity name head₀ i₀ head i = Column (headRow (poolOf n heads kinds numbers)) 128 130 i head × (i ≤ n)
 
 abbrev μ-loop : tie.MeasureT-loop
-μ-loop n heads kinds numbers head₀ i₀ head i = n - i
+μ-loop n heads kinds numbers entity name head₀ i₀ head i = n - i
 
 abbrev pool : (c : tie.Start Inv-loop μ-loop) → Pool
 pool c = poolOf (c .args .n) (c .args .heads .now) (c .args .kinds .now) (c .args .numbers .now)
@@ -24,8 +24,8 @@ loop-holds c = (column-start _ 128 130 128 (omega arith) (omega arith), omega ar
 head-at-requires : tie.Need-head-at-requires Inv-loop μ-loop
 head-at-requires c κs = omega arith
 
-row-requires : tie.Need-row-requires Inv-loop μ-loop
-row-requires c κs = omega arith
+find-row-requires : tie.Need-find-row-requires Inv-loop μ-loop
+find-row-requires c κs = c .before .before .before .pre
 
 mul-head : tie.Need-mul-head Inv-loop μ-loop
 mul-head c = omega arith
@@ -40,7 +40,7 @@ loop-less : tie.Need-loop-less Inv-loop μ-loop
 loop-less c = omega arith
 
 loop-again : tie.Need-loop-again Inv-loop μ-loop
-loop-again c = (column-add (headRow (pool (c .before .before .before .before))) 128 130 (c .before .before .before .loop .i) (c .row .result) (c .before .before .before .loop .head) (omega arith) (c .row .ensures ∙ ap (rowOf (pool (c .before .before .before .before))) (c .before .head-at .ensures)) (rw (c .row .ensures) (row-small (pool (c .before .before .before .before)) (c .before .before .before .before .pre) (c .before .head-at .result))) (c .before .before .before .loop .inv .0), omega arith)
+loop-again c = (column-add (headRow (pool (c .before .before .before .before))) 128 130 (c .before .before .before .loop .i) (c .find-row .result) (c .before .before .before .loop .head) (omega arith) (c .find-row .ensures ∙ ap (rowOf (pool (c .before .before .before .before))) (c .before .head-at .ensures)) (rw (c .find-row .ensures) (row-small (pool (c .before .before .before .before)) (c .before .before .before .before .pre .0) (c .before .head-at .result))) (c .before .before .before .loop .inv .0), omega arith)
 
 returns : tie.Need-returns Inv-loop μ-loop
 returns c = column-end _ 128 130 (c .before .loop .i) (c .before .before .args .n) (c .before .loop .head) (c .before .loop .inv .1) (c .loop-test .left) (c .before .loop .inv .0)
@@ -53,7 +53,7 @@ head-rows-spec =
     μ-loop
     loop-holds
     head-at-requires
-    row-requires
+    find-row-requires
     mul-head
     array-write-head
     add-i

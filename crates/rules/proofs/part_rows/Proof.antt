@@ -10,10 +10,10 @@ use Rattle.rules.proofs.part_rows.Statement.{statement}
 use Rattle.rules.proofs.part_rows.Tie as tie
 
 abbrev Inv-loop : tie.InvT-loop
-Inv-loop n heads kinds numbers part₀ i₀ part i = PartsTo (rowOf (poolOf n heads kinds numbers)) (poolOf n heads kinds numbers) i part × (i ≤ n)
+Inv-loop n heads kinds numbers entity name part₀ i₀ part i = PartsTo (rowOf (poolOf n heads kinds numbers)) (poolOf n heads kinds numbers) i part × (i ≤ n)
 
 abbrev μ-loop : tie.MeasureT-loop
-μ-loop n heads kinds numbers part₀ i₀ part i = n - i
+μ-loop n heads kinds numbers entity name part₀ i₀ part i = n - i
 
 abbrev pool : (c : tie.Start Inv-loop μ-loop) → Pool
 pool c = poolOf (c .args .n) (c .args .heads .now) (c .args .kinds .now) (c .args .numbers .now)
@@ -25,7 +25,7 @@ body-at-requires : tie.Need-body-at-requires Inv-loop μ-loop
 body-at-requires c κs = omega arith
 
 rows-of-requires : tie.Need-rows-of-requires Inv-loop μ-loop
-rows-of-requires c κs = omega arith
+rows-of-requires c κs = c .before .before .before .pre
 
 mul-at : tie.Need-mul-at Inv-loop μ-loop
 mul-at c = omega arith
@@ -70,7 +70,7 @@ loop-less : tie.Need-loop-less Inv-loop μ-loop
 loop-less c = omega arith
 
 loop-again : tie.Need-loop-again Inv-loop μ-loop
-loop-again c = (parts-add (rowOf (pool (c .before .before .before .before))) (pool (c .before .before .before .before)) (row-small (pool (c .before .before .before .before)) (c .before .before .before .before .pre)) (c .before .before .before .loop .i) (c .before .before .before .loop .part) (c .rows-of .result) (omega arith) (c .rows-of .ensures ∙ ap (fourRows (rowOf (pool (c .before .before .before .before)))) (c .before .body-at .ensures)) (c .before .before .before .loop .inv .0), omega arith)
+loop-again c = (parts-add (rowOf (pool (c .before .before .before .before))) (pool (c .before .before .before .before)) (row-small (pool (c .before .before .before .before)) (c .before .before .before .before .pre .0)) (c .before .before .before .loop .i) (c .before .before .before .loop .part) (c .rows-of .result) (omega arith) (c .rows-of .ensures ∙ ap (fourRows (rowOf (pool (c .before .before .before .before)))) (c .before .body-at .ensures)) (c .before .before .before .loop .inv .0), omega arith)
 
 returns : tie.Need-returns Inv-loop μ-loop
 returns c = parts-end _ _ (c .before .loop .i) (c .before .before .args .n) (c .before .loop .part) (c .before .loop .inv .1) (c .loop-test .left) (c .before .loop .inv .0)

@@ -8,8 +8,8 @@ enum-told c = search needs
 enum-known-x : tie.Need-enum-known-x
 enum-known-x c = search needs
 
-row-requires : tie.Need-row-requires
-row-requires c κs = search needs
+find-row-requires : tie.Need-find-row-requires
+find-row-requires c κs = search needs
 
 enum-told-2 : tie.Need-enum-told-2
 enum-told-2 c = search needs
@@ -27,7 +27,7 @@ returns : tie.Need-returns
 returns c = rw (c .enum-told .given .1)
 
 returns-2 : tie.Need-returns-2
-returns-2 c = rw (c .before .before .x .given .1) (λ i. record { a = c .row .ensures i; b = c .row .ensures i; c = c .row .ensures i; d = c .row .ensures i })
+returns-2 c = rw (c .before .before .x .given .1) (λ i. record { a = c .find-row .ensures i; b = c .find-row .ensures i; c = c .find-row .ensures i; d = c .find-row .ensures i })
 
 returns-3 : tie.Need-returns-3
 returns-3 c = rw (c .enum-told2 .given .1)
@@ -44,7 +44,7 @@ rows-of-spec =
     (tie.spec
     enum-told
     enum-known-x
-    row-requires
+    find-row-requires
     enum-told-2
     enum-known-x-2
     meet-rows-requires

@@ -1,28 +1,32 @@
+use Prim.Native.Nat.{ℕ}
 use mathlib.Core.Path.{refl, _∙_}
-use borrow.Author.Needs.{needs}
+use lib.ListN.{length-replicate}
 use Rattle.rules.proofs.rules_of.Statement.{statement}
 use Rattle.rules.proofs.rules_of.Tie as tie
 
+note-heads-requires : tie.Need-note-heads-requires
+note-heads-requires c κs = (c .before .before .pre, length-replicate {A = ℕ} 260 0, length-replicate {A = ℕ} 260 0)
+
 head-rows-requires : tie.Need-head-rows-requires
-head-rows-requires c κs = search needs
+head-rows-requires c κs = (c .before .before .before .before .before .pre, c .before .before .note-heads .ensures)
 
 part-rows-requires : tie.Need-part-rows-requires
-part-rows-requires c κs = search needs
+part-rows-requires c κs = (c .before .before .before .before .before .before .before .before .pre, c .before .before .before .before .before .note-heads .ensures)
 
 first-rows-requires : tie.Need-first-rows-requires
-first-rows-requires c κs = search needs
+first-rows-requires c κs = (c .before .before .before .before .before .before .before .before .before .before .before .pre, c .before .before .before .before .before .before .before .before .note-heads .ensures)
 
 has-links-requires : tie.Need-has-links-requires
-has-links-requires c κs = search needs
+has-links-requires c κs = c .before .before .before .before .before .before .before .before .before .before .before .before .pre
 
 linkable-requires : tie.Need-linkable-requires
-linkable-requires c κs = search needs
+linkable-requires c κs = (c .before .before .before .before .before .before .before .before .before .before .before .before .before .before .pre, c .before .before .before .before .before .before .before .before .head-rows .ensures)
 
 names-requires : tie.Need-names-requires
-names-requires c κs = search needs
+names-requires c κs = c .before .before .before .before .before .before .before .before .before .before .before .before .before .before .before .before .before .before .pre
 
 words-for-requires : tie.Need-words-for-requires
-words-for-requires c κs = search needs
+words-for-requires c κs = c .before .before .before .before .before .before .before .before .before .before .before .before .before .before .before .before .before .before .before .pre
 
 returns : tie.Need-returns
 returns c =
@@ -30,8 +34,8 @@ returns c =
       count = refl;
       wide = c .words-for .ensures .0;
       words = c .words-for .ensures .1;
-      head = c .before .before .before .before .before .before .before .before .before .before .head-rows .ensures;
-      part = c .before .before .before .before .before .before .before .before .before .part-rows .ensures;
+      head = c .before .before .before .before .before .before .before .before .before .before .before .before .before .before .head-rows .ensures;
+      part = c .before .before .before .before .before .before .before .before .before .before .before .part-rows .ensures;
       first = c .before .before .before .before .before .before .before .before .first-rows .ensures;
       lit = c .before .before .before .before .before .before .before .has-links .result;
       able = c .before .before .before .before .before .linkable .result .able;
@@ -44,6 +48,7 @@ pub rules-of-spec : {M : Type 1} → statement M
 rules-of-spec =
     tie.close
     (tie.spec
+    note-heads-requires
     head-rows-requires
     part-rows-requires
     first-rows-requires

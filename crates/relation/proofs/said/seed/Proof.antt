@@ -16,19 +16,19 @@ element-copy-out-if1 : tie.Need-element-copy-out-if1
 element-copy-out-if1 c = search needs
 
 returns : tie.Need-returns
-returns c = seed-none (pool (c .before .before)) (c .before .before .pre .0) (c .before .before .args .i) (c .before .before .args .rows .now) (c .before .before .pre .3) (c .if1 .taken)
+returns c = seed-none (pool (c .before .before)) (c .before .before .pre .0) (c .before .before .args .i) (c .before .before .args .rows .now) (c .before .before .pre .4) (c .if1 .taken)
 
-mul-source : tie.Need-mul-source
-mul-source c = search needs
+mul-find-source : tie.Need-mul-find-source
+mul-find-source c = search needs
 
-mul-source-2 : tie.Need-mul-source-2
-mul-source-2 c = search needs
+mul-find-source-2 : tie.Need-mul-find-source-2
+mul-find-source-2 c = search needs
 
-element-copy-out-source : tie.Need-element-copy-out-source
-element-copy-out-source c = search needs
+element-copy-out-find-source : tie.Need-element-copy-out-find-source
+element-copy-out-find-source c = search needs
 
-source-requires : tie.Need-source-requires
-source-requires c κs = search needs
+find-source-requires : tie.Need-find-source-requires
+find-source-requires c κs = (c .before .before .before .pre .0, c .before .before .before .pre .3)
 
 mul-mark : tie.Need-mul-mark
 mul-mark c = search needs
@@ -37,10 +37,10 @@ element-copy-out-mark : tie.Need-element-copy-out-mark
 element-copy-out-mark c = search needs
 
 mark-requires : tie.Need-mark-requires
-mark-requires c κs = (c .before .before .before .before .before .before .pre .2 .under .under (c .before .before .before .before .before .before .args .i), body-bit (pool (c .before .before .before .before .before .before)) (c .before .before .before .before .before .before .pre .0) (c .before .before .before .before .before .before .args .i) _ (c .before .before .source .result) (c .before .before .before .before .before .before .pre .1) (body-one (pool (c .before .before .before .before .before .before)) (c .before .before .before .before .before .before .pre .0) (c .before .before .before .before .before .before .args .i) (c .before .before .before .before .if1 .left)) (c .before .before .source .ensures), c .before .before .before .before .before .before .pre .3)
+mark-requires c κs = (c .before .before .before .before .before .before .pre .2 .under .under (c .before .before .before .before .before .before .args .i), body-bit (pool (c .before .before .before .before .before .before)) (c .before .before .before .before .before .before .pre .0) (c .before .before .before .before .before .before .args .i) _ (c .before .before .find-source .result) (c .before .before .before .before .before .before .pre .1) (body-one (pool (c .before .before .before .before .before .before)) (c .before .before .before .before .before .before .pre .0) (c .before .before .before .before .before .before .args .i) (c .before .before .before .before .if1 .left)) (c .before .before .find-source .ensures), c .before .before .before .before .before .before .pre .4)
 
 returns-2 : tie.Need-returns-2
-returns-2 c = seed-mark (pool (c .before .before .before .before .before .before .before)) (c .before .before .before .before .before .before .before .args .i) (c .before .before .before .before .before .before .before .args .rows .now) _ _ (c .before .before .before .source .result) _ (body-one (pool (c .before .before .before .before .before .before .before)) (c .before .before .before .before .before .before .before .pre .0) (c .before .before .before .before .before .before .before .args .i) (c .before .before .before .before .before .if1 .left)) (c .before .before .before .before .before .before .before .pre .2 .upto (c .before .before .before .before .before .before .before .args .i) (c .before .before .before .before .before .before .before .pre .1)) (c .before .before .before .source .ensures) (c .mark .ensures)
+returns-2 c = seed-mark (pool (c .before .before .before .before .before .before .before)) (c .before .before .before .before .before .before .before .args .i) (c .before .before .before .before .before .before .before .args .rows .now) _ _ (c .before .before .before .find-source .result) _ (body-one (pool (c .before .before .before .before .before .before .before)) (c .before .before .before .before .before .before .before .pre .0) (c .before .before .before .before .before .before .before .args .i) (c .before .before .before .before .before .if1 .left)) (c .before .before .before .before .before .before .before .pre .2 .upto (c .before .before .before .before .before .before .before .args .i) (c .before .before .before .before .before .before .before .pre .1)) (c .before .before .before .find-source .ensures) (c .mark .ensures)
 
 pub seed-spec : {M : Type 1} → statement M
 seed-spec =
@@ -49,10 +49,10 @@ seed-spec =
     mul-if1
     element-copy-out-if1
     returns
-    mul-source
-    mul-source-2
-    element-copy-out-source
-    source-requires
+    mul-find-source
+    mul-find-source-2
+    element-copy-out-find-source
+    find-source-requires
     mul-mark
     element-copy-out-mark
     mark-requires

@@ -10,10 +10,10 @@ use Rattle.relation.proofs.start.asked.Statement.{statement}
 use Rattle.relation.proofs.start.asked.Tie as tie
 
 abbrev Inv-loop : tie.InvT-loop
-Inv-loop n heads kinds numbers head on mem e rows₀ r i₀ rows i = AskedTo (poolOf n heads kinds numbers) on mem e i rows × (i ≤ n)
+Inv-loop n heads kinds numbers head first on mem e rows₀ r i₀ rows i = AskedTo (poolOf n heads kinds numbers) on mem e i rows × (i ≤ n)
 
 abbrev μ-loop : tie.MeasureT-loop
-μ-loop n heads kinds numbers head on mem e rows₀ r i₀ rows i = n - i
+μ-loop n heads kinds numbers head first on mem e rows₀ r i₀ rows i = n - i
 
 abbrev pool : (c : tie.Start Inv-loop μ-loop) → Pool
 pool c = poolOf (c .args .n) (c .args .heads .now) (c .args .kinds .now) (c .args .numbers .now)
@@ -25,10 +25,10 @@ mark-requires : tie.Need-mark-requires Inv-loop μ-loop
 mark-requires c κs = (c .before .own-row .ensures .small, omega arith, length-replicate {A = ℕ} 260 0)
 
 loop-holds : tie.Need-loop-holds Inv-loop μ-loop
-loop-holds c = (asked-start (pool (c .before .before .before)) (c .before .before .before .args .on .now) (c .before .before .before .args .mem .now) (c .before .before .before .pre .0) (c .before .before .before .pre .2) (c .before .before .before .args .e) (c .before .before .own-row .result) _ (c .before .before .own-row .ensures) (c .mark .ensures), omega arith)
+loop-holds c = (asked-start (pool (c .before .before .before)) (c .before .before .before .args .on .now) (c .before .before .before .args .mem .now) (c .before .before .before .pre .0) (c .before .before .before .pre .3) (c .before .before .before .args .e) (c .before .before .own-row .result) _ (c .before .before .own-row .ensures) (c .mark .ensures), omega arith)
 
 starts-requires : tie.Need-starts-requires Inv-loop μ-loop
-starts-requires c κs = omega arith
+starts-requires c κs = (c .before .before .before .before .before .pre .0, c .loop-test .taken, c .before .before .before .before .before .pre .2)
 
 mul-mark : tie.Need-mul-mark Inv-loop μ-loop
 mul-mark c = omega arith
@@ -48,14 +48,14 @@ loop-less c = omega arith
 loop-again : tie.Need-loop-again Inv-loop μ-loop
 loop-again c = (
   ⊎-elim
-      (λ w. rw (w .4) (asked-add (pool (c .before .before .before .before .before .before .before)) (c .before .before .before .before .before .before .before .args .on .now) (c .before .before .before .before .before .before .before .args .mem .now) (c .before .before .before .before .before .before .before .pre .0) (c .before .before .before .before .before .before .before .pre .2) (c .before .before .before .before .before .before .before .args .e) (c .before .before .before .loop .i) _ (c .before .before .before .loop .rows) _ (c .before .before .loop-test .taken) (c .before .starts .ensures) (w .0 .taken) (c .before .before .before .before .before .before .before .pre .1 .upto (c .before .before .before .loop .i) (c .before .before .loop-test .taken)) (w .3 .ensures) (c .before .before .before .loop .inv .0)))
-      (λ w. rw (w .1) (asked-skip (pool (c .before .before .before .before .before .before .before)) (c .before .before .before .before .before .before .before .args .on .now) (c .before .before .before .before .before .before .before .args .mem .now) (c .before .before .before .before .before .before .before .pre .0) (c .before .before .before .before .before .before .before .pre .2) (c .before .before .before .before .before .before .before .args .e) (c .before .before .before .loop .i) (c .before .before .before .loop .rows) (c .before .starts .ensures) (w .0 .left) (c .before .before .before .loop .inv .0)))
+      (λ w. rw (w .4) (asked-add (pool (c .before .before .before .before .before .before .before)) (c .before .before .before .before .before .before .before .args .on .now) (c .before .before .before .before .before .before .before .args .mem .now) (c .before .before .before .before .before .before .before .pre .0) (c .before .before .before .before .before .before .before .pre .3) (c .before .before .before .before .before .before .before .args .e) (c .before .before .before .loop .i) _ (c .before .before .before .loop .rows) _ (c .before .before .loop-test .taken) (c .before .starts .ensures) (w .0 .taken) (c .before .before .before .before .before .before .before .pre .1 .upto (c .before .before .before .loop .i) (c .before .before .loop-test .taken)) (w .3 .ensures) (c .before .before .before .loop .inv .0)))
+      (λ w. rw (w .1) (asked-skip (pool (c .before .before .before .before .before .before .before)) (c .before .before .before .before .before .before .before .args .on .now) (c .before .before .before .before .before .before .before .args .mem .now) (c .before .before .before .before .before .before .before .pre .0) (c .before .before .before .before .before .before .before .pre .3) (c .before .before .before .before .before .before .before .args .e) (c .before .before .before .loop .i) (c .before .before .before .loop .rows) (c .before .starts .ensures) (w .0 .left) (c .before .before .before .loop .inv .0)))
       (c .if1 .came),
   omega arith,
 )
 
 returns : tie.Need-returns Inv-loop μ-loop
-returns c = asked-end (pool (c .before .before .before .before .before)) (c .before .before .before .before .before .args .on .now) (c .before .before .before .before .before .args .mem .now) (c .before .before .before .before .before .pre .0) (c .before .before .before .before .before .pre .2) (c .before .before .before .before .before .args .e) (c .before .loop .i) (c .before .loop .rows) (c .loop-test .left) (c .before .loop .inv .0)
+returns c = asked-end (pool (c .before .before .before .before .before)) (c .before .before .before .before .before .args .on .now) (c .before .before .before .before .before .args .mem .now) (c .before .before .before .before .before .pre .0) (c .before .before .before .before .before .pre .3) (c .before .before .before .before .before .args .e) (c .before .loop .i) (c .before .loop .rows) (c .loop-test .left) (c .before .loop .inv .0)
 
 pub asked-spec : {M : Type 1} → statement M
 asked-spec =

@@ -1,8 +1,14 @@
-use mathlib.Core.Path.{sym, _∙_}
+use mathlib.Core.Path.{sym, _∙_, ap}
 use borrow.Author.Needs.{needs}
+use Rattle.rt0.specs.declared.Pool.{Pool}
+use Rattle.rt0.specs.Pool.{poolOf}
+use Rattle.rules.specs.Columns.{firstRow}
 use Rattle.relation.specs.Relation.{atOnce}
 use Rattle.relation.proofs.start.once.Statement.{statement}
 use Rattle.relation.proofs.start.once.Tie as tie
+
+abbrev pool : (c : tie.Start) → Pool
+pool c = poolOf (c .args .n) (c .args .heads .now) (c .args .kinds .now) (c .args .numbers .now)
 
 same-requires : tie.Need-same-requires
 same-requires c κs = search needs
@@ -21,7 +27,7 @@ enum-known-x : tie.Need-enum-known-x
 enum-known-x c = search needs
 
 own-requires : tie.Need-own-requires
-own-requires c κs = search needs
+own-requires c κs = (c .before .before .before .before .before .pre .0, c .before .before .before .before .before .pre .1 ∙ ap (firstRow (pool (c .before .before .before .before .before))) (c .before .x .given .1))
 
 enum-told-3 : tie.Need-enum-told-3
 enum-told-3 c = search needs

@@ -20,15 +20,12 @@ returns-2 : tie.Need-returns-2
 unfolding bits
 returns-2 c = rw (eq-eqb _ _ (c .before .before .if1 .left), ← c .before .source .ensures, le-ltb (c .before .source .result) 128 (c .if2 .taken))
 
-row-requires : tie.Need-row-requires
-row-requires c κs = search needs
-
 bit-requires : tie.Need-bit-requires
-bit-requires c κs = (rw (c .row .ensures) (row-small (pool (c .before .before .before .before .before)) (c .before .before .before .before .before .pre) (c .before .before .before .before .before .args .a)), c .before .if2 .left)
+bit-requires c κs = (rw (c .before .before .before .before .pre .1) (row-small (pool (c .before .before .before .before)) (c .before .before .before .before .pre .0) (c .before .before .before .before .args .a)), c .if2 .left)
 
 returns-3 : tie.Need-returns-3
-returns-3 c = rw (eq-eqb _ _ (c .before .before .before .before .if1 .left), ← c .before .before .before .source .ensures, ← c .before .row .ensures) (c .bit .ensures)
+returns-3 c = rw (eq-eqb _ _ (c .before .before .before .if1 .left), ← c .before .before .source .ensures, ← c .before .before .before .before .before .pre .1) (c .bit .ensures)
 
 pub own-role-spec : {M : Type 1} → statement M
 own-role-spec =
-    tie.close (tie.spec returns source-requires returns-2 row-requires bit-requires returns-3)
+    tie.close (tie.spec returns source-requires returns-2 bit-requires returns-3)

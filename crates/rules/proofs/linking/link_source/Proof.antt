@@ -17,20 +17,20 @@ element-copy-out-if1 c = search needs
 returns : tie.Need-returns
 returns c = source-none (pool (c .before .before)) _ (c .before .before .args .j) (c .before .before .pre .2 .upto (c .before .before .args .j) (c .before .before .pre .1)) (c .if1 .taken)
 
-mul-source : tie.Need-mul-source
-mul-source c = search needs
+mul-find-source : tie.Need-mul-find-source
+mul-find-source c = search needs
 
-mul-source-2 : tie.Need-mul-source-2
-mul-source-2 c = search needs
+mul-find-source-2 : tie.Need-mul-find-source-2
+mul-find-source-2 c = search needs
 
-element-copy-out-source : tie.Need-element-copy-out-source
-element-copy-out-source c = search needs
+element-copy-out-find-source : tie.Need-element-copy-out-find-source
+element-copy-out-find-source c = search needs
 
-source-requires : tie.Need-source-requires
-source-requires c κs = search needs
+find-source-requires : tie.Need-find-source-requires
+find-source-requires c κs = search needs
 
 returns-2 : tie.Need-returns-2
-returns-2 c = source-here (pool (c .before .before .before .before)) _ (c .before .before .before .before .args .j) (c .source .result) (c .before .before .before .before .pre .2 .upto (c .before .before .before .before .args .j) (c .before .before .before .before .pre .1)) (c .before .before .if1 .left) (c .source .ensures)
+returns-2 c = source-here (pool (c .before .before .before .before)) _ (c .before .before .before .before .args .j) (c .find-source .result) (c .before .before .before .before .pre .2 .upto (c .before .before .before .before .args .j) (c .before .before .before .before .pre .1)) (c .before .before .if1 .left) (c .find-source .ensures)
 
 pub link-source-spec : {M : Type 1} → statement M
 link-source-spec =
@@ -39,8 +39,8 @@ link-source-spec =
     mul-if1
     element-copy-out-if1
     returns
-    mul-source
-    mul-source-2
-    element-copy-out-source
-    source-requires
+    mul-find-source
+    mul-find-source-2
+    element-copy-out-find-source
+    find-source-requires
     returns-2)

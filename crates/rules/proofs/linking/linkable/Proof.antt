@@ -1,4 +1,5 @@
-use Prim.Native.Nat.{_-_, _≤_}
+use Prim.Native.Nat.{ℕ, _-_, _≤_}
+use lib.ListN.{length-replicate}
 use native.Mathlib.Omega.{arith}
 use mathlib.Core.Logic.{⊎-elim}
 use borrow.Author.Tests.{not-true}
@@ -10,10 +11,10 @@ use Rattle.rules.proofs.linking.linkable.Statement.{statement}
 use Rattle.rules.proofs.linking.linkable.Tie as tie
 
 abbrev Inv-loop : tie.InvT-loop
-Inv-loop n heads kinds numbers head lit src₀ able₀ j₀ src able j = Able (poolOf n heads kinds numbers) lit j src able × (j ≤ n)
+Inv-loop n heads kinds numbers head lit src₀ able₀ j₀ body src able j = Able (poolOf n heads kinds numbers) lit j src able × (j ≤ n)
 
 abbrev μ-loop : tie.MeasureT-loop
-μ-loop n heads kinds numbers head lit src₀ able₀ j₀ src able j = n - j
+μ-loop n heads kinds numbers head lit src₀ able₀ j₀ body src able j = n - j
 
 abbrev pool : (c : tie.Start Inv-loop μ-loop) → Pool
 pool c = poolOf (c .args .n) (c .args .heads .now) (c .args .kinds .now) (c .args .numbers .now)
@@ -21,11 +22,14 @@ pool c = poolOf (c .args .n) (c .args .heads .now) (c .args .kinds .now) (c .arg
 returns : tie.Need-returns Inv-loop μ-loop
 returns c = able-off (pool (c .before)) (c .before .args .lit) (c .before .args .n) (not-true (c .before .args .lit) (c .if1 .taken))
 
+note-bodies-requires : tie.Need-note-bodies-requires Inv-loop μ-loop
+note-bodies-requires c κs = (c .before .before .pre .0, length-replicate {A = ℕ} 260 0)
+
 loop-holds : tie.Need-loop-holds Inv-loop μ-loop
-loop-holds c = (able-start (pool (c .before)) (c .before .args .lit), omega arith)
+loop-holds c = (able-start (pool (c .before .before .before)) (c .before .before .before .args .lit), omega arith)
 
 link-source-requires : tie.Need-link-source-requires Inv-loop μ-loop
-link-source-requires c κs = (c .before .before .before .pre .0, c .loop-test .taken, c .before .before .before .pre .1)
+link-source-requires c κs = (c .before .before .before .before .before .before .pre .0, c .before .loop-test .taken, c .before .before .before .before .before .before .pre .1, c .before .before .before .note-bodies .ensures)
 
 mul-src : tie.Need-mul-src Inv-loop μ-loop
 mul-src c = omega arith
@@ -45,14 +49,14 @@ loop-less c = omega arith
 loop-again : tie.Need-loop-again Inv-loop μ-loop
 loop-again c = (
   ⊎-elim
-      (λ w. rw (w .1, w .2) (able-add (pool (c .before .before .before .before .before)) (c .before .before .before .before .before .pre .0) (c .before .before .before .before .before .args .lit) (c .before .before .before .loop .src) (c .before .before .before .loop .able) (c .before .before .before .loop .j) (c .before .link-source .result) (c .before .before .loop-test .taken) (c .before .link-source .ensures) (w .0 .taken) (c .before .before .before .loop .inv .0)))
-      (λ w. rw (w .1, w .2) (able-skip (pool (c .before .before .before .before .before)) (c .before .before .before .before .before .args .lit) (c .before .before .before .loop .src) (c .before .before .before .loop .able) (c .before .before .before .loop .j) (c .before .link-source .result) (c .before .link-source .ensures) (c .before .before .before .before .before .pre .0) (w .0 .left) (c .before .before .before .loop .inv .0)))
+      (λ w. rw (w .1, w .2) (able-add (pool (c .before .before .before .before .before .before .before .before)) (c .before .before .before .before .before .before .before .before .pre .0) (c .before .before .before .before .before .before .before .before .args .lit) (c .before .before .before .before .loop .src) (c .before .before .before .before .loop .able) (c .before .before .before .before .loop .j) (c .before .link-source .result) (c .before .before .before .loop-test .taken) (c .before .link-source .ensures) (w .0 .taken) (c .before .before .before .before .loop .inv .0)))
+      (λ w. rw (w .1, w .2) (able-skip (pool (c .before .before .before .before .before .before .before .before)) (c .before .before .before .before .before .before .before .before .args .lit) (c .before .before .before .before .loop .src) (c .before .before .before .before .loop .able) (c .before .before .before .before .loop .j) (c .before .link-source .result) (c .before .link-source .ensures) (c .before .before .before .before .before .before .before .before .pre .0) (w .0 .left) (c .before .before .before .before .loop .inv .0)))
       (c .if2 .came),
   omega arith,
 )
 
 returns-2 : tie.Need-returns-2 Inv-loop μ-loop
-returns-2 c = able-end (pool (c .before .before .before)) (c .before .before .before .args .lit) (c .before .loop .src) (c .before .loop .able) (c .before .loop .j) (c .before .before .before .args .n) (c .before .loop .inv .1) (c .loop-test .left) (c .before .loop .inv .0)
+returns-2 c = able-end (pool (c .before .before .before .before .before)) (c .before .before .before .before .before .args .lit) (c .before .loop .src) (c .before .loop .able) (c .before .loop .j) (c .before .before .before .before .before .args .n) (c .before .loop .inv .1) (c .loop-test .left) (c .before .loop .inv .0)
 
 pub linkable-spec : {M : Type 1} → statement M
 linkable-spec =
@@ -61,6 +65,7 @@ linkable-spec =
     Inv-loop
     μ-loop
     returns
+    note-bodies-requires
     loop-holds
     link-source-requires
     mul-src
