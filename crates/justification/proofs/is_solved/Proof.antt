@@ -1,0 +1,50 @@
+use Rattle.justification.specs.Justified.{solves}
+use Rattle.justification.specs.JustifiedLaws.{solved-at, solved-none}
+use borrow.Author.Needs.{needs}
+use native.Mathlib.Omega.{arith}
+use Prim.Native.Nat.{_-_}
+use Rattle.graph.specs.Graph.{nodesFrom, edgesFrom, nodesOf, edgesOf, edgeAt}
+use Rattle.class.specs.Find.{Missed, missed-start, missed-more}
+use Rattle.justification.proofs.is_solved.Statement.{statement}
+use Rattle.justification.proofs.is_solved.Tie as tie
+
+abbrev Inv-loop : tie.InvT-loop
+Inv-loop n kind parts n0 n1 n2 n3 n4 n5 n6 n7 subject verifier state m edge parent child sat x b g j₀ j = Missed (solves (nodesOf (nodesFrom n kind parts n0 n1 n2 n3 n4 n5 n6 n7 subject verifier state)) (edgesOf (edgesFrom m edge parent child)) x b g) (edgeAt (edgesFrom m edge parent child)) j
+
+abbrev μ-loop : tie.MeasureT-loop
+μ-loop n kind parts n0 n1 n2 n3 n4 n5 n6 n7 subject verifier state m edge parent child sat x b g j₀ j = m - j
+
+loop-holds : tie.Need-loop-holds Inv-loop μ-loop
+loop-holds c = missed-start _ _
+
+solves-at-requires : tie.Need-solves-at-requires Inv-loop μ-loop
+solves-at-requires c κs = search needs
+
+returns : tie.Need-returns Inv-loop μ-loop
+returns c = solved-at _ _ _ _ _ (c .before .before .before .loop .inv) (c .before .before .loop-test .taken) (c .before .solves-at .ensures) (c .if1 .taken)
+
+add-j : tie.Need-add-j Inv-loop μ-loop
+add-j c = omega arith
+
+loop-less : tie.Need-loop-less Inv-loop μ-loop
+loop-less c = omega arith
+
+loop-again : tie.Need-loop-again Inv-loop μ-loop
+loop-again c = missed-more (c .before .before .before .loop .inv) (c .before .solves-at .ensures) (c .if1 .left)
+
+returns-2 : tie.Need-returns-2 Inv-loop μ-loop
+returns-2 c = solved-none _ _ _ _ _ (c .before .loop .inv) (c .loop-test .left)
+
+pub is-solved-spec : {M : Type 1} → statement M
+is-solved-spec =
+    tie.close
+    (tie.spec
+    Inv-loop
+    μ-loop
+    loop-holds
+    solves-at-requires
+    returns
+    add-j
+    loop-less
+    loop-again
+    returns-2)
