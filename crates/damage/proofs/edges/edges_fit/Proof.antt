@@ -1,0 +1,65 @@
+use mathlib.Core.Logic.{⊎-elim}
+use Rattle.graph.specs.Graph.{nodesFrom, edgesFrom}
+use borrow.Author.Needs.{needs}
+use native.Mathlib.Omega.{arith}
+use Prim.Native.Nat.{_-_}
+use Rattle.damage.specs.EdgesLaws.{Bringing, bringing-none, bringing-stop, bringing-next, bringing-same, bringing-done}
+use Rattle.damage.proofs.edges.edges_fit.Statement.{statement}
+use Rattle.damage.proofs.edges.edges_fit.Tie as tie
+
+abbrev Inv-loop : tie.InvT-loop
+Inv-loop h n kind parts n0 n1 n2 n3 n4 n5 n6 n7 subject verifier state m edge parent child b₀ j₀ b j = Bringing h (nodesFrom n kind parts n0 n1 n2 n3 n4 n5 n6 n7 subject verifier state) (edgesFrom m edge parent child) b j
+
+abbrev μ-loop : tie.MeasureT-loop
+μ-loop h n kind parts n0 n1 n2 n3 n4 n5 n6 n7 subject verifier state m edge parent child b₀ j₀ b j = m - j
+
+loop-holds : tie.Need-loop-holds Inv-loop μ-loop
+loop-holds c = bringing-none _ _ _ (c .pre .0)
+
+edge-fits-requires : tie.Need-edge-fits-requires Inv-loop μ-loop
+edge-fits-requires c κs = ((c .before .before .pre .1), (c .before .before .pre .2), (c .loop-test .taken), (c .before .loop .inv .brings), (c .before .loop .inv .few))
+
+returns : tie.Need-returns Inv-loop μ-loop
+returns c = bringing-stop _ _ _ (c .before .before .before .loop .inv) (c .before .before .loop-test .taken) (c .before .edge-fits .ensures) (c .if1 .taken)
+
+element-copy-out-wide : tie.Need-element-copy-out-wide Inv-loop μ-loop
+element-copy-out-wide c = omega arith
+
+wide-requires : tie.Need-wide-requires Inv-loop μ-loop
+wide-requires c κs = search needs
+
+add-b : tie.Need-add-b Inv-loop μ-loop
+add-b c = omega (arith, (c .before .before .before .before .before .before .loop .inv .few), (c .before .before .before .before .before .before .before .pre .1))
+
+add-j : tie.Need-add-j Inv-loop μ-loop
+add-j c = omega (arith, (c .before .before .before .before .before .loop-test .taken), (c .before .before .before .before .before .before .before .pre .2))
+
+loop-less : tie.Need-loop-less Inv-loop μ-loop
+loop-less c = omega arith
+
+loop-again : tie.Need-loop-again Inv-loop μ-loop
+loop-again c =
+    ⊎-elim
+    (λ w. bringing-next _ _ _ (c .before .before .before .before .before .before .loop .inv) (c .before .before .before .before .before .loop-test .taken) (c .before .before .before .before .edge-fits .ensures) (c .before .before .before .if1 .left) (c .before .wide .ensures) (w .0 .taken) (w .1))
+    (λ w. bringing-same _ _ _ (c .before .before .before .before .before .before .loop .inv) (c .before .before .before .before .before .loop-test .taken) (c .before .before .before .before .edge-fits .ensures) (c .before .before .before .if1 .left) (c .before .wide .ensures) (w .0 .left) (w .1))
+    (c .if2 .came)
+
+returns-2 : tie.Need-returns-2 Inv-loop μ-loop
+returns-2 c = bringing-done _ _ _ (c .before .loop .inv) (c .loop-test .left)
+
+pub edges-fit-spec : {M : Type 1} → statement M
+edges-fit-spec =
+    tie.close
+    (tie.spec
+    Inv-loop
+    μ-loop
+    loop-holds
+    edge-fits-requires
+    returns
+    element-copy-out-wide
+    wide-requires
+    add-b
+    add-j
+    loop-less
+    loop-again
+    returns-2)

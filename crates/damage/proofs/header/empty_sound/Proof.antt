@@ -1,0 +1,9 @@
+use Rattle.damage.specs.HeaderLaws.{empty-is}
+use Rattle.damage.proofs.header.empty_sound.Statement.{statement}
+use Rattle.damage.proofs.header.empty_sound.Tie as tie
+
+returns : tie.Need-returns
+returns c = empty-is _ _ _
+
+pub empty-sound-spec : {M : Type 1} → statement M
+empty-sound-spec = tie.close (tie.spec returns)

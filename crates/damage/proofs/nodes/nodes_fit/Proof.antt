@@ -1,0 +1,50 @@
+use Rattle.class.specs.Names.{namesOf, namesFrom}
+use Rattle.graph.specs.Graph.{nodesFrom, nodeAt}
+use Rattle.damage.specs.Records.{nodeFits}
+use Rattle.damage.specs.Turns.{Judged, judged-none, nodes-next, nodes-stop, nodes-done}
+use borrow.Author.Needs.{needs}
+use native.Mathlib.Omega.{arith}
+use Prim.Native.Nat.{_-_}
+use Rattle.damage.proofs.nodes.nodes_fit.Statement.{statement}
+use Rattle.damage.proofs.nodes.nodes_fit.Tie as tie
+
+abbrev Inv-loop : tie.InvT-loop
+Inv-loop k name class n kind parts n0 n1 n2 n3 n4 n5 n6 n7 subject verifier state i₀ i = Judged (nodeFits (namesOf (namesFrom k name class))) (nodeAt (nodesFrom n kind parts n0 n1 n2 n3 n4 n5 n6 n7 subject verifier state)) n i
+
+abbrev μ-loop : tie.MeasureT-loop
+μ-loop k name class n kind parts n0 n1 n2 n3 n4 n5 n6 n7 subject verifier state i₀ i = n - i
+
+loop-holds : tie.Need-loop-holds Inv-loop μ-loop
+loop-holds c = judged-none _ _ _
+
+node-fits-requires : tie.Need-node-fits-requires Inv-loop μ-loop
+node-fits-requires c κs = search needs
+
+returns : tie.Need-returns Inv-loop μ-loop
+returns c = nodes-stop _ _ (c .before .before .before .loop .inv) (c .before .before .loop-test .taken) (c .before .node-fits .ensures) (c .if1 .taken)
+
+add-i : tie.Need-add-i Inv-loop μ-loop
+add-i c = omega arith
+
+loop-less : tie.Need-loop-less Inv-loop μ-loop
+loop-less c = omega arith
+
+loop-again : tie.Need-loop-again Inv-loop μ-loop
+loop-again c = nodes-next _ _ (c .before .before .before .loop .inv) (c .before .before .loop-test .taken) (c .before .node-fits .ensures) (c .if1 .left)
+
+returns-2 : tie.Need-returns-2 Inv-loop μ-loop
+returns-2 c = nodes-done _ _ (c .before .loop .inv) (c .loop-test .left)
+
+pub nodes-fit-spec : {M : Type 1} → statement M
+nodes-fit-spec =
+    tie.close
+    (tie.spec
+    Inv-loop
+    μ-loop
+    loop-holds
+    node-fits-requires
+    returns
+    add-i
+    loop-less
+    loop-again
+    returns-2)

@@ -1,0 +1,27 @@
+use Rattle.damage.specs.RecordsLaws.{primary-other, primary-wanted, primary-role}
+use borrow.Author.Needs.{needs}
+use Rattle.damage.proofs.nodes.primary_sound.Statement.{statement}
+use Rattle.damage.proofs.nodes.primary_sound.Tie as tie
+
+requester-requires : tie.Need-requester-requires
+requester-requires c κs = search needs
+
+returns : tie.Need-returns
+returns c = primary-other _ _ (c .before .before .requester .ensures) (c .if1 .taken)
+
+same-requires : tie.Need-same-requires
+same-requires c κs = search needs
+
+returns-2 : tie.Need-returns-2
+returns-2 c = primary-wanted _ _ (c .before .before .before .before .before .before .requester .ensures) (c .before .before .before .before .if1 .left) (c .before .if2 .taken) (c .same .ensures)
+
+is-role-target-requires : tie.Need-is-role-target-requires
+is-role-target-requires c κs = search needs
+
+returns-3 : tie.Need-returns-3
+returns-3 c = primary-role _ _ (c .before .before .before .before .before .before .requester .ensures) (c .before .before .before .before .if1 .left) (c .before .if2 .left) (c .is-role-target .ensures)
+
+pub primary-sound-spec : {M : Type 1} → statement M
+primary-sound-spec =
+    tie.close
+    (tie.spec requester-requires returns same-requires returns-2 is-role-target-requires returns-3)

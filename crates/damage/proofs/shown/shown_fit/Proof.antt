@@ -1,0 +1,50 @@
+use Rattle.class.specs.Names.{namesOf, namesFrom}
+use Rattle.rt0.specs.Pool.{poolOf, credentialAt}
+use Rattle.damage.specs.Records.{credentialFits}
+use Rattle.damage.specs.Turns.{Judged, judged-none, shown-next, shown-stop, shown-done}
+use borrow.Author.Needs.{needs}
+use native.Mathlib.Omega.{arith}
+use Prim.Native.Nat.{_-_}
+use Rattle.damage.proofs.shown.shown_fit.Statement.{statement}
+use Rattle.damage.proofs.shown.shown_fit.Tie as tie
+
+abbrev Inv-loop : tie.InvT-loop
+Inv-loop k name class n heads kinds numbers i₀ i = Judged (credentialFits (namesOf (namesFrom k name class))) (credentialAt (poolOf n heads kinds numbers)) n i
+
+abbrev μ-loop : tie.MeasureT-loop
+μ-loop k name class n heads kinds numbers i₀ i = n - i
+
+loop-holds : tie.Need-loop-holds Inv-loop μ-loop
+loop-holds c = judged-none _ _ _
+
+credential-fits-requires : tie.Need-credential-fits-requires Inv-loop μ-loop
+credential-fits-requires c κs = search needs
+
+returns : tie.Need-returns Inv-loop μ-loop
+returns c = shown-stop _ _ (c .before .before .before .loop .inv) (c .before .before .loop-test .taken) (c .before .credential-fits .ensures) (c .if1 .taken)
+
+add-i : tie.Need-add-i Inv-loop μ-loop
+add-i c = omega arith
+
+loop-less : tie.Need-loop-less Inv-loop μ-loop
+loop-less c = omega arith
+
+loop-again : tie.Need-loop-again Inv-loop μ-loop
+loop-again c = shown-next _ _ (c .before .before .before .loop .inv) (c .before .before .loop-test .taken) (c .before .credential-fits .ensures) (c .if1 .left)
+
+returns-2 : tie.Need-returns-2 Inv-loop μ-loop
+returns-2 c = shown-done _ _ (c .before .loop .inv) (c .loop-test .left)
+
+pub shown-fit-spec : {M : Type 1} → statement M
+shown-fit-spec =
+    tie.close
+    (tie.spec
+    Inv-loop
+    μ-loop
+    loop-holds
+    credential-fits-requires
+    returns
+    add-i
+    loop-less
+    loop-again
+    returns-2)

@@ -1,0 +1,51 @@
+-- The header of a negotiation that is not damaged (document 01, "From the state", 20). Assumes nothing.
+use Prim.Native.Nat.{ℕ}
+use mathlib.Core.Bool.{Bool, not, cond, _&&_, _||_}
+use mathlib.Core.List.{List}
+use lib.Dec.{eqb, ltb, leb}
+use lib.ListN.{length}
+use Rattle.expression.specs.declared.Role.{Role}
+use Rattle.expression.specs.Form.{isRole, isEmpty}
+use Rattle.class.specs.declared.Name.{Name}
+use Rattle.class.specs.Names.{classOf}
+use Rattle.negotiation.specs.declared.Header.{Header}
+use Rattle.negotiation.specs.State.{State}
+
+-- the wanted role: of the mediator (side 0) a role whose name has a class, of the requester none
+unfoldable pub wantedSound : List Name → ℕ → Role → Bool
+wantedSound ns side r = cond (eqb side 0) (isRole r && not (eqb (classOf ns (r .name)) 0)) (isEmpty r)
+
+-- the other end is neither zero nor self
+abbrev pub otherSound : ℕ → ℕ → Bool
+otherSound own other = not (eqb other 0) && not (eqb other own)
+
+-- side, "a self other than the tables'", other end and wanted role
+unfoldable pub headerSound : ℕ → List Name → Header → Bool
+headerSound own ns h = ltb (h .side) 2 && eqb (h .own) own && otherSound (h .own) (h .other) && wantedSound ns (h .side) (h .wanted)
+
+-- The two ends
+
+unfoldable pub requester : Header → ℕ
+requester h = cond (eqb (h .side) 0) (h .other) (h .own)
+
+-- the entity of a verifier: our own side, or the other
+unfoldable pub entityOf : Header → ℕ → ℕ
+entityOf h v = cond (eqb v (h .side)) (h .own) (h .other)
+
+-- Count, end and idle
+
+-- without a node: count, end, idle, edges and credentials shown are none
+unfoldable pub emptySound : Header → ℕ → ℕ → Bool
+emptySound h edges shown = eqb (h .messages) 0 && eqb (h .end) 0 && eqb (h .idle) 0 && eqb edges 0 && eqb shown 0
+
+-- with one: "a count above 1,027, or zero with a node"
+unfoldable pub countSound : ℕ → Bool
+countSound n = ltb 0 n && leb n 1027
+
+-- "an end that the node states contradict": 1 exactly where the primary is satisfied, 2 exactly where it is failed; 3 goes with idle 1,
+-- 1 and 2 with idle 0, 0 and 4 with either
+unfoldable pub endSound : ℕ → ℕ → ℕ → Bool
+endSound primary end idle =
+    cond (eqb primary 1) (eqb end 1 && eqb idle 0)
+    (cond (eqb primary 2) (eqb end 2 && eqb idle 0)
+    (((eqb end 0 || eqb end 4) && ltb idle 2) || (eqb end 3 && eqb idle 1)))

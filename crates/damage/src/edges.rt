@@ -1,0 +1,199 @@
+// The edges, but for their justification.
+use crate::header::entity_of;
+use graph::Edge;
+use graph::edge_at;
+use graph::form;
+use graph::has_edge;
+use graph::node_at;
+use negotiation::Header;
+ghost use mathlib.Core.Path.{_≡_};
+ghost use Prim.Native.Nat.{_≤_, _<_};
+ghost use Rattle.graph.specs.Graph.{nodesFrom, edgesFrom, nodesOf, edgesOf, edgeAt};
+ghost use Rattle.damage.specs.Edges.{brought, placed as placedOf, formed as formedOf, edgeFits, allBrought};
+
+fn wide(x: u8) -> usize
+    ensures { λ r. ⌜ r ≡ x ⌝ }
+{
+    x as usize
+}
+
+// An edge behind which b of n nodes are brought.
+fn placed(n: usize, b: usize, e: Edge) -> bool
+    ensures { λ r. ⌜ r ≡ placedOf n b e ⌝ }
+{
+    (wide(e.parent) < b) & (wide(e.child) <= b) & (wide(e.child) < n) & (e.parent != e.child)
+}
+
+// An edge between nodes has the form of its kind.
+fn formed<'a>(
+    h: Header,
+    n: usize,
+    kind: &'a [u8; 128],
+    parts: &'a [u8; 128],
+    n0: &'a [u16; 128],
+    n1: &'a [u16; 128],
+    n2: &'a [u16; 128],
+    n3: &'a [u16; 128],
+    n4: &'a [u16; 128],
+    n5: &'a [u16; 128],
+    n6: &'a [u16; 128],
+    n7: &'a [u16; 128],
+    subject: &'a [u16; 128],
+    verifier: &'a [u8; 128],
+    state: &'a [u8; 128],
+    e: Edge,
+) -> bool
+    requires { ⌜ (n ≤ 128) × (e .parent < n) × (e .child < n) ⌝ }
+    ensures { λ r. ⌜ r ≡ formedOf h (nodesOf (nodesFrom n (now (kind .entry)) (now (parts .entry)) (now (n0 .entry)) (now (n1 .entry)) (now (n2 .entry)) (now (n3 .entry)) (now (n4 .entry)) (now (n5 .entry)) (now (n6 .entry)) (now (n7 .entry)) (now (subject .entry)) (now (verifier .entry)) (now (state .entry)))) e ⌝ }
+{
+    let p = node_at(
+        n,
+        kind,
+        parts,
+        n0,
+        n1,
+        n2,
+        n3,
+        n4,
+        n5,
+        n6,
+        n7,
+        subject,
+        verifier,
+        state,
+        wide(e.parent),
+    );
+    let c = node_at(
+        n,
+        kind,
+        parts,
+        n0,
+        n1,
+        n2,
+        n3,
+        n4,
+        n5,
+        n6,
+        n7,
+        subject,
+        verifier,
+        state,
+        wide(e.child),
+    );
+    form(e.kind, entity_of(h, p.verifier), p, c)
+}
+
+// Edge j among those before it, which brought b nodes.
+fn edge_fits<'a>(
+    h: Header,
+    n: usize,
+    kind: &'a [u8; 128],
+    parts: &'a [u8; 128],
+    n0: &'a [u16; 128],
+    n1: &'a [u16; 128],
+    n2: &'a [u16; 128],
+    n3: &'a [u16; 128],
+    n4: &'a [u16; 128],
+    n5: &'a [u16; 128],
+    n6: &'a [u16; 128],
+    n7: &'a [u16; 128],
+    subject: &'a [u16; 128],
+    verifier: &'a [u8; 128],
+    state: &'a [u8; 128],
+    m: usize,
+    edge: &'a [u8; 256],
+    parent: &'a [u8; 256],
+    child: &'a [u8; 256],
+    b: usize,
+    j: usize,
+) -> bool
+    requires { ⌜ (n ≤ 128) × (m ≤ 256) × (j < m) × (b ≡ brought (edgesOf (edgesFrom j (now edge) (now parent) (now child)))) × (b ≤ n) ⌝ }
+    ensures { λ r. ⌜ r ≡ edgeFits h (nodesOf (nodesFrom n (now (kind .entry)) (now (parts .entry)) (now (n0 .entry)) (now (n1 .entry)) (now (n2 .entry)) (now (n3 .entry)) (now (n4 .entry)) (now (n5 .entry)) (now (n6 .entry)) (now (n7 .entry)) (now (subject .entry)) (now (verifier .entry)) (now (state .entry)))) (edgesOf (edgesFrom j (now (edge .entry)) (now (parent .entry)) (now (child .entry)))) (edgeAt (edgesFrom m (now (edge .entry)) (now (parent .entry)) (now (child .entry))) j) ⌝ }
+{
+    let e = edge_at(m, edge, parent, child, j);
+    if !placed(n, b, e) {
+        return false;
+    }
+    if !formed(
+        h,
+        n,
+        kind,
+        parts,
+        n0,
+        n1,
+        n2,
+        n3,
+        n4,
+        n5,
+        n6,
+        n7,
+        subject,
+        verifier,
+        state,
+        e,
+    ) {
+        return false;
+    }
+    !has_edge(j, edge, parent, child, e)
+}
+
+// All edges, and they brought every node.
+pub fn edges_fit<'a>(
+    h: Header,
+    n: usize,
+    kind: &'a [u8; 128],
+    parts: &'a [u8; 128],
+    n0: &'a [u16; 128],
+    n1: &'a [u16; 128],
+    n2: &'a [u16; 128],
+    n3: &'a [u16; 128],
+    n4: &'a [u16; 128],
+    n5: &'a [u16; 128],
+    n6: &'a [u16; 128],
+    n7: &'a [u16; 128],
+    subject: &'a [u16; 128],
+    verifier: &'a [u8; 128],
+    state: &'a [u8; 128],
+    m: usize,
+    edge: &'a [u8; 256],
+    parent: &'a [u8; 256],
+    child: &'a [u8; 256],
+) -> bool
+    requires { ⌜ (0 < n) × (n ≤ 128) × (m ≤ 256) ⌝ }
+    ensures { λ r. ⌜ r ≡ allBrought h (nodesOf (nodesFrom n (now (kind .entry)) (now (parts .entry)) (now (n0 .entry)) (now (n1 .entry)) (now (n2 .entry)) (now (n3 .entry)) (now (n4 .entry)) (now (n5 .entry)) (now (n6 .entry)) (now (n7 .entry)) (now (subject .entry)) (now (verifier .entry)) (now (state .entry)))) (edgesOf (edgesFrom m (now (edge .entry)) (now (parent .entry)) (now (child .entry)))) ⌝ }
+{
+    let mut b = 1;
+    let mut j = 0;
+    while j < m {
+        if !edge_fits(
+            h,
+            n,
+            kind,
+            parts,
+            n0,
+            n1,
+            n2,
+            n3,
+            n4,
+            n5,
+            n6,
+            n7,
+            subject,
+            verifier,
+            state,
+            m,
+            edge,
+            parent,
+            child,
+            b,
+            j,
+        ) {
+            return false;
+        }
+        if wide(child[j]) == b {
+            b += 1;
+        }
+        j += 1;
+    }
+    b == n
+}

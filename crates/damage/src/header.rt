@@ -1,0 +1,83 @@
+// The header.
+use class::class_of;
+use expression::Role;
+use expression::is_empty;
+use expression::is_role;
+use negotiation::Header;
+ghost use mathlib.Core.Path.{_≡_};
+ghost use Prim.Native.Nat.{_≤_};
+ghost use Rattle.class.specs.Names.{namesFrom, namesOf, Ascending};
+ghost use Rattle.damage.specs.Header.{wantedSound, headerSound, requester as requesterOf, entityOf, emptySound, countSound, endSound};
+
+const MEDIATOR: u8 = 0;
+
+const MESSAGES_MOST: u16 = 1027;
+
+// The wanted role of a side.
+fn wanted_sound<'a>(k: usize, name: &'a [u16; 64], class: &'a [u8; 64], side: u8, r: Role) -> bool
+    requires { ⌜ (k ≤ 64) × Ascending k (now name) ⌝ }
+    ensures { λ b. ⌜ b ≡ wantedSound (namesOf (namesFrom k (now (name .entry)) (now (class .entry)))) side r ⌝ }
+{
+    if side != MEDIATOR {
+        return is_empty(r);
+    }
+    is_role(r) & (class_of(k, name, class, r.name) != 0)
+}
+
+// Side, self, other end and wanted role.
+pub fn header_sound<'a>(
+    own: u16,
+    k: usize,
+    name: &'a [u16; 64],
+    class: &'a [u8; 64],
+    h: Header,
+) -> bool
+    requires { ⌜ (k ≤ 64) × Ascending k (now name) ⌝ }
+    ensures { λ b. ⌜ b ≡ headerSound own (namesOf (namesFrom k (now (name .entry)) (now (class .entry)))) h ⌝ }
+{
+    let wanted = h.wanted;
+    (h.side < 2)
+        & (h.own == own)
+        & ((h.other != 0) & (h.other != h.own))
+        & wanted_sound(k, name, class, h.side, wanted)
+}
+
+pub fn requester(h: Header) -> u16
+    ensures { λ r. ⌜ r ≡ requesterOf h ⌝ }
+{
+    if h.side == MEDIATOR { h.other } else { h.own }
+}
+
+// The entity of a verifier.
+pub fn entity_of(h: Header, v: u8) -> u16
+    ensures { λ r. ⌜ r ≡ entityOf h v ⌝ }
+{
+    if v == h.side { h.own } else { h.other }
+}
+
+// Where no node stands.
+pub fn empty_sound(h: Header, edges: usize, shown: usize) -> bool
+    ensures { λ b. ⌜ b ≡ emptySound h edges shown ⌝ }
+{
+    (h.messages == 0) & (h.end == 0) & (h.idle == 0) & (edges == 0) & (shown == 0)
+}
+
+// The message count where a node stands.
+pub fn count_sound(n: u16) -> bool
+    ensures { λ b. ⌜ b ≡ countSound n ⌝ }
+{
+    (0 < n) & (n <= MESSAGES_MOST)
+}
+
+// The end, by the propagated state of the primary.
+pub fn end_sound(primary: u8, end: u8, idle: u8) -> bool
+    ensures { λ b. ⌜ b ≡ endSound primary end idle ⌝ }
+{
+    if primary == 1 {
+        return (end == 1) & (idle == 0);
+    }
+    if primary == 2 {
+        return (end == 2) & (idle == 0);
+    }
+    (((end == 0) | (end == 4)) & (idle < 2)) | ((end == 3) & (idle == 1))
+}

@@ -1,0 +1,5 @@
+// Whether a negotiation is damaged.
+mod edges;
+mod header;
+mod nodes;
+mod shown;

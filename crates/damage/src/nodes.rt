@@ -1,0 +1,194 @@
+// The nodes.
+use crate::header::requester;
+use class::Typing;
+use class::type_of;
+use expression::Expression;
+use expression::same;
+use expression::well_formed;
+use graph::Node;
+use graph::find_node;
+use graph::legal_state;
+use graph::node_at;
+use negotiation::Header;
+ghost use mathlib.Core.Path.{_≡_};
+ghost use mathlib.Core.List.{[]};
+ghost use Prim.Native.Nat.{_≤_, _<_};
+ghost use Rattle.class.specs.Names.{namesFrom, namesOf, Ascending};
+ghost use Rattle.graph.specs.Graph.{nodesFrom, nodesOf, nodeAt};
+ghost use Rattle.justification.specs.InTurn.{inTurn};
+ghost use Rattle.damage.specs.Records.{isTyped, nodeSound, nodeFits, isRoleTarget, primarySound};
+
+const MEDIATOR: u8 = 0;
+
+// What find_node answers where there is none.
+const ABSENT: usize = 128;
+
+fn is_typed(t: Typing) -> bool
+    ensures { λ b. ⌜ b ≡ isTyped t ⌝ }
+{
+    match t {
+        Typing::Unnamed => false,
+        Typing::Ill => false,
+        Typing::Any => true,
+        Typing::Class(_) => true,
+    }
+}
+
+// A node by itself.
+fn node_sound<'a>(k: usize, name: &'a [u16; 64], class: &'a [u8; 64], x: Node) -> bool
+    requires { ⌜ (k ≤ 64) × Ascending k (now name) ⌝ }
+    ensures { λ b. ⌜ b ≡ nodeSound (namesOf (namesFrom k (now (name .entry)) (now (class .entry)))) x ⌝ }
+{
+    let e = x.expression;
+    well_formed(e)
+        & (0 < x.subject)
+        & (x.verifier < 2)
+        & legal_state(e, x.state)
+        & is_typed(type_of(k, name, class, e))
+}
+
+// Node i among those before it.
+fn node_fits<'a>(
+    k: usize,
+    name: &'a [u16; 64],
+    class: &'a [u8; 64],
+    n: usize,
+    kind: &'a [u8; 128],
+    parts: &'a [u8; 128],
+    n0: &'a [u16; 128],
+    n1: &'a [u16; 128],
+    n2: &'a [u16; 128],
+    n3: &'a [u16; 128],
+    n4: &'a [u16; 128],
+    n5: &'a [u16; 128],
+    n6: &'a [u16; 128],
+    n7: &'a [u16; 128],
+    subject: &'a [u16; 128],
+    verifier: &'a [u8; 128],
+    state: &'a [u8; 128],
+    i: usize,
+) -> bool
+    requires { ⌜ (k ≤ 64) × Ascending k (now name) × (i < n) × (n ≤ 128) ⌝ }
+    ensures { λ b. ⌜ b ≡ nodeFits (namesOf (namesFrom k (now (name .entry)) (now (class .entry)))) (nodesOf (nodesFrom i (now (kind .entry)) (now (parts .entry)) (now (n0 .entry)) (now (n1 .entry)) (now (n2 .entry)) (now (n3 .entry)) (now (n4 .entry)) (now (n5 .entry)) (now (n6 .entry)) (now (n7 .entry)) (now (subject .entry)) (now (verifier .entry)) (now (state .entry)))) (nodeAt (nodesFrom n (now (kind .entry)) (now (parts .entry)) (now (n0 .entry)) (now (n1 .entry)) (now (n2 .entry)) (now (n3 .entry)) (now (n4 .entry)) (now (n5 .entry)) (now (n6 .entry)) (now (n7 .entry)) (now (subject .entry)) (now (verifier .entry)) (now (state .entry))) i) ⌝ }
+{
+    let x = node_at(
+        n,
+        kind,
+        parts,
+        n0,
+        n1,
+        n2,
+        n3,
+        n4,
+        n5,
+        n6,
+        n7,
+        subject,
+        verifier,
+        state,
+        i,
+    );
+    if !node_sound(k, name, class, x) {
+        return false;
+    }
+    let e = x.expression;
+    find_node(
+        i,
+        kind,
+        parts,
+        n0,
+        n1,
+        n2,
+        n3,
+        n4,
+        n5,
+        n6,
+        n7,
+        subject,
+        verifier,
+        state,
+        e,
+        x.verifier,
+        x.subject,
+    )
+        == ABSENT
+}
+
+// All nodes.
+pub fn nodes_fit<'a>(
+    k: usize,
+    name: &'a [u16; 64],
+    class: &'a [u8; 64],
+    n: usize,
+    kind: &'a [u8; 128],
+    parts: &'a [u8; 128],
+    n0: &'a [u16; 128],
+    n1: &'a [u16; 128],
+    n2: &'a [u16; 128],
+    n3: &'a [u16; 128],
+    n4: &'a [u16; 128],
+    n5: &'a [u16; 128],
+    n6: &'a [u16; 128],
+    n7: &'a [u16; 128],
+    subject: &'a [u16; 128],
+    verifier: &'a [u8; 128],
+    state: &'a [u8; 128],
+) -> bool
+    requires { ⌜ (k ≤ 64) × Ascending k (now name) × (n ≤ 128) ⌝ }
+    ensures { λ b. ⌜ b ≡ inTurn (nodeFits (namesOf (namesFrom k (now (name .entry)) (now (class .entry))))) [] (nodesOf (nodesFrom n (now (kind .entry)) (now (parts .entry)) (now (n0 .entry)) (now (n1 .entry)) (now (n2 .entry)) (now (n3 .entry)) (now (n4 .entry)) (now (n5 .entry)) (now (n6 .entry)) (now (n7 .entry)) (now (subject .entry)) (now (verifier .entry)) (now (state .entry)))) ⌝ }
+{
+    let mut i = 0;
+    while i < n {
+        if !node_fits(
+            k,
+            name,
+            class,
+            n,
+            kind,
+            parts,
+            n0,
+            n1,
+            n2,
+            n3,
+            n4,
+            n5,
+            n6,
+            n7,
+            subject,
+            verifier,
+            state,
+            i,
+        ) {
+            return false;
+        }
+        i += 1;
+    }
+    true
+}
+
+fn is_role_target(e: Expression) -> bool
+    ensures { λ b. ⌜ b ≡ isRoleTarget e ⌝ }
+{
+    match e {
+        Expression::Entity(_) => false,
+        Expression::Role(_) => true,
+        Expression::Linked(_, _) => false,
+        Expression::Intersection(_) => false,
+        Expression::Goal(_) => false,
+    }
+}
+
+// The primary.
+pub fn primary_sound(h: Header, x: Node) -> bool
+    ensures { λ b. ⌜ b ≡ primarySound h x ⌝ }
+{
+    let e = x.expression;
+    if (x.verifier != MEDIATOR) | (x.subject != requester(h)) {
+        return false;
+    }
+    let wanted = h.wanted;
+    if h.side == MEDIATOR {
+        return same(e, Expression::Role(wanted));
+    }
+    is_role_target(e)
+}

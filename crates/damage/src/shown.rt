@@ -1,0 +1,113 @@
+// The credentials shown.
+use class::credential_number;
+use expression::Credential;
+use expression::same;
+use expression::same_role;
+use expression::well_formed_credential;
+use rt0::body_at;
+use rt0::head_at;
+ghost use mathlib.Core.Path.{_≡_};
+ghost use mathlib.Core.List.{[]};
+ghost use Prim.Native.Nat.{_≤_, _<_};
+ghost use Rattle.rt0.specs.Lists.{any};
+ghost use Rattle.rt0.specs.Pool.{poolOf, credentialAt, credentials};
+ghost use Rattle.class.specs.Names.{namesFrom, namesOf, Ascending};
+ghost use Rattle.tables.specs.Lookup.{sameCredential};
+ghost use Rattle.justification.specs.InTurn.{inTurn};
+ghost use Rattle.damage.specs.Records.{credentialSound, credentialFits, isShown};
+
+// Credential i is c.
+fn is_at<'a>(
+    n: usize,
+    heads: &'a [u16; 256],
+    kinds: &'a [u8; 256],
+    numbers: &'a [u16; 1024],
+    c: Credential,
+    i: usize,
+) -> bool
+    requires { ⌜ i < 128 ⌝ }
+    ensures { λ b. ⌜ b ≡ sameCredential (credentialAt (poolOf n (now (heads .entry)) (now (kinds .entry)) (now (numbers .entry))) i) c ⌝ }
+{
+    let head = c.head;
+    if !same_role(head_at(n, heads, kinds, numbers, i), head) {
+        return false;
+    }
+    let body = c.body;
+    same(body_at(n, heads, kinds, numbers, i), body)
+}
+
+// Whether c is one of the first n credentials.
+pub fn is_shown<'a>(
+    n: usize,
+    heads: &'a [u16; 256],
+    kinds: &'a [u8; 256],
+    numbers: &'a [u16; 1024],
+    c: Credential,
+) -> bool
+    requires { ⌜ n ≤ 128 ⌝ }
+    ensures { λ b. ⌜ b ≡ isShown (credentials (poolOf n (now (heads .entry)) (now (kinds .entry)) (now (numbers .entry)))) c ⌝ }
+{
+    let mut i = 0;
+    while i < n {
+        if is_at(n, heads, kinds, numbers, c, i) {
+            return true;
+        }
+        i += 1;
+    }
+    false
+}
+
+// A credential by itself.
+fn credential_sound<'a>(k: usize, name: &'a [u16; 64], class: &'a [u8; 64], c: Credential) -> bool
+    requires { ⌜ (k ≤ 64) × Ascending k (now name) ⌝ }
+    ensures { λ b. ⌜ b ≡ credentialSound (namesOf (namesFrom k (now (name .entry)) (now (class .entry)))) c ⌝ }
+{
+    well_formed_credential(c) & (credential_number(k, name, class, c) == 0)
+}
+
+// Credential i among those before it.
+fn credential_fits<'a>(
+    k: usize,
+    name: &'a [u16; 64],
+    class: &'a [u8; 64],
+    n: usize,
+    heads: &'a [u16; 256],
+    kinds: &'a [u8; 256],
+    numbers: &'a [u16; 1024],
+    i: usize,
+) -> bool
+    requires { ⌜ (k ≤ 64) × Ascending k (now name) × (i < n) × (n ≤ 128) ⌝ }
+    ensures { λ b. ⌜ b ≡ credentialFits (namesOf (namesFrom k (now (name .entry)) (now (class .entry)))) (credentials (poolOf i (now (heads .entry)) (now (kinds .entry)) (now (numbers .entry)))) (credentialAt (poolOf n (now (heads .entry)) (now (kinds .entry)) (now (numbers .entry))) i) ⌝ }
+{
+    let c = Credential {
+        head: head_at(n, heads, kinds, numbers, i),
+        body: body_at(n, heads, kinds, numbers, i),
+    };
+    if !credential_sound(k, name, class, c) {
+        return false;
+    }
+    !is_shown(i, heads, kinds, numbers, c)
+}
+
+// All credentials.
+pub fn shown_fit<'a>(
+    k: usize,
+    name: &'a [u16; 64],
+    class: &'a [u8; 64],
+    n: usize,
+    heads: &'a [u16; 256],
+    kinds: &'a [u8; 256],
+    numbers: &'a [u16; 1024],
+) -> bool
+    requires { ⌜ (k ≤ 64) × Ascending k (now name) × (n ≤ 128) ⌝ }
+    ensures { λ b. ⌜ b ≡ inTurn (credentialFits (namesOf (namesFrom k (now (name .entry)) (now (class .entry))))) [] (credentials (poolOf n (now (heads .entry)) (now (kinds .entry)) (now (numbers .entry)))) ⌝ }
+{
+    let mut i = 0;
+    while i < n {
+        if !credential_fits(k, name, class, n, heads, kinds, numbers, i) {
+            return false;
+        }
+        i += 1;
+    }
+    true
+}
