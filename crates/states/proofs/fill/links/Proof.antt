@@ -1,0 +1,76 @@
+use Prim.Native.Nat.{_-_, _≤_}
+use native.Mathlib.Omega.{arith}
+use mathlib.Core.Logic.{⊎-elim}
+use Rattle.states.specs.Filled.{Linked, link-start, link-add, link-skip, link-all}
+use borrow.Author.Needs.{needs}
+use Rattle.states.proofs.fill.links.Statement.{statement}
+use Rattle.states.proofs.fill.links.Tie as tie
+
+abbrev Inv-loop : tie.InvT-loop
+Inv-loop nodes edges n count from₀ slot₀ j₀ from slot j = (j ≤ count) × Linked nodes edges j from slot
+
+abbrev μ-loop : tie.MeasureT-loop
+μ-loop nodes edges n count from₀ slot₀ j₀ from slot j = count - j
+
+loop-holds : tie.Need-loop-holds Inv-loop μ-loop
+loop-holds c = (omega arith, link-start _ _)
+
+element-copy-out-c : tie.Need-element-copy-out-c Inv-loop μ-loop
+element-copy-out-c c = search needs
+
+element-copy-out-slot-by : tie.Need-element-copy-out-slot-by Inv-loop μ-loop
+element-copy-out-slot-by c = search needs
+
+element-copy-out-slot-by-2 : tie.Need-element-copy-out-slot-by-2 Inv-loop μ-loop
+element-copy-out-slot-by-2 c = search needs
+
+slot-by-requires : tie.Need-slot-by-requires Inv-loop μ-loop
+slot-by-requires c κs = omega arith
+
+array-write-from : tie.Need-array-write-from Inv-loop μ-loop
+array-write-from c = search needs
+
+mul-slot : tie.Need-mul-slot Inv-loop μ-loop
+mul-slot c = omega arith
+
+array-write-slot : tie.Need-array-write-slot Inv-loop μ-loop
+array-write-slot c = search needs
+
+add-j : tie.Need-add-j Inv-loop μ-loop
+add-j c = omega arith
+
+loop-less : tie.Need-loop-less Inv-loop μ-loop
+loop-less c = omega arith
+
+loop-again : tie.Need-loop-again Inv-loop μ-loop
+loop-again c =
+    let s = c .before .before .before .before .before .before .before .before .before .before .before .before .before .before .before .before .before .before in
+    let l = c .before .before .before .before .before .before .before .before .before .before .before .before .before .before .before .before .before .loop in
+    let t = c .before .before .before .before .before .before .before .before .before .before .before .before .before .before .before .before .loop-test .taken in
+    let b = c .before .slot-by in (
+      omega (arith, t),
+      ⊎-elim (λ w. link-add (s .args .t1) (s .args .t2) (l .j) _ _ (b .result) (b .ensures) (omega (arith, t, s .pre .1)) (l .inv .1) (w .0 .taken) (w .1) (w .2))
+          (λ w. link-skip (s .args .t1) (s .args .t2) (l .j) _ _ (b .result) (b .ensures) (omega (arith, t, s .pre .1)) (l .inv .1) (s .pre .0) (w .0 .left) (w .1) (w .2)) (c .if1 .came),
+    )
+
+returns : tie.Need-returns Inv-loop μ-loop
+returns c = link-all _ _ (c .before .before .pre .0) (c .before .before .pre .1) (c .before .loop .inv .0) (c .loop-test .left) (c .before .loop .inv .1)
+
+pub links-spec : {M : Type 1} → statement M
+links-spec =
+    tie.close
+    (tie.spec
+    Inv-loop
+    μ-loop
+    loop-holds
+    element-copy-out-c
+    element-copy-out-slot-by
+    element-copy-out-slot-by-2
+    slot-by-requires
+    array-write-from
+    mul-slot
+    array-write-slot
+    add-j
+    loop-less
+    loop-again
+    returns)

@@ -1,0 +1,240 @@
+// The columns of propagation, filled from a graph.
+use crate::EdgeColumns;
+use expression::Parts;
+use expression::Role;
+use expression::same_role;
+use graph::Edges;
+use graph::Nodes;
+ghost use mathlib.Core.Path.{_≡_};
+ghost use Prim.Native.Nat.{_≤_, _<_};
+ghost use Rattle.expression.specs.declared.Expression.the-variants as E;
+ghost use Rattle.graph.specs.Graph.{expressionFrom, nodesOf, edgesOf};
+ghost use Rattle.states.specs.Brings.{slotIn, slotAs, slotBy, Joined, Needs, Ways};
+ghost use Rattle.states.specs.Fields.{needBy, wayBy};
+
+const NODES_MOST: u8 = 128;
+
+const NEVER: u8 = 5;
+
+const NO_PLACE: u16 = 4;
+
+const NO_SLOT: u16 = 512;
+
+fn wide(x: u8) -> usize
+    ensures { λ r. ⌜ r ≡ x ⌝ }
+{
+    x as usize
+}
+
+// How many slots a node needs filled, by its kind, its part count and its state.
+fn need_of(kind: u8, parts: u8, state: u8) -> u8
+    ensures { λ r. ⌜ r ≡ needBy kind parts state ⌝ }
+{
+    match kind {
+        1 => 0,
+        2 => 1,
+        3 => 1,
+        4 => { if state == 3 { parts } else { NEVER } }
+        _ => NEVER,
+    }
+}
+
+// How it fails.
+fn way_of(kind: u8, state: u8) -> u8
+    ensures { λ r. ⌜ r ≡ wayBy kind state ⌝ }
+{
+    if (kind == 2) | (kind == 3) {
+        if state == 3 {
+            return 1;
+        }
+        return 0;
+    }
+    if kind == 4 {
+        return 2;
+    }
+    0
+}
+
+// What the nodes need.
+pub fn needs(nodes: Nodes) -> [u8; 128]
+    requires { ⌜ nodes .count ≤ 128 ⌝ }
+    ensures { λ r. ⌜ Needs (nodesOf nodes) r ⌝ }
+{
+    let count = nodes.count;
+    let mut r = [NEVER; 128];
+    let mut i = 0;
+    while i < count {
+        r[i] = need_of(nodes.kind[i], nodes.parts[i], nodes.state[i]);
+        i += 1;
+    }
+    r
+}
+
+// How the nodes fail.
+pub fn ways(nodes: Nodes) -> [u8; 128]
+    requires { ⌜ nodes .count ≤ 128 ⌝ }
+    ensures { λ r. ⌜ Ways (nodesOf nodes) r ⌝ }
+{
+    let count = nodes.count;
+    let mut r = [0u8; 128];
+    let mut i = 0;
+    while i < count {
+        r[i] = way_of(nodes.kind[i], nodes.state[i]);
+        i += 1;
+    }
+    r
+}
+
+// Which of the roles of an intersection a is, or 4.
+fn slot_in(p: Parts, a: Role) -> u16
+    ensures { λ r. ⌜ r ≡ slotIn p (E.Role a) ⌝ }
+{
+    let first = p.first;
+    let second = p.second;
+    let third = p.third;
+    let fourth = p.fourth;
+    if same_role(a, first) {
+        return 0;
+    }
+    if same_role(a, second) {
+        return 1;
+    }
+    if p.count == 2 {
+        return NO_PLACE;
+    }
+    if same_role(a, third) {
+        return 2;
+    }
+    if p.count == 3 {
+        return NO_PLACE;
+    }
+    if same_role(a, fourth) {
+        return 3;
+    }
+    NO_PLACE
+}
+
+// Which of the slots of node p an edge of kind k from node c fills, or 4.
+fn slot_as<'a>(
+    kind: &'a [u8; 128],
+    parts: &'a [u8; 128],
+    n0: &'a [u16; 128],
+    n1: &'a [u16; 128],
+    n2: &'a [u16; 128],
+    n3: &'a [u16; 128],
+    n4: &'a [u16; 128],
+    n5: &'a [u16; 128],
+    n6: &'a [u16; 128],
+    n7: &'a [u16; 128],
+    k: u8,
+    p: usize,
+    c: usize,
+) -> u16
+    requires { ⌜ (p < 128) × (c < 128) ⌝ }
+    ensures { λ r. ⌜ r ≡ slotAs k (expressionFrom (now (kind .entry)) (now (parts .entry)) (now (n0 .entry)) (now (n1 .entry)) (now (n2 .entry)) (now (n3 .entry)) (now (n4 .entry)) (now (n5 .entry)) (now (n6 .entry)) (now (n7 .entry)) p) (expressionFrom (now (kind .entry)) (now (parts .entry)) (now (n0 .entry)) (now (n1 .entry)) (now (n2 .entry)) (now (n3 .entry)) (now (n4 .entry)) (now (n5 .entry)) (now (n6 .entry)) (now (n7 .entry)) c) ⌝ }
+{
+    let t = kind[p];
+    if (t == 2) | (t == 3) {
+        if (k == 1) | (k == 4) {
+            return 0;
+        }
+        return NO_PLACE;
+    }
+    if (t != 4) | (k != 5) | (kind[c] != 2) {
+        return NO_PLACE;
+    }
+    slot_in(
+        Parts {
+            count: parts[p],
+            first: Role {
+                entity: n0[p],
+                name: n1[p],
+            },
+            second: Role {
+                entity: n2[p],
+                name: n3[p],
+            },
+            third: Role {
+                entity: n4[p],
+                name: n5[p],
+            },
+            fourth: Role {
+                entity: n6[p],
+                name: n7[p],
+            },
+        },
+        Role {
+            entity: n0[c],
+            name: n1[c],
+        },
+    )
+}
+
+// The slot that an edge of kind k from node c to node p fills, or 512 where it brings no child.
+fn slot_by<'a>(
+    n: usize,
+    kind: &'a [u8; 128],
+    parts: &'a [u8; 128],
+    n0: &'a [u16; 128],
+    n1: &'a [u16; 128],
+    n2: &'a [u16; 128],
+    n3: &'a [u16; 128],
+    n4: &'a [u16; 128],
+    n5: &'a [u16; 128],
+    n6: &'a [u16; 128],
+    n7: &'a [u16; 128],
+    k: u8,
+    p: u8,
+    c: u8,
+) -> u16
+    requires { ⌜ n ≤ 128 ⌝ }
+    ensures { λ r. ⌜ r ≡ slotBy n k p c (expressionFrom (now (kind .entry)) (now (parts .entry)) (now (n0 .entry)) (now (n1 .entry)) (now (n2 .entry)) (now (n3 .entry)) (now (n4 .entry)) (now (n5 .entry)) (now (n6 .entry)) (now (n7 .entry)) p) (expressionFrom (now (kind .entry)) (now (parts .entry)) (now (n0 .entry)) (now (n1 .entry)) (now (n2 .entry)) (now (n3 .entry)) (now (n4 .entry)) (now (n5 .entry)) (now (n6 .entry)) (now (n7 .entry)) c) ⌝ }
+{
+    let x = wide(p);
+    let y = wide(c);
+    if (n <= x) | (n <= y) {
+        return NO_SLOT;
+    }
+    let s = slot_as(kind, parts, n0, n1, n2, n3, n4, n5, n6, n7, k, x, y);
+    if NO_PLACE <= s {
+        return NO_SLOT;
+    }
+    (p as u16) * 4 + s
+}
+
+// The edges as links.
+pub fn links(nodes: Nodes, edges: Edges) -> EdgeColumns
+    requires { ⌜ (nodes .count ≤ 128) × (edges .count ≤ 256) ⌝ }
+    ensures { λ r. ⌜ Joined (nodesOf nodes) (edgesOf edges) (r .from) (r .slot) ⌝ }
+{
+    let n = nodes.count;
+    let count = edges.count;
+    let mut from = [NODES_MOST; 256];
+    let mut slot = [0u16; 256];
+    let mut j = 0;
+    while j < count {
+        let c = edges.child[j];
+        let s = slot_by(
+            n,
+            &nodes.kind,
+            &nodes.parts,
+            &nodes.n0,
+            &nodes.n1,
+            &nodes.n2,
+            &nodes.n3,
+            &nodes.n4,
+            &nodes.n5,
+            &nodes.n6,
+            &nodes.n7,
+            edges.kind[j],
+            edges.parent[j],
+            c,
+        );
+        if s < NO_SLOT {
+            from[j] = c;
+            slot[j] = s;
+        }
+        j += 1;
+    }
+    EdgeColumns { from, slot }
+}
