@@ -7,6 +7,7 @@ use mathlib.Core.Bool.{Bool, true, false, _||_}
 use mathlib.Core.List.{List}
 use borrow.Author.Tests.{eqb-true, eq-eqb, ltb-true}
 use lib.Dec.{eqb, ltb}
+use lib.ListN.{length}
 use Rattle.expression.specs.declared.Role.{Role}
 use Rattle.expression.specs.declared.Credential.{Credential}
 use Rattle.expression.specs.declared.Expression.{Expression}
@@ -22,8 +23,9 @@ use Rattle.rt0.specs.Pool.{headAt, bodyAt}
 use Rattle.closure.specs.declared.Rules.{Rules}
 use Rattle.closure.specs.Rules.{el, bits, Takes, Used, Within, Closed}
 use Rattle.rules.specs.Table.{rowOf, bitOf, rowFor, chosen, Row, Compiled}
+use Rattle.rules.specs.Ruled.{row-plain}
 use Rattle.rules.specs.Exact.{chosen-find, known-of, Hold, unreach, row-found, bit-found, bit-cases, bit-here, row-for, Truth, from-truth, to-truth, truth-row, takes-sound, truth-model, takes-hold, all-held}
-use Rattle.relation.specs.Relation.{Relation, Start, ownRole, ownLink, atOnce, Asked}
+use Rattle.relation.specs.Relation.{Relation, Start, ownRole, ownLink, atOnce, Asked, Answers}
 
 not-asked : false ≡ true → {A : Type 0} → A
 not-asked h = absurd (false-true h)
@@ -166,27 +168,72 @@ module _ (P : Pool) (on : List ℕ) (small : P .count ≤ 128) (K : List ℕ) (r
   at-start : (i s : ℕ) → i < P .count → el on i ≡ 1 → s ≡ 0 → atOnce P K e (bodyAt P i) ≡ true → bits L (rowOf P (headAt P i)) s ≡ true
   at-start i s l o v h = rw v (closed .grown .kept .within _ 0 (asked .seeds i l o h))
 
+  -- rows closed from where a question starts answer it
+  pub answers : Answers P on e L
+  answers =
+      record {
+        sized = closed .grown .sized;
+        says = λ r s h. let k = within-asked .within r s h in ⊎-elim (λ z. inl (z .0)) (λ l. inr (l, from-truth P on small e (λ s. e) true (λ q s. refl) r s l k)) (truth-row P on small e (λ s. e) true (λ q s. refl) r s k);
+        all = λ p h. all-held P on small e (λ s. e) true (λ q s. refl) X (Used X) L (bits K) within-asked comp (λ i l o. closed .model .rule i (rw (comp .count) l) o) (λ s. s ≡ 0) in-zero
+            (λ s p v q. rw v (closed .grown .kept .within (rowFor P e p) 0 (asked .own p q)))
+            (λ i s l o v q. at-start i s l o v (once-same P on small K rel e (bodyAt P i) q))
+            (λ i s l o v k. at-start i s l o v (once-link P on small K rel e (bodyAt P i) (k .0) (k .1) (k .2) (k .3) (k .5) (k .6)))
+            (λ a b l rec r. rel .all a b l (unreach r))
+            (reach h) 0 refl refl;
+      }
+
+-- the entities of a role have bits
+in-body : (P : Pool) (on : List ℕ) → P .count ≤ 128 → (c : ℕ) {a : Role} → Reach (chosen P on) (E.Role a) (E.Entity c) → bitOf P c < P .count
+unfolding chosen
+in-body P on small c h =
+    let k = role-ends c h in
+    let r = chosen-find P on (P .count) (k .0) (k .1) in
+    bit-here P small c (r .0) (r .1) (ap (λ (x : Credential). x .body) (sym (r .3)) ∙ k .2) .0
+
+-- An expression is asked about by rows that answer what is from it
+
+module _ (P : Pool) (on : List ℕ) (small : P .count ≤ 128) (K : List ℕ) (rel : Relation P on K) (e : Expression) (L : List ℕ) (ans : Answers P on e L) (Y : Rules) where
+  abbrev Said : ℕ → ℕ → Bool
+  Said = Truth P on small e (λ s. e) true (λ q s. refl)
+
+  within-said : Within (bits L) Said
+  unfolding Truth
+  within-said = record { within = λ r s h. ⊎-elim (λ q. rw q refl) (λ k. to-truth P on small e (λ s. e) true (λ q s. refl) r s (k .0) (k .1)) (ans .says r s h) }
+
+  members-said : (a : Role) (b : ℕ) → bitOf P b < P .count → bits K (rowOf P a) (bitOf P b) ≡ true → From (chosen P on) (E.Role a) (E.Entity b)
+  members-said a b l h = member-says P on small K rel a b h l
+
+  held-said : {x y : Expression} → Reach (chosen P on) x y → y ≡ e → Hold P on small e (λ s. e) true (λ q s. refl) Y (λ s. s ≡ 0) L (bits K) within-said 0 x
+  held-said {x} (R.here) q = at-once x q
+    where
+      at-once : (x : Expression) → x ≡ e → Hold P on small e (λ s. e) true (λ q s. refl) Y (λ s. s ≡ 0) L (bits K) within-said 0 x
+      at-once (E.Entity c) q = q
+      at-once (E.Role p) q = ans .all p (subst (λ (y : Expression). From (chosen P on) (E.Role p) y) q reflexive)
+      at-once (E.Linked a m) q = inl q
+      at-once (E.Intersection p) q = inl q
+      at-once (E.Goal m) q = q
+  held-said (R.step {c = c} m h) q = ans .all (c .head) (transitive (credential m) (unreach (subst (λ (y : Expression). Reach (chosen P on) (c .body) y) q h)))
+  held-said (R.link {a = a} {n = n} {b = c} h₁ h₂) q =
+      let l = in-body P on small c h₁ in
+      inr (c, l, rel .all a c l (unreach h₁), ans .all (roleOf c n) (unreach (subst (λ (y : Expression). Reach (chosen P on) (E.Role (roleOf c n)) y) q h₂)))
+  held-said (R.each h) q = inr (λ p k. ans .all p (unreach (subst (λ (y : Expression). Reach (chosen P on) (E.Role p) y) q (h p k))))
+
   -- a rule of the expression f, where bit 0 of what it gives is w, says whether f is from e
-  pub answered : (f : Expression) (Y : Rules) (i : ℕ) (w : Bool) → Row P e Y i f → Takes Y i (λ s. s ≡ 0) (bits K) (bits L) (λ s. w)
+  pub answered : (f : Expression) (i : ℕ) (w : Bool) → Row P e Y i f → Takes Y i (λ s. s ≡ 0) (bits K) (bits L) (λ s. w)
       → ((m G : ℕ → ℕ → Bool) (g : Bool) → Within (bits L) G → Within (bits K) m → Takes Y i (λ s. s ≡ 0) m G (λ s. g) → w ≡ true → g ≡ true)
       → (atOnce P K e f || w) ≡ from? (chosen P on) f e
-  answered f Y i w row taken least =
+  answered f i w row taken least =
       decides (chosen P on) f e (atOnce P K e f || w)
       (λ h. ⊎-elim (λ q. once-says P on small K rel e f q)
       (λ q. sound (chosen P on) f e
-      (least (bits K) Truer (from? (chosen P on) f e) within-asked (record { within = λ r s q. q })
-      (takes-sound P on small e (λ s. e) true (λ q s. refl) Y (λ s. s ≡ 0) (bits K) members i f row (λ s. from? (chosen P on) f e) (λ s u h. complete (chosen P on) f e h)) q))
+      (least (bits K) Said (from? (chosen P on) f e) within-said (record { within = λ r s q. q })
+      (takes-sound P on small e (λ s. e) true (λ q s. refl) Y (λ s. s ≡ 0) (bits K) members-said i f row (λ s. from? (chosen P on) f e) (λ s u h. complete (chosen P on) f e h)) q))
       (or-cases (atOnce P K e f) w h))
-      (λ h. takes-hold P on small e (λ s. e) true (λ q s. refl) Y (λ s. s ≡ 0) L (bits K) within-asked i 0 f refl row (λ s. atOnce P K e f || w)
+      (λ h. takes-hold P on small e (λ s. e) true (λ q s. refl) Y (λ s. s ≡ 0) L (bits K) within-said i 0 f refl row (λ s. atOnce P K e f || w)
       (record { meet = λ s u a b c d. or-right (atOnce P K e f) w (taken .meet s u a b c d); link = λ j s u n m v. or-right (atOnce P K e f) w (taken .link j s u n m v) })
       (λ q. or-left _ _ (once-same P on small K rel e f q))
       (λ o. or-left _ _ (once-link P on small K rel e f (o .0) (o .1) (o .2) (o .3) (o .5) (o .6)))
-      (all-held P on small e (λ s. e) true (λ q s. refl) X (Used X) L (bits K) within-asked comp (λ i l o. closed .model .rule i (rw (comp .count) l) o) (λ s. s ≡ 0) in-zero
-      (λ s p v q. rw v (closed .grown .kept .within (rowFor P e p) 0 (asked .own p q)))
-      (λ i s l o v q. at-start i s l o v (once-same P on small K rel e (bodyAt P i) q))
-      (λ i s l o v k. at-start i s l o v (once-link P on small K rel e (bodyAt P i) (k .0) (k .1) (k .2) (k .3) (k .5) (k .6)))
-      (λ a b l rec r. rel .all a b l (unreach r))
-      (reach h) 0 refl refl))
+      (held-said (reach h) refl))
 
 -- An entity is asked about: bit bitOf b of the relation's rows stands for it
 
@@ -216,13 +263,6 @@ module _ (P : Pool) (on : List ℕ) (small : P .count ≤ 128) (K : List ℕ) (r
     known : (p : Role) → From (chosen P on) (E.Role p) (E.Entity b) → bits K (rowFor P (E.Entity b) p) (bitOf P b) ≡ true
     known p h = known-of P on small (E.Entity b) (bodyAt P) false (λ q. not-asked q) Y (λ s. s ≡ bitOf P b) K (bits K) within-rel p (bitOf P b) (rel .all p b here h)
 
-    in-body : (c : ℕ) {a : Role} → Reach (chosen P on) (E.Role a) (E.Entity c) → bitOf P c < P .count
-    unfolding chosen
-    in-body c h =
-        let k = role-ends c h in
-        let r = chosen-find P on (P .count) (k .0) (k .1) in
-        bit-here P small c (r .0) (r .1) (ap (λ (x : Credential). x .body) (sym (r .3)) ∙ k .2) .0
-
     held : {x y : Expression} → Reach (chosen P on) x y → y ≡ E.Entity b → Hold P on small (E.Entity b) (bodyAt P) false (λ q. not-asked q) Y (λ s. s ≡ bitOf P b) K (bits K) within-rel (bitOf P b) x
     held {x} (R.here) q = at-once x q
       where
@@ -234,7 +274,7 @@ module _ (P : Pool) (on : List ℕ) (small : P .count ≤ 128) (K : List ℕ) (r
         at-once (E.Goal m) q = q ∙ sym is-b
     held (R.step {c = c} m h) q = known (c .head) (transitive (credential m) (unreach (subst (λ (y : Expression). Reach (chosen P on) (c .body) y) q h)))
     held (R.link {a = a} {n = n} {b = c} h₁ h₂) q =
-        let l = in-body c h₁ in
+        let l = in-body P on small c h₁ in
         inr (c, l, rel .all a c l (unreach h₁), known (roleOf c n) (unreach (subst (λ (y : Expression). Reach (chosen P on) (E.Role (roleOf c n)) y) q h₂)))
     held (R.each h) q = inr (λ p k. known p (unreach (subst (λ (y : Expression). Reach (chosen P on) (E.Role p) y) q (h p k))))
 
@@ -258,3 +298,33 @@ module _ (P : Pool) (on : List ℕ) (small : P .count ≤ 128) (K : List ℕ) (r
         (λ q. or-left _ _ (once-same P on small K rel (E.Entity b) f (q ∙ is-b)))
         (λ o. absurd (role-entity (o .6 ∙ is-b)))
         (held (reach h) refl))
+
+-- The rows of an entity: bit bitOf b of the relation's rows, as bit 0
+
+-- the rows L have, as bit 0, bit s of the rows of K below k
+pub record Moved (K : List ℕ) (s k : ℕ) (L : List ℕ) : Type 0 where
+  pub sized : length L ≡ 260
+  pub says : (r t : ℕ) → bits L r t ≡ true → bits K r s ≡ true
+  pub all : (r : ℕ) → r < k → bits K r s ≡ true → bits L r 0 ≡ true
+
+module _ (P : Pool) (on : List ℕ) (small : P .count ≤ 128) (K : List ℕ) (rel : Relation P on K) (b : ℕ) where
+  -- an entity that is no body is in no role
+  pub answers-none : bitOf P b ≡ 128 → (L : List ℕ) → length L ≡ 260 → ((r s : ℕ) → bits L r s ≡ true → ⊥) → Answers P on (E.Entity b) L
+  answers-none z L sized empty =
+      record {
+        sized = sized;
+        says = λ r s h. absurd (empty r s h);
+        all = λ p h. absurd (let l = in-body P on small b (reach h) in omega arith);
+      }
+
+  -- the bits of an entity, moved, answer what is from it
+  pub answers-moved : bitOf P b < P .count → (k : ℕ) → P .count ≤ k → (L : List ℕ) → Moved K (bitOf P b) k L → Answers P on (E.Entity b) L
+  answers-moved l k le L m =
+      record {
+        sized = m .sized;
+        says = λ r t h. let z = rel .says r (bitOf P b) (m .says r t h) in inr (z .0, subst (λ (y : Expression). From (chosen P on) (E.Role (headAt P r)) y) (bit-found P small b (omega arith) .1) (z .1));
+        all = λ p h.
+            let q = rel .all p b l h in
+            let lr : rowOf P p < P .count = rel .says (rowOf P p) (bitOf P b) q .0 in
+            rw (← row-plain P b p) (m .all (rowOf P p) (omega arith) q);
+      }

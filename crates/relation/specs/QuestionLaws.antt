@@ -24,7 +24,7 @@ use Rattle.rules.specs.Table.{rowOf, bitOf, rowFor, chosen}
 use Rattle.rules.specs.Exact.{body-entity, chosen-mem, chosen-find, row-found, row-here, row-cases, bit-here}
 use Rattle.rules.specs.ColumnLaws.{no-bits, row-for-small}
 use Rattle.relation.specs.Relation.{Relation, Start, atOnce, Asked}
-use Rattle.relation.specs.Answer.{once-says}
+use Rattle.relation.specs.Answer.{once-says, Moved}
 use Rattle.relation.specs.Question.{Seeded, StartTo, OwnRow, startsAt, AskedTo}
 
 -- The row of a role where e is asked about
@@ -228,3 +228,31 @@ module _ (P : Pool) (on K : List ℕ) (small : P .count ≤ 128) (rel : Relation
   -- all credentials looked at
   pub asked-end : (k : ℕ) (K₀ : List ℕ) → P .count ≤ k → AskedTo P on K e k K₀ → Asked P on K e K₀
   asked-end k K₀ l inv = record { sized = inv .sized; says = inv .says; own = inv .own; seeds = λ i n o a. inv .seeds i (omega arith) o a }
+
+-- The rows of an entity, one after another
+
+module _ (K : List ℕ) (s : ℕ) where
+  -- none yet
+  pub moved-start : Moved K s 0 (replicate 260 0)
+  moved-start = record { sized = length-replicate {A = ℕ} 260 0; says = λ r t h. absurd (no-bits 260 r t h); all = λ r l h. absurd (omega arith) }
+
+  -- row k has the bit
+  pub moved-add : (k : ℕ) (L L′ : List ℕ) {b : Bool} → b ≡ bits K k s → b ≡ true → Marked L k 0 L′ → Moved K s k L → Moved K s (k + 1) L′
+  moved-add k L L′ h w m inv =
+      record {
+        sized = m .sized;
+        says = λ r t z. ⊎-elim (λ y. inv .says r t y) (λ y. rw (y .0) (sym h ∙ w)) (m .says r t z);
+        all = λ r l z. go r l z (eqb r k) refl;
+      }
+    where
+      go : (r : ℕ) → r < k + 1 → bits K r s ≡ true → (t : Bool) → eqb r k ≡ t → bits L′ r 0 ≡ true
+      go r l z true q = rw (eqb-true r k q) (m .here)
+      go r l z false q = m .kept .within _ _ (inv .all r (omega (arith, eqb-false r k q)) z)
+
+  -- row k does not have it
+  pub moved-skip : (k : ℕ) (L : List ℕ) {b : Bool} → b ≡ bits K k s → b ≡ false → Moved K s k L → Moved K s (k + 1) L
+  moved-skip k L h w inv = record { sized = inv .sized; says = inv .says; all = λ r l z. go r l z (eqb r k) refl }
+    where
+      go : (r : ℕ) → r < k + 1 → bits K r s ≡ true → (t : Bool) → eqb r k ≡ t → bits L r 0 ≡ true
+      go r l z true q = absurd (false-true (sym (sym h ∙ w) ∙ (rw (eqb-true r k q) at z)))
+      go r l z false q = inv .all r (omega (arith, eqb-false r k q)) z

@@ -27,8 +27,8 @@ use Rattle.rules.specs.Exact.{chosen-all, bit-cases}
 use Rattle.rules.specs.Columns.{fourRows, firstRow, isLinked, Able, NamedLink, Column, headRow, PartsTo}
 use Rattle.rules.specs.ColumnLaws.{put4, put-four, put-under, four-small, row-for-small, first-small, under-start, under-add, no-bits, not-linked}
 use Rattle.rules.specs.Ruled.{Ruled, row-of, linked-name, false-of, compiled-of}
-use Rattle.relation.specs.Relation.{Relation, atOnce, Asked}
-use Rattle.relation.specs.Answer.{answered, answered-entity, answered-alone}
+use Rattle.relation.specs.Relation.{Relation, atOnce, Asked, Answers}
+use Rattle.relation.specs.Answer.{answers, answered, answered-entity, answered-alone, Moved, answers-none, answers-moved}
 use Rattle.relation.specs.Question.{Reached}
 
 -- the rule of f alone
@@ -116,12 +116,27 @@ or-once false b c h q = q ∙ sym h
 
 -- The answer
 
--- what is reached from the closed rows of a question is the answer
-pub ask-of : (P : Pool) (on : List ℕ) → P .count ≤ 128 → (K : List ℕ) → Relation P on K → (e f : Expression) (X Y : Rules) → Ruled P X
+-- rows closed from where a question starts answer it
+pub column-of : (P : Pool) (on : List ℕ) → P .count ≤ 128 → (K : List ℕ) → Relation P on K → (e : Expression) (X Y : Rules) → Ruled P X
     → Y .count ≡ X .count → Y .words ≡ 1 → Y .head ≡ X .head → Y .first ≡ X .first → Y .named ≡ X .named → Y .src ≡ X .src → PartsTo (rowFor P e) P (P .count) (Y .part)
-    → (K₀ L : List ℕ) → Asked P on K e K₀ → Closed Y on false K K₀ L → (b : Bool) → Reached P K L 0 e f b → b ≡ from? (chosen P on) f e
-ask-of P on small K rel e f X Y ruled qc qw qh qf qn qs parts K₀ L asked closed b r =
-    r .is ∙ answered P on small K rel e Y (compiled-of P small e X Y ruled qc (omega arith) qh qf qn qs parts) qw K₀ L asked closed f (r .rules) 0 (r .given) (r .row) (r .taken) (r .least)
+    → (K₀ L : List ℕ) → Asked P on K e K₀ → Closed Y on false K K₀ L → Answers P on e L
+column-of P on small K rel e X Y ruled qc qw qh qf qn qs parts K₀ L asked closed =
+    answers P on small K rel e Y (compiled-of P small e X Y ruled qc (omega arith) qh qf qn qs parts) qw K₀ L asked closed
+
+-- no role is from an entity that is no body
+pub no-column : (P : Pool) (on : List ℕ) → P .count ≤ 128 → (K : List ℕ) → Relation P on K → (b s : ℕ) → s ≡ bitOf P b → 128 ≤ s → Answers P on (E.Entity b) (replicate 260 0)
+no-column P on small K rel b s q l =
+    answers-none P on small K rel b (⊎-elim (λ k. absurd (omega arith)) (λ k. k) (bit-cases P small b)) (replicate 260 0) (length-replicate {A = ℕ} 260 0) (λ r t h. no-bits 260 r t h)
+
+-- the bits of an entity that is a body answer what is from it
+pub entity-column : (P : Pool) (on : List ℕ) → P .count ≤ 128 → (K : List ℕ) → Relation P on K → (b s : ℕ) → s ≡ bitOf P b → s < 128 → (k : ℕ) → P .count ≤ k → (L : List ℕ) → Moved K s k L → Answers P on (E.Entity b) L
+entity-column P on small K rel b s q l k e L m =
+    let z : bitOf P b < P .count = ⊎-elim (λ k. k) (λ k. absurd (omega arith)) (bit-cases P small b) in
+    answers-moved P on small K rel b z k e L (subst (λ (t : ℕ). Moved K t k L) q m)
+
+-- what is reached from rows that answer is the answer
+pub ask-of : (P : Pool) (on : List ℕ) → P .count ≤ 128 → (K : List ℕ) → Relation P on K → (e f : Expression) (L : List ℕ) → Answers P on e L → (b : Bool) → Reached P K L 0 e f b → b ≡ from? (chosen P on) f e
+ask-of P on small K rel e f L ans b r = r .is ∙ answered P on small K rel e L ans (r .rules) f 0 (r .given) (r .row) (r .taken) (r .least)
 
 -- what is reached from the relation's rows is the answer about an entity that is a body
 pub entity-of : (P : Pool) (on : List ℕ) → P .count ≤ 128 → (K : List ℕ) → Relation P on K → (b s : ℕ) (f : Expression) (t : Bool) → s ≡ bitOf P b → s < 128 → Reached P K K s (E.Entity b) f t → t ≡ from? (chosen P on) f (E.Entity b)

@@ -26,18 +26,18 @@ ghost use Rattle.closure.specs.Rules.{rulesOf};
 ghost use Rattle.rules.specs.Table.{chosen};
 ghost use Rattle.rules.specs.Columns.{Column, headRow};
 ghost use Rattle.rules.specs.Ruled.{Ruled};
-ghost use Rattle.relation.specs.Relation.{Relation};
+ghost use Rattle.relation.specs.Relation.{Relation, Answers};
 ghost use Rattle.relation.specs.Question.{Reached};
 
 mod aimed;
+mod columns;
 mod said;
 mod start;
 
-use aimed::aim_parts;
 use aimed::aim_rows;
+pub use columns::column;
 use said::seed;
 use said::seeds;
-use start::asked;
 use start::once;
 
 // The relation of roles and entities over the credentials that are on.
@@ -208,47 +208,23 @@ fn by_entity<'a>(
     )
 }
 
-// Whether f is from e, by the rules from the rows that e starts.
-fn by_rules<'a>(
+// Whether f is from e, by the rows vals, which answer what is.
+pub fn in_column<'a>(
     n: usize,
     heads: &'a [u16; 256],
     kinds: &'a [u8; 256],
     numbers: &'a [u16; 1024],
-    words: usize,
     head: &'a [usize; 128],
-    part: &'a [usize; 512],
-    first: &'a [usize; 128],
-    named: &'a [u64; 260],
-    src: &'a [usize; 128],
-    deps: &'a [u64; 260],
     on: &'a [u8; 128],
     mem: &'a [u64; 260],
+    vals: &'a [u64; 260],
     f: Expression,
     e: Expression,
 ) -> bool
-    requires { ⌜ (n ≤ 128) × Ruled (poolOf n (now heads) (now kinds) (now numbers)) (rulesOf n words (now head) (now part) (now first) (now named) (now src)) × Relation (poolOf n (now heads) (now kinds) (now numbers)) (now on) (now mem) ⌝ }
+    requires { ⌜ (n ≤ 128) × Column (headRow (poolOf n (now heads) (now kinds) (now numbers))) 128 130 n (now head) × Relation (poolOf n (now heads) (now kinds) (now numbers)) (now on) (now mem) × Answers (poolOf n (now heads) (now kinds) (now numbers)) (now on) e (now vals) ⌝ }
     ensures { λ r. ⌜ r ≡ fromOf (chosen (poolOf n (now (heads .entry)) (now (kinds .entry)) (now (numbers .entry))) (now (on .entry))) f e ⌝ }
 {
-    let aimed = aim_parts(n, heads, kinds, numbers, part, e);
-    let mut vals = asked(n, heads, kinds, numbers, head, first, on, mem, e);
-    let todo = awake(deps, &vals);
-    close(
-        n,
-        1,
-        head,
-        &aimed,
-        first,
-        named,
-        src,
-        on,
-        mem,
-        false,
-        deps,
-        todo.lo,
-        todo.hi,
-        &mut vals,
-    );
-    reached(n, heads, kinds, numbers, head, mem, &vals, 0, e, f)
+    reached(n, heads, kinds, numbers, head, mem, vals, 0, e, f)
 }
 
 // Whether f is from e over the credentials that are on, whose relation is mem.
@@ -275,7 +251,7 @@ pub fn ask<'a>(
     if let Expression::Entity(b) = e {
         return by_entity(n, heads, kinds, numbers, head, on, mem, f, b);
     }
-    by_rules(
+    let vals = column(
         n,
         heads,
         kinds,
@@ -289,9 +265,9 @@ pub fn ask<'a>(
         deps,
         on,
         mem,
-        f,
         e,
-    )
+    );
+    in_column(n, heads, kinds, numbers, head, on, mem, &vals, f, e)
 }
 
 // Whether f is from e over the credentials of the pool.

@@ -11,11 +11,16 @@ by-entity-requires c κs = search needs
 returns : tie.Need-returns
 returns c = rw (c .before .before .e .given .1) (c .by-entity .ensures)
 
-by-rules-requires : tie.Need-by-rules-requires
-by-rules-requires c κs = search needs
+column-requires : tie.Need-column-requires
+column-requires c κs = search needs
+
+in-column-requires : tie.Need-in-column-requires
+in-column-requires c κs = search needs
 
 returns-2 : tie.Need-returns-2
 returns-2 c = search needs
 
 pub ask-spec : {M : Type 1} → statement M
-ask-spec = tie.close (tie.spec enum-known-e by-entity-requires returns by-rules-requires returns-2)
+ask-spec =
+    tie.close
+    (tie.spec enum-known-e by-entity-requires returns column-requires in-column-requires returns-2)

@@ -1,0 +1,69 @@
+use Prim.Native.Nat.{_-_, _≤_, _<_}
+use native.Mathlib.Omega.{arith}
+use mathlib.Core.Logic.{⊎-elim}
+use borrow.Author.Needs.{needs}
+use Rattle.rt0.specs.declared.Pool.{Pool}
+use Rattle.rt0.specs.Pool.{poolOf}
+use Rattle.relation.specs.Answer.{Moved}
+use Rattle.relation.specs.QuestionLaws.{moved-start, moved-add, moved-skip}
+use Rattle.relation.specs.Reached.{no-column, entity-column}
+use Rattle.relation.proofs.columns.entity_column.Statement.{statement}
+use Rattle.relation.proofs.columns.entity_column.Tie as tie
+
+abbrev Inv-loop : tie.InvT-loop
+Inv-loop n heads kinds numbers on mem b rows₀ s r₀ rows r = Moved mem s r rows × (r ≤ n)
+
+abbrev μ-loop : tie.MeasureT-loop
+μ-loop n heads kinds numbers on mem b rows₀ s r₀ rows r = n - r
+
+abbrev pool : (c : tie.Start Inv-loop μ-loop) → Pool
+pool c = poolOf (c .args .n) (c .args .heads .now) (c .args .kinds .now) (c .args .numbers .now)
+
+source-requires : tie.Need-source-requires Inv-loop μ-loop
+source-requires c κs = search needs
+
+returns : tie.Need-returns Inv-loop μ-loop
+returns c = no-column (pool (c .before .before)) (c .before .before .args .on .now) (c .before .before .pre .0) (c .before .before .args .mem .now) (c .before .before .pre .1) (c .before .before .args .b) (c .before .source .result) (c .before .source .ensures) (c .if1 .taken)
+
+loop-holds : tie.Need-loop-holds Inv-loop μ-loop
+loop-holds c = (moved-start _ _, omega arith)
+
+bit-requires : tie.Need-bit-requires Inv-loop μ-loop
+bit-requires c κs = (omega (arith, c .before .before .before .before .pre .0), c .before .before .if1 .left)
+
+mark-requires : tie.Need-mark-requires Inv-loop μ-loop
+mark-requires c κs = (omega (arith, c .before .before .before .before .before .before .before .pre .0), omega arith, c .before .before .before .before .loop .inv .0 .sized)
+
+add-r : tie.Need-add-r Inv-loop μ-loop
+add-r c = omega arith
+
+loop-less : tie.Need-loop-less Inv-loop μ-loop
+loop-less c = omega arith
+
+loop-again : tie.Need-loop-again Inv-loop μ-loop
+loop-again c = (
+  ⊎-elim
+      (λ w. rw (w .3) (moved-add (c .before .before .before .before .before .before .args .mem .now) (c .before .before .before .before .before .source .result) (c .before .before .before .loop .r) (c .before .before .before .loop .rows) _ (c .before .bit .ensures) (w .0 .taken) (w .2 .ensures) (c .before .before .before .loop .inv .0)))
+      (λ w. rw (w .1) (moved-skip (c .before .before .before .before .before .before .args .mem .now) (c .before .before .before .before .before .source .result) (c .before .before .before .loop .r) (c .before .before .before .loop .rows) (c .before .bit .ensures) (w .0 .left) (c .before .before .before .loop .inv .0)))
+      (c .if2 .came),
+  omega arith,
+)
+
+returns-2 : tie.Need-returns-2 Inv-loop μ-loop
+returns-2 c = entity-column (pool (c .before .before .before .before)) (c .before .before .before .before .args .on .now) (c .before .before .before .before .pre .0) (c .before .before .before .before .args .mem .now) (c .before .before .before .before .pre .1) (c .before .before .before .before .args .b) (c .before .before .before .source .result) (c .before .before .before .source .ensures) (c .before .before .if1 .left) (c .before .loop .r) (c .loop-test .left) (c .before .loop .rows) (c .before .loop .inv .0)
+
+pub entity-column-spec : {M : Type 1} → statement M
+entity-column-spec =
+    tie.close
+    (tie.spec
+    Inv-loop
+    μ-loop
+    source-requires
+    returns
+    loop-holds
+    bit-requires
+    mark-requires
+    add-r
+    loop-less
+    loop-again
+    returns-2)

@@ -1,0 +1,126 @@
+// The rows that answer what is from an expression e: bit 0 of a role's row says whether the role is.
+use crate::aimed::aim_parts;
+use crate::start::asked;
+use closure::awake;
+use closure::bit;
+use closure::close;
+use closure::mark;
+use expression::Expression;
+use rules::source;
+ghost use mathlib.Core.Path.{_≡_};
+ghost use Prim.Native.Nat.{_≤_};
+ghost use Rattle.rt0.specs.Pool.{poolOf};
+ghost use Rattle.closure.specs.Rules.{rulesOf};
+ghost use Rattle.rules.specs.Ruled.{Ruled};
+ghost use Rattle.relation.specs.Relation.{Relation, Answers};
+
+// The rows of the entity b: its bit of the relation.
+fn entity_column<'a>(
+    n: usize,
+    heads: &'a [u16; 256],
+    kinds: &'a [u8; 256],
+    numbers: &'a [u16; 1024],
+    on: &'a [u8; 128],
+    mem: &'a [u64; 260],
+    b: u16,
+) -> [u64; 260]
+    requires { ⌜ (n ≤ 128) × Relation (poolOf n (now heads) (now kinds) (now numbers)) (now on) (now mem) ⌝ }
+    ensures { λ r. ⌜ Answers (poolOf n (now (heads .entry)) (now (kinds .entry)) (now (numbers .entry))) (now (on .entry)) (Expression.Entity b) r ⌝ }
+{
+    let mut rows = [0u64; 260];
+    let s = source(n, heads, kinds, numbers, b);
+    if s >= 128 {
+        return rows;
+    }
+    let mut r = 0;
+    while r < n {
+        if bit(mem, r, s) {
+            mark(&mut rows, r, 0);
+        }
+        r += 1;
+    }
+    rows
+}
+
+// The rows of e, by the rules from the rows that it starts.
+fn rule_column<'a>(
+    n: usize,
+    heads: &'a [u16; 256],
+    kinds: &'a [u8; 256],
+    numbers: &'a [u16; 1024],
+    words: usize,
+    head: &'a [usize; 128],
+    part: &'a [usize; 512],
+    first: &'a [usize; 128],
+    named: &'a [u64; 260],
+    src: &'a [usize; 128],
+    deps: &'a [u64; 260],
+    on: &'a [u8; 128],
+    mem: &'a [u64; 260],
+    e: Expression,
+) -> [u64; 260]
+    requires { ⌜ (n ≤ 128) × Ruled (poolOf n (now heads) (now kinds) (now numbers)) (rulesOf n words (now head) (now part) (now first) (now named) (now src)) × Relation (poolOf n (now heads) (now kinds) (now numbers)) (now on) (now mem) ⌝ }
+    ensures { λ r. ⌜ Answers (poolOf n (now (heads .entry)) (now (kinds .entry)) (now (numbers .entry))) (now (on .entry)) e r ⌝ }
+{
+    let aimed = aim_parts(n, heads, kinds, numbers, part, e);
+    let mut vals = asked(n, heads, kinds, numbers, head, first, on, mem, e);
+    let todo = awake(deps, &vals);
+    close(
+        n,
+        1,
+        head,
+        &aimed,
+        first,
+        named,
+        src,
+        on,
+        mem,
+        false,
+        deps,
+        todo.lo,
+        todo.hi,
+        &mut vals,
+    );
+    vals
+}
+
+// The rows that answer what is from e over the credentials that are on, whose relation is mem.
+pub fn column<'a>(
+    n: usize,
+    heads: &'a [u16; 256],
+    kinds: &'a [u8; 256],
+    numbers: &'a [u16; 1024],
+    words: usize,
+    head: &'a [usize; 128],
+    part: &'a [usize; 512],
+    first: &'a [usize; 128],
+    named: &'a [u64; 260],
+    src: &'a [usize; 128],
+    deps: &'a [u64; 260],
+    on: &'a [u8; 128],
+    mem: &'a [u64; 260],
+    e: Expression,
+) -> [u64; 260]
+    requires { ⌜ (n ≤ 128) × Ruled (poolOf n (now heads) (now kinds) (now numbers)) (rulesOf n words (now head) (now part) (now first) (now named) (now src)) × Relation (poolOf n (now heads) (now kinds) (now numbers)) (now on) (now mem) ⌝ }
+    ensures { λ r. ⌜ Answers (poolOf n (now (heads .entry)) (now (kinds .entry)) (now (numbers .entry))) (now (on .entry)) e r ⌝ }
+{
+    if let Expression::Entity(b) = e {
+        return entity_column(n, heads, kinds, numbers, on, mem, b);
+    }
+    rule_column(
+        n,
+        heads,
+        kinds,
+        numbers,
+        words,
+        head,
+        part,
+        first,
+        named,
+        src,
+        deps,
+        on,
+        mem,
+        e,
+    )
+}
