@@ -1,0 +1,50 @@
+use borrow.Author.Needs.{needs}
+use native.Mathlib.Omega.{arith}
+use Prim.Native.Nat.{_-_}
+use Rattle.rules.specs.Table.{chosen}
+use Rattle.rt0.specs.Pool.{poolOf}
+use Rattle.graph.specs.Graph.{expressionFrom, edgesFrom}
+use Rattle.justification.specs.ImpliedLaws.{From, from-start, from-next, from-stop, from-done}
+use Rattle.justification.proofs.implied.implied_from.Statement.{statement}
+use Rattle.justification.proofs.implied.implied_from.Tie as tie
+
+abbrev Inv-loop : tie.InvT-loop
+Inv-loop kind parts n0 n1 n2 n3 n4 n5 n6 n7 m edge parent child q heads kinds numbers head on mem vals e c j₀ j = From (chosen (poolOf q heads kinds numbers) on) (expressionFrom kind parts n0 n1 n2 n3 n4 n5 n6 n7) (edgesFrom m edge parent child) c j
+
+abbrev μ-loop : tie.MeasureT-loop
+μ-loop kind parts n0 n1 n2 n3 n4 n5 n6 n7 m edge parent child q heads kinds numbers head on mem vals e c j₀ j = m - j
+
+loop-holds : tie.Need-loop-holds Inv-loop μ-loop
+loop-holds c = from-start _ _ _ _
+
+implied-at-requires : tie.Need-implied-at-requires Inv-loop μ-loop
+implied-at-requires c κs = ((c .loop-test .taken), (c .before .before .pre .0), (c .before .before .pre .1), (c .before .before .pre .2), (c .before .before .pre .3), (c .before .before .pre .4), (c .before .before .pre .5), (c .before .before .pre .6))
+
+returns : tie.Need-returns Inv-loop μ-loop
+returns c = from-stop _ _ _ _ (c .before .before .before .loop .inv) (c .before .before .loop-test .taken) (c .before .implied-at .ensures) (c .if1 .taken)
+
+add-j : tie.Need-add-j Inv-loop μ-loop
+add-j c = omega arith
+
+loop-less : tie.Need-loop-less Inv-loop μ-loop
+loop-less c = omega arith
+
+loop-again : tie.Need-loop-again Inv-loop μ-loop
+loop-again c = from-next _ _ _ _ (c .before .before .before .loop .inv) (c .before .before .loop-test .taken) (c .before .implied-at .ensures) (c .if1 .left)
+
+returns-2 : tie.Need-returns-2 Inv-loop μ-loop
+returns-2 c = from-done _ _ _ _ (c .before .loop .inv) (c .loop-test .left)
+
+pub implied-from-spec : {M : Type 1} → statement M
+implied-from-spec =
+    tie.close
+    (tie.spec
+    Inv-loop
+    μ-loop
+    loop-holds
+    implied-at-requires
+    returns
+    add-j
+    loop-less
+    loop-again
+    returns-2)

@@ -1,0 +1,50 @@
+use borrow.Author.Needs.{needs}
+use native.Mathlib.Omega.{arith}
+use Prim.Native.Nat.{_-_}
+use Rattle.rules.specs.Table.{chosen}
+use Rattle.rt0.specs.Pool.{poolOf}
+use Rattle.graph.specs.Graph.{expressionFrom, edgesFrom}
+use Rattle.justification.specs.ImpliedLaws.{Below, below-none, below-next, below-stop, below-done}
+use Rattle.justification.proofs.implied.nodes_implied.Statement.{statement}
+use Rattle.justification.proofs.implied.nodes_implied.Tie as tie
+
+abbrev Inv-loop : tie.InvT-loop
+Inv-loop n kind parts n0 n1 n2 n3 n4 n5 n6 n7 m edge parent child q heads kinds numbers words head part first named src deps on mem used c₀ c = Below (chosen (poolOf q heads kinds numbers) on) (expressionFrom kind parts n0 n1 n2 n3 n4 n5 n6 n7) (edgesFrom m edge parent child) n c
+
+abbrev μ-loop : tie.MeasureT-loop
+μ-loop n kind parts n0 n1 n2 n3 n4 n5 n6 n7 m edge parent child q heads kinds numbers words head part first named src deps on mem used c₀ c = n - c
+
+loop-holds : tie.Need-loop-holds Inv-loop μ-loop
+loop-holds c = below-none _ _ _ _
+
+node-implied-requires : tie.Need-node-implied-requires Inv-loop μ-loop
+node-implied-requires c κs = (omega arith, (c .before .before .pre .2), (c .before .before .pre .3), (c .before .before .pre .4), (c .before .before .pre .5), (c .before .before .pre .6), (c .before .before .pre .7))
+
+returns : tie.Need-returns Inv-loop μ-loop
+returns c = below-stop _ _ _ (c .before .before .before .loop .inv) (c .before .node-implied .ensures) (c .if1 .taken)
+
+add-c : tie.Need-add-c Inv-loop μ-loop
+add-c c = omega arith
+
+loop-less : tie.Need-loop-less Inv-loop μ-loop
+loop-less c = omega arith
+
+loop-again : tie.Need-loop-again Inv-loop μ-loop
+loop-again c = below-next _ _ _ (c .before .before .before .loop .inv) (c .before .before .loop-test .taken) (c .before .node-implied .ensures) (c .if1 .left)
+
+returns-2 : tie.Need-returns-2 Inv-loop μ-loop
+returns-2 c = below-done _ _ _ (c .before .loop .inv) (c .before .before .pre .1) (c .loop-test .left)
+
+pub nodes-implied-spec : {M : Type 1} → statement M
+nodes-implied-spec =
+    tie.close
+    (tie.spec
+    Inv-loop
+    μ-loop
+    loop-holds
+    node-implied-requires
+    returns
+    add-c
+    loop-less
+    loop-again
+    returns-2)

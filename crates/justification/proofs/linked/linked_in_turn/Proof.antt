@@ -1,0 +1,57 @@
+use Rattle.graph.specs.Graph.{nodesFrom, edgesFrom}
+use borrow.Author.Needs.{needs}
+use native.Mathlib.Omega.{arith}
+use Prim.Native.Nat.{_-_}
+use Rattle.justification.specs.LinkedLaws.{Monitoring, monitoring-start, says-so-far, monitoring-stop, monitoring-next, monitoring-done, edge-inside}
+use Rattle.justification.proofs.linked.linked_in_turn.Statement.{statement}
+use Rattle.justification.proofs.linked.linked_in_turn.Tie as tie
+use Rattle.justification.proofs.linked.linked_in_turn.Reads as reads
+
+abbrev Inv-loop : tie.InvT-loop
+Inv-loop n kind parts n0 n1 n2 n3 n4 n5 n6 n7 subject verifier state m edge parent child from slot need head₀ next₀ got₀ sat₀ queue₀ tail t₀ j₀ head next got sat queue t j = Monitoring (nodesFrom n kind parts n0 n1 n2 n3 n4 n5 n6 n7 subject verifier state) (edgesFrom m edge parent child) from slot need head next got sat queue t j
+
+abbrev μ-loop : tie.MeasureT-loop
+μ-loop n kind parts n0 n1 n2 n3 n4 n5 n6 n7 subject verifier state m edge parent child from slot need head₀ next₀ got₀ sat₀ queue₀ tail t₀ j₀ head next got sat queue t j = m - j
+
+loop-holds : tie.Need-loop-holds Inv-loop μ-loop
+loop-holds c = monitoring-start _ _ _ _ _ (c .pre .6) (c .pre .7)
+
+edge-at-requires : tie.Need-edge-at-requires Inv-loop μ-loop
+edge-at-requires c κs = search needs
+
+is-monitored-if-requires : tie.Need-is-monitored-if-requires Inv-loop μ-loop
+is-monitored-if-requires c κs = ((c .before .before .before .before .pre .0), omega (arith, (c .before .before .loop-test .taken), (c .before .before .before .before .pre .1)), edge-inside _ _ (c .before .before .before .before .pre .3) (c .before .before .loop-test .taken) (c .before .edge-at .ensures) .0, edge-inside _ _ (c .before .before .before .before .pre .3) (c .before .before .loop-test .taken) (c .before .edge-at .ensures) .1, says-so-far _ _ _ _ _ (c .before .before .before .loop .inv) (c .before .before .before .before .pre .2) (c .before .before .before .before .pre .4) (c .before .before .before .before .pre .5))
+
+returns : tie.Need-returns Inv-loop μ-loop
+returns c = monitoring-stop _ _ _ _ _ (c .before .before .before .before .before .loop .inv) (c .before .before .before .before .loop-test .taken) (c .before .before .before .edge-at .ensures) (c .before .is-monitored-if .ensures) (c .if1 .taken)
+
+insert-requires : tie.Need-insert-requires Inv-loop μ-loop
+insert-requires c κs = (omega (arith, (c .before .before .before .before .before .before .before .before .before .loop-test .taken), (c .before .before .before .before .before .before .before .before .before .before .before .pre .1)), (c .before .before .before .before .before .before .before .before .before .before .loop .inv .chained), (c .before .before .before .before .before .before .before .before .before .before .loop .inv .done))
+
+add-j : tie.Need-add-j Inv-loop μ-loop
+add-j c = omega (arith, (c .before .before .before .before .before .before .before .before .before .before .loop-test .taken), (c .before .before .before .before .before .before .before .before .before .before .before .before .pre .1))
+
+loop-less : tie.Need-loop-less Inv-loop μ-loop
+loop-less c = omega (arith, (c .before .before .before .before .before .before .before .before .before .before .loop-test .taken))
+
+loop-again : tie.Need-loop-again Inv-loop μ-loop
+loop-again c = monitoring-next _ _ _ _ _ (c .before .before .before .before .before .before .before .before .before .before .before .loop .inv) (c .before .before .before .before .before .before .before .before .before .before .loop-test .taken) (c .before .before .before .before .before .before .before .before .before .edge-at .ensures) (c .before .before .before .before .before .before .before .is-monitored-if .ensures) (c .before .before .before .before .before .before .if1 .left) (c .insert .ensures .0) (c .insert .ensures .1)
+
+returns-2 : tie.Need-returns-2 Inv-loop μ-loop
+returns-2 c = monitoring-done _ _ _ _ _ (c .before .loop .inv) (c .loop-test .left)
+
+pub linked-in-turn-spec : {M : Type 1} → statement M
+linked-in-turn-spec =
+    tie.close
+    (tie.spec
+    Inv-loop
+    μ-loop
+    loop-holds
+    edge-at-requires
+    is-monitored-if-requires
+    returns
+    insert-requires
+    add-j
+    loop-less
+    loop-again
+    returns-2)

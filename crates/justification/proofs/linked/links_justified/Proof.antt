@@ -1,0 +1,26 @@
+use Rattle.propagation.specs.Chains.{chain-start}
+use Rattle.propagation.specs.WorkLaws.{start}
+use borrow.Author.Needs.{needs}
+use Rattle.justification.proofs.linked.links_justified.Statement.{statement}
+use Rattle.justification.proofs.linked.links_justified.Tie as tie
+use Rattle.justification.proofs.linked.links_justified.Reads as reads
+
+needs-requires : tie.Need-needs-requires
+needs-requires c κs = search needs
+
+links-requires : tie.Need-links-requires
+links-requires c κs = search needs
+
+seed-requires : tie.Need-seed-requires
+seed-requires c κs = start _ (c .before .before .before .before .before .before .before .links .ensures .slots)
+
+linked-in-turn-requires : tie.Need-linked-in-turn-requires
+linked-in-turn-requires c κs = ((c .before .before .before .before .before .before .before .before .before .before .before .before .before .before .before .before .before .before .before .before .before .before .before .before .before .before .before .before .before .before .before .before .before .before .before .before .before .pre .0), (c .before .before .before .before .before .before .before .before .before .before .before .before .before .before .before .before .before .before .before .before .before .before .before .before .before .before .before .before .before .before .before .before .before .before .before .before .before .pre .1), (c .before .before .before .before .before .before .before .before .before .before .before .before .before .before .before .before .before .before .before .before .before .before .before .before .before .before .before .before .before .before .before .before .before .before .before .before .before .pre .2), (c .before .before .before .before .before .before .before .before .before .before .before .before .before .before .before .before .before .before .before .before .before .before .before .before .before .before .before .before .before .before .before .before .before .before .before .before .before .pre .3), (c .before .before .before .before .before .before .before .before .before .before .before .before .before .before .before .before .before .before .before .before .before .before .before .before .before .before .before .before .before .before .before .before .before .before .before .links .ensures), (c .before .before .before .before .before .before .before .before .before .before .before .before .before .before .before .before .before .before .before .before .before .before .before .before .before .before .before .before .before .before .before .before .before .before .before .before .needs .ensures), chain-start _, (c .before .before .before .before .before .before .before .before .before .before .before .before .before .before .before .before .before .before .before .before .before .before .before .before .before .before .before .seed .ensures))
+
+returns : tie.Need-returns
+returns c = search needs
+
+pub links-justified-spec : {M : Type 1} → statement M
+links-justified-spec =
+    tie.close
+    (tie.spec needs-requires links-requires seed-requires linked-in-turn-requires returns)

@@ -1,0 +1,371 @@
+// Implication edges of kind 1.
+use closure::readers;
+use expression::Expression;
+use graph::Edges;
+use graph::Nodes;
+use graph::expression_at;
+use relation::column;
+use relation::in_column;
+use relation::relation;
+use rt0::Pool;
+use rules::rules_of;
+ghost use mathlib.Core.Path.{_≡_};
+ghost use Prim.Native.Nat.{_≤_, _<_};
+ghost use Rattle.rt0.specs.Lists.{all};
+ghost use Rattle.rt0.specs.Pool.{poolOf, credentials};
+ghost use Rattle.graph.specs.Graph.{expressionFrom, edgesFrom, edgeAt, nodesOf, edgesOf};
+ghost use Rattle.rules.specs.Table.{chosen};
+ghost use Rattle.rules.specs.Columns.{Column, headRow};
+ghost use Rattle.rules.specs.Ruled.{Ruled};
+ghost use Rattle.closure.specs.Rules.{rulesOf};
+ghost use Rattle.relation.specs.Relation.{Relation, Answers};
+ghost use Rattle.justification.specs.Inside.{Inside};
+ghost use Rattle.justification.specs.Justified.{impliedIf};
+ghost use Rattle.justification.specs.Implied.{impliedFrom, allFrom, allImplied, Children};
+
+const IMPLICATION: u8 = 1;
+
+fn wide(x: u8) -> usize
+    ensures { λ r. ⌜ r ≡ x ⌝ }
+{
+    x as usize
+}
+
+// The children of edges of kind 1.
+fn children<'a>(
+    m: usize,
+    edge: &'a [u8; 256],
+    parent: &'a [u8; 256],
+    child: &'a [u8; 256],
+) -> [u8; 128]
+    requires { ⌜ (m ≤ 256) × Inside 128 (edgesFrom m (now edge) (now parent) (now child)) ⌝ }
+    ensures { λ r. ⌜ Children (edgesFrom m (now (edge .entry)) (now (parent .entry)) (now (child .entry))) m r ⌝ }
+{
+    let mut r = [0u8; 128];
+    let mut j = 0;
+    while j < m {
+        if edge[j] == IMPLICATION {
+            r[wide(child[j])] = 1;
+        }
+        j += 1;
+    }
+    r
+}
+
+// Whether edge j, if it is of kind 1 and from node c, is implied; e is the expression of c, and vals answers what is from it.
+fn implied_at<'a>(
+    kind: &'a [u8; 128],
+    parts: &'a [u8; 128],
+    n0: &'a [u16; 128],
+    n1: &'a [u16; 128],
+    n2: &'a [u16; 128],
+    n3: &'a [u16; 128],
+    n4: &'a [u16; 128],
+    n5: &'a [u16; 128],
+    n6: &'a [u16; 128],
+    n7: &'a [u16; 128],
+    m: usize,
+    edge: &'a [u8; 256],
+    parent: &'a [u8; 256],
+    child: &'a [u8; 256],
+    q: usize,
+    heads: &'a [u16; 256],
+    kinds: &'a [u8; 256],
+    numbers: &'a [u16; 1024],
+    head: &'a [usize; 128],
+    on: &'a [u8; 128],
+    mem: &'a [u64; 260],
+    vals: &'a [u64; 260],
+    e: Expression,
+    c: usize,
+    j: usize,
+) -> bool
+    requires { ⌜ (j < m) × (m ≤ 256) × Inside 128 (edgesFrom m (now edge) (now parent) (now child)) × (q ≤ 128) × Column (headRow (poolOf q (now heads) (now kinds) (now numbers))) 128 130 q (now head) × Relation (poolOf q (now heads) (now kinds) (now numbers)) (now on) (now mem) × Answers (poolOf q (now heads) (now kinds) (now numbers)) (now on) e (now vals) × (e ≡ expressionFrom (now kind) (now parts) (now n0) (now n1) (now n2) (now n3) (now n4) (now n5) (now n6) (now n7) c) ⌝ }
+    ensures { λ r. ⌜ r ≡ impliedFrom (chosen (poolOf q (now (heads .entry)) (now (kinds .entry)) (now (numbers .entry))) (now (on .entry))) (expressionFrom (now (kind .entry)) (now (parts .entry)) (now (n0 .entry)) (now (n1 .entry)) (now (n2 .entry)) (now (n3 .entry)) (now (n4 .entry)) (now (n5 .entry)) (now (n6 .entry)) (now (n7 .entry))) c (edgeAt (edgesFrom m (now (edge .entry)) (now (parent .entry)) (now (child .entry))) j) ⌝ }
+{
+    if (edge[j] != IMPLICATION) | (wide(child[j]) != c) {
+        return true;
+    }
+    let f = expression_at(kind, parts, n0, n1, n2, n3, n4, n5, n6, n7, wide(parent[j]));
+    in_column(q, heads, kinds, numbers, head, on, mem, vals, f, e)
+}
+
+// Whether the edges of kind 1 from node c are implied.
+fn implied_from<'a>(
+    kind: &'a [u8; 128],
+    parts: &'a [u8; 128],
+    n0: &'a [u16; 128],
+    n1: &'a [u16; 128],
+    n2: &'a [u16; 128],
+    n3: &'a [u16; 128],
+    n4: &'a [u16; 128],
+    n5: &'a [u16; 128],
+    n6: &'a [u16; 128],
+    n7: &'a [u16; 128],
+    m: usize,
+    edge: &'a [u8; 256],
+    parent: &'a [u8; 256],
+    child: &'a [u8; 256],
+    q: usize,
+    heads: &'a [u16; 256],
+    kinds: &'a [u8; 256],
+    numbers: &'a [u16; 1024],
+    head: &'a [usize; 128],
+    on: &'a [u8; 128],
+    mem: &'a [u64; 260],
+    vals: &'a [u64; 260],
+    e: Expression,
+    c: usize,
+) -> bool
+    requires { ⌜ (m ≤ 256) × Inside 128 (edgesFrom m (now edge) (now parent) (now child)) × (q ≤ 128) × Column (headRow (poolOf q (now heads) (now kinds) (now numbers))) 128 130 q (now head) × Relation (poolOf q (now heads) (now kinds) (now numbers)) (now on) (now mem) × Answers (poolOf q (now heads) (now kinds) (now numbers)) (now on) e (now vals) × (e ≡ expressionFrom (now kind) (now parts) (now n0) (now n1) (now n2) (now n3) (now n4) (now n5) (now n6) (now n7) c) ⌝ }
+    ensures { λ r. ⌜ r ≡ allFrom (chosen (poolOf q (now (heads .entry)) (now (kinds .entry)) (now (numbers .entry))) (now (on .entry))) (expressionFrom (now (kind .entry)) (now (parts .entry)) (now (n0 .entry)) (now (n1 .entry)) (now (n2 .entry)) (now (n3 .entry)) (now (n4 .entry)) (now (n5 .entry)) (now (n6 .entry)) (now (n7 .entry))) (edgesOf (edgesFrom m (now (edge .entry)) (now (parent .entry)) (now (child .entry)))) c ⌝ }
+{
+    let mut j = 0;
+    while j < m {
+        if !implied_at(
+            kind,
+            parts,
+            n0,
+            n1,
+            n2,
+            n3,
+            n4,
+            n5,
+            n6,
+            n7,
+            m,
+            edge,
+            parent,
+            child,
+            q,
+            heads,
+            kinds,
+            numbers,
+            head,
+            on,
+            mem,
+            vals,
+            e,
+            c,
+            j,
+        ) {
+            return false;
+        }
+        j += 1;
+    }
+    true
+}
+
+// Whether the edges of kind 1 from node c are implied, the children of all being used.
+fn node_implied<'a>(
+    kind: &'a [u8; 128],
+    parts: &'a [u8; 128],
+    n0: &'a [u16; 128],
+    n1: &'a [u16; 128],
+    n2: &'a [u16; 128],
+    n3: &'a [u16; 128],
+    n4: &'a [u16; 128],
+    n5: &'a [u16; 128],
+    n6: &'a [u16; 128],
+    n7: &'a [u16; 128],
+    m: usize,
+    edge: &'a [u8; 256],
+    parent: &'a [u8; 256],
+    child: &'a [u8; 256],
+    q: usize,
+    heads: &'a [u16; 256],
+    kinds: &'a [u8; 256],
+    numbers: &'a [u16; 1024],
+    words: usize,
+    head: &'a [usize; 128],
+    part: &'a [usize; 512],
+    first: &'a [usize; 128],
+    named: &'a [u64; 260],
+    src: &'a [usize; 128],
+    deps: &'a [u64; 260],
+    on: &'a [u8; 128],
+    mem: &'a [u64; 260],
+    used: &'a [u8; 128],
+    c: usize,
+) -> bool
+    requires { ⌜ (c < 128) × (m ≤ 256) × Inside 128 (edgesFrom m (now edge) (now parent) (now child)) × (q ≤ 128) × Ruled (poolOf q (now heads) (now kinds) (now numbers)) (rulesOf q words (now head) (now part) (now first) (now named) (now src)) × Relation (poolOf q (now heads) (now kinds) (now numbers)) (now on) (now mem) × Children (edgesFrom m (now edge) (now parent) (now child)) m (now used) ⌝ }
+    ensures { λ r. ⌜ r ≡ allFrom (chosen (poolOf q (now (heads .entry)) (now (kinds .entry)) (now (numbers .entry))) (now (on .entry))) (expressionFrom (now (kind .entry)) (now (parts .entry)) (now (n0 .entry)) (now (n1 .entry)) (now (n2 .entry)) (now (n3 .entry)) (now (n4 .entry)) (now (n5 .entry)) (now (n6 .entry)) (now (n7 .entry))) (edgesOf (edgesFrom m (now (edge .entry)) (now (parent .entry)) (now (child .entry)))) c ⌝ }
+{
+    if used[c] != 1 {
+        return true;
+    }
+    let e = expression_at(kind, parts, n0, n1, n2, n3, n4, n5, n6, n7, c);
+    let vals = column(
+        q,
+        heads,
+        kinds,
+        numbers,
+        words,
+        head,
+        part,
+        first,
+        named,
+        src,
+        deps,
+        on,
+        mem,
+        e,
+    );
+    implied_from(
+        kind,
+        parts,
+        n0,
+        n1,
+        n2,
+        n3,
+        n4,
+        n5,
+        n6,
+        n7,
+        m,
+        edge,
+        parent,
+        child,
+        q,
+        heads,
+        kinds,
+        numbers,
+        head,
+        on,
+        mem,
+        &vals,
+        e,
+        c,
+    )
+}
+
+// Whether the edges of kind 1 from n nodes are implied.
+fn nodes_implied<'a>(
+    n: usize,
+    kind: &'a [u8; 128],
+    parts: &'a [u8; 128],
+    n0: &'a [u16; 128],
+    n1: &'a [u16; 128],
+    n2: &'a [u16; 128],
+    n3: &'a [u16; 128],
+    n4: &'a [u16; 128],
+    n5: &'a [u16; 128],
+    n6: &'a [u16; 128],
+    n7: &'a [u16; 128],
+    m: usize,
+    edge: &'a [u8; 256],
+    parent: &'a [u8; 256],
+    child: &'a [u8; 256],
+    q: usize,
+    heads: &'a [u16; 256],
+    kinds: &'a [u8; 256],
+    numbers: &'a [u16; 1024],
+    words: usize,
+    head: &'a [usize; 128],
+    part: &'a [usize; 512],
+    first: &'a [usize; 128],
+    named: &'a [u64; 260],
+    src: &'a [usize; 128],
+    deps: &'a [u64; 260],
+    on: &'a [u8; 128],
+    mem: &'a [u64; 260],
+    used: &'a [u8; 128],
+) -> bool
+    requires { ⌜ (n ≤ 128) × Inside n (edgesFrom m (now edge) (now parent) (now child)) × (m ≤ 256) × Inside 128 (edgesFrom m (now edge) (now parent) (now child)) × (q ≤ 128) × Ruled (poolOf q (now heads) (now kinds) (now numbers)) (rulesOf q words (now head) (now part) (now first) (now named) (now src)) × Relation (poolOf q (now heads) (now kinds) (now numbers)) (now on) (now mem) × Children (edgesFrom m (now edge) (now parent) (now child)) m (now used) ⌝ }
+    ensures { λ r. ⌜ r ≡ allImplied (chosen (poolOf q (now (heads .entry)) (now (kinds .entry)) (now (numbers .entry))) (now (on .entry))) (expressionFrom (now (kind .entry)) (now (parts .entry)) (now (n0 .entry)) (now (n1 .entry)) (now (n2 .entry)) (now (n3 .entry)) (now (n4 .entry)) (now (n5 .entry)) (now (n6 .entry)) (now (n7 .entry))) (edgesOf (edgesFrom m (now (edge .entry)) (now (parent .entry)) (now (child .entry)))) ⌝ }
+{
+    let mut c = 0;
+    while c < n {
+        if !node_implied(
+            kind,
+            parts,
+            n0,
+            n1,
+            n2,
+            n3,
+            n4,
+            n5,
+            n6,
+            n7,
+            m,
+            edge,
+            parent,
+            child,
+            q,
+            heads,
+            kinds,
+            numbers,
+            words,
+            head,
+            part,
+            first,
+            named,
+            src,
+            deps,
+            on,
+            mem,
+            used,
+            c,
+        ) {
+            return false;
+        }
+        c += 1;
+    }
+    true
+}
+
+// Whether every edge of kind 1 is implied by the credentials: one relation for all, and one column for each child.
+pub fn edges_implied(nodes: Nodes, edges: Edges, shown: Pool) -> bool
+    requires { ⌜ (nodes .count ≤ 128) × (edges .count ≤ 256) × (shown .count ≤ 128) × Inside (nodes .count) edges ⌝ }
+    ensures { λ r. ⌜ r ≡ all (impliedIf (credentials shown) (nodesOf nodes)) (edgesOf edges) ⌝ }
+{
+    let used = children(edges.count, &edges.kind, &edges.parent, &edges.child);
+    let x = rules_of(shown.count, &shown.heads, &shown.kinds, &shown.numbers);
+    let deps = readers(shown.count, &x.part, &x.first, &x.named);
+    let on = [1u8; 128];
+    let mem = relation(
+        shown.count,
+        &shown.heads,
+        &shown.kinds,
+        &shown.numbers,
+        x.words,
+        &x.head,
+        &x.part,
+        &x.first,
+        &x.named,
+        &x.src,
+        &deps,
+        &on,
+    );
+    nodes_implied(
+        nodes.count,
+        &nodes.kind,
+        &nodes.parts,
+        &nodes.n0,
+        &nodes.n1,
+        &nodes.n2,
+        &nodes.n3,
+        &nodes.n4,
+        &nodes.n5,
+        &nodes.n6,
+        &nodes.n7,
+        edges.count,
+        &edges.kind,
+        &edges.parent,
+        &edges.child,
+        shown.count,
+        &shown.heads,
+        &shown.kinds,
+        &shown.numbers,
+        x.words,
+        &x.head,
+        &x.part,
+        &x.first,
+        &x.named,
+        &x.src,
+        &deps,
+        &on,
+        &mem,
+        &used,
+    )
+}

@@ -1,0 +1,479 @@
+// Linking implication edges.
+use expression::Expression;
+use expression::Role;
+use expression::same;
+use graph::Edge;
+use graph::Edges;
+use graph::Nodes;
+use graph::edge_at;
+use graph::expression_at;
+use graph::node_at;
+use propagation::insert;
+use propagation::seed;
+use states::links;
+use states::needs;
+ghost use mathlib.Core.Path.{_≡_};
+ghost use mathlib.Core.List.{[]};
+ghost use Prim.Native.Nat.{_≤_, _<_};
+ghost use Rattle.graph.specs.Graph.{nodesFrom, edgesFrom, edgeAt, nodesOf, edgesOf};
+ghost use Rattle.justification.specs.Justified.{isSolutionFor, solves, solved, monitors, monitored, monitoredIf, Says};
+ghost use Rattle.justification.specs.InTurn.{inTurn};
+ghost use Rattle.justification.specs.Inside.{Inside};
+ghost use Rattle.propagation.specs.Chains.{Chained};
+ghost use Rattle.propagation.specs.Satisfied.{graph};
+ghost use Rattle.propagation.specs.Work.{work, Done};
+ghost use Rattle.states.specs.Brings.{NodesFormed, Joined, Needs};
+
+const LINKING_IMPLICATION: u8 = 4;
+
+const MONITOR: u8 = 2;
+
+const SOLUTION: u8 = 3;
+
+fn wide(x: u8) -> usize
+    ensures { λ r. ⌜ r ≡ x ⌝ }
+{
+    x as usize
+}
+
+// Whether y is B.r2, where x is A.r1.r2.
+fn is_solution_for(x: Expression, b: u16, y: Expression) -> bool
+    ensures { λ r. ⌜ r ≡ isSolutionFor x b y ⌝ }
+{
+    match x {
+        Expression::Entity(_) => false,
+        Expression::Role(_) => false,
+        Expression::Linked(_, r) => same(y, Expression::Role(Role { entity: b, name: r })),
+        Expression::Intersection(_) => false,
+        Expression::Goal(_) => false,
+    }
+}
+
+// Whether edge j brings the goal g a satisfied solution for x and B.
+fn solves_at<'a>(
+    n: usize,
+    kind: &'a [u8; 128],
+    parts: &'a [u8; 128],
+    n0: &'a [u16; 128],
+    n1: &'a [u16; 128],
+    n2: &'a [u16; 128],
+    n3: &'a [u16; 128],
+    n4: &'a [u16; 128],
+    n5: &'a [u16; 128],
+    n6: &'a [u16; 128],
+    n7: &'a [u16; 128],
+    subject: &'a [u16; 128],
+    verifier: &'a [u8; 128],
+    state: &'a [u8; 128],
+    m: usize,
+    edge: &'a [u8; 256],
+    parent: &'a [u8; 256],
+    child: &'a [u8; 256],
+    sat: &'a [u8; 128],
+    x: Expression,
+    b: u16,
+    g: u8,
+    j: usize,
+) -> bool
+    requires { ⌜ (n ≤ 128) × (m ≤ 256) × (j < m) × Says (nodesOf (nodesFrom n (now kind) (now parts) (now n0) (now n1) (now n2) (now n3) (now n4) (now n5) (now n6) (now n7) (now subject) (now verifier) (now state))) (edgesOf (edgesFrom m (now edge) (now parent) (now child))) (now sat) ⌝ }
+    ensures { λ r. ⌜ r ≡ solves (nodesOf (nodesFrom n (now (kind .entry)) (now (parts .entry)) (now (n0 .entry)) (now (n1 .entry)) (now (n2 .entry)) (now (n3 .entry)) (now (n4 .entry)) (now (n5 .entry)) (now (n6 .entry)) (now (n7 .entry)) (now (subject .entry)) (now (verifier .entry)) (now (state .entry)))) (edgesOf (edgesFrom m (now (edge .entry)) (now (parent .entry)) (now (child .entry)))) x b g (edgeAt (edgesFrom m (now (edge .entry)) (now (parent .entry)) (now (child .entry))) j) ⌝ }
+{
+    if (edge[j] != SOLUTION) | (parent[j] != g) {
+        return false;
+    }
+    let c = wide(child[j]);
+    if n <= c {
+        return false;
+    }
+    if sat[c] != 1 {
+        return false;
+    }
+    is_solution_for(
+        x,
+        b,
+        expression_at(kind, parts, n0, n1, n2, n3, n4, n5, n6, n7, c),
+    )
+}
+
+// Whether the goal g has a satisfied solution for x and B.
+fn is_solved<'a>(
+    n: usize,
+    kind: &'a [u8; 128],
+    parts: &'a [u8; 128],
+    n0: &'a [u16; 128],
+    n1: &'a [u16; 128],
+    n2: &'a [u16; 128],
+    n3: &'a [u16; 128],
+    n4: &'a [u16; 128],
+    n5: &'a [u16; 128],
+    n6: &'a [u16; 128],
+    n7: &'a [u16; 128],
+    subject: &'a [u16; 128],
+    verifier: &'a [u8; 128],
+    state: &'a [u8; 128],
+    m: usize,
+    edge: &'a [u8; 256],
+    parent: &'a [u8; 256],
+    child: &'a [u8; 256],
+    sat: &'a [u8; 128],
+    x: Expression,
+    b: u16,
+    g: u8,
+) -> bool
+    requires { ⌜ (n ≤ 128) × (m ≤ 256) × Says (nodesOf (nodesFrom n (now kind) (now parts) (now n0) (now n1) (now n2) (now n3) (now n4) (now n5) (now n6) (now n7) (now subject) (now verifier) (now state))) (edgesOf (edgesFrom m (now edge) (now parent) (now child))) (now sat) ⌝ }
+    ensures { λ r. ⌜ r ≡ solved (nodesOf (nodesFrom n (now (kind .entry)) (now (parts .entry)) (now (n0 .entry)) (now (n1 .entry)) (now (n2 .entry)) (now (n3 .entry)) (now (n4 .entry)) (now (n5 .entry)) (now (n6 .entry)) (now (n7 .entry)) (now (subject .entry)) (now (verifier .entry)) (now (state .entry)))) (edgesOf (edgesFrom m (now (edge .entry)) (now (parent .entry)) (now (child .entry)))) x b g ⌝ }
+{
+    let mut j = 0;
+    while j < m {
+        if solves_at(
+            n,
+            kind,
+            parts,
+            n0,
+            n1,
+            n2,
+            n3,
+            n4,
+            n5,
+            n6,
+            n7,
+            subject,
+            verifier,
+            state,
+            m,
+            edge,
+            parent,
+            child,
+            sat,
+            x,
+            b,
+            g,
+            j,
+        ) {
+            return true;
+        }
+        j += 1;
+    }
+    false
+}
+
+// Whether edge j brings node p a goal with a satisfied solution for x and B.
+fn monitors_at<'a>(
+    n: usize,
+    kind: &'a [u8; 128],
+    parts: &'a [u8; 128],
+    n0: &'a [u16; 128],
+    n1: &'a [u16; 128],
+    n2: &'a [u16; 128],
+    n3: &'a [u16; 128],
+    n4: &'a [u16; 128],
+    n5: &'a [u16; 128],
+    n6: &'a [u16; 128],
+    n7: &'a [u16; 128],
+    subject: &'a [u16; 128],
+    verifier: &'a [u8; 128],
+    state: &'a [u8; 128],
+    m: usize,
+    edge: &'a [u8; 256],
+    parent: &'a [u8; 256],
+    child: &'a [u8; 256],
+    sat: &'a [u8; 128],
+    x: Expression,
+    b: u16,
+    p: u8,
+    j: usize,
+) -> bool
+    requires { ⌜ (n ≤ 128) × (m ≤ 256) × (j < m) × Says (nodesOf (nodesFrom n (now kind) (now parts) (now n0) (now n1) (now n2) (now n3) (now n4) (now n5) (now n6) (now n7) (now subject) (now verifier) (now state))) (edgesOf (edgesFrom m (now edge) (now parent) (now child))) (now sat) ⌝ }
+    ensures { λ r. ⌜ r ≡ monitors (nodesOf (nodesFrom n (now (kind .entry)) (now (parts .entry)) (now (n0 .entry)) (now (n1 .entry)) (now (n2 .entry)) (now (n3 .entry)) (now (n4 .entry)) (now (n5 .entry)) (now (n6 .entry)) (now (n7 .entry)) (now (subject .entry)) (now (verifier .entry)) (now (state .entry)))) (edgesOf (edgesFrom m (now (edge .entry)) (now (parent .entry)) (now (child .entry)))) x b p (edgeAt (edgesFrom m (now (edge .entry)) (now (parent .entry)) (now (child .entry))) j) ⌝ }
+{
+    if (edge[j] != MONITOR) | (parent[j] != p) {
+        return false;
+    }
+    let c = child[j];
+    if n <= wide(c) {
+        return false;
+    }
+    is_solved(
+        n,
+        kind,
+        parts,
+        n0,
+        n1,
+        n2,
+        n3,
+        n4,
+        n5,
+        n6,
+        n7,
+        subject,
+        verifier,
+        state,
+        m,
+        edge,
+        parent,
+        child,
+        sat,
+        x,
+        b,
+        c,
+    )
+}
+
+// Whether a linking implication edge is justified behind the first m edges, which satisfy the nodes of sat.
+pub fn is_monitored<'a>(
+    n: usize,
+    kind: &'a [u8; 128],
+    parts: &'a [u8; 128],
+    n0: &'a [u16; 128],
+    n1: &'a [u16; 128],
+    n2: &'a [u16; 128],
+    n3: &'a [u16; 128],
+    n4: &'a [u16; 128],
+    n5: &'a [u16; 128],
+    n6: &'a [u16; 128],
+    n7: &'a [u16; 128],
+    subject: &'a [u16; 128],
+    verifier: &'a [u8; 128],
+    state: &'a [u8; 128],
+    m: usize,
+    edge: &'a [u8; 256],
+    parent: &'a [u8; 256],
+    child: &'a [u8; 256],
+    sat: &'a [u8; 128],
+    e: Edge,
+) -> bool
+    requires { ⌜ (n ≤ 128) × (m ≤ 256) × (e .parent < n) × (e .child < n) × Says (nodesOf (nodesFrom n (now kind) (now parts) (now n0) (now n1) (now n2) (now n3) (now n4) (now n5) (now n6) (now n7) (now subject) (now verifier) (now state))) (edgesOf (edgesFrom m (now edge) (now parent) (now child))) (now sat) ⌝ }
+    ensures { λ r. ⌜ r ≡ monitored (nodesOf (nodesFrom n (now (kind .entry)) (now (parts .entry)) (now (n0 .entry)) (now (n1 .entry)) (now (n2 .entry)) (now (n3 .entry)) (now (n4 .entry)) (now (n5 .entry)) (now (n6 .entry)) (now (n7 .entry)) (now (subject .entry)) (now (verifier .entry)) (now (state .entry)))) (edgesOf (edgesFrom m (now (edge .entry)) (now (parent .entry)) (now (child .entry)))) e ⌝ }
+{
+    let p = node_at(
+        n,
+        kind,
+        parts,
+        n0,
+        n1,
+        n2,
+        n3,
+        n4,
+        n5,
+        n6,
+        n7,
+        subject,
+        verifier,
+        state,
+        wide(e.parent),
+    );
+    let c = node_at(
+        n,
+        kind,
+        parts,
+        n0,
+        n1,
+        n2,
+        n3,
+        n4,
+        n5,
+        n6,
+        n7,
+        subject,
+        verifier,
+        state,
+        wide(e.child),
+    );
+    let x = p.expression;
+    let mut j = 0;
+    while j < m {
+        if monitors_at(
+            n,
+            kind,
+            parts,
+            n0,
+            n1,
+            n2,
+            n3,
+            n4,
+            n5,
+            n6,
+            n7,
+            subject,
+            verifier,
+            state,
+            m,
+            edge,
+            parent,
+            child,
+            sat,
+            x,
+            c.subject,
+            e.parent,
+            j,
+        ) {
+            return true;
+        }
+        j += 1;
+    }
+    false
+}
+
+// Whether edge m, if it is a linking implication edge, is justified behind those before it.
+fn is_monitored_if<'a>(
+    n: usize,
+    kind: &'a [u8; 128],
+    parts: &'a [u8; 128],
+    n0: &'a [u16; 128],
+    n1: &'a [u16; 128],
+    n2: &'a [u16; 128],
+    n3: &'a [u16; 128],
+    n4: &'a [u16; 128],
+    n5: &'a [u16; 128],
+    n6: &'a [u16; 128],
+    n7: &'a [u16; 128],
+    subject: &'a [u16; 128],
+    verifier: &'a [u8; 128],
+    state: &'a [u8; 128],
+    m: usize,
+    edge: &'a [u8; 256],
+    parent: &'a [u8; 256],
+    child: &'a [u8; 256],
+    sat: &'a [u8; 128],
+    e: Edge,
+) -> bool
+    requires { ⌜ (n ≤ 128) × (m ≤ 256) × (e .parent < n) × (e .child < n) × Says (nodesOf (nodesFrom n (now kind) (now parts) (now n0) (now n1) (now n2) (now n3) (now n4) (now n5) (now n6) (now n7) (now subject) (now verifier) (now state))) (edgesOf (edgesFrom m (now edge) (now parent) (now child))) (now sat) ⌝ }
+    ensures { λ r. ⌜ r ≡ monitoredIf (nodesOf (nodesFrom n (now (kind .entry)) (now (parts .entry)) (now (n0 .entry)) (now (n1 .entry)) (now (n2 .entry)) (now (n3 .entry)) (now (n4 .entry)) (now (n5 .entry)) (now (n6 .entry)) (now (n7 .entry)) (now (subject .entry)) (now (verifier .entry)) (now (state .entry)))) (edgesOf (edgesFrom m (now (edge .entry)) (now (parent .entry)) (now (child .entry)))) e ⌝ }
+{
+    if e.kind != LINKING_IMPLICATION {
+        return true;
+    }
+    is_monitored(
+        n,
+        kind,
+        parts,
+        n0,
+        n1,
+        n2,
+        n3,
+        n4,
+        n5,
+        n6,
+        n7,
+        subject,
+        verifier,
+        state,
+        m,
+        edge,
+        parent,
+        child,
+        sat,
+        e,
+    )
+}
+
+// Whether the linking implication edges are justified by the edges before them; the satisfied nodes grow with the edges.
+fn linked_in_turn<'a>(
+    n: usize,
+    kind: &'a [u8; 128],
+    parts: &'a [u8; 128],
+    n0: &'a [u16; 128],
+    n1: &'a [u16; 128],
+    n2: &'a [u16; 128],
+    n3: &'a [u16; 128],
+    n4: &'a [u16; 128],
+    n5: &'a [u16; 128],
+    n6: &'a [u16; 128],
+    n7: &'a [u16; 128],
+    subject: &'a [u16; 128],
+    verifier: &'a [u8; 128],
+    state: &'a [u8; 128],
+    m: usize,
+    edge: &'a [u8; 256],
+    parent: &'a [u8; 256],
+    child: &'a [u8; 256],
+    from: &'a [u8; 256],
+    slot: &'a [u16; 256],
+    need: &'a [u8; 128],
+    head: &'a mut [u16; 256],
+    next: &'a mut [u16; 256],
+    got: &'a mut [u8; 512],
+    sat: &'a mut [u8; 128],
+    queue: &'a mut [u8; 128],
+    tail: usize,
+) -> bool
+    requires { ⌜ (n ≤ 128) × (m ≤ 256) × NodesFormed (nodesOf (nodesFrom n (now kind) (now parts) (now n0) (now n1) (now n2) (now n3) (now n4) (now n5) (now n6) (now n7) (now subject) (now verifier) (now state))) × Inside n (edgesFrom m (now edge) (now parent) (now child)) × Joined (nodesOf (nodesFrom n (now kind) (now parts) (now n0) (now n1) (now n2) (now n3) (now n4) (now n5) (now n6) (now n7) (now subject) (now verifier) (now state))) (edgesOf (edgesFrom m (now edge) (now parent) (now child))) (now from) (now slot) × Needs (nodesOf (nodesFrom n (now kind) (now parts) (now n0) (now n1) (now n2) (now n3) (now n4) (now n5) (now n6) (now n7) (now subject) (now verifier) (now state))) (now need) × Chained 0 (now from) (now head) (now next) × Done 0 (graph (now from) (now slot) (now need)) (work (now got) (now sat) (now queue) tail) tail ⌝ }
+    ensures { λ r. ⌜ r ≡ inTurn (monitoredIf (nodesOf (nodesFrom n (now (kind .entry)) (now (parts .entry)) (now (n0 .entry)) (now (n1 .entry)) (now (n2 .entry)) (now (n3 .entry)) (now (n4 .entry)) (now (n5 .entry)) (now (n6 .entry)) (now (n7 .entry)) (now (subject .entry)) (now (verifier .entry)) (now (state .entry))))) [] (edgesOf (edgesFrom m (now (edge .entry)) (now (parent .entry)) (now (child .entry)))) ⌝ }
+{
+    let mut t = tail;
+    let mut j = 0;
+    while j < m {
+        let e = edge_at(m, edge, parent, child, j);
+        if !is_monitored_if(
+            n,
+            kind,
+            parts,
+            n0,
+            n1,
+            n2,
+            n3,
+            n4,
+            n5,
+            n6,
+            n7,
+            subject,
+            verifier,
+            state,
+            j,
+            edge,
+            parent,
+            child,
+            sat,
+            e,
+        ) {
+            return false;
+        }
+        t = insert(j, from, slot, need, head, next, got, sat, queue, t);
+        j += 1;
+    }
+    true
+}
+
+// Whether every linking implication edge is justified.
+pub fn links_justified(nodes: Nodes, edges: Edges) -> bool
+    requires { ⌜ (nodes .count ≤ 128) × (edges .count ≤ 256) × NodesFormed (nodesOf nodes) × Inside (nodes .count) edges ⌝ }
+    ensures { λ r. ⌜ r ≡ inTurn (monitoredIf (nodesOf nodes)) [] (edgesOf edges) ⌝ }
+{
+    let need = needs(nodes);
+    let x = links(nodes, edges);
+    let mut head = [0u16; 256];
+    let mut next = [0u16; 256];
+    let mut got = [0u8; 512];
+    let mut sat = [0u8; 128];
+    let mut queue = [0u8; 128];
+    let t = seed(&x.from, &x.slot, &need, &got, &mut sat, &mut queue);
+    linked_in_turn(
+        nodes.count,
+        &nodes.kind,
+        &nodes.parts,
+        &nodes.n0,
+        &nodes.n1,
+        &nodes.n2,
+        &nodes.n3,
+        &nodes.n4,
+        &nodes.n5,
+        &nodes.n6,
+        &nodes.n7,
+        &nodes.subject,
+        &nodes.verifier,
+        &nodes.state,
+        edges.count,
+        &edges.kind,
+        &edges.parent,
+        &edges.child,
+        &x.from,
+        &x.slot,
+        &need,
+        &mut head,
+        &mut next,
+        &mut got,
+        &mut sat,
+        &mut queue,
+        t,
+    )
+}
