@@ -15,9 +15,15 @@ use Rattle.expression.specs.Form.{pickExpression, expressionOf}
 use Rattle.rt0.specs.Lists.{false-true, or-cases}
 use Rattle.rt0.specs.From.{roleOf}
 use Rattle.propagation.specs.Flags.{decided, and-none}
+use Rattle.graph.specs.declared.Nodes.{Nodes}
+use Rattle.graph.specs.Graph.{rawFrom}
 use Rattle.graph.specs.States.{implicationKind}
 use Rattle.graph.specs.Form.{isStandard}
 use Rattle.states.specs.Brings.{needAs, wayAs, slotIn, slotAs, slotBy}
+
+-- the numbers of node i's expression
+abbrev pub rawIn : Nodes → ℕ → Raw
+rawIn N i = rawFrom (N .kind) (N .parts) (N .n0) (N .n1) (N .n2) (N .n3) (N .n4) (N .n5) (N .n6) (N .n7) i
 
 -- by the kind, the part count and the state
 unfoldable pub needBy : ℕ → ℕ → ℕ → ℕ
@@ -31,7 +37,7 @@ abbrev pub partsOf : Raw → Parts
 partsOf r = record { count = r .count; first = roleOf (r .n0) (r .n1); second = roleOf (r .n2) (r .n3); third = roleOf (r .n4) (r .n5); fourth = roleOf (r .n6) (r .n7) }
 
 -- the expression by the tests of its kind
-abbrev byKind : Bool → Bool → Bool → Bool → Raw → Expression
+abbrev pub byKind : Bool → Bool → Bool → Bool → Raw → Expression
 byKind a b c d r =
     pickExpression a (E.Entity (r .n0))
     (pickExpression b (E.Role (roleOf (r .n0) (r .n1)))

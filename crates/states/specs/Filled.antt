@@ -9,19 +9,18 @@ use borrow.Author.Tests.{eqb-true, eqb-false, lt-ltb, ltb-true, ltb-false}
 use lib.Dec.{eqb, ltb}
 use lib.ListN.{getD, length, set, length-set, replicate, length-replicate, getD-replicate, List·getD-eq-default}
 use lib.Seq.{getD-set-same, getD-set-other}
-use Rattle.expression.specs.declared.Raw.{Raw}
 use Rattle.expression.specs.declared.Expression.{Expression}
 use Rattle.graph.specs.declared.Node.{Node}
 use Rattle.graph.specs.declared.Edge.{Edge}
 use Rattle.graph.specs.declared.Nodes.{Nodes}
 use Rattle.graph.specs.declared.Edges.{Edges}
-use Rattle.graph.specs.Graph.{rawFrom, expressionFrom, nodeAt, edgeAt, nodesOf, edgesOf, blank, nodeIn}
+use Rattle.graph.specs.Graph.{expressionFrom, nodeAt, edgeAt, nodesOf, edgesOf, blank, nodeIn}
 use Rattle.graph.specs.Columns.{nodes-length, edges-length, node-in, edge-in}
 use Rattle.rt0.specs.Lists.{and-parts, and-both}
 use Rattle.propagation.specs.Flags.{decided, not-of, bool-iff}
 use Rattle.states.specs.Brings.{needOf, wayOf, slotAs, bringsBy, slotBy, slotFor, brings, fromOf, slotOf, Joined, Needs, Ways}
 use Rattle.states.specs.BringsLaws.{brings-parts, brings-of, from-child, into-slot, from-none, into-none, slot-few}
-use Rattle.states.specs.Fields.{needBy, wayBy, need-raw, way-raw}
+use Rattle.states.specs.Fields.{rawIn, needBy, wayBy, need-raw, way-raw}
 
 -- a column of w numbers that has f below i, and d from there on
 pub record Filled (w : ℕ) (f : ℕ → ℕ) (d i : ℕ) (r : List ℕ) : Type 0 where
@@ -67,10 +66,6 @@ module _ (N : Nodes) (f : Node → ℕ) where
   column-all a b z k l =
       ⊎-elim (λ t. let m : k < N .count = ltb-true k (N .count) t in z .filled .done k (omega arith) ∙ sym (ap f (node-in N k m)))
       (λ t. let m : N .count ≤ k = ltb-false k (N .count) t in z .filled .rest k (omega arith) l ∙ sym (ap f (List·getD-eq-default (nodesOf N) blank (omega (arith, nodes-length N))))) (decided (ltb k (N .count)))
-
--- the numbers of node i's expression
-abbrev rawIn : Nodes → ℕ → Raw
-rawIn N i = rawFrom (N .kind) (N .parts) (N .n0) (N .n1) (N .n2) (N .n3) (N .n4) (N .n5) (N .n6) (N .n7) i
 
 -- the columns begin with the number of a node past the end
 pub needs-start : (N : Nodes) → NodeColumn N needOf 0 (replicate 128 5)

@@ -5,3 +5,5 @@ pub mod Filled
 pub mod Places
 pub mod Brought
 pub mod SatisfiedColumns
+pub mod FailedColumns
+pub mod Complete

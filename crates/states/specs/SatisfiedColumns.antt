@@ -18,7 +18,7 @@ use Rattle.graph.specs.declared.Node.{Node}
 use Rattle.graph.specs.declared.Edge.{Edge}
 use Rattle.graph.specs.Graph.{nodeIn}
 use Rattle.graph.specs.Form.{isStandard}
-use Rattle.graph.specs.States.{implicationKind, intersectionKind, FullyProcessed, Child, Part, Satisfied, trivial, standard, intersection}
+use Rattle.graph.specs.States.{FullyProcessed, Part, Satisfied, trivial, standard, intersection}
 use Rattle.graph.specs.StatesLaws.{processed-inside, satisfied-inside}
 use Rattle.graph.specs.Propagated.{satisfiedB}
 use Rattle.graph.specs.PropagatedLaws.{satisfied-exact}
@@ -26,51 +26,9 @@ use Rattle.propagation.specs.Flags.{at, bool-iff}
 use Rattle.propagation.specs.Least.{least-closed, least-into}
 use Rattle.propagation.specs.Satisfied.{Graph, graph, nodeAt, filledBy, satisfiedRule, satisfiedOf}
 use Rattle.propagation.specs.SatisfiedLaws.{filled-find, filled-here, satisfied-parts, satisfied-of, satisfied-mono}
-use Rattle.states.specs.Brings.{needAs, needOf, slotIn, slotAs, NodesFormed, Joined, Needs}
-use Rattle.states.specs.Fields.{slot-standard}
+use Rattle.states.specs.Brings.{needAs, needOf, slotIn, NodesFormed, Joined, Needs}
 use Rattle.states.specs.Places.{noRole, mem-index, index-mem, RolesFormed, roles-formed, slot-role, role-slot}
-use Rattle.states.specs.Brought.{Brought, brought-at, brought-here}
-
--- an edge of a kind that passes fills the slot of the kind; one that does not fills none
-pub passed : (t : Bool) (x k : ℕ) → k < 4 → cond t x 4 ≡ k → (t ≡ true) × (x ≡ k)
-passed true x k l e = (refl, e)
-passed false x k l e = absurd (omega arith)
-
--- an implication child
-pub implied : {ns : List Node} {es : List Edge} {i k c : ℕ} → isStandard (nodeIn ns i .expression) ≡ true → k < 4 → Brought ns es i k c → Child ns es implicationKind i c
-implied {ns} {es} {i} {k} {c} s l w =
-    record {
-      kind = w .kind;
-      passes = passed (implicationKind (w .kind)) 0 k l (sym (slot-standard (w .kind) (nodeIn ns i .expression) (nodeIn ns c .expression) s) ∙ w .slot) .0;
-      edge = w .edge;
-      inside = w .inside;
-    }
-
-pub implies : {ns : List Node} {es : List Edge} {i c : ℕ} → isStandard (nodeIn ns i .expression) ≡ true → Child ns es implicationKind i c → Brought ns es i 0 c
-implies {ns} {es} {i} {c} s k =
-    record {
-      kind = k .kind;
-      edge = k .edge;
-      inside = k .inside;
-      slot = slot-standard (k .kind) (nodeIn ns i .expression) (nodeIn ns c .expression) s ∙ ap (λ (b : Bool). cond b 0 4) (k .passes);
-    }
-
--- an intersection child, and the slot of its role
-pub joined : {ns : List Node} {es : List Edge} {i k c : ℕ} {p : Parts} → nodeIn ns i .expression ≡ E.Intersection p → k < 4 → Brought ns es i k c → Child ns es intersectionKind i c × (slotIn p (nodeIn ns c .expression) ≡ k)
-unfolding slotAs
-joined {ns} {es} {i} {k} {c} {p} e l w =
-    let t = passed (intersectionKind (w .kind)) (slotIn p (nodeIn ns c .expression)) k l (sym (ap (λ (x : Expression). slotAs (w .kind) x (nodeIn ns c .expression)) e) ∙ w .slot) in
-    (record { kind = w .kind; passes = t .0; edge = w .edge; inside = w .inside }, t .1)
-
-pub joins : {ns : List Node} {es : List Edge} {i c : ℕ} {p : Parts} → nodeIn ns i .expression ≡ E.Intersection p → Child ns es intersectionKind i c → Brought ns es i (slotIn p (nodeIn ns c .expression)) c
-unfolding slotAs
-joins {ns} {es} {i} {c} {p} e k =
-    record {
-      kind = k .kind;
-      edge = k .edge;
-      inside = k .inside;
-      slot = ap (λ (x : Expression). slotAs (k .kind) x (nodeIn ns c .expression)) e ∙ ap (λ (b : Bool). cond b (slotIn p (nodeIn ns c .expression)) 4) (k .passes);
-    }
+use Rattle.states.specs.Brought.{Brought, brought-at, brought-here, implied, implies, joined, joins}
 
 module _ {ns : List Node} {es : List Edge} {F S N : List ℕ} (nf : NodesFormed ns) (jn : Joined ns es F S) (nd : Needs ns N) (m : ℕ) (l : m ≤ length es) where
   abbrev G : Graph

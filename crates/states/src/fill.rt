@@ -1,5 +1,6 @@
 // The columns of propagation, filled from a graph.
 use crate::EdgeColumns;
+use crate::wide;
 use expression::Parts;
 use expression::Role;
 use expression::same_role;
@@ -20,12 +21,6 @@ const NO_PLACE: u16 = 4;
 
 const NO_SLOT: u16 = 512;
 
-fn wide(x: u8) -> usize
-    ensures { λ r. ⌜ r ≡ x ⌝ }
-{
-    x as usize
-}
-
 // How many slots a node needs filled, by its kind, its part count and its state.
 fn need_of(kind: u8, parts: u8, state: u8) -> u8
     ensures { λ r. ⌜ r ≡ needBy kind parts state ⌝ }
@@ -44,10 +39,10 @@ fn way_of(kind: u8, state: u8) -> u8
     ensures { λ r. ⌜ r ≡ wayBy kind state ⌝ }
 {
     if (kind == 2) | (kind == 3) {
-        if state == 3 {
-            return 1;
+        if state != 3 {
+            return 0;
         }
-        return 0;
+        return 1;
     }
     if kind == 4 {
         return 2;

@@ -1,4 +1,16 @@
 // Propagated states: the columns of propagation, filled from a graph, and the state of a node.
+use graph::Edges;
+use graph::Nodes;
+use propagation::failed;
+use propagation::satisfied;
+ghost use mathlib.Core.Path.{_≡_};
+ghost use Prim.Native.Nat.{_≤_, _<_};
+ghost use Rattle.rt0.specs.Lists.{any};
+ghost use Rattle.graph.specs.Graph.{edgesFrom, edgeAt, nodesOf, edgesOf};
+ghost use Rattle.graph.specs.Propagated.{stateOf};
+ghost use Rattle.states.specs.Brings.{NodesFormed, EdgesFormed};
+ghost use Rattle.states.specs.Complete.{isOpen, completeBy};
+
 mod fill;
 
 pub use fill::links;
@@ -9,4 +21,101 @@ pub use fill::ways;
 pub struct EdgeColumns {
     pub from: [u8; 256],
     pub slot: [u16; 256],
+}
+
+fn wide(x: u8) -> usize
+    ensures { λ r. ⌜ r ≡ x ⌝ }
+{
+    x as usize
+}
+
+// Whether edge j brings goal i a solution that is neither satisfied nor failed.
+fn is_open<'a>(
+    n: usize,
+    m: usize,
+    kind: &'a [u8; 256],
+    parent: &'a [u8; 256],
+    child: &'a [u8; 256],
+    sat: &'a [u8; 128],
+    failed: &'a [u8; 128],
+    i: usize,
+    j: usize,
+) -> bool
+    requires { ⌜ (n ≤ 128) × (j < 256) ⌝ }
+    ensures { λ r. ⌜ r ≡ isOpen n (now (sat .entry)) (now (failed .entry)) i (edgeAt (edgesFrom m (now (kind .entry)) (now (parent .entry)) (now (child .entry))) j) ⌝ }
+{
+    let p = wide(parent[j]);
+    if (kind[j] != 3) | (p != i) {
+        return false;
+    }
+    let c = wide(child[j]);
+    if n <= c {
+        return false;
+    }
+    (sat[c] != 1) & (failed[c] != 1)
+}
+
+// Whether any edge does.
+fn has_open<'a>(
+    n: usize,
+    m: usize,
+    kind: &'a [u8; 256],
+    parent: &'a [u8; 256],
+    child: &'a [u8; 256],
+    sat: &'a [u8; 128],
+    failed: &'a [u8; 128],
+    i: usize,
+) -> bool
+    requires { ⌜ (n ≤ 128) × (m ≤ 256) ⌝ }
+    ensures { λ r. ⌜ r ≡ any (isOpen n (now (sat .entry)) (now (failed .entry)) i) (edgesOf (edgesFrom m (now (kind .entry)) (now (parent .entry)) (now (child .entry)))) ⌝ }
+{
+    let mut j = 0;
+    while j < m {
+        if is_open(n, m, kind, parent, child, sat, failed, i, j) {
+            return true;
+        }
+        j += 1;
+    }
+    false
+}
+
+// Whether a node is a complete goal, by its kind and state, and by whether a solution is open.
+fn complete_by(kind: u8, state: u8, any_open: bool) -> bool
+    ensures { λ r. ⌜ r ≡ completeBy kind state any_open ⌝ }
+{
+    (kind != 1) & (kind != 2) & (kind != 3) & (kind != 4) & (state == 3) & !any_open
+}
+
+// The propagated state of node i: 0 unknown or incomplete, 1 satisfied or complete, 2 failed.
+pub fn state_of(nodes: Nodes, edges: Edges, i: usize) -> u8
+    requires { ⌜ (i < nodes .count) × (nodes .count ≤ 128) × (edges .count ≤ 256) × NodesFormed (nodesOf nodes) × EdgesFormed (nodesOf nodes) (edgesOf edges) ⌝ }
+    ensures { λ r. ⌜ r ≡ stateOf (nodesOf nodes) (edgesOf edges) i ⌝ }
+{
+    let n = nodes.count;
+    let m = edges.count;
+    let need = needs(nodes);
+    let e = links(nodes, edges);
+    let sat = satisfied(m, &e.from, &e.slot, &need);
+    if sat[i] == 1 {
+        return 1;
+    }
+    let way = ways(nodes);
+    let fail = failed(m, &e.from, &e.slot, &way);
+    let any_open = has_open(
+        n,
+        m,
+        &edges.kind,
+        &edges.parent,
+        &edges.child,
+        &sat,
+        &fail,
+        i,
+    );
+    if complete_by(nodes.kind[i], nodes.state[i], any_open) {
+        return 1;
+    }
+    if fail[i] == 1 {
+        return 2;
+    }
+    0
 }

@@ -5,11 +5,11 @@ use Rattle.states.proofs.fill.way_of.Tie as tie
 
 returns : tie.Need-returns
 unfolding wayBy
-returns c = rw (c .before .if1 .taken, eq-eqb _ _ (c .if2 .taken))
+returns c = rw (c .before .if1 .taken, ne-eqb _ _ (c .if2 .taken))
 
 returns-2 : tie.Need-returns-2
 unfolding wayBy
-returns-2 c = rw (c .before .if1 .taken, ne-eqb _ _ (c .if2 .left))
+returns-2 c = rw (c .before .if1 .taken, eq-eqb _ _ (c .if2 .left))
 
 returns-3 : tie.Need-returns-3
 unfolding wayBy
