@@ -5,28 +5,39 @@ use mathlib.Core.List.{List, []}
 use mathlib.Core.Option.{Option, none, some}
 use lib.Dec.{eqb}
 use lib.ListN.{length}
+use Rattle.expression.specs.declared.Credential.{Credential}
+use Rattle.graph.specs.declared.Node.{Node}
+use Rattle.graph.specs.declared.Edge.{Edge}
 use Rattle.graph.specs.Graph.{nodeIn}
 use Rattle.graph.specs.Propagated.{stateOf}
 use Rattle.justification.specs.InTurn.{inTurn}
 use Rattle.justification.specs.Justified.{justified}
+use Rattle.class.specs.declared.Name.{Name}
 use Rattle.tables.specs.Tables.{Tables}
+use Rattle.negotiation.specs.declared.Header.{Header}
 use Rattle.negotiation.specs.State.{State}
 use Rattle.negotiation.specs.Layout.{readState}
 use Rattle.damage.specs.Header.{headerSound, emptySound, countSound, endSound}
 use Rattle.damage.specs.Records.{nodeFits, primarySound, credentialFits}
 use Rattle.damage.specs.Edges.{allBrought}
 
+-- a state of these parts
+abbrev pub stateWith : Header → List Node → List Edge → List Credential → State
+stateWith h ns es cs = record { header = h; nodes = ns; edges = es; shown = cs }
+
+-- nodes, primary and credentials
+unfoldable pub recordsSound : List Name → State → Bool
+recordsSound ns S = inTurn (nodeFits ns) [] (S .nodes) && primarySound (S .header) (nodeIn (S .nodes) 0) && inTurn (credentialFits ns) [] (S .shown)
+
 -- every edge is justified "by the credentials and earlier edges (marks as held)"
 unfoldable pub edgesJustified : State → Bool
 edgesJustified S = inTurn (justified (S .shown) (S .nodes)) [] (S .edges)
 
 -- where a node stands
-unfoldable pub graphSound : Tables → State → Bool
-graphSound T S =
+unfoldable pub graphSound : List Name → State → Bool
+graphSound ns S =
     countSound (S .header .messages)
-    && inTurn (nodeFits (T .names)) [] (S .nodes)
-    && primarySound (S .header) (nodeIn (S .nodes) 0)
-    && inTurn (credentialFits (T .names)) [] (S .shown)
+    && recordsSound ns S
     && allBrought (S .header) (S .nodes) (S .edges)
     && edgesJustified S
     && endSound (stateOf (S .nodes) (S .edges) 0) (S .header .end) (S .header .idle)
@@ -35,7 +46,7 @@ graphSound T S =
 unfoldable pub sound : Tables → State → Bool
 sound T S =
     headerSound (T .own) (T .names) (S .header)
-    && cond (eqb (length (S .nodes)) 0) (emptySound (S .header) (length (S .edges)) (length (S .shown))) (graphSound T S)
+    && cond (eqb (length (S .nodes)) 0) (emptySound (S .header) (length (S .edges)) (length (S .shown))) (graphSound (T .names) S)
 
 -- the negotiation whose bytes these are, where it is not damaged
 abbrev pub ifSound : Tables → Option State → Option State

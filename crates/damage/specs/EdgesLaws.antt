@@ -76,7 +76,7 @@ fits-placed h N before e {b} be k = (λ t. placed (sym (nodes-length N) t) (be t
 
 -- Nodes brought
 
-brought-more : (b : ℕ) (es : List Edge) (e : Edge) → broughtFrom b (es ++ (e ∷ [])) ≡ nextBrought (broughtFrom b es) e
+pub brought-more : (b : ℕ) (es : List Edge) (e : Edge) → broughtFrom b (es ++ (e ∷ [])) ≡ nextBrought (broughtFrom b es) e
 unfolding broughtFrom
 brought-more b [] e = refl
 brought-more b (d ∷ es) e = brought-more (nextBrought b d) es e

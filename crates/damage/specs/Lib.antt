@@ -6,3 +6,4 @@ pub mod Edges
 pub mod EdgesLaws
 pub mod Turns
 pub mod Damage
+pub mod DamageLaws

@@ -3,14 +3,14 @@ use Prim.Native.Nat.{ℕ, zero, suc, _+_, _≤_, _<_}
 use native.Mathlib.Omega.{arith}
 use native.Mathlib.Numerals.{add-one}
 use mathlib.Core.Path.{_≡_, refl, sym, _∙_, ap, subst}
-use mathlib.Core.Logic.{_⊎_, inl, inr}
+use mathlib.Core.Logic.{⊎-elim}
 use mathlib.Core.Bool.{Bool, true, false, _&&_}
 use mathlib.Core.List.{List, [], _∷_, _++_, append-assoc, append-nil}
 use lib.Dec.{eqb}
 use borrow.Author.Tests.{eqb-true, eqb-false}
-use Rattle.rt0.specs.Lists.{all, and-parts, and-both}
+use Rattle.rt0.specs.Lists.{all, and-both, false-true}
 use Rattle.rt0.specs.Pool.{upTo}
-use Rattle.propagation.specs.Flags.{and-none}
+use Rattle.propagation.specs.Flags.{and-none, decided}
 
 -- each element passes the test behind those of the first list and the earlier ones of the second
 unfoldable pub inTurn : {A : Type 0} → (List A → A → Bool) → List A → List A → Bool
@@ -77,3 +77,12 @@ module _ {A : Type 0} where
     -- all are judged
     pub turn-done : {j : ℕ} (n : ℕ) → j ≤ n → n ≤ j → inTurn t [] (upTo j f) ≡ true → true ≡ inTurn t [] (upTo n f)
     turn-done {j} n k l h = let z : j ≡ n = omega arith in sym (subst (λ (m : ℕ). inTurn t [] (upTo m f) ≡ true) z h)
+
+    -- each of a list that passes
+    pub turn-each : (n : ℕ) → inTurn t [] (upTo n f) ≡ true → (j : ℕ) → j < n → t (upTo j f) (f j) ≡ true
+    turn-each n h j l = ⊎-elim (λ p. p) (λ p. absurd (false-true (turn-stop n l refl p ∙ h))) (decided (t (upTo j f) (f j)))
+
+    -- a list that passes, cut off
+    pub turn-front : (n : ℕ) → inTurn t [] (upTo n f) ≡ true → (j : ℕ) → j ≤ n → inTurn t [] (upTo j f) ≡ true
+    turn-front n h zero l = turn-start
+    turn-front n h (suc j) l = ap (λ (k : ℕ). inTurn t [] (upTo k f)) (sym (add-one j)) ∙ turn-next {j = j} (turn-front n h j (omega arith)) refl (turn-each n h j (omega arith))
