@@ -73,10 +73,11 @@ unfoldable pub slotBy : ℕ → ℕ → ℕ → ℕ → Expression → Expressio
 slotBy n k p c x y = cond (bringsBy n k p c x y) (p * 4 + slotAs k x y) 512
 
 module _ (ns : List Node) (e : Edge) where
+  -- which of its parent's slots an edge fills
   abbrev pub slotFor : ℕ
   slotFor = slotAs (e .kind) (nodeIn ns (e .parent) .expression) (nodeIn ns (e .child) .expression)
 
-  -- whether an edge brings its parent an implication child or an intersection child
+  -- whether it brings its parent an implication child or an intersection child
   unfoldable pub brings : Bool
   brings = bringsBy (length ns) (e .kind) (e .parent) (e .child) (nodeIn ns (e .parent) .expression) (nodeIn ns (e .child) .expression)
 
@@ -87,10 +88,12 @@ module _ (ns : List Node) (e : Edge) where
   unfoldable pub slotOf : ℕ
   slotOf = cond brings (e .parent * 4 + slotFor) 0
 
+-- at most 128 nodes, their expressions of right form: the roles of an intersection are two to four, and distinct
 pub record NodesFormed (ns : List Node) : Type 0 where
   pub few : length ns ≤ 128
   pub formed : (i : ℕ) → i < length ns → wellFormed (nodeIn ns i .expression) ≡ true
 
+-- edges between nodes, each of the form of its kind
 pub record EdgesFormed (ns : List Node) (es : List Edge) : Type 0 where
   pub parent : (j : ℕ) → j < length es → edgeIn es j .parent < length ns
   pub child : (j : ℕ) → j < length es → edgeIn es j .child < length ns

@@ -17,6 +17,8 @@ const NODES_MOST: u8 = 128;
 
 const NEVER: u8 = 5;
 
+const NO_WAY: u8 = 0;
+
 const NO_PLACE: u16 = 4;
 
 const NO_SLOT: u16 = 512;
@@ -40,14 +42,14 @@ fn way_of(kind: u8, state: u8) -> u8
 {
     if (kind == 2) | (kind == 3) {
         if state != 3 {
-            return 0;
+            return NO_WAY;
         }
         return 1;
     }
     if kind == 4 {
         return 2;
     }
-    0
+    NO_WAY
 }
 
 // What the nodes need.
@@ -71,7 +73,7 @@ pub fn ways(nodes: Nodes) -> [u8; 128]
     ensures { λ r. ⌜ Ways (nodesOf nodes) r ⌝ }
 {
     let count = nodes.count;
-    let mut r = [0u8; 128];
+    let mut r = [NO_WAY; 128];
     let mut i = 0;
     while i < count {
         r[i] = way_of(nodes.kind[i], nodes.state[i]);
