@@ -7,3 +7,5 @@ pub mod EdgesLaws
 pub mod Turns
 pub mod Damage
 pub mod DamageLaws
+pub mod Restored
+pub mod RestoredLaws

@@ -25,9 +25,19 @@ ghost use Rattle.damage.specs.Edges.{allBrought};
 ghost use Rattle.damage.specs.Damage.{stateWith, recordsSound, edgesJustified, graphSound, sound as soundOf};
 
 mod edges;
+mod found;
 mod header;
 mod nodes;
 mod shown;
+
+pub use found::restore;
+
+// The tables and the negotiation of a call, where the refusal is 0; else they do not count.
+pub struct Restored {
+    pub refusal: u64,
+    pub house: House,
+    pub negotiation: Negotiation,
+}
 
 use edges::edges_fit;
 use header::count_sound;

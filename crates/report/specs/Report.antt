@@ -1,0 +1,72 @@
+-- The report (document 01, "The reply"). Assumes nothing.
+use Prim.Native.Nat.{ℕ, _+_, _*_, _/_, _%_}
+use mathlib.Core.Bool.{Bool, cond}
+use mathlib.Core.List.{List}
+use lib.Dec.{ltb}
+use lib.ListN.{length}
+use Rattle.graph.specs.Graph.{nodeIn}
+use Rattle.graph.specs.Propagated.{stateOf}
+use Rattle.negotiation.specs.State.{State}
+use Rattle.damage.specs.Restored.{Standing, refusal, standing, restoreOf}
+
+-- "a node's state byte and its propagated state, ..; the end, counts of nodes, edges, shown credentials, messages accepted and replies given
+-- together"
+pub record Report : Type 0 where
+  pub state : ℕ
+  pub propagated : ℕ
+  pub end : ℕ
+  pub nodes : ℕ
+  pub edges : ℕ
+  pub shown : ℕ
+  pub messages : ℕ
+
+-- what stands in a negotiation, of node i
+unfoldable pub reportOn : State → ℕ → Report
+reportOn S i =
+    record {
+      state = nodeIn (S .nodes) i .state;
+      propagated = stateOf (S .nodes) (S .edges) i;
+      end = S .header .end;
+      nodes = length (S .nodes);
+      edges = length (S .edges);
+      shown = length (S .shown);
+      messages = S .header .messages;
+    }
+
+-- a refusal number, or the report
+pub data Reported : Type 0 where
+  refused : ℕ → Reported
+  reported : Report → Reported
+
+-- "24 no such node"
+abbrev pub behindNegotiation : ℕ → Standing → Reported
+behindNegotiation i (refusal k) = refused k
+behindNegotiation i (standing T S) = cond (ltb i (length (S .nodes))) (reported (reportOn S i)) (refused 24)
+
+-- "Report is lent the tables too and looks only at 1, tables 2 to 6, 20 and an absent node (24)"
+unfoldable pub reportOf : List ℕ → List ℕ → ℕ → Reported
+reportOf tables negotiation i = behindNegotiation i (restoreOf tables negotiation)
+
+-- The answer
+
+-- from the low bits: state byte (2 bits), propagated state (2), end (3), nodes (8), edges (9), shown (7), messages (11)
+unfoldable pub packed : Report → ℕ
+packed r =
+    r .state + r .propagated * 4 + r .end * 16 + r .nodes * 128 + r .edges * 32768 + r .shown * 16777216 + r .messages * 2147483648
+
+unfoldable pub unpacked : ℕ → Report
+unpacked v =
+    record {
+      state = v % 4;
+      propagated = v / 4 % 4;
+      end = v / 16 % 8;
+      nodes = v / 128 % 256;
+      edges = v / 32768 % 512;
+      shown = v / 16777216 % 128;
+      messages = v / 2147483648;
+    }
+
+-- a refusal number alone, or 256 times the value
+abbrev pub answerOf : Reported → ℕ
+answerOf (refused k) = k
+answerOf (reported r) = packed r * 256
