@@ -214,3 +214,32 @@ module _ (H : House) (G : Negotiation) where
       pub sound-graph : {b : Bool} → (G .nodes .count ≡ 0 → ⊥) → b ≡ graphSound (namesOf (H .names)) (stateWith (G .header) (nodesOf (G .nodes)) (edgesOf (G .edges)) (credentials (G .shown))) → b ≡ sound (tablesOf H) (stateHeld G)
       unfolding tablesOf stateHeld
       sound-graph z be = whole-graph (tablesOf H) (stateHeld G) ae ah (sym (nodes-length (G .nodes))) z be
+
+-- What a sound negotiation with a node has
+
+pub graph-parts : (ns : List Name) (S : State) → graphSound ns S ≡ true
+    → (countSound (S .header .messages) ≡ true) × (recordsSound ns S ≡ true) × (allBrought (S .header) (S .nodes) (S .edges) ≡ true) × (edgesJustified S ≡ true) × (endSound (stateOf (S .nodes) (S .edges) 0) (S .header .end) (S .header .idle) ≡ true)
+unfolding graphSound
+graph-parts ns S h =
+    let a = and-parts (countSound (S .header .messages) && recordsSound ns S && allBrought (S .header) (S .nodes) (S .edges) && edgesJustified S) _ h in
+    let b = and-parts (countSound (S .header .messages) && recordsSound ns S && allBrought (S .header) (S .nodes) (S .edges)) (edgesJustified S) (a .0) in
+    let c = and-parts (countSound (S .header .messages) && recordsSound ns S) (allBrought (S .header) (S .nodes) (S .edges)) (b .0) in
+    let d = and-parts (countSound (S .header .messages)) (recordsSound ns S) (c .0) in
+    (d .0, d .1, c .1, b .1, a .1)
+
+pub sound-some : (T : Tables) (S : State) → sound T S ≡ true → (length (S .nodes) ≡ 0 → ⊥) → graphSound (T .names) S ≡ true
+unfolding sound
+sound-some T S h z =
+    sym (ap (λ (b : Bool). cond b (emptySound (S .header) (length (S .edges)) (length (S .shown))) (graphSound (T .names) S)) (ne-eqb (length (S .nodes)) 0 z)) ∙ and-parts (headerSound (T .own) (T .names) (S .header)) _ h .1
+
+-- a negotiation as it is held: its nodes and its edges have their forms
+module _ (H : House) (G : Negotiation) (w : within (stateHeld G) ≡ true) (h : sound (tablesOf H) (stateHeld G) ≡ true) (some : 0 < G .nodes .count) where
+  held-graph : graphSound (namesOf (H .names)) (stateWith (G .header) (nodesOf (G .nodes)) (edgesOf (G .edges)) (credentials (G .shown))) ≡ true
+  unfolding tablesOf stateHeld
+  held-graph = sound-some (tablesOf H) (stateHeld G) h (λ z. omega (arith, nodes-length (G .nodes)))
+
+  pub held-nodes : NodesFormed (nodesOf (G .nodes))
+  held-nodes = records-formed (namesOf (H .names)) (G .nodes) _ (within-counts H G w .0) refl (sym (graph-parts _ _ held-graph .1)) refl
+
+  pub held-edges : EdgesFormed (nodesOf (G .nodes)) (edgesOf (G .edges))
+  held-edges = edges-formed (G .header) (G .nodes) (G .edges) some (brought-fit (G .header) (G .nodes) (G .edges) (sym (graph-parts _ _ held-graph .2)) refl)

@@ -20,6 +20,10 @@ pub record Report : Type 0 where
   pub shown : ℕ
   pub messages : ℕ
 
+-- a report of these numbers
+abbrev pub numbered : ℕ → ℕ → ℕ → ℕ → ℕ → ℕ → ℕ → Report
+numbered s p e n m k c = record { state = s; propagated = p; end = e; nodes = n; edges = m; shown = k; messages = c }
+
 -- what stands in a negotiation, of node i
 unfoldable pub reportOn : State → ℕ → Report
 reportOn S i =
@@ -52,18 +56,18 @@ reportOf tables negotiation i = behindNegotiation i (restoreOf tables negotiatio
 -- from the low bits: state byte (2 bits), propagated state (2), end (3), nodes (8), edges (9), shown (7), messages (11)
 unfoldable pub packed : Report → ℕ
 packed r =
-    r .state + r .propagated * 4 + r .end * 16 + r .nodes * 128 + r .edges * 32768 + r .shown * 16777216 + r .messages * 2147483648
+    r .state + (r .propagated + (r .end + (r .nodes + (r .edges + (r .shown + r .messages * 128) * 512) * 256) * 8) * 4) * 4
 
 unfoldable pub unpacked : ℕ → Report
 unpacked v =
     record {
       state = v % 4;
       propagated = v / 4 % 4;
-      end = v / 16 % 8;
-      nodes = v / 128 % 256;
-      edges = v / 32768 % 512;
-      shown = v / 16777216 % 128;
-      messages = v / 2147483648;
+      end = v / 4 / 4 % 8;
+      nodes = v / 4 / 4 / 8 % 256;
+      edges = v / 4 / 4 / 8 / 256 % 512;
+      shown = v / 4 / 4 / 8 / 256 / 512 % 128;
+      messages = v / 4 / 4 / 8 / 256 / 512 / 128;
     }
 
 -- a refusal number alone, or 256 times the value

@@ -8,7 +8,7 @@ ghost use Prim.Native.Nat.{_*_, _≤_, _<_};
 ghost use Rattle.graph.specs.Graph.{nodesOf, edgesOf};
 ghost use Rattle.states.specs.Brings.{NodesFormed, EdgesFormed};
 ghost use Rattle.negotiation.specs.State.{stateOf};
-ghost use Rattle.report.specs.Report.{reportOn, reportOf, packed, answerOf};
+ghost use Rattle.report.specs.Report.{numbered, reportOn, reportOf, packed, answerOf};
 
 const ABSENT: u64 = 24;
 
@@ -24,23 +24,52 @@ fn wide16(x: u16) -> u64
     x as u64
 }
 
+fn wide_size(x: usize) -> u64
+    ensures { λ r. ⌜ r ≡ x ⌝ }
+{
+    x as u64
+}
+
+// A report in one number.
+fn pack(
+    state: u8,
+    propagated: u8,
+    end: u8,
+    nodes: usize,
+    edges: usize,
+    shown: usize,
+    messages: u16,
+) -> u64
+    requires { ⌜ (nodes ≤ 128) × (edges ≤ 256) × (shown ≤ 64) ⌝ }
+    ensures { λ r. ⌜ (r ≡ packed (numbered state propagated end nodes edges shown messages)) × (r < 36028797018963968) ⌝ }
+{
+    let a = wide_size(shown) + wide16(messages) * 128;
+    let b = wide_size(edges) + a * 512;
+    let c = wide_size(nodes) + b * 256;
+    let d = wide(end) + c * 8;
+    let e = wide(propagated) + d * 4;
+    wide(state) + e * 4
+}
+
 // What is reported on node i, in one number.
 fn report_on(n: Negotiation, i: usize) -> u64
     requires { ⌜ (i < n .nodes .count) × (n .nodes .count ≤ 128) × (n .edges .count ≤ 256) × (n .shown .count ≤ 64) × NodesFormed (nodesOf (n .nodes)) × EdgesFormed (nodesOf (n .nodes)) (edgesOf (n .edges)) ⌝ }
-    ensures { λ r. ⌜ r ≡ packed (reportOn (stateOf n) i) ⌝ }
+    ensures { λ r. ⌜ (r ≡ packed (reportOn (stateOf n) i)) × (r < 36028797018963968) ⌝ }
 {
     let h = n.header;
     let nodes = n.nodes;
     let edges = n.edges;
     let shown = n.shown;
     let propagated = state_of(nodes, edges, i);
-    wide(nodes.state[i])
-        + wide(propagated) * 4
-        + wide(h.end) * 16
-        + (nodes.count as u64) * 128
-        + (edges.count as u64) * 32768
-        + (shown.count as u64) * 16777216
-        + wide16(h.messages) * 2147483648
+    pack(
+        nodes.state[i],
+        propagated,
+        h.end,
+        nodes.count,
+        edges.count,
+        shown.count,
+        h.messages,
+    )
 }
 
 // The report on a node, or a refusal number.

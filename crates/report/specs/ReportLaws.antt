@@ -1,0 +1,107 @@
+-- The report, test by test, and its numbers read back. Assumes nothing.
+use Prim.Native.Nat.{ℕ, zero, suc, _+_, _*_, _/_, _%_, _≤_, _<_}
+use native.Mathlib.Omega.{arith}
+use mathlib.Core.Path.{_≡_, refl, sym, _∙_, ap}
+use mathlib.Core.Bool.{Bool, true, false, not, cond, _&&_, _||_}
+use mathlib.Core.List.{List, []}
+use borrow.Author.Tests.{eq-eqb, ne-eqb, lt-ltb, le-ltb, eqb-true, ltb-true, leb-true}
+use lib.Dec.{eqb, ltb, leb}
+use lib.ListN.{length, getD}
+use Rattle.rt0.specs.Pool.{credentials, credentialAt, upTo}
+use Rattle.rt0.specs.Added.{length-upTo}
+use Rattle.rt0.specs.Lists.{and-parts, false-true}
+use Rattle.class.specs.declared.Name.{Name}
+use Rattle.class.specs.Names.{namesOf}
+use Rattle.graph.specs.declared.Node.{Node}
+use Rattle.graph.specs.Graph.{nodesOf, edgesOf, nodeAt, edgeAt, nodeIn}
+use Rattle.graph.specs.Columns.{nodes-length, edges-length, node-in}
+use Rattle.graph.specs.Propagated.{stateOf}
+use Rattle.states.specs.Brings.{NodesFormed, EdgesFormed}
+use Rattle.tables.specs.declared.House.{House}
+use Rattle.tables.specs.Tables.{Tables, tablesOf}
+use Rattle.negotiation.specs.declared.Negotiation.{Negotiation}
+use Rattle.negotiation.specs.State.{State, within, stateOf as stateHeld}
+use Rattle.damage.specs.declared.Restored.{Restored}
+use Rattle.damage.specs.Damage.{sound, graphSound, recordsSound}
+use Rattle.damage.specs.Restored.{Standing, refusal, standing, restoreOf, standingOf}
+use Rattle.damage.specs.RestoredLaws.{Kept}
+use Rattle.damage.specs.DamageLaws.{within-counts, held-nodes, held-edges}
+use Rattle.report.specs.Report.{Report, numbered, reportOn, Reported, refused, reported, behindNegotiation, reportOf, packed, unpacked, answerOf}
+
+-- The numbers
+
+-- the lowest number, and the rest
+low-4 : (x y n : ℕ) → n ≡ x + y * 4 → x < 4 → (n % 4 ≡ x) × (n / 4 ≡ y)
+low-4 x y n q l = (omega arith, omega arith)
+
+low-8 : (x y n : ℕ) → n ≡ x + y * 8 → x < 8 → (n % 8 ≡ x) × (n / 8 ≡ y)
+low-8 x y n q l = (omega arith, omega arith)
+
+low-128 : (x y n : ℕ) → n ≡ x + y * 128 → x < 128 → (n % 128 ≡ x) × (n / 128 ≡ y)
+low-128 x y n q l = (omega arith, omega arith)
+
+low-256 : (x y n : ℕ) → n ≡ x + y * 256 → x < 256 → (n % 256 ≡ x) × (n / 256 ≡ y)
+low-256 x y n q l = (omega arith, omega arith)
+
+low-512 : (x y n : ℕ) → n ≡ x + y * 512 → x < 512 → (n % 512 ≡ x) × (n / 512 ≡ y)
+low-512 x y n q l = (omega arith, omega arith)
+
+-- what is packed is read back
+pub packed-back : (r : Report) → r .state < 4 → r .propagated < 4 → r .end < 8 → r .nodes < 256 → r .edges < 512 → r .shown < 128 → unpacked (packed r) ≡ r
+unfolding packed unpacked
+packed-back r a b c d e f =
+    let s6 : ℕ = r .shown + r .messages * 128 in
+    let s5 : ℕ = r .edges + s6 * 512 in
+    let s4 : ℕ = r .nodes + s5 * 256 in
+    let s3 : ℕ = r .end + s4 * 8 in
+    let s2 : ℕ = r .propagated + s3 * 4 in
+    let v1 = low-4 (r .state) s2 (packed r) refl a in
+    let v2 = low-4 (r .propagated) s3 (packed r / 4) (v1 .1) b in
+    let v3 = low-8 (r .end) s4 (packed r / 4 / 4) (v2 .1) c in
+    let v4 = low-256 (r .nodes) s5 (packed r / 4 / 4 / 8) (v3 .1) d in
+    let v5 = low-512 (r .edges) s6 (packed r / 4 / 4 / 8 / 256) (v4 .1) e in
+    let v6 = low-128 (r .shown) (r .messages) (packed r / 4 / 4 / 8 / 256 / 512) (v5 .1) f in
+    λ i. record { state = v1 .0 i; propagated = v2 .0 i; end = v3 .0 i; nodes = v4 .0 i; edges = v5 .0 i; shown = v6 .0 i; messages = v6 .1 i }
+
+-- The call
+
+module _ (tables negotiation : List ℕ) (i : ℕ) (R : Restored) (e : standingOf R ≡ restoreOf tables negotiation) where
+  -- the tables or the negotiation are refused
+  pub report-refused : (R .refusal ≡ 0 → ⊥) → R .refusal ≡ answerOf (reportOf tables negotiation i)
+  unfolding reportOf standingOf
+  report-refused h = sym (ap (λ (s : Standing). answerOf (behindNegotiation i s)) (sym e ∙ ap (λ (b : Bool). cond b (standing (tablesOf (R .house)) (stateHeld (R .negotiation))) (refusal (R .refusal))) (ne-eqb (R .refusal) 0 h)))
+
+  module _ (z : R .refusal ≡ 0) where
+    by-node : (b : Bool) → ltb i (length (nodesOf (R .negotiation .nodes))) ≡ b → answerOf (reportOf tables negotiation i) ≡ answerOf (cond b (reported (reportOn (stateHeld (R .negotiation)) i)) (refused 24))
+    unfolding reportOf standingOf stateHeld
+    by-node b q =
+        ap (λ (s : Standing). answerOf (behindNegotiation i s)) (sym e ∙ ap (λ (b : Bool). cond b (standing (tablesOf (R .house)) (stateHeld (R .negotiation))) (refusal (R .refusal))) (eq-eqb (R .refusal) 0 z))
+        ∙ ap (λ (b : Bool). answerOf (cond b (reported (reportOn (stateHeld (R .negotiation)) i)) (refused 24))) q
+
+    -- an absent node
+    pub report-absent : {k : ℕ} → k ≡ i → R .negotiation .nodes .count ≤ k → 24 ≡ answerOf (reportOf tables negotiation i)
+    report-absent ke l = sym (by-node false (le-ltb i (length (nodesOf (R .negotiation .nodes))) (omega (arith, nodes-length (R .negotiation .nodes)))))
+
+    pub report-node : {k v : ℕ} → k ≡ i → k < R .negotiation .nodes .count → v ≡ packed (reportOn (stateHeld (R .negotiation)) k) → v * 256 ≡ answerOf (reportOf tables negotiation i)
+    report-node {k} {v} ke l ve = sym (by-node true (lt-ltb i (length (nodesOf (R .negotiation .nodes))) (omega (arith, nodes-length (R .negotiation .nodes)))) ∙ sym (ap (λ (n : ℕ). n * 256) (ve ∙ ap (λ (n : ℕ). packed (reportOn (stateHeld (R .negotiation)) n)) ke)))
+
+-- In code
+
+pub pack-is : {s p e n m k c s′ p′ e′ n′ m′ k′ c′ : ℕ} → s′ ≡ s → p′ ≡ p → e′ ≡ e → n′ ≡ n → m′ ≡ m → k′ ≡ k → c′ ≡ c
+    → (s′ + (p′ + (e′ + (n′ + (m′ + (k′ + c′ * 128) * 512) * 256) * 8) * 4) * 4) ≡ packed (numbered s p e n m k c)
+unfolding packed
+pack-is a b d f g h j = λ i. a i + (b i + (d i + (f i + (g i + (h i + j i * 128) * 512) * 256) * 8) * 4) * 4
+
+-- the numbers of a negotiation as it is held
+pub report-is : (G : Negotiation) (i : ℕ) {p v : ℕ} → i < G .nodes .count → p ≡ stateOf (nodesOf (G .nodes)) (edgesOf (G .edges)) i
+    → v ≡ packed (numbered (getD (G .nodes .state) i 0) p (G .header .end) (G .nodes .count) (G .edges .count) (G .shown .count) (G .header .messages)) → v ≡ packed (reportOn (stateHeld G) i)
+unfolding reportOn stateHeld credentials
+report-is G i l e q = q ∙ ap packed (λ t. record {
+      state = sym (node-in (G .nodes) i l) t .state;
+      propagated = e t;
+      end = G .header .end;
+      nodes = sym (nodes-length (G .nodes)) t;
+      edges = sym (edges-length (G .edges)) t;
+      shown = sym (length-upTo (G .shown .count) (credentialAt (G .shown))) t;
+      messages = G .header .messages;
+    })
