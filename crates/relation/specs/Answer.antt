@@ -105,7 +105,7 @@ module _ (P : Pool) (on : List ℕ) (small : P .count ≤ 128) (K : List ℕ) (r
 
 -- What is from e at once
 
-bits-below : (K : List ℕ) (r s : ℕ) → bits K r s ≡ true → s < 128
+pub bits-below : (K : List ℕ) (r s : ℕ) → bits K r s ≡ true → s < 128
 unfolding bits
 bits-below K r s h = ltb-true s 128 (and-parts (ltb s 128) _ h .0)
 
@@ -169,11 +169,11 @@ module _ (P : Pool) (on : List ℕ) (small : P .count ≤ 128) (K : List ℕ) (r
   at-start i s l o v h = rw v (closed .grown .kept .within _ 0 (asked .seeds i l o h))
 
   -- rows closed from where a question starts answer it
-  pub answers : Answers P on e L
+  pub answers : Answers P on e 0 L
   answers =
       record {
         sized = closed .grown .sized;
-        says = λ r s h. let k = within-asked .within r s h in ⊎-elim (λ z. inl (z .0)) (λ l. inr (l, from-truth P on small e (λ s. e) true (λ q s. refl) r s l k)) (truth-row P on small e (λ s. e) true (λ q s. refl) r s k);
+        says = λ r h. let k = within-asked .within r 0 h in ⊎-elim (λ z. inl (z .0)) (λ l. inr (l, from-truth P on small e (λ s. e) true (λ q s. refl) r 0 l k)) (truth-row P on small e (λ s. e) true (λ q s. refl) r 0 k);
         all = λ p h. all-held P on small e (λ s. e) true (λ q s. refl) X (Used X) L (bits K) within-asked comp (λ i l o. closed .model .rule i (rw (comp .count) l) o) (λ s. s ≡ 0) in-zero
             (λ s p v q. rw v (closed .grown .kept .within (rowFor P e p) 0 (asked .own p q)))
             (λ i s l o v q. at-start i s l o v (once-same P on small K rel e (bodyAt P i) q))
@@ -183,66 +183,30 @@ module _ (P : Pool) (on : List ℕ) (small : P .count ≤ 128) (K : List ℕ) (r
       }
 
 -- the entities of a role have bits
-in-body : (P : Pool) (on : List ℕ) → P .count ≤ 128 → (c : ℕ) {a : Role} → Reach (chosen P on) (E.Role a) (E.Entity c) → bitOf P c < P .count
+pub in-body : (P : Pool) (on : List ℕ) → P .count ≤ 128 → (c : ℕ) {a : Role} → Reach (chosen P on) (E.Role a) (E.Entity c) → bitOf P c < P .count
 unfolding chosen
 in-body P on small c h =
     let k = role-ends c h in
     let r = chosen-find P on (P .count) (k .0) (k .1) in
     bit-here P small c (r .0) (r .1) (ap (λ (x : Credential). x .body) (sym (r .3)) ∙ k .2) .0
 
--- An expression is asked about by rows that answer what is from it
+-- The rows of an entity
 
-module _ (P : Pool) (on : List ℕ) (small : P .count ≤ 128) (K : List ℕ) (rel : Relation P on K) (e : Expression) (L : List ℕ) (ans : Answers P on e L) (Y : Rules) where
-  abbrev Said : ℕ → ℕ → Bool
-  Said = Truth P on small e (λ s. e) true (λ q s. refl)
-
-  within-said : Within (bits L) Said
-  unfolding Truth
-  within-said = record { within = λ r s h. ⊎-elim (λ q. rw q refl) (λ k. to-truth P on small e (λ s. e) true (λ q s. refl) r s (k .0) (k .1)) (ans .says r s h) }
-
-  members-said : (a : Role) (b : ℕ) → bitOf P b < P .count → bits K (rowOf P a) (bitOf P b) ≡ true → From (chosen P on) (E.Role a) (E.Entity b)
-  members-said a b l h = member-says P on small K rel a b h l
-
-  held-said : {x y : Expression} → Reach (chosen P on) x y → y ≡ e → Hold P on small e (λ s. e) true (λ q s. refl) Y (λ s. s ≡ 0) L (bits K) within-said 0 x
-  held-said {x} (R.here) q = at-once x q
-    where
-      at-once : (x : Expression) → x ≡ e → Hold P on small e (λ s. e) true (λ q s. refl) Y (λ s. s ≡ 0) L (bits K) within-said 0 x
-      at-once (E.Entity c) q = q
-      at-once (E.Role p) q = ans .all p (subst (λ (y : Expression). From (chosen P on) (E.Role p) y) q reflexive)
-      at-once (E.Linked a m) q = inl q
-      at-once (E.Intersection p) q = inl q
-      at-once (E.Goal m) q = q
-  held-said (R.step {c = c} m h) q = ans .all (c .head) (transitive (credential m) (unreach (subst (λ (y : Expression). Reach (chosen P on) (c .body) y) q h)))
-  held-said (R.link {a = a} {n = n} {b = c} h₁ h₂) q =
-      let l = in-body P on small c h₁ in
-      inr (c, l, rel .all a c l (unreach h₁), ans .all (roleOf c n) (unreach (subst (λ (y : Expression). Reach (chosen P on) (E.Role (roleOf c n)) y) q h₂)))
-  held-said (R.each h) q = inr (λ p k. ans .all p (unreach (subst (λ (y : Expression). Reach (chosen P on) (E.Role p) y) q (h p k))))
-
-  -- a rule of the expression f, where bit 0 of what it gives is w, says whether f is from e
-  pub answered : (f : Expression) (i : ℕ) (w : Bool) → Row P e Y i f → Takes Y i (λ s. s ≡ 0) (bits K) (bits L) (λ s. w)
-      → ((m G : ℕ → ℕ → Bool) (g : Bool) → Within (bits L) G → Within (bits K) m → Takes Y i (λ s. s ≡ 0) m G (λ s. g) → w ≡ true → g ≡ true)
-      → (atOnce P K e f || w) ≡ from? (chosen P on) f e
-  answered f i w row taken least =
-      decides (chosen P on) f e (atOnce P K e f || w)
-      (λ h. ⊎-elim (λ q. once-says P on small K rel e f q)
-      (λ q. sound (chosen P on) f e
-      (least (bits K) Said (from? (chosen P on) f e) within-said (record { within = λ r s q. q })
-      (takes-sound P on small e (λ s. e) true (λ q s. refl) Y (λ s. s ≡ 0) (bits K) members-said i f row (λ s. from? (chosen P on) f e) (λ s u h. complete (chosen P on) f e h)) q))
-      (or-cases (atOnce P K e f) w h))
-      (λ h. takes-hold P on small e (λ s. e) true (λ q s. refl) Y (λ s. s ≡ 0) L (bits K) within-said i 0 f refl row (λ s. atOnce P K e f || w)
-      (record { meet = λ s u a b c d. or-right (atOnce P K e f) w (taken .meet s u a b c d); link = λ j s u n m v. or-right (atOnce P K e f) w (taken .link j s u n m v) })
-      (λ q. or-left _ _ (once-same P on small K rel e f q))
-      (λ o. or-left _ _ (once-link P on small K rel e f (o .0) (o .1) (o .2) (o .3) (o .5) (o .6)))
-      (held-said (reach h) refl))
-
--- An entity is asked about: bit bitOf b of the relation's rows stands for it
+-- the rows L have, as bit 0, bit s of the rows of K below k
+pub record Moved (K : List ℕ) (s k : ℕ) (L : List ℕ) : Type 0 where
+  pub sized : length L ≡ 260
+  pub says : (r t : ℕ) → bits L r t ≡ true → bits K r s ≡ true
+  pub all : (r : ℕ) → r < k → bits K r s ≡ true → bits L r 0 ≡ true
 
 module _ (P : Pool) (on : List ℕ) (small : P .count ≤ 128) (K : List ℕ) (rel : Relation P on K) (b : ℕ) where
-  abbrev Asks : ℕ → ℕ → Bool
-  Asks = Truth P on small (E.Entity b) (bodyAt P) false (λ q. not-asked q)
-
-  within-rel : Within (bits K) Asks
-  within-rel = record { within = λ r s h. let k = rel .says r s h in to-truth P on small (E.Entity b) (bodyAt P) false (λ q. not-asked q) r s (k .0) (k .1) }
+  -- the relation's rows answer about an entity that is a body, by its bit
+  pub answers-entity : bitOf P b < P .count → Answers P on (E.Entity b) (bitOf P b) K
+  answers-entity l =
+      record {
+        sized = rel .sized;
+        says = λ r h. let z = rel .says r (bitOf P b) h in inr (z .0, subst (λ (y : Expression). From (chosen P on) (E.Role (headAt P r)) y) (bit-found P small b (omega arith) .1) (z .1));
+        all = λ p h. rw (← row-plain P b p) (rel .all p b l h);
+      }
 
   -- where no credential has the entity as its body, it is from itself alone
   pub answered-alone : bitOf P b ≡ 128 → (f : Expression) → same f (E.Entity b) ≡ from? (chosen P on) f (E.Entity b)
@@ -256,75 +220,24 @@ module _ (P : Pool) (on : List ℕ) (small : P .count ≤ 128) (K : List ℕ) (r
       let m : bitOf P b < P .count = l .0 in
       absurd (omega arith)) (ends b (reach h) refl))
 
-  module _ (here : bitOf P b < P .count) (Y : Rules) where
-    is-b : bodyAt P (bitOf P b) ≡ E.Entity b
-    is-b = bit-found P small b (omega arith) .1
-
-    known : (p : Role) → From (chosen P on) (E.Role p) (E.Entity b) → bits K (rowFor P (E.Entity b) p) (bitOf P b) ≡ true
-    known p h = known-of P on small (E.Entity b) (bodyAt P) false (λ q. not-asked q) Y (λ s. s ≡ bitOf P b) K (bits K) within-rel p (bitOf P b) (rel .all p b here h)
-
-    held : {x y : Expression} → Reach (chosen P on) x y → y ≡ E.Entity b → Hold P on small (E.Entity b) (bodyAt P) false (λ q. not-asked q) Y (λ s. s ≡ bitOf P b) K (bits K) within-rel (bitOf P b) x
-    held {x} (R.here) q = at-once x q
-      where
-        at-once : (x : Expression) → x ≡ E.Entity b → Hold P on small (E.Entity b) (bodyAt P) false (λ q. not-asked q) Y (λ s. s ≡ bitOf P b) K (bits K) within-rel (bitOf P b) x
-        at-once (E.Entity c) q = q ∙ sym is-b
-        at-once (E.Role p) q = absurd (role-entity q)
-        at-once (E.Linked a m) q = inl (q ∙ sym is-b)
-        at-once (E.Intersection p) q = inl (q ∙ sym is-b)
-        at-once (E.Goal m) q = q ∙ sym is-b
-    held (R.step {c = c} m h) q = known (c .head) (transitive (credential m) (unreach (subst (λ (y : Expression). Reach (chosen P on) (c .body) y) q h)))
-    held (R.link {a = a} {n = n} {b = c} h₁ h₂) q =
-        let l = in-body P on small c h₁ in
-        inr (c, l, rel .all a c l (unreach h₁), known (roleOf c n) (unreach (subst (λ (y : Expression). Reach (chosen P on) (E.Role (roleOf c n)) y) q h₂)))
-    held (R.each h) q = inr (λ p k. known p (unreach (subst (λ (y : Expression). Reach (chosen P on) (E.Role p) y) q (h p k))))
-
-    members-rel : (a : Role) (c : ℕ) → bitOf P c < P .count → bits K (rowOf P a) (bitOf P c) ≡ true → From (chosen P on) (E.Role a) (E.Entity c)
-    members-rel a c l h = member-says P on small K rel a c h l
-
-    -- a rule of the expression f, where bit bitOf b of what it gives is w, says whether f is from the entity
-    pub answered-entity : (f : Expression) (i : ℕ) (w : Bool) → Row P (E.Entity b) Y i f → Takes Y i (λ s. s ≡ bitOf P b) (bits K) (bits K) (λ s. w)
-        → ((m G : ℕ → ℕ → Bool) (g : Bool) → Within (bits K) G → Within (bits K) m → Takes Y i (λ s. s ≡ bitOf P b) m G (λ s. g) → w ≡ true → g ≡ true)
-        → (atOnce P K (E.Entity b) f || w) ≡ from? (chosen P on) f (E.Entity b)
-    answered-entity f i w row taken least =
-        decides (chosen P on) f (E.Entity b) (atOnce P K (E.Entity b) f || w)
-        (λ h. ⊎-elim (λ q. once-says P on small K rel (E.Entity b) f q)
-        (λ q. sound (chosen P on) f (E.Entity b)
-        (least (bits K) Asks (from? (chosen P on) f (E.Entity b)) within-rel (record { within = λ r s q. q })
-        (takes-sound P on small (E.Entity b) (bodyAt P) false (λ q. not-asked q) Y (λ s. s ≡ bitOf P b) (bits K) members-rel i f row (λ s. from? (chosen P on) f (E.Entity b))
-        (λ s u h. complete (chosen P on) f (E.Entity b) (subst (λ (y : Expression). From (chosen P on) f y) (ap (bodyAt P) u ∙ is-b) h))) q))
-        (or-cases (atOnce P K (E.Entity b) f) w h))
-        (λ h. takes-hold P on small (E.Entity b) (bodyAt P) false (λ q. not-asked q) Y (λ s. s ≡ bitOf P b) K (bits K) within-rel i (bitOf P b) f refl row (λ s. atOnce P K (E.Entity b) f || w)
-        (record { meet = λ s u c₀ c₁ c₂ c₃. or-right (atOnce P K (E.Entity b) f) w (taken .meet s u c₀ c₁ c₂ c₃); link = λ j s u n m v. or-right (atOnce P K (E.Entity b) f) w (taken .link j s u n m v) })
-        (λ q. or-left _ _ (once-same P on small K rel (E.Entity b) f (q ∙ is-b)))
-        (λ o. absurd (role-entity (o .6 ∙ is-b)))
-        (held (reach h) refl))
-
--- The rows of an entity: bit bitOf b of the relation's rows, as bit 0
-
--- the rows L have, as bit 0, bit s of the rows of K below k
-pub record Moved (K : List ℕ) (s k : ℕ) (L : List ℕ) : Type 0 where
-  pub sized : length L ≡ 260
-  pub says : (r t : ℕ) → bits L r t ≡ true → bits K r s ≡ true
-  pub all : (r : ℕ) → r < k → bits K r s ≡ true → bits L r 0 ≡ true
-
-module _ (P : Pool) (on : List ℕ) (small : P .count ≤ 128) (K : List ℕ) (rel : Relation P on K) (b : ℕ) where
   -- an entity that is no body is in no role
-  pub answers-none : bitOf P b ≡ 128 → (L : List ℕ) → length L ≡ 260 → ((r s : ℕ) → bits L r s ≡ true → ⊥) → Answers P on (E.Entity b) L
+  pub answers-none : bitOf P b ≡ 128 → (L : List ℕ) → length L ≡ 260 → ((r s : ℕ) → bits L r s ≡ true → ⊥) → Answers P on (E.Entity b) 0 L
   answers-none z L sized empty =
       record {
         sized = sized;
-        says = λ r s h. absurd (empty r s h);
+        says = λ r h. absurd (empty r 0 h);
         all = λ p h. absurd (let l = in-body P on small b (reach h) in omega arith);
       }
 
-  -- the bits of an entity, moved, answer what is from it
-  pub answers-moved : bitOf P b < P .count → (k : ℕ) → P .count ≤ k → (L : List ℕ) → Moved K (bitOf P b) k L → Answers P on (E.Entity b) L
+  -- its bits, moved, answer what is from it
+  pub answers-moved : bitOf P b < P .count → (k : ℕ) → P .count ≤ k → (L : List ℕ) → Moved K (bitOf P b) k L → Answers P on (E.Entity b) 0 L
   answers-moved l k le L m =
+      let ans = answers-entity l in
       record {
         sized = m .sized;
-        says = λ r t h. let z = rel .says r (bitOf P b) (m .says r t h) in inr (z .0, subst (λ (y : Expression). From (chosen P on) (E.Role (headAt P r)) y) (bit-found P small b (omega arith) .1) (z .1));
+        says = λ r h. ans .says r (m .says r 0 h);
         all = λ p h.
-            let q = rel .all p b l h in
-            let lr : rowOf P p < P .count = rel .says (rowOf P p) (bitOf P b) q .0 in
-            rw (← row-plain P b p) (m .all (rowOf P p) (omega arith) q);
+            let q = ans .all p h in
+            let lr : rowFor P (E.Entity b) p < P .count = rel .says (rowFor P (E.Entity b) p) (bitOf P b) q .0 in
+            m .all (rowFor P (E.Entity b) p) (omega arith) q;
       }

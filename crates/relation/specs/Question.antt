@@ -2,7 +2,7 @@
 use Prim.Native.Nat.{ℕ, _<_}
 use mathlib.Core.Path.{_≡_}
 use mathlib.Core.Logic.{_⊎_}
-use mathlib.Core.Bool.{Bool, true, _&&_, _||_}
+use mathlib.Core.Bool.{Bool, true, _&&_}
 use mathlib.Core.List.{List}
 use lib.Dec.{eqb}
 use lib.ListN.{length}
@@ -12,9 +12,8 @@ use Rattle.expression.specs.declared.Expression.the-variants as E
 use Rattle.rt0.specs.declared.Pool.{Pool}
 use Rattle.rt0.specs.From.{From}
 use Rattle.rt0.specs.Pool.{headAt, bodyAt}
-use Rattle.closure.specs.declared.Rules.{Rules}
-use Rattle.closure.specs.Rules.{el, bits, Takes, Within}
-use Rattle.rules.specs.Table.{rowOf, bitOf, rowFor, chosen, Row}
+use Rattle.closure.specs.Rules.{el, bits, Within}
+use Rattle.rules.specs.Table.{rowOf, bitOf, rowFor, chosen}
 use Rattle.relation.specs.Relation.{atOnce}
 
 -- the rows K with what credential i says at once
@@ -40,14 +39,9 @@ pub record OwnRow (P : Pool) (e : Expression) (r : ℕ) : Type 0 where
 unfoldable pub startsAt : Pool → List ℕ → List ℕ → Expression → ℕ → Bool
 startsAt P on K e i = eqb (el on i) 1 && atOnce P K e (bodyAt P i)
 
--- b is whether f is from e at once, or by its rule from bit z of the rows L, with membership K
-pub record Reached (P : Pool) (K L : List ℕ) (z : ℕ) (e f : Expression) (b : Bool) : Type 0 where
-  pub rules : Rules
-  pub row : Row P e rules 0 f
-  pub given : Bool
-  pub taken : Takes rules 0 (λ (s : ℕ). s ≡ z) (bits K) (bits L) (λ (s : ℕ). given)
-  pub least : (m G : ℕ → ℕ → Bool) (g : Bool) → Within (bits L) G → Within (bits K) m → Takes rules 0 (λ (s : ℕ). s ≡ z) m G (λ (s : ℕ). g) → given ≡ true → g ≡ true
-  pub is : b ≡ (atOnce P K e f || given)
+-- head j is B.m, from what bit z of the rows L stands for, and B is in row r of the rows K
+unfoldable pub leadsAt : Pool → List ℕ → List ℕ → ℕ → ℕ → ℕ → ℕ → Bool
+leadsAt P K L z r m j = eqb (headAt P j .name) m && (bits L j z && bits K r (bitOf P (headAt P j .entity)))
 
 -- the rows that a question about e starts from, up to credential k
 pub record AskedTo (P : Pool) (on K : List ℕ) (e : Expression) (k : ℕ) (K₀ : List ℕ) : Type 0 where

@@ -57,8 +57,8 @@ pub record Asked (P : Pool) (on K : List ℕ) (e : Expression) (K₀ : List ℕ)
   pub own : (p : Role) → E.Role p ≡ e → bits K₀ (rowFor P e p) 0 ≡ true
   pub seeds : (i : ℕ) → i < P .count → el on i ≡ 1 → atOnce P K e (bodyAt P i) ≡ true → bits K₀ (rowOf P (headAt P i)) 0 ≡ true
 
--- the rows L answer what is from e: bit 0 of a role's row says whether the role is; row 129 is that of e itself where it is no head
-pub record Answers (P : Pool) (on : List ℕ) (e : Expression) (L : List ℕ) : Type 0 where
+-- the rows L answer what is from e: bit z of a role's row says whether the role is. Row 129 is that of e itself, where it is no head
+pub record Answers (P : Pool) (on : List ℕ) (e : Expression) (z : ℕ) (L : List ℕ) : Type 0 where
   pub sized : length L ≡ 260
-  pub says : (r s : ℕ) → bits L r s ≡ true → (r ≡ 129) ⊎ ((r < P .count) × From (chosen P on) (E.Role (headAt P r)) e)
-  pub all : (p : Role) → From (chosen P on) (E.Role p) e → bits L (rowFor P e p) 0 ≡ true
+  pub says : (r : ℕ) → bits L r z ≡ true → (r ≡ 129) ⊎ ((r < P .count) × From (chosen P on) (E.Role (headAt P r)) e)
+  pub all : (p : Role) → From (chosen P on) (E.Role p) e → bits L (rowFor P e p) z ≡ true

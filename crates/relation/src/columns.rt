@@ -25,7 +25,7 @@ fn entity_column<'a>(
     b: u16,
 ) -> [u64; 260]
     requires { ⌜ (n ≤ 128) × Relation (poolOf n (now heads) (now kinds) (now numbers)) (now on) (now mem) ⌝ }
-    ensures { λ r. ⌜ Answers (poolOf n (now (heads .entry)) (now (kinds .entry)) (now (numbers .entry))) (now (on .entry)) (Expression.Entity b) r ⌝ }
+    ensures { λ r. ⌜ Answers (poolOf n (now (heads .entry)) (now (kinds .entry)) (now (numbers .entry))) (now (on .entry)) (Expression.Entity b) 0 r ⌝ }
 {
     let mut rows = [0u64; 260];
     let s = source(n, heads, kinds, numbers, b);
@@ -60,7 +60,7 @@ fn rule_column<'a>(
     e: Expression,
 ) -> [u64; 260]
     requires { ⌜ (n ≤ 128) × Ruled (poolOf n (now heads) (now kinds) (now numbers)) (rulesOf n words (now head) (now part) (now first) (now named) (now src)) × Relation (poolOf n (now heads) (now kinds) (now numbers)) (now on) (now mem) ⌝ }
-    ensures { λ r. ⌜ Answers (poolOf n (now (heads .entry)) (now (kinds .entry)) (now (numbers .entry))) (now (on .entry)) e r ⌝ }
+    ensures { λ r. ⌜ Answers (poolOf n (now (heads .entry)) (now (kinds .entry)) (now (numbers .entry))) (now (on .entry)) e 0 r ⌝ }
 {
     let aimed = aim_parts(n, heads, kinds, numbers, part, e);
     let mut vals = asked(n, heads, kinds, numbers, head, first, on, mem, e);
@@ -102,7 +102,7 @@ pub fn column<'a>(
     e: Expression,
 ) -> [u64; 260]
     requires { ⌜ (n ≤ 128) × Ruled (poolOf n (now heads) (now kinds) (now numbers)) (rulesOf n words (now head) (now part) (now first) (now named) (now src)) × Relation (poolOf n (now heads) (now kinds) (now numbers)) (now on) (now mem) ⌝ }
-    ensures { λ r. ⌜ Answers (poolOf n (now (heads .entry)) (now (kinds .entry)) (now (numbers .entry))) (now (on .entry)) e r ⌝ }
+    ensures { λ r. ⌜ Answers (poolOf n (now (heads .entry)) (now (kinds .entry)) (now (numbers .entry))) (now (on .entry)) e 0 r ⌝ }
 {
     if let Expression::Entity(b) = e {
         return entity_column(n, heads, kinds, numbers, on, mem, b);

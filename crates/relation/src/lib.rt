@@ -4,19 +4,12 @@ use closure::awake;
 use closure::close;
 use closure::readers;
 use closure::woken;
-use closure::word;
 use expression::Expression;
 use expression::same;
 use rt0::Pool;
-use rules::first_of;
-use rules::is_linked;
-use rules::linkable;
-use rules::name_link;
 use rules::open_table;
-use rules::rows_of;
 use rules::rules_of;
 use rules::source;
-use word::test;
 ghost use mathlib.Core.Path.{_≡_};
 ghost use Prim.Native.Nat.{_<_, _≤_};
 ghost use lib.ListN.{length, set};
@@ -24,21 +17,19 @@ ghost use Rattle.rt0.specs.Decide.{from? as fromOf};
 ghost use Rattle.rt0.specs.Pool.{poolOf, credentials as credentialsOf};
 ghost use Rattle.closure.specs.Rules.{rulesOf};
 ghost use Rattle.rules.specs.Table.{chosen};
-ghost use Rattle.rules.specs.Columns.{Column, headRow};
 ghost use Rattle.rules.specs.Ruled.{Ruled};
 ghost use Rattle.relation.specs.Relation.{Relation, Answers};
-ghost use Rattle.relation.specs.Question.{Reached};
 
 mod aimed;
 mod columns;
+mod forms;
 mod said;
 mod start;
 
-use aimed::aim_rows;
 pub use columns::column;
+use forms::by_form;
 use said::seed;
 use said::seeds;
-use start::once;
 
 // The relation of roles and entities over the credentials that are on.
 pub fn relation<'a>(
@@ -124,87 +115,35 @@ pub fn switch_on<'a>(
     );
 }
 
-// Whether f is from e, where bit s of the rows vals says which roles are.
-fn reached<'a>(
-    n: usize,
-    heads: &'a [u16; 256],
-    kinds: &'a [u8; 256],
-    numbers: &'a [u16; 1024],
-    head: &'a [usize; 128],
-    mem: &'a [u64; 260],
-    vals: &'a [u64; 260],
-    s: usize,
-    e: Expression,
-    f: Expression,
-) -> bool
-    requires { ⌜ (n ≤ 128) × (s < 128) × Column (headRow (poolOf n (now heads) (now kinds) (now numbers))) 128 130 n (now head) ⌝ }
-    ensures { λ r. ⌜ Reached (poolOf n (now (heads .entry)) (now (kinds .entry)) (now (numbers .entry))) (now (mem .entry)) (now (vals .entry)) s e f r ⌝ }
-{
-    let open = open_table();
-    let old = rows_of(n, heads, kinds, numbers, &open, &open, f);
-    let x = aim_rows(n, heads, kinds, numbers, e, f, old);
-    let mut part = [128usize; 512];
-    part[0] = x.a;
-    part[1] = x.b;
-    part[2] = x.c;
-    part[3] = x.d;
-    let mut first = [128usize; 128];
-    let r = first_of(n, heads, kinds, numbers, &open, &open, f);
-    first[0] = r;
-    let links = linkable(n, heads, kinds, numbers, head, is_linked(f));
-    let src = links.src;
-    let able = links.able;
-    let mut named = [0u64; 260];
-    name_link(n, heads, kinds, numbers, &able, 0, f, &mut named);
-    let w = word(
-        n,
-        1,
-        head,
-        &part,
-        &first,
-        &named,
-        &src,
-        vals,
-        mem,
-        0,
-        s / 64,
-    );
-    if test(w, s % 64) {
-        return true;
-    }
-    once(n, heads, kinds, numbers, mem, e, f, r)
-}
-
 // Whether f is from the entity b.
 fn by_entity<'a>(
     n: usize,
     heads: &'a [u16; 256],
     kinds: &'a [u8; 256],
     numbers: &'a [u16; 1024],
-    head: &'a [usize; 128],
     on: &'a [u8; 128],
     mem: &'a [u64; 260],
     f: Expression,
     b: u16,
 ) -> bool
-    requires { ⌜ (n ≤ 128) × Column (headRow (poolOf n (now heads) (now kinds) (now numbers))) 128 130 n (now head) × Relation (poolOf n (now heads) (now kinds) (now numbers)) (now on) (now mem) ⌝ }
+    requires { ⌜ (n ≤ 128) × Relation (poolOf n (now heads) (now kinds) (now numbers)) (now on) (now mem) ⌝ }
     ensures { λ r. ⌜ r ≡ fromOf (chosen (poolOf n (now (heads .entry)) (now (kinds .entry)) (now (numbers .entry))) (now (on .entry))) f (Expression.Entity b) ⌝ }
 {
     let s = source(n, heads, kinds, numbers, b);
     if s >= 128 {
         return same(f, Expression::Entity(b));
     }
-    reached(
+    by_form(
         n,
         heads,
         kinds,
         numbers,
-        head,
+        on,
         mem,
         mem,
         s,
-        Expression::Entity(b),
         f,
+        Expression::Entity(b),
     )
 }
 
@@ -214,17 +153,16 @@ pub fn in_column<'a>(
     heads: &'a [u16; 256],
     kinds: &'a [u8; 256],
     numbers: &'a [u16; 1024],
-    head: &'a [usize; 128],
     on: &'a [u8; 128],
     mem: &'a [u64; 260],
     vals: &'a [u64; 260],
     f: Expression,
     e: Expression,
 ) -> bool
-    requires { ⌜ (n ≤ 128) × Column (headRow (poolOf n (now heads) (now kinds) (now numbers))) 128 130 n (now head) × Relation (poolOf n (now heads) (now kinds) (now numbers)) (now on) (now mem) × Answers (poolOf n (now heads) (now kinds) (now numbers)) (now on) e (now vals) ⌝ }
+    requires { ⌜ (n ≤ 128) × Relation (poolOf n (now heads) (now kinds) (now numbers)) (now on) (now mem) × Answers (poolOf n (now heads) (now kinds) (now numbers)) (now on) e 0 (now vals) ⌝ }
     ensures { λ r. ⌜ r ≡ fromOf (chosen (poolOf n (now (heads .entry)) (now (kinds .entry)) (now (numbers .entry))) (now (on .entry))) f e ⌝ }
 {
-    reached(n, heads, kinds, numbers, head, mem, vals, 0, e, f)
+    by_form(n, heads, kinds, numbers, on, mem, vals, 0, f, e)
 }
 
 // Whether f is from e over the credentials that are on, whose relation is mem.
@@ -249,7 +187,7 @@ pub fn ask<'a>(
     ensures { λ r. ⌜ r ≡ fromOf (chosen (poolOf n (now (heads .entry)) (now (kinds .entry)) (now (numbers .entry))) (now (on .entry))) f e ⌝ }
 {
     if let Expression::Entity(b) = e {
-        return by_entity(n, heads, kinds, numbers, head, on, mem, f, b);
+        return by_entity(n, heads, kinds, numbers, on, mem, f, b);
     }
     let vals = column(
         n,
@@ -267,7 +205,7 @@ pub fn ask<'a>(
         mem,
         e,
     );
-    in_column(n, heads, kinds, numbers, head, on, mem, &vals, f, e)
+    in_column(n, heads, kinds, numbers, on, mem, &vals, f, e)
 }
 
 // Whether f is from e over the credentials of the pool.

@@ -1,0 +1,58 @@
+use Prim.Native.Nat.{ℕ, _-_, _≤_}
+use native.Mathlib.Omega.{arith}
+use mathlib.Core.Path.{_≡_, refl}
+use mathlib.Core.Bool.{false}
+use lib.ListN.{length-replicate}
+use Rattle.rt0.specs.declared.Pool.{Pool}
+use Rattle.rt0.specs.Pool.{poolOf}
+use Rattle.rules.specs.Table.{anyTo}
+use Rattle.rules.specs.Search.{found-at, not-at, nowhere}
+use Rattle.rules.specs.Digits.{BodiesIn}
+use Rattle.relation.specs.Question.{leadsAt}
+use Rattle.relation.proofs.forms.leads_on.Statement.{statement}
+use Rattle.relation.proofs.forms.leads_on.Tie as tie
+
+abbrev Inv-loop : tie.InvT-loop
+Inv-loop n heads kinds numbers mem vals z r m body j₀ j = (anyTo j (leadsAt (poolOf n heads kinds numbers) mem vals z r m) ≡ false) × (j ≤ n)
+
+abbrev μ-loop : tie.MeasureT-loop
+μ-loop n heads kinds numbers mem vals z r m body j₀ j = n - j
+
+note-bodies-requires : tie.Need-note-bodies-requires Inv-loop μ-loop
+note-bodies-requires c κs = (c .before .pre .0, length-replicate {A = ℕ} 260 0)
+
+loop-holds : tie.Need-loop-holds Inv-loop μ-loop
+loop-holds c = (refl, omega arith)
+
+leads-requires : tie.Need-leads-requires Inv-loop μ-loop
+leads-requires c κs = (c .before .before .before .before .before .pre .0, c .before .before .before .before .before .pre .1, c .before .before .before .before .before .pre .2, omega (arith, c .before .before .before .before .before .pre .0), c .before .before .before .note-bodies .ensures)
+
+returns : tie.Need-returns Inv-loop μ-loop
+returns c = found-at (leadsAt (poolOf (c .before .before .before .before .before .before .before .args .n) (c .before .before .before .before .before .before .before .args .heads .now) (c .before .before .before .before .before .before .before .args .kinds .now) (c .before .before .before .before .before .before .before .args .numbers .now)) (c .before .before .before .before .before .before .before .args .mem .now) (c .before .before .before .before .before .before .before .args .vals .now) (c .before .before .before .before .before .before .before .args .z) (c .before .before .before .before .before .before .before .args .r) (c .before .before .before .before .before .before .before .args .m)) (c .before .before .before .before .loop .j) (c .before .before .before .loop-test .taken) (c .before .leads .ensures) (c .if1 .taken)
+
+add-j : tie.Need-add-j Inv-loop μ-loop
+add-j c = omega arith
+
+loop-less : tie.Need-loop-less Inv-loop μ-loop
+loop-less c = omega arith
+
+loop-again : tie.Need-loop-again Inv-loop μ-loop
+loop-again c = (not-at (leadsAt (poolOf (c .before .before .before .before .before .before .before .args .n) (c .before .before .before .before .before .before .before .args .heads .now) (c .before .before .before .before .before .before .before .args .kinds .now) (c .before .before .before .before .before .before .before .args .numbers .now)) (c .before .before .before .before .before .before .before .args .mem .now) (c .before .before .before .before .before .before .before .args .vals .now) (c .before .before .before .before .before .before .before .args .z) (c .before .before .before .before .before .before .before .args .r) (c .before .before .before .before .before .before .before .args .m)) (c .before .before .before .before .loop .j) (c .before .before .before .before .loop .inv .0) (c .before .leads .ensures) (c .if1 .left), omega arith)
+
+returns-2 : tie.Need-returns-2 Inv-loop μ-loop
+returns-2 c = nowhere (leadsAt (poolOf (c .before .before .before .before .args .n) (c .before .before .before .before .args .heads .now) (c .before .before .before .before .args .kinds .now) (c .before .before .before .before .args .numbers .now)) (c .before .before .before .before .args .mem .now) (c .before .before .before .before .args .vals .now) (c .before .before .before .before .args .z) (c .before .before .before .before .args .r) (c .before .before .before .before .args .m)) (c .before .loop .j) (c .before .loop .inv .1) (c .loop-test .left) (c .before .loop .inv .0)
+
+pub leads-on-spec : {M : Type 1} → statement M
+leads-on-spec =
+    tie.close
+    (tie.spec
+    Inv-loop
+    μ-loop
+    note-bodies-requires
+    loop-holds
+    leads-requires
+    returns
+    add-j
+    loop-less
+    loop-again
+    returns-2)

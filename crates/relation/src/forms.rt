@@ -1,0 +1,180 @@
+// Whether an expression is from e, by its form and rows that answer: bit z of a role's row says whether the role is.
+use crate::start::once;
+use closure::bit;
+use expression::Expression;
+use expression::Parts;
+use expression::Role;
+use expression::same;
+use rules::find_source;
+use rules::fourth_of;
+use rules::note_bodies;
+use rules::row;
+use rules::third_of;
+ghost use mathlib.Core.Path.{_≡_};
+ghost use Prim.Native.Nat.{_<_, _≤_};
+ghost use Rattle.rt0.specs.Decide.{from? as fromOf};
+ghost use Rattle.rt0.specs.Pool.{poolOf};
+ghost use Rattle.rules.specs.Table.{anyTo, chosen};
+ghost use Rattle.rules.specs.Digits.{BodiesIn};
+ghost use Rattle.relation.specs.Relation.{Relation, Answers};
+ghost use Rattle.relation.specs.Question.{leadsAt};
+
+// Whether the role p is from e.
+fn role_from<'a>(
+    n: usize,
+    heads: &'a [u16; 256],
+    kinds: &'a [u8; 256],
+    numbers: &'a [u16; 1024],
+    on: &'a [u8; 128],
+    vals: &'a [u64; 260],
+    z: usize,
+    e: Expression,
+    p: Role,
+) -> bool
+    requires { ⌜ (n ≤ 128) × (z < 128) × Answers (poolOf n (now heads) (now kinds) (now numbers)) (now on) e z (now vals) ⌝ }
+    ensures { λ r. ⌜ r ≡ fromOf (chosen (poolOf n (now (heads .entry)) (now (kinds .entry)) (now (numbers .entry))) (now (on .entry))) (Expression.Role p) e ⌝ }
+{
+    let r = row(n, heads, kinds, numbers, p);
+    if r >= 128 {
+        return same(Expression::Role(p), e);
+    }
+    bit(vals, r, z)
+}
+
+// Whether the intersection of p is from e.
+fn meet_from<'a>(
+    n: usize,
+    heads: &'a [u16; 256],
+    kinds: &'a [u8; 256],
+    numbers: &'a [u16; 1024],
+    on: &'a [u8; 128],
+    vals: &'a [u64; 260],
+    z: usize,
+    e: Expression,
+    p: Parts,
+) -> bool
+    requires { ⌜ (n ≤ 128) × (z < 128) × Answers (poolOf n (now heads) (now kinds) (now numbers)) (now on) e z (now vals) ⌝ }
+    ensures { λ r. ⌜ r ≡ fromOf (chosen (poolOf n (now (heads .entry)) (now (kinds .entry)) (now (numbers .entry))) (now (on .entry))) (Expression.Intersection p) e ⌝ }
+{
+    if same(Expression::Intersection(p), e) {
+        return true;
+    }
+    if !role_from(n, heads, kinds, numbers, on, vals, z, e, p.first) {
+        return false;
+    }
+    if !role_from(n, heads, kinds, numbers, on, vals, z, e, p.second) {
+        return false;
+    }
+    let c = third_of(p);
+    if !role_from(n, heads, kinds, numbers, on, vals, z, e, c) {
+        return false;
+    }
+    let d = fourth_of(p);
+    role_from(n, heads, kinds, numbers, on, vals, z, e, d)
+}
+
+// Whether head j is B.m, from e, with B in row r of the relation.
+fn leads<'a>(
+    n: usize,
+    heads: &'a [u16; 256],
+    kinds: &'a [u8; 256],
+    numbers: &'a [u16; 1024],
+    body: &'a [u64; 260],
+    mem: &'a [u64; 260],
+    vals: &'a [u64; 260],
+    z: usize,
+    r: usize,
+    m: u16,
+    j: usize,
+) -> bool
+    requires { ⌜ (n ≤ 128) × (z < 128) × (r < 130) × (j < 128) × BodiesIn (poolOf n (now heads) (now kinds) (now numbers)) n (now body) ⌝ }
+    ensures { λ b. ⌜ b ≡ leadsAt (poolOf n (now (heads .entry)) (now (kinds .entry)) (now (numbers .entry))) (now (mem .entry)) (now (vals .entry)) z r m j ⌝ }
+{
+    if heads[j * 2 + 1] != m {
+        return false;
+    }
+    if !bit(vals, j, z) {
+        return false;
+    }
+    let s = find_source(n, heads, kinds, numbers, body, heads[j * 2]);
+    if s >= 128 {
+        return false;
+    }
+    bit(mem, r, s)
+}
+
+// Whether some head does.
+fn leads_on<'a>(
+    n: usize,
+    heads: &'a [u16; 256],
+    kinds: &'a [u8; 256],
+    numbers: &'a [u16; 1024],
+    mem: &'a [u64; 260],
+    vals: &'a [u64; 260],
+    z: usize,
+    r: usize,
+    m: u16,
+) -> bool
+    requires { ⌜ (n ≤ 128) × (z < 128) × (r < 130) ⌝ }
+    ensures { λ b. ⌜ b ≡ anyTo n (leadsAt (poolOf n (now (heads .entry)) (now (kinds .entry)) (now (numbers .entry))) (now (mem .entry)) (now (vals .entry)) z r m) ⌝ }
+{
+    let mut body = [0u64; 260];
+    note_bodies(n, heads, kinds, numbers, &mut body);
+    let mut j = 0;
+    while j < n {
+        if leads(n, heads, kinds, numbers, &body, mem, vals, z, r, m, j) {
+            return true;
+        }
+        j += 1;
+    }
+    false
+}
+
+// Whether the link a.m is from e.
+fn link_from<'a>(
+    n: usize,
+    heads: &'a [u16; 256],
+    kinds: &'a [u8; 256],
+    numbers: &'a [u16; 1024],
+    on: &'a [u8; 128],
+    mem: &'a [u64; 260],
+    vals: &'a [u64; 260],
+    z: usize,
+    e: Expression,
+    a: Role,
+    m: u16,
+) -> bool
+    requires { ⌜ (n ≤ 128) × (z < 128) × Relation (poolOf n (now heads) (now kinds) (now numbers)) (now on) (now mem) × Answers (poolOf n (now heads) (now kinds) (now numbers)) (now on) e z (now vals) ⌝ }
+    ensures { λ r. ⌜ r ≡ fromOf (chosen (poolOf n (now (heads .entry)) (now (kinds .entry)) (now (numbers .entry))) (now (on .entry))) (Expression.Linked a m) e ⌝ }
+{
+    let r = row(n, heads, kinds, numbers, a);
+    if once(n, heads, kinds, numbers, mem, e, Expression::Linked(a, m), r) {
+        return true;
+    }
+    leads_on(n, heads, kinds, numbers, mem, vals, z, r, m)
+}
+
+// Whether f is from e.
+pub fn by_form<'a>(
+    n: usize,
+    heads: &'a [u16; 256],
+    kinds: &'a [u8; 256],
+    numbers: &'a [u16; 1024],
+    on: &'a [u8; 128],
+    mem: &'a [u64; 260],
+    vals: &'a [u64; 260],
+    z: usize,
+    f: Expression,
+    e: Expression,
+) -> bool
+    requires { ⌜ (n ≤ 128) × (z < 128) × Relation (poolOf n (now heads) (now kinds) (now numbers)) (now on) (now mem) × Answers (poolOf n (now heads) (now kinds) (now numbers)) (now on) e z (now vals) ⌝ }
+    ensures { λ r. ⌜ r ≡ fromOf (chosen (poolOf n (now (heads .entry)) (now (kinds .entry)) (now (numbers .entry))) (now (on .entry))) f e ⌝ }
+{
+    match f {
+        Expression::Entity(_) => same(f, e),
+        Expression::Role(p) => role_from(n, heads, kinds, numbers, on, vals, z, e, p),
+        Expression::Linked(a, m) => link_from(n, heads, kinds, numbers, on, mem, vals, z, e, a, m),
+        Expression::Intersection(p) => meet_from(n, heads, kinds, numbers, on, vals, z, e, p),
+        Expression::Goal(_) => same(f, e),
+    }
+}
