@@ -3,7 +3,7 @@ use Prim.Native.Nat.{ℕ, _*_, _+_, _≤_, _<_}
 use native.Mathlib.Omega.{arith}
 use mathlib.Core.Path.{_≡_, refl, sym, _∙_, ap, subst}
 use mathlib.Core.Logic.{_⊎_, inl, inr, ⊎-elim}
-use mathlib.Core.Bool.{Bool, true, false}
+use mathlib.Core.Bool.{Bool, true, false, _&&_, not}
 use mathlib.Core.List.{List, List·Memᴰ}
 use borrow.Author.Tests.{eqb-true, eqb-false, eq-eqb, ne-eqb}
 use lib.Dec.{eqb}
@@ -20,7 +20,9 @@ use Rattle.rt0.specs.Lists.{false-true, and-parts, and-both}
 use Rattle.rt0.specs.Laws.{more}
 use Rattle.rt0.specs.Pool.{headAt, bodyAt}
 use Rattle.closure.specs.Rules.{el, bits, Marked}
-use Rattle.rules.specs.Table.{rowOf, bitOf, rowFor, chosen}
+use Rattle.rules.specs.Table.{rowOf, bitOf, rowFor, chosen, third, fourth}
+use Rattle.rules.specs.declared.Four.{Four}
+use Rattle.rules.specs.Columns.{fourRows}
 use Rattle.rules.specs.Exact.{body-entity, chosen-mem, chosen-find, row-found, row-here, row-cases, bit-here}
 use Rattle.rules.specs.ColumnLaws.{no-bits, row-for-small}
 use Rattle.relation.specs.Relation.{Relation, Start, atOnce, Asked}
@@ -44,6 +46,43 @@ module _ (P : Pool) (e : Expression) (p : Role) (old : ℕ) (q : old ≡ rowOf P
   pub aim-none : old ≡ 128 → {b : Bool} → b ≡ same (E.Role p) e → b ≡ false → 128 ≡ rowFor P e p
   unfolding rowFor
   aim-none z h k = rw (← q, eq-eqb old 128 z, sym h ∙ k)
+
+-- The rows of a rule where e is asked about
+
+module _ (P : Pool) (e : Expression) (i : ℕ) (old : Four) (q : old ≡ fourRows (rowOf P) (bodyAt P i)) where
+  -- rows of heads are kept
+  pub aim-heads : (not (eqb (old .a) 128) && (not (eqb (old .b) 128) && (not (eqb (old .c) 128) && not (eqb (old .d) 128)))) ≡ true → old ≡ fourRows (rowFor P e) (bodyAt P i)
+  aim-heads h =
+      let x = and-parts _ _ h in
+      let y = and-parts _ _ (x .1) in
+      let z = and-parts _ _ (y .1) in
+      heads (other _ (x .0)) (other _ (y .0)) (other _ (z .0)) (other _ (z .1))
+    where
+      other : (r : ℕ) → not (eqb r 128) ≡ true → r ≡ 128 → ⊥
+      other r k z = false-true (sym (ap (λ (b : Bool). not b) (eq-eqb r 128 z)) ∙ k)
+
+      heads : (old .a ≡ 128 → ⊥) → (old .b ≡ 128 → ⊥) → (old .c ≡ 128 → ⊥) → (old .d ≡ 128 → ⊥) → old ≡ fourRows (rowFor P e) (bodyAt P i)
+      heads a b c d = go (bodyAt P i) q
+        where
+          kept : (p : Role) (r : ℕ) → r ≡ rowOf P p → (r ≡ 128 → ⊥) → r ≡ rowFor P e p
+          kept p r z n = aim-kept P e p r z n
+
+          go : (x : Expression) → old ≡ fourRows (rowOf P) x → old ≡ fourRows (rowFor P e) x
+          go (E.Entity b) z = z
+          go (E.Role p) z = λ j. record { a = kept p _ (ap (λ (r : Four). r .a) z) a j; b = kept p _ (ap (λ (r : Four). r .b) z) b j; c = kept p _ (ap (λ (r : Four). r .c) z) c j; d = kept p _ (ap (λ (r : Four). r .d) z) d j }
+          go (E.Linked p m) z = z
+          go (E.Intersection p) z = λ j. record { a = kept (p .first) _ (ap (λ (r : Four). r .a) z) a j; b = kept (p .second) _ (ap (λ (r : Four). r .b) z) b j; c = kept (third p) _ (ap (λ (r : Four). r .c) z) c j; d = kept (fourth p) _ (ap (λ (r : Four). r .d) z) d j }
+          go (E.Goal m) z = z
+
+  -- the rule of an entity has no rows
+  pub aim-entity : el (P .kinds) (i * 2) ≡ 1 → old ≡ fourRows (rowFor P e) (bodyAt P i)
+  unfolding bodyAt
+  aim-entity h = q ∙ rw h
+
+  -- nor has that of a link
+  pub aim-link : el (P .kinds) (i * 2) ≡ 3 → old ≡ fourRows (rowFor P e) (bodyAt P i)
+  unfolding bodyAt
+  aim-link h = q ∙ rw h
 
 -- The row of e itself
 
@@ -183,11 +222,11 @@ module _ (P : Pool) (on : List ℕ) (small : P .count ≤ 128) where
 
 module _ (P : Pool) (on K : List ℕ) (small : P .count ≤ 128) (rel : Relation P on K) (e : Expression) where
   -- the row of e itself
-  pub asked-start : (r : ℕ) (K₀ : List ℕ) → OwnRow P e r → Marked (replicate 260 0) r 0 K₀ → AskedTo P on K e 0 K₀
-  asked-start r K₀ own m =
+  pub asked-start : (r : ℕ) (N K₀ : List ℕ) → N ≡ replicate 260 0 → OwnRow P e r → Marked N r 0 K₀ → AskedTo P on K e 0 K₀
+  asked-start r N K₀ none own m =
       record {
         sized = m .sized;
-        says = λ q t z. ⊎-elim (λ y. absurd (no-bits 260 q t y)) (λ y. ⊎-elim (λ w. inl (y .0 ∙ w)) (λ w. inr (rw (y .0) (w .0), rw (y .0) (rw (w .1) reflexive))) (own .says)) (m .says q t z);
+        says = λ q t z. ⊎-elim (λ y. absurd (no-bits 260 q t (rw none at y))) (λ y. ⊎-elim (λ w. inl (y .0 ∙ w)) (λ w. inr (rw (y .0) (w .0), rw (y .0) (rw (w .1) reflexive))) (own .says)) (m .says q t z);
         own = λ p q. rw (← own .own p q) (m .here);
         seeds = λ i l. absurd (omega arith);
       }

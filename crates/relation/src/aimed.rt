@@ -8,8 +8,8 @@ use rules::fourth_of;
 use rules::row;
 use rules::third_of;
 ghost use mathlib.Core.Path.{_≡_};
-ghost use Prim.Native.Nat.{_≤_};
-ghost use Rattle.rt0.specs.Pool.{poolOf};
+ghost use Prim.Native.Nat.{_<_, _≤_};
+ghost use Rattle.rt0.specs.Pool.{poolOf, bodyAt};
 ghost use Rattle.rules.specs.Table.{rowOf, rowFor};
 ghost use Rattle.rules.specs.Columns.{fourRows, PartsTo};
 ghost use Rattle.relation.specs.Question.{OwnRow};
@@ -37,7 +37,7 @@ fn aim<'a>(
 }
 
 // The rows of the rule of x where e is asked about.
-pub fn aim_rows<'a>(
+fn aim_rows<'a>(
     n: usize,
     heads: &'a [u16; 256],
     kinds: &'a [u8; 256],
@@ -72,6 +72,33 @@ pub fn aim_rows<'a>(
     }
 }
 
+// The rows of the rule of body i where e is asked about. Only a role that is no head has another row.
+fn aim_body<'a>(
+    n: usize,
+    heads: &'a [u16; 256],
+    kinds: &'a [u8; 256],
+    numbers: &'a [u16; 1024],
+    e: Expression,
+    i: usize,
+    old: Four,
+) -> Four
+    requires { ⌜ (i < 128) × (old ≡ fourRows (rowOf (poolOf n (now heads) (now kinds) (now numbers))) (bodyAt (poolOf n (now heads) (now kinds) (now numbers)) i)) ⌝ }
+    ensures { λ r. ⌜ r ≡ fourRows (rowFor (poolOf n (now (heads .entry)) (now (kinds .entry)) (now (numbers .entry))) e) (bodyAt (poolOf n (now (heads .entry)) (now (kinds .entry)) (now (numbers .entry))) i) ⌝ }
+{
+    if (old.a != 128) & ((old.b != 128) & ((old.c != 128) & (old.d != 128))) {
+        return old;
+    }
+    let kind = kinds[i * 2];
+    if kind == 1 {
+        return old;
+    }
+    if kind == 3 {
+        return old;
+    }
+    let x = body_at(n, heads, kinds, numbers, i);
+    aim_rows(n, heads, kinds, numbers, e, x, old)
+}
+
 // The four rows of each rule where e is asked about.
 pub fn aim_parts<'a>(
     n: usize,
@@ -94,8 +121,7 @@ pub fn aim_parts<'a>(
             c: part[at + 2],
             d: part[at + 3],
         };
-        let x = body_at(n, heads, kinds, numbers, i);
-        let r = aim_rows(n, heads, kinds, numbers, e, x, old);
+        let r = aim_body(n, heads, kinds, numbers, e, i, old);
         next[at] = r.a;
         next[at + 1] = r.b;
         next[at + 2] = r.c;

@@ -1,7 +1,6 @@
 // The rows that answer what is from an expression e: bit 0 of a role's row says whether the role is.
 use crate::aimed::aim_parts;
 use crate::start::asked;
-use closure::awake;
 use closure::bit;
 use closure::close;
 use closure::mark;
@@ -63,8 +62,20 @@ fn rule_column<'a>(
     ensures { λ r. ⌜ Answers (poolOf n (now (heads .entry)) (now (kinds .entry)) (now (numbers .entry))) (now (on .entry)) e 0 r ⌝ }
 {
     let aimed = aim_parts(n, heads, kinds, numbers, part, e);
-    let mut vals = asked(n, heads, kinds, numbers, head, first, on, mem, e);
-    let todo = awake(deps, &vals);
+    let mut vals = [0u64; 260];
+    let todo = asked(
+        n,
+        heads,
+        kinds,
+        numbers,
+        head,
+        first,
+        deps,
+        on,
+        mem,
+        e,
+        &mut vals,
+    );
     close(
         n,
         1,

@@ -148,7 +148,16 @@ fn link_from<'a>(
     ensures { λ r. ⌜ r ≡ fromOf (chosen (poolOf n (now (heads .entry)) (now (kinds .entry)) (now (numbers .entry))) (now (on .entry))) (Expression.Linked a m) e ⌝ }
 {
     let r = row(n, heads, kinds, numbers, a);
-    if once(n, heads, kinds, numbers, mem, e, Expression::Linked(a, m), r) {
+    if once(
+        n,
+        heads,
+        kinds,
+        numbers,
+        mem,
+        e,
+        Expression::Linked(a, m),
+        r,
+    ) {
         return true;
     }
     leads_on(n, heads, kinds, numbers, mem, vals, z, r, m)

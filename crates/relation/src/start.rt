@@ -1,19 +1,25 @@
 // What is from an expression e at once, and the rows that a question about e starts from.
 use crate::aimed::own_row;
+use closure::Dirty;
 use closure::bit;
 use closure::mark;
 use expression::Expression;
+use expression::Raw;
 use expression::Role;
+use expression::raw_of;
 use expression::same;
 use rt0::body_at;
 use rules::source;
 ghost use mathlib.Core.Path.{_≡_};
 ghost use Prim.Native.Nat.{_<_, _≤_};
-ghost use Rattle.rt0.specs.Pool.{poolOf};
+ghost use lib.ListN.{replicate};
+ghost use Rattle.expression.specs.Form.{rawOf};
+ghost use Rattle.expression.specs.Same.{same as sameOf};
+ghost use Rattle.rt0.specs.Pool.{poolOf, bodyAt};
 ghost use Rattle.rules.specs.Table.{rowOf};
 ghost use Rattle.rules.specs.Columns.{Column, headRow, bodyFirst, firstRow};
-ghost use Rattle.relation.specs.Relation.{Relation, ownRole, atOnce, Asked};
-ghost use Rattle.relation.specs.Question.{startsAt};
+ghost use Rattle.relation.specs.Relation.{Relation, ownRole, ownLink, atOnce, Asked};
+ghost use Rattle.relation.specs.Question.{ownBit, startsAt};
 
 // Whether q is B.m, with B in the role a, whose row is r.
 fn own_role<'a>(
@@ -90,7 +96,83 @@ pub fn once<'a>(
     }
 }
 
-// Whether credential i is on and its body is from e at once.
+// The bit of the entity of e where e is a role, or 128.
+fn own_source<'a>(
+    n: usize,
+    heads: &'a [u16; 256],
+    kinds: &'a [u8; 256],
+    numbers: &'a [u16; 1024],
+    e: Expression,
+) -> usize
+    requires { ⌜ n ≤ 128 ⌝ }
+    ensures { λ r. ⌜ r ≡ ownBit (poolOf n (now (heads .entry)) (now (kinds .entry)) (now (numbers .entry))) e ⌝ }
+{
+    match e {
+        Expression::Entity(_) => 128,
+        Expression::Role(q) => source(n, heads, kinds, numbers, q.entity),
+        Expression::Linked(_, _) => 128,
+        Expression::Intersection(_) => 128,
+        Expression::Goal(_) => 128,
+    }
+}
+
+// Whether body i is a link that leads to e, a role with name m, the bit of whose entity is s.
+fn leads_to<'a>(
+    n: usize,
+    heads: &'a [u16; 256],
+    kinds: &'a [u8; 256],
+    numbers: &'a [u16; 1024],
+    first: &'a [usize; 128],
+    rows: &'a [u64; 260],
+    e: Expression,
+    m: u16,
+    s: usize,
+    i: usize,
+) -> bool
+    requires { ⌜ (n ≤ 128) × (i < n) × Column (bodyFirst (poolOf n (now heads) (now kinds) (now numbers))) 128 130 n (now first) × (m ≡ rawOf e .n1) × (s ≡ ownBit (poolOf n (now heads) (now kinds) (now numbers)) e) ⌝ }
+    ensures { λ r. ⌜ r ≡ ownLink (poolOf n (now (heads .entry)) (now (kinds .entry)) (now (numbers .entry))) (now (rows .entry)) e (bodyAt (poolOf n (now (heads .entry)) (now (kinds .entry)) (now (numbers .entry))) i) ⌝ }
+{
+    if kinds[i * 2] != 3 {
+        return false;
+    }
+    if numbers[i * 8 + 2] != m {
+        return false;
+    }
+    if s >= 128 {
+        return false;
+    }
+    bit(rows, first[i], s)
+}
+
+// Whether body i is e, whose numbers are those of raw.
+fn is_e<'a>(
+    n: usize,
+    heads: &'a [u16; 256],
+    kinds: &'a [u8; 256],
+    numbers: &'a [u16; 1024],
+    e: Expression,
+    raw: Raw,
+    i: usize,
+) -> bool
+    requires { ⌜ (i < 128) × (raw ≡ rawOf e) ⌝ }
+    ensures { λ r. ⌜ r ≡ sameOf (bodyAt (poolOf n (now (heads .entry)) (now (kinds .entry)) (now (numbers .entry))) i) e ⌝ }
+{
+    let kind = raw.kind;
+    if numbers[i * 8] != raw.n0 {
+        return false;
+    }
+    if kind < 5 {
+        if kinds[i * 2] != kind {
+            return false;
+        }
+        if kind == 2 {
+            return numbers[i * 8 + 1] == raw.n1;
+        }
+    }
+    same(body_at(n, heads, kinds, numbers, i), e)
+}
+
+// Whether credential i is on and its body is from e at once. The bit of the entity of e is s.
 fn starts<'a>(
     n: usize,
     heads: &'a [u16; 256],
@@ -100,19 +182,33 @@ fn starts<'a>(
     on: &'a [u8; 128],
     rows: &'a [u64; 260],
     e: Expression,
+    raw: Raw,
+    s: usize,
     i: usize,
 ) -> bool
-    requires { ⌜ (n ≤ 128) × (i < n) × Column (bodyFirst (poolOf n (now heads) (now kinds) (now numbers))) 128 130 n (now first) ⌝ }
+    requires { ⌜ (n ≤ 128) × (i < n) × Column (bodyFirst (poolOf n (now heads) (now kinds) (now numbers))) 128 130 n (now first) × (raw ≡ rawOf e) × (s ≡ ownBit (poolOf n (now heads) (now kinds) (now numbers)) e) ⌝ }
     ensures { λ r. ⌜ r ≡ startsAt (poolOf n (now (heads .entry)) (now (kinds .entry)) (now (numbers .entry))) (now (on .entry)) (now (rows .entry)) e i ⌝ }
 {
     if on[i] != 1 {
         return false;
     }
-    let x = body_at(n, heads, kinds, numbers, i);
-    once(n, heads, kinds, numbers, rows, e, x, first[i])
+    if leads_to(n, heads, kinds, numbers, first, rows, e, raw.n1, s, i) {
+        return true;
+    }
+    is_e(n, heads, kinds, numbers, e, raw, i)
 }
 
-// The rows that a question about e starts from.
+// The set with the rules that read row r.
+fn read_too<'a>(todo: Dirty, deps: &'a [u64; 260], r: usize) -> Dirty
+    requires { ⌜ r < 130 ⌝ }
+{
+    Dirty {
+        lo: todo.lo | deps[r * 2],
+        hi: todo.hi | deps[r * 2 + 1],
+    }
+}
+
+// The rows that a question about e starts from, and the rules that read them.
 pub fn asked<'a>(
     n: usize,
     heads: &'a [u16; 256],
@@ -120,22 +216,28 @@ pub fn asked<'a>(
     numbers: &'a [u16; 1024],
     head: &'a [usize; 128],
     first: &'a [usize; 128],
+    deps: &'a [u64; 260],
     on: &'a [u8; 128],
     mem: &'a [u64; 260],
     e: Expression,
-) -> [u64; 260]
-    requires { ⌜ (n ≤ 128) × Column (headRow (poolOf n (now heads) (now kinds) (now numbers))) 128 130 n (now head) × Column (bodyFirst (poolOf n (now heads) (now kinds) (now numbers))) 128 130 n (now first) × Relation (poolOf n (now heads) (now kinds) (now numbers)) (now on) (now mem) ⌝ }
-    ensures { λ r. ⌜ Asked (poolOf n (now (heads .entry)) (now (kinds .entry)) (now (numbers .entry))) (now (on .entry)) (now (mem .entry)) e r ⌝ }
+    rows: &'a mut [u64; 260],
+) -> Dirty
+    requires { ⌜ (n ≤ 128) × Column (headRow (poolOf n (now heads) (now kinds) (now numbers))) 128 130 n (now head) × Column (bodyFirst (poolOf n (now heads) (now kinds) (now numbers))) 128 130 n (now first) × Relation (poolOf n (now heads) (now kinds) (now numbers)) (now on) (now mem) × (now rows ≡ replicate 260 0) ⌝ }
+    ensures { λ _. ⌜ Asked (poolOf n (now (heads .entry)) (now (kinds .entry)) (now (numbers .entry))) (now (on .entry)) (now (mem .entry)) e (now (rows .exit)) ⌝ }
 {
-    let mut rows = [0u64; 260];
+    let raw = raw_of(e);
+    let s = own_source(n, heads, kinds, numbers, e);
     let r = own_row(n, heads, kinds, numbers, e);
-    mark(&mut rows, r, 0);
+    mark(rows, r, 0);
+    let mut todo = read_too(Dirty { lo: 0, hi: 0 }, deps, r);
     let mut i = 0;
     while i < n {
-        if starts(n, heads, kinds, numbers, first, on, mem, e, i) {
-            mark(&mut rows, head[i], 0);
+        if starts(n, heads, kinds, numbers, first, on, mem, e, raw, s, i) {
+            let h = head[i];
+            mark(rows, h, 0);
+            todo = read_too(todo, deps, h);
         }
         i += 1;
     }
-    rows
+    todo
 }

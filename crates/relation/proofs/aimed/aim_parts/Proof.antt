@@ -1,10 +1,9 @@
 use Prim.Native.Nat.{_-_, _≤_}
 use native.Mathlib.Omega.{arith}
-use mathlib.Core.Path.{sym, _∙_, ap}
 use Rattle.rt0.specs.declared.Pool.{Pool}
 use Rattle.rt0.specs.Pool.{poolOf}
-use Rattle.rules.specs.Columns.{fourRows, PartsTo}
-use Rattle.rules.specs.Table.{rowOf, rowFor}
+use Rattle.rules.specs.Columns.{PartsTo}
+use Rattle.rules.specs.Table.{rowFor}
 use Rattle.rules.specs.ColumnLaws.{parts-start, parts-add, parts-end, row-for-small}
 use Rattle.relation.proofs.aimed.aim_parts.Statement.{statement}
 use Rattle.relation.proofs.aimed.aim_parts.Tie as tie
@@ -24,29 +23,29 @@ loop-holds c = (parts-start _ _, omega arith)
 mul-at : tie.Need-mul-at Inv-loop μ-loop
 mul-at c = omega arith
 
-mul-t14 : tie.Need-mul-t14 Inv-loop μ-loop
-mul-t14 c = omega arith
+mul-t13 : tie.Need-mul-t13 Inv-loop μ-loop
+mul-t13 c = omega arith
 
-element-copy-out-t17 : tie.Need-element-copy-out-t17 Inv-loop μ-loop
-element-copy-out-t17 c = omega arith
+element-copy-out-t16 : tie.Need-element-copy-out-t16 Inv-loop μ-loop
+element-copy-out-t16 c = omega arith
 
-add-t18 : tie.Need-add-t18 Inv-loop μ-loop
-add-t18 c = omega arith
+add-t17 : tie.Need-add-t17 Inv-loop μ-loop
+add-t17 c = omega arith
 
-mul-t19 : tie.Need-mul-t19 Inv-loop μ-loop
-mul-t19 c = omega arith
+mul-t18 : tie.Need-mul-t18 Inv-loop μ-loop
+mul-t18 c = omega arith
 
-element-copy-out-t22 : tie.Need-element-copy-out-t22 Inv-loop μ-loop
-element-copy-out-t22 c = omega arith
+element-copy-out-t21 : tie.Need-element-copy-out-t21 Inv-loop μ-loop
+element-copy-out-t21 c = omega arith
 
-add-t23 : tie.Need-add-t23 Inv-loop μ-loop
-add-t23 c = omega arith
+add-t22 : tie.Need-add-t22 Inv-loop μ-loop
+add-t22 c = omega arith
 
-mul-t24 : tie.Need-mul-t24 Inv-loop μ-loop
-mul-t24 c = omega arith
+mul-t23 : tie.Need-mul-t23 Inv-loop μ-loop
+mul-t23 c = omega arith
 
-element-copy-out-t27 : tie.Need-element-copy-out-t27 Inv-loop μ-loop
-element-copy-out-t27 c = omega arith
+element-copy-out-t26 : tie.Need-element-copy-out-t26 Inv-loop μ-loop
+element-copy-out-t26 c = omega arith
 
 add-next : tie.Need-add-next Inv-loop μ-loop
 add-next c = omega arith
@@ -57,11 +56,8 @@ mul-next c = omega arith
 element-copy-out-next : tie.Need-element-copy-out-next Inv-loop μ-loop
 element-copy-out-next c = omega arith
 
-body-at-requires : tie.Need-body-at-requires Inv-loop μ-loop
-body-at-requires c κs = omega arith
-
-aim-rows-requires : tie.Need-aim-rows-requires Inv-loop μ-loop
-aim-rows-requires c κs = c .before .before .before .before .before .before .before .pre .1 .four (c .before .before .before .before .before .before .loop .i) (c .before .before .before .before .before .loop-test .taken) ∙ ap (fourRows (rowOf (pool (c .before .before .before .before .before .before .before)))) (sym (c .body-at .ensures))
+aim-body-requires : tie.Need-aim-body-requires Inv-loop μ-loop
+aim-body-requires c κs = (omega (arith, c .before .before .before .before .before .before .pre .0), c .before .before .before .before .before .before .pre .1 .four (c .before .before .before .before .before .loop .i) (c .before .before .before .before .loop-test .taken))
 
 mul-next-2 : tie.Need-mul-next-2 Inv-loop μ-loop
 mul-next-2 c = omega arith
@@ -103,7 +99,7 @@ loop-less : tie.Need-loop-less Inv-loop μ-loop
 loop-less c = omega arith
 
 loop-again : tie.Need-loop-again Inv-loop μ-loop
-loop-again c = (parts-add (rowFor (pool (c .before .before .before .before .before .before .before .before)) (c .before .before .before .before .before .before .before .before .args .e)) (pool (c .before .before .before .before .before .before .before .before)) (row-for-small (pool (c .before .before .before .before .before .before .before .before)) (c .before .before .before .before .before .before .before .before .pre .0) (c .before .before .before .before .before .before .before .before .args .e)) (c .before .before .before .before .before .before .before .loop .i) (c .before .before .before .before .before .before .before .loop .next) (c .aim-rows .result) (omega arith) (c .aim-rows .ensures ∙ ap (fourRows (rowFor (pool (c .before .before .before .before .before .before .before .before)) (c .before .before .before .before .before .before .before .before .args .e))) (c .before .body-at .ensures)) (c .before .before .before .before .before .before .before .loop .inv .0), omega arith)
+loop-again c = (parts-add (rowFor (pool (c .before .before .before .before .before .before .before)) (c .before .before .before .before .before .before .before .args .e)) (pool (c .before .before .before .before .before .before .before)) (row-for-small (pool (c .before .before .before .before .before .before .before)) (c .before .before .before .before .before .before .before .pre .0) (c .before .before .before .before .before .before .before .args .e)) (c .before .before .before .before .before .before .loop .i) (c .before .before .before .before .before .before .loop .next) (c .aim-body .result) (omega arith) (c .aim-body .ensures) (c .before .before .before .before .before .before .loop .inv .0), omega arith)
 
 returns : tie.Need-returns Inv-loop μ-loop
 returns c = parts-end _ _ (c .before .loop .i) (c .before .before .args .n) (c .before .loop .next) (c .before .loop .inv .1) (c .loop-test .left) (c .before .loop .inv .0)
@@ -116,19 +112,18 @@ aim-parts-spec =
     μ-loop
     loop-holds
     mul-at
-    mul-t14
-    element-copy-out-t17
-    add-t18
-    mul-t19
-    element-copy-out-t22
-    add-t23
-    mul-t24
-    element-copy-out-t27
+    mul-t13
+    element-copy-out-t16
+    add-t17
+    mul-t18
+    element-copy-out-t21
+    add-t22
+    mul-t23
+    element-copy-out-t26
     add-next
     mul-next
     element-copy-out-next
-    body-at-requires
-    aim-rows-requires
+    aim-body-requires
     mul-next-2
     array-write-next
     add-next-2

@@ -20,18 +20,15 @@ aim-parts-requires c κs = search needs
 asked-requires : tie.Need-asked-requires
 asked-requires c κs = search needs
 
-awake-requires : tie.Need-awake-requires
-awake-requires c κs = search needs
-
 close-requires : tie.Need-close-requires
 close-requires c κs = search needs
 
 returns : tie.Need-returns
 returns c =
-    column-of (pool (c .before .before .before .before .before .before .before)) (c .before .before .before .before .before .before .before .args .on .now) (c .before .before .before .before .before .before .before .pre .0) (c .before .before .before .before .before .before .before .args .mem .now) (c .before .before .before .before .before .before .before .pre .2) (c .before .before .before .before .before .before .before .args .e) (rules (c .before .before .before .before .before .before .before))
-    (rulesOf (c .before .before .before .before .before .before .before .args .n) 1 (c .before .before .before .before .before .before .before .args .head .now) (c .before .before .before .before .before .before .aim-parts .result) (c .before .before .before .before .before .before .before .args .first .now) (c .before .before .before .before .before .before .before .args .named .now) (c .before .before .before .before .before .before .before .args .src .now))
-    (c .before .before .before .before .before .before .before .pre .1) refl refl refl refl refl refl (c .before .before .before .before .before .before .aim-parts .ensures) (c .before .before .before .before .before .asked .result) _ (c .before .before .before .before .before .asked .ensures) (c .close .ensures)
+    column-of (pool (c .before .before .before .before .before .before)) (c .before .before .before .before .before .before .args .on .now) (c .before .before .before .before .before .before .pre .0) (c .before .before .before .before .before .before .args .mem .now) (c .before .before .before .before .before .before .pre .2) (c .before .before .before .before .before .before .args .e) (rules (c .before .before .before .before .before .before))
+    (rulesOf (c .before .before .before .before .before .before .args .n) 1 (c .before .before .before .before .before .before .args .head .now) (c .before .before .before .before .before .aim-parts .result) (c .before .before .before .before .before .before .args .first .now) (c .before .before .before .before .before .before .args .named .now) (c .before .before .before .before .before .before .args .src .now))
+    (c .before .before .before .before .before .before .pre .1) refl refl refl refl refl refl (c .before .before .before .before .before .aim-parts .ensures) _ _ (c .before .before .before .asked .ensures) (c .close .ensures)
 
 pub rule-column-spec : {M : Type 1} → statement M
 rule-column-spec =
-    tie.close (tie.spec aim-parts-requires asked-requires awake-requires close-requires returns)
+    tie.close (tie.spec aim-parts-requires asked-requires close-requires returns)

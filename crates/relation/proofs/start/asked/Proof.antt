@@ -1,7 +1,9 @@
 use Prim.Native.Nat.{ℕ, _-_, _≤_}
 use native.Mathlib.Omega.{arith}
+use mathlib.Core.Path.{_∙_, ap}
 use mathlib.Core.Logic.{⊎-elim}
-use lib.ListN.{length-replicate}
+use mathlib.Core.List.{List}
+use lib.ListN.{length, length-replicate}
 use Rattle.rt0.specs.declared.Pool.{Pool}
 use Rattle.rt0.specs.Pool.{poolOf}
 use Rattle.relation.specs.Question.{AskedTo}
@@ -10,34 +12,46 @@ use Rattle.relation.proofs.start.asked.Statement.{statement}
 use Rattle.relation.proofs.start.asked.Tie as tie
 
 abbrev Inv-loop : tie.InvT-loop
-Inv-loop n heads kinds numbers head first on mem e rows₀ r i₀ rows i = AskedTo (poolOf n heads kinds numbers) on mem e i rows × (i ≤ n)
+Inv-loop n heads kinds numbers head first deps on mem e rows₀ raw s r todo₀ i₀ rows todo i = AskedTo (poolOf n heads kinds numbers) on mem e i rows × (i ≤ n)
 
 abbrev μ-loop : tie.MeasureT-loop
-μ-loop n heads kinds numbers head first on mem e rows₀ r i₀ rows i = n - i
+μ-loop n heads kinds numbers head first deps on mem e rows₀ raw s r todo₀ i₀ rows todo i = n - i
 
 abbrev pool : (c : tie.Start Inv-loop μ-loop) → Pool
 pool c = poolOf (c .args .n) (c .args .heads .now) (c .args .kinds .now) (c .args .numbers .now)
 
+raw-of-requires : tie.Need-raw-of-requires Inv-loop μ-loop
+raw-of-requires c κs = tt
+
+own-source-requires : tie.Need-own-source-requires Inv-loop μ-loop
+own-source-requires c κs = c .before .pre .0
+
 own-row-requires : tie.Need-own-row-requires Inv-loop μ-loop
-own-row-requires c κs = c .pre .0
+own-row-requires c κs = c .before .before .pre .0
 
 mark-requires : tie.Need-mark-requires Inv-loop μ-loop
-mark-requires c κs = (c .before .own-row .ensures .small, omega arith, length-replicate {A = ℕ} 260 0)
+mark-requires c κs = (c .before .own-row .ensures .small, omega arith, ap (λ (l : List ℕ). length l) (c .before .before .before .before .pre .4) ∙ length-replicate {A = ℕ} 260 0)
+
+read-too-requires : tie.Need-read-too-requires Inv-loop μ-loop
+read-too-requires c κs = c .before .before .own-row .ensures .small
 
 loop-holds : tie.Need-loop-holds Inv-loop μ-loop
-loop-holds c = (asked-start (pool (c .before .before .before)) (c .before .before .before .args .on .now) (c .before .before .before .args .mem .now) (c .before .before .before .pre .0) (c .before .before .before .pre .3) (c .before .before .before .args .e) (c .before .before .own-row .result) _ (c .before .before .own-row .ensures) (c .mark .ensures), omega arith)
+loop-holds c = (asked-start (pool (c .before .before .before .before .before .before)) (c .before .before .before .before .before .before .args .on .now) (c .before .before .before .before .before .before .args .mem .now) (c .before .before .before .before .before .before .pre .0) (c .before .before .before .before .before .before .pre .3) (c .before .before .before .before .before .before .args .e) (c .before .before .before .own-row .result) _ _ (c .before .before .before .before .before .before .pre .4) (c .before .before .before .own-row .ensures) (c .before .mark .ensures), omega arith)
 
 starts-requires : tie.Need-starts-requires Inv-loop μ-loop
-starts-requires c κs = (c .before .before .before .before .before .pre .0, c .loop-test .taken, c .before .before .before .before .before .pre .2)
+starts-requires c κs = (c .before .before .before .before .before .before .before .before .pre .0, c .loop-test .taken, c .before .before .before .before .before .before .before .before .pre .2, c .before .before .before .before .before .before .before .raw-of .ensures, c .before .before .before .before .before .before .own-source .ensures)
 
-mul-mark : tie.Need-mul-mark Inv-loop μ-loop
-mul-mark c = omega arith
+mul-h : tie.Need-mul-h Inv-loop μ-loop
+mul-h c = omega arith
 
-element-copy-out-mark : tie.Need-element-copy-out-mark Inv-loop μ-loop
-element-copy-out-mark c = omega arith
+element-copy-out-h : tie.Need-element-copy-out-h Inv-loop μ-loop
+element-copy-out-h c = omega arith
 
 mark-requires-2 : tie.Need-mark-requires-2 Inv-loop μ-loop
-mark-requires-2 c κs = (c .before .before .before .before .before .before .before .before .before .pre .1 .under .under (c .before .before .before .before .before .loop .i), omega arith, c .before .before .before .before .before .loop .inv .0 .sized)
+mark-requires-2 c κs = (c .before .before .before .before .before .before .before .before .before .before .before .before .pre .1 .under .under (c .before .before .before .before .before .loop .i), omega arith, c .before .before .before .before .before .loop .inv .0 .sized)
+
+read-too-requires-2 : tie.Need-read-too-requires-2 Inv-loop μ-loop
+read-too-requires-2 c κs = c .before .before .before .before .before .before .before .before .before .before .before .before .before .pre .1 .under .under (c .before .before .before .before .before .before .loop .i)
 
 add-i : tie.Need-add-i Inv-loop μ-loop
 add-i c = omega arith
@@ -48,14 +62,14 @@ loop-less c = omega arith
 loop-again : tie.Need-loop-again Inv-loop μ-loop
 loop-again c = (
   ⊎-elim
-      (λ w. rw (w .4) (asked-add (pool (c .before .before .before .before .before .before .before)) (c .before .before .before .before .before .before .before .args .on .now) (c .before .before .before .before .before .before .before .args .mem .now) (c .before .before .before .before .before .before .before .pre .0) (c .before .before .before .before .before .before .before .pre .3) (c .before .before .before .before .before .before .before .args .e) (c .before .before .before .loop .i) _ (c .before .before .before .loop .rows) _ (c .before .before .loop-test .taken) (c .before .starts .ensures) (w .0 .taken) (c .before .before .before .before .before .before .before .pre .1 .upto (c .before .before .before .loop .i) (c .before .before .loop-test .taken)) (w .3 .ensures) (c .before .before .before .loop .inv .0)))
-      (λ w. rw (w .1) (asked-skip (pool (c .before .before .before .before .before .before .before)) (c .before .before .before .before .before .before .before .args .on .now) (c .before .before .before .before .before .before .before .args .mem .now) (c .before .before .before .before .before .before .before .pre .0) (c .before .before .before .before .before .before .before .pre .3) (c .before .before .before .before .before .before .before .args .e) (c .before .before .before .loop .i) (c .before .before .before .loop .rows) (c .before .starts .ensures) (w .0 .left) (c .before .before .before .loop .inv .0)))
+      (λ w. rw (w .5) (asked-add (pool (c .before .before .before .before .before .before .before .before .before .before)) (c .before .before .before .before .before .before .before .before .before .before .args .on .now) (c .before .before .before .before .before .before .before .before .before .before .args .mem .now) (c .before .before .before .before .before .before .before .before .before .before .pre .0) (c .before .before .before .before .before .before .before .before .before .before .pre .3) (c .before .before .before .before .before .before .before .before .before .before .args .e) (c .before .before .before .loop .i) _ (c .before .before .before .loop .rows) _ (c .before .before .loop-test .taken) (c .before .starts .ensures) (w .0 .taken) (c .before .before .before .before .before .before .before .before .before .before .pre .1 .upto (c .before .before .before .loop .i) (c .before .before .loop-test .taken)) (w .3 .ensures) (c .before .before .before .loop .inv .0)))
+      (λ w. rw (w .1) (asked-skip (pool (c .before .before .before .before .before .before .before .before .before .before)) (c .before .before .before .before .before .before .before .before .before .before .args .on .now) (c .before .before .before .before .before .before .before .before .before .before .args .mem .now) (c .before .before .before .before .before .before .before .before .before .before .pre .0) (c .before .before .before .before .before .before .before .before .before .before .pre .3) (c .before .before .before .before .before .before .before .before .before .before .args .e) (c .before .before .before .loop .i) (c .before .before .before .loop .rows) (c .before .starts .ensures) (w .0 .left) (c .before .before .before .loop .inv .0)))
       (c .if1 .came),
   omega arith,
 )
 
 returns : tie.Need-returns Inv-loop μ-loop
-returns c = asked-end (pool (c .before .before .before .before .before)) (c .before .before .before .before .before .args .on .now) (c .before .before .before .before .before .args .mem .now) (c .before .before .before .before .before .pre .0) (c .before .before .before .before .before .pre .3) (c .before .before .before .before .before .args .e) (c .before .loop .i) (c .before .loop .rows) (c .loop-test .left) (c .before .loop .inv .0)
+returns c = asked-end (pool (c .before .before .before .before .before .before .before .before)) (c .before .before .before .before .before .before .before .before .args .on .now) (c .before .before .before .before .before .before .before .before .args .mem .now) (c .before .before .before .before .before .before .before .before .pre .0) (c .before .before .before .before .before .before .before .before .pre .3) (c .before .before .before .before .before .before .before .before .args .e) (c .before .loop .i) (c .before .loop .rows) (c .loop-test .left) (c .before .loop .inv .0)
 
 pub asked-spec : {M : Type 1} → statement M
 asked-spec =
@@ -63,13 +77,17 @@ asked-spec =
     (tie.spec
     Inv-loop
     μ-loop
+    raw-of-requires
+    own-source-requires
     own-row-requires
     mark-requires
+    read-too-requires
     loop-holds
     starts-requires
-    mul-mark
-    element-copy-out-mark
+    mul-h
+    element-copy-out-h
     mark-requires-2
+    read-too-requires-2
     add-i
     loop-less
     loop-again

@@ -1,10 +1,9 @@
-use mathlib.Core.Path.{sym, _∙_, ap}
 use borrow.Author.Needs.{needs}
-use borrow.Author.Tests.{eq-eqb, ne-eqb}
+use mathlib.Core.Path.{ap}
+use Rattle.expression.specs.declared.Raw.{Raw}
 use Rattle.rt0.specs.declared.Pool.{Pool}
 use Rattle.rt0.specs.Pool.{poolOf}
-use Rattle.rules.specs.Columns.{firstRow}
-use Rattle.relation.specs.Question.{startsAt}
+use Rattle.relation.specs.Bodies.{starts-off, starts-link, starts-same}
 use Rattle.relation.proofs.start.starts.Statement.{statement}
 use Rattle.relation.proofs.start.starts.Tie as tie
 
@@ -15,25 +14,21 @@ element-copy-out-if1 : tie.Need-element-copy-out-if1
 element-copy-out-if1 c = search needs
 
 returns : tie.Need-returns
-unfolding startsAt
-returns c = rw (ne-eqb _ _ (c .if1 .taken))
+returns c = starts-off (pool (c .before .before)) (c .before .before .args .on .now) (c .before .before .args .rows .now) (c .before .before .args .e) (c .before .before .args .i) (c .if1 .taken)
 
-body-at-requires : tie.Need-body-at-requires
-body-at-requires c κs = search needs
-
-mul-once : tie.Need-mul-once
-mul-once c = search needs
-
-element-copy-out-once : tie.Need-element-copy-out-once
-element-copy-out-once c = search needs
-
-once-requires : tie.Need-once-requires
-once-requires c κs = (c .before .before .before .before .pre .0, c .before .before .before .before .pre .2 .upto (c .before .before .before .before .args .i) (c .before .before .before .before .pre .1) ∙ ap (firstRow (pool (c .before .before .before .before))) (sym (c .before .body-at .ensures)))
+leads-to-requires : tie.Need-leads-to-requires
+leads-to-requires c κs = (c .before .before .pre .0, c .before .before .pre .1, c .before .before .pre .2, ap (λ (r : Raw). r .n1) (c .before .before .pre .3), c .before .before .pre .4)
 
 returns-2 : tie.Need-returns-2
-unfolding startsAt
-returns-2 c = rw (eq-eqb _ _ (c .before .before .before .if1 .left), ← c .before .before .body-at .ensures) (c .once .ensures)
+returns-2 c = starts-link (pool (c .before .before .before .before)) (c .before .before .before .before .args .on .now) (c .before .before .before .before .args .rows .now) (c .before .before .before .before .args .e) (c .before .before .before .before .args .i) (c .before .before .if1 .left) (c .before .leads-to .ensures) (c .if2 .taken)
+
+is-e-requires : tie.Need-is-e-requires
+is-e-requires c κs = search needs
+
+returns-3 : tie.Need-returns-3
+returns-3 c = starts-same (pool (c .before .before .before .before .before)) (c .before .before .before .before .before .args .on .now) (c .before .before .before .before .before .args .rows .now) (c .before .before .before .before .before .args .e) (c .before .before .before .before .before .args .i) (c .before .before .before .if1 .left) (c .before .before .leads-to .ensures) (c .before .if2 .left) (c .is-e .ensures)
 
 pub starts-spec : {M : Type 1} → statement M
 starts-spec =
-    tie.close (tie.spec element-copy-out-if1 returns body-at-requires mul-once element-copy-out-once once-requires returns-2)
+    tie.close
+    (tie.spec element-copy-out-if1 returns leads-to-requires returns-2 is-e-requires returns-3)

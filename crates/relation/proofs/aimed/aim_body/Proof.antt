@@ -1,0 +1,49 @@
+use borrow.Author.Needs.{needs}
+use mathlib.Core.Path.{sym, _∙_, ap}
+use Rattle.rt0.specs.declared.Pool.{Pool}
+use Rattle.rt0.specs.Pool.{poolOf}
+use Rattle.rules.specs.Table.{rowOf, rowFor}
+use Rattle.rules.specs.Columns.{fourRows}
+use Rattle.relation.specs.QuestionLaws.{aim-heads, aim-entity, aim-link}
+use Rattle.relation.proofs.aimed.aim_body.Statement.{statement}
+use Rattle.relation.proofs.aimed.aim_body.Tie as tie
+
+abbrev pool : (c : tie.Start) → Pool
+pool c = poolOf (c .args .n) (c .args .heads .now) (c .args .kinds .now) (c .args .numbers .now)
+
+returns : tie.Need-returns
+returns c = aim-heads (pool (c .before .before .before .before .before)) (c .before .before .before .before .before .args .e) (c .before .before .before .before .before .args .i) (c .before .before .before .before .before .args .old) (c .before .before .before .before .before .pre .1) (c .if1 .taken)
+
+mul-kind : tie.Need-mul-kind
+mul-kind c = search needs
+
+element-copy-out-kind : tie.Need-element-copy-out-kind
+element-copy-out-kind c = search needs
+
+returns-2 : tie.Need-returns-2
+returns-2 c = aim-entity (pool (c .before .before .before .before .before .before .before)) (c .before .before .before .before .before .before .before .args .e) (c .before .before .before .before .before .before .before .args .i) (c .before .before .before .before .before .before .before .args .old) (c .before .before .before .before .before .before .before .pre .1) (c .if2 .taken)
+
+returns-3 : tie.Need-returns-3
+returns-3 c = aim-link (pool (c .before .before .before .before .before .before .before .before)) (c .before .before .before .before .before .before .before .before .args .e) (c .before .before .before .before .before .before .before .before .args .i) (c .before .before .before .before .before .before .before .before .args .old) (c .before .before .before .before .before .before .before .before .pre .1) (c .if3 .taken)
+
+body-at-requires : tie.Need-body-at-requires
+body-at-requires c κs = search needs
+
+aim-rows-requires : tie.Need-aim-rows-requires
+aim-rows-requires c κs = c .before .before .before .before .before .before .before .before .before .pre .1 ∙ ap (fourRows (rowOf (pool (c .before .before .before .before .before .before .before .before .before)))) (sym (c .body-at .ensures))
+
+returns-4 : tie.Need-returns-4
+returns-4 c = c .aim-rows .ensures ∙ ap (fourRows (rowFor (pool (c .before .before .before .before .before .before .before .before .before .before)) (c .before .before .before .before .before .before .before .before .before .before .args .e))) (c .before .body-at .ensures)
+
+pub aim-body-spec : {M : Type 1} → statement M
+aim-body-spec =
+    tie.close
+    (tie.spec
+    returns
+    mul-kind
+    element-copy-out-kind
+    returns-2
+    returns-3
+    body-at-requires
+    aim-rows-requires
+    returns-4)
