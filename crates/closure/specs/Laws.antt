@@ -14,7 +14,7 @@ use lib.Seq.{getD-set-same, getD-set-other}
 use Rattle.word.specs.Bit.{bitAt, only, bit-or, bit-and, bit-zero, bit-only, without, without-sub, without-gone, or-more, false-true}
 use Rattle.closure.specs.declared.Rules.{Rules}
 use Rattle.closure.specs.Rules.{el, bits, Fits, Takes, memOf, memRows, Used, Model, Within, Grown, Closed, Marked}
-use Rattle.closure.specs.Words.{InWord, LinksOf, meetOf, WordOf, room, Quiet, TurnOf, RuleOf, PassOf, Poured, HeldOf, FullOf, level}
+use Rattle.closure.specs.Words.{InWord, LinksOf, meetOf, WordOf, room, Quiet, TurnOf, RuleOf, PassOf, Poured, HeldOf, FullOf, level, FilledOf, RestsOf, StillOf}
 
 or-cases : (a b s : ℕ) → bitAt (bitOr a b) s ≡ true → (bitAt a s ≡ true) ⊎ (bitAt b s ≡ true)
 or-cases a b s h = go (bitAt a s) refl (sym (bit-or a b s) ∙ h)
@@ -581,3 +581,131 @@ rule-full X on own M K i lo hi fits size within full e =
             let y : 64 ≤ s = ltb-false s 64 q in
             let h : s / 64 ≡ 1 = omega arith in
             word-bits K r s 1 (omega arith) h (ap (λ (x : ℕ). bitAt x (s % 64)) (full .high e (omega arith)) ∙ bits-word (lo ∷ hi ∷ []) 0 s 1 h b)
+
+-- The first word alone
+
+-- a rule's row takes in what its parts share
+pub meet-grown : (X : Rules) (on : List ℕ) (own : Bool) (M K : List ℕ) (i w : ℕ) → Fits X → 0 < X .words → length K ≡ 260 → i < X .count → el on i ≡ 1
+    → w ≡ meetOf K (el (X .part) (i * 4)) (el (X .part) (i * 4 + 1)) (el (X .part) (i * 4 + 2)) (el (X .part) (i * 4 + 3)) 0 → Grown X on own M K (take K (el (X .head) i * 2) w)
+meet-grown X on own M K i w fits some size l o is =
+    let r = el (X .head) i in
+    let e : r * 2 + 0 ≡ r * 2 = add-zero (r * 2) in
+    let u : _<_ 0 2 = omega arith in
+    let z : r * 2 + 0 < length K = omega (arith, fits .head .under i) in
+    subst (λ (x : ℕ). Grown X on own M K (take K x w)) e
+    record {
+      sized = length-set K (r * 2 + 0) _ ∙ size;
+      kept = take-kept K r 0 w u z;
+      least = λ G g k. take-in K r 0 w u z G k
+          (λ s d b.
+          let p = meet-out X i 0 K M u s d (subst (λ (x : ℕ). bitAt x (s % 64) ≡ true) is b) in
+          g .rule i l o .meet s (omega arith) (k .within _ s (p .0)) (k .within _ s (p .1)) (k .within _ s (p .2)) (k .within _ s (p .3)));
+    }
+
+pub filled-start : (K : List ℕ) → FilledOf 0 K 0
+filled-start K = record { all = λ j t l b. absurd (omega arith) }
+
+pub filled-add : (K : List ℕ) (k w b : ℕ) → b ≡ only k → FilledOf k K w → FilledOf (k + 1) K (bitOr w b)
+filled-add K k w b e inv = record { all = λ j t l q. go j t l q (eqb j k) refl }
+  where
+    go : (j t : ℕ) → j < k + 1 → bitAt (el K (j * 2)) t ≡ true → (x : Bool) → eqb j k ≡ x → bitAt (bitOr w b) j ≡ true
+    go j t l q true z = or-right w b j (ap (λ (x : ℕ). bitAt x j) e ∙ (bit-only k j ∙ z))
+    go j t l q false z = or-left w b j (inv .all j t (omega (arith, eqb-false j k z)) q)
+
+pub filled-skip : (K : List ℕ) (k w : ℕ) → el K (k * 2) ≡ 0 → FilledOf k K w → FilledOf (k + 1) K w
+filled-skip K k w e inv = record { all = λ j t l q. go j t l q (eqb j k) refl }
+  where
+    go : (j t : ℕ) → j < k + 1 → bitAt (el K (j * 2)) t ≡ true → (x : Bool) → eqb j k ≡ x → bitAt w j ≡ true
+    go j t l q true z =
+        let y : j ≡ k = eqb-true j k z in
+        absurd (false-true (sym (bit-zero t) ∙ (sym (ap (λ (x : ℕ). bitAt x t) e) ∙ subst (λ (x : ℕ). bitAt (el K (x * 2)) t ≡ true) y q)))
+    go j t l q false z = inv .all j t (omega (arith, eqb-false j k z)) q
+
+module _ (X : Rules) (on : List ℕ) (own : Bool) (M : List ℕ) (i : ℕ) (K : List ℕ) where
+  pub rests-off : {b : Bool} → (el on i ≡ 1 → ⊥) → RestsOf X on own M i K b
+  rests-off n = record { quiet = λ e o. absurd (n o) }
+
+  pub rests-not : RestsOf X on own M i K false
+  rests-not = record { quiet = λ e. absurd (false-true e) }
+
+  old-row : (old s : ℕ) → old ≡ el K (el (X .head) i * 2) → s / 64 ≡ 0 → bitAt old (s % 64) ≡ true → bits K (el (X .head) i) s ≡ true
+  old-row old s e z b =
+      word-bits K (el (X .head) i) s 0 (omega arith) z (subst (λ (x : ℕ). bitAt (el K x) (s % 64) ≡ true) (sym (add-zero (el (X .head) i * 2))) (sym (ap (λ (x : ℕ). bitAt x (s % 64)) e) ∙ b))
+
+  -- a row that holds all that a row holds
+  pub rests-full : (old lo : ℕ) → X .words ≡ 1 → length K ≡ 260 → HeldOf 0 130 K lo → old ≡ el K (el (X .head) i * 2) → old ≡ lo → RestsOf X on own M i K true
+  rests-full old lo one size held is full =
+      record { quiet = λ e o. record { meet = λ s z a b c d. in′ s z _ a; link = λ j s z n m v. in′ s z j v } }
+    where
+      in′ : (s : ℕ) → s / 64 < X .words → (r : ℕ) → bits K r s ≡ true → bits K (el (X .head) i) s ≡ true
+      in′ s z r b =
+          let h : s / 64 ≡ 0 = omega arith in
+          let q = bits-word K r s 0 h b in
+          old-row old s is h (ap (λ (x : ℕ). bitAt x (s % 64)) full ∙ held .all r (s % 64) (row-low K r 0 (s % 64) size (omega arith) q) q)
+
+  -- a rule whose word is in its row
+  pub rests-in : (old m k F : ℕ) → X .words ≡ 1 → FilledOf 64 K F → el (X .named) (i * 2 + 1) ≡ 0
+      → m ≡ meetOf K (el (X .part) (i * 4)) (el (X .part) (i * 4 + 1)) (el (X .part) (i * 4 + 2)) (el (X .part) (i * 4 + 3)) 0
+      → LinksOf (bitAnd (el (X .named) (i * 2)) F) 0 0 (el (X .first) i) (X .src) K (memRows own K M) k
+      → old ≡ el K (el (X .head) i * 2) → {b : Bool} → b ≡ eqb (bitOr (bitOr m k) old) old → RestsOf X on own M i K b
+  rests-in old m k F one filled none is links row {b} test = record { quiet = λ e o. quiet (eqb-true _ _ (sym test ∙ e)) }
+    where
+      quiet : bitOr (bitOr m k) old ≡ old → Quiet X own M i (Used X) K
+      quiet same =
+          record {
+            meet = λ s z a b c d.
+                let h : s / 64 ≡ 0 = omega arith in
+                keep s h (or-left m k (s % 64) (ap (λ (x : ℕ). bitAt x (s % 64)) is ∙ meet-in X i 0 K M s h a b c d));
+            link = λ j s z n p v.
+                let h : s / 64 ≡ 0 = omega arith in
+                keep s h (or-right m k (s % 64) (via j s h n (mem-from own K M _ _ p) v));
+          }
+        where
+          keep : (s : ℕ) → s / 64 ≡ 0 → bitAt (bitOr m k) (s % 64) ≡ true → bits K (el (X .head) i) s ≡ true
+          keep s h q = old-row old s row h (sym (ap (λ (x : ℕ). bitAt x (s % 64)) same) ∙ or-left (bitOr m k) old (s % 64) q)
+
+          low : (j : ℕ) → bits (X .named) i j ≡ true → j / 64 ≡ 0
+          low j n = ⊎-elim (λ h. h)
+              (λ h. absurd (false-true (sym (bit-zero (j % 64)) ∙ (sym (ap (λ (x : ℕ). bitAt x (j % 64)) none) ∙ bits-word (X .named) i j 1 h n))))
+              (half X i 0 K M j (bits-low (X .named) i j n))
+
+          via : (j s : ℕ) → s / 64 ≡ 0 → bits (X .named) i j ≡ true → bits (memRows own K M) (el (X .first) i) (el (X .src) j) ≡ true → bits K j s ≡ true → bitAt k (s % 64) ≡ true
+          via j s h n p v =
+              let l : j / 64 ≡ 0 = low j n in
+              let d : j % 64 ≡ j = omega arith in
+              let z : 0 + j ≡ j = omega arith in
+              let a : (0 + j) * 2 + 0 ≡ j * 2 = omega arith in
+              let w : bitAt (el K (j * 2)) (s % 64) ≡ true = subst (λ (x : ℕ). bitAt (el K x) (s % 64) ≡ true) (add-zero (j * 2)) (bits-word K j s 0 h v) in
+              let q : bitAt (el (X .named) (i * 2)) j ≡ true =
+              subst (λ (x : ℕ). bitAt (el (X .named) (i * 2)) x ≡ true) d (subst (λ (x : ℕ). bitAt (el (X .named) x) (j % 64) ≡ true) (add-zero (i * 2)) (bits-word (X .named) i j 0 l n)) in
+              links .all j (s % 64) (and-both (el (X .named) (i * 2)) F j q (filled .all j (s % 64) (omega arith) w))
+              (subst (λ (x : ℕ). bits (memRows own K M) (el (X .first) i) (el (X .src) x) ≡ true) (sym z) p)
+              (subst (λ (x : ℕ). bitAt (el K x) (s % 64) ≡ true) (sym a) w)
+
+-- Rule by rule
+
+pub record StillTo (X : Rules) (on : List ℕ) (own : Bool) (M K : List ℕ) (i : ℕ) : Type 0 where
+  pub upto : i ≤ X .count
+  pub quiet : (j : ℕ) → j < i → el on j ≡ 1 → Quiet X own M j (Used X) K
+
+module _ (X : Rules) (on : List ℕ) (own : Bool) (M K : List ℕ) where
+  pub still-not : StillOf X on own M K false
+  still-not = record { model = λ e. absurd (false-true e) }
+
+  pub still-start : StillTo X on own M K 0
+  still-start = record { upto = omega arith; quiet = λ j l. absurd (omega arith) }
+
+  pub still-next : (i : ℕ) {b : Bool} → i < X .count → RestsOf X on own M i K b → not b ≡ false → StillTo X on own M K i → StillTo X on own M K (i + 1)
+  still-next i {b} l rests e inv = record { upto = omega arith; quiet = λ j k o. go j k o (eqb j i) refl }
+    where
+      go : (j : ℕ) → j < i + 1 → el on j ≡ 1 → (t : Bool) → eqb j i ≡ t → Quiet X own M j (Used X) K
+      go j k o true q =
+          let y : j ≡ i = eqb-true j i q in
+          subst (λ (x : ℕ). Quiet X own M x (Used X) K) (sym y) (rests .quiet (not-left b e) (subst (λ (x : ℕ). el on x ≡ 1) y o))
+      go j k o false q = inv .quiet j (omega (arith, eqb-false j i q)) o
+
+  pub still-all : (i : ℕ) → X .count ≤ i → StillTo X on own M K i → StillOf X on own M K true
+  still-all i l inv = record { model = λ e. record { rule = λ j k o. inv .quiet j (omega arith) o } }
+
+pub filled-end : (K : List ℕ) (k n w : ℕ) → k ≤ n → n ≤ k → FilledOf k K w → FilledOf n K w
+filled-end K k n w a b inv = let e : k ≡ n = omega arith in subst (λ (x : ℕ). FilledOf x K w) e inv

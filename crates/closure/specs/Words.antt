@@ -78,3 +78,15 @@ pub record FullOf (w lo hi r : ℕ) (K : List ℕ) (b : Bool) : Type 0 where
 -- the relation in which each row has the words lo and hi
 unfoldable pub level : ℕ → ℕ → ℕ → ℕ → Bool
 level lo hi r s = bits (lo ∷ hi ∷ []) 0 s
+
+-- each row below k of K that holds a bit in its first word is in the set w
+pub record FilledOf (k : ℕ) (K : List ℕ) (w : ℕ) : Type 0 where
+  pub all : (j t : ℕ) → j < k → bitAt (el K (j * 2)) t ≡ true → bitAt w j ≡ true
+
+-- where b is true, rule i gives the rows K nothing new, if it is on
+pub record RestsOf (X : Rules) (on : List ℕ) (own : Bool) (M : List ℕ) (i : ℕ) (K : List ℕ) (b : Bool) : Type 0 where
+  pub quiet : b ≡ true → el on i ≡ 1 → Quiet X own M i (Used X) K
+
+-- where b is true, no rule gives the rows K anything new
+pub record StillOf (X : Rules) (on : List ℕ) (own : Bool) (M K : List ℕ) (b : Bool) : Type 0 where
+  pub model : b ≡ true → Model X on own (bits M) (bits K)

@@ -15,8 +15,11 @@ ghost use Rattle.closure.specs.Rules.{rulesOf, bits, memRows, Under, Fit
 ghost use Rattle.closure.specs.Words.{LinksOf, meetOf, WordOf, TurnOf, RuleOf, PassOf, Poured, HeldOf, FullOf, level};
 
 mod narrow;
+mod single;
 
 use narrow::drain_narrow;
+use single::meets;
+use single::still;
 
 pub struct Rules {
     pub count: usize,
@@ -492,6 +495,56 @@ fn also(d: Dirty, r: usize) -> Dirty {
     d
 }
 
+// Rule i, which names no rows: whether its row grew.
+fn plain<'a>(
+    n: usize,
+    words: usize,
+    head: &'a [usize; 128],
+    part: &'a [usize; 512],
+    first: &'a [usize; 128],
+    named: &'a [u64; 260],
+    src: &'a [usize; 128],
+    on: &'a [u8; 128],
+    mem: &'a [u64; 260],
+    own: bool,
+    i: usize,
+    rows: &'a mut [u64; 260],
+) -> bool
+    requires { ⌜ (i < 128) × Fits (rulesOf n words (now head) (now part) (now first) (now named) (now src)) × (length (now rows) ≡ 260) ⌝ }
+    ensures { λ g. ⌜ Grown (rulesOf n words (now (head .entry)) (now (part .entry)) (now (first .entry)) (now (named .entry)) (now (src .entry))) (now (on .entry)) own (now (mem .entry)) (now (rows .entry)) (now (rows .exit)) ⌝ }
+{
+    if words == 1 {
+        return meets(
+            n,
+            words,
+            head,
+            part,
+            first,
+            named,
+            src,
+            on,
+            mem,
+            own,
+            i,
+            rows,
+        );
+    }
+    rule(
+        n,
+        words,
+        head,
+        part,
+        first,
+        named,
+        src,
+        on,
+        mem,
+        own,
+        i,
+        rows,
+    )
+}
+
 // Rules that name no rows are run, those of the sets lo and hi first, and then those that read a row that grew.
 fn drain_plain<'a>(
     n: usize,
@@ -520,7 +573,7 @@ fn drain_plain<'a>(
             return;
         }
         todo = rest(todo);
-        if rule(
+        if plain(
             n,
             words,
             head,
@@ -1022,6 +1075,9 @@ pub fn close<'a>(
         hi,
         rows,
     );
+    if still(n, words, head, part, first, named, src, on, mem, own, rows) {
+        return;
+    }
     let mut more = true;
     while more {
         let changed = pass(n, words, head, part, first, named, src, on, mem, own, rows);

@@ -10,7 +10,7 @@ ghost use Prim.Native.Nat.{_<_, _≤_};
 ghost use lib.ListN.{length};
 ghost use lib.Bits.{bitAnd};
 ghost use Rattle.closure.specs.Rules.{rulesOf, el, memRows, Under, Fits, Grown};
-ghost use Rattle.closure.specs.Words.{LinksOf};
+ghost use Rattle.closure.specs.Words.{LinksOf, FilledOf};
 
 // Rules to be run in this round and in the next, rows that grew in the round before, and rows that grew in this one.
 struct Round {
@@ -84,7 +84,7 @@ fn members<'a>(rows: &'a [u64; 260], mem: &'a [u64; 260], own: bool, r: usize) -
 }
 
 // What the rows of the set hold whose sources are in the membership row f.
-fn gathered<'a>(
+pub fn gathered<'a>(
     set: u64,
     f: usize,
     src: &'a [usize; 128],
@@ -257,7 +257,9 @@ fn unseen(own: bool) -> [u64; 260]
 }
 
 // The rows that hold a bit.
-fn filled<'a>(rows: &'a [u64; 260]) -> u64 {
+pub fn filled<'a>(rows: &'a [u64; 260]) -> u64
+    ensures { λ w. ⌜ FilledOf 64 (now (rows .entry)) w ⌝ }
+{
     let mut w = 0u64;
     let mut r = 0;
     while r < 64 {

@@ -14,11 +14,17 @@ abbrev μ-loop : tie.MeasureT-loop
 drain-requires : tie.Need-drain-requires Inv-loop μ-loop
 drain-requires c κs = c .before .pre
 
+still-requires : tie.Need-still-requires Inv-loop μ-loop
+still-requires c κs = (c .before .before .before .pre .0, c .before .drain .ensures .sized)
+
+returns : tie.Need-returns Inv-loop μ-loop
+returns c = record { grown = c .before .before .before .drain .ensures; model = c .before .still .ensures .model (c .if1 .taken) }
+
 loop-holds : tie.Need-loop-holds Inv-loop μ-loop
-loop-holds c = close-start (rulesOf _ _ _ _ _ _ _) _ _ _ _ (c .drain .ensures .sized)
+loop-holds c = close-start (rulesOf _ _ _ _ _ _ _) _ _ _ _ (c .before .before .before .drain .ensures .sized)
 
 pass-requires : tie.Need-pass-requires Inv-loop μ-loop
-pass-requires c κs = (c .before .before .before .before .before .pre .0, c .before .before .loop .inv .grown .sized)
+pass-requires c κs = (c .before .before .before .before .before .before .before .before .pre .0, c .before .before .loop .inv .grown .sized)
 
 loop-less : tie.Need-loop-less Inv-loop μ-loop
 loop-less c = rw (c .before .before .loop-test .taken) (close-less (c .pass .ensures) _ (λ e. omega (arith, ltb-true)))
@@ -26,10 +32,20 @@ loop-less c = rw (c .before .before .loop-test .taken) (close-less (c .pass .ens
 loop-again : tie.Need-loop-again Inv-loop μ-loop
 loop-again c = close-pass (rulesOf _ _ _ _ _ _ _) _ _ _ (c .pass .ensures) (λ e. omega (arith, ltb-false)) (c .before .before .before .loop .inv)
 
-returns : tie.Need-returns Inv-loop μ-loop
-returns c = close-all (rulesOf _ _ _ _ _ _ _) _ _ _ (c .loop-test .left) (c .before .before .drain .ensures) (c .before .loop .inv)
+returns-2 : tie.Need-returns-2 Inv-loop μ-loop
+returns-2 c = close-all (rulesOf _ _ _ _ _ _ _) _ _ _ (c .loop-test .left) (c .before .before .before .before .before .drain .ensures) (c .before .loop .inv)
 
 pub close-spec : {M : Type 1} → statement M
 close-spec =
     tie.close
-    (tie.spec Inv-loop μ-loop drain-requires loop-holds pass-requires loop-less loop-again returns)
+    (tie.spec
+    Inv-loop
+    μ-loop
+    drain-requires
+    still-requires
+    returns
+    loop-holds
+    pass-requires
+    loop-less
+    loop-again
+    returns-2)

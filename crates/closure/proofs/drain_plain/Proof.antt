@@ -22,8 +22,8 @@ returns c = c .before .before .before .loop .inv
 rest-requires : tie.Need-rest-requires Inv-loop μ-loop
 rest-requires c κs = omega arith
 
-rule-requires : tie.Need-rule-requires Inv-loop μ-loop
-rule-requires c κs = (omega (arith, c .before .before .before .least .ensures), c .before .before .before .before .before .before .pre .0, c .before .before .before .before .before .loop .inv .sized)
+plain-requires : tie.Need-plain-requires Inv-loop μ-loop
+plain-requires c κs = (omega (arith, c .before .before .before .least .ensures), c .before .before .before .before .before .before .pre .0, c .before .before .before .before .before .loop .inv .sized)
 
 mul-r : tie.Need-mul-r Inv-loop μ-loop
 mul-r c = omega (arith, c .before .before .before .before .before .least .ensures)
@@ -56,7 +56,7 @@ loop-less : tie.Need-loop-less Inv-loop μ-loop
 loop-less c = omega arith
 
 loop-again : tie.Need-loop-again Inv-loop μ-loop
-loop-again c = grow-more (rulesOf _ _ _ _ _ _ _) _ _ _ (c .before .before .before .before .before .before .before .loop .inv) (c .before .rule .ensures .grown)
+loop-again c = grow-more (rulesOf _ _ _ _ _ _ _) _ _ _ (c .before .before .before .before .before .before .before .loop .inv) (c .before .plain .ensures)
 
 returns-2 : tie.Need-returns-2 Inv-loop μ-loop
 returns-2 c = c .before .loop .inv
@@ -71,7 +71,7 @@ drain-plain-spec =
     least-requires
     returns
     rest-requires
-    rule-requires
+    plain-requires
     mul-r
     element-copy-out-r
     mul-r-2
