@@ -9,3 +9,4 @@ pub mod Damage
 pub mod DamageLaws
 pub mod Restored
 pub mod RestoredLaws
+pub mod Proved
