@@ -2,6 +2,7 @@
 ghost use mathlib.Core.Path.{_≡_};
 ghost use Rattle.begin.specs.Begin.{beginOf, answerOf, leftOf};
 ghost use Rattle.question.specs.Question.{questionOf};
+ghost use Rattle.report.specs.Report.{reportOf, answerOf as reportAnswer};
 ghost use Rattle.tables.specs.Check.{checkOf};
 
 // The check of house tables: 0 where they are accepted, or a refusal number.
@@ -26,6 +27,14 @@ pub extern "C" fn lavutremo_begin(
     ensures left { λ _. ⌜ now (negotiation .exit) ≡ leftOf (now (negotiation .entry)) (beginOf (now (tables .entry)) (now (negotiation .entry)) other entity name) ⌝ }
 {
     begin::begin(tables, negotiation, other, entity, name)
+}
+
+// The report on a node of a negotiation: 256 times its numbers in one, or a refusal number. Nothing changes.
+#[no_mangle]
+pub extern "C" fn lavutremo_report(tables: &[u8], negotiation: &[u8], node: u8) -> u64
+    ensures { λ r. ⌜ r ≡ reportAnswer (reportOf (now (tables .entry)) (now (negotiation .entry)) node) ⌝ }
+{
+    report::report(tables, negotiation, node)
 }
 
 // Whether f is from e in RT0 over the lent credentials: 256 for yes, 0 for no, or a refusal number.

@@ -15,7 +15,6 @@ ghost use Rattle.rt0.specs.Lists.{all};
 ghost use Rattle.rt0.specs.Pool.{poolOf, credentials};
 ghost use Rattle.graph.specs.Graph.{expressionFrom, edgesFrom, edgeAt, nodesOf, edgesOf};
 ghost use Rattle.rules.specs.Table.{chosen};
-ghost use Rattle.rules.specs.Columns.{Column, headRow};
 ghost use Rattle.rules.specs.Ruled.{Ruled};
 ghost use Rattle.closure.specs.Rules.{rulesOf};
 ghost use Rattle.relation.specs.Relation.{Relation, Answers};
@@ -72,7 +71,6 @@ fn implied_at<'a>(
     heads: &'a [u16; 256],
     kinds: &'a [u8; 256],
     numbers: &'a [u16; 1024],
-    head: &'a [usize; 128],
     on: &'a [u8; 128],
     mem: &'a [u64; 260],
     vals: &'a [u64; 260],
@@ -80,7 +78,7 @@ fn implied_at<'a>(
     c: usize,
     j: usize,
 ) -> bool
-    requires { ⌜ (j < m) × (m ≤ 256) × Inside 128 (edgesFrom m (now edge) (now parent) (now child)) × (q ≤ 128) × Column (headRow (poolOf q (now heads) (now kinds) (now numbers))) 128 130 q (now head) × Relation (poolOf q (now heads) (now kinds) (now numbers)) (now on) (now mem) × Answers (poolOf q (now heads) (now kinds) (now numbers)) (now on) e (now vals) × (e ≡ expressionFrom (now kind) (now parts) (now n0) (now n1) (now n2) (now n3) (now n4) (now n5) (now n6) (now n7) c) ⌝ }
+    requires { ⌜ (j < m) × (m ≤ 256) × Inside 128 (edgesFrom m (now edge) (now parent) (now child)) × (q ≤ 128) × Relation (poolOf q (now heads) (now kinds) (now numbers)) (now on) (now mem) × Answers (poolOf q (now heads) (now kinds) (now numbers)) (now on) e 0 (now vals) × (e ≡ expressionFrom (now kind) (now parts) (now n0) (now n1) (now n2) (now n3) (now n4) (now n5) (now n6) (now n7) c) ⌝ }
     ensures { λ r. ⌜ r ≡ impliedFrom (chosen (poolOf q (now (heads .entry)) (now (kinds .entry)) (now (numbers .entry))) (now (on .entry))) (expressionFrom (now (kind .entry)) (now (parts .entry)) (now (n0 .entry)) (now (n1 .entry)) (now (n2 .entry)) (now (n3 .entry)) (now (n4 .entry)) (now (n5 .entry)) (now (n6 .entry)) (now (n7 .entry))) c (edgeAt (edgesFrom m (now (edge .entry)) (now (parent .entry)) (now (child .entry))) j) ⌝ }
 {
     if (edge[j] != IMPLICATION) | (wide(child[j]) != c) {
@@ -110,14 +108,13 @@ fn implied_from<'a>(
     heads: &'a [u16; 256],
     kinds: &'a [u8; 256],
     numbers: &'a [u16; 1024],
-    head: &'a [usize; 128],
     on: &'a [u8; 128],
     mem: &'a [u64; 260],
     vals: &'a [u64; 260],
     e: Expression,
     c: usize,
 ) -> bool
-    requires { ⌜ (m ≤ 256) × Inside 128 (edgesFrom m (now edge) (now parent) (now child)) × (q ≤ 128) × Column (headRow (poolOf q (now heads) (now kinds) (now numbers))) 128 130 q (now head) × Relation (poolOf q (now heads) (now kinds) (now numbers)) (now on) (now mem) × Answers (poolOf q (now heads) (now kinds) (now numbers)) (now on) e (now vals) × (e ≡ expressionFrom (now kind) (now parts) (now n0) (now n1) (now n2) (now n3) (now n4) (now n5) (now n6) (now n7) c) ⌝ }
+    requires { ⌜ (m ≤ 256) × Inside 128 (edgesFrom m (now edge) (now parent) (now child)) × (q ≤ 128) × Relation (poolOf q (now heads) (now kinds) (now numbers)) (now on) (now mem) × Answers (poolOf q (now heads) (now kinds) (now numbers)) (now on) e 0 (now vals) × (e ≡ expressionFrom (now kind) (now parts) (now n0) (now n1) (now n2) (now n3) (now n4) (now n5) (now n6) (now n7) c) ⌝ }
     ensures { λ r. ⌜ r ≡ allFrom (chosen (poolOf q (now (heads .entry)) (now (kinds .entry)) (now (numbers .entry))) (now (on .entry))) (expressionFrom (now (kind .entry)) (now (parts .entry)) (now (n0 .entry)) (now (n1 .entry)) (now (n2 .entry)) (now (n3 .entry)) (now (n4 .entry)) (now (n5 .entry)) (now (n6 .entry)) (now (n7 .entry))) (edgesOf (edgesFrom m (now (edge .entry)) (now (parent .entry)) (now (child .entry)))) c ⌝ }
 {
     let mut j = 0;
@@ -141,7 +138,6 @@ fn implied_from<'a>(
             heads,
             kinds,
             numbers,
-            head,
             on,
             mem,
             vals,
@@ -230,7 +226,6 @@ fn node_implied<'a>(
         heads,
         kinds,
         numbers,
-        head,
         on,
         mem,
         &vals,
