@@ -21,7 +21,7 @@ use Rattle.negotiation.specs.Layout.{stateBytes}
 use Rattle.negotiation.specs.Codec.{state-back}
 use Rattle.damage.specs.Header.{wantedSound, otherSound, headerSound, emptySound}
 use Rattle.damage.specs.Damage.{sound, ifSound, readSound}
-use Rattle.begin.specs.Begin.{negotiationSize, isRequester, roleNumber, otherNumber, beginNumber, sideOf, begunState, refusal, begun, numbered, behindTables, beginOf}
+use Rattle.begin.specs.Begin.{negotiationSize, isRequester, roleNumber, otherNumber, beginNumber, sideOf, begunState, Begun, refusal, begun, numbered, behindTables, beginOf}
 use Rattle.begin.specs.BeginLaws.{within-fresh}
 
 -- Not damaged
@@ -115,3 +115,11 @@ begin-public T U other entity name h = (
   ap (λ (P : Public). orElse (roleNumber (P .names) entity name) (otherNumber (P .own) other)) h,
   ap (λ (P : Public). freshState (sideOf entity name) (P .own) other (roleOf entity name)) h,
 )
+
+-- "Begin, given the same arguments and, but for the tables, the same buffers in both runs, answers alike and leaves the same bytes"
+pub begin-alike : (s t negotiation : List ℕ) (other entity name : ℕ) {T U : Tables} → readTables s ≡ accepted T → readTables t ≡ accepted U → publicOf T ≡ publicOf U → beginOf s negotiation other entity name ≡ beginOf t negotiation other entity name
+unfolding beginOf
+begin-alike s t negotiation other entity name {T} {U} p q h =
+    let e = begin-public T U other entity name h in
+    ap (λ (x : Begun). cond (eqb (length negotiation) negotiationSize) x (refusal 1))
+    (ap (behindTables other entity name) p ∙ (λ i. numbered (e .0 i) (e .1 i)) ∙ sym (ap (behindTables other entity name) q))

@@ -1,4 +1,5 @@
--- In a negotiation that is not damaged, "a target is satisfied only if the credentials shown prove it in RT0". Assumes nothing.
+-- In a negotiation that is not damaged a target is satisfied only if the credentials shown prove it in RT0, and end 1 means that they prove the
+-- requester in the primary's role. Assumes nothing.
 use Prim.Native.Nat.{ℕ, zero, suc, _<_}
 use native.Mathlib.Omega.{arith}
 use mathlib.Core.Path.{_≡_, refl, sym, _∙_, ap, subst}
@@ -191,7 +192,7 @@ module _ (C : List Credential) (ns : List Node) where
     leads-proved (intersection {i} {p} e full f w g) =
         subst (λ (x : Expression). From C x (E.Entity (nodeIn ns i .subject))) (sym e) (intersection-from {p = p} (λ a m. part-proved (w a m) (leads-proved (g a m))))
 
-  -- By kind 1 "parent from child holds over the credentials shown". By kind 4 "a linking-monitor child" of the parent has "a link-solution child
+  -- By kind 1 "parent from child holds over the credentials shown". By kind 4 a linking-monitor child of the parent "has a link-solution child
   -- ⟨V : B.r2 ← S⟩ that is satisfied" by earlier edges.
   module _ (before : List Edge) (self : Trivial) (lead : (e : Edge) → List·Memᴰ e before → Leads e) where
     kind-subject : (n : ℕ) (d : Edge) → (n ≡ 4 → ⊥) → (n ≡ 6 → ⊥) → List·Memᴰ d before → (i : ℕ) → isChild ns before (λ k. eqb k n) i d ≡ true → nodeIn ns (d .child) .subject ≡ nodeIn ns i .subject
@@ -299,13 +300,11 @@ module _ (names : List Name) (S : State) (h : graphSound names S ≡ true) where
       let c = and-parts (countSound (S .header .messages) && recordsSound names S) (allBrought (S .header) (S .nodes) (S .edges)) (b .0) in
       (and-parts (countSound (S .header .messages)) (recordsSound names S) (c .0) .1, c .1, b .1, a .1)
 
-  nodes-fit : inTurn (nodeFits names) [] (S .nodes) ≡ true
+  records : (inTurn (nodeFits names) [] (S .nodes) ≡ true) × (primarySound (S .header) (nodeIn (S .nodes) 0) ≡ true)
   unfolding recordsSound
-  nodes-fit = and-parts (inTurn (nodeFits names) [] (S .nodes)) _ (and-parts (inTurn (nodeFits names) [] (S .nodes) && primarySound (S .header) (nodeIn (S .nodes) 0)) _ (parts .0) .0) .0
-
-  primary : primarySound (S .header) (nodeIn (S .nodes) 0) ≡ true
-  unfolding recordsSound
-  primary = and-parts (inTurn (nodeFits names) [] (S .nodes)) (primarySound (S .header) (nodeIn (S .nodes) 0)) (and-parts (inTurn (nodeFits names) [] (S .nodes) && primarySound (S .header) (nodeIn (S .nodes) 0)) _ (parts .0) .0) .1
+  records =
+      let a = and-parts (inTurn (nodeFits names) [] (S .nodes) && primarySound (S .header) (nodeIn (S .nodes) 0)) _ (parts .0) in
+      and-parts (inTurn (nodeFits names) [] (S .nodes)) (primarySound (S .header) (nodeIn (S .nodes) 0)) (a .0)
 
   -- every edge has its form
   has-form : (e : Edge) → List·Memᴰ e (S .edges) → (v : ℕ) × (form (e .kind) v (nodeIn (S .nodes) (e .parent)) (nodeIn (S .nodes) (e .child)) ≡ true)
@@ -325,7 +324,7 @@ module _ (names : List Name) (S : State) (h : graphSound names S ≡ true) where
   nodes-apart =
       turn-apart (nodeFits names) blank Apart
       (λ b x y t m. record { apart = λ k. false-true (sym (not-true (any (isNode (x .expression) (x .verifier) (x .subject)) b) (and-parts (nodeSound names x) _ t .1)) ∙ any-here (isNode (x .expression) (x .verifier) (x .subject)) m k) })
-      [] (S .nodes) nodes-fit
+      [] (S .nodes) (records .0)
 
   graph-formed : Formed (S .nodes) (S .edges)
   graph-formed =
@@ -351,7 +350,7 @@ module _ (names : List Name) (S : State) (h : graphSound names S ≡ true) where
         own = λ i a e.
             let l : i < length (S .nodes) = satisfied-inside {ns = S .nodes} {es = []} (trivial e) in
             let n : broughtFrom 1 (S .edges) ≡ length (S .nodes) = eqb-true (brought (S .edges)) (length (S .nodes)) (and-parts (inTurn (edgeFits (S .header) (S .nodes)) [] (S .edges)) _ (parts .1) .1) in
-            ⊎-elim (λ k. let z : i ≡ 0 = omega arith in absurd (false-true (sym (ap isRoleTarget (sym (ap (λ (j : ℕ). nodeIn (S .nodes) j .expression) z) ∙ e)) ∙ primary-role (S .header) (nodeIn (S .nodes) 0) primary)))
+            ⊎-elim (λ k. let z : i ≡ 0 = omega arith in absurd (false-true (sym (ap isRoleTarget (sym (ap (λ (j : ℕ). nodeIn (S .nodes) j .expression) z) ∙ e)) ∙ primary-role (S .header) (nodeIn (S .nodes) 0) (records .1))))
             (λ r. let f = has-form (r .0) (r .1) in form-entity a (r .0 .kind) (f .0) (nodeIn (S .nodes) (r .0 .parent)) (nodeIn (S .nodes) i) e (ap (λ (j : ℕ). form (r .0 .kind) (f .0) (nodeIn (S .nodes) (r .0 .parent)) (nodeIn (S .nodes) j)) (sym (r .2)) ∙ f .1))
             (brought-by 1 (S .edges) i (omega arith));
       }
@@ -362,7 +361,7 @@ module _ (names : List Name) (S : State) (h : graphSound names S ≡ true) where
 
   end-satisfied : S .header .end ≡ 1 → Satisfied (S .nodes) (S .edges) 0
   end-satisfied e =
-      ⊎-elim (λ s. s) (λ c. absurd (false-true (sym (ap isRoleTarget (c .goal)) ∙ primary-role (S .header) (nodeIn (S .nodes) 0) primary)))
+      ⊎-elim (λ s. s) (λ c. absurd (false-true (sym (ap isRoleTarget (c .goal)) ∙ primary-role (S .header) (nodeIn (S .nodes) 0) (records .1))))
       (state-one (S .nodes) (S .edges) 0 .0 (end-one (stateOf (S .nodes) (S .edges) 0) (S .header .end) (S .header .idle) e (parts .3)))
 
 -- The negotiation
@@ -372,17 +371,15 @@ no-edge [] z m = List·Memᴰ·not-nil m
 no-edge (d ∷ es) z m = omega arith
 
 module _ (T : Tables) (S : State) (h : sound T S ≡ true) where
-  -- with a node its graph is sound
-  with-node : eqb (length (S .nodes)) 0 ≡ false → graphSound (T .names) S ≡ true
+  by-count : {b : Bool} → eqb (length (S .nodes)) 0 ≡ b → cond b (emptySound (S .header) (length (S .edges)) (length (S .shown))) (graphSound (T .names) S) ≡ true
   unfolding sound
-  with-node z = sym (ap (λ (b : Bool). cond b (emptySound (S .header) (length (S .edges)) (length (S .shown))) (graphSound (T .names) S)) z) ∙ and-parts (headerSound (T .own) (T .names) (S .header)) _ h .1
+  by-count z = sym (ap (λ (b : Bool). cond b (emptySound (S .header) (length (S .edges)) (length (S .shown))) (graphSound (T .names) S)) z) ∙ and-parts (headerSound (T .own) (T .names) (S .header)) _ h .1
 
-  -- without one it has neither edge nor end
+  -- without a node it has neither edge nor end
   without-node : eqb (length (S .nodes)) 0 ≡ true → (length (S .edges) ≡ 0) × (S .header .end ≡ 0)
-  unfolding sound emptySound
+  unfolding emptySound
   without-node z =
-      let e = sym (ap (λ (b : Bool). cond b (emptySound (S .header) (length (S .edges)) (length (S .shown))) (graphSound (T .names) S)) z) ∙ and-parts (headerSound (T .own) (T .names) (S .header)) _ h .1 in
-      let p = and-parts (eqb (S .header .messages) 0 && eqb (S .header .end) 0 && eqb (S .header .idle) 0 && eqb (length (S .edges)) 0) (eqb (length (S .shown)) 0) e in
+      let p = and-parts (eqb (S .header .messages) 0 && eqb (S .header .end) 0 && eqb (S .header .idle) 0 && eqb (length (S .edges)) 0) (eqb (length (S .shown)) 0) (by-count z) in
       let q = and-parts (eqb (S .header .messages) 0 && eqb (S .header .end) 0 && eqb (S .header .idle) 0) (eqb (length (S .edges)) 0) (p .0) in
       let r = and-parts (eqb (S .header .messages) 0 && eqb (S .header .end) 0) (eqb (S .header .idle) 0) (q .0) in
       (eqb-true (length (S .edges)) 0 (q .1), eqb-true (S .header .end) 0 (and-parts (eqb (S .header .messages) 0) (eqb (S .header .end) 0) (r .0) .1))
@@ -390,7 +387,7 @@ module _ (T : Tables) (S : State) (h : sound T S ≡ true) where
   -- edges have their forms, and nodes are unique
   pub sound-graph-formed : Formed (S .nodes) (S .edges)
   sound-graph-formed =
-      ⊎-elim (λ z. record { formed = λ e m. absurd (no-edge (S .edges) (without-node z .0) m); unique = λ i j l m x v s. absurd (omega (arith, eqb-true (length (S .nodes)) 0 z)) }) (λ z. graph-formed (T .names) S (with-node z))
+      ⊎-elim (λ z. record { formed = λ e m. absurd (no-edge (S .edges) (without-node z .0) m); unique = λ i j l m x v s. absurd (omega (arith, eqb-true (length (S .nodes)) 0 z)) }) (λ z. graph-formed (T .names) S (by-count z))
       (decided (eqb (length (S .nodes)) 0))
 
   -- no node is both satisfied and failed
@@ -400,13 +397,13 @@ module _ (T : Tables) (S : State) (h : sound T S ≡ true) where
   -- a target is satisfied only if the credentials shown prove it
   pub satisfied-proved : (i : ℕ) → Satisfied (S .nodes) (S .edges) i → From (S .shown) (nodeIn (S .nodes) i .expression) (E.Entity (nodeIn (S .nodes) i .subject))
   satisfied-proved i s =
-      ⊎-elim (λ z. absurd (omega (arith, satisfied-inside s, eqb-true (length (S .nodes)) 0 z))) (λ z. graph-proved (T .names) S (with-node z) i s) (decided (eqb (length (S .nodes)) 0))
+      ⊎-elim (λ z. absurd (omega (arith, satisfied-inside s, eqb-true (length (S .nodes)) 0 z))) (λ z. graph-proved (T .names) S (by-count z) i s) (decided (eqb (length (S .nodes)) 0))
 
-  -- "success" means that they prove the requester in the primary's role
+  -- end 1, "success", means that they prove the requester in the primary's role
   pub primary-proved : S .header .end ≡ 1 → From (S .shown) (nodeIn (S .nodes) 0 .expression) (E.Entity (requester (S .header)))
   primary-proved e =
       ⊎-elim (λ z. absurd (omega (arith, without-node z .1)))
       (λ z.
-      let g = with-node z in
-      subst (λ (n : ℕ). From (S .shown) (nodeIn (S .nodes) 0 .expression) (E.Entity n)) (primary-subject (S .header) (nodeIn (S .nodes) 0) (primary (T .names) S g)) (satisfied-proved 0 (end-satisfied (T .names) S g e)))
+      let g = by-count z in
+      subst (λ (n : ℕ). From (S .shown) (nodeIn (S .nodes) 0 .expression) (E.Entity n)) (primary-subject (S .header) (nodeIn (S .nodes) 0) (records (T .names) S g .1)) (satisfied-proved 0 (end-satisfied (T .names) S g e)))
       (decided (eqb (length (S .nodes)) 0))
