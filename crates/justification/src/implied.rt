@@ -85,7 +85,7 @@ fn implied_at<'a>(
         return true;
     }
     let f = expression_at(kind, parts, n0, n1, n2, n3, n4, n5, n6, n7, wide(parent[j]));
-    in_column(q, heads, kinds, numbers, head, on, mem, vals, f, e)
+    in_column(q, heads, kinds, numbers, on, mem, vals, f, e)
 }
 
 // Whether the edges of kind 1 from node c are implied.

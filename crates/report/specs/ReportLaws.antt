@@ -97,11 +97,11 @@ pub report-is : (G : Negotiation) (i : ℕ) {p v : ℕ} → i < G .nodes .count 
     → v ≡ packed (numbered (getD (G .nodes .state) i 0) p (G .header .end) (G .nodes .count) (G .edges .count) (G .shown .count) (G .header .messages)) → v ≡ packed (reportOn (stateHeld G) i)
 unfolding reportOn stateHeld credentials
 report-is G i l e q = q ∙ ap packed (λ t. record {
-      state = sym (node-in (G .nodes) i l) t .state;
-      propagated = e t;
-      end = G .header .end;
-      nodes = sym (nodes-length (G .nodes)) t;
-      edges = sym (edges-length (G .edges)) t;
-      shown = sym (length-upTo (G .shown .count) (credentialAt (G .shown))) t;
-      messages = G .header .messages;
-    })
+  state = sym (node-in (G .nodes) i l) t .state;
+  propagated = e t;
+  end = G .header .end;
+  nodes = sym (nodes-length (G .nodes)) t;
+  edges = sym (edges-length (G .edges)) t;
+  shown = sym (length-upTo (G .shown .count) (credentialAt (G .shown))) t;
+  messages = G .header .messages;
+})

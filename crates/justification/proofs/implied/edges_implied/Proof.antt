@@ -5,7 +5,6 @@ use Rattle.justification.specs.ImpliedLaws.{implied-nodes}
 use borrow.Author.Needs.{needs}
 use Rattle.justification.proofs.implied.edges_implied.Statement.{statement}
 use Rattle.justification.proofs.implied.edges_implied.Tie as tie
-use Rattle.justification.proofs.implied.edges_implied.Reads as reads
 
 children-requires : tie.Need-children-requires
 children-requires c κs = ((c .before .before .before .before .pre .1), inside-more (c .before .before .before .before .pre .0) (c .before .before .before .before .pre .3))

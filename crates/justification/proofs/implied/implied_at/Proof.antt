@@ -29,7 +29,7 @@ in-column-requires : tie.Need-in-column-requires
 in-column-requires c κs = search needs
 
 returns-2 : tie.Need-returns-2
-returns-2 c = from-here _ _ _ _ (c .before .before .before .before .before .wide .ensures) (c .before .before .before .before .if1 .left) (c .before .before .wide2 .ensures) (c .before .expression-at .ensures) (c .before .before .before .before .before .before .before .before .pre .7) (c .in-column .ensures)
+returns-2 c = from-here _ _ _ _ (c .before .before .before .before .before .wide .ensures) (c .before .before .before .before .if1 .left) (c .before .before .wide2 .ensures) (c .before .expression-at .ensures) (c .before .before .before .before .before .before .before .before .pre .6) (c .in-column .ensures)
 
 pub implied-at-spec : {M : Type 1} → statement M
 implied-at-spec =
