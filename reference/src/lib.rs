@@ -6,14 +6,23 @@
 //! tables, `table_faults` puts faults in them, `table_bytes` makes both into bytes, `table_shapes` makes full tables whose
 //! check takes long. `refusal` numbers the refusals.
 
+pub mod begin;
 pub mod classes;
+pub mod clause;
+pub mod damage;
 pub mod expression;
+pub mod graph;
+pub mod negotiation;
+pub mod negotiation_growth;
+pub mod negotiation_sample;
 pub mod question;
 pub mod records;
 pub mod refusal;
 pub mod relation;
+pub mod report;
 pub mod sample;
 pub mod shapes;
+pub mod states;
 pub mod table_bytes;
 pub mod table_faults;
 pub mod table_sample;
