@@ -13,6 +13,8 @@ pub mod damage;
 pub mod expression;
 pub mod graph;
 pub mod negotiation;
+pub mod negotiation_bytes;
+pub mod negotiation_faults;
 pub mod negotiation_growth;
 pub mod negotiation_sample;
 pub mod question;
