@@ -142,7 +142,7 @@ impl<'a> Growth<'a> {
     fn step(&mut self, node: usize) {
         match self.form(node) {
             Form::Target(Expression::Entity(_)) => {}
-            Form::Target(Expression::Role(_)) => match self.random.below(4) {
+            Form::Target(Expression::Role(_)) => match self.random.below(8) {
                 0 => self.add_control(node),
                 _ => drop(self.add_implication(node)),
             },
