@@ -18,7 +18,11 @@ pub mod negotiation_bytes;
 pub mod negotiation_counts;
 pub mod negotiation_faults;
 pub mod negotiation_growth;
+pub mod negotiation_large;
 pub mod negotiation_sample;
+pub mod negotiation_shapes;
+#[cfg(test)]
+mod negotiation_tests;
 pub mod question;
 pub mod records;
 pub mod refusal;
