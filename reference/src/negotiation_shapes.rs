@@ -168,10 +168,16 @@ pub fn saturated() -> Vec<Shaped> {
     for shape in &shapes::SHAPES {
         for order in shapes::ORDERS {
             let credentials = shapes::question(shape, order, &Expression::Entity(REQUESTER)).credentials;
+            let heads: Vec<Role> = credentials.iter().map(|credential| credential.head).collect();
             let mut builder = Builder::new(credentials);
             builder.control(role(1, 1));
             builder.saturate();
-            shaped.push(builder.finish(format!("{}, {order}, many edges", shape.name)));
+            // Where this left room: the other roles as well.
+            for head in heads {
+                builder.control(head);
+            }
+            builder.saturate();
+            shaped.push(builder.finish(format!("{}, {order}", shape.name)));
         }
     }
     shaped
@@ -208,26 +214,38 @@ pub fn chains() -> Vec<Shaped> {
     shaped
 }
 
-/// The same chain between nodes that control edges brought, its edges in this order; only at last is one satisfied.
+/// The same chain between nodes that control edges brought, its edges in each order. One node is satisfied at once, and
+/// the others one by one, or all at last.
 pub fn old_nodes() -> Vec<Shaped> {
     let mut shaped = Vec::new();
     for order in shapes::ORDERS {
-        let mut builder = Builder::new(chain("shuffled"));
-        for i in 1..=63 {
-            builder.control(role(i, 1));
+        for at_once in [true, false] {
+            let mut steps: Vec<u16> = (1..63).collect();
+            match order {
+                "ascending" => {}
+                "descending" => steps.reverse(),
+                _ => Random::new(2).shuffle(&mut steps),
+            }
+            let when = if at_once { "first" } else { "last" };
+            let name = format!("chain between old nodes, {order}, proved {when}");
+            shaped.push(chain_between_old_nodes(&steps, at_once).finish(name));
         }
-        let mut steps: Vec<u16> = (1..63).collect();
-        match order {
-            "ascending" => {}
-            "descending" => steps.reverse(),
-            _ => Random::new(2).shuffle(&mut steps),
-        }
-        for i in steps {
-            builder.imply(i as usize, Expression::Role(role(i + 1, 1)));
-        }
-        builder.imply(63, Expression::Entity(MEDIATOR));
-        builder.saturate();
-        shaped.push(builder.finish(format!("chain between old nodes, {order}")));
     }
     shaped
+}
+
+fn chain_between_old_nodes(steps: &[u16], at_once: bool) -> Builder {
+    let mut builder = Builder::new(chain("shuffled"));
+    for i in 1..=63 {
+        builder.control(role(i, 1));
+    }
+    if at_once {
+        builder.imply(63, Expression::Entity(MEDIATOR));
+    }
+    for &i in steps {
+        builder.imply(i as usize, Expression::Role(role(i + 1, 1)));
+    }
+    builder.imply(63, Expression::Entity(MEDIATOR));
+    builder.saturate();
+    builder
 }
