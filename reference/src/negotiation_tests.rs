@@ -170,8 +170,8 @@ fn goals() {
 }
 
 /// 1.1 <- 1.2.3, 3.3 <- 2 and 1.2 <- 3: the solution 3.3 is satisfied, then the linking implication to <1.2 <- 3>.
-fn linking(order: [usize; 7]) -> Negotiation {
-    let list = [(1, 0, 1), (2, 1, 2), (3, 2, 3), (1, 3, 4), (4, 1, 5), (1, 5, 6), (6, 0, 7)].map(|(k, p, c)| (k, p, c));
+fn linking() -> Negotiation {
+    let list = [(1, 0, 1), (2, 1, 2), (3, 2, 3), (1, 3, 4), (4, 1, 5), (1, 5, 6), (6, 0, 7)];
     let about_three = |expression, state| Node { subject: 3, ..target(expression, state) };
     let nodes = vec![
         target(linked(1, 2, 3), 0),
@@ -182,17 +182,13 @@ fn linking(order: [usize; 7]) -> Negotiation {
         about_three(Expression::Entity(3), 3),
         Node { form: Form::Target(role(1, 1)), subject: 1, verifier: Side::Requester, state: 0 },
     ];
-    let shown = [(1, 1, linked_body()), (3, 3, Expression::Entity(2)), (1, 2, Expression::Entity(3))];
-    opened(nodes, &order.map(|i| list[i]), &shown)
-}
-
-fn linked_body() -> Expression {
-    linked(1, 2, 3)
+    let shown = [(1, 1, linked(1, 2, 3)), (3, 3, Expression::Entity(2)), (1, 2, Expression::Entity(3))];
+    opened(nodes, &list, &shown)
 }
 
 #[test]
 fn linking_implications() {
-    let sound = linking([0, 1, 2, 3, 4, 5, 6]);
+    let sound = linking();
     assert_eq!(damage(&house(), &sound), None);
     assert_eq!(sound.end, 1);
 
