@@ -57,7 +57,7 @@ impl Random {
         let edge = EDGES_AT + EDGE_BYTES * self.below(counts[1].max(1));
         let credential = SHOWN_AT + CREDENTIAL_BYTES * self.below(counts[2].max(1));
         let small = self.below(8) as u8;
-        match self.below(14) {
+        match self.below(15) {
             0 => bytes[self.below(NEGOTIATION_BYTES)] = self.byte(),
             1 => bytes[self.below(18)] = small,
             2 => bytes[self.between(10, 11)] = small,
@@ -68,6 +68,7 @@ impl Random {
             7 => bytes[node + self.between(18, 21)] = small,
             8 => bytes[edge + self.below(EDGE_BYTES)] = small,
             9 => bytes[credential + self.below(CREDENTIAL_BYTES)] = small,
+            13 => bytes[node + self.below(2)] = small,
             10 => bytes[node..node + NODE_BYTES].fill(0),
             11 => bytes[edge..edge + EDGE_BYTES].fill(0),
             12 => bytes[credential..credential + CREDENTIAL_BYTES].fill(0),

@@ -1,16 +1,18 @@
-//! Faults in a negotiation; those in nodes and edges are in `graph_faults`. A few of the results are sound.
+//! Faults in a negotiation; those in nodes and edges are in `node_faults` and `edge_faults`. A few of the results are sound.
 
+use crate::classes::Class::*;
 use crate::damage::MOST_MESSAGES;
+use crate::edge_faults::*;
 use crate::expression::*;
-use crate::graph_faults::*;
 use crate::negotiation::*;
 use crate::negotiation_sample::ALL_CLASSES;
+use crate::node_faults::*;
 use crate::sample::Random;
 use crate::table_sample::House;
 
 pub type NegotiationFault = fn(&mut Random, &House, &mut Negotiation);
 
-pub const NEGOTIATION_FAULTS: [NegotiationFault; 34] = [
+pub const NEGOTIATION_FAULTS: [NegotiationFault; 43] = [
     other_side,
     own,
     other,
@@ -21,6 +23,7 @@ pub const NEGOTIATION_FAULTS: [NegotiationFault; 34] = [
     emptied,
     node_form,
     node_field,
+    leaf_field,
     node_names,
     nodes_swapped,
     nodes_swapped_with_edges,
@@ -28,14 +31,21 @@ pub const NEGOTIATION_FAULTS: [NegotiationFault; 34] = [
     node_removed,
     node_not_brought,
     entity_subject,
+    foreign_entity,
     marks,
     primary,
     edge_field,
     edges_swapped,
     edge_repeated,
     edge_removed,
+    old_edge_removed,
     edge_moved,
+    edge_moved_renumbered,
+    edges_swapped_renumbered,
+    old_edge_moved_up,
     linking_implication_moved,
+    linking_implication_moved_renumbered,
+    edge_after_linking,
     edge_between,
     edge_to_new_child,
     linking_implication_of_any,
@@ -45,6 +55,7 @@ pub const NEGOTIATION_FAULTS: [NegotiationFault; 34] = [
     credentials_swapped,
     credential_repeated,
     credential_removed,
+    circle,
 ];
 
 /// A name that the tables do not have.
@@ -112,6 +123,46 @@ fn emptied(random: &mut Random, _: &House, negotiation: &mut Negotiation) {
     }
     if !keeps(4) {
         negotiation.shown.clear();
+    }
+}
+
+/// A linking implication that would satisfy the solution that justifies it: 1.1 <- 1.1.1 and 1.1 <- 1 for any role. It is
+/// sound if the solution is satisfied before in another way.
+fn circle(random: &mut Random, house: &House, negotiation: &mut Negotiation) {
+    let Some(role) = random.role_of(house, &[IssuerAll, SubjectAll]) else { return };
+    let Role { entity, name } = role;
+    let link = Expression::Linked(role, name);
+    let requester = negotiation.entity(Side::Requester);
+    let node = |form, subject| Node { form, subject, verifier: Side::Mediator, state: 3 };
+    let target = |expression, subject| node(Form::Target(expression), subject);
+    if negotiation.side == Side::Mediator {
+        negotiation.wanted = role;
+    }
+    negotiation.shown = [link.clone(), Expression::Entity(entity), Expression::Entity(requester)]
+        .map(|body| Credential { head: role, body })
+        .to_vec();
+    negotiation.shown.dedup();
+    negotiation.nodes = vec![
+        target(Expression::Role(role), requester),
+        target(link, requester),
+        node(Form::Goal(name), requester),
+        target(Expression::Role(role), entity),
+        target(Expression::Entity(entity), entity),
+        target(Expression::Entity(requester), requester),
+    ];
+    let list = [(1, 0, 1), (2, 1, 2), (3, 2, 0), (4, 1, 3), (1, 3, 4), (1, 0, 5)];
+    negotiation.edges = list.map(|(kind, parent, child)| Edge { kind, parent, child }).to_vec();
+    match random.below(3) {
+        0 => {}
+        1 => {
+            negotiation.edges.pop();
+            negotiation.nodes.pop();
+        }
+        _ => {
+            let last = negotiation.edges.pop().unwrap();
+            negotiation.edges.insert(random.below(4), last);
+            renumber(negotiation);
+        }
     }
 }
 

@@ -175,8 +175,14 @@ impl<'a> Growth<'a> {
         if found.is_empty() {
             return None;
         }
-        let ended = found.contains(&&subject) && self.random.percent(40);
-        let e = if ended { subject } else { found[self.random.below(found.len())].clone() };
+        let compound: Vec<&Expression> = found.iter().copied().filter(|e| !roles_in(e).is_empty()).collect();
+        let e = if found.contains(&&subject) && self.random.percent(40) {
+            subject
+        } else if !compound.is_empty() && self.random.percent(30) {
+            compound[self.random.below(compound.len())].clone()
+        } else {
+            found[self.random.below(found.len())].clone()
+        };
         self.join(IMPLICATION, node, self.beside(node, Form::Target(e)))
     }
 
@@ -254,7 +260,7 @@ impl<'a> Growth<'a> {
                         self.satisfy(child, depth - 1);
                     }
                 }
-                if self.random.percent(70) {
+                if self.random.percent(40) {
                     self.negotiation.nodes[node].state = 3;
                 }
             }

@@ -8,6 +8,7 @@ use reference::negotiation_counts::NegotiationCounts;
 use reference::negotiation_sample::Grown;
 use reference::report::{answer, judge};
 use reference::sample::Random;
+use std::collections::BTreeSet;
 
 extern "C" {
     fn lavutremo_begin(
@@ -37,6 +38,16 @@ struct Negotiations {
     counts: NegotiationCounts,
 }
 
+/// Node 0, the first absent one and 255; where the negotiation is sound, up to 16 others, or all where there are fewer.
+fn nodes_asked(random: &mut Random, count: u8, sound: bool) -> BTreeSet<u8> {
+    let others = match (sound, count) {
+        (false, _) | (_, 0) => vec![],
+        (true, 1..=16) => (0..count).collect(),
+        (true, _) => (0..16).map(|_| random.byte() % count).collect(),
+    };
+    [0, count, 255].into_iter().chain(others).collect()
+}
+
 impl Negotiations {
     fn note(&mut self, same: bool, case: impl FnOnce() -> String) {
         if same {
@@ -49,19 +60,15 @@ impl Negotiations {
         }
     }
 
-    /// Reports on some nodes: 0, two that may stand, the last, the first absent one, and 255.
+    /// Reports on some nodes.
     fn report(&mut self, random: &mut Random, lent: &Lent) {
         let Lent { tables, negotiation } = lent;
         let judged = judge(tables, negotiation);
         self.counts.judged(&judged);
         let count = negotiation.get(14).copied().unwrap_or(0);
-        let mut nodes = vec![0, random.byte() % count.max(1), random.byte() % count.max(1), count.saturating_sub(1)];
-        nodes.extend([count, 255]);
-        nodes.sort();
-        nodes.dedup();
         let mut buffers = [tables, negotiation].map(|content| Guarded::new(random, content));
         let copies = buffers.each_ref().map(|buffer| buffer.bytes.clone());
-        for node in nodes {
+        for node in nodes_asked(random, count, judged.is_ok()) {
             let expected = answer(&judged, node);
             self.counts.reported(expected);
             let [tables_at, negotiation_at] = buffers.each_mut().map(Guarded::pointer);

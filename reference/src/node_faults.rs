@@ -1,8 +1,7 @@
-//! Faults in the nodes and edges of a negotiation. A few of the results are sound.
+//! Faults in the nodes of a negotiation. A few of the results are sound.
 
 use crate::classes::Class::*;
 use crate::expression::*;
-use crate::graph::{edge_form, is_standard};
 use crate::negotiation::*;
 use crate::negotiation_faults::{nameless, one, two_places};
 use crate::negotiation_sample::ALL_CLASSES;
@@ -10,7 +9,7 @@ use crate::sample::Random;
 use crate::table_sample::House;
 
 /// Any form, with classes or without.
-fn any_form(random: &mut Random, house: &House) -> Form {
+pub fn any_form(random: &mut Random, house: &House) -> Form {
     let issuer = random.entity(house.world);
     let loose = random.credential(house.world).body;
     match random.below(4) {
@@ -66,13 +65,13 @@ pub fn nodes_swapped_with_edges(random: &mut Random, _: &House, negotiation: &mu
     }
 }
 
-fn add_node(negotiation: &mut Negotiation, node: Node) {
+pub fn add_node(negotiation: &mut Negotiation, node: Node) {
     if negotiation.nodes.len() < MOST_NODES {
         negotiation.nodes.push(node);
     }
 }
 
-fn add_edge(negotiation: &mut Negotiation, edge: Edge) {
+pub fn add_edge(negotiation: &mut Negotiation, edge: Edge) {
     if negotiation.edges.len() < MOST_EDGES {
         negotiation.edges.push(edge);
     }
@@ -124,6 +123,20 @@ pub fn entity_subject(random: &mut Random, house: &House, negotiation: &mut Nego
     }
 }
 
+/// A role from an entity that is a member of it, but is not the node's subject.
+pub fn foreign_entity(random: &mut Random, _: &House, negotiation: &mut Negotiation) {
+    let Some(credential) = one(random, &mut negotiation.shown).cloned() else { return };
+    let form = Form::Target(Expression::Role(credential.head));
+    let is_foreign = |node: &Node| node.form == form && credential.body != Expression::Entity(node.subject);
+    let Some(parent) = negotiation.nodes.iter().position(is_foreign) else { return };
+    let Node { subject, verifier, .. } = negotiation.nodes[parent];
+    let child = Node { form: Form::Target(credential.body), subject, verifier, state: 3 };
+    if negotiation.nodes.len() < MOST_NODES && !negotiation.nodes.iter().any(|node| node.same_target(&child)) {
+        add_edge(negotiation, Edge { kind: IMPLICATION, parent, child: negotiation.nodes.len() });
+        add_node(negotiation, child);
+    }
+}
+
 /// Some nodes have other states.
 pub fn marks(random: &mut Random, _: &House, negotiation: &mut Negotiation) {
     for node in &mut negotiation.nodes {
@@ -142,102 +155,4 @@ pub fn primary(random: &mut Random, house: &House, negotiation: &mut Negotiation
         2 => node.form = Form::Target(Expression::Role(role)),
         _ => node.form = any_form(random, house),
     }
-}
-
-pub fn edge_field(random: &mut Random, _: &House, negotiation: &mut Negotiation) {
-    let node = random.below(negotiation.nodes.len() + 1);
-    let Some(edge) = one(random, &mut negotiation.edges) else { return };
-    match random.below(3) {
-        0 => edge.kind = random.between(1, 6) as u8,
-        1 => edge.parent = node,
-        _ => edge.child = node,
-    }
-}
-
-pub fn edges_swapped(random: &mut Random, _: &House, negotiation: &mut Negotiation) {
-    if let Some((a, b)) = two_places(random, &negotiation.edges) {
-        negotiation.edges.swap(a, b);
-    }
-}
-
-pub fn edge_repeated(random: &mut Random, _: &House, negotiation: &mut Negotiation) {
-    if let Some(edge) = one(random, &mut negotiation.edges).copied() {
-        add_edge(negotiation, edge);
-    }
-}
-
-pub fn edge_removed(random: &mut Random, _: &House, negotiation: &mut Negotiation) {
-    if let Some((at, _)) = two_places(random, &negotiation.edges) {
-        negotiation.edges.remove(at);
-    }
-}
-
-pub fn edge_moved(random: &mut Random, _: &House, negotiation: &mut Negotiation) {
-    if let Some((from, to)) = two_places(random, &negotiation.edges) {
-        let edge = negotiation.edges.remove(from);
-        negotiation.edges.insert(to, edge);
-    }
-}
-
-/// A linking implication comes earlier, perhaps before what justified it.
-pub fn linking_implication_moved(random: &mut Random, _: &House, negotiation: &mut Negotiation) {
-    let is_linking = |edge: &Edge| edge.kind == LINKING_IMPLICATION;
-    if let Some(from) = negotiation.edges.iter().position(is_linking) {
-        let edge = negotiation.edges.remove(from);
-        negotiation.edges.insert(random.below(from + 1), edge);
-    }
-}
-
-/// One more edge of right form between old nodes, justified or not.
-pub fn edge_between(random: &mut Random, _: &House, negotiation: &mut Negotiation) {
-    for _ in 0..20 {
-        let Some((parent, child)) = two_places(random, &negotiation.nodes) else { return };
-        let kind = if random.percent(60) { IMPLICATION } else { random.between(2, 6) as u8 };
-        let edge = Edge { kind, parent, child };
-        let (above, below) = (&negotiation.nodes[parent], &negotiation.nodes[child]);
-        let new = parent != child && !negotiation.edges.contains(&edge);
-        if new && edge_form(negotiation, kind, above, below) {
-            return add_edge(negotiation, edge);
-        }
-    }
-}
-
-/// A new child with its parent's verifier and subject, often not justified or not of right form.
-pub fn edge_to_new_child(random: &mut Random, house: &House, negotiation: &mut Negotiation) {
-    let Some((parent, _)) = two_places(random, &negotiation.nodes) else { return };
-    let Node { subject, verifier, .. } = negotiation.nodes[parent];
-    let kind = if random.percent(70) { IMPLICATION } else { random.between(1, 6) as u8 };
-    let child = Node { form: any_form(random, house), subject, verifier, state: 3 };
-    if negotiation.nodes.len() < MOST_NODES && !negotiation.nodes.iter().any(|node| node.same_target(&child)) {
-        add_edge(negotiation, Edge { kind, parent, child: negotiation.nodes.len() });
-        add_node(negotiation, child);
-    }
-}
-
-/// A linking implication for any subject.
-pub fn linking_implication_of_any(random: &mut Random, house: &House, negotiation: &mut Negotiation) {
-    let base = |node: &Node| match &node.form {
-        Form::Target(Expression::Linked(base, _)) => Some(*base),
-        _ => None,
-    };
-    let Some(parent) = negotiation.nodes.iter().position(|node| base(node).is_some()) else { return };
-    let form = Form::Target(Expression::Role(base(&negotiation.nodes[parent]).unwrap()));
-    let verifier = negotiation.nodes[parent].verifier;
-    let child = Node { form, subject: random.entity(house.world), verifier, state: random.below(4) as u8 };
-    if negotiation.nodes.len() < MOST_NODES && !negotiation.nodes.iter().any(|node| node.same_target(&child)) {
-        add_edge(negotiation, Edge { kind: LINKING_IMPLICATION, parent, child: negotiation.nodes.len() });
-        add_node(negotiation, child);
-    }
-}
-
-pub fn edge_of_any_form(random: &mut Random, _: &House, negotiation: &mut Negotiation) {
-    if let Some((parent, child)) = two_places(random, &negotiation.nodes) {
-        add_edge(negotiation, Edge { kind: random.between(1, 6) as u8, parent, child });
-    }
-}
-
-pub fn self_edge(random: &mut Random, _: &House, negotiation: &mut Negotiation) {
-    let Some((node, _)) = two_places(random, &negotiation.nodes) else { return };
-    let kind = if is_standard(&negotiation.nodes[node]) { IMPLICATION } else { random.between(1, 6) as u8 };
-    add_edge(negotiation, Edge { kind, parent: node, child: node });
 }
