@@ -1,6 +1,6 @@
 //! Times the engine beside the reference, in microseconds a question over 64 credentials, then a check of tables at
-//! their sizes, then reports on negotiations; `bench tables` and `bench report` do one of the latter alone. `bench search
-//! STEPS [SEED]` looks for sets that take longest, `bench report search STEPS [SEED]` for negotiations.
+//! their sizes, then reports on negotiations; `bench tables` and `bench report` do one of the latter alone. `bench
+//! search STEPS [SEED]` looks for sets that take longest, `bench report search STEPS [SEED]` for negotiations.
 //!
 //! engine: the whole call. making: the part of it that reads the bytes and makes the relation. one more: asking one
 //! more question over a relation that is made already. reference: the separate code.
@@ -169,7 +169,7 @@ fn main() {
         ["search", steps] => search::search(number(steps), 1),
         ["search", steps, seed] => search::search(number(steps), number(seed).into()),
         _ => {
-            println!("usage: bench | bench tables | bench search STEPS [SEED] | bench report | bench report search STEPS [SEED]");
+            println!("usage: bench [tables | report | search STEPS [SEED] | report search STEPS [SEED]]");
             exit(2);
         }
     }

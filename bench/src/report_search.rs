@@ -1,5 +1,5 @@
-//! Looks for the negotiations whose report takes the engine longest: from the known shapes and random ones, by changes that
-//! leave them sound and are kept where the time grew.
+//! Looks for the negotiations whose report takes the engine longest: from the known shapes and random ones, by changes
+//! that leave them sound and are kept where the time grew.
 
 use crate::least;
 use crate::report::{engine, must_agree, random_full, sizes};

@@ -5,14 +5,14 @@
 //! builds "f from e" by the five conditions, `sample` makes random and damaged questions, `shapes` large ones.
 //!
 //! `classes` has the class rules, `records` the records of tables, `tables` checks them. `table_sample` makes random
-//! tables, `table_faults` puts faults in them, `table_bytes` makes both into bytes, `table_shapes` makes full tables whose
-//! check takes long.
+//! tables, `table_faults` puts faults in them, `table_bytes` makes both into bytes, `table_shapes` makes full tables
+//! whose check takes long.
 //!
 //! `negotiation` has a negotiation and its bytes, `graph` the forms of edges, `states` what is satisfied, failed or
 //! complete, `damage` the clauses of damage, which `clause` names. `begin` and `report` are the two calls.
 //! `negotiation_sample` and `negotiation_growth` make random sound negotiations, `negotiation_faults`, `node_faults` and
-//! `edge_faults` put faults in them, `negotiation_bytes` makes both into bytes, `negotiation_counts` counts what occurred,
-//! `negotiation_shapes` and `negotiation_large` make full ones whose report takes long.
+//! `edge_faults` put faults in them, `negotiation_bytes` makes both into bytes, `negotiation_counts` counts what
+//! occurred, `negotiation_shapes` and `negotiation_large` make full ones whose report takes long.
 //!
 //! `refusal` numbers the refusals.
 

@@ -1,4 +1,5 @@
-//! Faults in a negotiation; those in nodes and edges are in `node_faults` and `edge_faults`. A few of the results are sound.
+//! Faults in a negotiation; those in nodes and edges are in `node_faults` and `edge_faults`. A few of the results are
+//! sound.
 
 use crate::classes::Class::*;
 use crate::damage::MOST_MESSAGES;
@@ -126,8 +127,8 @@ fn emptied(random: &mut Random, _: &House, negotiation: &mut Negotiation) {
     }
 }
 
-/// A linking implication that would satisfy the solution that justifies it: 1.1 <- 1.1.1 and 1.1 <- 1 for any role. It is
-/// sound if the solution is satisfied before in another way.
+/// A linking implication that would satisfy the solution that justifies it: 1.1 <- 1.1.1 and 1.1 <- 1 for any role. It
+/// is sound if the solution is satisfied before in another way.
 fn circle(random: &mut Random, house: &House, negotiation: &mut Negotiation) {
     let Some(role) = random.role_of(house, &[IssuerAll, SubjectAll]) else { return };
     let Role { entity, name } = role;

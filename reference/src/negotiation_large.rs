@@ -59,7 +59,8 @@ fn join_all(builder: &mut Builder, late: &mut Vec<(usize, Form, u16)>) {
     }
 }
 
-/// Goals with seven solutions, each proved by a chain of eight nodes whose last edge comes before its linking implication.
+/// A goal with seven solutions, each proved by a chain of eight nodes, whose last edge comes right before the linking
+/// implication.
 fn linking_after_chains() -> Shaped {
     let requester = Builder::new(vec![]).negotiation.other;
     let mut shown = vec![credential(role(1, 1), Expression::Linked(role(1, 2), 3))];
