@@ -4,7 +4,8 @@ use crate::classes::Class;
 use crate::expression::CREDENTIAL_BYTES;
 use crate::negotiation::*;
 use crate::negotiation_faults::NEGOTIATION_FAULTS;
-use crate::negotiation_sample::{Grown, ALL_CLASSES};
+use crate::negotiation_sample::{Extent, Grown, ALL_CLASSES};
+use crate::negotiation_shapes::marked_case;
 use crate::records::{encode_record, Record};
 use crate::sample::Random;
 use crate::tables::MOST_TABLES_BYTES;
@@ -152,6 +153,37 @@ impl Random {
             _ => lent.negotiation.resize(length, 0),
         }
     }
+}
+
+/// Asks about the negotiation with each byte changed in some ways.
+pub fn each_byte(lent: &Lent, mut ask: impl FnMut(&Lent)) {
+    for at in 0..NEGOTIATION_BYTES {
+        let changed = match lent.negotiation[at] {
+            0 => vec![1, 128],
+            old => vec![old.wrapping_add(1), old - 1, old ^ 128, 0],
+        };
+        for byte in changed {
+            let mut other = lent.clone();
+            other.negotiation[at] = byte;
+            ask(&other);
+        }
+    }
+}
+
+/// The marked cases at their ends, and some small random ones.
+pub fn some_small(random: &mut Random) -> Vec<Lent> {
+    let mut small = Vec::new();
+    for side in [Side::Mediator, Side::Requester] {
+        for success in [true, false] {
+            let (tables, negotiation) = marked_case(side, success);
+            small.push(Lent { tables, negotiation: encode(&negotiation) });
+        }
+    }
+    for _ in 0..4 {
+        let grown = random.grown_to(Extent { nodes: 12, edges: 20, shown: 10 });
+        small.push(Lent { tables: grown.tables.records.concat(), negotiation: encode(&grown.negotiation) });
+    }
+    small
 }
 
 #[cfg(test)]

@@ -282,6 +282,28 @@ fn marked_cases() {
     assert_eq!(report(&tables[..2], &bytes, 0), 2);
 }
 
+/// Whatever byte is changed, the bytes are refused or stand for something else, which has these bytes alone.
+#[test]
+fn one_encoding() {
+    let (_, negotiation) = marked_case(Side::Mediator, true);
+    let bytes = encode(&negotiation);
+    assert_eq!(bytes.len(), NEGOTIATION_BYTES);
+    assert_eq!(decode(&bytes), Ok(negotiation.clone()));
+    let mut read = 0;
+    for at in 0..NEGOTIATION_BYTES {
+        for bit in 0..8 {
+            let mut other = bytes.clone();
+            other[at] ^= 1 << bit;
+            if let Ok(changed) = decode(&other) {
+                assert_ne!(changed, negotiation);
+                assert_eq!(encode(&changed), other);
+                read += 1;
+            }
+        }
+    }
+    assert!(read > 0);
+}
+
 #[test]
 fn begins() {
     let tables = [0x10, 0, 1, 0x11, 0, 1, 3];

@@ -302,6 +302,24 @@ mod tests {
         }
     }
 
+    /// Asking about many expressions at once changes no answer.
+    #[test]
+    fn many_expressions_at_once() {
+        let mut random = Random::new(8);
+        for _ in 0..200 {
+            let credentials = random.question().credentials;
+            let asked: Vec<Expression> = (0..4).flat_map(|_| [random.question().f, random.question().e]).collect();
+            let heads = credentials.iter().take(4).map(|credential| Expression::Role(credential.head));
+            let asked: Vec<Expression> = asked.into_iter().chain(heads).collect();
+            let relation = Relation::new(&credentials, &asked);
+            for f in &asked {
+                for e in &asked {
+                    assert_eq!(relation.has(f, e), from(&credentials, f, e), "{credentials:?} {f:?} {e:?}");
+                }
+            }
+        }
+    }
+
     /// A role is from an entity exactly where the entity is a member of the role.
     #[test]
     fn from_an_entity_is_membership() {

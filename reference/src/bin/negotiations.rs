@@ -3,7 +3,7 @@
 use crate::{hex, Guarded};
 use reference::begin::begin;
 use reference::expression::Role;
-use reference::negotiation_bytes::Lent;
+use reference::negotiation_bytes::{self, Lent};
 use reference::negotiation_counts::NegotiationCounts;
 use reference::negotiation_sample::Grown;
 use reference::report::{answer, judge};
@@ -143,7 +143,14 @@ pub fn ask_negotiations(seed: u64, count: u64) -> (u64, u64) {
             all.begin(&mut guards, &lent, other, wanted);
         }
     }
-    println!("{count} negotiations");
+    let mut changed_count = 0;
+    for lent in negotiation_bytes::some_small(&mut random) {
+        negotiation_bytes::each_byte(&lent, |changed| {
+            all.report(&mut guards, changed);
+            changed_count += 1;
+        });
+    }
+    println!("{count} negotiations, {changed_count} with each byte changed");
     all.counts.print();
     let missing = all.counts.missing();
     if count >= 100_000 && !missing.is_empty() {
