@@ -1,9 +1,12 @@
 //! Times the engine beside the reference, in microseconds a question over 64 credentials, then a check of tables at
-//! their sizes; `bench tables` does the latter alone. `bench search STEPS [SEED]` looks for sets that take longest.
+//! their sizes, then reports on negotiations; `bench tables` and `bench report` do one of the latter alone. `bench
+//! search STEPS [SEED]` looks for sets that take longest, `bench report search STEPS [SEED]` for negotiations.
 //!
 //! engine: the whole call. making: the part of it that reads the bytes and makes the relation. one more: asking one
 //! more question over a relation that is made already. reference: the separate code.
 
+mod report;
+mod report_search;
 mod search;
 mod tables;
 
@@ -156,12 +159,17 @@ fn main() {
             table();
             println!();
             tables::table();
+            println!();
+            report::table();
         }
         ["tables"] => tables::table(),
+        ["report"] => report::table(),
+        ["report", "search", steps] => report_search::search(number(steps), 1),
+        ["report", "search", steps, seed] => report_search::search(number(steps), number(seed).into()),
         ["search", steps] => search::search(number(steps), 1),
         ["search", steps, seed] => search::search(number(steps), number(seed).into()),
         _ => {
-            println!("usage: bench | bench tables | bench search STEPS [SEED]");
+            println!("usage: bench [tables | report | search STEPS [SEED] | report search STEPS [SEED]]");
             exit(2);
         }
     }

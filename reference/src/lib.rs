@@ -1,19 +1,47 @@
-//! RT0 questions answered and house tables checked straight from their definitions, to compare the engine with.
+//! RT0 questions answered, house tables checked, negotiations begun and reported on straight from their definitions, to
+//! compare the engine with.
 //!
 //! `expression` has the types and their bytes. `question` reads a question's bytes and refuses wrong ones, `relation`
 //! builds "f from e" by the five conditions, `sample` makes random and damaged questions, `shapes` large ones.
+//!
 //! `classes` has the class rules, `records` the records of tables, `tables` checks them. `table_sample` makes random
-//! tables, `table_faults` puts faults in them, `table_bytes` makes both into bytes, `table_shapes` makes full tables whose
-//! check takes long. `refusal` numbers the refusals.
+//! tables, `table_faults` puts faults in them, `table_bytes` makes both into bytes, `table_shapes` makes full tables
+//! whose check takes long.
+//!
+//! `negotiation` has a negotiation and its bytes, `graph` the forms of edges, `states` what is satisfied, failed or
+//! complete, `damage` the clauses of damage, which `clause` names. `begin` and `report` are the two calls.
+//! `negotiation_sample` and `negotiation_growth` make random sound negotiations, `negotiation_faults`, `node_faults` and
+//! `edge_faults` put faults in them, `negotiation_bytes` makes both into bytes, `negotiation_counts` counts what
+//! occurred, `negotiation_shapes` and `negotiation_large` make full ones whose report takes long.
+//!
+//! `refusal` numbers the refusals.
 
+pub mod begin;
 pub mod classes;
+pub mod clause;
+pub mod damage;
+pub mod edge_faults;
 pub mod expression;
+pub mod graph;
+pub mod negotiation;
+pub mod negotiation_bytes;
+pub mod negotiation_counts;
+pub mod negotiation_faults;
+pub mod negotiation_growth;
+pub mod negotiation_large;
+pub mod negotiation_sample;
+pub mod negotiation_shapes;
+#[cfg(test)]
+mod negotiation_tests;
+pub mod node_faults;
 pub mod question;
 pub mod records;
 pub mod refusal;
 pub mod relation;
+pub mod report;
 pub mod sample;
 pub mod shapes;
+pub mod states;
 pub mod table_bytes;
 pub mod table_faults;
 pub mod table_sample;

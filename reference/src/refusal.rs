@@ -15,4 +15,10 @@ pub enum Refusal {
     Class = 5,
     /// Tables out of order, repeated, self missing, or a size passed.
     Order = 6,
+    /// At begin: the other end is zero or self.
+    Other = 7,
+    /// The negotiation is damaged.
+    Damaged = 20,
+    /// No such node.
+    Absent = 24,
 }

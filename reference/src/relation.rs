@@ -6,7 +6,7 @@
 //! 4. If A.r1 from B, then A.r1.r2 from B.r2, for every linked role A.r1.r2.
 //! 5. If each part of an intersection is from e, then the intersection is from e, for every intersection.
 //!
-//! It is built over the expressions that matter to one question, from nothing, by adding pairs until no condition
+//! It is built over the expressions that matter to what is asked, from nothing, by adding pairs until no condition
 //! adds one.
 
 use crate::expression::*;
@@ -14,10 +14,26 @@ use std::collections::{BTreeSet, HashMap};
 
 /// Whether "f from e" holds over these credentials.
 pub fn from(credentials: &[Credential], f: &Expression, e: &Expression) -> bool {
-    let mut expressions = Expressions::default();
-    expressions.collect(credentials, f, e);
-    let pairs = least(credentials, &expressions);
-    pairs.has(expressions.number(f), expressions.number(e))
+    Relation::new(credentials, [f, e]).has(f, e)
+}
+
+/// "f from e" for any f and e among the expressions that it was made with.
+pub struct Relation {
+    expressions: Expressions,
+    pairs: Pairs,
+}
+
+impl Relation {
+    pub fn new<'a>(credentials: &[Credential], asked: impl IntoIterator<Item = &'a Expression>) -> Relation {
+        let mut expressions = Expressions::default();
+        expressions.collect(credentials, asked);
+        let pairs = least(credentials, &expressions);
+        Relation { expressions, pairs }
+    }
+
+    pub fn has(&self, f: &Expression, e: &Expression) -> bool {
+        self.pairs.has(self.expressions.number(f), self.expressions.number(e))
+    }
 }
 
 /// The expressions that matter, each once and numbered from 0.
@@ -33,13 +49,14 @@ impl Expressions {
     ///
     /// No other x can help as the middle of "f from x" and "x from e". It is no credential's body, and no linked role
     /// here leads to it, so no role here is from x. Nor is an intersection: of its two parts or more, one is not x.
-    fn collect(&mut self, credentials: &[Credential], f: &Expression, e: &Expression) {
+    fn collect<'a>(&mut self, credentials: &[Credential], asked: impl IntoIterator<Item = &'a Expression>) {
         for credential in credentials {
             self.add(Expression::Role(credential.head));
             self.add_with_parts(&credential.body);
         }
-        self.add_with_parts(f);
-        self.add_with_parts(e);
+        for expression in asked {
+            self.add_with_parts(expression);
+        }
 
         let mut entities = BTreeSet::new();
         let mut link_names = BTreeSet::new();
@@ -281,6 +298,24 @@ mod tests {
             }
             if members == before {
                 return members;
+            }
+        }
+    }
+
+    /// Asking about many expressions at once changes no answer.
+    #[test]
+    fn many_expressions_at_once() {
+        let mut random = Random::new(8);
+        for _ in 0..200 {
+            let credentials = random.question().credentials;
+            let asked: Vec<Expression> = (0..4).flat_map(|_| [random.question().f, random.question().e]).collect();
+            let heads = credentials.iter().take(4).map(|credential| Expression::Role(credential.head));
+            let asked: Vec<Expression> = asked.into_iter().chain(heads).collect();
+            let relation = Relation::new(&credentials, &asked);
+            for f in &asked {
+                for e in &asked {
+                    assert_eq!(relation.has(f, e), from(&credentials, f, e), "{credentials:?} {f:?} {e:?}");
+                }
             }
         }
     }

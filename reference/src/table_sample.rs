@@ -46,7 +46,12 @@ fn links(head: Class) -> &'static [(Class, Class)] {
 impl Random {
     fn house(&mut self, name_count: usize) -> House {
         let most = if self.percent(20) { 60 } else { 6 };
-        let world = World::spread(self.between(2, most), name_count + 2, self.below(5));
+        self.house_among(most, name_count)
+    }
+
+    /// A house in a world of two entities to so many.
+    pub fn house_among(&mut self, most_entities: usize, name_count: usize) -> House {
+        let world = World::spread(self.between(2, most_entities), name_count + 2, self.below(5));
         let only = [IssuerDef, IssuerAll, SubjectAll][self.below(3)];
         let one_class = name_count < 60 && self.percent(5);
         let class = |i| if one_class { only } else { [IssuerDef, IssuerAll, SubjectAll][i % 3] };
@@ -67,7 +72,7 @@ impl Random {
     }
 
     /// A body that a head of this class takes.
-    fn body_for(&mut self, house: &House, issuer: u16, head: Class) -> Option<Expression> {
+    pub fn body_for(&mut self, house: &House, issuer: u16, head: Class) -> Option<Expression> {
         let only = [head];
         let classes: &[Class] = if head == IssuerDef { &[IssuerDef, IssuerAll, SubjectAll] } else { &only };
         Some(match self.below(8) {
@@ -91,7 +96,7 @@ impl Random {
     }
 
     /// A credential whose head has one of these classes.
-    fn stored(&mut self, house: &House, heads: &[Class]) -> Option<Credential> {
+    pub fn stored(&mut self, house: &House, heads: &[Class]) -> Option<Credential> {
         let head = self.role_of(house, heads)?;
         let (_, class) = house.names.iter().find(|(name, _)| *name == head.name)?;
         Some(Credential { head, body: self.body_for(house, head.entity, *class)? })
@@ -135,8 +140,14 @@ impl Random {
     /// Tables of these sizes, or smaller where the house has too little. Sizes above the most give records that are
     /// right but for their number.
     pub fn sample(&mut self, sizes: Sizes) -> Sample {
-        let [name_count, issuer_count, subject_count, sensitive_count, access_count] = sizes;
-        let house = &self.house(name_count);
+        let house = self.house(sizes[0]);
+        self.sample_of(house, sizes)
+    }
+
+    /// The same of this house, which has its names.
+    pub fn sample_of(&mut self, house: House, sizes: Sizes) -> Sample {
+        let [_, issuer_count, subject_count, sensitive_count, access_count] = sizes;
+        let house = &house;
         let mut names: Vec<Record> = house.names.iter().map(|&(name, class)| Record::Name(name, class)).collect();
         names.sort_by_key(encode_record);
 

@@ -1,9 +1,13 @@
 //! Compares the engine's answers with the reference's, and looks whether a lent buffer was changed.
 //!
-//! fuzz [SEED [RANDOM [DAMAGED [TABLES]]]]: the seed, how many random and damaged questions to ask, and how many random
-//! tables to check. The large questions of `shapes` are asked besides, each whole and without each one of its
-//! credentials, and some tables are checked with each fault at each place.
+//! fuzz [SEED [RANDOM [DAMAGED [TABLES [NEGOTIATIONS]]]]]: the seed, how many random and damaged questions to ask, how
+//! many random tables to check, and how many sound and damaged negotiations to report on. The large questions of
+//! `shapes` are asked besides, each whole and without each one of its credentials, and some tables are checked with each
+//! fault at each place. What has a count of 0 is left out.
 
+mod negotiations;
+
+use negotiations::ask_negotiations;
 use reference::question::{self, Lent};
 use reference::sample::Random;
 use reference::shapes;
@@ -39,8 +43,14 @@ impl Guarded {
         Guarded { bytes, start }
     }
 
-    fn pointer(&mut self) -> *const u8 {
+    fn pointer(&mut self) -> *mut u8 {
         self.bytes[self.start..].as_mut_ptr()
+    }
+
+    /// All bytes as they must be if the content became this.
+    fn with(&self, content: &[u8]) -> Vec<u8> {
+        let end = self.start + content.len();
+        [&self.bytes[..self.start], content, &self.bytes[end..]].concat()
     }
 }
 
@@ -176,18 +186,16 @@ fn argument(at: usize, default: u64) -> u64 {
     match std::env::args().nth(at) {
         None => default,
         Some(word) => word.parse().unwrap_or_else(|_| {
-            eprintln!("usage: fuzz [SEED [RANDOM [DAMAGED [TABLES]]]], each a number");
+            eprintln!("usage: fuzz [SEED [RANDOM [DAMAGED [TABLES [NEGOTIATIONS]]]]], each a number");
             exit(2)
         }),
     }
 }
 
-fn main() {
-    let (seed, random_count, damaged_count) = (argument(1, 1), argument(2, 200_000), argument(3, 200_000));
-    let tables_count = argument(4, 100_000);
+/// Returns how many questions passed and failed.
+fn ask_questions(seed: u64, random_count: u64, damaged_count: u64) -> (u64, u64) {
     let mut random = Random::new(seed);
     let mut counts = Counts::default();
-
     for _ in 0..random_count {
         let lent = question::encode(&random.question());
         counts.ask(&mut random, &lent);
@@ -202,9 +210,8 @@ fn main() {
     let shaped_count = ask_shapes(&mut random, &mut counts);
     println!("{shaped_count} large questions");
 
-    let Counts { mut passed, mut failed, no, yes, refused: [_, length, command, operand] } = counts;
+    let Counts { passed, mut failed, no, yes, refused: [_, length, command, operand] } = counts;
     println!("answers: no {no}, yes {yes}, refused 1 {length}, refused 2 {command}, refused 3 {operand}");
-
     if [no, yes, length, command, operand].contains(&0) {
         println!("an answer never occurred: ask more questions");
         failed += 1;
@@ -213,9 +220,24 @@ fn main() {
         println!("the share of yes is not between 25% and 75%");
         failed += 1;
     }
-    let (tables_passed, tables_failed) = ask_tables(seed, tables_count);
-    passed += tables_passed;
-    failed += tables_failed;
+    (passed, failed)
+}
+
+fn main() {
+    let (seed, random_count, damaged_count) = (argument(1, 1), argument(2, 200_000), argument(3, 200_000));
+    let (tables_count, negotiations_count) = (argument(4, 100_000), argument(5, 100_000));
+    let mut results = Vec::new();
+    if random_count + damaged_count > 0 {
+        results.push(ask_questions(seed, random_count, damaged_count));
+    }
+    if tables_count > 0 {
+        results.push(ask_tables(seed, tables_count));
+    }
+    if negotiations_count > 0 {
+        results.push(ask_negotiations(seed, negotiations_count));
+    }
+    let passed: u64 = results.iter().map(|(passed, _)| passed).sum();
+    let failed: u64 = results.iter().map(|(_, failed)| failed).sum();
     println!("{passed} passed, {failed} failed");
     exit((failed > 0) as i32);
 }
