@@ -3,14 +3,14 @@ use Prim.Native.Nat.{ℕ, suc, _+_, _-_, _*_, _/_, _%_, _<_, _≤_}
 use mathlib.Core.Path.{_≡_, refl, sym, ap, _∙_, subst}
 use mathlib.Core.Logic.{_⊎_, inl, inr}
 use mathlib.Core.Bool.{Bool, true, false, cond, _&&_}
-use mathlib.Core.List.{List, [], _∷_, _++_}
+use mathlib.Core.List.{List, [], _∷_, _++_, append-assoc}
 use native.Mathlib.Omega.{arith}
 use native.Mathlib.Nat.{add-assoc, div-add-mod'}
 use native.Mathlib.Numerals.{add-one}
 use borrow.Author.Tests.{ltb-false, eqb-true}
 use lib.Dec.{ltb, eqb}
-use lib.ListN.{length, getD, take, drop, length-append, length-drop}
-use lib.Seq.{drop-cons, drop-drop, take-add, take-at}
+use lib.ListN.{length, getD, take, drop, length-append, length-drop, drop-of-length-le}
+use lib.Seq.{drop-cons, drop-drop, take-add, take-at, take-length, length-take-le, drop-append-seam}
 use Rattle.expression.specs.declared.Role.{Role}
 use Rattle.expression.specs.declared.Expression.{Expression}
 use Rattle.expression.specs.declared.ExpressionAnswer.{ExpressionAnswer}
@@ -18,7 +18,7 @@ use Rattle.expression.specs.declared.ExpressionAnswer.the-variants as e
 use Rattle.expression.specs.declared.Credential.{Credential}
 use Rattle.expression.specs.declared.CredentialAnswer.{CredentialAnswer}
 use Rattle.expression.specs.declared.CredentialAnswer.the-variants as a
-use Rattle.expression.specs.Bytes.{numberAt, rawAt, rawBytes}
+use Rattle.expression.specs.Bytes.{numberAt, rawAt, rawBytes, pasted}
 use Rattle.expression.specs.Form.{rawOf, readOf, wellFormed}
 use Rattle.expression.specs.Laws.{canonical}
 use Rattle.expression.specs.Codec.{next-byte, high-byte, low-byte, read-only, read-write}
@@ -135,10 +135,21 @@ read-formed : (s : List ℕ) (at : ℕ) (c : Credential) → readCredential s at
 unfolding readCredential
 read-formed s at c h = credential-formed (roleAt s at) (readOf s (at + 4)) c h
 
--- what is known where an answer was found: of a command that it has room and right form and that its bytes stand there, and that a
--- refusal is 2 or 3
+abbrev isEnd : Command → Bool
+isEnd (Show c) = false
+isEnd (Open o) = false
+isEnd (Bring n) = false
+isEnd (Join g) = false
+isEnd (Mark n) = false
+isEnd End = true
+
+never : {A : Type 0} → false ≡ true → A
+never h = let z : _≡_ {A = ℕ} 0 1 = cc in absurd (omega arith)
+
+-- what is known where an answer was found: of a command that it has room and right form, that its bytes stand there, and that nothing
+-- follows an end; and that a refusal is 2 or 3
 abbrev Sure : List ℕ → ℕ → CommandAnswer → Type 0
-Sure s at (Read c) = (at + sizeOf c ≤ length s) × (formedCommand c ≡ true) × (Bytes s → take (sizeOf c) (drop at s) ≡ commandBytes c)
+Sure s at (Read c) = (at + sizeOf c ≤ length s) × (formedCommand c ≡ true) × (Bytes s → take (sizeOf c) (drop at s) ≡ commandBytes c) × (isEnd c ≡ true → length s ≡ at + 1)
 Sure s at (Refused k) = (k ≡ 2) ⊎ (k ≡ 3)
 
 module _ (s : List ℕ) (at : ℕ) where
@@ -150,27 +161,27 @@ module _ (s : List ℕ) (at : ℕ) where
       go false h = k (ltb-false (length s - at) size h)
 
   sure-read : (code : ℕ) (l : List ℕ) (c : Command) → Has code true l c → getD s at 0 ≡ code → suc (length l) ≤ length s - at
-      → (Bytes s → take (length l) (drop (at + 1) s) ≡ l) → Sure s at (Read c)
-  sure-read code l c w q h k =
+      → (Bytes s → take (length l) (drop (at + 1) s) ≡ l) → (isEnd c ≡ true → length s ≡ at + 1) → Sure s at (Read c)
+  sure-read code l c w q h k last =
       let first : take (suc (length l)) (drop at s) ≡ getD s at 0 ∷ take (length l) (drop (at + 1) s) = first-byte s at (length l) (omega arith) in
-      (omega (arith, w .size), w .form, λ b. ap (λ (n : ℕ). take n (drop at s)) (w .size) ∙ first ∙ (λ i. q i ∷ k b i) ∙ sym (w .bytes))
+      (omega (arith, w .size), w .form, λ b. ap (λ (n : ℕ). take n (drop at s)) (w .size) ∙ first ∙ (λ i. q i ∷ k b i) ∙ sym (w .bytes), last)
 
   sure-checked : (code : ℕ) (good : Bool) (l : List ℕ) (c : Command) → Has code good l c → getD s at 0 ≡ code → suc (length l) ≤ length s - at
-      → (Bytes s → take (length l) (drop (at + 1) s) ≡ l) → Sure s at (checked good c)
-  sure-checked code true l c w q h k = sure-read code l c w q h k
-  sure-checked code false l c w q h k = inr refl
+      → (Bytes s → take (length l) (drop (at + 1) s) ≡ l) → (isEnd c ≡ true → length s ≡ at + 1) → Sure s at (checked good c)
+  sure-checked code true l c w q h k last = sure-read code l c w q h k last
+  sure-checked code false l c w q h k last = inr refl
 
   sure-show : getD s at 0 ≡ 1 → Sure s at (showAt s at)
   unfolding showAt
   sure-show q = sure-whole 23 (shown (readCredential s (at + 1))) (λ h. go (readCredential s (at + 1)) refl h)
     where
       go : (x : CredentialAnswer) → readCredential s (at + 1) ≡ x → 23 ≤ length s - at → Sure s at (shown x)
-      go (a.Read c) p h = sure-read 1 (credentialBytes c) (Show c) (show-has c (read-formed s (at + 1) c p)) q h (λ b. credential-only s (at + 1) c b (omega arith) p .0)
+      go (a.Read c) p h = sure-read 1 (credentialBytes c) (Show c) (show-has c (read-formed s (at + 1) c p)) q h (λ b. credential-only s (at + 1) c b (omega arith) p .0) never
       go a.Wrong p h = inr refl
 
   sure-open : getD s at 0 ≡ 2 → Sure s at (openAt s at)
   unfolding openAt
-  sure-open q = sure-whole 6 _ (λ h. sure-checked 2 _ _ _ (open-has (openingOf s at)) q h (λ b. open-only s at b (omega arith)))
+  sure-open q = sure-whole 6 _ (λ h. sure-checked 2 _ _ _ (open-has (openingOf s at)) q h (λ b. open-only s at b (omega arith)) never)
 
   sure-bring : getD s at 0 ≡ 3 → Sure s at (bringAt s at)
   unfolding bringAt
@@ -178,23 +189,25 @@ module _ (s : List ℕ) (at : ℕ) where
     where
       go : (x : ExpressionAnswer) → readOf s (at + 3) ≡ x → 24 ≤ length s - at → Sure s at (brought s at x)
       go (e.Read child) p h =
-          sure-checked 3 _ _ _ (bring-has (newOf s at child) (canonical (rawAt s (at + 3)) child p .1)) q h (λ b. bring-only s at b child (omega arith) p)
+          sure-checked 3 _ _ _ (bring-has (newOf s at child) (canonical (rawAt s (at + 3)) child p .1)) q h (λ b. bring-only s at b child (omega arith) p) never
       go e.Wrong p h = inr refl
 
   sure-join : getD s at 0 ≡ 4 → Sure s at (joinAt s at)
   unfolding joinAt
-  sure-join q = sure-whole 4 _ (λ h. sure-checked 4 _ _ _ (join-has (edgeOf s at)) q h (λ b. join-only s at (omega arith)))
+  sure-join q = sure-whole 4 _ (λ h. sure-checked 4 _ _ _ (join-has (edgeOf s at)) q h (λ b. join-only s at (omega arith)) never)
 
   sure-mark : getD s at 0 ≡ 5 → Sure s at (markAt s at)
   unfolding markAt
-  sure-mark q = sure-whole 2 _ (λ h. sure-read 5 _ _ (mark-has (getD s (at + 1) 0)) q h (λ b. next-byte 0 s at 1 (omega arith)))
+  sure-mark q = sure-whole 2 _ (λ h. sure-read 5 _ _ (mark-has (getD s (at + 1) 0)) q h (λ b. next-byte 0 s at 1 (omega arith)) never)
 
   sure-end : getD s at 0 ≡ 6 → Sure s at (endAt s at)
   unfolding endAt
   sure-end q = go (eqb (length s - at) 1) refl
     where
       go : (t : Bool) → eqb (length s - at) 1 ≡ t → Sure s at (cond t (Read End) (Refused 2))
-      go true h = sure-read 6 [] End end-has q (omega (arith, eqb-true (length s - at) 1 h)) (λ b. refl)
+      go true h =
+          let one : length s - at ≡ 1 = eqb-true (length s - at) 1 h in
+          sure-read 6 [] End end-has q (omega (arith, one)) (λ b. refl) (λ z. omega (arith, one))
       go false h = inl refl
 
   sure-test : (code k : ℕ) (x y : CommandAnswer) → (code ≡ k → Sure s at x) → Sure s at y → Sure s at (cond (eqb code k) x y)
@@ -232,6 +245,10 @@ command-formed s at c h = subst (Sure s at) h (sure s at) .1
 -- its bytes stand there
 pub command-only : (s : List ℕ) (at : ℕ) (c : Command) → ((i : ℕ) → getD s i 0 < 256) → commandAt s at ≡ Read c → take (sizeOf c) (drop at s) ≡ commandBytes c
 command-only s at c bytes h = subst (Sure s at) h (sure s at) .2 bytes
+
+-- nothing stands after an end that was read
+pub command-end : (s : List ℕ) (at : ℕ) → commandAt s at ≡ Read End → length s ≡ at + 1
+command-end s at h = subst (Sure s at) h (sure s at) .3 refl
 
 -- Commands read back
 
@@ -310,3 +327,21 @@ command-back s at (Mark n) l h good last =
 command-back s at End l h good last =
     let inside : at < length s = begins s at 6 _ h in
     sym (end-back s at l (omega arith) h (last refl) ∙ at-code s at 6 inside (code-there s at 6 _ h))
+
+-- what stands from where it was copied on
+paste-drop : (d : List ℕ) (at : ℕ) (b : List ℕ) → at ≤ length d → drop at (pasted d at b) ≡ b ++ drop (at + length b) d
+paste-drop d at b h =
+    let rest : List ℕ = drop (at + length b) d in
+    ap (drop at) (append-assoc (take at d) (take (length b) b) rest)
+    ∙ ap (λ (k : ℕ). drop k (take at d ++ (take (length b) b ++ rest))) (sym (length-take-le at d h))
+    ∙ drop-append-seam (take at d) (take (length b) b ++ rest)
+    ∙ ap (λ (l : List ℕ). l ++ rest) (take-length b)
+
+-- a command of right form is read back from where it was written, an end from the last byte
+pub command-written : (d : List ℕ) (at : ℕ) (c : Command) → at + sizeOf c ≤ length d → formedCommand c ≡ true → (c ≡ End → length d ≡ at + 1)
+    → commandAt (pasted d at (commandBytes c)) at ≡ Read c
+command-written d at c room good last =
+    let b : List ℕ = commandBytes c in
+    let none : c ≡ End → drop (at + length b) d ≡ []
+    = λ q. drop-of-length-le d {i = at + length b} (omega (arith, last q, command-length c, ap sizeOf q)) in
+    command-back (pasted d at b) at c (drop (at + length b) d) (paste-drop d at b (omega arith)) good none

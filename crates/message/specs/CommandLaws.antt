@@ -9,8 +9,6 @@ use lib.Dec.{eqb}
 use lib.ListN.{length, getD}
 use Rattle.expression.specs.declared.Credential.{Credential}
 use Rattle.expression.specs.declared.CredentialAnswer.{CredentialAnswer}
-use Rattle.expression.specs.declared.Expression.{Expression}
-use Rattle.expression.specs.declared.ExpressionAnswer.{ExpressionAnswer}
 use Rattle.expression.specs.declared.ExpressionAnswer.the-variants as e
 use Rattle.expression.specs.Bytes.{numberAt, rawBytes, pasted}
 use Rattle.expression.specs.Form.{rawOf, readOf}
@@ -20,7 +18,7 @@ use Rattle.graph.specs.declared.Edge.{Edge}
 use Rattle.message.specs.declared.Opening.{Opening}
 use Rattle.message.specs.declared.NewEdge.{NewEdge}
 use Rattle.message.specs.declared.Command.{Command}
-use Rattle.message.specs.declared.Command.the-variants.{Show, Open, Bring, Join, Mark, End}
+use Rattle.message.specs.declared.Command.the-variants.{Open, Bring, Join, Mark, End}
 use Rattle.message.specs.declared.CommandAnswer.{CommandAnswer}
 use Rattle.message.specs.declared.CommandAnswer.the-variants.{Read, Refused}
 use Rattle.message.specs.Command.{edgeKind, formedOpening, formedNew, whole, checked, shown, showAt, openingOf, openAt, newOf, brought, bringAt, edgeOf, joinAt, markAt, endAt, byCode, commandAt, numberBytes, newBytes, commandBytes, sizeOf}
