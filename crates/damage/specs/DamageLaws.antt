@@ -53,6 +53,12 @@ sound-formed ns n h =
     let c = and-parts (wellFormed (n .expression) && ltb 0 (n .subject)) (ltb (n .verifier) 2) (b .0) in
     and-parts (wellFormed (n .expression)) (ltb 0 (n .subject)) (c .0) .0
 
+-- and is in a legal state
+pub sound-legal : (ns : List Name) (n : Node) → nodeSound ns n ≡ true → legalState (n .expression) (n .state) ≡ true
+unfolding nodeSound
+sound-legal ns n h =
+    and-parts (wellFormed (n .expression) && ltb 0 (n .subject) && ltb (n .verifier) 2) (legalState (n .expression) (n .state)) (and-parts (wellFormed (n .expression) && ltb 0 (n .subject) && ltb (n .verifier) 2 && legalState (n .expression) (n .state)) _ h .0) .1
+
 pub fits-sound : (ns : List Name) (before : List Node) (n : Node) → nodeFits ns before n ≡ true → nodeSound ns n ≡ true
 unfolding nodeFits
 fits-sound ns before n h = and-parts (nodeSound ns n) _ h .0
@@ -234,9 +240,17 @@ sound-some T S h z =
 
 -- a negotiation as it is held: its nodes and its edges have their forms
 module _ (H : House) (G : Negotiation) (w : within (stateHeld G) ≡ true) (h : sound (tablesOf H) (stateHeld G) ≡ true) (some : 0 < G .nodes .count) where
-  held-graph : graphSound (namesOf (H .names)) (stateWith (G .header) (nodesOf (G .nodes)) (edgesOf (G .edges)) (credentials (G .shown))) ≡ true
+  pub held-graph : graphSound (namesOf (H .names)) (stateWith (G .header) (nodesOf (G .nodes)) (edgesOf (G .edges)) (credentials (G .shown))) ≡ true
   unfolding tablesOf stateHeld
   held-graph = sound-some (tablesOf H) (stateHeld G) h (λ z. omega (arith, nodes-length (G .nodes)))
+
+  -- a node is in a legal state
+  pub held-legal : (i : ℕ) → i < G .nodes .count → legalState (nodeAt (G .nodes) i .expression) (nodeAt (G .nodes) i .state) ≡ true
+  unfolding nodesOf recordsSound
+  held-legal i l =
+      let r = graph-parts (namesOf (H .names)) _ held-graph .1 in
+      let f = and-parts (inTurn (nodeFits (namesOf (H .names))) [] (nodesOf (G .nodes))) _ (and-parts (inTurn (nodeFits (namesOf (H .names))) [] (nodesOf (G .nodes)) && primarySound (G .header) (nodeIn (nodesOf (G .nodes)) 0)) _ r .0) .0 in
+      sound-legal (namesOf (H .names)) (nodeAt (G .nodes) i) (fits-sound (namesOf (H .names)) _ (nodeAt (G .nodes) i) (turn-each (nodeFits (namesOf (H .names))) (nodeAt (G .nodes)) (G .nodes .count) f i l))
 
   pub held-nodes : NodesFormed (nodesOf (G .nodes))
   held-nodes = records-formed (namesOf (H .names)) (G .nodes) _ (within-counts H G w .0) refl (sym (graph-parts _ _ held-graph .1)) refl

@@ -403,6 +403,7 @@ fn linked_in_turn<'a>(
     let mut t = tail;
     let mut j = 0;
     while j < m {
+        let before = j;
         let e = edge_at(m, edge, parent, child, j);
         if !is_monitored_if(
             n,
@@ -419,7 +420,7 @@ fn linked_in_turn<'a>(
             subject,
             verifier,
             state,
-            j,
+            before,
             edge,
             parent,
             child,

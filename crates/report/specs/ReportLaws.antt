@@ -1,7 +1,8 @@
 -- The report, test by test, and its numbers read back. Assumes nothing.
 use Prim.Native.Nat.{ℕ, zero, suc, _+_, _*_, _/_, _%_, _≤_, _<_}
 use native.Mathlib.Omega.{arith}
-use mathlib.Core.Path.{_≡_, refl, sym, _∙_, ap}
+use mathlib.Core.Path.{_≡_, refl, sym, _∙_, ap, subst}
+use mathlib.Core.Logic.{⊎-elim}
 use mathlib.Core.Bool.{Bool, true, false, not, cond, _&&_, _||_}
 use mathlib.Core.List.{List, []}
 use borrow.Author.Tests.{eq-eqb, ne-eqb, lt-ltb, le-ltb, eqb-true, ltb-true, leb-true}
@@ -9,23 +10,29 @@ use lib.Dec.{eqb, ltb, leb}
 use lib.ListN.{length, getD}
 use Rattle.rt0.specs.Pool.{credentials, credentialAt, upTo}
 use Rattle.rt0.specs.Added.{length-upTo}
-use Rattle.rt0.specs.Lists.{and-parts, false-true}
+use Rattle.rt0.specs.Lists.{and-parts, or-cases}
+use Rattle.propagation.specs.Flags.{at}
 use Rattle.class.specs.declared.Name.{Name}
 use Rattle.class.specs.Names.{namesOf}
+use Rattle.expression.specs.declared.Expression.{Expression}
+use Rattle.expression.specs.declared.Expression.the-variants as E
 use Rattle.graph.specs.declared.Node.{Node}
+use Rattle.graph.specs.declared.Edge.{Edge}
 use Rattle.graph.specs.Graph.{nodesOf, edgesOf, nodeAt, edgeAt, nodeIn}
 use Rattle.graph.specs.Columns.{nodes-length, edges-length, node-in}
-use Rattle.graph.specs.Propagated.{stateOf}
+use Rattle.graph.specs.Form.{legalState}
+use Rattle.graph.specs.Propagated.{satisfiedB, failedB, completeB, stateOf}
 use Rattle.states.specs.Brings.{NodesFormed, EdgesFormed}
 use Rattle.tables.specs.declared.House.{House}
 use Rattle.tables.specs.Tables.{Tables, tablesOf}
 use Rattle.negotiation.specs.declared.Negotiation.{Negotiation}
 use Rattle.negotiation.specs.State.{State, within, stateOf as stateHeld}
 use Rattle.damage.specs.declared.Restored.{Restored}
-use Rattle.damage.specs.Damage.{sound, graphSound, recordsSound}
+use Rattle.damage.specs.Header.{endSound}
+use Rattle.damage.specs.Damage.{sound}
 use Rattle.damage.specs.Restored.{Standing, refusal, standing, restoreOf, standingOf}
 use Rattle.damage.specs.RestoredLaws.{Kept}
-use Rattle.damage.specs.DamageLaws.{within-counts, held-nodes, held-edges}
+use Rattle.damage.specs.DamageLaws.{within-counts, graph-parts, held-graph, held-legal}
 use Rattle.report.specs.Report.{Report, numbered, reportOn, Reported, refused, reported, behindNegotiation, reportOf, packed, unpacked, answerOf}
 
 -- The numbers
@@ -105,3 +112,55 @@ report-is G i l e q = q ∙ ap packed (λ t. record {
   shown = sym (length-upTo (G .shown .count) (credentialAt (G .shown))) t;
   messages = G .header .messages;
 })
+
+-- What a report's numbers are
+
+-- a legal state has two bits
+legal-few : (x : Expression) (s : ℕ) → legalState x s ≡ true → s < 4
+unfolding legalState
+legal-few (E.Entity a) s h = let z : s ≡ 3 = eqb-true s 3 h in omega arith
+legal-few (E.Role a) s h = ltb-true s 4 h
+legal-few (E.Linked a r) s h = ltb-true s 4 h
+legal-few (E.Intersection p) s h = ltb-true s 4 (and-parts (ltb 0 s) (ltb s 4) h .1)
+legal-few (E.Goal r) s h = ⊎-elim (λ a. let z : s ≡ 1 = eqb-true s 1 a in omega arith) (λ b. let z : s ≡ 3 = eqb-true s 3 b in omega arith) (or-cases (eqb s 1) (eqb s 3) h)
+
+-- a propagated state is 0, 1 or 2
+state-few : (ns : List Node) (es : List Edge) (i : ℕ) → stateOf ns es i < 4
+unfolding stateOf
+state-few ns es i = go (at (satisfiedB ns es) i || completeB ns es i) (at (failedB ns es) i)
+  where
+    go : (a b : Bool) → cond a 1 (cond b 2 0) < 4
+    go true b = omega arith
+    go false true = omega arith
+    go false false = omega arith
+
+-- an end is 0 to 4
+end-few : (p e i : ℕ) → endSound p e i ≡ true → e < 8
+unfolding endSound
+end-few p e i h = go (eqb p 1) (eqb p 2) h
+  where
+    is : (k j : ℕ) → k < 8 → (eqb e k && eqb i j) ≡ true → e < 8
+    is k j l t = let z : e ≡ k = eqb-true e k (and-parts (eqb e k) (eqb i j) t .0) in omega arith
+
+    go : (a b : Bool) → cond a (eqb e 1 && eqb i 0) (cond b (eqb e 2 && eqb i 0) (((eqb e 0 || eqb e 4) && ltb i 2) || (eqb e 3 && eqb i 1))) ≡ true → e < 8
+    go true b t = is 1 0 (omega arith) t
+    go false true t = is 2 0 (omega arith) t
+    go false false t =
+        ⊎-elim
+        (λ q. ⊎-elim (λ a. let z : e ≡ 0 = eqb-true e 0 a in omega arith) (λ a. let z : e ≡ 4 = eqb-true e 4 a in omega arith) (or-cases (eqb e 0) (eqb e 4) (and-parts (eqb e 0 || eqb e 4) (ltb i 2) q .0)))
+        (λ q. is 3 1 (omega arith) q)
+        (or-cases ((eqb e 0 || eqb e 4) && ltb i 2) (eqb e 3 && eqb i 1) t)
+
+-- the numbers of an accepted report are the state byte, the propagated state, the end and the counts of the records held
+pub report-numbers : (H : House) (G : Negotiation) → within (stateHeld G) ≡ true → sound (tablesOf H) (stateHeld G) ≡ true → (i : ℕ) → i < G .nodes .count → unpacked (packed (reportOn (stateHeld G) i)) ≡ reportOn (stateHeld G) i
+unfolding reportOn stateHeld credentials
+report-numbers H G w h i l =
+    let c = within-counts H G w in
+    let g = held-graph H G w h (omega arith) in
+    packed-back (reportOn (stateHeld G) i)
+    (subst (λ (n : Node). n .state < 4) (sym (node-in (G .nodes) i l)) (legal-few (nodeAt (G .nodes) i .expression) (nodeAt (G .nodes) i .state) (held-legal H G w h (omega arith) i l)))
+    (state-few (nodesOf (G .nodes)) (edgesOf (G .edges)) i)
+    (end-few (stateOf (nodesOf (G .nodes)) (edgesOf (G .edges)) 0) (G .header .end) (G .header .idle) (graph-parts _ _ g .4))
+    (omega (arith, nodes-length (G .nodes), c .0))
+    (omega (arith, edges-length (G .edges), c .1))
+    (omega (arith, length-upTo (G .shown .count) (credentialAt (G .shown)), c .2))
