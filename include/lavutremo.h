@@ -36,13 +36,15 @@
 #include <stdint.h>
 
 /* Why a call is refused. */
-#define LAVUTREMO_LENGTH 1u  /* a lent length outside the sizes */
-#define LAVUTREMO_COMMAND 2u /* an unknown or cut command, a missing end, bytes after the end */
-#define LAVUTREMO_OPERAND 3u /* an operand of wrong form */
-#define LAVUTREMO_NAME 4u    /* a name without class */
-#define LAVUTREMO_CLASS 5u   /* a class rule broken */
-#define LAVUTREMO_ORDER 6u   /* tables out of order, repeated, self missing, or a size passed */
-#define LAVUTREMO_OTHER 7u   /* at begin: the other end is zero or self */
+#define LAVUTREMO_LENGTH 1u   /* a lent length outside the sizes */
+#define LAVUTREMO_COMMAND 2u  /* an unknown or cut command, a missing end, bytes after the end */
+#define LAVUTREMO_OPERAND 3u  /* an operand of wrong form */
+#define LAVUTREMO_NAME 4u     /* a name without class */
+#define LAVUTREMO_CLASS 5u    /* a class rule broken */
+#define LAVUTREMO_ORDER 6u    /* tables out of order, repeated, self missing, or a size passed */
+#define LAVUTREMO_OTHER 7u    /* at begin: the other end is zero or self */
+#define LAVUTREMO_DAMAGED 20u /* the negotiation is damaged */
+#define LAVUTREMO_ABSENT 24u  /* no such node */
 
 /* Sizes in bytes. */
 #define LAVUTREMO_EXPRESSION_BYTES 18
@@ -51,6 +53,11 @@
 #define LAVUTREMO_MOST_CREDENTIALS_BYTES (LAVUTREMO_MOST_CREDENTIALS * LAVUTREMO_CREDENTIAL_BYTES + 1)
 #define LAVUTREMO_MOST_TABLES_BYTES 4096
 #define LAVUTREMO_NEGOTIATION_BYTES 5120
+
+/* Sizes of a negotiation in records. */
+#define LAVUTREMO_MOST_NODES 128
+#define LAVUTREMO_MOST_EDGES 256
+#define LAVUTREMO_MOST_SHOWN 64
 
 /* Sizes of tables in records. */
 #define LAVUTREMO_MOST_NAMES 64
@@ -109,6 +116,28 @@ uint64_t lavutremo_begin(const uint8_t *tables, size_t tables_len, uint8_t *nego
                          uint16_t other, uint16_t entity, uint16_t name);
 
 /*
+ * How does a negotiation stand, and one of its nodes?
+ *
+ * Reads
+ *   tables       as above
+ *   negotiation  5,120 bytes that a call left
+ *   node         the number of a node, from zero
+ *
+ * Writes nothing. It keeps no pointer and no state between calls, so threads may ask at the same time.
+ *
+ * Returns 256 times the value if the call is accepted; lavutremo_state and the accessors behind it take the value apart.
+ * A refused call returns its number alone, the first of these that applies:
+ *   LAVUTREMO_LENGTH   a length is outside the sizes,
+ *   LAVUTREMO_COMMAND, LAVUTREMO_OPERAND, LAVUTREMO_NAME, LAVUTREMO_CLASS, LAVUTREMO_ORDER   the tables, as above,
+ *   LAVUTREMO_DAMAGED  the bytes are not those of a sound negotiation of these tables' house,
+ *   LAVUTREMO_ABSENT   there is no such node.
+ *
+ * The buffers may have any content and any length. They may overlap.
+ */
+uint64_t lavutremo_report(const uint8_t *tables, size_t tables_len, const uint8_t *negotiation, size_t negotiation_len,
+                          uint8_t node);
+
+/*
  * Does "f from e" hold in RT0 over these credentials? Where e is an entity: is e a member of f?
  *
  * Reads
@@ -142,6 +171,46 @@ static inline unsigned lavutremo_number(uint64_t answer)
 static inline uint64_t lavutremo_value(uint64_t answer)
 {
     return answer >> 8;
+}
+
+/* The numbers of an accepted report. The node's state byte: bit 0 verifier-processed, bit 1 opponent-processed. */
+static inline unsigned lavutremo_state(uint64_t answer)
+{
+    return (unsigned)(answer >> 8 & 3u);
+}
+
+/* Its propagated state: 0 unknown or incomplete, 1 satisfied or complete, 2 failed. */
+static inline unsigned lavutremo_propagated(uint64_t answer)
+{
+    return (unsigned)(answer >> 10 & 3u);
+}
+
+/* The end: 0 none, 1 success, 2 failed, 3 stalled, 4 full. */
+static inline unsigned lavutremo_end(uint64_t answer)
+{
+    return (unsigned)(answer >> 12 & 7u);
+}
+
+/* How many nodes, edges and credentials shown there are. */
+static inline unsigned lavutremo_nodes(uint64_t answer)
+{
+    return (unsigned)(answer >> 15 & 255u);
+}
+
+static inline unsigned lavutremo_edges(uint64_t answer)
+{
+    return (unsigned)(answer >> 23 & 511u);
+}
+
+static inline unsigned lavutremo_shown(uint64_t answer)
+{
+    return (unsigned)(answer >> 32 & 127u);
+}
+
+/* How many messages were accepted and replies given together. */
+static inline unsigned lavutremo_messages(uint64_t answer)
+{
+    return (unsigned)(answer >> 39 & 2047u);
 }
 
 #ifdef __cplusplus

@@ -260,6 +260,88 @@ static void begins(void)
     expect_begin("self as the other end", LAVUTREMO_OTHER, tables_len, size, 2, 0, 0);
 }
 
+/* Asks for a report; no byte of the negotiation may change. */
+static uint64_t expect_report(const char *what, uint64_t expected, size_t tables_size, const uint8_t *negotiation,
+                              size_t size, uint8_t node)
+{
+    static uint8_t before[LAVUTREMO_NEGOTIATION_BYTES + 1];
+    memcpy(before, negotiation, size);
+    uint64_t answer = lavutremo_report(tables, tables_size, negotiation, size, node);
+    if (answer == expected && memcmp(negotiation, before, size) == 0) {
+        passed++;
+        return answer;
+    }
+    failed++;
+    printf("%s: answer %llu, expected %llu, or other bytes\n", what, (unsigned long long)answer,
+           (unsigned long long)expected);
+    return answer;
+}
+
+/* One node, the role 300.1 wanted of entity 3, in state 3: failed, after one message. */
+static void put_primary(uint8_t *negotiation)
+{
+    static const uint8_t node[22] = {2, 0, 300 >> 8, 300 & 255, 0, 1, [18] = 0, 3, 0, 3};
+    lavutremo_begin(tables, tables_len, negotiation, LAVUTREMO_NEGOTIATION_BYTES, 3, 300, 1);
+    memcpy(negotiation + 128, node, sizeof node);
+    negotiation[10] = 2;
+    negotiation[13] = 1;
+    negotiation[14] = 1;
+}
+
+static void reports(void)
+{
+    static uint8_t n[LAVUTREMO_NEGOTIATION_BYTES + 1];
+    const size_t size = LAVUTREMO_NEGOTIATION_BYTES;
+    put_house();
+    lavutremo_begin(tables, tables_len, n, size, 3, 300, 1);
+    expect_report("a fresh negotiation has no node", LAVUTREMO_ABSENT, tables_len, n, size, 0);
+    expect_report("5,119 bytes", LAVUTREMO_LENGTH, tables_len, n, size - 1, 0);
+    expect_report("5,121 bytes", LAVUTREMO_LENGTH, tables_len, n, size + 1, 0);
+    expect_report("tables of no bytes", LAVUTREMO_LENGTH, 0, n, size, 0);
+    expect_report("cut tables", LAVUTREMO_COMMAND, tables_len - 1, n, size, 0);
+    put_primary(n);
+    const uint64_t value = 3 | 2 << 2 | 2 << 4 | 1 << 7 | (uint64_t)1 << 31;
+    uint64_t answer = expect_report("a failed primary", value << 8, tables_len, n, size, 0);
+    if (lavutremo_state(answer) == 3 && lavutremo_propagated(answer) == 2 && lavutremo_end(answer) == 2 &&
+        lavutremo_nodes(answer) == 1 && lavutremo_edges(answer) == 0 && lavutremo_shown(answer) == 0 &&
+        lavutremo_messages(answer) == 1)
+        passed++;
+    else
+        failed++;
+    expect_report("node 1 is absent", LAVUTREMO_ABSENT, tables_len, n, size, 1);
+    expect_report("node 255 is absent", LAVUTREMO_ABSENT, tables_len, n, size, 255);
+    /* Each of these bytes, changed alone, damages it. */
+    static const struct {
+        const char *what;
+        size_t at;
+        uint8_t value;
+    } damage[] = {{"layout 2", 0, 2},
+                  {"a third side", 1, 2},
+                  {"another self", 3, 9},
+                  {"other end is self", 5, 2},
+                  {"another wanted role", 9, 2},
+                  {"no end, though failed", 10, 0},
+                  {"idle and failed", 11, 1},
+                  {"1,281 messages", 12, 5},
+                  {"no message", 13, 0},
+                  {"a node that is not there", 14, 2},
+                  {"an edge from nowhere", 16, 1},
+                  {"a credential of zeros", 17, 1},
+                  {"an unused byte", 18, 1},
+                  {"an entity for a role", 128, 1},
+                  {"another subject", 147, 4},
+                  {"another verifier", 148, 1},
+                  {"state 4", 149, 4},
+                  {"a byte behind the nodes", 150, 1},
+                  {"a byte behind the edges", 2944, 1},
+                  {"the last byte", 5119, 1}};
+    for (size_t i = 0; i < sizeof damage / sizeof damage[0]; i++) {
+        put_primary(n);
+        n[damage[i].at] = damage[i].value;
+        expect_report(damage[i].what, LAVUTREMO_DAMAGED, tables_len, n, size, 0);
+    }
+}
+
 int main(void)
 {
     lengths();
@@ -268,6 +350,7 @@ int main(void)
     table_records();
     table_sizes();
     begins();
+    reports();
     printf("%d passed, %d failed\n", passed, failed);
     return failed > 0;
 }
