@@ -9,7 +9,7 @@ ghost use Prim.Native.Nat.{_≤_};
 ghost use Rattle.class.specs.Names.{namesFrom, namesOf, Ascending};
 ghost use Rattle.damage.specs.Header.{wantedSound, headerSound, requester as requesterOf, entityOf, emptySound, countSound, endSound};
 
-const MEDIATOR: u8 = 0;
+pub const MEDIATOR: u8 = 0;
 
 const MESSAGES_MOST: u16 = 1027;
 

@@ -1,4 +1,5 @@
 // The nodes.
+use crate::header::MEDIATOR;
 use crate::header::requester;
 use class::Typing;
 use class::type_of;
@@ -17,8 +18,6 @@ ghost use Rattle.class.specs.Names.{namesFrom, namesOf, Ascending};
 ghost use Rattle.graph.specs.Graph.{nodesFrom, nodesOf, nodeAt};
 ghost use Rattle.justification.specs.InTurn.{inTurn};
 ghost use Rattle.damage.specs.Records.{isTyped, nodeSound, nodeFits, isRoleTarget, primarySound};
-
-const MEDIATOR: u8 = 0;
 
 // What find_node answers where there is none.
 const ABSENT: usize = 128;

@@ -1,4 +1,5 @@
 // Implication edges of kind 1.
+use crate::wide;
 use closure::readers;
 use expression::Expression;
 use graph::Edges;
@@ -23,12 +24,6 @@ ghost use Rattle.justification.specs.Justified.{impliedIf};
 ghost use Rattle.justification.specs.Implied.{impliedFrom, allFrom, allImplied, Children};
 
 const IMPLICATION: u8 = 1;
-
-fn wide(x: u8) -> usize
-    ensures { λ r. ⌜ r ≡ x ⌝ }
-{
-    x as usize
-}
 
 // The children of edges of kind 1.
 fn children<'a>(

@@ -1,4 +1,5 @@
 // Linking implication edges.
+use crate::wide;
 use expression::Expression;
 use expression::Role;
 use expression::same;
@@ -29,12 +30,6 @@ const LINKING_IMPLICATION: u8 = 4;
 const MONITOR: u8 = 2;
 
 const SOLUTION: u8 = 3;
-
-fn wide(x: u8) -> usize
-    ensures { λ r. ⌜ r ≡ x ⌝ }
-{
-    x as usize
-}
 
 // Whether y is B.r2, where x is A.r1.r2.
 fn is_solution_for(x: Expression, b: u16, y: Expression) -> bool
