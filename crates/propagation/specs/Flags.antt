@@ -214,26 +214,3 @@ pub flag-past : (l : List ℕ) (i : ℕ) → length l ≤ i → flag l i ≡ fal
 flag-past [] i h = refl
 flag-past (x ∷ l) zero h = absurd (omega arith)
 flag-past (x ∷ l) (suc i) h = flag-past l i (omega arith)
-
--- A loop that searches, and one that checks all
-
-pub anyTo-more : (n : ℕ) (f : ℕ → Bool) → anyTo n f ≡ false → f n ≡ false → anyTo (n + 1) f ≡ false
-anyTo-more n f h k = rw add-one (rw h k)
-
-pub found-at : {n : ℕ} (f : ℕ → Bool) (j : ℕ) {b : Bool} → j < n → b ≡ f j → b ≡ true → true ≡ anyTo n f
-found-at {n} f j l e h = sym (anyTo-here n f j l (sym e ∙ h))
-
-pub not-at : (f : ℕ → Bool) (j : ℕ) {b : Bool} → anyTo j f ≡ false → b ≡ f j → b ≡ false → anyTo (j + 1) f ≡ false
-not-at f j h e k = anyTo-more j f h (sym e ∙ k)
-
-pub nowhere : {n : ℕ} (f : ℕ → Bool) (j : ℕ) → j ≤ n → n ≤ j → anyTo j f ≡ false → false ≡ anyTo n f
-nowhere {n} f j a b h = let e : j ≡ n = omega arith in sym (sym (ap (λ (k : ℕ). anyTo k f) e) ∙ h)
-
-pub all-at : (f : ℕ → Bool) (j : ℕ) {b : Bool} → allTo j f ≡ true → b ≡ f j → b ≡ true → allTo (j + 1) f ≡ true
-all-at f j h e k = rw add-one (and-both (allTo j f) (f j) h (sym e ∙ k))
-
-pub fails-at : {n : ℕ} (f : ℕ → Bool) (j : ℕ) {b : Bool} → j < n → b ≡ f j → b ≡ false → false ≡ allTo n f
-fails-at {n} f j l e k = sym (not-of (allTo n f) (λ h. false-true (sym (sym e ∙ k) ∙ allTo-each n f h j l)))
-
-pub everywhere : {n : ℕ} (f : ℕ → Bool) (j : ℕ) → j ≤ n → n ≤ j → allTo j f ≡ true → true ≡ allTo n f
-everywhere {n} f j a b h = let e : j ≡ n = omega arith in sym (sym (ap (λ (k : ℕ). allTo k f) e) ∙ h)

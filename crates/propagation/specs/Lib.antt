@@ -7,5 +7,5 @@ pub mod Work
 pub mod WorkLaws
 pub mod Failed
 pub mod FailedLaws
-pub mod Flood
-pub mod FloodLaws
+pub mod Failing
+pub mod FailingLaws

@@ -1,0 +1,36 @@
+use Prim.Native.Nat.{_-_, _≤_}
+use native.Mathlib.Omega.{arith}
+use Rattle.rt0.specs.Lists.{false-true}
+use Rattle.propagation.specs.Satisfied.{graph}
+use Rattle.propagation.specs.Failing.{Failing}
+use Rattle.propagation.proofs.failing.fail_childless.Statement.{statement}
+use Rattle.propagation.proofs.failing.fail_childless.Tie as tie
+
+abbrev Inv-loop : tie.InvT-loop
+Inv-loop m from slot way left gone failed₀ queue₀ t₀ i₀ failed queue t i = (t ≤ 128) × Failing m (graph from slot way) failed left gone
+
+abbrev μ-loop : tie.MeasureT-loop
+μ-loop m from slot way left gone failed₀ queue₀ t₀ i₀ failed queue t i = 128 - i
+
+loop-holds : tie.Need-loop-holds Inv-loop μ-loop
+loop-holds c = (omega arith, c .pre)
+
+fail-node-requires : tie.Need-fail-node-requires Inv-loop μ-loop
+fail-node-requires c κs = (omega arith, c .before .before .before .loop .inv .0, (λ e. absurd (false-true e)), c .before .before .before .loop .inv .1)
+
+add-i : tie.Need-add-i Inv-loop μ-loop
+add-i c = omega arith
+
+loop-less : tie.Need-loop-less Inv-loop μ-loop
+loop-less c = omega arith
+
+loop-again : tie.Need-loop-again Inv-loop μ-loop
+loop-again c = c .fail-node .ensures
+
+returns : tie.Need-returns Inv-loop μ-loop
+returns c = c .before .loop .inv
+
+pub fail-childless-spec : {M : Type 1} → statement M
+fail-childless-spec =
+    tie.close
+    (tie.spec Inv-loop μ-loop loop-holds fail-node-requires add-i loop-less loop-again returns)

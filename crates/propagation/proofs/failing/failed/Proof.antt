@@ -1,0 +1,53 @@
+use Prim.Native.Nat.{_-_}
+use native.Mathlib.Omega.{arith}
+use Rattle.propagation.specs.Satisfied.{graph}
+use Rattle.propagation.specs.Flags.{cnt, flag}
+use Rattle.propagation.specs.Failed.{Sound}
+use Rattle.propagation.specs.FailedLaws.{round-sound, round-last, cnt-few}
+use Rattle.propagation.proofs.failing.failed.Statement.{statement}
+use Rattle.propagation.proofs.failing.failed.Tie as tie
+
+abbrev Inv-loop : tie.InvT-loop
+Inv-loop m from slot way failed₀ failed = Sound m (graph from slot way) failed
+
+abbrev μ-loop : tie.MeasureT-loop
+μ-loop m from slot way failed₀ failed = 128 - cnt 128 (flag failed)
+
+fail-by-queue-requires : tie.Need-fail-by-queue-requires Inv-loop μ-loop
+fail-by-queue-requires c κs = c .pre
+
+loop-holds : tie.Need-loop-holds Inv-loop μ-loop
+loop-holds c = c .fail-by-queue .ensures
+
+touched-requires : tie.Need-touched-requires Inv-loop μ-loop
+touched-requires c κs = (c .before .before .before .pre .0, c .before .before .before .pre .1, c .before .loop .inv .size)
+
+touched-requires-2 : tie.Need-touched-requires-2 Inv-loop μ-loop
+touched-requires-2 c κs = (c .before .before .before .before .before .pre .0, c .before .before .before .before .before .pre .1, c .before .before .before .loop .inv .size)
+
+swept-requires : tie.Need-swept-requires Inv-loop μ-loop
+swept-requires c κs = c .before .before .before .before .before .before .loop .inv .size
+
+loop-less : tie.Need-loop-less Inv-loop μ-loop
+loop-less c = omega (arith, c .before .before .before .swept .ensures .counted, cnt-few (c .before .before .before .swept .result .failed))
+
+loop-again : tie.Need-loop-again Inv-loop μ-loop
+loop-again c = round-sound _ (c .before .before .before .before .before .before .before .before .touched .ensures) (c .before .before .before .before .before .before .touched2 .ensures) (c .before .before .before .swept .ensures) (c .before .before .before .before .before .before .before .before .before .before .loop .inv)
+
+returns : tie.Need-returns Inv-loop μ-loop
+returns c = round-last _ (c .before .before .before .before .before .before .before .before .touched .ensures) (c .before .before .before .before .before .before .touched2 .ensures) (c .before .before .before .swept .ensures) (c .before .before .before .before .before .before .before .before .before .before .loop .inv) (c .if1 .taken)
+
+pub failed-spec : {M : Type 1} → statement M
+failed-spec =
+    tie.close
+    (tie.spec
+    Inv-loop
+    μ-loop
+    fail-by-queue-requires
+    loop-holds
+    touched-requires
+    touched-requires-2
+    swept-requires
+    loop-less
+    loop-again
+    returns)

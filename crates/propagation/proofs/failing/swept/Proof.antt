@@ -1,0 +1,72 @@
+use Prim.Native.Nat.{_-_}
+use native.Mathlib.Omega.{arith}
+use mathlib.Core.Logic.{⊎-elim}
+use Rattle.propagation.specs.Failed.{Swept}
+use Rattle.propagation.specs.FailedLaws.{sweep-start, sweep-add-at, sweep-skip-at, sweep-all, cnt-few}
+use Rattle.propagation.proofs.failing.swept.Statement.{statement}
+use Rattle.propagation.proofs.failing.swept.Tie as tie
+
+abbrev Inv-loop : tie.InvT-loop
+Inv-loop way alive hit next₀ added₀ i₀ next added i = Swept way alive hit next₀ i next added
+
+abbrev μ-loop : tie.MeasureT-loop
+μ-loop way alive hit next₀ added₀ i₀ next added i = 128 - i
+
+loop-holds : tie.Need-loop-holds Inv-loop μ-loop
+loop-holds c = sweep-start _ _ _ _ (c .pre)
+
+element-copy-out-fails-anew : tie.Need-element-copy-out-fails-anew Inv-loop μ-loop
+element-copy-out-fails-anew c = omega arith
+
+element-copy-out-fails-anew-2 : tie.Need-element-copy-out-fails-anew-2 Inv-loop μ-loop
+element-copy-out-fails-anew-2 c = omega arith
+
+element-copy-out-fails-anew-3 : tie.Need-element-copy-out-fails-anew-3 Inv-loop μ-loop
+element-copy-out-fails-anew-3 c = omega arith
+
+array-read-fails-anew : tie.Need-array-read-fails-anew Inv-loop μ-loop
+array-read-fails-anew c = omega arith
+
+fails-anew-requires : tie.Need-fails-anew-requires Inv-loop μ-loop
+fails-anew-requires c κs = tt
+
+array-write-next : tie.Need-array-write-next Inv-loop μ-loop
+array-write-next c = omega arith
+
+add-added : tie.Need-add-added Inv-loop μ-loop
+add-added c = omega (arith, c .before .before .before .before .before .before .loop .inv .counted, cnt-few (c .before .before .before .before .before .before .loop .next))
+
+add-i : tie.Need-add-i Inv-loop μ-loop
+add-i c = omega arith
+
+loop-less : tie.Need-loop-less Inv-loop μ-loop
+loop-less c = omega arith
+
+loop-again : tie.Need-loop-again Inv-loop μ-loop
+loop-again c =
+    let l = c .before .before .before .before .before .before .loop in
+    let t = c .before .fails-anew in
+    ⊎-elim (λ w. sweep-add-at _ _ _ _ (l .next) _ (l .i) (l .added) _ _ (omega arith) (t .ensures) (w .0 .taken) (w .1) (w .2) (l .inv))
+    (λ w. sweep-skip-at _ _ _ _ (l .next) _ (l .i) (l .added) _ _ (omega arith) (t .ensures) (w .0 .left) (w .1) (w .2) (l .inv)) (c .if1 .came)
+
+returns : tie.Need-returns Inv-loop μ-loop
+returns c = sweep-all _ _ _ _ _ _ _ (c .before .loop .inv .within) (c .loop-test .left) (c .before .loop .inv)
+
+pub swept-spec : {M : Type 1} → statement M
+swept-spec =
+    tie.close
+    (tie.spec
+    Inv-loop
+    μ-loop
+    loop-holds
+    element-copy-out-fails-anew
+    element-copy-out-fails-anew-2
+    element-copy-out-fails-anew-3
+    array-read-fails-anew
+    fails-anew-requires
+    array-write-next
+    add-added
+    add-i
+    loop-less
+    loop-again
+    returns)

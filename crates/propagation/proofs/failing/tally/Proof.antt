@@ -1,0 +1,81 @@
+use Prim.Native.Nat.{_-_, _/_, _≤_}
+use native.Mathlib.Omega.{arith}
+use mathlib.Core.Logic.{⊎-elim}
+use Rattle.propagation.specs.FailingLaws.{tally-start, tally-add, tally-skip, tally-all, tally-low}
+use Rattle.propagation.specs.Satisfied.{graph}
+use Rattle.propagation.specs.Failing.{Tallied}
+use Rattle.propagation.proofs.failing.tally.Statement.{statement}
+use Rattle.propagation.proofs.failing.tally.Tie as tie
+
+abbrev Inv-loop : tie.InvT-loop
+Inv-loop m from slot way left₀ j₀ left j = (j ≤ m) × Tallied j (graph from slot way) left
+
+abbrev μ-loop : tie.MeasureT-loop
+μ-loop m from slot way left₀ j₀ left j = m - j
+
+loop-holds : tie.Need-loop-holds Inv-loop μ-loop
+loop-holds c = (omega arith, tally-start _)
+
+mul-wide16 : tie.Need-mul-wide16 Inv-loop μ-loop
+mul-wide16 c = omega arith
+
+element-copy-out-wide16 : tie.Need-element-copy-out-wide16 Inv-loop μ-loop
+element-copy-out-wide16 c = omega arith
+
+wide16-requires : tie.Need-wide16-requires Inv-loop μ-loop
+wide16-requires c κs = tt
+
+element-copy-out-if1 : tie.Need-element-copy-out-if1 Inv-loop μ-loop
+element-copy-out-if1 c = omega arith
+
+mul-left : tie.Need-mul-left Inv-loop μ-loop
+mul-left c = omega arith
+
+array-read-left : tie.Need-array-read-left Inv-loop μ-loop
+array-read-left c = omega (arith, (c .before .before .wide16 .ensures), c .before .before .before .before .before .before .pre .1 (c .before .before .before .before .before .loop .j))
+
+add-left : tie.Need-add-left Inv-loop μ-loop
+add-left c = omega (arith, tally-low (c .before .before .before .before .before .loop .inv .1) (omega arith) (c .before .before .wide16 .result / 4) (omega (arith, (c .before .before .wide16 .ensures), c .before .before .before .before .before .before .pre .1 (c .before .before .before .before .before .loop .j))))
+
+array-write-left : tie.Need-array-write-left Inv-loop μ-loop
+array-write-left c = omega (arith, (c .before .before .wide16 .ensures), c .before .before .before .before .before .before .pre .1 (c .before .before .before .before .before .loop .j))
+
+add-j : tie.Need-add-j Inv-loop μ-loop
+add-j c = omega arith
+
+loop-less : tie.Need-loop-less Inv-loop μ-loop
+loop-less c = omega arith
+
+loop-again : tie.Need-loop-again Inv-loop μ-loop
+loop-again c =
+    let s = c .before .before .before .before .before .before in
+    let l = c .before .before .before .before .before .loop in
+    let p = c .before .before .wide16 in
+    let g = graph (s .args .from .now) (s .args .slot .now) (s .args .way .now) in (
+      omega arith,
+      ⊎-elim (λ w. tally-add (l .j) g (l .left) _ (p .result) (p .ensures) (s .pre .1 _) (w .0 .taken) (w .1) (l .inv .1))
+          (λ w. tally-skip (l .j) g (l .left) _ (w .0 .left) (w .1) (l .inv .1)) (c .if1 .came),
+    )
+
+returns : tie.Need-returns Inv-loop μ-loop
+returns c = tally-all _ _ _ _ (c .before .loop .inv .0) (c .loop-test .left) (c .before .loop .inv .1)
+
+pub tally-spec : {M : Type 1} → statement M
+tally-spec =
+    tie.close
+    (tie.spec
+    Inv-loop
+    μ-loop
+    loop-holds
+    mul-wide16
+    element-copy-out-wide16
+    wide16-requires
+    element-copy-out-if1
+    mul-left
+    array-read-left
+    add-left
+    array-write-left
+    add-j
+    loop-less
+    loop-again
+    returns)

@@ -1,0 +1,80 @@
+use Prim.Native.Nat.{_-_, _≤_}
+use native.Mathlib.Omega.{arith}
+use mathlib.Core.Logic.{⊎-elim}
+use Rattle.propagation.specs.Satisfied.{graph}
+use Rattle.propagation.specs.Failed.{Touched}
+use Rattle.propagation.specs.FailedLaws.{touch-start, touch-add-at, touch-skip-at, touch-all}
+use Rattle.propagation.proofs.failing.touched.Statement.{statement}
+use Rattle.propagation.proofs.failing.touched.Tie as tie
+
+abbrev Inv-loop : tie.InvT-loop
+Inv-loop m from slot way failed on r₀ j₀ r j = (j ≤ m) × Touched j (graph from slot way) failed on r
+
+abbrev μ-loop : tie.MeasureT-loop
+μ-loop m from slot way failed on r₀ j₀ r j = m - j
+
+loop-holds : tie.Need-loop-holds Inv-loop μ-loop
+loop-holds c = (omega arith, touch-start _ _ _)
+
+mul-wide16 : tie.Need-mul-wide16 Inv-loop μ-loop
+mul-wide16 c = omega arith
+
+element-copy-out-wide16 : tie.Need-element-copy-out-wide16 Inv-loop μ-loop
+element-copy-out-wide16 c = omega arith
+
+wide16-requires : tie.Need-wide16-requires Inv-loop μ-loop
+wide16-requires c κs = tt
+
+element-copy-out-wide : tie.Need-element-copy-out-wide Inv-loop μ-loop
+element-copy-out-wide c = omega arith
+
+wide-requires : tie.Need-wide-requires Inv-loop μ-loop
+wide-requires c κs = tt
+
+is-at-requires : tie.Need-is-at-requires Inv-loop μ-loop
+is-at-requires c κs = c .before .before .before .before .before .before .pre .2
+
+array-write-r : tie.Need-array-write-r Inv-loop μ-loop
+array-write-r c = omega (arith, c .before .before .before .before .wide16 .ensures, c .before .before .before .before .before .before .before .before .pre .1 (c .before .before .before .before .before .before .before .loop .j))
+
+add-j : tie.Need-add-j Inv-loop μ-loop
+add-j c = omega arith
+
+loop-less : tie.Need-loop-less Inv-loop μ-loop
+loop-less c = omega arith
+
+loop-again : tie.Need-loop-again Inv-loop μ-loop
+loop-again c =
+    let s = c .before .before .before .before .before .before .before .before in
+    let l = c .before .before .before .before .before .before .before .loop in
+    let p = c .before .before .before .before .wide16 in
+    let f = c .before .before .wide in
+    let t = c .before .is-at in
+    let g = graph (s .args .from .now) (s .args .slot .now) (s .args .way .now) in (
+      omega arith,
+      ⊎-elim
+          (λ w. touch-add-at (l .j) g (s .args .failed .now) (s .args .on) _ _ (p .result) (f .result) _ (p .ensures) (s .pre .1 _) (f .ensures .0) (t .ensures) (w .0 .taken) (w .1) (l .inv .1))
+          (λ w. touch-skip-at (l .j) g (s .args .failed .now) (s .args .on) _ _ (f .result) _ (f .ensures .0) (t .ensures) (w .0 .left) (w .1) (l .inv .1)) (c .if1 .came),
+    )
+
+returns : tie.Need-returns Inv-loop μ-loop
+returns c = touch-all _ _ _ _ _ _ (c .before .loop .inv .0) (c .loop-test .left) (c .before .loop .inv .1)
+
+pub touched-spec : {M : Type 1} → statement M
+touched-spec =
+    tie.close
+    (tie.spec
+    Inv-loop
+    μ-loop
+    loop-holds
+    mul-wide16
+    element-copy-out-wide16
+    wide16-requires
+    element-copy-out-wide
+    wide-requires
+    is-at-requires
+    array-write-r
+    add-j
+    loop-less
+    loop-again
+    returns)

@@ -1,0 +1,49 @@
+use Prim.Native.Nat.{_-_, _≤_}
+use native.Mathlib.Omega.{arith}
+use Rattle.propagation.specs.Satisfied.{graph}
+use Rattle.propagation.specs.Work.{work, Done}
+use Rattle.propagation.specs.Chains.{Chained, chain-start}
+use Rattle.propagation.specs.WorkLaws.{start, settled-at}
+use Rattle.propagation.proofs.satisfying.satisfied.Statement.{statement}
+use Rattle.propagation.proofs.satisfying.satisfied.Tie as tie
+
+abbrev Inv-loop : tie.InvT-loop
+Inv-loop m from slot need head₀ next₀ got₀ sat₀ queue₀ t₀ j₀ head next got sat queue t j = (j ≤ m) × Chained j from head next × Done j (graph from slot need) (work got sat queue t) t
+
+abbrev μ-loop : tie.MeasureT-loop
+μ-loop m from slot need head₀ next₀ got₀ sat₀ queue₀ t₀ j₀ head next got sat queue t j = m - j
+
+seed-requires : tie.Need-seed-requires Inv-loop μ-loop
+seed-requires c κs = start _ (c .before .before .before .pre .1)
+
+loop-holds : tie.Need-loop-holds Inv-loop μ-loop
+loop-holds c = (omega arith, chain-start _, c .seed .ensures)
+
+insert-requires : tie.Need-insert-requires Inv-loop μ-loop
+insert-requires c κs = (omega (arith, c .before .before .before .before .before .before .before .before .before .before .before .pre .0), c .before .before .before .before .before .before .loop .inv .1, c .before .before .before .before .before .before .loop .inv .2)
+
+add-j : tie.Need-add-j Inv-loop μ-loop
+add-j c = omega arith
+
+loop-less : tie.Need-loop-less Inv-loop μ-loop
+loop-less c = omega arith
+
+loop-again : tie.Need-loop-again Inv-loop μ-loop
+loop-again c = (omega arith, c .insert .ensures .0, c .insert .ensures .1)
+
+returns : tie.Need-returns Inv-loop μ-loop
+returns c = settled-at (c .before .loop .inv .0) (c .loop-test .left) (c .before .loop .inv .2)
+
+pub satisfied-spec : {M : Type 1} → statement M
+satisfied-spec =
+    tie.close
+    (tie.spec
+    Inv-loop
+    μ-loop
+    seed-requires
+    loop-holds
+    insert-requires
+    add-j
+    loop-less
+    loop-again
+    returns)
