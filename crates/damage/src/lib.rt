@@ -31,6 +31,9 @@ mod nodes;
 mod shown;
 
 pub use found::restore;
+pub use header::entity_of;
+pub use header::requester;
+pub use shown::is_shown;
 
 // The tables and the negotiation of a call, where the refusal is 0; else they do not count.
 pub struct Restored {

@@ -7,6 +7,7 @@ mod linked;
 pub use implied::edges_implied;
 pub use linked::is_monitored;
 pub use linked::links_justified;
+pub use linked::monitors_at;
 
 fn wide(x: u8) -> usize
     ensures { λ r. ⌜ r ≡ x ⌝ }

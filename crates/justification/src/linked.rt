@@ -153,7 +153,7 @@ fn is_solved<'a>(
 }
 
 // Whether edge j brings node p a goal with a satisfied solution for x and B.
-fn monitors_at<'a>(
+pub fn monitors_at<'a>(
     n: usize,
     kind: &'a [u8; 128],
     parts: &'a [u8; 128],

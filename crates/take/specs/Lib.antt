@@ -1,0 +1,5 @@
+pub mod Limits
+pub mod Step
+pub mod StepLaws
+pub mod Legal
+pub mod LegalLaws
