@@ -83,8 +83,7 @@ endNumber S = refuse (isFresh S) 23 0
 unfoldable pub joinWrong : State → Edge → Bool
 joinWrong S e =
     not (formedAs (S .header) (e .kind) (nodeIn (S .nodes) (e .parent)) (nodeIn (S .nodes) (e .child)))
-    || eqb (e .parent) (e .child)
-    || hasEdge (S .edges) e
+    || (eqb (e .parent) (e .child) || hasEdge (S .edges) e)
 
 -- "Kind 1 is justified when parent from child holds over the credentials shown; kind 4 as in section 4.2; the others always"
 unfoldable pub justifiedBy : ℕ → Bool → Bool → Bool

@@ -4,17 +4,19 @@ use native.Mathlib.Omega.{arith}
 use mathlib.Core.Path.{_≡_, refl, sym, _∙_, ap}
 use mathlib.Core.Bool.{Bool, true, false, not, cond, _&&_, _||_}
 use mathlib.Core.List.{List}
-use borrow.Author.Tests.{eq-eqb, ne-eqb, le-leb, lt-leb}
+use borrow.Author.Tests.{eq-eqb, ne-eqb, le-leb, lt-leb, leb-true}
 use lib.Dec.{eqb, leb}
 use lib.ListN.{length}
+use Rattle.expression.specs.Laws.{and-left, and-right}
 use Rattle.rt0.specs.Pool.{credentials}
 use Rattle.rt0.specs.Added.{count-length}
-use Rattle.graph.specs.declared.Node.{Node}
-use Rattle.graph.specs.Graph.{nodesOf, edgesOf, nodeIn}
+use Rattle.class.specs.declared.Name.{Name}
+use Rattle.graph.specs.Graph.{nodesOf, edgesOf}
 use Rattle.graph.specs.Columns.{nodes-length, edges-length}
+use Rattle.message.specs.declared.Command.{Command}
 use Rattle.negotiation.specs.declared.Negotiation.{Negotiation}
-use Rattle.negotiation.specs.State.{State, stateOf}
-use Rattle.take.specs.Legal.{refuse, first, isFresh, isAbsent, justifiedBy}
+use Rattle.negotiation.specs.State.{State, stateOf, within}
+use Rattle.take.specs.Legal.{refuse, first, isFresh, isAbsent, justifiedBy, legalNumber}
 
 module _ (b : Bool) (k rest : ℕ) where
   -- the test holds
@@ -90,3 +92,20 @@ module _ (k : ℕ) (i m : Bool) where
   pub by-kind : (k ≡ 1 → ⊥) → (k ≡ 4 → ⊥) → true ≡ justifiedBy k i m
   unfolding justifiedBy
   by-kind h g = sym (λ t. (not (ne-eqb k 1 h t) || i) && (not (ne-eqb k 4 g t) || m))
+
+-- One of the commands
+
+-- the counts within the sizes
+pub within-few : (n : Negotiation) → within (stateOf n) ≡ true → (n .nodes .count ≤ 128) × (n .edges .count ≤ 256) × (n .shown .count ≤ 64)
+unfolding within stateOf
+within-few n h =
+    let a : Bool = leb (length (nodesOf (n .nodes))) 128 in
+    let b : Bool = leb (length (edgesOf (n .edges))) 256 in
+    let d : Bool = leb (length (credentials (n .shown))) 64 in (
+      omega (arith, nodes-length (n .nodes), leb-true (length (nodesOf (n .nodes))) 128 (and-left a b (and-left (a && b) d h))),
+      omega (arith, edges-length (n .edges), leb-true (length (edgesOf (n .edges))) 256 (and-right a b (and-left (a && b) d h))),
+      omega (arith, count-length (n .shown), leb-true (length (credentials (n .shown))) 64 (and-right (a && b) d h)),
+    )
+
+pub legal-for : (ns : List Name) (s : ℕ) (S : State) (c k : Command) {r : ℕ} → c ≡ k → r ≡ legalNumber ns s S k → r ≡ legalNumber ns s S c
+legal-for ns s S c k h e = e ∙ ap (legalNumber ns s S) (sym h)

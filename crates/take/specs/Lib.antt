@@ -3,3 +3,4 @@ pub mod Step
 pub mod StepLaws
 pub mod Legal
 pub mod LegalLaws
+pub mod EdgeLaws
