@@ -4,3 +4,5 @@ pub mod StepLaws
 pub mod Legal
 pub mod LegalLaws
 pub mod EdgeLaws
+pub mod Growth
+pub mod Kept
