@@ -7,7 +7,7 @@ use mathlib.Core.Bool.{Bool, true, false, not, cond, _&&_, _||_}
 use mathlib.Core.List.{List, [], _∷_, _++_, append-assoc, append-nil, List·Memᴰ, List·Memᴰ·head, List·Memᴰ·tail, List·Memᴰ·not-nil, List·Memᴰ·cases-cons, List·Memᴰ·append-cases, List·Memᴰ·eq-of-singleton}
 use borrow.Author.Tests.{lt-ltb, ltb-true, eqb-true}
 use lib.Dec.{eqb, ltb, leb}
-use lib.ListN.{length}
+use lib.ListN.{length, getD}
 use Rattle.expression.specs.declared.Credential.{Credential}
 use Rattle.expression.specs.declared.Expression.{Expression}
 use Rattle.rt0.specs.Lists.{and-parts, and-both, or-cases, or-left, or-right, any, any-find, any-here}
@@ -58,6 +58,13 @@ module _ {A : Type 0} where
       let here : P x = e x (List·Memᴰ·head refl) in
       and-both (u before x) (inTurn u (before ++ (x ∷ [])) xs) (f before x b here (p .0))
       (turn-more P t u f (before ++ (x ∷ [])) xs (each-more P before x b here) (λ y m. e y (List·Memᴰ·tail m)) (p .1))
+
+  -- each element passes behind some others
+  pub turn-at : (t : List A → A → Bool) (d : A) (before xs : List A) → inTurn t before xs ≡ true → (i : ℕ) → i < length xs → (b : List A) × (t b (getD xs i d) ≡ true)
+  unfolding inTurn
+  turn-at t d before [] h i l = absurd (omega arith)
+  turn-at t d before (x ∷ xs) h zero l = (before, and-parts (t before x) (inTurn t (before ++ (x ∷ [])) xs) h .0)
+  turn-at t d before (x ∷ xs) h (suc i) l = turn-at t d (before ++ (x ∷ [])) xs (and-parts (t before x) (inTurn t (before ++ (x ∷ [])) xs) h .1) i (omega arith)
 
 -- Edges join nodes
 
@@ -177,3 +184,14 @@ module _ {ns ns′ : List Node} {es : List Edge} (g : Grown ns es ns′ es) wher
   justified-stays shown e l k =
       let p = and-parts (impliedIf shown ns e) (monitoredIf ns es e) k in
       and-both (impliedIf shown ns′ e) (monitoredIf ns′ es e) (implied-stays g shown e l (p .0)) (monitored-if-stays e l (p .1))
+
+-- nodes grow behind each list of edges that join them
+module _ {ns ns′ : List Node} (grow : (b : List Edge) → Each (Ends (length ns)) b → Grown ns b ns′ b) (es : List Edge) (ends : Each (Ends (length ns)) es) where
+  none : Each (Ends (length ns)) []
+  none e m = absurd (List·Memᴰ·not-nil m)
+
+  pub all-fit : (h : Header) → inTurn (edgeFits h ns) [] es ≡ true → inTurn (edgeFits h ns′) [] es ≡ true
+  all-fit h = turn-more (Ends (length ns)) (edgeFits h ns) (edgeFits h ns′) (λ b e u v k. fits-stays (grow b u) h b e v k) [] es none ends
+
+  pub all-justified : (shown : List Credential) → inTurn (justified shown ns) [] es ≡ true → inTurn (justified shown ns′) [] es ≡ true
+  all-justified shown = turn-more (Ends (length ns)) (justified shown ns) (justified shown ns′) (λ b e u v k. justified-stays (grow b u) shown e v k) [] es none ends

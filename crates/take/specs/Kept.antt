@@ -7,7 +7,7 @@ use mathlib.Core.Bool.{Bool, true, false, not, cond, _&&_, _||_}
 use mathlib.Core.List.{List, [], _∷_, _++_, List·Memᴰ, List·Memᴰ·not-nil}
 use borrow.Author.Tests.{lt-ltb, le-leb, ne-eqb, eq-eqb, ltb-true, eqb-true, eqb-false, leb-false, not-true, not-false}
 use lib.Dec.{eqb, ltb, leb}
-use lib.ListN.{length}
+use lib.ListN.{length, set, length-set}
 use Rattle.expression.specs.declared.Credential.{Credential}
 use Rattle.expression.specs.Credential.{wellFormedCredential}
 use Rattle.rt0.specs.Lists.{false-true, and-parts, and-both, or-cases, or-left, or-right}
@@ -17,9 +17,11 @@ use Rattle.class.specs.Typing.{credentialNumber}
 use Rattle.propagation.specs.Flags.{decided}
 use Rattle.graph.specs.declared.Node.{Node}
 use Rattle.graph.specs.declared.Edge.{Edge}
-use Rattle.graph.specs.Graph.{nodeIn}
-use Rattle.graph.specs.Form.{form}
+use Rattle.graph.specs.Graph.{nodeIn, blank, inState}
+use Rattle.graph.specs.Form.{form, legalState}
 use Rattle.graph.specs.Find.{hasEdge}
+use Rattle.graph.specs.StatesLaws.{Grown}
+use Rattle.graph.specs.Steps.{grown-mark}
 use Rattle.justification.specs.InTurn.{inTurn}
 use Rattle.justification.specs.Justified.{implied, impliedIf, monitoredIf, justified}
 use Rattle.message.specs.declared.Command.{Command}
@@ -32,10 +34,12 @@ use Rattle.damage.specs.Records.{nodeFits, primarySound, credentialSound, crede
 use Rattle.damage.specs.Edges.{nextBrought, broughtFrom, brought, placed, formed, edgeFits, allBrought}
 use Rattle.damage.specs.EdgesLaws.{brought-more}
 use Rattle.damage.specs.Damage.{recordsSound, edgesJustified}
+use Rattle.damage.specs.DamageLaws.{sound-legal, fits-sound}
 use Rattle.take.specs.Limits.{nodesMost, edgesMost, shownMost}
-use Rattle.take.specs.Step.{processedBy, stepped}
-use Rattle.take.specs.Legal.{refuse, first, isFresh, isAbsent, formedAs, showNumber, joinWrong, joinJustified, joinNumber, legalNumber}
-use Rattle.take.specs.Growth.{Each, Ends, turn-last, turn-more, edges-ends}
+use Rattle.take.specs.Step.{markedState, stepped}
+use Rattle.take.specs.Legal.{refuse, first, isFresh, isAbsent, formedAs, showNumber, joinWrong, joinJustified, joinNumber, markNumber, legalNumber}
+use Rattle.take.specs.Growth.{Each, Ends, turn-last, turn-more, turn-at, edges-ends, all-fit, all-justified}
+use Rattle.take.specs.Marked.{marked-legal, marked-gains, turn-marked}
 
 -- the graph of a negotiation that is not damaged, whatever its count and end
 pub record GraphKept (ns : List Name) (S : State) : Type 0 where
@@ -99,9 +103,6 @@ module _ (h : Header) (xs : List Node) (es : List Edge) where
   all-ends : allBrought h xs es ≡ true → (length xs ≡ 0 → ⊥) → Each (Ends (length xs)) es
   unfolding brought broughtFrom
   all-ends k some = edges-ends h xs [] es (omega (arith, some)) (brought-parts k .0)
-
-none : {A : Type 0} (P : A → Type 0) → Each P []
-none P x m = absurd (List·Memᴰ·not-nil m)
 
 -- 0x01
 
@@ -175,4 +176,29 @@ module _ (ns : List Name) (s : ℕ) (S : State) (e : Edge) where
         edges = brought-of (S .header) (S .nodes) (S .edges ++ (e ∷ [])) (turn-last (edgeFits (S .header) (S .nodes)) [] (S .edges) e (q .0) fits)
             (brought-more 1 (S .edges) e ∙ ap (λ (t : Bool). cond t (suc b) b) (ne-eqb (e .child) b (λ z. omega (arith, p .1, q .1))) ∙ q .1);
         justified = turn-last (justified (S .shown) (S .nodes)) [] (S .edges) e (g .justified) (p .5);
+      }
+
+-- 0x05
+
+module _ (ns : List Name) (s : ℕ) (S : State) (i : ℕ) where
+  mark-present : legalNumber ns s S (Mark i) ≡ 0 → i < length (S .nodes)
+  unfolding legalNumber markNumber
+  mark-present l = present S i (refuse-none (isAbsent S i) 24 _ (omega arith) (refuse-none (isFresh S) 23 _ (omega arith) l .1) .0)
+
+  pub mark-kept : GraphKept ns S → (length (S .nodes) ≡ 0 → ⊥) → legalNumber ns s S (Mark i) ≡ 0 → GraphKept ns (stepped S s (Mark i))
+  unfolding stepped withMark edgesJustified primarySound
+  mark-kept g some l =
+      let n : Node = nodeIn (S .nodes) i in
+      let t : ℕ = markedState s n in
+      let p = record-parts ns S (g .records) in
+      let q = brought-parts (S .header) (S .nodes) (S .edges) (g .edges) in
+      let at-node = turn-at (nodeFits ns) blank [] (S .nodes) (p .0) i (mark-present l) in
+      let legal : legalState (n .expression) (n .state) ≡ true = sound-legal ns n (fits-sound ns (at-node .0) n (at-node .1)) in
+      let grow : (b : List Edge) → Each (Ends (length (S .nodes))) b → Grown (S .nodes) b (set (S .nodes) i (inState t n)) b = λ b u. grown-mark (S .nodes) b (λ e m. u e m .1) i t (marked-gains s n legal) in
+      let ends = all-ends (S .header) (S .nodes) (S .edges) (g .edges) some in
+      record {
+        records = records-of ns (withMark S i t) (turn-marked ns [] [] (S .nodes) i t (λ x v u. refl) (marked-legal s n legal) (p .0))
+            (ap (primarySound (S .header)) (grow [] (λ e m. absurd (List·Memᴰ·not-nil m)) .same 0 (omega (arith, some))) ∙ p .1) (p .2);
+        edges = brought-of (S .header) (set (S .nodes) i (inState t n)) (S .edges) (all-fit grow (S .edges) ends (S .header) (q .0)) (q .1 ∙ sym (length-set (S .nodes) i (inState t n)));
+        justified = all-justified grow (S .edges) ends (S .shown) (g .justified);
       }

@@ -5,4 +5,5 @@ pub mod Legal
 pub mod LegalLaws
 pub mod EdgeLaws
 pub mod Growth
+pub mod Marked
 pub mod Kept
