@@ -5,7 +5,7 @@ use mathlib.Core.Path.{_≡_, refl, sym, _∙_, ap, subst}
 use mathlib.Core.Logic.{⊎-elim}
 use mathlib.Core.Bool.{Bool, true, false, not, cond, _&&_, _||_}
 use mathlib.Core.List.{List, [], _∷_, _++_, append-assoc, append-nil, List·Memᴰ, List·Memᴰ·head, List·Memᴰ·tail, List·Memᴰ·not-nil, List·Memᴰ·cases-cons, List·Memᴰ·append-cases, List·Memᴰ·eq-of-singleton}
-use borrow.Author.Tests.{lt-ltb, ltb-true, eqb-true}
+use borrow.Author.Tests.{lt-ltb, le-leb, ltb-true, eqb-true}
 use lib.Dec.{eqb, ltb, leb}
 use lib.ListN.{length, getD}
 use Rattle.expression.specs.declared.Credential.{Credential}
@@ -15,7 +15,7 @@ use Rattle.rt0.specs.Decide.{from? as fromOf}
 use Rattle.propagation.specs.Flags.{at}
 use Rattle.graph.specs.declared.Node.{Node}
 use Rattle.graph.specs.declared.Edge.{Edge}
-use Rattle.graph.specs.Graph.{nodeIn, inState}
+use Rattle.graph.specs.Graph.{nodeIn}
 use Rattle.graph.specs.Form.{form}
 use Rattle.graph.specs.Find.{hasEdge}
 use Rattle.graph.specs.States.{solutionKind}
@@ -26,7 +26,7 @@ use Rattle.justification.specs.InTurn.{inTurn}
 use Rattle.justification.specs.Justified.{monitorKind, isSolutionFor, solves, solved, monitors, monitored, implied, impliedIf, monitoredIf, justified}
 use Rattle.negotiation.specs.declared.Header.{Header}
 use Rattle.damage.specs.Header.{entityOf}
-use Rattle.damage.specs.Edges.{nextBrought, broughtFrom, brought, placed, formed, edgeFits}
+use Rattle.damage.specs.Edges.{brought, placed, formed, edgeFits}
 use Rattle.damage.specs.EdgesLaws.{placed-inside, brought-more}
 
 -- Elements in turn
@@ -78,6 +78,16 @@ module _ (h : Header) (ns : List Node) where
       let p = and-parts (placed (length ns) (brought before) e && formed h ns e) (not (hasEdge before e)) k in
       let q = and-parts (placed (length ns) (brought before) e) (formed h ns e) (p .0) in
       (q .0, q .1, p .1)
+
+  pub fits-of : (before : List Edge) (e : Edge) → e .parent < brought before → e .child ≤ brought before → e .child < length ns → eqb (e .parent) (e .child) ≡ false → formed h ns e ≡ true → hasEdge before e ≡ false
+      → edgeFits h ns before e ≡ true
+  unfolding edgeFits placed
+  fits-of before e p c i d f x =
+      let b : ℕ = brought before in
+      and-both (placed (length ns) b e && formed h ns e) (not (hasEdge before e))
+      (and-both (placed (length ns) b e) (formed h ns e)
+      (and-both (ltb (e .parent) b && leb (e .child) b && ltb (e .child) (length ns)) (not (eqb (e .parent) (e .child)))
+      (and-both (ltb (e .parent) b && leb (e .child) b) (ltb (e .child) (length ns)) (and-both (ltb (e .parent) b) (leb (e .child) b) (lt-ltb (e .parent) b p) (le-leb (e .child) b c)) (lt-ltb (e .child) (length ns) i)) (ap not d)) f) (ap not x)
 
   -- no more nodes are brought than stand
   brought-few : (before : List Edge) (e : Edge) → brought before ≤ length ns → e .child < length ns → brought (before ++ (e ∷ [])) ≤ length ns

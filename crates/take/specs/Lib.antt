@@ -7,3 +7,5 @@ pub mod EdgeLaws
 pub mod Growth
 pub mod Marked
 pub mod Kept
+pub mod KeptBring
+pub mod KeptStep
