@@ -4,6 +4,8 @@ pub mod StepLaws
 pub mod Legal
 pub mod LegalLaws
 pub mod EdgeLaws
+pub mod RoomLaws
+pub mod NewChild
 pub mod Growth
 pub mod Marked
 pub mod Kept
