@@ -33,7 +33,7 @@ use Rattle.damage.specs.EdgesLaws.{brought-more}
 use Rattle.damage.specs.Damage.{recordsSound, edgesJustified}
 use Rattle.damage.specs.DamageLaws.{sound-legal, fits-sound}
 use Rattle.take.specs.Step.{markedState, stepped}
-use Rattle.take.specs.Legal.{refuse, first, isFresh, isAbsent, formedAs, showNumber, joinWrong, joinJustified, joinNumber, markNumber, legalNumber}
+use Rattle.take.specs.Legal.{refuse, first, isFresh, isAbsent, formedAs, showNumber, joinWrong, joinNumber, markNumber, legalNumber}
 use Rattle.take.specs.Growth.{Each, Ends, turn-last, turn-more, turn-at, fits-of, edges-ends, all-fit, all-justified}
 use Rattle.take.specs.Marked.{marked-legal, marked-gains, turn-marked}
 
@@ -138,17 +138,17 @@ module _ (ns : List Name) (s : ℕ) (S : State) (e : Edge) where
   -- what a legal edge between old nodes has
   join-parts : legalNumber ns s S (Join e) ≡ 0
       → (e .parent < length (S .nodes)) × (e .child < length (S .nodes)) × (formed (S .header) (S .nodes) e ≡ true) × (eqb (e .parent) (e .child) ≡ false) × (hasEdge (S .edges) e ≡ false) × (justified (S .shown) (S .nodes) (S .edges) e ≡ true)
-  unfolding legalNumber joinNumber joinWrong joinJustified formed formedAs
+  unfolding legalNumber joinNumber joinWrong formed formedAs
   join-parts l =
       let a = refuse-none (isFresh S) 23 _ (omega arith) l in
-      let b = refuse-none (isAbsent S (e .parent) || isAbsent S (e .child)) 24 _ (omega arith) (a .1) in
-      let c = refuse-none (joinWrong S e) 25 _ (omega arith) (b .1) in
-      let d = refuse-none (not (joinJustified S e)) 26 _ (omega arith) (c .1) in
-      let x = or-false (isAbsent S (e .parent)) (isAbsent S (e .child)) (b .0) in
+      let b = refuse-none (isAbsent S (e .parent)) 24 _ (omega arith) (a .1) in
+      let k = refuse-none (isAbsent S (e .child)) 24 _ (omega arith) (b .1) in
+      let c = refuse-none (joinWrong S e) 25 _ (omega arith) (k .1) in
+      let d = refuse-none (not (justified (S .shown) (S .nodes) (S .edges) e)) 26 _ (omega arith) (c .1) in
       let f : Bool = formedAs (S .header) (e .kind) (nodeIn (S .nodes) (e .parent)) (nodeIn (S .nodes) (e .child)) in
-      let y = or-false (not f || eqb (e .parent) (e .child)) (hasEdge (S .edges) e) (c .0) in
-      let z = or-false (not f) (eqb (e .parent) (e .child)) (y .0) in
-      (present S (e .parent) (x .0), present S (e .child) (x .1), not-false f (z .0), z .1, y .1, not-false (joinJustified S e) (d .0))
+      let y = or-false (not f) (eqb (e .parent) (e .child) || hasEdge (S .edges) e) (c .0) in
+      let z = or-false (eqb (e .parent) (e .child)) (hasEdge (S .edges) e) (y .1) in
+      (present S (e .parent) (b .0), present S (e .child) (k .0), not-false f (y .0), z .0, z .1, not-false (justified (S .shown) (S .nodes) (S .edges) e) (d .0))
 
   pub join-kept : GraphKept ns S → legalNumber ns s S (Join e) ≡ 0 → GraphKept ns (stepped S s (Join e))
   unfolding stepped withEdge edgesJustified brought

@@ -2,14 +2,16 @@
 use Prim.Native.Nat.{ℕ, suc, _<_}
 use native.Mathlib.Omega.{arith}
 use mathlib.Core.Path.{_≡_, refl, sym, _∙_, ap}
+use mathlib.Core.Logic.{⊎-elim}
 use mathlib.Core.Bool.{Bool, true, false, not, cond, _&&_}
 use mathlib.Core.List.{List, [], _∷_, _++_}
-use borrow.Author.Tests.{lt-ltb, ne-eqb, eq-eqb, ltb-true, eqb-true, not-false}
-use lib.Dec.{eqb, ltb}
+use borrow.Author.Tests.{lt-ltb, ne-eqb, eq-eqb, ltb-true, leb-false, eqb-true, not-false}
+use lib.Dec.{eqb, ltb, leb}
 use lib.ListN.{length, length-append, List·getD-append}
 use lib.Seq.{getD-append-seam}
+use Rattle.expression.specs.declared.Expression.{Expression}
 use Rattle.expression.specs.Form.{wellFormed}
-use Rattle.rt0.specs.Lists.{and-parts, and-both, any, any-find}
+use Rattle.rt0.specs.Lists.{and-parts, and-both, any, any-find, false-true}
 use Rattle.class.specs.declared.Name.{Name}
 use Rattle.class.specs.declared.Typing.{Typing}
 use Rattle.class.specs.declared.Typing.the-variants.{Unnamed, Ill, Any, Class}
@@ -19,7 +21,9 @@ use Rattle.graph.specs.declared.Node.{Node}
 use Rattle.graph.specs.declared.Edge.{Edge}
 use Rattle.graph.specs.Graph.{nodeIn, blank}
 use Rattle.graph.specs.Form.{form, legalState}
-use Rattle.graph.specs.Find.{isNode, sameEdge, hasEdge}
+use Rattle.graph.specs.Find.{isNode, findNode, sameEdge, hasEdge}
+use Rattle.graph.specs.FindExact.{find-cases}
+use Rattle.states.specs.Places.{mem-index}
 use Rattle.graph.specs.StatesLaws.{Grown}
 use Rattle.graph.specs.Steps.{grown-node}
 use Rattle.justification.specs.Justified.{justified}
@@ -33,8 +37,10 @@ use Rattle.damage.specs.Edges.{brought, formed, edgeFits}
 use Rattle.damage.specs.EdgesLaws.{brought-more}
 use Rattle.damage.specs.Damage.{edgesJustified}
 use Rattle.damage.specs.DamageLaws.{fits-sound}
-use Rattle.take.specs.Step.{verifierOf, childOf, childIn, edgeIn, stepped}
-use Rattle.take.specs.Legal.{isFresh, isAbsent, formedAs, typeNumber, bringWrong, bringJustified, bringNumber, legalNumber}
+use Rattle.take.specs.Limits.{nodesMost}
+use Rattle.take.specs.Step.{processedBy, verifierOf, childOf, parentIn, childIn, edgeIn, stepped}
+use Rattle.take.specs.NewChild.{bring-justified}
+use Rattle.take.specs.Legal.{isFresh, isAbsent, formedAs, typeNumber, bringWrong, justifiedFor, bringNumber, legalNumber}
 use Rattle.take.specs.Growth.{Each, Ends, turn-last, turn-at, fits-of, all-fit, all-justified}
 use Rattle.take.specs.Kept.{GraphKept, refuse-none, first-none, or-false, present, record-parts, records-of, brought-parts, brought-of, all-ends}
 
@@ -73,21 +79,32 @@ new-edge es e h =
     let q = and-parts (eqb (r .0 .kind) (e .kind) && eqb (r .0 .parent) (e .parent)) (eqb (r .0 .child) (e .child)) (r .2) in
     omega (arith, eqb-true (r .0 .child) (e .child) (q .1), h (r .0) (r .1) .1))
 
+-- a search that finds no node
+found-none : (xs : List Node) (x : Expression) (v b : ℕ) → length xs < 128 → findNode xs x v b ≡ 128 → any (isNode x v b) xs ≡ false
+found-none xs x v b few e = ⊎-elim
+    (λ a. not-of (any (isNode x v b) xs) (λ z. let r = any-find (isNode x v b) xs z in let k = mem-index blank (r .1) in false-true (sym (a .none (k .0) (k .1)) ∙ ap (isNode x v b) (k .2) ∙ r .2)))
+    (λ f. absurd (omega (arith, f .inside)))
+    (find-cases xs x v b)
+
 module _ (ns : List Name) (s : ℕ) (S : State) (n : NewEdge) where
   -- what a legal edge with a new child has
   bring-parts : legalNumber ns s S (Bring n) ≡ 0
       → (isTyped (typeOf ns (n .expression)) ≡ true) × (n .parent < length (S .nodes)) × (formedAs (S .header) (n .kind) (nodeIn (S .nodes) (n .parent)) (childIn S n) ≡ true)
-      × (any (isNode (n .expression) (childIn S n .verifier) (n .subject)) (S .nodes) ≡ false) × (bringJustified S n ≡ true)
+      × (any (isNode (n .expression) (childIn S n .verifier) (n .subject)) (S .nodes) ≡ false) × (justifiedFor S (n .kind) (n .parent) (n .expression) (n .subject) ≡ true)
   unfolding legalNumber bringNumber bringWrong
   bring-parts l =
+      let v : ℕ = childIn S n .verifier in
       let t = first-none (typeNumber (typeOf ns (n .expression))) _ l in
       let a = refuse-none (isFresh S) 23 _ (omega arith) (t .1) in
       let b = refuse-none (isAbsent S (n .parent)) 24 _ (omega arith) (a .1) in
       let c = refuse-none (bringWrong S n) 25 _ (omega arith) (b .1) in
-      let d = refuse-none (not (bringJustified S n)) 26 _ (omega arith) (c .1) in
+      let d = refuse-none (not (justifiedFor S (n .kind) (n .parent) (n .expression) (n .subject))) 26 _ (omega arith) (c .1) in
+      let e = refuse-none (processedBy s (parentIn S n)) 27 _ (omega arith) (d .1) in
+      let r = refuse-none (leb nodesMost (length (S .nodes))) 28 _ (omega arith) (e .1) in
       let f : Bool = formedAs (S .header) (n .kind) (nodeIn (S .nodes) (n .parent)) (childIn S n) in
-      let w = or-false (not f) (any (isNode (n .expression) (childIn S n .verifier) (n .subject)) (S .nodes)) (c .0) in
-      (typed (typeOf ns (n .expression)) (t .0), present S (n .parent) (b .0), not-false f (w .0), w .1, not-false (bringJustified S n) (d .0))
+      let w = or-false (not f) (not (eqb (findNode (S .nodes) (n .expression) v (n .subject)) 128)) (c .0) in
+      let z : findNode (S .nodes) (n .expression) v (n .subject) ≡ 128 = eqb-true (findNode (S .nodes) (n .expression) v (n .subject)) 128 (not-false (eqb (findNode (S .nodes) (n .expression) v (n .subject)) 128) (w .1)) in
+      (typed (typeOf ns (n .expression)) (t .0), present S (n .parent) (b .0), not-false f (w .0), found-none (S .nodes) (n .expression) v (n .subject) (leb-false 128 (length (S .nodes)) (r .0)) z, not-false (justifiedFor S (n .kind) (n .parent) (n .expression) (n .subject)) (d .0))
 
   child-sound : nodeIn (S .nodes) (n .parent) .verifier < 2 → formedCommand (Bring n) ≡ true → isTyped (typeOf ns (n .expression)) ≡ true → nodeSound ns (childIn S n) ≡ true
   unfolding formedCommand nodeSound childOf
@@ -146,7 +163,7 @@ module _ (ns : List Name) (s : ℕ) (S : State) (n : NewEdge) where
         brought-more 1 (S .edges) (edgeIn S n) ∙ ap (λ (t : Bool). cond t (suc b) b) (eq-eqb (length (S .nodes)) b (sym q)) ∙ ap suc q ∙ sym one-more
 
     pub bring-kept : GraphKept ns (stepped S s (Bring n))
-    unfolding stepped withEdge withNode edgesJustified bringJustified
+    unfolding stepped withEdge withNode edgesJustified
     bring-kept =
         let p = record-parts ns S (g .records) in
         let q = brought-parts (S .header) (S .nodes) (S .edges) (g .edges) in
@@ -154,5 +171,5 @@ module _ (ns : List Name) (s : ℕ) (S : State) (n : NewEdge) where
           records = records-of ns (withEdge (withNode S (childIn S n)) (edgeIn S n)) (turn-last (nodeFits ns) [] (S .nodes) (childIn S n) (p .0) child-fits)
               (ap (primarySound (S .header)) (List·getD-append (S .nodes) (childIn S n ∷ []) blank 0 (omega (arith, some))) ∙ p .1) (p .2);
           edges = brought-of (S .header) after (S .edges ++ (edgeIn S n ∷ [])) (turn-last (edgeFits (S .header) after) [] (S .edges) (edgeIn S n) (all-fit grow (S .edges) ends (S .header) (q .0)) edge-fits) child-brought;
-          justified = turn-last (justified (S .shown) after) [] (S .edges) (edgeIn S n) (all-justified grow (S .edges) ends (S .shown) (g .justified)) (bring-parts l .4);
+          justified = turn-last (justified (S .shown) after) [] (S .edges) (edgeIn S n) (all-justified grow (S .edges) ends (S .shown) (g .justified)) (sym (bring-justified S n (bring-parts l .1) (λ e m. ends e m .1)) ∙ bring-parts l .4);
         }
