@@ -114,7 +114,7 @@ typeNumber Ill = 5
 typeNumber Any = 0
 typeNumber (Class a) = 0
 
--- 0x03: "edge form wrong, or node .. already present"
+-- 0x03: "edge form wrong, or node .. already present"; a search that finds no node answers 128
 unfoldable pub bringWrong : State → NewEdge → Bool
 bringWrong S n =
     not (formedAs (S .header) (n .kind) (parentIn S n) (childIn S n))

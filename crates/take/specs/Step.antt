@@ -62,7 +62,7 @@ stepped S s (Mark i) = withMark S i (markedState s (nodeIn (S .nodes) i))
 stepped S s End = S
 
 -- "open, edge or mark"
-unfoldable pub isMove : Command → Bool
+abbrev pub isMove : Command → Bool
 isMove (Show c) = false
 isMove (Open o) = true
 isMove (Bring n) = true

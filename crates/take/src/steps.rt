@@ -16,7 +16,7 @@ ghost use Prim.Native.Nat.{_≤_, _<_};
 ghost use Rattle.graph.specs.Graph.{nodesOf, nodeIn};
 ghost use Rattle.message.specs.declared.Command.the-variants as C;
 ghost use Rattle.negotiation.specs.State.{stateOf, within};
-ghost use Rattle.take.specs.Step.{stepped, hasRoom};
+ghost use Rattle.take.specs.Step.{stepped, isMove, hasRoom};
 
 fn wide(x: u8) -> usize
     ensures { λ r. ⌜ r ≡ x ⌝ }
@@ -95,5 +95,19 @@ pub fn step(n: Negotiation, sender: u8, c: Command) -> Negotiation
         Command::Join(e) => n.add_edge(e),
         Command::Mark(i) => marked(n, sender, i),
         Command::End => n,
+    }
+}
+
+// Whether a command is an open, an edge or a mark.
+pub fn is_move(c: Command) -> bool
+    ensures { λ r. ⌜ r ≡ isMove c ⌝ }
+{
+    match c {
+        Command::Show(_) => false,
+        Command::Open(_) => true,
+        Command::Bring(_) => true,
+        Command::Join(_) => true,
+        Command::Mark(_) => true,
+        Command::End => false,
     }
 }
