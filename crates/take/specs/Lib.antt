@@ -6,6 +6,7 @@ pub mod LegalLaws
 pub mod EdgeLaws
 pub mod RoomLaws
 pub mod NewChild
+pub mod StepFormed
 pub mod Growth
 pub mod Marked
 pub mod Kept
