@@ -12,3 +12,5 @@ pub mod Marked
 pub mod Kept
 pub mod KeptBring
 pub mod KeptStep
+pub mod Commands
+pub mod CommandsLaws

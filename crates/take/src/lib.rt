@@ -11,11 +11,13 @@ ghost use Rattle.states.specs.Brings.{NodesFormed};
 ghost use Rattle.negotiation.specs.State.{stateOf, within};
 ghost use Rattle.take.specs.Legal.{legalNumber};
 
+mod commands;
 mod edges;
 mod numbers;
 mod sides;
 mod steps;
 
+pub use commands::take_commands;
 use edges::bring_number;
 use edges::join_number;
 use numbers::end_number;
@@ -38,6 +40,14 @@ pub const UNJUSTIFIED: u64 = 26;
 pub const PROCESSED: u64 = 27;
 
 pub const FULL: u64 = 28;
+
+// The negotiation that the commands of a message lead to, and whether an open, an edge or a mark was among them, where the refusal is 0; else
+// they do not count.
+pub struct Taking {
+    pub refusal: u64,
+    pub moved: bool,
+    pub negotiation: Negotiation,
+}
 
 // Why a command of the sender is refused: zero where it is legal.
 pub fn legal(names: Names, sender: u8, n: Negotiation, c: Command) -> u64

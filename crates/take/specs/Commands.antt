@@ -1,0 +1,48 @@
+-- The commands of a message, one after another (document 01, "From the state": "A message is read one command after another from the lent bytes").
+-- Assumes nothing.
+use Prim.Native.Nat.{ℕ, zero, suc, _+_}
+use mathlib.Core.Bool.{Bool, true, false, cond, _||_}
+use mathlib.Core.List.{List}
+use lib.Dec.{eqb}
+use Rattle.class.specs.declared.Name.{Name}
+use Rattle.message.specs.declared.Command.{Command}
+use Rattle.message.specs.declared.Command.the-variants.{Show, Open, Bring, Join, Mark, End}
+use Rattle.message.specs.declared.CommandAnswer.{CommandAnswer}
+use Rattle.message.specs.declared.CommandAnswer.the-variants.{Read, Refused}
+use Rattle.message.specs.Command.{commandAt, sizeOf}
+use Rattle.negotiation.specs.State.{State, stateOf}
+use Rattle.take.specs.declared.Taking.{Taking}
+use Rattle.take.specs.Step.{stepped, isMove}
+use Rattle.take.specs.Legal.{legalNumber}
+
+-- a refusal number, or the state that the commands lead to, and whether an open, an edge or a mark was among them
+pub data Taken : Type 0 where
+  refused : ℕ → Taken
+  taken : State → Bool → Taken
+
+-- a command that is judged
+abbrev pub judged : ℕ → Taken → Taken
+judged zero next = next
+judged (suc k) next = refused (suc k)
+
+abbrev pub isEnd : Command → Bool
+isEnd (Show c) = false
+isEnd (Open o) = false
+isEnd (Bring n) = false
+isEnd (Join e) = false
+isEnd (Mark i) = false
+isEnd End = true
+
+-- an end ends the message; another command is carried out, and the next is read
+abbrev pub onCommand : (ℕ → State → Bool → Taken) → List Name → ℕ → State → Bool → CommandAnswer → Taken
+onCommand next ns s S moved (Refused k) = refused k
+onCommand next ns s S moved (Read c) = judged (legalNumber ns s S c) (cond (isEnd c) (taken S moved) (next (sizeOf c) (stepped S s c) (moved || isMove c)))
+
+-- the commands from an index on, sent by side s. The first number is at least that of the bytes left.
+unfoldable pub commandsFrom : ℕ → List Name → ℕ → List ℕ → ℕ → State → Bool → Taken
+commandsFrom zero ns s m at S moved = refused 2
+commandsFrom (suc f) ns s m at S moved = onCommand (λ size T v. commandsFrom f ns s m (at + size) T v) ns s S moved (commandAt m at)
+
+-- what the code's answer is
+unfoldable pub takenOf : Taking → Taken
+takenOf r = cond (eqb (r .refusal) 0) (taken (stateOf (r .negotiation)) (r .moved)) (refused (r .refusal))
