@@ -227,17 +227,33 @@ fn describe(found: &Found) {
     }
 }
 
-/// Climbs from each start and prints the worst set for an entity e and for a role e.
+/// The median of five timings of each, one round of all after the other: a time that was only once so long does not count.
+fn time_again(found: &mut [Found]) {
+    let mut rounds: Vec<Vec<f64>> = vec![Vec::new(); found.len()];
+    for _ in 0..5 {
+        for (f, times) in found.iter().zip(&mut rounds) {
+            times.push(engine_time(&question::encode(&f.question), 40));
+        }
+    }
+    for (f, times) in found.iter_mut().zip(&mut rounds) {
+        times.sort_by(f64::total_cmp);
+        f.time = times[2];
+    }
+}
+
+/// Climbs from each start, times what was found again, and prints the worst set for an entity e and for a role e.
 pub fn search(steps: u32, seed: u64) {
     let mut random = Random::new(seed);
-    println!("{:<60} {:>8} {:>8}", "64 credentials, microseconds", "start", "found");
+    println!("{:<60} {:>8} {:>8}", "64 credentials, microseconds", "found", "again");
     let mut found: Vec<Found> = Vec::new();
     for (from, question) in starts(&mut random) {
         assert_eq!(question.credentials.len(), MOST_CREDENTIALS);
-        let start = engine_time(&question::encode(&question), 40);
-        let end = Climb { random: &mut random, question }.run(from, steps);
-        println!("{:<60} {:>8.2} {:>8.2}", end.from, start, end.time);
-        found.push(end);
+        found.push(Climb { random: &mut random, question }.run(from, steps));
+    }
+    let first: Vec<f64> = found.iter().map(|f| f.time).collect();
+    time_again(&mut found);
+    for (f, first) in found.iter().zip(first) {
+        println!("{:<60} {:>8.2} {:>8.2}", f.from, first, f.time);
     }
     found.sort_by(|a, b| b.time.total_cmp(&a.time));
     for entity in [true, false] {
