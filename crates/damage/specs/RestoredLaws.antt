@@ -5,7 +5,7 @@ use mathlib.Core.Path.{_≡_, refl, sym, _∙_, ap, subst}
 use mathlib.Core.Bool.{Bool, true, false, not, cond, _&&_}
 use mathlib.Core.List.{List, []}
 use mathlib.Core.Option.{Option, none, some}
-use borrow.Author.Tests.{eq-eqb, ne-eqb, not-true, not-false}
+use borrow.Author.Tests.{eq-eqb, ne-eqb, eqb-true, not-true, not-false}
 use lib.Dec.{eqb}
 use lib.ListN.{length}
 use Rattle.rt0.specs.Lists.{and-parts, false-true}
@@ -14,6 +14,7 @@ use Rattle.tables.specs.declared.Decoded.{Decoded}
 use Rattle.tables.specs.Tables.{Tables, tablesOf}
 use Rattle.tables.specs.Check.{Outcome, refused, accepted, readTables, outcomeOf}
 use Rattle.tables.specs.Decoding.{Housed}
+use Rattle.tables.specs.AcceptedLaws.{accepted-sound}
 use Rattle.tables.specs.DecodingLaws.{outcome-refused}
 use Rattle.negotiation.specs.declared.Negotiation.{Negotiation}
 use Rattle.negotiation.specs.declared.Reading.{Reading}
@@ -90,3 +91,42 @@ module _ (tables negotiation : List ℕ) where
           sym (by-state (some (stateOf (R .negotiation))) (ap (ifSound (tablesOf (d .house))) held ∙ ap (λ (t : Bool). cond t (some (stateOf (R .negotiation))) none) (sym be ∙ not-false b h))),
           record { housed = λ z. hd; within-sizes = λ z. read-within negotiation (stateOf (R .negotiation)) held; is-sound = λ z. sym be ∙ not-false b h },
         )
+
+-- The house of accepted tables is an entity
+
+abbrev isStanding : Standing → Bool
+isStanding (refusal k) = false
+isStanding (standing T S) = true
+
+abbrev ownIn : Standing → ℕ
+ownIn (refusal k) = 0
+ownIn (standing T S) = T .own
+
+behind-own : (tables negotiation : List ℕ) (o : Outcome) → readTables tables ≡ o → isStanding (behindTables negotiation o) ≡ true → 0 < ownIn (behindTables negotiation o)
+behind-own tables negotiation (refused k) e h = absurd (false-true h)
+behind-own tables negotiation (accepted T) e h = go (readSound T negotiation) h
+  where
+    go : (x : Option State) → isStanding (behindDamage T x) ≡ true → 0 < ownIn (behindDamage T x)
+    go none k = absurd (false-true k)
+    go (some S) k = accepted-sound tables T e .own
+
+module _ (tables negotiation : List ℕ) (r : Restored) (e : standingOf r ≡ restoreOf tables negotiation) (z : r .refusal ≡ 0) where
+  restored-standing : standing (tablesOf (r .house)) (stateOf (r .negotiation)) ≡ restoreOf tables negotiation
+  unfolding standingOf
+  restored-standing = sym (ap (λ (b : Bool). cond b (standing (tablesOf (r .house)) (stateOf (r .negotiation))) (refusal (r .refusal))) (eq-eqb (r .refusal) 0 z)) ∙ e
+
+  pub restored-length : length negotiation ≡ 5120
+  unfolding restoreOf
+  restored-length = go (eqb (length negotiation) 5120) refl (sym (ap isStanding restored-standing))
+    where
+      go : (b : Bool) → eqb (length negotiation) 5120 ≡ b → isStanding (cond b (behindTables negotiation (readTables tables)) (refusal 1)) ≡ true → length negotiation ≡ 5120
+      go true x h = eqb-true (length negotiation) 5120 x
+      go false x h = absurd (false-true h)
+
+  pub restored-own : 0 < r .house .own
+  unfolding restoreOf tablesOf
+  restored-own = subst (λ (x : Standing). 0 < ownIn x) (sym restored-standing) (go (eqb (length negotiation) 5120) (sym (ap isStanding restored-standing)))
+    where
+      go : (b : Bool) → isStanding (cond b (behindTables negotiation (readTables tables)) (refusal 1)) ≡ true → 0 < ownIn (cond b (behindTables negotiation (readTables tables)) (refusal 1))
+      go true h = behind-own tables negotiation (readTables tables) refl h
+      go false h = absurd (false-true h)

@@ -4,6 +4,7 @@ ghost use Rattle.begin.specs.Begin.{beginOf, answerOf, leftOf};
 ghost use Rattle.question.specs.Question.{questionOf};
 ghost use Rattle.report.specs.Report.{reportOf, answerOf as reportAnswer};
 ghost use Rattle.tables.specs.Check.{checkOf};
+ghost use Rattle.take.specs.Take.{takeOf, answerOf as takeAnswer, negotiationLeft, scratchLeft};
 
 // The check of house tables: 0 where they are accepted, or a refusal number.
 #[no_mangle]
@@ -27,6 +28,21 @@ pub extern "C" fn lavutremo_begin(
     ensures left { λ _. ⌜ now (negotiation .exit) ≡ leftOf (now (negotiation .entry)) (beginOf (now (tables .entry)) (now (negotiation .entry)) other entity name) ⌝ }
 {
     begin::begin(tables, negotiation, other, entity, name)
+}
+
+// The negotiation goes on by a message of the other end, and the scratch becomes zero: 0, or a refusal number, and then nothing changes.
+#[no_mangle]
+pub extern "C" fn lavutremo_take(
+    tables: &[u8],
+    negotiation: &mut [u8],
+    message: &[u8],
+    scratch: &mut [u8],
+) -> u64
+    ensures answered { λ r. ⌜ r ≡ takeAnswer (takeOf (now (tables .entry)) (now (negotiation .entry)) (now (message .entry)) (now (scratch .entry))) ⌝ }
+    ensures left { λ _. ⌜ now (negotiation .exit) ≡ negotiationLeft (now (negotiation .entry)) (takeOf (now (tables .entry)) (now (negotiation .entry)) (now (message .entry)) (now (scratch .entry))) ⌝ }
+    ensures cleared { λ _. ⌜ now (scratch .exit) ≡ scratchLeft (now (scratch .entry)) (takeOf (now (tables .entry)) (now (negotiation .entry)) (now (message .entry)) (now (scratch .entry))) ⌝ }
+{
+    take::take(tables, negotiation, message, scratch)
 }
 
 // The report on a node of a negotiation: 256 times its numbers in one, or a refusal number. Nothing changes.

@@ -134,7 +134,7 @@ paste-on d xs ys n e room =
     ap (λ (k : ℕ). pasted (pasted d 0 xs) k ys) at ∙ paste-paste d 0 xs ys (omega arith)
 
 -- every byte replaced
-paste-whole : (d xs : List ℕ) → length xs ≡ length d → pasted d 0 xs ≡ xs
+pub paste-whole : (d xs : List ℕ) → length xs ≡ length d → pasted d 0 xs ≡ xs
 paste-whole d xs e =
     let end : 0 + length xs ≡ length d = omega arith in
     (λ i. take-length xs i ++ (ap (λ (n : ℕ). drop n d) end ∙ drop-length d) i) ∙ append-nil xs

@@ -16,6 +16,7 @@ mod writer;
 pub use reader::candidate;
 pub use reader::read;
 pub use writer::write;
+pub use writer::write_zeros;
 
 // Our side (0 mediator, 1 requester), self and the other end, the wanted role (zeros for the requester, who is not told it), the end,
 // whether the last message had no open, edge or mark, and how many messages were accepted and replies given.

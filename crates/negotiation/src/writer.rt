@@ -29,7 +29,7 @@ ghost use Rattle.negotiation.specs.State.{stateOf, within};
 ghost use Rattle.negotiation.specs.Layout.{headerBytes, nodeBytes, edgeBytes, zeros, part, stateBytes};
 
 // Zeros from an index up to another.
-fn write_zeros(buf: &mut [u8], from: usize, to: usize)
+pub fn write_zeros(buf: &mut [u8], from: usize, to: usize)
     requires { ⌜ (from ≤ to) × (to ≤ length (now buf)) ⌝ }
     ensures { λ _. ⌜ now (buf .exit) ≡ pasted (now (buf .entry)) from (zeros (to - from)) ⌝ }
 {

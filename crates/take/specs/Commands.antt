@@ -12,8 +12,8 @@ use Rattle.message.specs.declared.CommandAnswer.the-variants.{Read, Refused}
 use Rattle.message.specs.Command.{commandAt, sizeOf}
 use Rattle.negotiation.specs.State.{State, stateOf}
 use Rattle.take.specs.declared.Taking.{Taking}
-use Rattle.take.specs.Step.{stepped, isMove}
-use Rattle.take.specs.Legal.{legalNumber}
+use Rattle.update.specs.Step.{stepped, isMove}
+use Rattle.update.specs.Legal.{legalNumber}
 
 -- a refusal number, or the state that the commands lead to, and whether an open, an edge or a mark was among them
 pub data Taken : Type 0 where

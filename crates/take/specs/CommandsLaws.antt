@@ -28,10 +28,10 @@ use Rattle.message.specs.CommandExact.{command-formed, command-room, command-re
 use Rattle.negotiation.specs.declared.Negotiation.{Negotiation}
 use Rattle.negotiation.specs.State.{State, stateOf, within, withNode, withEdge, withShown, withMark}
 use Rattle.take.specs.declared.Taking.{Taking}
-use Rattle.take.specs.Step.{stepped, isMove, hasRoom, childOf, childIn, primaryOf, markedState}
-use Rattle.take.specs.Legal.{legalNumber}
-use Rattle.take.specs.RoomLaws.{legal-room, step-within}
-use Rattle.take.specs.StepFormed.{step-formed}
+use Rattle.update.specs.Step.{stepped, isMove, hasRoom, childOf, childIn, primaryOf, markedState}
+use Rattle.update.specs.Legal.{legalNumber}
+use Rattle.update.specs.RoomLaws.{legal-room, step-within}
+use Rattle.update.specs.StepFormed.{step-formed}
 use Rattle.take.specs.Commands.{Taken, refused, taken, judged, isEnd, onCommand, commandsFrom, takenOf}
 
 -- the number of a command that was not read

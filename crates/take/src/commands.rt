@@ -1,14 +1,14 @@
 // The commands of a message, one after another.
 use crate::Taking;
-use crate::is_move;
-use crate::legal;
-use crate::step;
 use class::Names;
 use message::Command;
 use message::CommandAnswer;
 use message::read_command;
 use message::size_of;
 use negotiation::Negotiation;
+use update::is_move;
+use update::legal;
+use update::step;
 ghost use mathlib.Core.Path.{_≡_};
 ghost use mathlib.Core.Bool.{true, false};
 ghost use Prim.Native.Nat.{_≤_};
@@ -45,7 +45,7 @@ fn is_end(c: Command) -> bool
     }
 }
 
-fn taking(refusal: u64, moved: bool, negotiation: Negotiation) -> Taking
+pub fn taking(refusal: u64, moved: bool, negotiation: Negotiation) -> Taking
     ensures { λ r. ⌜ (r .refusal ≡ refusal) × (r .moved ≡ moved) × (r .negotiation ≡ negotiation) ⌝ }
 {
     Taking {

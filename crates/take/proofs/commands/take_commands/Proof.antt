@@ -1,6 +1,6 @@
 use mathlib.Core.Path.{sym, _∙_}
 use mathlib.Core.Path.{refl, sym, _∙_}
-use Rattle.take.specs.RoomLaws.{legal-room}
+use Rattle.update.specs.RoomLaws.{legal-room}
 use lib.ListN.{length}
 use Rattle.negotiation.specs.State.{stateOf}
 use Rattle.class.specs.Names.{namesOf}

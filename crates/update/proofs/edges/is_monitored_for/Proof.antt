@@ -1,0 +1,51 @@
+use borrow.Author.Needs.{needs}
+use Rattle.justification.specs.Justified.{monitors}
+use Rattle.class.specs.Find.{Missed, missed-start, missed-more}
+use Rattle.graph.specs.Graph.{nodesFrom, edgesFrom, nodesOf, edgesOf, edgeAt}
+use Prim.Native.Nat.{_-_}
+use native.Mathlib.Omega.{arith}
+use Rattle.update.specs.EdgeLaws.{linked-at, linked-none}
+use Rattle.update.proofs.edges.is_monitored_for.Statement.{statement}
+use Rattle.update.proofs.edges.is_monitored_for.Tie as tie
+use Rattle.update.proofs.edges.is_monitored_for.Reads as reads
+
+abbrev Inv-loop : tie.InvT-loop
+Inv-loop n kind parts n0 n1 n2 n3 n4 n5 n6 n7 subject verifier state m edge parent child sat x b p j₀ j = Missed (monitors (nodesOf (nodesFrom n kind parts n0 n1 n2 n3 n4 n5 n6 n7 subject verifier state)) (edgesOf (edgesFrom m edge parent child)) x b p) (edgeAt (edgesFrom m edge parent child)) j
+
+abbrev μ-loop : tie.MeasureT-loop
+μ-loop n kind parts n0 n1 n2 n3 n4 n5 n6 n7 subject verifier state m edge parent child sat x b p j₀ j = m - j
+
+loop-holds : tie.Need-loop-holds Inv-loop μ-loop
+loop-holds c = missed-start _ _
+
+monitors-at-requires : tie.Need-monitors-at-requires Inv-loop μ-loop
+monitors-at-requires c κs = search needs
+
+returns : tie.Need-returns Inv-loop μ-loop
+returns c = linked-at _ _ _ _ _ (c .before .before .before .loop .inv) (c .before .before .loop-test .taken) (c .before .monitors-at .ensures) (c .if1 .taken)
+
+add-j : tie.Need-add-j Inv-loop μ-loop
+add-j c = omega arith
+
+loop-less : tie.Need-loop-less Inv-loop μ-loop
+loop-less c = omega arith
+
+loop-again : tie.Need-loop-again Inv-loop μ-loop
+loop-again c = missed-more (c .before .before .before .loop .inv) (c .before .monitors-at .ensures) (c .if1 .left)
+
+returns-2 : tie.Need-returns-2 Inv-loop μ-loop
+returns-2 c = linked-none _ _ _ _ _ (c .before .loop .inv) (c .loop-test .left)
+
+pub is-monitored-for-spec : {M : Type 1} → statement M
+is-monitored-for-spec =
+    tie.close
+    (tie.spec
+    Inv-loop
+    μ-loop
+    loop-holds
+    monitors-at-requires
+    returns
+    add-j
+    loop-less
+    loop-again
+    returns-2)

@@ -1,0 +1,111 @@
+-- Refusals, by the tests made one after the other. Assumes nothing.
+use Prim.Native.Nat.{ℕ, _≤_, _<_}
+use native.Mathlib.Omega.{arith}
+use mathlib.Core.Path.{_≡_, refl, sym, _∙_, ap}
+use mathlib.Core.Bool.{Bool, true, false, not, cond, _&&_, _||_}
+use mathlib.Core.List.{List}
+use borrow.Author.Tests.{eq-eqb, ne-eqb, le-leb, lt-leb, leb-true}
+use lib.Dec.{eqb, leb}
+use lib.ListN.{length}
+use Rattle.expression.specs.Laws.{and-left, and-right}
+use Rattle.rt0.specs.Pool.{credentials}
+use Rattle.rt0.specs.Added.{count-length}
+use Rattle.class.specs.declared.Name.{Name}
+use Rattle.graph.specs.Graph.{nodesOf, edgesOf}
+use Rattle.graph.specs.Columns.{nodes-length, edges-length}
+use Rattle.message.specs.declared.Command.{Command}
+use Rattle.negotiation.specs.declared.Negotiation.{Negotiation}
+use Rattle.negotiation.specs.State.{State, stateOf, within}
+use Rattle.update.specs.Legal.{refuse, first, isFresh, isAbsent, justifiedBy, legalNumber}
+
+module _ (b : Bool) (k rest : ℕ) where
+  -- the test holds
+  pub stops : b ≡ true → k ≡ refuse b k rest
+  unfolding refuse
+  stops e = ap (λ (a : Bool). cond a k rest) (sym e)
+
+  -- it does not
+  pub passes : {r : ℕ} → b ≡ false → r ≡ rest → r ≡ refuse b k rest
+  unfolding refuse
+  passes e h = h ∙ ap (λ (a : Bool). cond a k rest) (sym e)
+
+module _ (n k rest : ℕ) (e : n ≡ k) where
+  pub first-stops : (n ≡ 0 → ⊥) → n ≡ first k rest
+  unfolding first
+  first-stops h = ap (λ (a : Bool). cond a rest n) (sym (ne-eqb n 0 h)) ∙ ap (λ (m : ℕ). cond (eqb m 0) rest m) e
+
+  pub first-passes : {r : ℕ} → n ≡ 0 → r ≡ rest → r ≡ first k rest
+  unfolding first
+  first-passes h q = q ∙ ap (λ (a : Bool). cond a rest n) (sym (eq-eqb n 0 h)) ∙ ap (λ (m : ℕ). cond (eqb m 0) rest m) e
+
+module _ (n : Negotiation) where
+  pub fresh-yes : n .nodes .count ≡ 0 → isFresh (stateOf n) ≡ true
+  unfolding isFresh stateOf
+  fresh-yes h = eq-eqb (length (nodesOf (n .nodes))) 0 (nodes-length (n .nodes) ∙ h)
+
+  pub fresh-no : (n .nodes .count ≡ 0 → ⊥) → isFresh (stateOf n) ≡ false
+  unfolding isFresh stateOf
+  fresh-no h = ne-eqb (length (nodesOf (n .nodes))) 0 (λ e. h (sym (nodes-length (n .nodes)) ∙ e))
+
+  pub absent-yes : (i : ℕ) → n .nodes .count ≤ i → isAbsent (stateOf n) i ≡ true
+  unfolding isAbsent stateOf
+  absent-yes i h = le-leb (length (nodesOf (n .nodes))) i (omega (arith, nodes-length (n .nodes)))
+
+  pub absent-no : (i : ℕ) → i < n .nodes .count → isAbsent (stateOf n) i ≡ false
+  unfolding isAbsent stateOf
+  absent-no i h = lt-leb (length (nodesOf (n .nodes))) i (omega (arith, nodes-length (n .nodes)))
+
+  pub shown-full : 64 ≤ n .shown .count → leb 64 (length (credentials (n .shown))) ≡ true
+  shown-full h = le-leb 64 (length (credentials (n .shown))) (omega (arith, count-length (n .shown)))
+
+  pub shown-room : n .shown .count < 64 → leb 64 (length (credentials (n .shown))) ≡ false
+  shown-room h = lt-leb 64 (length (credentials (n .shown))) (omega (arith, count-length (n .shown)))
+
+  pub edges-full : 256 ≤ n .edges .count → leb 256 (length (edgesOf (n .edges))) ≡ true
+  edges-full h = le-leb 256 (length (edgesOf (n .edges))) (omega (arith, edges-length (n .edges)))
+
+  pub edges-room : n .edges .count < 256 → leb 256 (length (edgesOf (n .edges))) ≡ false
+  edges-room h = lt-leb 256 (length (edgesOf (n .edges))) (omega (arith, edges-length (n .edges)))
+
+  pub nodes-full : 128 ≤ n .nodes .count → leb 128 (length (nodesOf (n .nodes))) ≡ true
+  nodes-full h = le-leb 128 (length (nodesOf (n .nodes))) (omega (arith, nodes-length (n .nodes)))
+
+  pub nodes-room : n .nodes .count < 128 → leb 128 (length (nodesOf (n .nodes))) ≡ false
+  nodes-room h = lt-leb 128 (length (nodesOf (n .nodes))) (omega (arith, nodes-length (n .nodes)))
+
+-- Justification, by kind
+
+and-true : (b : Bool) → b ≡ (b && true)
+and-true true = refl
+and-true false = refl
+
+module _ (k : ℕ) (i m : Bool) {r : Bool} where
+  pub by-implied : k ≡ 1 → r ≡ i → r ≡ justifiedBy k i m
+  unfolding justifiedBy
+  by-implied h e = e ∙ and-true i ∙ ap (λ (n : ℕ). (not (eqb n 1) || i) && (not (eqb n 4) || m)) (sym h)
+
+  pub by-monitored : k ≡ 4 → r ≡ m → r ≡ justifiedBy k i m
+  unfolding justifiedBy
+  by-monitored h e = e ∙ ap (λ (n : ℕ). (not (eqb n 1) || i) && (not (eqb n 4) || m)) (sym h)
+
+module _ (k : ℕ) (i m : Bool) where
+  pub by-kind : (k ≡ 1 → ⊥) → (k ≡ 4 → ⊥) → true ≡ justifiedBy k i m
+  unfolding justifiedBy
+  by-kind h g = sym (λ t. (not (ne-eqb k 1 h t) || i) && (not (ne-eqb k 4 g t) || m))
+
+-- One of the commands
+
+-- the counts within the sizes
+pub within-few : (n : Negotiation) → within (stateOf n) ≡ true → (n .nodes .count ≤ 128) × (n .edges .count ≤ 256) × (n .shown .count ≤ 64)
+unfolding within stateOf
+within-few n h =
+    let a : Bool = leb (length (nodesOf (n .nodes))) 128 in
+    let b : Bool = leb (length (edgesOf (n .edges))) 256 in
+    let d : Bool = leb (length (credentials (n .shown))) 64 in (
+      omega (arith, nodes-length (n .nodes), leb-true (length (nodesOf (n .nodes))) 128 (and-left a b (and-left (a && b) d h))),
+      omega (arith, edges-length (n .edges), leb-true (length (edgesOf (n .edges))) 256 (and-right a b (and-left (a && b) d h))),
+      omega (arith, count-length (n .shown), leb-true (length (credentials (n .shown))) 64 (and-right (a && b) d h)),
+    )
+
+pub legal-for : (ns : List Name) (s : ℕ) (S : State) (c k : Command) {r : ℕ} → c ≡ k → r ≡ legalNumber ns s S k → r ≡ legalNumber ns s S c
+legal-for ns s S c k h e = e ∙ ap (legalNumber ns s S) (sym h)

@@ -1,0 +1,17 @@
+pub mod Limits
+pub mod Step
+pub mod StepLaws
+pub mod Legal
+pub mod LegalLaws
+pub mod EdgeLaws
+pub mod RoomLaws
+pub mod NewChild
+pub mod StepFormed
+pub mod Growth
+pub mod Marked
+pub mod Kept
+pub mod KeptBring
+pub mod KeptStep
+pub mod After
+pub mod AfterLaws
+pub mod AfterKept
