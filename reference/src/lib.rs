@@ -15,7 +15,9 @@
 //! occurred, `negotiation_shapes` and `negotiation_large` make full ones whose report takes long.
 //!
 //! `message` has the commands of messages and their bytes, `legal` judges one command and carries it out, `take` is the
-//! call. `take_shapes` has the messages of the marked cases and those at the sizes.
+//! call. `message_writer` writes messages, `message_plan` makes the negotiations that random ones go on from,
+//! `message_sample` these messages, `message_faults` puts faults in them, `message_bytes` makes all into bytes and
+//! `take_counts` counts what occurred. `take_shapes` has the messages of the marked cases and those at the sizes.
 //!
 //! `refusal` numbers the refusals.
 
@@ -28,6 +30,11 @@ pub mod expression;
 pub mod graph;
 pub mod legal;
 pub mod message;
+pub mod message_bytes;
+pub mod message_faults;
+pub mod message_plan;
+pub mod message_sample;
+pub mod message_writer;
 pub mod negotiation;
 pub mod negotiation_bytes;
 pub mod negotiation_counts;
@@ -55,6 +62,7 @@ pub mod table_shapes;
 mod table_tests;
 pub mod tables;
 pub mod take;
+pub mod take_counts;
 pub mod take_shapes;
 #[cfg(test)]
 mod take_tests;

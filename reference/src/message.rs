@@ -34,6 +34,15 @@ pub enum Command {
     End,
 }
 
+/// The kind of the edge that a command adds.
+pub fn edge_kind(command: &Command) -> Option<u8> {
+    match command {
+        Command::Child(child) => Some(child.kind),
+        Command::Join(edge) => Some(edge.kind),
+        _ => None,
+    }
+}
+
 /// The bytes of a command, its first one among them; None: there is no such command in messages.
 pub fn command_bytes(first: u8) -> Option<usize> {
     match first {

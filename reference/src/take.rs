@@ -48,7 +48,7 @@ fn all_lengths_fit(tables: &[u8], negotiation: &[u8], message: &[u8], scratch: &
 
 /// The side that sends the next message: the mediator when the count is even.
 pub fn sender(negotiation: &Negotiation) -> Side {
-    if negotiation.messages % 2 == 0 {
+    if negotiation.messages.is_multiple_of(2) {
         Side::Mediator
     } else {
         Side::Requester

@@ -2,10 +2,12 @@
 
 use crate::expression::*;
 use crate::message::*;
+use crate::message_writer::{other_end, Writer};
 use crate::negotiation::*;
 use crate::negotiation_shapes::marked_case;
 use crate::take::*;
 use crate::take_shapes::*;
+use std::slice::from_ref;
 
 fn answer(lent: &Lent) -> u64 {
     let mut after = lent.clone();
@@ -266,7 +268,7 @@ fn justification() {
     let with_link = with_link();
     let to = |commands: &[Command]| answer_to(&with_link, commands);
     let edge = child(1, 0, role_target(5, 1), 2, 0);
-    assert_eq!(to(&[edge.clone()]), 26);
+    assert_eq!(to(from_ref(&edge)), 26);
     // 1.1 from 1.2.1 from 5.1 by 1.2 from 5; not if the credential comes later.
     let base = credential(role(1, 2), Expression::Entity(5));
     assert_eq!(to(&[base.clone(), edge.clone()]), 0);
@@ -292,7 +294,7 @@ fn justification() {
         solved
     };
     let to = |commands: &[Command]| answer_to(&solved, commands);
-    assert_eq!(to(&[linking.clone()]), 26);
+    assert_eq!(to(from_ref(&linking)), 26);
     assert_eq!(to(&[member.clone(), proof.clone(), linking.clone()]), 0);
     assert_eq!(to(&[member.clone(), linking.clone(), proof.clone()]), 26);
     assert_eq!(to(&[member.clone(), proof.clone(), child(4, 1, role_target(1, 2), 6, 0)]), 26);
@@ -330,10 +332,10 @@ fn ends() {
     assert_eq!(closed(after(&fresh(), &[Command::Open(role(1, 1), 3)])), (2, false, 1));
     // Credentials alone are idle; twice is stalled.
     assert_eq!(closed(after(&opened, &[])), (0, true, 3));
-    assert_eq!(closed(after(&opened, &[shown.clone()])), (0, true, 3));
+    assert_eq!(closed(after(&opened, from_ref(&shown))), (0, true, 3));
     let idle = Negotiation { idle: true, ..opened };
     assert_eq!(closed(after(&idle, &[])), (3, true, 3));
-    assert_eq!(closed(after(&idle, &[shown.clone()])), (3, true, 3));
+    assert_eq!(closed(after(&idle, from_ref(&shown))), (3, true, 3));
     assert_eq!(closed(after(&idle, &[Command::Mark(0)])), (0, false, 3));
     assert_eq!(closed(after(&idle, &[shown, proof])), (1, false, 3));
     // The most messages is no size of take's.
