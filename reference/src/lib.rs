@@ -17,7 +17,8 @@
 //! `message` has the commands of messages and their bytes, `legal` judges one command and carries it out, `take` is the
 //! call. `message_writer` writes messages, `message_plan` makes the negotiations that random ones go on from,
 //! `message_sample` these messages, `message_faults` puts faults in them, `message_bytes` makes all into bytes and
-//! `take_counts` counts what occurred. `take_shapes` has the messages of the marked cases and those at the sizes.
+//! `take_counts` counts what occurred. `take_shapes` has the messages of the marked cases and those at the sizes,
+//! `take_large` those that last long.
 //!
 //! `refusal` numbers the refusals.
 
@@ -63,6 +64,7 @@ mod table_tests;
 pub mod tables;
 pub mod take;
 pub mod take_counts;
+pub mod take_large;
 pub mod take_shapes;
 #[cfg(test)]
 mod take_tests;
