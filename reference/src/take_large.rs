@@ -2,6 +2,7 @@
 //! negotiations of `negotiation_large` built again by one message.
 
 use crate::expression::*;
+use crate::graph::is_standard;
 use crate::message::*;
 use crate::message_plan::without_mark;
 use crate::message_writer::{Run, Writer};
@@ -9,6 +10,7 @@ use crate::negotiation::*;
 use crate::negotiation_large::large;
 use crate::negotiation_shapes::Shaped;
 use crate::refusal::Refusal;
+use crate::report;
 use crate::take_shapes::*;
 
 fn role(entity: u16, name: u16) -> Role {
@@ -166,9 +168,48 @@ pub fn long_messages() -> Vec<Run> {
     vec![implications(), alternating(true), alternating(false), linking_implications(), marks()]
 }
 
-/// The full negotiations that have not ended.
+/// The primary, and a target of the requester under it.
+fn top(old: &Negotiation) -> Vec<Node> {
+    let node = |form, side: Side| {
+        let subject = old.entity(side.opposite());
+        Node { form, subject, verifier: side, state: 0 }
+    };
+    let form = |entity| target(Expression::Role(role(entity, 1)));
+    vec![node(form(5000), Side::Mediator), node(form(5001), Side::Requester)]
+}
+
+/// The negotiation under two control edges, by which it has not ended, up to the sizes of nodes and edges.
+fn under_controls(shaped: &Shaped) -> Shaped {
+    let old = &shaped.negotiation;
+    let mut nodes = [top(old), old.nodes.clone()].concat();
+    let mut edges: Vec<Edge> = (0..2).map(|parent| Edge { kind: CONTROL, parent, child: parent + 1 }).collect();
+    let shifted = old.edges.iter().map(|edge| Edge { kind: edge.kind, parent: edge.parent + 2, child: edge.child + 2 });
+    edges.extend(shifted.filter(|edge| edge.parent < MOST_NODES && edge.child < MOST_NODES));
+    edges.truncate(MOST_EDGES);
+    nodes.truncate(1 + edges.iter().map(|edge| edge.child).max().unwrap());
+    fill_up(&mut nodes, &mut edges);
+    let negotiation = Negotiation { wanted: role(5000, 1), nodes, edges, end: 0, ..old.clone() };
+    Shaped { name: shaped.name.clone(), tables: shaped.tables.clone(), negotiation }
+}
+
+/// More targets under the primary, and control edges to the primary.
+fn fill_up(nodes: &mut Vec<Node>, edges: &mut Vec<Edge>) {
+    while nodes.len() < MOST_NODES && edges.len() < MOST_EDGES {
+        edges.push(Edge { kind: CONTROL, parent: 0, child: nodes.len() });
+        let form = target(Expression::Role(role(6000 + nodes.len() as u16, 1)));
+        nodes.push(Node { form, ..nodes[1].clone() });
+    }
+    let of_requester = (1..nodes.len()).filter(|&node| nodes[node].verifier == Side::Requester);
+    let standard = of_requester.filter(|&node| is_standard(&nodes[node]));
+    let back = standard.flat_map(|parent| [0, 2].map(|child| Edge { kind: CONTROL, parent, child }));
+    let fresh: Vec<Edge> = back.filter(|edge| !edges.contains(edge)).collect();
+    edges.extend(fresh.into_iter().take(MOST_EDGES - edges.len()));
+}
+
+/// The large negotiations up to the sizes of nodes and edges that are sound and have not ended.
 pub fn full() -> Vec<Shaped> {
-    large().into_iter().filter(|shaped| shaped.negotiation.end == 0).collect()
+    let is_sound = |shaped: &Shaped| report::judge(&shaped.tables, &encode(&shaped.negotiation)).is_ok();
+    large().iter().map(under_controls).filter(is_sound).collect()
 }
 
 /// The message onto the shaped negotiation.
@@ -284,7 +325,12 @@ mod tests {
     #[test]
     fn short_ones_onto_full_graphs_are_accepted() {
         let runs = onto_full();
-        assert!(runs.len() > 10, "{} runs", runs.len());
+        let sizes = |run: &Run| {
+            let negotiation = decode(&run.lent.negotiation).unwrap();
+            (negotiation.nodes.len(), negotiation.edges.len(), negotiation.shown.len())
+        };
+        let full = runs.iter().filter(|run| sizes(run) == (MOST_NODES, MOST_EDGES, MOST_SHOWN)).count();
+        assert!(full > 20, "{full} runs of {}", runs.len());
         for run in runs {
             assert_eq!(answer(&run), 0, "{}", run.name);
         }
