@@ -186,7 +186,7 @@ impl Random {
             let Node { form, subject, state, .. } = node.clone();
             Command::Child(NewChild { kind, parent, form, subject, state })
         };
-        Some(match self.below(9) {
+        Some(match self.below(10) {
             0 => Command::Credential(now.shown.get(self.below(now.shown.len().max(1)))?.clone()),
             1 => Command::Join(*edge?),
             2 => Command::Join(Edge { kind, parent: node, child: node }),
@@ -196,8 +196,19 @@ impl Random {
             5 => old_child(&now.nodes[node], kind, self.below(now.nodes.len())),
             6 => Command::Child(NewChild { subject: self.entity(house.world), ..self.some_child(house, now)? }),
             7 => Command::Child(NewChild { kind, ..self.some_child(house, now)? }),
+            8 => self.foreign_entity(now)?,
             _ => Command::Child(self.any_child(house, now)?),
         })
+    }
+
+    /// From a node about a credential's head to the entity that it names, which may not be the subject.
+    fn foreign_entity(&mut self, now: &Negotiation) -> Option<Command> {
+        let direct: Vec<&Credential> =
+            now.shown.iter().filter(|credential| matches!(credential.body, Expression::Entity(_))).collect();
+        let Credential { head, body } = (*direct.get(self.below(direct.len().max(1)))?).clone();
+        let parent = now.nodes.iter().position(|node| node.form == Form::Target(Expression::Role(head)))?;
+        let subject = now.nodes[parent].subject;
+        Some(Command::Child(NewChild { kind: IMPLICATION, parent, form: Form::Target(body), subject, state: 3 }))
     }
 
     /// 26: edges of kinds 1 and 4 that have the form.
