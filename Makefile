@@ -1,7 +1,7 @@
 # make demo    builds the engine and the C program host/demo.c, and runs it
 # make test    runs all tests; its last line is 'N passed, M failed'
-# make fuzz    compares the engine with the reference on many questions, tables and negotiations (SEED, RANDOM_COUNT,
-#              DAMAGED_COUNT, TABLES_COUNT, NEGOTIATIONS_COUNT)
+# make fuzz    compares the engine with the reference on many questions, tables, negotiations and messages (SEED,
+#              RANDOM_COUNT, DAMAGED_COUNT, TABLES_COUNT, NEGOTIATIONS_COUNT, TAKES_COUNT)
 # make bench   times the engine beside the reference
 # make clean   removes what the others made
 
@@ -12,6 +12,7 @@ RANDOM_COUNT = 2000000
 DAMAGED_COUNT = 2000000
 TABLES_COUNT = 1000000
 NEGOTIATIONS_COUNT = 1000000
+TAKES_COUNT = 1000000
 
 ENGINE = target/staticlib/libengine.a
 MEASURE = target/staticlib/libmeasure.a
@@ -31,7 +32,7 @@ test:
 	@exec tests/run
 
 fuzz: build/fuzz
-	build/fuzz $(SEED) $(RANDOM_COUNT) $(DAMAGED_COUNT) $(TABLES_COUNT) $(NEGOTIATIONS_COUNT)
+	build/fuzz $(SEED) $(RANDOM_COUNT) $(DAMAGED_COUNT) $(TABLES_COUNT) $(NEGOTIATIONS_COUNT) $(TAKES_COUNT)
 
 bench: build/bench
 	@build/bench

@@ -1,6 +1,7 @@
 //! Times the engine beside the reference, in microseconds a question over 64 credentials, then a check of tables at
-//! their sizes, then reports on negotiations; `bench tables` and `bench report` do one of the latter alone. `bench
-//! search STEPS [SEED]` looks for sets that take longest, `bench report search STEPS [SEED]` for negotiations.
+//! their sizes, then reports on negotiations, then takes of messages; `bench tables`, `bench report` and `bench take` do
+//! one of the latter alone. `bench search STEPS [SEED]` looks for sets that take longest, `bench report search STEPS
+//! [SEED]` for negotiations, `bench take search STEPS [SEED]` for messages.
 //!
 //! engine: the whole call. making: the part of it that reads the bytes and makes the relation. one more: asking one
 //! more question over a relation that is made already. reference: the separate code.
@@ -9,6 +10,8 @@ mod report;
 mod report_search;
 mod search;
 mod tables;
+mod take;
+mod take_search;
 
 use reference::question::{self, Lent, Question};
 use reference::sample::{Random, World};
@@ -161,15 +164,20 @@ fn main() {
             tables::table();
             println!();
             report::table();
+            println!();
+            take::table();
         }
         ["tables"] => tables::table(),
         ["report"] => report::table(),
+        ["take"] => take::table(),
         ["report", "search", steps] => report_search::search(number(steps), 1),
         ["report", "search", steps, seed] => report_search::search(number(steps), number(seed).into()),
+        ["take", "search", steps] => take_search::search(number(steps), 1),
+        ["take", "search", steps, seed] => take_search::search(number(steps), number(seed).into()),
         ["search", steps] => search::search(number(steps), 1),
         ["search", steps, seed] => search::search(number(steps), number(seed).into()),
         _ => {
-            println!("usage: bench [tables | report | search STEPS [SEED] | report search STEPS [SEED]]");
+            println!("usage: bench [tables | report | take | [report | take] search STEPS [SEED]]");
             exit(2);
         }
     }

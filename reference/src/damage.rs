@@ -47,7 +47,7 @@ fn counts(negotiation: &Negotiation) -> Result<(), Clause> {
     }
 }
 
-fn names_of(form: &Form) -> Vec<u16> {
+pub fn names_of(form: &Form) -> Vec<u16> {
     match form {
         Form::Target(expression) => names(expression),
         Form::Goal(name) => vec![*name],
@@ -55,12 +55,12 @@ fn names_of(form: &Form) -> Vec<u16> {
 }
 
 /// Each of these names has a class.
-fn have_classes(tables: &Tables, names: &[u16]) -> bool {
+pub fn have_classes(tables: &Tables, names: &[u16]) -> bool {
     names.iter().all(|&name| tables.class(name).is_some())
 }
 
 /// An issuer-def head takes any well-typed body.
-fn is_well_typed(tables: &Tables, expression: &Expression) -> bool {
+pub fn is_well_typed(tables: &Tables, expression: &Expression) -> bool {
     takes(Class::IssuerDef, expression, |name| tables.class(name).unwrap())
 }
 

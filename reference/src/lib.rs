@@ -1,5 +1,5 @@
-//! RT0 questions answered, house tables checked, negotiations begun and reported on straight from their definitions, to
-//! compare the engine with.
+//! RT0 questions answered, house tables checked, negotiations begun and reported on and messages taken straight from
+//! their definitions, to compare the engine with.
 //!
 //! `expression` has the types and their bytes. `question` reads a question's bytes and refuses wrong ones, `relation`
 //! builds "f from e" by the five conditions, `sample` makes random and damaged questions, `shapes` large ones.
@@ -14,6 +14,12 @@
 //! `edge_faults` put faults in them, `negotiation_bytes` makes both into bytes, `negotiation_counts` counts what
 //! occurred, `negotiation_shapes` and `negotiation_large` make full ones whose report takes long.
 //!
+//! `message` has the commands of messages and their bytes, `legal` judges one command and carries it out, `take` is the
+//! call. `message_writer` writes messages, `message_plan` makes the negotiations that random ones go on from,
+//! `message_sample` these messages, `message_faults` puts faults in them, `message_bytes` makes all into bytes and
+//! `take_counts` counts what occurred. `take_shapes` has the messages of the marked cases and those at the sizes,
+//! `take_large` those that last long.
+//!
 //! `refusal` numbers the refusals.
 
 pub mod begin;
@@ -23,6 +29,13 @@ pub mod damage;
 pub mod edge_faults;
 pub mod expression;
 pub mod graph;
+pub mod legal;
+pub mod message;
+pub mod message_bytes;
+pub mod message_faults;
+pub mod message_plan;
+pub mod message_sample;
+pub mod message_writer;
 pub mod negotiation;
 pub mod negotiation_bytes;
 pub mod negotiation_counts;
@@ -49,3 +62,9 @@ pub mod table_shapes;
 #[cfg(test)]
 mod table_tests;
 pub mod tables;
+pub mod take;
+pub mod take_counts;
+pub mod take_large;
+pub mod take_shapes;
+#[cfg(test)]
+mod take_tests;

@@ -114,7 +114,7 @@ fn decode_side(byte: u8) -> Option<Side> {
     [Side::Mediator, Side::Requester].into_iter().find(|&side| side as u8 == byte)
 }
 
-fn decode_form(bytes: &[u8]) -> Option<Form> {
+pub fn decode_form(bytes: &[u8]) -> Option<Form> {
     let name = number(bytes, 2);
     let rest_unused = bytes[1] == 0 && bytes[4..].iter().all(|&byte| byte == 0);
     match bytes[0] {
@@ -124,7 +124,7 @@ fn decode_form(bytes: &[u8]) -> Option<Form> {
     }
 }
 
-fn encode_form(form: &Form) -> Vec<u8> {
+pub fn encode_form(form: &Form) -> Vec<u8> {
     match form {
         Form::Target(expression) => encode_expression(expression),
         Form::Goal(name) => {

@@ -19,6 +19,20 @@ pub enum Refusal {
     Other = 7,
     /// The negotiation is damaged.
     Damaged = 20,
+    /// Not that side's turn.
+    Turn = 21,
+    /// Already ended.
+    Ended = 22,
+    /// Any command but open while no node stands, or open later.
+    Opening = 23,
     /// No such node.
     Absent = 24,
+    /// An edge of wrong form, or a node, edge or credential that is already present.
+    Fit = 25,
+    /// An edge that is not justified.
+    Unjustified = 26,
+    /// Already processed by the sender.
+    Processed = 27,
+    /// A size passed.
+    Size = 28,
 }

@@ -1,11 +1,13 @@
 //! Compares the engine's answers with the reference's, and looks whether a lent buffer was changed.
 //!
-//! fuzz [SEED [RANDOM [DAMAGED [TABLES [NEGOTIATIONS]]]]]: the seed, how many random and damaged questions to ask, how
-//! many random tables to check, and how many sound and damaged negotiations to report on. The large questions of
-//! `shapes` are asked besides, each whole and without each one of its credentials, and some tables are checked with each
-//! fault at each place. What has a count of 0 is left out.
+//! fuzz [SEED [RANDOM [DAMAGED [TABLES [NEGOTIATIONS [TAKES]]]]]]: the seed, how many random and damaged questions to
+//! ask, how many random tables to check, how many sound and damaged negotiations to report on, and how many messages to
+//! take. The large questions of `shapes` are asked besides, each whole and without each one of its credentials, some
+//! tables are checked with each fault at each place, and the messages of the marked cases and those at the sizes are
+//! taken. What has a count of 0 is left out.
 
 mod negotiations;
+mod takes;
 
 use negotiations::ask_negotiations;
 use reference::question::{self, Lent};
@@ -14,6 +16,7 @@ use reference::shapes;
 use reference::table_bytes::each_fault_of_each_size;
 use reference::tables;
 use std::process::exit;
+use takes::ask_takes;
 
 #[link(name = "engine", kind = "static")]
 extern "C" {
@@ -186,7 +189,7 @@ fn argument(at: usize, default: u64) -> u64 {
     match std::env::args().nth(at) {
         None => default,
         Some(word) => word.parse().unwrap_or_else(|_| {
-            eprintln!("usage: fuzz [SEED [RANDOM [DAMAGED [TABLES [NEGOTIATIONS]]]]], each a number");
+            eprintln!("usage: fuzz [SEED [RANDOM [DAMAGED [TABLES [NEGOTIATIONS [TAKES]]]]]], each a number");
             exit(2)
         }),
     }
@@ -226,6 +229,7 @@ fn ask_questions(seed: u64, random_count: u64, damaged_count: u64) -> (u64, u64)
 fn main() {
     let (seed, random_count, damaged_count) = (argument(1, 1), argument(2, 200_000), argument(3, 200_000));
     let (tables_count, negotiations_count) = (argument(4, 100_000), argument(5, 100_000));
+    let takes_count = argument(6, 100_000);
     let mut results = Vec::new();
     if random_count + damaged_count > 0 {
         results.push(ask_questions(seed, random_count, damaged_count));
@@ -235,6 +239,9 @@ fn main() {
     }
     if negotiations_count > 0 {
         results.push(ask_negotiations(seed, negotiations_count));
+    }
+    if takes_count > 0 {
+        results.push(ask_takes(seed, takes_count));
     }
     let passed: u64 = results.iter().map(|(passed, _)| passed).sum();
     let failed: u64 = results.iter().map(|(_, failed)| failed).sum();
