@@ -49,7 +49,7 @@ module _ (ns : List Name) (before : List Node) (n : Node) where
 
 -- a search for a node finds none exactly where none is it
 module _ (N : Nodes) (x : Expression) (v s : ℕ) (few : N .count ≤ 128) where
-  found-none : eqb (findNode (nodesOf N) x v s) 128 ≡ not (any (isNode x v s) (nodesOf N))
+  pub found-none : eqb (findNode (nodesOf N) x v s) 128 ≡ not (any (isNode x v s) (nodesOf N))
   unfolding nodesOf
   found-none = ⊎-elim
       (λ a. eq-eqb (findNode (nodesOf N) x v s) 128 (a .number) ∙ ap not (any-none {t = isNode x v s} {g = nodeAt N} (N .count) (record { none = λ i l. ap (isNode x v s) (sym (node-in N i l)) ∙ a .none i (omega (arith, nodes-length N)) }) (omega arith)))

@@ -24,8 +24,9 @@ use Rattle.message.specs.CommandExact.{command-formed}
 use Rattle.negotiation.specs.declared.Header.{Header}
 use Rattle.negotiation.specs.State.{State, within, withNode, withEdge, withShown, withMark}
 use Rattle.update.specs.Step.{primaryOf, childIn, stepped, isMove}
-use Rattle.update.specs.Legal.{refuse, typeNumber, isFresh, showNumber, openNumber, bringNumber, joinNumber, markNumber, endNumber, legalNumber}
-use Rattle.update.specs.Kept.{GraphKept, refuse-none, first-none}
+use Rattle.update.specs.Legal.{refuse, typeNumber, isFresh, showNumber, openNumber, bringNumber, joinNumber, markNumber, endNumber, legalBy, legalNumber}
+use Rattle.update.specs.LegalLaws.{refuse-none, first-none}
+use Rattle.update.specs.Kept.{GraphKept}
 use Rattle.update.specs.KeptStep.{open-kept, step-kept}
 use Rattle.update.specs.RoomLaws.{legal-room, step-within}
 use Rattle.take.specs.Commands.{Taken, refused, taken, judged, isEnd, onCommand, commandsFrom}
@@ -155,7 +156,7 @@ module _ (ns : List Name) (s : ℕ) (S : State) (fresh : isFresh S ≡ true) whe
   fresh-refuses rest h = false-true (sym (refuse-none (isFresh S) 23 rest (omega arith) h .0) ∙ fresh)
 
   fresh-open : (c : Command) → legalNumber ns s S c ≡ 0 → (o : Opening) × (c ≡ Open o)
-  unfolding legalNumber showNumber bringNumber joinNumber markNumber endNumber
+  unfolding legalNumber legalBy showNumber bringNumber joinNumber markNumber endNumber
   fresh-open (Show c) h = absurd (fresh-refuses _ (first-none (credentialNumber ns c) _ h .1))
   fresh-open (Open o) h = (o, refl)
   fresh-open (Bring n) h = absurd (fresh-refuses _ (first-none (typeNumber (typeOf ns (n .expression))) _ h .1))

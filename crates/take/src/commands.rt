@@ -6,9 +6,13 @@ use message::CommandAnswer;
 use message::read_command;
 use message::size_of;
 use negotiation::Negotiation;
+use update::is_implication;
+use update::is_justified;
 use update::is_move;
+use update::known_of;
 use update::legal;
 use update::step;
+use update::unknown;
 ghost use mathlib.Core.Path.{_≡_};
 ghost use mathlib.Core.Bool.{true, false};
 ghost use Prim.Native.Nat.{_≤_};
@@ -18,7 +22,7 @@ ghost use Rattle.graph.specs.Graph.{nodesOf};
 ghost use Rattle.states.specs.Brings.{NodesFormed};
 ghost use Rattle.negotiation.specs.State.{stateOf, within};
 ghost use Rattle.take.specs.Commands.{isEnd, commandsFrom, takenOf};
-ghost use Rattle.take.specs.CommandsLaws.{refusalOf, Room};
+ghost use Rattle.take.specs.CommandsLaws.{refusalOf, isCredential, Room};
 
 const COMMAND: u64 = 2;
 
@@ -55,7 +59,22 @@ pub fn taking(refusal: u64, moved: bool, negotiation: Negotiation) -> Taking
     }
 }
 
-// Each command is judged and carried out before the next is read.
+// Whether a command shows a credential.
+fn is_credential(c: Command) -> bool
+    ensures { λ r. ⌜ r ≡ isCredential c ⌝ }
+{
+    match c {
+        Command::Show(_) => true,
+        Command::Open(_) => false,
+        Command::Bring(_) => false,
+        Command::Join(_) => false,
+        Command::Mark(_) => false,
+        Command::End => false,
+    }
+}
+
+// Each command is judged and carried out before the next is read. What the credentials shown prove is found again only where an implication asks
+// it and a credential has come since.
 pub fn take_commands(names: Names, sender: u8, start: Negotiation, message: &[u8]) -> Taking
     requires { ⌜ (names .count ≤ 64) × Ascending (names .count) (names .name) × (within (stateOf start) ≡ true) × NodesFormed (nodesOf (start .nodes)) × (length (now message) ≤ 4096) ⌝ }
     ensures taken { λ r. ⌜ takenOf r ≡ commandsFrom (length (now (message .entry))) (namesOf names) sender (now (message .entry)) 0 (stateOf start) false ⌝ }
@@ -63,13 +82,20 @@ pub fn take_commands(names: Names, sender: u8, start: Negotiation, message: &[u8
 {
     let mut n = start;
     let mut moved = false;
+    let mut known = unknown();
+    let mut stale = true;
     let mut at = 0;
     while at < message.len() {
         let a = read_command(message, at);
         let CommandAnswer::Read(c) = a else {
             return taking(refusal_of(a), moved, n);
         };
-        let k = legal(names, sender, n, c);
+        if stale & is_implication(c) {
+            let shown = n.shown;
+            known = known_of(shown);
+            stale = false;
+        }
+        let k = legal(names, sender, n, c, is_justified(n, known, c));
         if k != 0 {
             return taking(k, moved, n);
         }
@@ -79,6 +105,7 @@ pub fn take_commands(names: Names, sender: u8, start: Negotiation, message: &[u8
         let next = step(n, sender, c);
         n = next;
         moved = moved | is_move(c);
+        stale = stale | is_credential(c);
         at += size_of(c);
     }
     taking(COMMAND, moved, n)

@@ -18,7 +18,7 @@ use Rattle.graph.specs.declared.Nodes.{Nodes}
 use Rattle.graph.specs.declared.Edges.{Edges}
 use Rattle.graph.specs.Graph.{nodesOf, edgesOf, edgeAt, nodeIn}
 use Rattle.graph.specs.Form.{form}
-use Rattle.graph.specs.Find.{findNode, hasEdge}
+use Rattle.graph.specs.Find.{isNode, findNode, hasEdge}
 use Rattle.states.specs.Brings.{NodesFormed, Joined, Needs}
 use Rattle.states.specs.Complete.{satisfied-read}
 use Rattle.justification.specs.Justified.{monitors, monitored, monitoredIf, implied, impliedIf, justified, Says}
@@ -27,6 +27,7 @@ use Rattle.negotiation.specs.declared.Header.{Header}
 use Rattle.negotiation.specs.declared.Negotiation.{Negotiation}
 use Rattle.negotiation.specs.State.{State, stateOf}
 use Rattle.damage.specs.Header.{entityOf}
+use Rattle.damage.specs.RecordsLaws.{found-none}
 use Rattle.update.specs.Step.{childOf}
 use Rattle.update.specs.Legal.{formedAs, joinWrong, bringWrong, justifiedBy, justifiedFor}
 use Rattle.update.specs.LegalLaws.{by-implied, by-monitored, by-kind}
@@ -68,6 +69,10 @@ join-justified S e h = λ i.
     (not (eqb (e .kind) 1) || fromOf (S .shown) (nodeIn (S .nodes) (e .parent) .expression) (h i .expression))
     && (not (eqb (e .kind) 4) || any (monitors (S .nodes) (S .edges) (nodeIn (S .nodes) (e .parent) .expression) (h i .subject) (e .parent)) (S .edges))
 
+not-not : (b : Bool) → not (not b) ≡ b
+not-not true = refl
+not-not false = refl
+
 -- Form
 
 pub formed-is : (h : Header) (k : ℕ) (p c : Node) {v : ℕ} {r : Bool} → v ≡ entityOf h (p .verifier) → r ≡ form k v p c → r ≡ formedAs h k p c
@@ -94,14 +99,16 @@ module _ (n : Negotiation) (b : NewEdge) (p c : Node) {f : Bool} (pe : p ≡ nod
   child : c ≡ childOf (nodeIn (nodesOf (n .nodes)) (b .parent)) b
   child = ce ∙ ap (λ (x : Node). childOf x b) pe
 
-  by-bring : (a : Bool) (r : ℕ) → a ≡ f → r ≡ findNode (nodesOf (n .nodes)) (b .expression) (c .verifier) (b .subject) → (not a || not (eqb r 128)) ≡ bringWrong (stateOf n) b
+  by-bring : (a r : Bool) → a ≡ f → r ≡ any (isNode (b .expression) (c .verifier) (b .subject)) (nodesOf (n .nodes)) → (not a || r) ≡ bringWrong (stateOf n) b
   unfolding bringWrong stateOf
   by-bring a r x y = λ i.
       not ((x ∙ fe ∙ (λ j. formedAs (n .header) (b .kind) (pe j) (child j))) i)
-      || not (eqb ((y ∙ ap (λ (z : Node). findNode (nodesOf (n .nodes)) (b .expression) (z .verifier) (b .subject)) child) i) 128)
+      || (y ∙ ap (λ (z : Node). any (isNode (b .expression) (z .verifier) (b .subject)) (nodesOf (n .nodes))) child) i
 
   pub bring-unformed : not f ≡ true → true ≡ bringWrong (stateOf n) b
   bring-unformed h = by-bring false _ (sym (not-true f h)) refl
 
-  pub bring-there : {r : ℕ} → not f ≡ false → r ≡ findNode (nodesOf (n .nodes)) (b .expression) (c .verifier) (b .subject) → not (eqb r 128) ≡ bringWrong (stateOf n) b
-  bring-there {r} h q = by-bring true r (sym (not-false f h)) q
+  pub bring-there : {r : ℕ} → n .nodes .count ≤ 128 → not f ≡ false → r ≡ findNode (nodesOf (n .nodes)) (b .expression) (c .verifier) (b .subject) → not (eqb r 128) ≡ bringWrong (stateOf n) b
+  bring-there {r} few h q =
+      by-bring true (not (eqb r 128)) (sym (not-false f h))
+      (ap (λ (k : ℕ). not (eqb k 128)) q ∙ ap not (found-none (n .nodes) (b .expression) (c .verifier) (b .subject) few) ∙ not-not (any (isNode (b .expression) (c .verifier) (b .subject)) (nodesOf (n .nodes))))

@@ -33,7 +33,8 @@ use Rattle.damage.specs.EdgesLaws.{brought-more}
 use Rattle.damage.specs.Damage.{recordsSound, edgesJustified}
 use Rattle.damage.specs.DamageLaws.{sound-legal, fits-sound}
 use Rattle.update.specs.Step.{markedState, stepped}
-use Rattle.update.specs.Legal.{refuse, first, isFresh, isAbsent, formedAs, showNumber, joinWrong, joinNumber, markNumber, legalNumber}
+use Rattle.update.specs.Legal.{refuse, first, isFresh, isAbsent, formedAs, showNumber, joinWrong, joinNumber, markNumber, justifiedIn, legalBy, legalNumber}
+use Rattle.update.specs.LegalLaws.{refuse-none, first-none, or-false}
 use Rattle.update.specs.Growth.{Each, Ends, turn-last, turn-more, turn-at, fits-of, edges-ends, all-fit, all-justified}
 use Rattle.update.specs.Marked.{marked-legal, marked-gains, turn-marked}
 
@@ -42,25 +43,6 @@ pub record GraphKept (ns : List Name) (S : State) : Type 0 where
   pub records : recordsSound ns S ≡ true
   pub edges : allBrought (S .header) (S .nodes) (S .edges) ≡ true
   pub justified : edgesJustified S ≡ true
-
--- What is not refused
-
-pub refuse-none : (b : Bool) (k rest : ℕ) → 0 < k → refuse b k rest ≡ 0 → (b ≡ false) × (rest ≡ 0)
-unfolding refuse
-refuse-none true k rest l h = absurd (omega arith)
-refuse-none false k rest l h = (refl, h)
-
-pub first-none : (k rest : ℕ) → first k rest ≡ 0 → (k ≡ 0) × (rest ≡ 0)
-unfolding first
-first-none k rest h = go (eqb k 0) refl h
-  where
-    go : (b : Bool) → eqb k 0 ≡ b → cond b rest k ≡ 0 → (k ≡ 0) × (rest ≡ 0)
-    go true e g = (eqb-true k 0 e, g)
-    go false e g = absurd (eqb-false k 0 e g)
-
-pub or-false : (a b : Bool) → (a || b) ≡ false → (a ≡ false) × (b ≡ false)
-or-false true b h = absurd (false-true (sym h))
-or-false false b h = (refl, h)
 
 -- a node that is not absent stands
 pub present : (S : State) (i : ℕ) → isAbsent S i ≡ false → i < length (S .nodes)
@@ -115,7 +97,7 @@ justified-more cs c xs b e h =
 
 module _ (ns : List Name) (s : ℕ) (S : State) (c : Credential) where
   show-fits : formedCommand (Show c) ≡ true → legalNumber ns s S (Show c) ≡ 0 → credentialFits ns (S .shown) c ≡ true
-  unfolding formedCommand legalNumber showNumber credentialFits credentialSound
+  unfolding formedCommand legalNumber legalBy showNumber credentialFits credentialSound
   show-fits f l =
       let p = first-none (credentialNumber ns c) _ l in
       let q = refuse-none (isFresh S) 23 _ (omega arith) (p .1) in
@@ -138,17 +120,17 @@ module _ (ns : List Name) (s : ℕ) (S : State) (e : Edge) where
   -- what a legal edge between old nodes has
   join-parts : legalNumber ns s S (Join e) ≡ 0
       → (e .parent < length (S .nodes)) × (e .child < length (S .nodes)) × (formed (S .header) (S .nodes) e ≡ true) × (eqb (e .parent) (e .child) ≡ false) × (hasEdge (S .edges) e ≡ false) × (justified (S .shown) (S .nodes) (S .edges) e ≡ true)
-  unfolding legalNumber joinNumber joinWrong formed formedAs
+  unfolding legalNumber legalBy justifiedIn joinNumber joinWrong formed formedAs
   join-parts l =
       let a = refuse-none (isFresh S) 23 _ (omega arith) l in
-      let b = refuse-none (isAbsent S (e .parent)) 24 _ (omega arith) (a .1) in
-      let k = refuse-none (isAbsent S (e .child)) 24 _ (omega arith) (b .1) in
-      let c = refuse-none (joinWrong S e) 25 _ (omega arith) (k .1) in
+      let b = refuse-none (isAbsent S (e .parent) || isAbsent S (e .child)) 24 _ (omega arith) (a .1) in
+      let k = or-false (isAbsent S (e .parent)) (isAbsent S (e .child)) (b .0) in
+      let c = refuse-none (joinWrong S e) 25 _ (omega arith) (b .1) in
       let d = refuse-none (not (justified (S .shown) (S .nodes) (S .edges) e)) 26 _ (omega arith) (c .1) in
       let f : Bool = formedAs (S .header) (e .kind) (nodeIn (S .nodes) (e .parent)) (nodeIn (S .nodes) (e .child)) in
       let y = or-false (not f) (eqb (e .parent) (e .child) || hasEdge (S .edges) e) (c .0) in
       let z = or-false (eqb (e .parent) (e .child)) (hasEdge (S .edges) e) (y .1) in
-      (present S (e .parent) (b .0), present S (e .child) (k .0), not-false f (y .0), z .0, z .1, not-false (justified (S .shown) (S .nodes) (S .edges) e) (d .0))
+      (present S (e .parent) (k .0), present S (e .child) (k .1), not-false f (y .0), z .0, z .1, not-false (justified (S .shown) (S .nodes) (S .edges) e) (d .0))
 
   pub join-kept : GraphKept ns S → legalNumber ns s S (Join e) ≡ 0 → GraphKept ns (stepped S s (Join e))
   unfolding stepped withEdge edgesJustified brought
@@ -169,7 +151,7 @@ module _ (ns : List Name) (s : ℕ) (S : State) (e : Edge) where
 
 module _ (ns : List Name) (s : ℕ) (S : State) (i : ℕ) where
   mark-present : legalNumber ns s S (Mark i) ≡ 0 → i < length (S .nodes)
-  unfolding legalNumber markNumber
+  unfolding legalNumber legalBy markNumber
   mark-present l = present S i (refuse-none (isAbsent S i) 24 _ (omega arith) (refuse-none (isFresh S) 23 _ (omega arith) l .1) .0)
 
   pub mark-kept : GraphKept ns S → (length (S .nodes) ≡ 0 → ⊥) → legalNumber ns s S (Mark i) ≡ 0 → GraphKept ns (stepped S s (Mark i))

@@ -40,9 +40,10 @@ use Rattle.damage.specs.DamageLaws.{fits-sound}
 use Rattle.update.specs.Limits.{nodesMost}
 use Rattle.update.specs.Step.{processedBy, verifierOf, childOf, parentIn, childIn, edgeIn, stepped}
 use Rattle.update.specs.NewChild.{bring-justified}
-use Rattle.update.specs.Legal.{isFresh, isAbsent, formedAs, typeNumber, bringWrong, justifiedFor, bringNumber, legalNumber}
+use Rattle.update.specs.Legal.{isFresh, isAbsent, formedAs, typeNumber, bringWrong, justifiedFor, bringNumber, justifiedIn, legalBy, legalNumber}
 use Rattle.update.specs.Growth.{Each, Ends, turn-last, turn-at, fits-of, all-fit, all-justified}
-use Rattle.update.specs.Kept.{GraphKept, refuse-none, first-none, or-false, present, record-parts, records-of, brought-parts, brought-of, all-ends}
+use Rattle.update.specs.LegalLaws.{refuse-none, first-none, or-false}
+use Rattle.update.specs.Kept.{GraphKept, present, record-parts, records-of, brought-parts, brought-of, all-ends}
 
 -- an expression that is not refused keeps the class rules
 typed : (t : Typing) → typeNumber t ≡ 0 → isTyped t ≡ true
@@ -79,19 +80,12 @@ new-edge es e h =
     let q = and-parts (eqb (r .0 .kind) (e .kind) && eqb (r .0 .parent) (e .parent)) (eqb (r .0 .child) (e .child)) (r .2) in
     omega (arith, eqb-true (r .0 .child) (e .child) (q .1), h (r .0) (r .1) .1))
 
--- a search that finds no node
-found-none : (xs : List Node) (x : Expression) (v b : ℕ) → length xs < 128 → findNode xs x v b ≡ 128 → any (isNode x v b) xs ≡ false
-found-none xs x v b few e = ⊎-elim
-    (λ a. not-of (any (isNode x v b) xs) (λ z. let r = any-find (isNode x v b) xs z in let k = mem-index blank (r .1) in false-true (sym (a .none (k .0) (k .1)) ∙ ap (isNode x v b) (k .2) ∙ r .2)))
-    (λ f. absurd (omega (arith, f .inside)))
-    (find-cases xs x v b)
-
 module _ (ns : List Name) (s : ℕ) (S : State) (n : NewEdge) where
   -- what a legal edge with a new child has
   bring-parts : legalNumber ns s S (Bring n) ≡ 0
       → (isTyped (typeOf ns (n .expression)) ≡ true) × (n .parent < length (S .nodes)) × (formedAs (S .header) (n .kind) (nodeIn (S .nodes) (n .parent)) (childIn S n) ≡ true)
       × (any (isNode (n .expression) (childIn S n .verifier) (n .subject)) (S .nodes) ≡ false) × (justifiedFor S (n .kind) (n .parent) (n .expression) (n .subject) ≡ true)
-  unfolding legalNumber bringNumber bringWrong
+  unfolding legalNumber legalBy justifiedIn bringNumber bringWrong
   bring-parts l =
       let v : ℕ = childIn S n .verifier in
       let t = first-none (typeNumber (typeOf ns (n .expression))) _ l in
@@ -99,12 +93,9 @@ module _ (ns : List Name) (s : ℕ) (S : State) (n : NewEdge) where
       let b = refuse-none (isAbsent S (n .parent)) 24 _ (omega arith) (a .1) in
       let c = refuse-none (bringWrong S n) 25 _ (omega arith) (b .1) in
       let d = refuse-none (not (justifiedFor S (n .kind) (n .parent) (n .expression) (n .subject))) 26 _ (omega arith) (c .1) in
-      let e = refuse-none (processedBy s (parentIn S n)) 27 _ (omega arith) (d .1) in
-      let r = refuse-none (leb nodesMost (length (S .nodes))) 28 _ (omega arith) (e .1) in
       let f : Bool = formedAs (S .header) (n .kind) (nodeIn (S .nodes) (n .parent)) (childIn S n) in
-      let w = or-false (not f) (not (eqb (findNode (S .nodes) (n .expression) v (n .subject)) 128)) (c .0) in
-      let z : findNode (S .nodes) (n .expression) v (n .subject) ≡ 128 = eqb-true (findNode (S .nodes) (n .expression) v (n .subject)) 128 (not-false (eqb (findNode (S .nodes) (n .expression) v (n .subject)) 128) (w .1)) in
-      (typed (typeOf ns (n .expression)) (t .0), present S (n .parent) (b .0), not-false f (w .0), found-none (S .nodes) (n .expression) v (n .subject) (leb-false 128 (length (S .nodes)) (r .0)) z, not-false (justifiedFor S (n .kind) (n .parent) (n .expression) (n .subject)) (d .0))
+      let w = or-false (not f) (any (isNode (n .expression) v (n .subject)) (S .nodes)) (c .0) in
+      (typed (typeOf ns (n .expression)) (t .0), present S (n .parent) (b .0), not-false f (w .0), w .1, not-false (justifiedFor S (n .kind) (n .parent) (n .expression) (n .subject)) (d .0))
 
   child-sound : nodeIn (S .nodes) (n .parent) .verifier < 2 → formedCommand (Bring n) ≡ true → isTyped (typeOf ns (n .expression)) ≡ true → nodeSound ns (childIn S n) ≡ true
   unfolding formedCommand nodeSound childOf

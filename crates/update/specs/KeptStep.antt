@@ -30,8 +30,9 @@ use Rattle.damage.specs.Records.{isTyped, nodeSound, nodeFits, primarySound, cr
 use Rattle.damage.specs.Edges.{broughtFrom, brought, edgeFits}
 use Rattle.damage.specs.Damage.{edgesJustified}
 use Rattle.update.specs.Step.{primaryOf, stepped}
-use Rattle.update.specs.Legal.{isFresh, openNumber, legalNumber}
-use Rattle.update.specs.Kept.{GraphKept, refuse-none, records-of, brought-of, show-kept, join-kept, mark-kept}
+use Rattle.update.specs.Legal.{isFresh, openNumber, legalBy, legalNumber}
+use Rattle.update.specs.LegalLaws.{refuse-none}
+use Rattle.update.specs.Kept.{GraphKept, records-of, brought-of, show-kept, join-kept, mark-kept}
 use Rattle.update.specs.KeptBring.{bring-kept}
 
 -- 0x02
@@ -54,7 +55,7 @@ module _ (ns : List Name) (S : State) (o : Opening) (side : S .header .side ≡ 
       (ap (λ (v : ℕ). cond (eqb v 0) b true) side)
 
   opened-sound : (S .header .own ≡ 0 → ⊥) → formedCommand (Open o) ≡ true → legalNumber ns 0 S (Open o) ≡ 0 → nodeSound ns (primaryOf (S .header) o) ≡ true
-  unfolding formedCommand legalNumber openNumber nodeSound primaryOf typeOf named
+  unfolding formedCommand legalNumber legalBy openNumber nodeSound primaryOf typeOf named
   opened-sound own f l =
       let x = E.Role (o .role) in
       let k : ℕ = classOf ns (o .role .name) in
@@ -86,7 +87,7 @@ module _ (ns : List Name) (S : State) (o : Opening) (side : S .header .side ≡ 
 
 -- where a node stands, open is refused
 open-refused : (ns : List Name) (s : ℕ) (S : State) (o : Opening) → (length (S .nodes) ≡ 0 → ⊥) → legalNumber ns s S (Open o) ≡ 0 → ⊥
-unfolding legalNumber openNumber isFresh
+unfolding legalNumber legalBy openNumber isFresh
 open-refused ns s S o some l =
     let a = refuse-none (eqb (classOf ns (o .role .name)) 0) 4 _ (omega arith) l in
     some (eqb-true (length (S .nodes)) 0 (not-false (eqb (length (S .nodes)) 0) (refuse-none (not (eqb (length (S .nodes)) 0)) 23 _ (omega arith) (a .1) .0)))

@@ -1,7 +1,7 @@
 -- Which commands are legal (document 01, "From the input" and "From the state"): zero, or the refusal number; each command by rising number.
 -- Assumes nothing.
 use Prim.Native.Nat.{ℕ}
-use mathlib.Core.Bool.{Bool, not, cond, _&&_, _||_}
+use mathlib.Core.Bool.{Bool, true, not, cond, _&&_, _||_}
 use mathlib.Core.List.{List}
 use lib.Dec.{eqb, leb}
 use lib.ListN.{length}
@@ -18,7 +18,7 @@ use Rattle.graph.specs.declared.Node.{Node}
 use Rattle.graph.specs.declared.Edge.{Edge}
 use Rattle.graph.specs.Graph.{nodeIn}
 use Rattle.graph.specs.Form.{form}
-use Rattle.graph.specs.Find.{findNode, hasEdge}
+use Rattle.graph.specs.Find.{isNode, hasEdge}
 use Rattle.justification.specs.Justified.{monitors, justified}
 use Rattle.message.specs.declared.Opening.{Opening}
 use Rattle.message.specs.declared.NewEdge.{NewEdge}
@@ -96,16 +96,16 @@ justifiedFor S k p x b =
     (fromOf (S .shown) (nodeIn (S .nodes) p .expression) x)
     (any (monitors (S .nodes) (S .edges) (nodeIn (S .nodes) p .expression) b p) (S .edges))
 
-unfoldable pub joinNumber : ℕ → State → Edge → ℕ
-joinNumber s S e =
+-- the last is whether the edge is justified
+unfoldable pub joinNumber : ℕ → State → Edge → Bool → ℕ
+joinNumber s S e justifies =
     refuse (isFresh S) 23
-    (refuse (isAbsent S (e .parent)) 24
-    (refuse (isAbsent S (e .child)) 24
+    (refuse (isAbsent S (e .parent) || isAbsent S (e .child)) 24
     (refuse (joinWrong S e) 25
-    (refuse (not (justified (S .shown) (S .nodes) (S .edges) e)) 26
+    (refuse (not justifies) 26
     (refuse (processedBy s (nodeIn (S .nodes) (e .parent))) 27
     (refuse (leb edgesMost (length (S .edges))) 28
-    0))))))
+    0)))))
 
 -- "4 a name without class", "5 a class rule broken"
 abbrev pub typeNumber : Typing → ℕ
@@ -114,29 +114,40 @@ typeNumber Ill = 5
 typeNumber Any = 0
 typeNumber (Class a) = 0
 
--- 0x03: "edge form wrong, or node .. already present"; a search that finds no node answers 128
+-- 0x03: "edge form wrong, or node .. already present"
 unfoldable pub bringWrong : State → NewEdge → Bool
 bringWrong S n =
     not (formedAs (S .header) (n .kind) (parentIn S n) (childIn S n))
-    || not (eqb (findNode (S .nodes) (n .expression) (childIn S n .verifier) (n .subject)) 128)
+    || any (isNode (n .expression) (childIn S n .verifier) (n .subject)) (S .nodes)
 
-unfoldable pub bringNumber : List Name → ℕ → State → NewEdge → ℕ
-bringNumber ns s S n =
+unfoldable pub bringNumber : List Name → ℕ → State → NewEdge → Bool → ℕ
+bringNumber ns s S n justifies =
     first (typeNumber (typeOf ns (n .expression)))
     (refuse (isFresh S) 23
     (refuse (isAbsent S (n .parent)) 24
     (refuse (bringWrong S n) 25
-    (refuse (not (justifiedFor S (n .kind) (n .parent) (n .expression) (n .subject))) 26
+    (refuse (not justifies) 26
     (refuse (processedBy s (nodeIn (S .nodes) (n .parent))) 27
-    (refuse (leb nodesMost (length (S .nodes))) 28
-    (refuse (leb edgesMost (length (S .edges))) 28
-    0)))))))
+    (refuse (leb nodesMost (length (S .nodes)) || leb edgesMost (length (S .edges))) 28
+    0))))))
 
--- a command of side s
+-- whether the edge that a command adds is justified
+unfoldable pub justifiedIn : State → Command → Bool
+justifiedIn S (Show c) = true
+justifiedIn S (Open o) = true
+justifiedIn S (Bring n) = justifiedFor S (n .kind) (n .parent) (n .expression) (n .subject)
+justifiedIn S (Join e) = justified (S .shown) (S .nodes) (S .edges) e
+justifiedIn S (Mark i) = true
+justifiedIn S End = true
+
+-- a command of side s, and whether its edge is justified
+unfoldable pub legalBy : List Name → ℕ → State → Command → Bool → ℕ
+legalBy ns s S (Show c) justifies = showNumber ns S c
+legalBy ns s S (Open o) justifies = openNumber ns S o
+legalBy ns s S (Bring n) justifies = bringNumber ns s S n justifies
+legalBy ns s S (Join e) justifies = joinNumber s S e justifies
+legalBy ns s S (Mark i) justifies = markNumber s S i
+legalBy ns s S End justifies = endNumber S
+
 unfoldable pub legalNumber : List Name → ℕ → State → Command → ℕ
-legalNumber ns s S (Show c) = showNumber ns S c
-legalNumber ns s S (Open o) = openNumber ns S o
-legalNumber ns s S (Bring n) = bringNumber ns s S n
-legalNumber ns s S (Join e) = joinNumber s S e
-legalNumber ns s S (Mark i) = markNumber s S i
-legalNumber ns s S End = endNumber S
+legalNumber ns s S c = legalBy ns s S c (justifiedIn S c)

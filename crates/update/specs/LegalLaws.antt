@@ -4,10 +4,11 @@ use native.Mathlib.Omega.{arith}
 use mathlib.Core.Path.{_≡_, refl, sym, _∙_, ap}
 use mathlib.Core.Bool.{Bool, true, false, not, cond, _&&_, _||_}
 use mathlib.Core.List.{List}
-use borrow.Author.Tests.{eq-eqb, ne-eqb, le-leb, lt-leb, leb-true}
+use borrow.Author.Tests.{eq-eqb, ne-eqb, eqb-true, eqb-false, le-leb, lt-leb, leb-true}
 use lib.Dec.{eqb, leb}
 use lib.ListN.{length}
 use Rattle.expression.specs.Laws.{and-left, and-right}
+use Rattle.rt0.specs.Lists.{false-true}
 use Rattle.rt0.specs.Pool.{credentials}
 use Rattle.rt0.specs.Added.{count-length}
 use Rattle.class.specs.declared.Name.{Name}
@@ -16,7 +17,7 @@ use Rattle.graph.specs.Columns.{nodes-length, edges-length}
 use Rattle.message.specs.declared.Command.{Command}
 use Rattle.negotiation.specs.declared.Negotiation.{Negotiation}
 use Rattle.negotiation.specs.State.{State, stateOf, within}
-use Rattle.update.specs.Legal.{refuse, first, isFresh, isAbsent, justifiedBy, legalNumber}
+use Rattle.update.specs.Legal.{refuse, first, isFresh, isAbsent, justifiedBy, legalBy}
 
 module _ (b : Bool) (k rest : ℕ) where
   -- the test holds
@@ -37,6 +38,24 @@ module _ (n k rest : ℕ) (e : n ≡ k) where
   pub first-passes : {r : ℕ} → n ≡ 0 → r ≡ rest → r ≡ first k rest
   unfolding first
   first-passes h q = q ∙ ap (λ (a : Bool). cond a rest n) (sym (eq-eqb n 0 h)) ∙ ap (λ (m : ℕ). cond (eqb m 0) rest m) e
+
+-- what is not refused was not to be refused, and is not refused further on
+pub refuse-none : (b : Bool) (k rest : ℕ) → 0 < k → refuse b k rest ≡ 0 → (b ≡ false) × (rest ≡ 0)
+unfolding refuse
+refuse-none true k rest l h = absurd (omega arith)
+refuse-none false k rest l h = (refl, h)
+
+pub first-none : (k rest : ℕ) → first k rest ≡ 0 → (k ≡ 0) × (rest ≡ 0)
+unfolding first
+first-none k rest h = go (eqb k 0) refl h
+  where
+    go : (b : Bool) → eqb k 0 ≡ b → cond b rest k ≡ 0 → (k ≡ 0) × (rest ≡ 0)
+    go true e g = (eqb-true k 0 e, g)
+    go false e g = absurd (eqb-false k 0 e g)
+
+pub or-false : (a b : Bool) → (a || b) ≡ false → (a ≡ false) × (b ≡ false)
+or-false true b h = absurd (false-true (sym h))
+or-false false b h = (refl, h)
 
 module _ (n : Negotiation) where
   pub fresh-yes : n .nodes .count ≡ 0 → isFresh (stateOf n) ≡ true
@@ -67,11 +86,18 @@ module _ (n : Negotiation) where
   pub edges-room : n .edges .count < 256 → leb 256 (length (edgesOf (n .edges))) ≡ false
   edges-room h = lt-leb 256 (length (edgesOf (n .edges))) (omega (arith, edges-length (n .edges)))
 
-  pub nodes-full : 128 ≤ n .nodes .count → leb 128 (length (nodesOf (n .nodes))) ≡ true
-  nodes-full h = le-leb 128 (length (nodesOf (n .nodes))) (omega (arith, nodes-length (n .nodes)))
+  pub sizes-same : (leb 128 (n .nodes .count) || leb 256 (n .edges .count)) ≡ (leb 128 (length (nodesOf (n .nodes))) || leb 256 (length (edgesOf (n .edges))))
+  sizes-same = λ i. leb 128 (sym (nodes-length (n .nodes)) i) || leb 256 (sym (edges-length (n .edges)) i)
 
-  pub nodes-room : n .nodes .count < 128 → leb 128 (length (nodesOf (n .nodes))) ≡ false
-  nodes-room h = lt-leb 128 (length (nodesOf (n .nodes))) (omega (arith, nodes-length (n .nodes)))
+  -- one of two nodes is absent
+  pub both-present : (i j : ℕ) → i < n .nodes .count → j < n .nodes .count → (isAbsent (stateOf n) i || isAbsent (stateOf n) j) ≡ false
+  both-present i j h g = λ t. absent-no i h t || absent-no j g t
+
+  pub parent-absent : (i j : ℕ) → n .nodes .count ≤ i → (isAbsent (stateOf n) i || isAbsent (stateOf n) j) ≡ true
+  parent-absent i j h = ap (λ (b : Bool). b || isAbsent (stateOf n) j) (absent-yes i h)
+
+  pub child-absent : (i j : ℕ) → i < n .nodes .count → n .nodes .count ≤ j → (isAbsent (stateOf n) i || isAbsent (stateOf n) j) ≡ true
+  child-absent i j h g = λ t. absent-no i h t || absent-yes j g t
 
 -- Justification, by kind
 
@@ -107,5 +133,5 @@ within-few n h =
       omega (arith, count-length (n .shown), leb-true (length (credentials (n .shown))) 64 (and-right (a && b) d h)),
     )
 
-pub legal-for : (ns : List Name) (s : ℕ) (S : State) (c k : Command) {r : ℕ} → c ≡ k → r ≡ legalNumber ns s S k → r ≡ legalNumber ns s S c
-legal-for ns s S c k h e = e ∙ ap (legalNumber ns s S) (sym h)
+pub legal-for : (ns : List Name) (s : ℕ) (S : State) (c k : Command) (j : Bool) {r : ℕ} → c ≡ k → r ≡ legalBy ns s S k j → r ≡ legalBy ns s S c j
+legal-for ns s S c k j h e = e ∙ ap (λ (d : Command). legalBy ns s S d j) (sym h)

@@ -3,7 +3,10 @@ pub mod Step
 pub mod StepLaws
 pub mod Legal
 pub mod LegalLaws
+pub mod Known
+pub mod Judged
 pub mod EdgeLaws
+pub mod JudgedLaws
 pub mod RoomLaws
 pub mod NewChild
 pub mod StepFormed

@@ -1,25 +1,31 @@
 // Which commands are legal, and what they lead to.
 use class::Names;
+use closure::Rules;
 use message::Command;
 use negotiation::Negotiation;
+use rt0::Pool;
 ghost use mathlib.Core.Path.{_≡_};
 ghost use mathlib.Core.Bool.{true};
 ghost use Prim.Native.Nat.{_≤_};
 ghost use Rattle.class.specs.Names.{namesOf, Ascending};
-ghost use Rattle.graph.specs.Graph.{nodesOf};
-ghost use Rattle.states.specs.Brings.{NodesFormed};
 ghost use Rattle.negotiation.specs.State.{stateOf, within};
-ghost use Rattle.update.specs.Legal.{legalNumber};
+ghost use Rattle.update.specs.Legal.{legalBy};
 
 mod after;
+mod asked;
 mod edges;
+mod justify;
 mod numbers;
 mod sides;
 mod steps;
 
 pub use after::after_message;
+pub use asked::known_of;
+pub use asked::unknown;
 use edges::bring_number;
 use edges::join_number;
+pub use justify::is_implication;
+pub use justify::is_justified;
 use numbers::end_number;
 use numbers::mark_number;
 use numbers::open_number;
@@ -41,16 +47,24 @@ pub const PROCESSED: u64 = 27;
 
 pub const FULL: u64 = 28;
 
-// Why a command of the sender is refused: zero where it is legal.
-pub fn legal(names: Names, sender: u8, n: Negotiation, c: Command) -> u64
-    requires { ⌜ (names .count ≤ 64) × Ascending (names .count) (names .name) × (within (stateOf n) ≡ true) × NodesFormed (nodesOf (n .nodes)) ⌝ }
-    ensures { λ r. ⌜ r ≡ legalNumber (namesOf names) sender (stateOf n) c ⌝ }
+// What the credentials of a pool prove: made once, asked many times.
+pub struct Known {
+    pub pool: Pool,
+    pub rules: Rules,
+    pub deps: [u64; 260],
+    pub rows: [u64; 260],
+}
+
+// Why a command of the sender is refused: zero where it is legal. Whether the edge that it adds is justified is given.
+pub fn legal(names: Names, sender: u8, n: Negotiation, c: Command, justified: bool) -> u64
+    requires { ⌜ (names .count ≤ 64) × Ascending (names .count) (names .name) × (within (stateOf n) ≡ true) ⌝ }
+    ensures { λ r. ⌜ r ≡ legalBy (namesOf names) sender (stateOf n) c justified ⌝ }
 {
     match c {
         Command::Show(d) => show_number(names, n, d),
         Command::Open(o) => open_number(names, n, o),
-        Command::Bring(b) => bring_number(names, sender, n, b),
-        Command::Join(e) => join_number(sender, n, e),
+        Command::Bring(b) => bring_number(names, sender, n, b, justified),
+        Command::Join(e) => join_number(sender, n, e, justified),
         Command::Mark(i) => mark_number(sender, n, i),
         Command::End => end_number(n),
     }

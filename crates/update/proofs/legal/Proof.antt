@@ -1,4 +1,4 @@
-use Rattle.update.specs.Legal.{legalNumber}
+use Rattle.update.specs.Legal.{legalBy}
 use Rattle.update.specs.LegalLaws.{within-few, legal-for}
 use borrow.Author.Needs.{needs}
 use Rattle.update.proofs.legal.Statement.{statement}
@@ -21,13 +21,13 @@ enum-known-c-3 : tie.Need-enum-known-c-3
 enum-known-c-3 c = search needs
 
 bring-number-requires : tie.Need-bring-number-requires
-bring-number-requires c κs = ((c .before .before .before .pre .0), (c .before .before .before .pre .1), within-few _ (c .before .before .before .pre .2) .0, within-few _ (c .before .before .before .pre .2) .1, within-few _ (c .before .before .before .pre .2) .2, (c .before .before .before .pre .3))
+bring-number-requires c κs = ((c .before .before .before .pre .0), (c .before .before .before .pre .1), within-few _ (c .before .before .before .pre .2) .0, within-few _ (c .before .before .before .pre .2) .1)
 
 enum-known-c-4 : tie.Need-enum-known-c-4
 enum-known-c-4 c = search needs
 
 join-number-requires : tie.Need-join-number-requires
-join-number-requires c κs = (within-few _ (c .before .before .before .pre .2) .0, within-few _ (c .before .before .before .pre .2) .1, within-few _ (c .before .before .before .pre .2) .2, (c .before .before .before .pre .3))
+join-number-requires c κs = (within-few _ (c .before .before .before .pre .2) .0, within-few _ (c .before .before .before .pre .2) .1)
 
 enum-known-c-5 : tie.Need-enum-known-c-5
 enum-known-c-5 c = search needs
@@ -42,28 +42,28 @@ end-number-requires : tie.Need-end-number-requires
 end-number-requires c κs = search needs
 
 returns : tie.Need-returns
-unfolding legalNumber
-returns c = legal-for _ _ _ _ _ (c .before .before .c .given .1) (c .show-number .ensures)
+unfolding legalBy
+returns c = legal-for _ _ _ _ _ _ (c .before .before .c .given .1) (c .show-number .ensures)
 
 returns-2 : tie.Need-returns-2
-unfolding legalNumber
-returns-2 c = legal-for _ _ _ _ _ (c .before .before .c2 .given .1) (c .open-number .ensures)
+unfolding legalBy
+returns-2 c = legal-for _ _ _ _ _ _ (c .before .before .c2 .given .1) (c .open-number .ensures)
 
 returns-3 : tie.Need-returns-3
-unfolding legalNumber
-returns-3 c = legal-for _ _ _ _ _ (c .before .before .c3 .given .1) (c .bring-number .ensures)
+unfolding legalBy
+returns-3 c = legal-for _ _ _ _ _ _ (c .before .before .c3 .given .1) (c .bring-number .ensures)
 
 returns-4 : tie.Need-returns-4
-unfolding legalNumber
-returns-4 c = legal-for _ _ _ _ _ (c .before .before .c4 .given .1) (c .join-number .ensures)
+unfolding legalBy
+returns-4 c = legal-for _ _ _ _ _ _ (c .before .before .c4 .given .1) (c .join-number .ensures)
 
 returns-5 : tie.Need-returns-5
-unfolding legalNumber
-returns-5 c = legal-for _ _ _ _ _ (c .before .before .c5 .given .1) (c .mark-number .ensures)
+unfolding legalBy
+returns-5 c = legal-for _ _ _ _ _ _ (c .before .before .c5 .given .1) (c .mark-number .ensures)
 
 returns-6 : tie.Need-returns-6
-unfolding legalNumber
-returns-6 c = legal-for _ _ _ _ _ (c .before .enum-told .given .1) (c .end-number .ensures)
+unfolding legalBy
+returns-6 c = legal-for _ _ _ _ _ _ (c .before .enum-told .given .1) (c .end-number .ensures)
 
 pub legal-spec : {M : Type 1} → statement M
 legal-spec =

@@ -1,13 +1,19 @@
-use mathlib.Core.Bool.{not}
-use Rattle.update.specs.Step.{processedBy}
-use Rattle.negotiation.specs.State.{stateOf}
 use native.Mathlib.Omega.{arith}
 use mathlib.Core.Path.{refl, sym, _∙_, ap}
+use Rattle.negotiation.specs.State.{stateOf}
+use Rattle.update.specs.Step.{processedBy}
 use Rattle.update.specs.Legal.{typeNumber, bringNumber}
-use Rattle.update.specs.LegalLaws.{first-stops, first-passes, stops, passes, fresh-yes, fresh-no, absent-yes, absent-no, nodes-full, nodes-room, edges-full, edges-room}
+use Rattle.update.specs.LegalLaws.{first-stops, first-passes, stops, passes, fresh-yes, fresh-no, absent-yes, absent-no, sizes-same}
 use borrow.Author.Needs.{needs}
 use Rattle.update.proofs.edges.bring_number.Statement.{statement}
 use Rattle.update.proofs.edges.bring_number.Tie as tie
+use Rattle.update.proofs.edges.bring_number.Lts as lts
+use Rattle.class.proofs.type_of.Reads as type-of-reads
+use Rattle.update.proofs.edges.bring_wrong.Reads as bring-wrong-reads
+use Rattle.update.proofs.edges.type_number.Reads as type-number-reads
+use Rattle.update.proofs.edges.wide.Reads as wide-reads
+use Rattle.update.proofs.sides.is_processed.Reads as is-processed-reads
+use Rattle.update.proofs.steps.node_of.Reads as node-of-reads
 
 type-of-requires : tie.Need-type-of-requires
 type-of-requires c κs = search needs
@@ -37,34 +43,43 @@ returns-4 : tie.Need-returns-4
 unfolding bringNumber stateOf
 returns-4 c = first-passes _ _ _ ((c .before .before .before .before .before .before .before .before .before .type-number .ensures) ∙ ap typeNumber (c .before .before .before .before .before .before .before .before .before .before .type-of .ensures)) (c .before .before .before .before .before .before .before .before .if1 .left) (passes _ _ _ (fresh-no (c .before .before .before .before .before .before .before .before .before .before .before .before .before .before .args .n) (c .before .before .before .before .before .if2 .left)) (passes _ _ _ (absent-no (c .before .before .before .before .before .before .before .before .before .before .before .before .before .before .args .n) _ (omega (arith, (c .before .before .before .before .wide .ensures), (c .before .before .if3 .left)))) (stops _ _ _ (sym (c .before .bring-wrong .ensures) ∙ (c .if4 .taken)))))
 
-is-justified-for-requires : tie.Need-is-justified-for-requires
-is-justified-for-requires c κs = (omega (arith, (c .before .before .before .before .wide .ensures), (c .before .before .if3 .left)), (c .before .before .before .before .before .before .before .before .before .before .before .before .before .before .pre .2), (c .before .before .before .before .before .before .before .before .before .before .before .before .before .before .pre .3), (c .before .before .before .before .before .before .before .before .before .before .before .before .before .before .pre .4), (c .before .before .before .before .before .before .before .before .before .before .before .before .before .before .pre .5))
-
 returns-5 : tie.Need-returns-5
 unfolding bringNumber stateOf
-returns-5 c = first-passes _ _ _ ((c .before .before .before .before .before .before .before .before .before .before .before .type-number .ensures) ∙ ap typeNumber (c .before .before .before .before .before .before .before .before .before .before .before .before .type-of .ensures)) (c .before .before .before .before .before .before .before .before .before .before .if1 .left) (passes _ _ _ (fresh-no (c .before .before .before .before .before .before .before .before .before .before .before .before .before .before .before .before .args .n) (c .before .before .before .before .before .before .before .if2 .left)) (passes _ _ _ (absent-no (c .before .before .before .before .before .before .before .before .before .before .before .before .before .before .before .before .args .n) _ (omega (arith, (c .before .before .before .before .before .before .wide .ensures), (c .before .before .before .before .if3 .left)))) (passes _ _ _ (sym (c .before .before .before .bring-wrong .ensures) ∙ (c .before .before .if4 .left)) (stops _ _ _ (sym (ap not (c .before .is-justified-for .ensures)) ∙ (c .if5 .taken))))))
+returns-5 c = first-passes _ _ _ ((c .before .before .before .before .before .before .before .before .before .before .type-number .ensures) ∙ ap typeNumber (c .before .before .before .before .before .before .before .before .before .before .before .type-of .ensures)) (c .before .before .before .before .before .before .before .before .before .if1 .left) (passes _ _ _ (fresh-no (c .before .before .before .before .before .before .before .before .before .before .before .before .before .before .before .args .n) (c .before .before .before .before .before .before .if2 .left)) (passes _ _ _ (absent-no (c .before .before .before .before .before .before .before .before .before .before .before .before .before .before .before .args .n) _ (omega (arith, (c .before .before .before .before .before .wide .ensures), (c .before .before .before .if3 .left)))) (passes _ _ _ (sym (c .before .before .bring-wrong .ensures) ∙ (c .before .if4 .left)) (stops _ _ _ (c .if5 .taken)))))
 
 node-of-requires : tie.Need-node-of-requires
-node-of-requires c κs = (omega (arith, (c .before .before .before .before .before .before .wide .ensures), (c .before .before .before .before .if3 .left)), (c .before .before .before .before .before .before .before .before .before .before .before .before .before .before .before .before .pre .2))
+node-of-requires c κs = (omega (arith, (c .before .before .before .before .before .wide .ensures), (c .before .before .before .if3 .left)), (c .before .before .before .before .before .before .before .before .before .before .before .before .before .before .before .pre .2))
 
 is-processed-requires : tie.Need-is-processed-requires
 is-processed-requires c κs = search needs
 
 returns-6 : tie.Need-returns-6
 unfolding bringNumber stateOf
-returns-6 c = first-passes _ _ _ ((c .before .before .before .before .before .before .before .before .before .before .before .before .before .before .type-number .ensures) ∙ ap typeNumber (c .before .before .before .before .before .before .before .before .before .before .before .before .before .before .before .type-of .ensures)) (c .before .before .before .before .before .before .before .before .before .before .before .before .before .if1 .left) (passes _ _ _ (fresh-no (c .before .before .before .before .before .before .before .before .before .before .before .before .before .before .before .before .before .before .before .args .n) (c .before .before .before .before .before .before .before .before .before .before .if2 .left)) (passes _ _ _ (absent-no (c .before .before .before .before .before .before .before .before .before .before .before .before .before .before .before .before .before .before .before .args .n) _ (omega (arith, (c .before .before .before .before .before .before .before .before .before .wide .ensures), (c .before .before .before .before .before .before .before .if3 .left)))) (passes _ _ _ (sym (c .before .before .before .before .before .before .bring-wrong .ensures) ∙ (c .before .before .before .before .before .if4 .left)) (passes _ _ _ (sym (ap not (c .before .before .before .before .is-justified-for .ensures)) ∙ (c .before .before .before .if5 .left)) (stops _ _ _ (ap (processedBy (c .before .before .before .before .before .before .before .before .before .before .before .before .before .before .before .before .before .before .before .args .side)) (sym (c .before .before .node-of .ensures)) ∙ sym (c .before .is-processed .ensures) ∙ (c .if6 .taken)))))))
+returns-6 c = first-passes _ _ _ ((c .before .before .before .before .before .before .before .before .before .before .before .before .before .type-number .ensures) ∙ ap typeNumber (c .before .before .before .before .before .before .before .before .before .before .before .before .before .before .type-of .ensures)) (c .before .before .before .before .before .before .before .before .before .before .before .before .if1 .left) (passes _ _ _ (fresh-no (c .before .before .before .before .before .before .before .before .before .before .before .before .before .before .before .before .before .before .args .n) (c .before .before .before .before .before .before .before .before .before .if2 .left)) (passes _ _ _ (absent-no (c .before .before .before .before .before .before .before .before .before .before .before .before .before .before .before .before .before .before .args .n) _ (omega (arith, (c .before .before .before .before .before .before .before .before .wide .ensures), (c .before .before .before .before .before .before .if3 .left)))) (passes _ _ _ (sym (c .before .before .before .before .before .bring-wrong .ensures) ∙ (c .before .before .before .before .if4 .left)) (passes _ _ _ (c .before .before .before .if5 .left) (stops _ _ _ (ap (processedBy (c .before .before .before .before .before .before .before .before .before .before .before .before .before .before .before .before .before .before .args .side)) (sym (c .before .before .node-of .ensures)) ∙ sym (c .before .is-processed .ensures) ∙ (c .if6 .taken)))))))
 
 returns-7 : tie.Need-returns-7
 unfolding bringNumber stateOf
-returns-7 c = first-passes _ _ _ ((c .before .before .before .before .before .before .before .before .before .before .before .before .before .before .before .before .before .type-number .ensures) ∙ ap typeNumber (c .before .before .before .before .before .before .before .before .before .before .before .before .before .before .before .before .before .before .type-of .ensures)) (c .before .before .before .before .before .before .before .before .before .before .before .before .before .before .before .before .if1 .left) (passes _ _ _ (fresh-no (c .before .before .before .before .before .before .before .before .before .before .before .before .before .before .before .before .before .before .before .before .before .before .args .n) (c .before .before .before .before .before .before .before .before .before .before .before .before .before .if2 .left)) (passes _ _ _ (absent-no (c .before .before .before .before .before .before .before .before .before .before .before .before .before .before .before .before .before .before .before .before .before .before .args .n) _ (omega (arith, (c .before .before .before .before .before .before .before .before .before .before .before .before .wide .ensures), (c .before .before .before .before .before .before .before .before .before .before .if3 .left)))) (passes _ _ _ (sym (c .before .before .before .before .before .before .before .before .before .bring-wrong .ensures) ∙ (c .before .before .before .before .before .before .before .before .if4 .left)) (passes _ _ _ (sym (ap not (c .before .before .before .before .before .before .before .is-justified-for .ensures)) ∙ (c .before .before .before .before .before .before .if5 .left)) (passes _ _ _ (ap (processedBy (c .before .before .before .before .before .before .before .before .before .before .before .before .before .before .before .before .before .before .before .before .before .before .args .side)) (sym (c .before .before .before .before .before .node-of .ensures)) ∙ sym (c .before .before .before .before .is-processed .ensures) ∙ (c .before .before .before .if6 .left)) (stops _ _ _ (nodes-full (c .before .before .before .before .before .before .before .before .before .before .before .before .before .before .before .before .before .before .before .before .before .before .args .n) (c .if7 .taken))))))))
+returns-7 c = first-passes _ _ _ ((c .before .before .before .before .before .before .before .before .before .before .before .before .before .before .before .before .before .type-number .ensures) ∙ ap typeNumber (c .before .before .before .before .before .before .before .before .before .before .before .before .before .before .before .before .before .before .type-of .ensures)) (c .before .before .before .before .before .before .before .before .before .before .before .before .before .before .before .before .if1 .left) (passes _ _ _ (fresh-no (c .before .before .before .before .before .before .before .before .before .before .before .before .before .before .before .before .before .before .before .before .before .before .args .n) (c .before .before .before .before .before .before .before .before .before .before .before .before .before .if2 .left)) (passes _ _ _ (absent-no (c .before .before .before .before .before .before .before .before .before .before .before .before .before .before .before .before .before .before .before .before .before .before .args .n) _ (omega (arith, (c .before .before .before .before .before .before .before .before .before .before .before .before .wide .ensures), (c .before .before .before .before .before .before .before .before .before .before .if3 .left)))) (passes _ _ _ (sym (c .before .before .before .before .before .before .before .before .before .bring-wrong .ensures) ∙ (c .before .before .before .before .before .before .before .before .if4 .left)) (passes _ _ _ (c .before .before .before .before .before .before .before .if5 .left) (passes _ _ _ (ap (processedBy (c .before .before .before .before .before .before .before .before .before .before .before .before .before .before .before .before .before .before .before .before .before .before .args .side)) (sym (c .before .before .before .before .before .before .node-of .ensures)) ∙ sym (c .before .before .before .before .before .is-processed .ensures) ∙ (c .before .before .before .before .if6 .left)) (stops _ _ _ (sym (sizes-same (c .before .before .before .before .before .before .before .before .before .before .before .before .before .before .before .before .before .before .before .before .before .before .args .n)) ∙ (c .if7 .taken))))))))
 
 returns-8 : tie.Need-returns-8
 unfolding bringNumber stateOf
-returns-8 c = first-passes _ _ _ ((c .before .before .before .before .before .before .before .before .before .before .before .before .before .before .before .before .before .before .before .type-number .ensures) ∙ ap typeNumber (c .before .before .before .before .before .before .before .before .before .before .before .before .before .before .before .before .before .before .before .before .type-of .ensures)) (c .before .before .before .before .before .before .before .before .before .before .before .before .before .before .before .before .before .before .if1 .left) (passes _ _ _ (fresh-no (c .before .before .before .before .before .before .before .before .before .before .before .before .before .before .before .before .before .before .before .before .before .before .before .before .args .n) (c .before .before .before .before .before .before .before .before .before .before .before .before .before .before .before .if2 .left)) (passes _ _ _ (absent-no (c .before .before .before .before .before .before .before .before .before .before .before .before .before .before .before .before .before .before .before .before .before .before .before .before .args .n) _ (omega (arith, (c .before .before .before .before .before .before .before .before .before .before .before .before .before .before .wide .ensures), (c .before .before .before .before .before .before .before .before .before .before .before .before .if3 .left)))) (passes _ _ _ (sym (c .before .before .before .before .before .before .before .before .before .before .before .bring-wrong .ensures) ∙ (c .before .before .before .before .before .before .before .before .before .before .if4 .left)) (passes _ _ _ (sym (ap not (c .before .before .before .before .before .before .before .before .before .is-justified-for .ensures)) ∙ (c .before .before .before .before .before .before .before .before .if5 .left)) (passes _ _ _ (ap (processedBy (c .before .before .before .before .before .before .before .before .before .before .before .before .before .before .before .before .before .before .before .before .before .before .before .before .args .side)) (sym (c .before .before .before .before .before .before .before .node-of .ensures)) ∙ sym (c .before .before .before .before .before .before .is-processed .ensures) ∙ (c .before .before .before .before .before .if6 .left)) (passes _ _ _ (nodes-room (c .before .before .before .before .before .before .before .before .before .before .before .before .before .before .before .before .before .before .before .before .before .before .before .before .args .n) (c .before .before .if7 .left)) (stops _ _ _ (edges-full (c .before .before .before .before .before .before .before .before .before .before .before .before .before .before .before .before .before .before .before .before .before .before .before .before .args .n) (c .if8 .taken)))))))))
-
-returns-9 : tie.Need-returns-9
-unfolding bringNumber stateOf
-returns-9 c = first-passes _ _ _ ((c .before .before .before .before .before .before .before .before .before .before .before .before .before .before .before .before .before .before .before .type-number .ensures) ∙ ap typeNumber (c .before .before .before .before .before .before .before .before .before .before .before .before .before .before .before .before .before .before .before .before .type-of .ensures)) (c .before .before .before .before .before .before .before .before .before .before .before .before .before .before .before .before .before .before .if1 .left) (passes _ _ _ (fresh-no (c .before .before .before .before .before .before .before .before .before .before .before .before .before .before .before .before .before .before .before .before .before .before .before .before .args .n) (c .before .before .before .before .before .before .before .before .before .before .before .before .before .before .before .if2 .left)) (passes _ _ _ (absent-no (c .before .before .before .before .before .before .before .before .before .before .before .before .before .before .before .before .before .before .before .before .before .before .before .before .args .n) _ (omega (arith, (c .before .before .before .before .before .before .before .before .before .before .before .before .before .before .wide .ensures), (c .before .before .before .before .before .before .before .before .before .before .before .before .if3 .left)))) (passes _ _ _ (sym (c .before .before .before .before .before .before .before .before .before .before .before .bring-wrong .ensures) ∙ (c .before .before .before .before .before .before .before .before .before .before .if4 .left)) (passes _ _ _ (sym (ap not (c .before .before .before .before .before .before .before .before .before .is-justified-for .ensures)) ∙ (c .before .before .before .before .before .before .before .before .if5 .left)) (passes _ _ _ (ap (processedBy (c .before .before .before .before .before .before .before .before .before .before .before .before .before .before .before .before .before .before .before .before .before .before .before .before .args .side)) (sym (c .before .before .before .before .before .before .before .node-of .ensures)) ∙ sym (c .before .before .before .before .before .before .is-processed .ensures) ∙ (c .before .before .before .before .before .if6 .left)) (passes _ _ _ (nodes-room (c .before .before .before .before .before .before .before .before .before .before .before .before .before .before .before .before .before .before .before .before .before .before .before .before .args .n) (c .before .before .if7 .left)) (passes _ _ _ (edges-room (c .before .before .before .before .before .before .before .before .before .before .before .before .before .before .before .before .before .before .before .before .before .before .before .before .args .n) (c .if8 .left)) (refl))))))))
+returns-8 c = first-passes _ _ _ ((c .before .before .before .before .before .before .before .before .before .before .before .before .before .before .before .before .before .type-number .ensures) ∙ ap typeNumber (c .before .before .before .before .before .before .before .before .before .before .before .before .before .before .before .before .before .before .type-of .ensures)) (c .before .before .before .before .before .before .before .before .before .before .before .before .before .before .before .before .if1 .left) (passes _ _ _ (fresh-no (c .before .before .before .before .before .before .before .before .before .before .before .before .before .before .before .before .before .before .before .before .before .before .args .n) (c .before .before .before .before .before .before .before .before .before .before .before .before .before .if2 .left)) (passes _ _ _ (absent-no (c .before .before .before .before .before .before .before .before .before .before .before .before .before .before .before .before .before .before .before .before .before .before .args .n) _ (omega (arith, (c .before .before .before .before .before .before .before .before .before .before .before .before .wide .ensures), (c .before .before .before .before .before .before .before .before .before .before .if3 .left)))) (passes _ _ _ (sym (c .before .before .before .before .before .before .before .before .before .bring-wrong .ensures) ∙ (c .before .before .before .before .before .before .before .before .if4 .left)) (passes _ _ _ (c .before .before .before .before .before .before .before .if5 .left) (passes _ _ _ (ap (processedBy (c .before .before .before .before .before .before .before .before .before .before .before .before .before .before .before .before .before .before .before .before .before .before .args .side)) (sym (c .before .before .before .before .before .before .node-of .ensures)) ∙ sym (c .before .before .before .before .before .is-processed .ensures) ∙ (c .before .before .before .before .if6 .left)) (passes _ _ _ (sym (sizes-same (c .before .before .before .before .before .before .before .before .before .before .before .before .before .before .before .before .before .before .before .before .before .before .args .n)) ∙ (c .if7 .left)) refl))))))
 
 pub bring-number-spec : {M : Type 1} → statement M
-bring-number-spec = tie.close (tie.spec type-of-requires type-number-requires returns returns-2 wide-requires returns-3 bring-wrong-requires returns-4 is-justified-for-requires returns-5 node-of-requires is-processed-requires returns-6 returns-7 returns-8 returns-9)
+bring-number-spec =
+    tie.close
+    (tie.spec
+    type-of-requires
+    type-number-requires
+    returns
+    returns-2
+    wide-requires
+    returns-3
+    bring-wrong-requires
+    returns-4
+    returns-5
+    node-of-requires
+    is-processed-requires
+    returns-6
+    returns-7
+    returns-8)

@@ -20,7 +20,7 @@ find-node-requires : tie.Need-find-node-requires
 find-node-requires c κs = search needs
 
 returns-2 : tie.Need-returns-2
-returns-2 c = bring-there _ _ _ _ (c .before .before .before .before .before .before .before .before .before .before .before .before .before .before .before .before .before .before .node-of .ensures) (c .before .before .before .before .before .before .before .before .before .before .before .before .before .before .before .before .before .child-of .ensures) (c .before .before .before .before .before .before .before .before .before .before .before .before .before .before .before .before .formed-as .ensures) (c .before .before .before .before .before .before .before .before .before .before .before .before .before .before .before .if1 .left) (c .find-node .ensures)
+returns-2 c = bring-there _ _ _ _ (c .before .before .before .before .before .before .before .before .before .before .before .before .before .before .before .before .before .before .node-of .ensures) (c .before .before .before .before .before .before .before .before .before .before .before .before .before .before .before .before .before .child-of .ensures) (c .before .before .before .before .before .before .before .before .before .before .before .before .before .before .before .before .formed-as .ensures) (c .before .before .before .before .before .before .before .before .before .before .before .before .before .before .before .before .before .before .before .before .before .pre .1) (c .before .before .before .before .before .before .before .before .before .before .before .before .before .before .before .if1 .left) (c .find-node .ensures)
 
 pub bring-wrong-spec : {M : Type 1} → statement M
 bring-wrong-spec =

@@ -1,14 +1,17 @@
-use mathlib.Core.Bool.{not}
-use Rattle.update.specs.Step.{processedBy}
-use Rattle.negotiation.specs.State.{stateOf}
 use native.Mathlib.Omega.{arith}
 use mathlib.Core.Path.{refl, sym, _∙_, ap}
+use Rattle.negotiation.specs.State.{stateOf}
+use Rattle.update.specs.Step.{processedBy}
 use Rattle.update.specs.Legal.{joinNumber}
-use Rattle.update.specs.EdgeLaws.{join-justified}
-use Rattle.update.specs.LegalLaws.{stops, passes, fresh-yes, fresh-no, absent-yes, absent-no, edges-full, edges-room}
+use Rattle.update.specs.LegalLaws.{stops, passes, fresh-yes, fresh-no, both-present, parent-absent, child-absent, edges-full, edges-room}
 use borrow.Author.Needs.{needs}
 use Rattle.update.proofs.edges.join_number.Statement.{statement}
 use Rattle.update.proofs.edges.join_number.Tie as tie
+use Rattle.update.proofs.edges.join_number.Lts as lts
+use Rattle.update.proofs.edges.join_wrong.Reads as join-wrong-reads
+use Rattle.update.proofs.edges.wide.Reads as wide-reads
+use Rattle.update.proofs.sides.is_processed.Reads as is-processed-reads
+use Rattle.update.proofs.steps.node_of.Reads as node-of-reads
 
 returns : tie.Need-returns
 unfolding joinNumber stateOf
@@ -19,49 +22,58 @@ wide-requires c κs = search needs
 
 returns-2 : tie.Need-returns-2
 unfolding joinNumber stateOf
-returns-2 c = passes _ _ _ (fresh-no (c .before .before .before .before .before .before .args .n) (c .before .before .before .if1 .left)) (stops _ _ _ (absent-yes (c .before .before .before .before .before .before .args .n) _ (omega (arith, (c .before .before .wide .ensures), (c .if2 .taken)))))
+returns-2 c = (passes _ _ _ (fresh-no (c .before .before .before .before .before .before .args .n) (c .before .before .before .if1 .left)) (stops _ _ _ (parent-absent (c .before .before .before .before .before .before .args .n) _ _ (omega (arith, (c .before .before .wide .ensures), (c .if2 .taken))))))
 
 wide-requires-2 : tie.Need-wide-requires-2
 wide-requires-2 c κs = search needs
 
 returns-3 : tie.Need-returns-3
 unfolding joinNumber stateOf
-returns-3 c = passes _ _ _ (fresh-no (c .before .before .before .before .before .before .before .before .before .args .n) (c .before .before .before .before .before .before .if1 .left)) (passes _ _ _ (absent-no (c .before .before .before .before .before .before .before .before .before .args .n) _ (omega (arith, (c .before .before .before .before .before .wide .ensures), (c .before .before .before .if2 .left)))) (stops _ _ _ (absent-yes (c .before .before .before .before .before .before .before .before .before .args .n) _ (omega (arith, (c .before .before .wide2 .ensures), (c .if3 .taken))))))
+returns-3 c = (passes _ _ _ (fresh-no (c .before .before .before .before .before .before .before .before .before .args .n) (c .before .before .before .before .before .before .if1 .left)) (stops _ _ _ (child-absent (c .before .before .before .before .before .before .before .before .before .args .n) _ _ (omega (arith, (c .before .before .before .before .before .wide .ensures), (c .before .before .before .if2 .left))) (omega (arith, (c .before .before .wide2 .ensures), (c .if3 .taken))))))
 
 join-wrong-requires : tie.Need-join-wrong-requires
-join-wrong-requires c κs = (omega (arith, (c .before .before .before .before .before .wide .ensures), (c .before .before .before .if2 .left)), omega (arith, (c .before .before .wide2 .ensures), (c .if3 .left)), (c .before .before .before .before .before .before .before .before .before .pre .0), (c .before .before .before .before .before .before .before .before .before .pre .1))
+join-wrong-requires c κs = ((omega (arith, (c .before .before .before .before .before .wide .ensures), (c .before .before .before .if2 .left))), (omega (arith, (c .before .before .wide2 .ensures), (c .if3 .left))), (c .before .before .before .before .before .before .before .before .before .pre .0), (c .before .before .before .before .before .before .before .before .before .pre .1))
 
 returns-4 : tie.Need-returns-4
 unfolding joinNumber stateOf
-returns-4 c = passes _ _ _ (fresh-no (c .before .before .before .before .before .before .before .before .before .before .before .args .n) (c .before .before .before .before .before .before .before .before .if1 .left)) (passes _ _ _ (absent-no (c .before .before .before .before .before .before .before .before .before .before .before .args .n) _ (omega (arith, (c .before .before .before .before .before .before .before .wide .ensures), (c .before .before .before .before .before .if2 .left)))) (passes _ _ _ (absent-no (c .before .before .before .before .before .before .before .before .before .before .before .args .n) _ (omega (arith, (c .before .before .before .before .wide2 .ensures), (c .before .before .if3 .left)))) (stops _ _ _ (sym (c .before .join-wrong .ensures) ∙ (c .if4 .taken)))))
-
-node-of-requires : tie.Need-node-of-requires
-node-of-requires c κs = (omega (arith, (c .before .before .before .before .wide2 .ensures), (c .before .before .if3 .left)), (c .before .before .before .before .before .before .before .before .before .before .before .pre .0))
-
-is-justified-for-requires : tie.Need-is-justified-for-requires
-is-justified-for-requires c κs = (omega (arith, (c .before .before .before .before .before .before .before .before .wide .ensures), (c .before .before .before .before .before .before .if2 .left)), (c .before .before .before .before .before .before .before .before .before .before .before .before .pre .0), (c .before .before .before .before .before .before .before .before .before .before .before .before .pre .1), (c .before .before .before .before .before .before .before .before .before .before .before .before .pre .2), (c .before .before .before .before .before .before .before .before .before .before .before .before .pre .3))
+returns-4 c = (passes _ _ _ (fresh-no (c .before .before .before .before .before .before .before .before .before .before .before .args .n) (c .before .before .before .before .before .before .before .before .if1 .left)) (passes _ _ _ (both-present (c .before .before .before .before .before .before .before .before .before .before .before .args .n) _ _ (omega (arith, (c .before .before .before .before .before .before .before .wide .ensures), (c .before .before .before .before .before .if2 .left))) (omega (arith, (c .before .before .before .before .wide2 .ensures), (c .before .before .if3 .left)))) (stops _ _ _ (sym (c .before .join-wrong .ensures) ∙ (c .if4 .taken)))))
 
 returns-5 : tie.Need-returns-5
 unfolding joinNumber stateOf
-returns-5 c = passes _ _ _ (fresh-no (c .before .before .before .before .before .before .before .before .before .before .before .before .before .before .args .n) (c .before .before .before .before .before .before .before .before .before .before .before .if1 .left)) (passes _ _ _ (absent-no (c .before .before .before .before .before .before .before .before .before .before .before .before .before .before .args .n) _ (omega (arith, (c .before .before .before .before .before .before .before .before .before .before .wide .ensures), (c .before .before .before .before .before .before .before .before .if2 .left)))) (passes _ _ _ (absent-no (c .before .before .before .before .before .before .before .before .before .before .before .before .before .before .args .n) _ (omega (arith, (c .before .before .before .before .before .before .before .wide2 .ensures), (c .before .before .before .before .before .if3 .left)))) (passes _ _ _ (sym (c .before .before .before .before .join-wrong .ensures) ∙ (c .before .before .before .if4 .left)) (stops _ _ _ (sym (ap not ((c .before .is-justified-for .ensures) ∙ join-justified _ _ (c .before .before .node-of .ensures))) ∙ (c .if5 .taken))))))
+returns-5 c = (passes _ _ _ (fresh-no (c .before .before .before .before .before .before .before .before .before .before .before .before .args .n) (c .before .before .before .before .before .before .before .before .before .if1 .left)) (passes _ _ _ (both-present (c .before .before .before .before .before .before .before .before .before .before .before .before .args .n) _ _ (omega (arith, (c .before .before .before .before .before .before .before .before .wide .ensures), (c .before .before .before .before .before .before .if2 .left))) (omega (arith, (c .before .before .before .before .before .wide2 .ensures), (c .before .before .before .if3 .left)))) (passes _ _ _ (sym (c .before .before .join-wrong .ensures) ∙ (c .before .if4 .left)) (stops _ _ _ (c .if5 .taken)))))
 
-node-of-requires-2 : tie.Need-node-of-requires-2
-node-of-requires-2 c κs = (omega (arith, (c .before .before .before .before .before .before .before .before .before .before .wide .ensures), (c .before .before .before .before .before .before .before .before .if2 .left)), (c .before .before .before .before .before .before .before .before .before .before .before .before .before .before .pre .0))
+node-of-requires : tie.Need-node-of-requires
+node-of-requires c κs = ((omega (arith, (c .before .before .before .before .before .before .before .before .wide .ensures), (c .before .before .before .before .before .before .if2 .left))), (c .before .before .before .before .before .before .before .before .before .before .before .before .pre .0))
 
 is-processed-requires : tie.Need-is-processed-requires
 is-processed-requires c κs = search needs
 
 returns-6 : tie.Need-returns-6
 unfolding joinNumber stateOf
-returns-6 c = passes _ _ _ (fresh-no (c .before .before .before .before .before .before .before .before .before .before .before .before .before .before .before .before .before .args .n) (c .before .before .before .before .before .before .before .before .before .before .before .before .before .before .if1 .left)) (passes _ _ _ (absent-no (c .before .before .before .before .before .before .before .before .before .before .before .before .before .before .before .before .before .args .n) _ (omega (arith, (c .before .before .before .before .before .before .before .before .before .before .before .before .before .wide .ensures), (c .before .before .before .before .before .before .before .before .before .before .before .if2 .left)))) (passes _ _ _ (absent-no (c .before .before .before .before .before .before .before .before .before .before .before .before .before .before .before .before .before .args .n) _ (omega (arith, (c .before .before .before .before .before .before .before .before .before .before .wide2 .ensures), (c .before .before .before .before .before .before .before .before .if3 .left)))) (passes _ _ _ (sym (c .before .before .before .before .before .before .before .join-wrong .ensures) ∙ (c .before .before .before .before .before .before .if4 .left)) (passes _ _ _ (sym (ap not ((c .before .before .before .before .is-justified-for .ensures) ∙ join-justified _ _ (c .before .before .before .before .before .node-of .ensures))) ∙ (c .before .before .before .if5 .left)) (stops _ _ _ (ap (processedBy (c .before .before .before .before .before .before .before .before .before .before .before .before .before .before .before .before .before .args .side)) (sym (c .before .before .node-of2 .ensures)) ∙ sym (c .before .is-processed .ensures) ∙ (c .if6 .taken)))))))
+returns-6 c = (passes _ _ _ (fresh-no (c .before .before .before .before .before .before .before .before .before .before .before .before .before .before .before .args .n) (c .before .before .before .before .before .before .before .before .before .before .before .before .if1 .left)) (passes _ _ _ (both-present (c .before .before .before .before .before .before .before .before .before .before .before .before .before .before .before .args .n) _ _ (omega (arith, (c .before .before .before .before .before .before .before .before .before .before .before .wide .ensures), (c .before .before .before .before .before .before .before .before .before .if2 .left))) (omega (arith, (c .before .before .before .before .before .before .before .before .wide2 .ensures), (c .before .before .before .before .before .before .if3 .left)))) (passes _ _ _ (sym (c .before .before .before .before .before .join-wrong .ensures) ∙ (c .before .before .before .before .if4 .left)) (passes _ _ _ (c .before .before .before .if5 .left) (stops _ _ _ (ap (processedBy (c .before .before .before .before .before .before .before .before .before .before .before .before .before .before .before .args .side)) (sym (c .before .before .node-of .ensures)) ∙ sym (c .before .is-processed .ensures) ∙ (c .if6 .taken)))))))
 
 returns-7 : tie.Need-returns-7
 unfolding joinNumber stateOf
-returns-7 c = passes _ _ _ (fresh-no (c .before .before .before .before .before .before .before .before .before .before .before .before .before .before .before .before .before .before .before .before .args .n) (c .before .before .before .before .before .before .before .before .before .before .before .before .before .before .before .before .before .if1 .left)) (passes _ _ _ (absent-no (c .before .before .before .before .before .before .before .before .before .before .before .before .before .before .before .before .before .before .before .before .args .n) _ (omega (arith, (c .before .before .before .before .before .before .before .before .before .before .before .before .before .before .before .before .wide .ensures), (c .before .before .before .before .before .before .before .before .before .before .before .before .before .before .if2 .left)))) (passes _ _ _ (absent-no (c .before .before .before .before .before .before .before .before .before .before .before .before .before .before .before .before .before .before .before .before .args .n) _ (omega (arith, (c .before .before .before .before .before .before .before .before .before .before .before .before .before .wide2 .ensures), (c .before .before .before .before .before .before .before .before .before .before .before .if3 .left)))) (passes _ _ _ (sym (c .before .before .before .before .before .before .before .before .before .before .join-wrong .ensures) ∙ (c .before .before .before .before .before .before .before .before .before .if4 .left)) (passes _ _ _ (sym (ap not ((c .before .before .before .before .before .before .before .is-justified-for .ensures) ∙ join-justified _ _ (c .before .before .before .before .before .before .before .before .node-of .ensures))) ∙ (c .before .before .before .before .before .before .if5 .left)) (passes _ _ _ (ap (processedBy (c .before .before .before .before .before .before .before .before .before .before .before .before .before .before .before .before .before .before .before .before .args .side)) (sym (c .before .before .before .before .before .node-of2 .ensures)) ∙ sym (c .before .before .before .before .is-processed .ensures) ∙ (c .before .before .before .if6 .left)) (stops _ _ _ (edges-full (c .before .before .before .before .before .before .before .before .before .before .before .before .before .before .before .before .before .before .before .before .args .n) (c .if7 .taken))))))))
+returns-7 c = (passes _ _ _ (fresh-no (c .before .before .before .before .before .before .before .before .before .before .before .before .before .before .before .before .before .before .args .n) (c .before .before .before .before .before .before .before .before .before .before .before .before .before .before .before .if1 .left)) (passes _ _ _ (both-present (c .before .before .before .before .before .before .before .before .before .before .before .before .before .before .before .before .before .before .args .n) _ _ (omega (arith, (c .before .before .before .before .before .before .before .before .before .before .before .before .before .before .wide .ensures), (c .before .before .before .before .before .before .before .before .before .before .before .before .if2 .left))) (omega (arith, (c .before .before .before .before .before .before .before .before .before .before .before .wide2 .ensures), (c .before .before .before .before .before .before .before .before .before .if3 .left)))) (passes _ _ _ (sym (c .before .before .before .before .before .before .before .before .join-wrong .ensures) ∙ (c .before .before .before .before .before .before .before .if4 .left)) (passes _ _ _ (c .before .before .before .before .before .before .if5 .left) (passes _ _ _ (ap (processedBy (c .before .before .before .before .before .before .before .before .before .before .before .before .before .before .before .before .before .before .args .side)) (sym (c .before .before .before .before .before .node-of .ensures)) ∙ sym (c .before .before .before .before .is-processed .ensures) ∙ (c .before .before .before .if6 .left)) (stops _ _ _ (edges-full (c .before .before .before .before .before .before .before .before .before .before .before .before .before .before .before .before .before .before .args .n) (c .if7 .taken))))))))
 
 returns-8 : tie.Need-returns-8
 unfolding joinNumber stateOf
-returns-8 c = passes _ _ _ (fresh-no (c .before .before .before .before .before .before .before .before .before .before .before .before .before .before .before .before .before .before .before .before .args .n) (c .before .before .before .before .before .before .before .before .before .before .before .before .before .before .before .before .before .if1 .left)) (passes _ _ _ (absent-no (c .before .before .before .before .before .before .before .before .before .before .before .before .before .before .before .before .before .before .before .before .args .n) _ (omega (arith, (c .before .before .before .before .before .before .before .before .before .before .before .before .before .before .before .before .wide .ensures), (c .before .before .before .before .before .before .before .before .before .before .before .before .before .before .if2 .left)))) (passes _ _ _ (absent-no (c .before .before .before .before .before .before .before .before .before .before .before .before .before .before .before .before .before .before .before .before .args .n) _ (omega (arith, (c .before .before .before .before .before .before .before .before .before .before .before .before .before .wide2 .ensures), (c .before .before .before .before .before .before .before .before .before .before .before .if3 .left)))) (passes _ _ _ (sym (c .before .before .before .before .before .before .before .before .before .before .join-wrong .ensures) ∙ (c .before .before .before .before .before .before .before .before .before .if4 .left)) (passes _ _ _ (sym (ap not ((c .before .before .before .before .before .before .before .is-justified-for .ensures) ∙ join-justified _ _ (c .before .before .before .before .before .before .before .before .node-of .ensures))) ∙ (c .before .before .before .before .before .before .if5 .left)) (passes _ _ _ (ap (processedBy (c .before .before .before .before .before .before .before .before .before .before .before .before .before .before .before .before .before .before .before .before .args .side)) (sym (c .before .before .before .before .before .node-of2 .ensures)) ∙ sym (c .before .before .before .before .is-processed .ensures) ∙ (c .before .before .before .if6 .left)) (passes _ _ _ (edges-room (c .before .before .before .before .before .before .before .before .before .before .before .before .before .before .before .before .before .before .before .before .args .n) (c .if7 .left)) (refl)))))))
+returns-8 c = (passes _ _ _ (fresh-no (c .before .before .before .before .before .before .before .before .before .before .before .before .before .before .before .before .before .before .args .n) (c .before .before .before .before .before .before .before .before .before .before .before .before .before .before .before .if1 .left)) (passes _ _ _ (both-present (c .before .before .before .before .before .before .before .before .before .before .before .before .before .before .before .before .before .before .args .n) _ _ (omega (arith, (c .before .before .before .before .before .before .before .before .before .before .before .before .before .before .wide .ensures), (c .before .before .before .before .before .before .before .before .before .before .before .before .if2 .left))) (omega (arith, (c .before .before .before .before .before .before .before .before .before .before .before .wide2 .ensures), (c .before .before .before .before .before .before .before .before .before .if3 .left)))) (passes _ _ _ (sym (c .before .before .before .before .before .before .before .before .join-wrong .ensures) ∙ (c .before .before .before .before .before .before .before .if4 .left)) (passes _ _ _ (c .before .before .before .before .before .before .if5 .left) (passes _ _ _ (ap (processedBy (c .before .before .before .before .before .before .before .before .before .before .before .before .before .before .before .before .before .before .args .side)) (sym (c .before .before .before .before .before .node-of .ensures)) ∙ sym (c .before .before .before .before .is-processed .ensures) ∙ (c .before .before .before .if6 .left)) (passes _ _ _ (edges-room (c .before .before .before .before .before .before .before .before .before .before .before .before .before .before .before .before .before .before .args .n) (c .if7 .left)) refl))))))
 
 pub join-number-spec : {M : Type 1} → statement M
-join-number-spec = tie.close (tie.spec returns wide-requires returns-2 wide-requires-2 returns-3 join-wrong-requires returns-4 node-of-requires is-justified-for-requires returns-5 node-of-requires-2 is-processed-requires returns-6 returns-7 returns-8)
+join-number-spec =
+    tie.close
+    (tie.spec
+    returns
+    wide-requires
+    returns-2
+    wide-requires-2
+    returns-3
+    join-wrong-requires
+    returns-4
+    returns-5
+    node-of-requires
+    is-processed-requires
+    returns-6
+    returns-7
+    returns-8)

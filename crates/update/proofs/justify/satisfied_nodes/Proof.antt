@@ -1,7 +1,7 @@
 use Rattle.update.specs.EdgeLaws.{says-is}
 use borrow.Author.Needs.{needs}
-use Rattle.update.proofs.edges.satisfied_nodes.Statement.{statement}
-use Rattle.update.proofs.edges.satisfied_nodes.Tie as tie
+use Rattle.update.proofs.justify.satisfied_nodes.Statement.{statement}
+use Rattle.update.proofs.justify.satisfied_nodes.Tie as tie
 
 needs-requires : tie.Need-needs-requires
 needs-requires c κs = search needs

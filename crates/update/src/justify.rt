@@ -1,0 +1,216 @@
+// Whether the edge that a command adds is justified.
+use crate::Known;
+use crate::asked::is_known;
+use crate::steps::node_of;
+use expression::Expression;
+use graph::Edge;
+use graph::Edges;
+use graph::Nodes;
+use justification::monitors_at;
+use message::Command;
+use message::NewEdge;
+use negotiation::Negotiation;
+use propagation::satisfied;
+use states::links;
+use states::needs;
+ghost use mathlib.Core.Path.{_≡_};
+ghost use mathlib.Core.Bool.{true};
+ghost use Prim.Native.Nat.{_≤_, _<_};
+ghost use Rattle.rt0.specs.Lists.{any};
+ghost use Rattle.rt0.specs.Pool.{credentials};
+ghost use Rattle.graph.specs.Graph.{nodesFrom, edgesFrom, nodesOf, edgesOf};
+ghost use Rattle.states.specs.Brings.{NodesFormed};
+ghost use Rattle.justification.specs.Justified.{monitors, Says};
+ghost use Rattle.message.specs.declared.Command.the-variants as C;
+ghost use Rattle.negotiation.specs.State.{stateOf, within};
+ghost use Rattle.update.specs.Legal.{justifiedFor};
+ghost use Rattle.update.specs.Judged.{kindOf, isImplication, KnownFor, Judges};
+
+const IMPLICATION: u8 = 1;
+
+const LINKING_IMPLICATION: u8 = 4;
+
+fn wide(x: u8) -> usize
+    ensures { λ r. ⌜ r ≡ x ⌝ }
+{
+    x as usize
+}
+
+// Which nodes are satisfied.
+fn satisfied_nodes(nodes: Nodes, edges: Edges) -> [u8; 128]
+    requires { ⌜ (nodes .count ≤ 128) × (edges .count ≤ 256) × NodesFormed (nodesOf nodes) ⌝ }
+    ensures { λ r. ⌜ Says (nodesOf nodes) (edgesOf edges) r ⌝ }
+{
+    let need = needs(nodes);
+    let x = links(nodes, edges);
+    satisfied(edges.count, &x.from, &x.slot, &need)
+}
+
+// Whether node p has a goal as child that has a satisfied solution for x and B.
+fn is_monitored_for<'a>(
+    n: usize,
+    kind: &'a [u8; 128],
+    parts: &'a [u8; 128],
+    n0: &'a [u16; 128],
+    n1: &'a [u16; 128],
+    n2: &'a [u16; 128],
+    n3: &'a [u16; 128],
+    n4: &'a [u16; 128],
+    n5: &'a [u16; 128],
+    n6: &'a [u16; 128],
+    n7: &'a [u16; 128],
+    subject: &'a [u16; 128],
+    verifier: &'a [u8; 128],
+    state: &'a [u8; 128],
+    m: usize,
+    edge: &'a [u8; 256],
+    parent: &'a [u8; 256],
+    child: &'a [u8; 256],
+    sat: &'a [u8; 128],
+    x: Expression,
+    b: u16,
+    p: u8,
+) -> bool
+    requires { ⌜ (n ≤ 128) × (m ≤ 256) × Says (nodesOf (nodesFrom n (now kind) (now parts) (now n0) (now n1) (now n2) (now n3) (now n4) (now n5) (now n6) (now n7) (now subject) (now verifier) (now state))) (edgesOf (edgesFrom m (now edge) (now parent) (now child))) (now sat) ⌝ }
+    ensures { λ r. ⌜ r ≡ any (monitors (nodesOf (nodesFrom n (now (kind .entry)) (now (parts .entry)) (now (n0 .entry)) (now (n1 .entry)) (now (n2 .entry)) (now (n3 .entry)) (now (n4 .entry)) (now (n5 .entry)) (now (n6 .entry)) (now (n7 .entry)) (now (subject .entry)) (now (verifier .entry)) (now (state .entry)))) (edgesOf (edgesFrom m (now (edge .entry)) (now (parent .entry)) (now (child .entry)))) x b p) (edgesOf (edgesFrom m (now (edge .entry)) (now (parent .entry)) (now (child .entry)))) ⌝ }
+{
+    let mut j = 0;
+    while j < m {
+        if monitors_at(
+            n,
+            kind,
+            parts,
+            n0,
+            n1,
+            n2,
+            n3,
+            n4,
+            n5,
+            n6,
+            n7,
+            subject,
+            verifier,
+            state,
+            m,
+            edge,
+            parent,
+            child,
+            sat,
+            x,
+            b,
+            p,
+            j,
+        ) {
+            return true;
+        }
+        j += 1;
+    }
+    false
+}
+
+// Whether a linking implication edge into node p, a target of expression x, is justified for B.
+fn is_linked_for(nodes: Nodes, edges: Edges, x: Expression, b: u16, p: u8) -> bool
+    requires { ⌜ (nodes .count ≤ 128) × (edges .count ≤ 256) × NodesFormed (nodesOf nodes) ⌝ }
+    ensures { λ r. ⌜ r ≡ any (monitors (nodesOf nodes) (edgesOf edges) x b p) (edgesOf edges) ⌝ }
+{
+    let sat = satisfied_nodes(nodes, edges);
+    is_monitored_for(
+        nodes.count,
+        &nodes.kind,
+        &nodes.parts,
+        &nodes.n0,
+        &nodes.n1,
+        &nodes.n2,
+        &nodes.n3,
+        &nodes.n4,
+        &nodes.n5,
+        &nodes.n6,
+        &nodes.n7,
+        &nodes.subject,
+        &nodes.verifier,
+        &nodes.state,
+        edges.count,
+        &edges.kind,
+        &edges.parent,
+        &edges.child,
+        &sat,
+        x,
+        b,
+        p,
+    )
+}
+
+// Whether an edge into node p is justified, its child having expression y and subject B.
+fn is_justified_for(n: Negotiation, k: Known, kind: u8, p: u8, y: Expression, b: u16) -> bool
+    requires { ⌜ (p < n .nodes .count) × (n .nodes .count ≤ 128) × (n .edges .count ≤ 256) × NodesFormed (nodesOf (n .nodes)) × KnownFor kind k (n .shown) ⌝ }
+    ensures { λ r. ⌜ r ≡ justifiedFor (stateOf n) kind p y b ⌝ }
+{
+    let nodes = n.nodes;
+    let parent = node_of(nodes, p);
+    let x = parent.expression;
+    if kind == IMPLICATION {
+        return is_known(k, x, y);
+    }
+    if kind == LINKING_IMPLICATION {
+        let edges = n.edges;
+        return is_linked_for(nodes, edges, x, b, p);
+    }
+    true
+}
+
+fn is_bring_justified(n: Negotiation, k: Known, b: NewEdge) -> bool
+    requires { ⌜ (n .nodes .count ≤ 128) × (n .edges .count ≤ 256) × NodesFormed (nodesOf (n .nodes)) × KnownFor (b .kind) k (n .shown) ⌝ }
+    ensures { λ r. ⌜ Judges (stateOf n) (C.Bring b) r ⌝ }
+{
+    let nodes = n.nodes;
+    if nodes.count <= wide(b.parent) {
+        return false;
+    }
+    let y = b.expression;
+    is_justified_for(n, k, b.kind, b.parent, y, b.subject)
+}
+
+fn is_join_justified(n: Negotiation, k: Known, e: Edge) -> bool
+    requires { ⌜ (n .nodes .count ≤ 128) × (n .edges .count ≤ 256) × NodesFormed (nodesOf (n .nodes)) × KnownFor (e .kind) k (n .shown) ⌝ }
+    ensures { λ r. ⌜ Judges (stateOf n) (C.Join e) r ⌝ }
+{
+    let nodes = n.nodes;
+    if nodes.count <= wide(e.parent) {
+        return false;
+    }
+    if nodes.count <= wide(e.child) {
+        return false;
+    }
+    let c = node_of(nodes, e.child);
+    let y = c.expression;
+    is_justified_for(n, k, e.kind, e.parent, y, c.subject)
+}
+
+// Whether a command adds an implication edge: it asks what the credentials shown prove.
+pub fn is_implication(c: Command) -> bool
+    ensures { λ r. ⌜ r ≡ isImplication c ⌝ }
+{
+    match c {
+        Command::Show(_) => false,
+        Command::Open(_) => false,
+        Command::Bring(b) => b.kind == IMPLICATION,
+        Command::Join(e) => e.kind == IMPLICATION,
+        Command::Mark(_) => false,
+        Command::End => false,
+    }
+}
+
+// Whether the edge of a command is justified, where its nodes stand; k has what the credentials shown prove, if an implication asks it.
+pub fn is_justified(n: Negotiation, k: Known, c: Command) -> bool
+    requires { ⌜ (within (stateOf n) ≡ true) × NodesFormed (nodesOf (n .nodes)) × KnownFor (kindOf c) k (n .shown) ⌝ }
+    ensures { λ r. ⌜ Judges (stateOf n) c r ⌝ }
+{
+    match c {
+        Command::Show(_) => true,
+        Command::Open(_) => true,
+        Command::Bring(b) => is_bring_justified(n, k, b),
+        Command::Join(e) => is_join_justified(n, k, e),
+        Command::Mark(_) => true,
+        Command::End => true,
+    }
+}
