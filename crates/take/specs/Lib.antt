@@ -4,3 +4,6 @@ pub mod CommandsKept
 pub mod Take
 pub mod TakeKept
 pub mod TakeLaws
+pub mod Message
+pub mod TakenExactly
+pub mod RefusedExactly

@@ -18,3 +18,5 @@ pub mod KeptStep
 pub mod After
 pub mod AfterLaws
 pub mod AfterKept
+pub mod Update
+pub mod UpdateExact

@@ -1,0 +1,93 @@
+-- A message as the list of its commands, and where they lead (document 01, "Bytes" and "RT0 and states"). Assumes nothing.
+use Prim.Native.Nat.{ℕ}
+use mathlib.Core.Path.{_≡_}
+use mathlib.Core.Bool.{Bool, true, false}
+use mathlib.Core.List.{List, [], _∷_, _++_}
+use lib.ListN.{length}
+use Rattle.rt0.specs.Lists.{any}
+use Rattle.class.specs.declared.Name.{Name}
+use Rattle.tables.specs.Tables.{Tables}
+use Rattle.message.specs.declared.Command.{Command}
+use Rattle.message.specs.declared.Command.the-variants.{End}
+use Rattle.message.specs.declared.CommandAnswer.the-variants.{Read, Refused}
+use Rattle.message.specs.Command.{formedCommand, commandBytes, commandAt}
+use Rattle.negotiation.specs.State.{State}
+use Rattle.damage.specs.Restored.{refusal, standing, restoreOf}
+use Rattle.update.specs.Step.{stepped, isMove}
+use Rattle.update.specs.Legal.{legalNumber}
+use Rattle.update.specs.After.{afterMessage}
+use Rattle.update.specs.Update.{Legal}
+use Rattle.take.specs.Commands.{isEnd}
+use Rattle.take.specs.Take.{sends, senderTo, messageSize}
+
+-- the commands' bytes one after another
+abbrev pub bytesOf : List Command → List ℕ
+bytesOf [] = []
+bytesOf (c ∷ cs) = commandBytes c ++ bytesOf cs
+
+-- then the end's: "0x06 end, 1: stands last and only there"
+abbrev pub messageBytes : List Command → List ℕ
+messageBytes [] = commandBytes End
+messageBytes (c ∷ cs) = commandBytes c ++ messageBytes cs
+
+-- commands of side s lead from one state to another: none is an end, each has operands of right form and is legal in the state before it.
+-- "Each command carries the negotiation to its next state"
+pub data Updates (ns : List Name) (s : ℕ) : State → List Command → State → Type 0 where
+  none : {S : State} → Updates ns s S [] S
+  next : {S T : State} {c : Command} {cs : List Command} → isEnd c ≡ false → formedCommand c ≡ true → Legal ns s S c → Updates ns s (stepped S s c) cs T → Updates ns s S (c ∷ cs) T
+
+-- an open, an edge or a mark is among them
+abbrev pub moved : List Command → Bool
+moved cs = any isMove cs
+
+-- the message m consists of these commands and an end, and they lead from S to T
+pub record Carries (ns : List Name) (s : ℕ) (m : List ℕ) (S : State) (cs : List Command) (T : State) : Type 0 where
+  pub bytes : m ≡ messageBytes cs
+  pub updates : Updates ns s S cs T
+  pub end : Legal ns s T End
+
+-- the command at an index is refused with k: it cannot be read, or it is not legal
+pub data Wrong (ns : List Name) (s : ℕ) (m : List ℕ) (at : ℕ) (S : State) (k : ℕ) : Type 0 where
+  unreadable : commandAt m at ≡ Refused k → Wrong ns s m at S k
+  illegal : (c : Command) → commandAt m at ≡ Read c → legalNumber ns s S c ≡ k → (k ≡ 0 → ⊥) → Wrong ns s m at S k
+
+-- the message m begins with commands that lead from S on, and the one behind them is refused with k
+pub record Stops (ns : List Name) (s : ℕ) (m : List ℕ) (S : State) (k : ℕ) : Type 0 where
+  pub before : List Command
+  pub led : State
+  pub rest : List ℕ
+  pub bytes : m ≡ bytesOf before ++ rest
+  pub updates : Updates ns s S before led
+  pub wrong : Wrong ns s m (length (bytesOf before)) led k
+
+-- The call
+
+-- the lengths are right, and the tables T and the undamaged state S are what the lent bytes hold
+pub record Stands (tables negotiation message scratch : List ℕ) (T : Tables) (S : State) : Type 0 where
+  pub sized : messageSize (length message) (length scratch) ≡ true
+  pub restored : restoreOf tables negotiation ≡ standing T S
+
+-- the negotiation has not ended, and it is the sender's turn
+pub record InTurn (S : State) : Type 0 where
+  pub going : S .header .end ≡ 0
+  pub turn : sends (senderTo S) (S .header .messages) ≡ true
+
+-- the message holds legal commands and an end, and A is what they lead to, the end being judged
+pub record Accepted (T : Tables) (S : State) (message : List ℕ) (A : State) : Type 0 where
+  pub commands : List Command
+  pub led : State
+  pub carries : Carries (T .names) (senderTo S) message S commands led
+  pub after : A ≡ afterMessage led (moved commands) false
+
+-- why a call is refused with k, in the order of "From the state"
+pub data Refusal (tables negotiation message scratch : List ℕ) (k : ℕ) : Type 0 where
+  -- "1 a lent length outside the sizes"
+  size : messageSize (length message) (length scratch) ≡ false → k ≡ 1 → Refusal tables negotiation message scratch k
+  -- the negotiation's length 1, the tables 1 to 6, "20 negotiation damaged"
+  unrestored : messageSize (length message) (length scratch) ≡ true → restoreOf tables negotiation ≡ refusal k → Refusal tables negotiation message scratch k
+  -- "22 already ended"
+  ended : {T : Tables} {S : State} → Stands tables negotiation message scratch T S → (S .header .end ≡ 0 → ⊥) → k ≡ 22 → Refusal tables negotiation message scratch k
+  -- "21 not that side's turn"
+  out-of-turn : {T : Tables} {S : State} → Stands tables negotiation message scratch T S → S .header .end ≡ 0 → sends (senderTo S) (S .header .messages) ≡ false → k ≡ 21 → Refusal tables negotiation message scratch k
+  -- a command
+  stopped : {T : Tables} {S : State} → Stands tables negotiation message scratch T S → InTurn S → Stops (T .names) (senderTo S) message S k → Refusal tables negotiation message scratch k
