@@ -8,12 +8,20 @@
  *   kind 2, role:          entity, name
  *   kind 3, linked role:   entity, name, name
  *   kind 4, intersection:  two to four roles (entity, name), strictly ascending by entity, then name
+ *   kind 5, goal:          name; in a graph only
  * The part count is 2 to 4 for an intersection, else 0.
  *
  * Commands:
  *   0x01 credential, 23 bytes: 0x01, issuer, name, body. The body is an expression of kind 1 to 4, and a linked body
  *        begins with the issuer. It says that every member of the body is a member of the role issuer.name.
+ *   0x02 open, 6 bytes: 0x02, role, state. The first target: the requester in the role.
+ *   0x03 edge with a new child, 24 bytes: 0x03, edge kind, parent, child's expression, child's subject, child's state.
+ *   0x04 edge between old nodes, 4 bytes: 0x04, edge kind, parent, child.
+ *   0x05 mark, 2 bytes: 0x05, node. The sender has processed the node.
  *   0x06 end, 1 byte: stands last and only there.
+ * A message is 0x01 to 0x05 in any number, then an end. Nodes are numbered in one byte from 0 as added; bit 0 of a state
+ * says that the node's verifier has processed it, bit 1 that the verifier's opponent has. Edge kinds: 1 implication,
+ * 2 linking monitor, 3 linking solution, 4 linking implication, 5 intersection, 6 control.
  *
  * House tables are records one after another, in this order, without an end:
  *   0x10 self, 3 bytes: one number; the first record, and once.
@@ -44,7 +52,14 @@
 #define LAVUTREMO_ORDER 6u    /* tables out of order, repeated, self missing, or a size passed */
 #define LAVUTREMO_OTHER 7u    /* at begin: the other end is zero or self */
 #define LAVUTREMO_DAMAGED 20u /* the negotiation is damaged */
+#define LAVUTREMO_TURN 21u    /* not that side's turn */
+#define LAVUTREMO_ENDED 22u   /* already ended */
+#define LAVUTREMO_OPENING 23u /* a command but open while no node stands, or open later */
 #define LAVUTREMO_ABSENT 24u  /* no such node */
+#define LAVUTREMO_PRESENT 25u /* edge form wrong, or node, edge or credential already present */
+#define LAVUTREMO_UNJUSTIFIED 26u /* not justified */
+#define LAVUTREMO_PROCESSED 27u   /* already processed by the sender */
+#define LAVUTREMO_FULL 28u    /* a size passed */
 
 /* Sizes in bytes. */
 #define LAVUTREMO_EXPRESSION_BYTES 18
@@ -53,6 +68,8 @@
 #define LAVUTREMO_MOST_CREDENTIALS_BYTES (LAVUTREMO_MOST_CREDENTIALS * LAVUTREMO_CREDENTIAL_BYTES + 1)
 #define LAVUTREMO_MOST_TABLES_BYTES 4096
 #define LAVUTREMO_NEGOTIATION_BYTES 5120
+#define LAVUTREMO_MOST_MESSAGE_BYTES 4096
+#define LAVUTREMO_SCRATCH_BYTES 4096
 
 /* Sizes of a negotiation in records. */
 #define LAVUTREMO_MOST_NODES 128
@@ -114,6 +131,45 @@ uint64_t lavutremo_check(const uint8_t *tables, size_t tables_len);
  */
 uint64_t lavutremo_begin(const uint8_t *tables, size_t tables_len, uint8_t *negotiation, size_t negotiation_len,
                          uint16_t other, uint16_t entity, uint16_t name);
+
+/*
+ * Takes a message of the other end.
+ *
+ * Reads
+ *   tables       as above
+ *   negotiation  5,120 bytes that a call left
+ *   message      commands as above: 1 to 4,096 bytes
+ *
+ * Writes
+ *   negotiation  the one that the commands lead to, its count one higher, its end judged: 1 success or 2 failed where the
+ *                first target is satisfied or failed, 3 stalled where this message and the one before had no open, edge or
+ *                mark, else 0
+ *   scratch      4,096 bytes: zeros
+ *
+ * Returns 0 if the message is accepted, else a number alone, the first of these that applies, and then no byte changes, of
+ * the scratch neither:
+ *   LAVUTREMO_LENGTH   a length is outside the sizes,
+ *   LAVUTREMO_COMMAND, LAVUTREMO_OPERAND, LAVUTREMO_NAME, LAVUTREMO_CLASS, LAVUTREMO_ORDER   the tables, as above,
+ *   LAVUTREMO_DAMAGED  the bytes are not those of a sound negotiation of these tables' house,
+ *   LAVUTREMO_ENDED    the negotiation has ended,
+ *   LAVUTREMO_TURN     it is our side's turn to send: the mediator sends when the count of messages is even;
+ * else the commands are judged left to right, each carried out before the next is read, and the first that cannot be taken
+ * ends the call with the first of these that applies:
+ *   LAVUTREMO_COMMAND, LAVUTREMO_OPERAND   it is unknown or cut, bytes follow the end or there is no end; a wrong operand
+ *                      or state,
+ *   LAVUTREMO_NAME, LAVUTREMO_CLASS   a name in it has no class; it breaks a class rule,
+ *   LAVUTREMO_OPENING  no node stands, and it is no open; or it is an open, and one stands,
+ *   LAVUTREMO_ABSENT   a node that it names does not stand,
+ *   LAVUTREMO_PRESENT  the edge has not the form of its kind; the credential, the child or the edge is there already,
+ *   LAVUTREMO_UNJUSTIFIED   an implication that the credentials shown so far do not prove, or a linking implication without
+ *                      a satisfied solution,
+ *   LAVUTREMO_PROCESSED     the sender has processed the node, or the edge's parent,
+ *   LAVUTREMO_FULL     a size would be passed.
+ *
+ * The buffers may have any content and any length. They must not overlap.
+ */
+uint64_t lavutremo_take(const uint8_t *tables, size_t tables_len, uint8_t *negotiation, size_t negotiation_len,
+                        const uint8_t *message, size_t message_len, uint8_t *scratch, size_t scratch_len);
 
 /*
  * How does a negotiation stand, and one of its nodes?

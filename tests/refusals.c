@@ -342,6 +342,140 @@ static void reports(void)
     }
 }
 
+static uint8_t taken[LAVUTREMO_NEGOTIATION_BYTES + 1], message[LAVUTREMO_MOST_MESSAGE_BYTES + 1],
+    scratch[LAVUTREMO_SCRATCH_BYTES + 1];
+static size_t message_len;
+
+static void put_command(const uint8_t *bytes, size_t size)
+{
+    memcpy(message + message_len, bytes, size);
+    message_len += size;
+}
+
+#define COMMAND(...) put_command((const uint8_t[]){__VA_ARGS__}, sizeof((const uint8_t[]){__VA_ARGS__}))
+
+/* A role of one-byte numbers, as an expression. */
+#define ROLE(entity, name) 2, 0, 0, entity, 0, name, 0, 0, 0, 0, 0, 0, 0, 0, 0, 0, 0, 0
+
+/* Takes the message. An accepted one leaves zeros in the scratch, a refused one every byte as it was. */
+static void expect_take(const char *what, uint64_t expected, size_t tables_size, size_t size, size_t message_size,
+                        size_t scratch_size)
+{
+    static uint8_t before[sizeof taken], scratch_after[sizeof scratch];
+    memset(scratch, 0xa5, sizeof scratch);
+    memset(scratch_after, 0xa5, sizeof scratch_after);
+    if (expected == 0)
+        memset(scratch_after, 0, LAVUTREMO_SCRATCH_BYTES);
+    memcpy(before, taken, sizeof before);
+    uint64_t answer = lavutremo_take(tables, tables_size, taken, size, message, message_size, scratch, scratch_size);
+    int same = memcmp(taken, before, sizeof before) == 0;
+    if (answer == expected && memcmp(scratch, scratch_after, sizeof scratch) == 0 && same == (expected != 0)) {
+        passed++;
+        return;
+    }
+    failed++;
+    printf("%s: answer %llu, expected %llu, or other bytes\n", what, (unsigned long long)answer,
+           (unsigned long long)expected);
+}
+
+static void expect_message(const char *what, uint64_t expected)
+{
+    expect_take(what, expected, tables_len, LAVUTREMO_NEGOTIATION_BYTES, message_len, LAVUTREMO_SCRATCH_BYTES);
+}
+
+/* A requester that has seen no message, or one with an open of 3.1 in state 2. */
+static void put_requester(int opened)
+{
+    put_house();
+    lavutremo_begin(tables, tables_len, taken, LAVUTREMO_NEGOTIATION_BYTES, 3, 0, 0);
+    message_len = 0;
+    if (opened)
+        COMMAND(0x02, 0, 3, 0, 1, 2);
+}
+
+static void takes(void)
+{
+    const size_t size = LAVUTREMO_NEGOTIATION_BYTES, scratch_size = LAVUTREMO_SCRATCH_BYTES;
+    put_requester(1);
+    COMMAND(0x06);
+    expect_take("no message", LAVUTREMO_LENGTH, tables_len, size, 0, scratch_size);
+    expect_take("4,097 bytes of message", LAVUTREMO_LENGTH, tables_len, size, sizeof message, scratch_size);
+    expect_take("4,095 bytes of scratch", LAVUTREMO_LENGTH, tables_len, size, message_len, scratch_size - 1);
+    expect_take("4,097 bytes of scratch", LAVUTREMO_LENGTH, tables_len, size, message_len, scratch_size + 1);
+    expect_take("5,119 bytes of negotiation", LAVUTREMO_LENGTH, tables_len, size - 1, message_len, scratch_size);
+    expect_take("5,121 bytes of negotiation", LAVUTREMO_LENGTH, tables_len, size + 1, message_len, scratch_size);
+    expect_take("no tables", LAVUTREMO_LENGTH, 0, size, message_len, scratch_size);
+    expect_take("cut tables", LAVUTREMO_COMMAND, tables_len - 1, size, message_len, scratch_size);
+    taken[18] = 1;
+    expect_message("an unused byte of the negotiation", LAVUTREMO_DAMAGED);
+    taken[18] = 0;
+    expect_message("an open", 0);
+    expect_message("out of turn", LAVUTREMO_TURN);
+    put_primary(taken);
+    expect_message("already ended", LAVUTREMO_ENDED);
+
+    put_requester(0);
+    expect_take("no command", LAVUTREMO_COMMAND, tables_len, size, 1, scratch_size);
+    COMMAND(0x06);
+    expect_message("an end while no node stands", LAVUTREMO_OPENING);
+    static const struct {
+        const char *what;
+        uint64_t expected;
+        uint8_t bytes[25];
+        size_t size;
+    } after_open[] = {
+        {"no end", LAVUTREMO_COMMAND, {0}, 0},
+        {"bytes after the end", LAVUTREMO_COMMAND, {0x06, 0x06}, 2},
+        {"an unknown command", LAVUTREMO_COMMAND, {0x07, 0x06}, 2},
+        {"a cut mark", LAVUTREMO_COMMAND, {0x05}, 1},
+        {"a zero in a role", LAVUTREMO_OPERAND, {0x02, 0, 0, 0, 1, 2, 0x06}, 7},
+        {"state 4", LAVUTREMO_OPERAND, {0x02, 0, 3, 0, 1, 4, 0x06}, 7},
+        {"edge kind 7", LAVUTREMO_OPERAND, {0x04, 7, 0, 0, 0x06}, 5},
+        {"a name without class", LAVUTREMO_NAME, {0x02, 0, 3, 0, 9, 2, 0x06}, 7},
+        {"a class rule broken", LAVUTREMO_CLASS, {0x01, 0, 4, 0, 2, ROLE(3, 1), 0x06}, 24},
+        {"a second open", LAVUTREMO_OPENING, {0x02, 0, 3, 0, 1, 2, 0x06}, 7},
+        {"a mark of no node", LAVUTREMO_ABSENT, {0x05, 1, 0x06}, 3},
+        {"a node joined to itself", LAVUTREMO_PRESENT, {0x04, 1, 0, 0, 0x06}, 5},
+        {"a child of another subject", LAVUTREMO_PRESENT, {0x03, 1, 0, ROLE(4, 2), 0, 9, 1, 0x06}, 25},
+        {"a child that stands", LAVUTREMO_PRESENT, {0x03, 1, 0, ROLE(3, 1), 0, 2, 1, 0x06}, 25},
+        {"an implication without credentials", LAVUTREMO_UNJUSTIFIED, {0x03, 1, 0, ROLE(4, 2), 0, 2, 1, 0x06}, 25},
+    };
+    for (size_t i = 0; i < sizeof after_open / sizeof after_open[0]; i++) {
+        put_requester(1);
+        put_command(after_open[i].bytes, after_open[i].size);
+        expect_message(after_open[i].what, after_open[i].expected);
+    }
+
+    put_requester(1);
+    COMMAND(0x01, 0, 3, 0, 1, ROLE(4, 2));
+    COMMAND(0x01, 0, 3, 0, 1, ROLE(4, 2));
+    COMMAND(0x06);
+    expect_message("a credential twice", LAVUTREMO_PRESENT);
+    put_requester(1);
+    COMMAND(0x03, 1, 0, ROLE(4, 2), 0, 2, 1);
+    COMMAND(0x01, 0, 3, 0, 1, ROLE(4, 2));
+    COMMAND(0x06);
+    expect_message("credentials that come later", LAVUTREMO_UNJUSTIFIED);
+    put_requester(1);
+    COMMAND(0x05, 0);
+    COMMAND(0x05, 0);
+    COMMAND(0x06);
+    expect_message("a mark twice", LAVUTREMO_PROCESSED);
+    put_requester(1);
+    COMMAND(0x01, 0, 3, 0, 1, ROLE(4, 2));
+    COMMAND(0x03, 1, 0, ROLE(4, 2), 0, 2, 1);
+    COMMAND(0x05, 0);
+    COMMAND(0x06);
+    expect_message("the first message of case (i)", 0);
+    uint64_t answer = lavutremo_report(tables, tables_len, taken, size, 0);
+    if (lavutremo_number(answer) == 0 && lavutremo_state(answer) == 3 && lavutremo_propagated(answer) == 0 &&
+        lavutremo_end(answer) == 0 && lavutremo_nodes(answer) == 2 && lavutremo_edges(answer) == 1 &&
+        lavutremo_shown(answer) == 1 && lavutremo_messages(answer) == 1)
+        passed++;
+    else
+        failed++;
+}
+
 int main(void)
 {
     lengths();
@@ -351,6 +485,7 @@ int main(void)
     table_sizes();
     begins();
     reports();
+    takes();
     printf("%d passed, %d failed\n", passed, failed);
     return failed > 0;
 }
