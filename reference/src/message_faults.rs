@@ -36,6 +36,7 @@ impl Random {
             10..=13 => self.unjustified(house, now),
             _ => self.processed(plan, now),
         };
+        // Where none is found, an unknown one.
         command.map_or(vec![0], |command| encode_command(&command))
     }
 
@@ -182,8 +183,10 @@ impl Random {
         let node = self.below(now.nodes.len());
         let kind = self.between(1, 6) as u8;
         let edge = now.edges.get(self.below(now.edges.len().max(1)));
+        let any_state = self.below(4) as u8;
         let old_child = |node: &Node, kind, parent| {
             let Node { form, subject, state, .. } = node.clone();
+            let state = if legal_state(&form, any_state) { any_state } else { state };
             Command::Child(NewChild { kind, parent, form, subject, state })
         };
         Some(match self.below(10) {

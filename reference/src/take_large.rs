@@ -237,7 +237,7 @@ pub fn onto_full() -> Vec<Run> {
 pub enum Credentials {
     Before,
     First,
-    /// Each before the first edge that it is needed for, and the others last.
+    /// In their order, none before an edge lacks it or one after it; the others last.
     Late,
 }
 
