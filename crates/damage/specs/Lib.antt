@@ -10,3 +10,4 @@ pub mod DamageLaws
 pub mod Restored
 pub mod RestoredLaws
 pub mod Proved
+pub mod RestoredPublic

@@ -115,17 +115,17 @@ module _ (ns : List Node) (E : Edges) (x : Expression) (b p : ℕ) {j : ℕ} whe
     unfolding solved edgesOf
     solved-none l = any-none (E .count) h l
 
+  module _ (h : Missed (monitors ns (edgesOf E) x b p) (edgeAt E) j) where
+    pub linked-at : {r : Bool} → j < E .count → r ≡ monitors ns (edgesOf E) x b p (edgeAt E j) → r ≡ true → true ≡ any (monitors ns (edgesOf E) x b p) (edgesOf E)
+    unfolding edgesOf
+    linked-at l e t = any-at (E .count) h l e t
+
+    pub linked-none : E .count ≤ j → false ≡ any (monitors ns (edgesOf E) x b p) (edgesOf E)
+    unfolding edgesOf
+    linked-none l = any-none (E .count) h l
+
 -- P is the node i, the parent of e, and C the node k, its child
-module _ (ns : List Node) (E : Edges) (e : Edge) {P C : Node} {i k j : ℕ} (ie : i ≡ e .parent) (pe : P ≡ nodeIn ns i) (ke : k ≡ e .child) (ce : C ≡ nodeIn ns k)
-    (h : Missed (monitors ns (edgesOf E) (P .expression) (C .subject) (e .parent)) (edgeAt E) j) where
-  by-ends : any (monitors ns (edgesOf E) (P .expression) (C .subject) (e .parent)) (edgesOf E) ≡ monitored ns (edgesOf E) e
-  unfolding monitored
-  by-ends = λ t. any (monitors ns (edgesOf E) ((pe ∙ ap (nodeIn ns) ie) t .expression) ((ce ∙ ap (nodeIn ns) ke) t .subject) (e .parent)) (edgesOf E)
-
-  pub monitored-at : {r : Bool} → j < E .count → r ≡ monitors ns (edgesOf E) (P .expression) (C .subject) (e .parent) (edgeAt E j) → r ≡ true → true ≡ monitored ns (edgesOf E) e
-  unfolding edgesOf
-  monitored-at l q t = any-at (E .count) h l q t ∙ by-ends
-
-  pub monitored-none : E .count ≤ j → false ≡ monitored ns (edgesOf E) e
-  unfolding edgesOf
-  monitored-none l = any-none (E .count) h l ∙ by-ends
+pub monitored-by : (ns : List Node) (es : List Edge) (e : Edge) {P C : Node} {i k : ℕ} {r : Bool} → i ≡ e .parent → P ≡ nodeIn ns i → k ≡ e .child → C ≡ nodeIn ns k
+    → r ≡ any (monitors ns es (P .expression) (C .subject) (e .parent)) es → r ≡ monitored ns es e
+unfolding monitored
+monitored-by ns es e ie pe ke ce h = h ∙ (λ t. any (monitors ns es ((pe ∙ ap (nodeIn ns) ie) t .expression) ((ce ∙ ap (nodeIn ns) ke) t .subject) (e .parent)) es)

@@ -5,9 +5,8 @@ mod implied;
 mod linked;
 
 pub use implied::edges_implied;
-pub use linked::is_monitored;
+pub use linked::is_monitored_for;
 pub use linked::links_justified;
-pub use linked::monitors_at;
 
 fn wide(x: u8) -> usize
     ensures { λ r. ⌜ r ≡ x ⌝ }

@@ -16,6 +16,7 @@ use states::needs;
 ghost use mathlib.Core.Path.{_≡_};
 ghost use mathlib.Core.List.{[]};
 ghost use Prim.Native.Nat.{_≤_, _<_};
+ghost use Rattle.rt0.specs.Lists.{any};
 ghost use Rattle.graph.specs.Graph.{nodesFrom, edgesFrom, edgeAt, nodesOf, edgesOf};
 ghost use Rattle.justification.specs.Justified.{isSolutionFor, solves, solved, monitors, monitored, monitoredIf, Says};
 ghost use Rattle.justification.specs.InTurn.{inTurn};
@@ -153,7 +154,7 @@ fn is_solved<'a>(
 }
 
 // Whether edge j brings node p a goal with a satisfied solution for x and B.
-pub fn monitors_at<'a>(
+fn monitors_at<'a>(
     n: usize,
     kind: &'a [u8; 128],
     parts: &'a [u8; 128],
@@ -214,8 +215,70 @@ pub fn monitors_at<'a>(
     )
 }
 
+// Whether node p has a goal as child that has a satisfied solution for x and B.
+pub fn is_monitored_for<'a>(
+    n: usize,
+    kind: &'a [u8; 128],
+    parts: &'a [u8; 128],
+    n0: &'a [u16; 128],
+    n1: &'a [u16; 128],
+    n2: &'a [u16; 128],
+    n3: &'a [u16; 128],
+    n4: &'a [u16; 128],
+    n5: &'a [u16; 128],
+    n6: &'a [u16; 128],
+    n7: &'a [u16; 128],
+    subject: &'a [u16; 128],
+    verifier: &'a [u8; 128],
+    state: &'a [u8; 128],
+    m: usize,
+    edge: &'a [u8; 256],
+    parent: &'a [u8; 256],
+    child: &'a [u8; 256],
+    sat: &'a [u8; 128],
+    x: Expression,
+    b: u16,
+    p: u8,
+) -> bool
+    requires { ⌜ (n ≤ 128) × (m ≤ 256) × Says (nodesOf (nodesFrom n (now kind) (now parts) (now n0) (now n1) (now n2) (now n3) (now n4) (now n5) (now n6) (now n7) (now subject) (now verifier) (now state))) (edgesOf (edgesFrom m (now edge) (now parent) (now child))) (now sat) ⌝ }
+    ensures { λ r. ⌜ r ≡ any (monitors (nodesOf (nodesFrom n (now (kind .entry)) (now (parts .entry)) (now (n0 .entry)) (now (n1 .entry)) (now (n2 .entry)) (now (n3 .entry)) (now (n4 .entry)) (now (n5 .entry)) (now (n6 .entry)) (now (n7 .entry)) (now (subject .entry)) (now (verifier .entry)) (now (state .entry)))) (edgesOf (edgesFrom m (now (edge .entry)) (now (parent .entry)) (now (child .entry)))) x b p) (edgesOf (edgesFrom m (now (edge .entry)) (now (parent .entry)) (now (child .entry)))) ⌝ }
+{
+    let mut j = 0;
+    while j < m {
+        if monitors_at(
+            n,
+            kind,
+            parts,
+            n0,
+            n1,
+            n2,
+            n3,
+            n4,
+            n5,
+            n6,
+            n7,
+            subject,
+            verifier,
+            state,
+            m,
+            edge,
+            parent,
+            child,
+            sat,
+            x,
+            b,
+            p,
+            j,
+        ) {
+            return true;
+        }
+        j += 1;
+    }
+    false
+}
+
 // Whether a linking implication edge is justified behind the first m edges, which satisfy the nodes of sat.
-pub fn is_monitored<'a>(
+fn is_monitored<'a>(
     n: usize,
     kind: &'a [u8; 128],
     parts: &'a [u8; 128],
@@ -275,38 +338,30 @@ pub fn is_monitored<'a>(
         wide(e.child),
     );
     let x = p.expression;
-    let mut j = 0;
-    while j < m {
-        if monitors_at(
-            n,
-            kind,
-            parts,
-            n0,
-            n1,
-            n2,
-            n3,
-            n4,
-            n5,
-            n6,
-            n7,
-            subject,
-            verifier,
-            state,
-            m,
-            edge,
-            parent,
-            child,
-            sat,
-            x,
-            c.subject,
-            e.parent,
-            j,
-        ) {
-            return true;
-        }
-        j += 1;
-    }
-    false
+    is_monitored_for(
+        n,
+        kind,
+        parts,
+        n0,
+        n1,
+        n2,
+        n3,
+        n4,
+        n5,
+        n6,
+        n7,
+        subject,
+        verifier,
+        state,
+        m,
+        edge,
+        parent,
+        child,
+        sat,
+        x,
+        c.subject,
+        e.parent,
+    )
 }
 
 // Whether edge m, if it is a linking implication edge, is justified behind those before it.

@@ -7,3 +7,4 @@ pub mod TakeLaws
 pub mod Message
 pub mod TakenExactly
 pub mod RefusedExactly
+pub mod TakePublic

@@ -9,7 +9,6 @@ use Rattle.expression.specs.declared.Expression.{Expression}
 use Rattle.rt0.specs.Lists.{any}
 use Rattle.rt0.specs.Decide.{from? as fromOf}
 use Rattle.rt0.specs.Pool.{credentials}
-use Rattle.class.specs.Find.{Missed, any-at, any-none}
 use Rattle.propagation.specs.Flags.{at, flag}
 use Rattle.propagation.specs.Satisfied.{graph, satisfiedOf}
 use Rattle.graph.specs.declared.Node.{Node}
@@ -36,16 +35,6 @@ use Rattle.update.specs.LegalLaws.{by-implied, by-monitored, by-kind}
 pub says-is : (N : Nodes) (E : Edges) (F S : List ℕ) → NodesFormed (nodesOf N) → Joined (nodesOf N) (edgesOf E) F S → (M sat : List ℕ) → Needs (nodesOf N) M
     → ((i : ℕ) → flag sat i ≡ at (satisfiedOf (E .count) (graph F S M)) i) → Says (nodesOf N) (edgesOf E) sat
 says-is N E F S nf jn M sat nd h = record { says = satisfied-read N E F S nf jn sat nd h }
-
--- a search for a linking-monitor child
-module _ (ns : List Node) (E : Edges) (x : Expression) (b p : ℕ) {j : ℕ} (h : Missed (monitors ns (edgesOf E) x b p) (edgeAt E) j) where
-  pub linked-at : {r : Bool} → j < E .count → r ≡ monitors ns (edgesOf E) x b p (edgeAt E j) → r ≡ true → true ≡ any (monitors ns (edgesOf E) x b p) (edgesOf E)
-  unfolding edgesOf
-  linked-at l e t = any-at (E .count) h l e t
-
-  pub linked-none : E .count ≤ j → false ≡ any (monitors ns (edgesOf E) x b p) (edgesOf E)
-  unfolding edgesOf
-  linked-none l = any-none (E .count) h l
 
 -- Justification
 

@@ -6,7 +6,7 @@ use expression::Expression;
 use graph::Edge;
 use graph::Edges;
 use graph::Nodes;
-use justification::monitors_at;
+use justification::is_monitored_for;
 use message::Command;
 use message::NewEdge;
 use negotiation::Negotiation;
@@ -18,7 +18,7 @@ ghost use mathlib.Core.Bool.{true};
 ghost use Prim.Native.Nat.{_≤_, _<_};
 ghost use Rattle.rt0.specs.Lists.{any};
 ghost use Rattle.rt0.specs.Pool.{credentials};
-ghost use Rattle.graph.specs.Graph.{nodesFrom, edgesFrom, nodesOf, edgesOf};
+ghost use Rattle.graph.specs.Graph.{nodesOf, edgesOf};
 ghost use Rattle.states.specs.Brings.{NodesFormed};
 ghost use Rattle.justification.specs.Justified.{monitors, Says};
 ghost use Rattle.message.specs.declared.Command.the-variants as C;
@@ -44,68 +44,6 @@ fn satisfied_nodes(nodes: Nodes, edges: Edges) -> [u8; 128]
     let need = needs(nodes);
     let x = links(nodes, edges);
     satisfied(edges.count, &x.from, &x.slot, &need)
-}
-
-// Whether node p has a goal as child that has a satisfied solution for x and B.
-fn is_monitored_for<'a>(
-    n: usize,
-    kind: &'a [u8; 128],
-    parts: &'a [u8; 128],
-    n0: &'a [u16; 128],
-    n1: &'a [u16; 128],
-    n2: &'a [u16; 128],
-    n3: &'a [u16; 128],
-    n4: &'a [u16; 128],
-    n5: &'a [u16; 128],
-    n6: &'a [u16; 128],
-    n7: &'a [u16; 128],
-    subject: &'a [u16; 128],
-    verifier: &'a [u8; 128],
-    state: &'a [u8; 128],
-    m: usize,
-    edge: &'a [u8; 256],
-    parent: &'a [u8; 256],
-    child: &'a [u8; 256],
-    sat: &'a [u8; 128],
-    x: Expression,
-    b: u16,
-    p: u8,
-) -> bool
-    requires { ⌜ (n ≤ 128) × (m ≤ 256) × Says (nodesOf (nodesFrom n (now kind) (now parts) (now n0) (now n1) (now n2) (now n3) (now n4) (now n5) (now n6) (now n7) (now subject) (now verifier) (now state))) (edgesOf (edgesFrom m (now edge) (now parent) (now child))) (now sat) ⌝ }
-    ensures { λ r. ⌜ r ≡ any (monitors (nodesOf (nodesFrom n (now (kind .entry)) (now (parts .entry)) (now (n0 .entry)) (now (n1 .entry)) (now (n2 .entry)) (now (n3 .entry)) (now (n4 .entry)) (now (n5 .entry)) (now (n6 .entry)) (now (n7 .entry)) (now (subject .entry)) (now (verifier .entry)) (now (state .entry)))) (edgesOf (edgesFrom m (now (edge .entry)) (now (parent .entry)) (now (child .entry)))) x b p) (edgesOf (edgesFrom m (now (edge .entry)) (now (parent .entry)) (now (child .entry)))) ⌝ }
-{
-    let mut j = 0;
-    while j < m {
-        if monitors_at(
-            n,
-            kind,
-            parts,
-            n0,
-            n1,
-            n2,
-            n3,
-            n4,
-            n5,
-            n6,
-            n7,
-            subject,
-            verifier,
-            state,
-            m,
-            edge,
-            parent,
-            child,
-            sat,
-            x,
-            b,
-            p,
-            j,
-        ) {
-            return true;
-        }
-        j += 1;
-    }
-    false
 }
 
 // Whether a linking implication edge into node p, a target of expression x, is justified for B.
