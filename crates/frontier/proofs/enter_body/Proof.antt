@@ -1,0 +1,53 @@
+use borrow.Author.Needs.{needs}
+use Rattle.frontier.specs.QueueLaws.{enter-entity, enter-linked, enter-intersection, enter-goal}
+use Rattle.frontier.proofs.enter_body.Statement.{statement}
+use Rattle.frontier.proofs.enter_body.Tie as tie
+
+enum-told : tie.Need-enum-told
+enum-told c = search needs
+
+enum-known-x : tie.Need-enum-known-x
+enum-known-x c = search needs
+
+enter-requires : tie.Need-enter-requires
+enter-requires c κs = search needs
+
+enum-told-2 : tie.Need-enum-told-2
+enum-told-2 c = search needs
+
+enum-told-3 : tie.Need-enum-told-3
+enum-told-3 c = search needs
+
+enum-told-4 : tie.Need-enum-told-4
+enum-told-4 c = search needs
+
+returns : tie.Need-returns
+returns c = enter-entity _ (c .before .before .pre .1) (c .enum-told .given .1)
+
+returns-2 : tie.Need-returns-2
+returns-2 c = rw (c .before .before .before .before .x .given .1) (c .enter .ensures)
+
+returns-3 : tie.Need-returns-3
+returns-3 c = enter-linked _ (c .before .before .pre .1) (c .enum-told2 .given .1)
+
+returns-4 : tie.Need-returns-4
+returns-4 c = enter-intersection _ (c .before .before .pre .1) (c .enum-told3 .given .1)
+
+returns-5 : tie.Need-returns-5
+returns-5 c = enter-goal _ (c .before .before .pre .1) (c .enum-told4 .given .1)
+
+pub enter-body-spec : {M : Type 1} → statement M
+enter-body-spec =
+    tie.close
+    (tie.spec
+    enum-told
+    enum-known-x
+    enter-requires
+    enum-told-2
+    enum-told-3
+    enum-told-4
+    returns
+    returns-2
+    returns-3
+    returns-4
+    returns-5)

@@ -1,0 +1,94 @@
+-- The members of a frontier are the stops that the chains come to. Assumes nothing.
+use Prim.Native.Nat.{ℕ, _<_}
+use mathlib.Core.Path.{_≡_, refl, sym, _∙_, ap, subst}
+use mathlib.Core.Bool.{Bool, true, false}
+use mathlib.Core.List.{List, List·Memᴰ}
+use Rattle.expression.specs.declared.Role.{Role}
+use Rattle.expression.specs.declared.Credential.{Credential}
+use Rattle.expression.specs.declared.Expression.{Expression}
+use Rattle.expression.specs.declared.Expression.the-variants as E
+use Rattle.rt0.specs.declared.Pool.{Pool}
+use Rattle.rt0.specs.Pool.{headAt, bodyAt, credentialAt}
+use Rattle.rt0.specs.Lists.{false-true}
+use Rattle.closure.specs.Rules.{el}
+use Rattle.rules.specs.Table.{chosen}
+use Rattle.rules.specs.Exact.{chosen-mem, chosen-find}
+use Rattle.frontier.specs.Frontier.{Frontier, here, through, Chain, first, next, Stops, Stopped, Reaches, Member}
+
+module _ {pred : Expression → Bool} where
+  -- "If pred(e) is true, frontier(e) = {e}"
+  pub frontier-here : {C : List Credential} {e f : Expression} → pred e ≡ true → Frontier pred C e f → f ≡ e
+  frontier-here t (here h) = refl
+  frontier-here t (through n m q k) = absurd (false-true (sym n ∙ t))
+
+  -- with more credentials a frontier has more members
+  pub frontier-more : {C D : List Credential} {e f : Expression} → ((c : Credential) → List·Memᴰ c C → List·Memᴰ c D) → Frontier pred C e f → Frontier pred D e f
+  frontier-more s (here h) = here h
+  frontier-more s (through {c = c} n m q k) = through n (s c m) q (frontier-more s k)
+
+  -- each member of a frontier is an expression of which pred is true
+  pub frontier-pred : {C : List Credential} {e f : Expression} → Frontier pred C e f → pred f ≡ true
+  frontier-pred (here h) = h
+  frontier-pred (through n m q k) = frontier-pred k
+
+  -- "the pointwise-minimal function": a relation with the two conditions has all members
+  pub frontier-least : {C : List Credential} (F : Expression → Expression → Type 0) → ((e : Expression) → pred e ≡ true → F e e)
+      → ((c : Credential) (f : Expression) → List·Memᴰ c C → pred (E.Role (c .head)) ≡ false → F (c .body) f → F (E.Role (c .head)) f)
+      → {e f : Expression} → Frontier pred C e f → F e f
+  frontier-least F own on (here {e = e} h) = own e h
+  frontier-least F own on (through {f = f} {c = c} n m q k) =
+      subst (λ (x : Expression). F x f) (sym q) (on c f m (sym (ap pred q) ∙ n) (frontier-least F own on k))
+
+pub role-eq : {p q : Role} → E.Role p ≡ E.Role q → p ≡ q
+role-eq h = cc
+
+module _ {P : Pool} {on stop : List ℕ} {e : Role} where
+  pub chain-below : {i : ℕ} → Chain P on stop e i → i < P .count
+  chain-below (first l o h) = l
+  chain-below (next k s q l o) = l
+
+  pub chain-on : {i : ℕ} → Chain P on stop e i → el on i ≡ 1
+  chain-on (first l o h) = o
+  chain-on (next k s q l o) = o
+
+  module _ {pred : Expression → Bool} (S : Stops pred P stop) where
+    walk : {x f : Expression} (j : ℕ) → Chain P on stop e j → bodyAt P j ≡ x → Frontier pred (chosen P on) x f → Stopped P on stop e f
+    unfolding chosen
+    walk j k q (here h) = record { at = j; chain = k; ends = S .stops j (chain-below k) ∙ (ap pred q ∙ h); body = q }
+    walk j k q (through {c = c} n m r h) =
+        let w = chosen-find P on (P .count) c m in
+        let z : E.Role (c .head) ≡ E.Role (headAt P (w .0)) = ap (λ (d : Credential). E.Role (d .head)) (w .3) in
+        let b : bodyAt P (w .0) ≡ c .body = sym (ap (λ (d : Credential). d .body) (w .3)) in
+        walk (w .0) (next k (S .stops j (chain-below k) ∙ (ap pred q ∙ n)) (q ∙ (r ∙ z)) (w .1) (w .2)) b h
+
+    back : {f : Expression} (i : ℕ) → pred (E.Role e) ≡ false → Chain P on stop e i → Frontier pred (chosen P on) (bodyAt P i) f → Frontier pred (chosen P on) (E.Role e) f
+    unfolding chosen
+    back i n (first l o h) k = through {c = credentialAt P i} n (chosen-mem P on (P .count) i l o) (ap E.Role (sym h)) k
+    back i n (next {j = j} c s q l o) k =
+        back j n c (through {c = credentialAt P i} (sym (S .stops j (chain-below c)) ∙ s) (chosen-mem P on (P .count) i l o) q k)
+
+    -- where pred is false of a role, a chain leads to each member of its frontier
+    pub frontier-stopped : {f : Expression} → pred (E.Role e) ≡ false → Frontier pred (chosen P on) (E.Role e) f → Stopped P on stop e f
+    unfolding chosen
+    frontier-stopped n (here h) = absurd (false-true (sym n ∙ h))
+    frontier-stopped n (through {c = c} _ m r h) =
+        let w = chosen-find P on (P .count) c m in
+        let z : headAt P (w .0) ≡ c .head = sym (ap (λ (d : Credential). d .head) (w .3)) in
+        let b : bodyAt P (w .0) ≡ c .body = sym (ap (λ (d : Credential). d .body) (w .3)) in
+        walk (w .0) (first (w .1) (w .2) (z ∙ sym (role-eq r))) b h
+
+    -- and each stop that a chain leads to is a member
+    pub stopped-frontier : {f : Expression} → pred (E.Role e) ≡ false → Stopped P on stop e f → Frontier pred (chosen P on) (E.Role e) f
+    stopped-frontier {f} n w =
+        back (w .at) n (w .chain) (subst (λ (x : Expression). Frontier pred (chosen P on) (bodyAt P (w .at)) x) (w .body) (here (sym (S .stops (w .at) (chain-below (w .chain))) ∙ w .ends)))
+
+    -- both: the members are the stops that the chains come to
+    pub frontier-chain : {f : Expression} → pred (E.Role e) ≡ false → (Frontier pred (chosen P on) (E.Role e) f → Stopped P on stop e f) × (Stopped P on stop e f → Frontier pred (chosen P on) (E.Role e) f)
+    frontier-chain n = (frontier-stopped n, stopped-frontier n)
+
+    -- the frontier as it is read off a column of the credentials found
+    pub frontier-member : {r : List ℕ} {f : Expression} → pred (E.Role e) ≡ false → Reaches P on stop e r → (Frontier pred (chosen P on) (E.Role e) f → Member P stop r f) × (Member P stop r f → Frontier pred (chosen P on) (E.Role e) f)
+    frontier-member {r} {f} n R = (λ h. member (frontier-stopped n h), λ m. stopped-frontier n (record { at = m .at; chain = R .sound (m .at) (m .flagged); ends = m .ends; body = m .body }))
+      where
+        member : Stopped P on stop e f → Member P stop r f
+        member w = record { at = w .at; below = chain-below (w .chain); flagged = R .complete (w .at) (w .chain); ends = w .ends; body = w .body }

@@ -1,0 +1,4 @@
+pub mod Frontier
+pub mod FrontierLaws
+pub mod Queue
+pub mod QueueLaws
