@@ -35,6 +35,7 @@ pub mod edge_faults;
 pub mod expression;
 pub mod frontier;
 pub mod graph;
+pub mod honest_sample;
 pub mod leak;
 pub mod legal;
 pub mod message;
