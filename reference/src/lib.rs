@@ -26,6 +26,7 @@
 //!
 //! `refusal` numbers the refusals.
 
+pub mod adversary;
 pub mod begin;
 pub mod calls;
 pub mod classes;
