@@ -121,7 +121,7 @@ impl Played {
             random.other_reply_lengths(&mut other);
             other.reply(calls);
         }
-        if lent.reply(calls) % 256 == 0 {
+        if lent.reply(calls).is_multiple_of(256) {
             self.keep(lent.negotiation);
         }
     }
@@ -179,7 +179,7 @@ mod tests {
     #[test]
     fn all_rules_occur() {
         let (mut random, mut reference) = (Random::new(8), Reference::default());
-        against_adversaries(&mut random, 2000, &mut reference);
+        against_adversaries(&mut random, 1000, &mut reference);
         reference.counts.print();
         assert_eq!(reference.counts.missing(), [""; 0]);
     }

@@ -1,5 +1,5 @@
-//! RT0 questions answered, house tables checked, negotiations begun and reported on and messages taken and
-//! given straight from their definitions, to compare the engine with.
+//! RT0 questions answered, house tables checked, negotiations begun and reported on, messages taken and replies given
+//! straight from their definitions, to compare the engine with.
 //!
 //! `expression` has the types and their bytes. `question` reads a question's bytes and refuses wrong ones, `relation`
 //! builds "f from e" by the five conditions, `sample` makes random and damaged questions, `shapes` large ones.
@@ -22,7 +22,9 @@
 //!
 //! `reply` is the call that gives a reply, `moves` finds its next move by the rules of `verifier` and `opponent`, which ask
 //! `frontier`, and `needed` the credentials that go before an edge. `calls` names the calls together, `two_ends` has two
-//! ends that negotiate, `reply_counts` counts what occurred.
+//! ends that negotiate, `honest_sample` makes random tables for them, `adversary` random negotiations with an end that
+//! does as it likes, `reply_counts` counts what occurred. `two_runs` is the check that nothing is told of a sensitive
+//! role too early, `two_runs_sample` makes its lists of calls, `leak` the mistakes that it must find.
 //!
 //! `refusal` numbers the refusals.
 
@@ -85,4 +87,6 @@ pub mod take_shapes;
 #[cfg(test)]
 mod take_tests;
 pub mod two_ends;
+pub mod two_runs;
+pub mod two_runs_sample;
 pub mod verifier;

@@ -1,5 +1,6 @@
 //! The next move of a reply: nodes by rising number, rules in printed order, the edges of a rule by the child's bytes.
 
+use crate::classes::Class;
 use crate::expression::*;
 use crate::leak::Leak;
 use crate::legal::has_processed;
@@ -137,7 +138,7 @@ impl View<'_> {
 
     /// The state of a new node by section 5.2.
     pub fn initial_state(&self, form: &Form, verifier: Side) -> u8 {
-        let subject_all = |name| self.tables.class(name) == Some(crate::classes::Class::SubjectAll);
+        let subject_all = |name| self.tables.class(name) == Some(Class::SubjectAll);
         let verifier_processed = match form {
             Form::Target(Expression::Entity(_)) => return 3,
             Form::Target(Expression::Role(role)) => subject_all(role.name),

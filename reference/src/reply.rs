@@ -9,7 +9,7 @@ use crate::message::*;
 use crate::moves::*;
 use crate::negotiation::*;
 use crate::refusal::Refusal;
-use crate::states::{satisfied, Propagated};
+use crate::states::{propagated, satisfied, Propagated};
 use crate::tables::{self, Tables};
 use crate::take::{sender, SCRATCH_BYTES};
 
@@ -123,7 +123,7 @@ fn close(negotiation: &mut Negotiation, idle: bool, stop: Stop) {
     let stalled = idle && negotiation.idle;
     negotiation.messages += 1;
     negotiation.idle = idle;
-    negotiation.end = match crate::states::propagated(&negotiation.nodes, &negotiation.edges)[0] {
+    negotiation.end = match propagated(&negotiation.nodes, &negotiation.edges)[0] {
         Propagated::Done => 1,
         Propagated::Failed => 2,
         Propagated::Open if stalled => 3,

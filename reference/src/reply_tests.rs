@@ -550,8 +550,9 @@ fn opponent_of_a_sensitive_role() {
     assert_eq!(commands(&guarded(false, false), guarded_graph(&[2])), mark);
     assert_eq!(commands(&guarded(true, false), guarded_graph(&[2])), [&direct[..], &mark].concat());
     let control = Command::Join(Edge { kind: CONTROL, parent: 1, child: 3 });
-    assert_eq!(commands(&guarded(true, true), guarded_graph(&[2])), [control.clone()]);
-    assert_eq!(commands(&guarded(true, true), guarded_graph(&[2, 3])), [&[control][..], &direct, &mark].concat());
+    let control = [control];
+    assert_eq!(commands(&guarded(true, true), guarded_graph(&[2])), control);
+    assert_eq!(commands(&guarded(true, true), guarded_graph(&[2, 3])), [&control[..], &direct, &mark].concat());
     // The AC target alone does not do.
     assert_eq!(commands(&guarded(true, true), guarded_graph(&[3])), []);
     // The direct credential that the other end has shown is not sent again.

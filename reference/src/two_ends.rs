@@ -25,7 +25,7 @@ impl End {
     pub fn reply(&mut self, calls: &mut impl Calls) -> Vec<u8> {
         let (mut reply, mut scratch) = (vec![0xa5; MOST_MESSAGE_BYTES], vec![0x5a; SCRATCH_BYTES]);
         let answer = calls.reply(&self.tables, &mut self.negotiation, &mut reply, &mut scratch);
-        assert_eq!(answer % 256, 0, "a reply was refused {answer}");
+        assert!(answer.is_multiple_of(256), "a reply was refused {answer}");
         assert!(scratch.iter().all(|&byte| byte == 0));
         let length = (answer / 256) as usize;
         assert!(reply[length..].iter().all(|&byte| byte == 0xa5));
