@@ -33,6 +33,7 @@ pub fn is_entity(expression: &Expression) -> bool {
 #[cfg(test)]
 mod tests {
     use super::*;
+    use crate::sample::{Random, World};
 
     fn role(entity: u16) -> Expression {
         Expression::Role(Role { entity, name: 1 })
@@ -61,5 +62,54 @@ mod tests {
         assert_eq!(frontier(&credentials, at_four, &role(4)), [role(4)]);
         assert_eq!(frontier(&credentials, plain, &Expression::Entity(7)), [Expression::Entity(7)]);
         assert_eq!(frontier(&credentials, plain, &role(5)), []);
+    }
+
+    /// The printed equations, from nothing, until they add no more.
+    fn least_solution(
+        credentials: &[Credential],
+        stops: impl Fn(&Expression) -> bool,
+    ) -> Vec<(Expression, Expression)> {
+        let all: Vec<Expression> =
+            credentials.iter().flat_map(|one| [Expression::Role(one.head), one.body.clone()]).collect();
+        let mut pairs: Vec<(Expression, Expression)> = vec![];
+        loop {
+            let before = pairs.len();
+            let stopped = all.iter().filter(|e| stops(e)).map(|e| (e.clone(), e.clone()));
+            let mut more: Vec<(Expression, Expression)> = stopped.collect();
+            for Credential { head, body } in credentials {
+                let head = Expression::Role(*head);
+                if !stops(&head) {
+                    more.extend(pairs.iter().filter(|(e, _)| e == body).map(|(_, x)| (head.clone(), x.clone())));
+                }
+            }
+            for pair in more {
+                if !pairs.contains(&pair) {
+                    pairs.push(pair);
+                }
+            }
+            if pairs.len() == before {
+                return pairs;
+            }
+        }
+    }
+
+    #[test]
+    fn the_least_solution() {
+        let mut random = Random::new(2);
+        for _ in 0..300 {
+            let credentials: Vec<Credential> = (0..10).map(|_| random.credential(World::new(3, 3))).collect();
+            let name = 1 + random.below(3) as u16;
+            let stops = |e: &Expression| !matches!(e, Expression::Role(role) if role.name != name);
+            let expected = least_solution(&credentials, stops);
+            for Credential { head, .. } in &credentials {
+                let head = Expression::Role(*head);
+                let mut found = frontier(&credentials, stops, &head);
+                let mut wanted: Vec<Expression> =
+                    expected.iter().filter(|(e, _)| *e == head).map(|(_, x)| x.clone()).collect();
+                found.sort();
+                wanted.sort();
+                assert_eq!(found, wanted);
+            }
+        }
     }
 }

@@ -121,9 +121,10 @@ impl Random {
 
     /// Mostly small; some are wide, so that replies stop on their sizes.
     pub fn draft(&mut self) -> Draft {
-        match self.below(200) {
-            0..=1 => self.wide_draft(),
-            2..=9 => self.proof_draft(12, 12, 8),
+        match self.below(400) {
+            0..=4 => self.wide_draft(30, 9),
+            5 => self.wide_draft(60, 64),
+            6..=19 => self.proof_draft(12, 12, 8),
             _ => {
                 let depth = self.between(1, 5);
                 self.proof_draft(6, 9, depth)
@@ -269,8 +270,8 @@ impl Random {
     }
 
     /// Full tables over many entities: the wanted role has many bodies, and so have the roles behind it.
-    fn wide_draft(&mut self) -> Draft {
-        let mut draft = self.begun_draft(30, 9);
+    fn wide_draft(&mut self, most_entities: usize, name_count: usize) -> Draft {
+        let mut draft = self.begun_draft(most_entities, name_count);
         let house = draft.houses[0].clone();
         let name = self.name_of(&house, &[IssuerDef]).unwrap_or(draft.wanted.name);
         draft.wanted.name = name;
@@ -290,6 +291,7 @@ impl Random {
 mod tests {
     use super::*;
     use crate::calls::Reference;
+    use crate::relation::from;
     use crate::tables::{check, decode};
     use crate::two_ends::TwoEnds;
 
@@ -315,13 +317,26 @@ mod tests {
         let (mut random, mut reference) = (Random::new(7), Reference::default());
         let mut ends = [0; 5];
         let mut messages = BTreeMap::new();
+        // Successes after three messages or more with edges of each kind.
+        let mut kinds = [0; 7];
         for _ in 0..1500 {
             let pair = random.pair();
             let mut two = TwoEnds::begun(&mut reference, pair.tables(), pair.wanted);
             let end = two.run(&mut reference);
             ends[end as usize] += 1;
             *messages.entry((end, two.messages.len())).or_insert(0) += 1;
+            let state = two.ends[0].state();
+            if end == 1 {
+                // Satisfied means proved.
+                let requesting = Expression::Entity(state.other);
+                assert!(from(&state.shown, &Expression::Role(pair.wanted), &requesting));
+            }
+            if end == 1 && two.messages.len() > 2 {
+                (1..=6).for_each(|kind| kinds[kind] += state.edges.iter().any(|edge| edge.kind == kind as u8) as u64);
+            }
         }
+        println!("long successes with edges of kinds 1 to 6: {:?}", &kinds[1..]);
+        assert!(kinds[1..].iter().all(|&times| times > 20), "{kinds:?}");
         println!("ends 0 to 4: {ends:?}; by end and number of messages: {messages:?}");
         reference.counts.print();
         assert_eq!(reference.counts.missing(), [""; 0]);
@@ -329,5 +344,27 @@ mod tests {
             messages.iter().filter(|((end, count), _)| *end == 1 && *count > 2).map(|(_, times)| times).sum();
         assert!(long_successes > 150, "{long_successes}");
         assert!(ends[1..].iter().all(|&times| times > 0), "{ends:?}");
+    }
+
+    /// Without sensitive roles the negotiation succeeds exactly if the mediator's 0x12 and the requester's 0x13 prove
+    /// the wanted role, unless it is full.
+    #[test]
+    fn success_without_sensitive_roles() {
+        let (mut random, mut reference) = (Random::new(9), Reference::default());
+        let mut proved_count = [0, 0];
+        for _ in 0..1500 {
+            let mut draft = random.draft();
+            draft.holdings.iter_mut().for_each(|holdings| holdings.sensitive.clear());
+            let pair = draft.pair();
+            let [mediator, requester] = pair.tables().map(|tables| decode(&tables).unwrap());
+            let credentials = [mediator.issuer_stored, requester.subject_stored].concat();
+            let proved = from(&credentials, &Expression::Role(pair.wanted), &Expression::Entity(requester.own));
+            let mut two = TwoEnds::begun(&mut reference, pair.tables(), pair.wanted);
+            let end = two.run(&mut reference);
+            assert!(end == 4 || (end == 1) == proved, "end {end}, proved {proved}");
+            proved_count[proved as usize] += 1;
+        }
+        println!("not proved and proved: {proved_count:?}");
+        assert!(proved_count.iter().all(|&count| count > 100));
     }
 }

@@ -183,7 +183,11 @@ impl Listing {
 #[cfg(test)]
 mod tests {
     use super::*;
+    use crate::classes::Class::IssuerDef;
     use crate::leak::{Leak, LEAKS};
+    use crate::message::*;
+    use crate::records::Guard;
+    use crate::take_shapes::marked_messages;
     use crate::two_runs::{compare, Outcome};
 
     fn outcome(random: &mut Random, leak: Leak) -> Outcome {
@@ -217,5 +221,37 @@ mod tests {
             println!("{leak:?}: found by list {found:?}");
             assert!(found.is_some(), "{leak:?}");
         }
+    }
+
+    /// Cases (i) and (j) as two runs of House: they part when it has taken Studio's proof of the Ack role. With a leak
+    /// they differ in the first reply, before that.
+    #[test]
+    fn marked_cases() {
+        let role = |entity, name| Role { entity, name };
+        let names = [(1, IssuerDef), (2, SubjectAll), (3, SubjectAll)].map(|(name, class)| Record::Name(name, class));
+        let sensitive = Record::Sensitive(Guard { role: role(4, 3), by: role(1, 2) });
+        let direct = Record::SubjectStored(Credential { head: role(4, 3), body: Expression::Entity(2) });
+        let tables = |held: &[Record]| -> Vec<u8> {
+            let records = [&[Record::Own(2)][..], &names, held, std::slice::from_ref(&sensitive)].concat();
+            records.iter().flat_map(encode_record).collect()
+        };
+        let (held, not_held) = (tables(&[direct]), tables(&[]));
+        let [first, _, third, _] = marked_messages(true).map(|commands| [commands, vec![Command::End]].concat());
+        let take = |commands: &[Command]| Call::Take { message: encode_message(commands), scratch: vec![1; 4096] };
+        let reply = || Call::Reply { reply: vec![2; 4096], scratch: vec![3; 4096] };
+        let calls = vec![take(&first), reply(), Call::Report { node: 2 }, take(&third), reply()];
+        let list = List { other: 3, wanted: role(0, 0), negotiation: vec![4; NEGOTIATION_BYTES], calls };
+        for (leak, expected) in [
+            (Leak::None, Outcome::Parted(5)),
+            (Leak::Possession, Outcome::Leak(2)),
+            (Leak::Mark, Outcome::Leak(2)),
+            (Leak::Needed, Outcome::Parted(5)),
+        ] {
+            let mut reference = Reference { leak, ..Reference::default() };
+            assert_eq!(compare(&mut reference, [&held, &not_held], &list), Some(expected), "{leak:?}");
+        }
+        let mut reference = Reference::default();
+        assert_eq!(compare(&mut reference, [&held, &held], &list), Some(Outcome::Alike));
+        assert_eq!(compare(&mut reference, [&held, &tables(&[Record::Own(3)])], &list), None);
     }
 }
