@@ -179,7 +179,7 @@ mod tests {
     #[test]
     fn all_rules_occur() {
         let (mut random, mut reference) = (Random::new(8), Reference::default());
-        against_adversaries(&mut random, 1000, &mut reference);
+        against_adversaries(&mut random, 600, &mut reference);
         reference.counts.print();
         assert_eq!(reference.counts.missing(), [""; 0]);
     }

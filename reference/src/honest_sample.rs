@@ -124,7 +124,8 @@ impl Random {
         match self.below(400) {
             0..=4 => self.wide_draft(30, 9),
             5 => self.wide_draft(60, 64),
-            6..=19 => self.proof_draft(12, 12, 8),
+            6..=8 => self.heavy_draft(),
+            9..=22 => self.proof_draft(12, 12, 8),
             _ => {
                 let depth = self.between(1, 5);
                 self.proof_draft(6, 9, depth)
@@ -140,11 +141,11 @@ impl Random {
             requester.own = self.entity(mediator.world);
         }
         // A house has at least three names.
-        let classes = if self.percent(70) { &ALL_CLASSES[..1] } else { &ALL_CLASSES };
+        let classes = if self.percent(85) { &ALL_CLASSES[..1] } else { &ALL_CLASSES };
         let wanted = self.role_of(&mediator, classes).or(self.role_of(&mediator, &ALL_CLASSES));
         let wanted = wanted.unwrap_or(Role { entity: 1, name: 1 });
         let entity = if self.percent(70) { mediator.own } else { wanted.entity };
-        let guarded = [0, 40, 70, 95][self.below(4)];
+        let guarded = [0, 60, 80, 95][self.below(4)];
         let wanted = Role { entity, ..wanted };
         Draft { houses: [mediator, requester], holdings: Default::default(), wanted, guarded }
     }
@@ -206,7 +207,16 @@ impl Random {
                 Some(Expression::Linked(base, self.name_of(house, &[SubjectAll])?))
             }
             _ if depth == 0 => None,
-            _ => self.body_for(house, head.entity, class).filter(|body| !is_entity(body)),
+            _ => {
+                let body = self.body_for(house, head.entity, class).filter(|body| !is_entity(body));
+                // An issuer-def role is rarely proved by one end alone.
+                match body {
+                    None | Some(Expression::Role(_)) if class == IssuerDef && self.percent(80) => {
+                        self.role_of(house, &[IssuerDef, SubjectAll]).map(Expression::Role)
+                    }
+                    body => body,
+                }
+            }
         }
     }
 
@@ -269,6 +279,28 @@ impl Random {
         }
     }
 
+    /// The first reply has about as many bytes as a message may have: 64 edges with a credential each, some of them to
+    /// intersections of four roles.
+    fn heavy_draft(&mut self) -> Draft {
+        let mut draft = self.begun_draft(200, 9);
+        let house = draft.houses[0].clone();
+        draft.wanted.name = self.name_of(&house, &[IssuerDef]).unwrap_or(draft.wanted.name);
+        let wide_count = self.between(9, 16);
+        for _ in 0..20 * MOST_STORED {
+            let parts: BTreeSet<Role> = (0..4).filter_map(|_| self.role_of(&house, &[SubjectAll])).collect();
+            let parts: Vec<Role> = parts.into_iter().collect();
+            let wide = draft.holdings[0].issuer_stored.len() < wide_count;
+            let body = match parts.len() {
+                4 if wide => Expression::Intersection(parts),
+                4 => Expression::Role(parts[self.below(4)]),
+                _ => continue,
+            };
+            draft.store(Side::Mediator, Credential { head: draft.wanted, body });
+        }
+        self.add_noise(&mut draft, 1, 30);
+        draft
+    }
+
     /// Full tables over many entities: the wanted role has many bodies, and so have the roles behind it.
     fn wide_draft(&mut self, most_entities: usize, name_count: usize) -> Draft {
         let mut draft = self.begun_draft(most_entities, name_count);
@@ -291,6 +323,8 @@ impl Random {
 mod tests {
     use super::*;
     use crate::calls::Reference;
+    use crate::message::*;
+    use crate::needed::is_hidden;
     use crate::relation::from;
     use crate::tables::{check, decode};
     use crate::two_ends::TwoEnds;
@@ -311,6 +345,27 @@ mod tests {
         assert!(guards > 2000 && access > 500 && most == MOST_STORED, "{guards}, {access}, {most}");
     }
 
+    /// A direct credential of a sensitive role is sent only after credentials that prove, of the other end, the Ack role
+    /// and, if set, the AC role.
+    fn direct_credentials_are_guarded(two: &TwoEnds) {
+        let houses = two.ends.each_ref().map(|end| decode(&end.tables).unwrap());
+        let mut shown: Vec<Credential> = vec![];
+        for (i, message) in two.messages.iter().enumerate() {
+            let (own, other) = (&houses[i % 2], Expression::Entity(houses[1 - i % 2].own));
+            let mut rest = &message[..];
+            while let Some(bytes) = next_command(rest) {
+                if let Some(Command::Credential(credential)) = decode_command(bytes) {
+                    let guards = own.sensitive.iter().chain(&own.access).filter(|guard| guard.role == credential.head);
+                    if is_hidden(own, &credential) {
+                        guards.for_each(|guard| assert!(from(&shown, &Expression::Role(guard.by), &other)));
+                    }
+                    shown.push(credential);
+                }
+                rest = &rest[bytes.len()..];
+            }
+        }
+    }
+
     /// No honest message is refused, both ends hold one graph, and every rule, stop and end occurs.
     #[test]
     fn honest_negotiations() {
@@ -319,12 +374,13 @@ mod tests {
         let mut messages = BTreeMap::new();
         // Successes after three messages or more with edges of each kind.
         let mut kinds = [0; 7];
-        for _ in 0..1500 {
+        for _ in 0..1000 {
             let pair = random.pair();
             let mut two = TwoEnds::begun(&mut reference, pair.tables(), pair.wanted);
             let end = two.run(&mut reference);
             ends[end as usize] += 1;
             *messages.entry((end, two.messages.len())).or_insert(0) += 1;
+            direct_credentials_are_guarded(&two);
             let state = two.ends[0].state();
             if end == 1 {
                 // Satisfied means proved.
@@ -342,7 +398,7 @@ mod tests {
         assert_eq!(reference.counts.missing(), [""; 0]);
         let long_successes: u64 =
             messages.iter().filter(|((end, count), _)| *end == 1 && *count > 2).map(|(_, times)| times).sum();
-        assert!(long_successes > 150, "{long_successes}");
+        assert!(long_successes > 100, "{long_successes}");
         assert!(ends[1..].iter().all(|&times| times > 0), "{ends:?}");
     }
 
@@ -352,7 +408,7 @@ mod tests {
     fn success_without_sensitive_roles() {
         let (mut random, mut reference) = (Random::new(9), Reference::default());
         let mut proved_count = [0, 0];
-        for _ in 0..1500 {
+        for _ in 0..600 {
             let mut draft = random.draft();
             draft.holdings.iter_mut().for_each(|holdings| holdings.sensitive.clear());
             let pair = draft.pair();
@@ -365,6 +421,6 @@ mod tests {
             proved_count[proved as usize] += 1;
         }
         println!("not proved and proved: {proved_count:?}");
-        assert!(proved_count.iter().all(|&count| count > 100));
+        assert!(proved_count.iter().all(|&count| count > 40));
     }
 }
