@@ -79,7 +79,7 @@ fn node(expression: Expression, subject: u16, verifier: Side, state: u8) -> Node
     Node { form: Form::Target(expression), subject, verifier, state }
 }
 
-/// A control edge under the primary to each of these nodes of the requester's; then one back to each of the mediator's.
+/// These nodes, still without edges, where it is our turn.
 fn graph(own: u16, side: Side, nodes: Vec<Node>) -> Negotiation {
     let wanted = match (side, &nodes[0].form) {
         (Side::Mediator, Form::Target(Expression::Role(role))) => *role,
@@ -95,7 +95,7 @@ fn graph(own: u16, side: Side, nodes: Vec<Node>) -> Negotiation {
 const MEDIATOR: u16 = 100;
 const REQUESTER: u16 = 200;
 
-/// The reply onto this negotiation; its edges need not be sound.
+/// The reply onto this negotiation, which need not be sound.
 fn given(house: &House, negotiation: Negotiation) -> Given {
     let tables = tables::decode(&house.tables()).unwrap();
     give(&tables, negotiation, Leak::None)
@@ -301,7 +301,7 @@ fn verifier_of_a_linked_role() {
     );
 }
 
-/// Issuer-def first name: the goal, a linking implication for each satisfied solution, the mark when it is complete.
+/// A linked role with an issuer-def first name, its goal and three solutions.
 fn monitored(own: u16, side: Side, state: u8, goal_state: u8) -> Negotiation {
     let mut negotiation = linked_graph(own, side, linked(100, 1, 7), state);
     let verifier = Side::Mediator;
@@ -318,6 +318,7 @@ fn monitored(own: u16, side: Side, state: u8, goal_state: u8) -> Negotiation {
     negotiation
 }
 
+/// The goal, a linking implication for each satisfied solution, the mark when the goal is complete.
 #[test]
 fn linking_implications() {
     let goal_alone =
@@ -559,6 +560,63 @@ fn opponent_of_a_sensitive_role() {
     let mut shown = guarded_graph(&[2]);
     shown.shown.push(Credential { head: role(1, 7), body: entity(REQUESTER) });
     assert_eq!(commands(&guarded(true, false), shown), [&direct[1..], &mark].concat());
+}
+
+/// Rule (4) leads to no entity: the role behind the sensitive one is passed, and its own direct credential is not used.
+#[test]
+fn sensitive_role_over_a_plain_one() {
+    let house = House {
+        own: REQUESTER,
+        subject: vec![(role(1, 7), to_role(2, 7)), (role(2, 7), entity(REQUESTER))],
+        sensitive: vec![(role(1, 7), role(100, 9))],
+        ..House::default()
+    };
+    let ack = target(6, 1, to_role(100, 9), MEDIATOR, 1);
+    assert_eq!(answers(&house, to_role(1, 7), REQUESTER), [ack]);
+    let mut met = guarded_graph(&[2]);
+    met.edges.remove(2);
+    assert_eq!(commands(&house, met), [Command::Mark(1)]);
+}
+
+/// An AC role that is the Ack role needs no second edge.
+#[test]
+fn one_role_for_both() {
+    let mut house = guarded(true, false);
+    house.access.push((role(1, 7), role(100, 9)));
+    let made = commands(&house, guarded_graph(&[2]));
+    let direct = [credential(role(1, 7), entity(REQUESTER)), target(1, 1, entity(REQUESTER), REQUESTER, 3)];
+    assert_eq!(made, [&direct[..], &[Command::Mark(1)]].concat());
+    assert_eq!(commands(&house, guarded_graph(&[])), []);
+}
+
+/// A direct credential of a sensitive role that is shown proves edges, as all that is shown does; no frontier has it.
+#[test]
+fn shown_direct_credential() {
+    let house = House {
+        own: REQUESTER,
+        subject: vec![
+            (role(1, 7), to_role(2, 7)),
+            (role(1, 7), to_role(3, 7)),
+            (role(2, 7), entity(REQUESTER)),
+            (role(3, 7), entity(REQUESTER)),
+        ],
+        sensitive: vec![(role(3, 7), role(100, 9))],
+        ..House::default()
+    };
+    let mut negotiation =
+        graph(REQUESTER, Side::Requester, vec![primary(1, 3), node(to_role(1, 7), REQUESTER, Side::Mediator, 1)]);
+    negotiation.shown.push(Credential { head: role(3, 7), body: entity(REQUESTER) });
+    assert_eq!(
+        commands(&house, negotiation.clone()),
+        [credential(role(1, 7), to_role(3, 7)), target(1, 1, entity(REQUESTER), REQUESTER, 3), Command::Mark(1),]
+    );
+    // Without the other way the frontier stops at the sensitive role.
+    let mut less = house.clone();
+    less.subject.remove(2);
+    assert_eq!(
+        commands(&less, negotiation)[..2],
+        [credential(role(1, 7), to_role(3, 7)), target(1, 1, to_role(3, 7), REQUESTER, 1),]
+    );
 }
 
 /// A satisfied target of a sensitive role is marked though rules (2) and (3) wait.
