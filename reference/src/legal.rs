@@ -129,7 +129,7 @@ fn node_processed(command: &Command) -> Option<usize> {
     }
 }
 
-fn has_processed(negotiation: &Negotiation, sender: Side, node: usize) -> bool {
+pub fn has_processed(negotiation: &Negotiation, sender: Side, node: usize) -> bool {
     let node = &negotiation.nodes[node];
     node.state & bit(node, sender) != 0
 }

@@ -1,5 +1,5 @@
-//! RT0 questions answered, house tables checked, negotiations begun and reported on and messages taken straight from
-//! their definitions, to compare the engine with.
+//! RT0 questions answered, house tables checked, negotiations begun and reported on, messages taken and replies given
+//! straight from their definitions, to compare the engine with.
 //!
 //! `expression` has the types and their bytes. `question` reads a question's bytes and refuses wrong ones, `relation`
 //! builds "f from e" by the five conditions, `sample` makes random and damaged questions, `shapes` large ones.
@@ -20,15 +20,26 @@
 //! `take_counts` counts what occurred. `take_shapes` has the messages of the marked cases and those at the sizes,
 //! `take_large` those that last long.
 //!
+//! `reply` is the call that gives a reply, `moves` finds its next move by the rules of `verifier` and `opponent`, which ask
+//! `frontier`, and `needed` the credentials that go before an edge. `calls` names the calls together, `two_ends` has two
+//! ends that negotiate, `honest_sample` makes random tables for them, `adversary` random negotiations with an end that
+//! does as it likes, `reply_counts` counts what occurred. `two_runs` is the check that nothing is told of a sensitive
+//! role too early, `two_runs_sample` makes its lists of calls, `leak` the mistakes that it must find.
+//!
 //! `refusal` numbers the refusals.
 
+pub mod adversary;
 pub mod begin;
+pub mod calls;
 pub mod classes;
 pub mod clause;
 pub mod damage;
 pub mod edge_faults;
 pub mod expression;
+pub mod frontier;
 pub mod graph;
+pub mod honest_sample;
+pub mod leak;
 pub mod legal;
 pub mod message;
 pub mod message_bytes;
@@ -36,6 +47,8 @@ pub mod message_faults;
 pub mod message_plan;
 pub mod message_sample;
 pub mod message_writer;
+pub mod moves;
+pub mod needed;
 pub mod negotiation;
 pub mod negotiation_bytes;
 pub mod negotiation_counts;
@@ -47,10 +60,15 @@ pub mod negotiation_shapes;
 #[cfg(test)]
 mod negotiation_tests;
 pub mod node_faults;
+pub mod opponent;
 pub mod question;
 pub mod records;
 pub mod refusal;
 pub mod relation;
+pub mod reply;
+pub mod reply_counts;
+#[cfg(test)]
+mod reply_tests;
 pub mod report;
 pub mod sample;
 pub mod shapes;
@@ -68,3 +86,7 @@ pub mod take_large;
 pub mod take_shapes;
 #[cfg(test)]
 mod take_tests;
+pub mod two_ends;
+pub mod two_runs;
+pub mod two_runs_sample;
+pub mod verifier;
