@@ -1,0 +1,5 @@
+pub mod Known
+pub mod Initial
+pub mod Frontiers
+pub mod Wanted
+pub mod Rules

@@ -1,0 +1,1 @@
+// The moves of a reply: their definitions, in specs/.
