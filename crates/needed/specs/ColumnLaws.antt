@@ -11,18 +11,13 @@ use lib.Dec.{eqb, ltb}
 use lib.ListN.{getD, length, length-set, length-replicate, set, replicate}
 use lib.Seq.{getD-set-same, getD-set-other}
 use Rattle.expression.specs.declared.Credential.{Credential}
-use Rattle.expression.specs.declared.Expression.{Expression}
 use Rattle.rt0.specs.declared.Pool.{Pool}
 use Rattle.rt0.specs.Added.{upTo-same}
-use Rattle.rt0.specs.Decide.{from?}
-use Rattle.rt0.specs.Laws.{same-set}
 use Rattle.rt0.specs.Pool.{upTo, credentialAt}
 use Rattle.closure.specs.Rules.{el}
 use Rattle.rules.specs.Table.{chosen, chosenTo}
-use Rattle.rules.specs.Exact.{chosen-mem, chosen-find}
-use Rattle.needed.specs.Needed.{kept, enough, needed, firstOf, restOf}
-use Rattle.needed.specs.NeededLaws.{Gains, enough-gains, kept-nil, kept-done, kept-jump, kept-all}
-use Rattle.needed.specs.Columns.{FirstOn, Grown, LastNeeded, WithRest, Keeping, Needed}
+use Rattle.needed.specs.Needed.{restOf}
+use Rattle.needed.specs.Columns.{FirstOn, WithRest}
 
 -- Lists by their numbers
 

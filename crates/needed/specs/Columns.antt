@@ -2,9 +2,10 @@
 use Prim.Native.Nat.{ℕ, _+_, _≤_, _<_}
 use mathlib.Core.Path.{_≡_}
 use mathlib.Core.Logic.{_⊎_}
-use mathlib.Core.Bool.{true, false}
+use mathlib.Core.Bool.{true, false, cond}
 use mathlib.Core.List.{List, _++_}
-use lib.ListN.{length}
+use lib.Dec.{ltb}
+use lib.ListN.{length, set}
 use Rattle.expression.specs.declared.Expression.{Expression}
 use Rattle.rt0.specs.declared.Pool.{Pool}
 use Rattle.rt0.specs.Decide.{from?}
@@ -18,6 +19,10 @@ pub record FirstOn (s : ℕ) (on : List ℕ) : Type 0 where
   pub shown : (i : ℕ) → i < s → el on i ≡ 1
   pub others : (i : ℕ) → s ≤ i → el on i ≡ 0
 
+-- the column with number i on, where it is below n
+unfoldable pub withOne : ℕ → ℕ → List ℕ → List ℕ
+withOne n i on = cond (ltb i n) (set on i 1) on
+
 -- beside what was on, the credentials from k to n are
 pub record Grown (n k : ℕ) (was on : List ℕ) : Type 0 where
   pub sized : length on ≡ 128
@@ -25,11 +30,12 @@ pub record Grown (n k : ℕ) (was on : List ℕ) : Type 0 where
   pub old : (i : ℕ) → el was i ≡ 1 → el on i ≡ 1
   pub new : (i : ℕ) → k ≤ i → i < n → el on i ≡ 1
 
--- k is the last credential from a on with which, together with all after it, those that are on are enough; the count or more says that all
--- from a on are not enough
+-- k is the last number from a on such that the credentials from k on, beside those that are on, are enough: the count where none is needed,
+-- more where all from a on are not enough
 pub record LastNeeded (P : Pool) (on : List ℕ) (f e : Expression) (a k : ℕ) : Type 0 where
-  pub found : k < P .count → (a ≤ k) × (from? (chosen P on ++ restOf P k) f e ≡ true) × (from? (chosen P on ++ restOf P (k + 1)) f e ≡ false)
-  pub none : P .count ≤ k → from? (chosen P on ++ restOf P a) f e ≡ false
+  pub found : k ≤ P .count → (a ≤ k) × (from? (chosen P on ++ restOf P k) f e ≡ true)
+  pub last : k < P .count → from? (chosen P on ++ restOf P (k + 1)) f e ≡ false
+  pub none : P .count < k → from? (chosen P on ++ restOf P a) f e ≡ false
 
 -- the column r with those from a to n
 pub record WithRest (n a : ℕ) (r q : List ℕ) : Type 0 where

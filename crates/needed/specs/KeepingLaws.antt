@@ -3,8 +3,10 @@ use Prim.Native.Nat.{ℕ, _+_, _-_, _≤_, _<_}
 use native.Mathlib.Omega.{arith}
 use mathlib.Core.Path.{_≡_, refl, sym, _∙_, ap, subst}
 use mathlib.Core.Logic.{_⊎_, inl, inr, ⊎-elim}
-use mathlib.Core.Bool.{Bool, true, false}
-use mathlib.Core.List.{List, [], _∷_, _++_, append-assoc, append-nil, List·Memᴰ, List·Memᴰ·append-cases, Memᴰ·append-left, Memᴰ·append-right}
+use mathlib.Core.Bool.{Bool, true, false, cond}
+use mathlib.Core.List.{List, [], _++_, append-nil, List·Memᴰ, List·Memᴰ·append-cases, Memᴰ·append-left, Memᴰ·append-right}
+use borrow.Author.Tests.{ltb-true, ltb-false, lt-ltb, le-ltb}
+use lib.Dec.{ltb}
 use lib.ListN.{length, length-set, length-replicate, set, replicate}
 use lib.Seq.{getD-set-other}
 use Rattle.expression.specs.declared.Credential.{Credential}
@@ -16,10 +18,27 @@ use Rattle.rt0.specs.Pool.{upTo, credentialAt}
 use Rattle.closure.specs.Rules.{el}
 use Rattle.rules.specs.Table.{chosen}
 use Rattle.rules.specs.Exact.{chosen-mem, chosen-find}
+use Rattle.relation.specs.Relation.{Relation}
 use Rattle.needed.specs.Needed.{kept, enough, needed, firstOf, restOf}
 use Rattle.needed.specs.NeededLaws.{enough-gains, kept-nil, kept-done, kept-jump, kept-all}
-use Rattle.needed.specs.Columns.{FirstOn, Grown, LastNeeded, WithRest, Keeping, Needed}
+use Rattle.needed.specs.Columns.{FirstOn, withOne, Grown, LastNeeded, WithRest, Keeping, Needed}
 use Rattle.needed.specs.ColumnLaws.{upTo-mem, upTo-find, rest-split, rest-next, rest-none, rest-mem, rest-find, lt-or, none-on, rest-chosen, one-chosen, zeros-at, set-at, stays, came}
+
+-- One switched on
+
+-- it is below n
+pub one-on : (n i : ℕ) (was now on : List ℕ) → i < n → now ≡ set was i 1 → on ≡ now → on ≡ withOne n i was
+unfolding withOne
+one-on n i was now on l q h = rw (lt-ltb i n l) (h ∙ q)
+
+-- it is not
+pub none-new : (n i : ℕ) (was on : List ℕ) → n ≤ i → on ≡ was → on ≡ withOne n i was
+unfolding withOne
+none-new n i was on l h = rw (le-ltb i n l) h
+
+-- equal columns have the same relation
+pub same-relation : (P : Pool) (was on K L : List ℕ) → on ≡ was → L ≡ K → Relation P was K → Relation P on L
+same-relation P was on K L q h r = subst (λ (M : List ℕ). Relation P on M) (sym h) (subst (λ (x : List ℕ). Relation P x K) (sym q) r)
 
 -- Switched on from the last backwards
 
@@ -41,44 +60,52 @@ module _ (P : Pool) (was : List ℕ) (f e : Expression) where
           (λ h. let r = rest-find P k c h in subst (λ (d : Credential). List·Memᴰ d (chosen P on)) (sym (r .3)) (chosen-mem P on (P .count) (r .0) (r .2) (g .new (r .0) (r .1) (r .2))))
           (List·Memᴰ·append-cases (chosen P was) m)
 
-  pub grown-start : length was ≡ 128 → Grown (P .count) (P .count) was was
+  pub grown-start : length was ≡ 128 → Grown (P .count) (P .count + 1) was was
   grown-start sized = record { sized = sized; says = λ i l h. inl h; old = λ i h. h; new = λ i l m. absurd (omega arith) }
 
-  pub grown-add : (k i : ℕ) (on now : List ℕ) → i < P .count → P .count ≤ 128 → k ≡ i + 1 → now ≡ set on i 1 → Grown (P .count) k was on → Grown (P .count) i was now
-  grown-add k i on now l small q z g = subst (λ (x : List ℕ). Grown (P .count) i was x) (sym z)
-      (record {
+  grown-one : (k i : ℕ) (on : List ℕ) → i < P .count → P .count ≤ 128 → k ≡ i + 1 → Grown (P .count) k was on → Grown (P .count) i was (set on i 1)
+  grown-one k i on l small q g =
+      record {
         sized = length-set on i 1 ∙ g .sized;
         says = λ j m h. ⊎-elim (λ o. ⊎-elim (λ y. inl y) (λ y. inr (omega arith)) (g .says j m o)) (λ y. inr (omega arith)) (came on i j h);
         old = λ j h. stays on i j (g .sized) (omega arith) (g .old j h);
         new = λ j m o. ⊎-elim (λ y. getD-set-other on i j 1 0 y ∙ g .new j (above j m y) o) (λ y. y) (set-at on i j (g .sized) (omega arith));
-      })
+      }
     where
       above : (j : ℕ) → i ≤ j → (j ≡ i → ⊥) → k ≤ j
       above j m y = omega (arith, y)
 
-  -- before any is switched on
-  pub last-start : from? (chosen P was) f e ≡ false → from? (chosen P was ++ restOf P (P .count)) f e ≡ false
-  last-start h = ap (λ (l : List Credential). from? (chosen P was ++ l) f e) (rest-none P (P .count) (omega arith)) ∙ (ap (λ (l : List Credential). from? l f e) (append-nil (chosen P was)) ∙ h)
+  pub grown-add : (k i : ℕ) (on now : List ℕ) → i ≤ P .count → P .count ≤ 128 → k ≡ i + 1 → now ≡ withOne (P .count) i on → Grown (P .count) k was on → Grown (P .count) i was now
+  unfolding withOne
+  grown-add k i on now l small q z g = subst (λ (x : List ℕ). Grown (P .count) i was x) (sym z) (go (ltb i (P .count)) refl)
+    where
+      go : (b : Bool) → ltb i (P .count) ≡ b → Grown (P .count) i was (cond b (set on i 1) on)
+      go true y = grown-one k i on (ltb-true i (P .count) y) small q g
+      go false y =
+          let m : P .count ≤ i = ltb-false i (P .count) y in
+          record { sized = g .sized; says = λ j o h. ⊎-elim (λ x. inl x) (λ x. inr (omega arith)) (g .says j o h); old = g .old; new = λ j o x. absurd (omega arith) }
 
   -- the edge does not hold yet
   pub last-again : (i : ℕ) (on : List ℕ) {b : Bool} → Grown (P .count) i was on → b ≡ from? (chosen P on) f e → b ≡ false → from? (chosen P was ++ restOf P i) f e ≡ false
   last-again i on g h k = sym (grown-enough i on g) ∙ (sym h ∙ k)
 
   -- the edge holds
-  pub last-found : (a k i : ℕ) (on : List ℕ) {b : Bool} → a ≤ i → k ≡ i + 1 → Grown (P .count) i was on → b ≡ from? (chosen P on) f e → b ≡ true → from? (chosen P was ++ restOf P k) f e ≡ false → i < P .count → LastNeeded P was f e a i
-  last-found a k i on l q g h y n m =
+  pub last-found : (a k i : ℕ) (on : List ℕ) {b : Bool} → a ≤ i → i ≤ P .count → k ≡ i + 1 → Grown (P .count) i was on → b ≡ from? (chosen P on) f e → b ≡ true → (k ≤ P .count → from? (chosen P was ++ restOf P k) f e ≡ false) → LastNeeded P was f e a i
+  last-found a k i on l m q g h y before =
       record {
-        found = λ _. (l, sym (grown-enough i on g) ∙ (sym h ∙ y), subst (λ (j : ℕ). from? (chosen P was ++ restOf P j) f e ≡ false) q n);
+        found = λ _. (l, sym (grown-enough i on g) ∙ (sym h ∙ y));
+        last = λ o. subst (λ (j : ℕ). from? (chosen P was ++ restOf P j) f e ≡ false) q (before (omega arith));
         none = λ o. absurd (omega arith);
       }
 
   -- it never did
-  pub last-none : (a i : ℕ) → a ≤ i → i ≤ a → P .count ≤ 128 → from? (chosen P was ++ restOf P i) f e ≡ false → LastNeeded P was f e a 128
-  last-none a i l m small n =
+  pub last-none : (a i : ℕ) → a ≤ i → i ≤ a → a ≤ P .count → P .count ≤ 128 → (i ≤ P .count → from? (chosen P was ++ restOf P i) f e ≡ false) → LastNeeded P was f e a 129
+  last-none a i l m o small before =
       let q : i ≡ a = omega arith in
       record {
-        found = λ o. absurd (omega arith);
-        none = λ _. subst (λ (j : ℕ). from? (chosen P was ++ restOf P j) f e ≡ false) q n;
+        found = λ x. absurd (omega arith);
+        last = λ x. absurd (omega arith);
+        none = λ _. subst (λ (j : ℕ). from? (chosen P was ++ restOf P j) f e ≡ false) q (before (omega arith));
       }
 
 -- Those kept
@@ -128,13 +155,18 @@ module _ (P : Pool) (small : P .count ≤ 128) (s : ℕ) (f e : Expression) wher
     in-pool i o = let h = k .own i o in let l : i < a = h .1 in (h .0, omega (arith, k .within))
 
     -- those kept are enough
-    pub keep-done : {b : Bool} → b ≡ from? (chosen P on) f e → b ≡ true → Needed P s f e r
-    keep-done h y =
+    pub keep-done : (z : ℕ) → LastNeeded P on f e a z → z ≡ P .count → Needed P s f e r
+    keep-done z last q =
         record {
           own = in-pool;
-          all = sym (k .so-far ∙ kept-done (enough (firstOf P s) f e) (enough-gains (firstOf P s) f e) (chosen P r) (restOf P a)
-              (ap (λ (l : List Credential). enough (firstOf P s) f e l) (sym (append-nil (chosen P r))) ∙ (sym (beside []) ∙ (ap (λ (l : List Credential). from? l f e) (append-nil (chosen P on)) ∙ (sym h ∙ y)))));
+          all = sym (k .so-far ∙ kept-done (enough (firstOf P s) f e) (enough-gains (firstOf P s) f e) (chosen P r) (restOf P a) alone);
         }
+      where
+        alone : enough (firstOf P s) f e (chosen P r) ≡ true
+        alone =
+            ap (enough (firstOf P s) f e) (sym (append-nil (chosen P r)))
+            ∙ (sym (beside [])
+            ∙ (ap (λ (l : List Credential). from? (chosen P on ++ l) f e) (sym (rest-none P z (omega arith))) ∙ last .found (omega arith) .1))
 
     -- none is left to be tried
     pub keep-end : P .count ≤ a → Needed P s f e r
@@ -145,7 +177,7 @@ module _ (P : Pool) (small : P .count ≤ 128) (s : ℕ) (f e : Expression) wher
         }
 
     -- all are kept
-    pub keep-all : (z : ℕ) (q : List ℕ) → LastNeeded P on f e a z → P .count ≤ z → WithRest (P .count) a r q → Needed P s f e q
+    pub keep-all : (z : ℕ) (q : List ℕ) → LastNeeded P on f e a z → P .count < z → WithRest (P .count) a r q → Needed P s f e q
     keep-all z q last l w =
         record {
           own = λ i o. ⊎-elim (λ m. in-pool i (sym (w .before i m) ∙ o)) (λ m. ⊎-elim (λ y. (omega (arith, k .from), y)) (λ y. in-pool i (sym (w .after i y) ∙ o)) (lt-or i (P .count))) (lt-or i a);
@@ -169,7 +201,7 @@ module _ (P : Pool) (small : P .count ≤ 128) (s : ℕ) (f e : Expression) wher
         })
       where
         found : (a ≤ z) × (from? (chosen P on ++ restOf P z) f e ≡ true) × (from? (chosen P on ++ restOf P (z + 1)) f e ≡ false)
-        found = last .found l
+        found = (last .found (omega arith) .0, last .found (omega arith) .1, last .last l)
 
         is-on : (x : List ℕ) (i : ℕ) → length x ≡ 128 → i ≡ z → el (set x z 1) i ≡ 1
         is-on x i sized h = ⊎-elim (λ y. absurd (y h)) (λ y. y) (set-at x z i sized (omega arith))

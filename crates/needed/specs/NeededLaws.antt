@@ -3,7 +3,7 @@
 use mathlib.Core.Path.{_≡_, refl, sym, _∙_, ap, subst}
 use mathlib.Core.Logic.{⊎-elim}
 use mathlib.Core.Bool.{Bool, true, false, cond}
-use mathlib.Core.List.{List, [], _∷_, _++_, append-assoc, append-nil, List·Memᴰ, List·Memᴰ·tail, List·Memᴰ·append-cases, Memᴰ·append-left, Memᴰ·append-right}
+use mathlib.Core.List.{List, [], _∷_, _++_, append-assoc, append-nil, List·Memᴰ, List·Memᴰ·head, List·Memᴰ·tail, List·Memᴰ·cases-cons, List·Memᴰ·append-cases, Memᴰ·append-left, Memᴰ·append-right}
 use Rattle.expression.specs.declared.Credential.{Credential}
 use Rattle.expression.specs.declared.Expression.{Expression}
 use Rattle.rt0.specs.Decide.{from?}
@@ -25,6 +25,17 @@ pub data Sublist {A : Type 0} : List A → List A → Type 0 where
   nothing : Sublist [] []
   dropped : {c : A} {xs ys : List A} → Sublist xs ys → Sublist xs (c ∷ ys)
   taken : {c : A} {xs ys : List A} → Sublist xs ys → Sublist (c ∷ xs) (c ∷ ys)
+
+-- no element of the second list can be missed, those of the first and its other ones being there
+pub data Each {A : Type 0} (g : List A → Bool) : List A → List A → Type 0 where
+  last : {ks : List A} → Each g ks []
+  next : {ks : List A} {c : A} {zs : List A} → g (ks ++ zs) ≡ false → Each g (ks ++ (c ∷ [])) zs → Each g ks (c ∷ zs)
+
+-- a sublist has no other elements
+pub sub-mem : {A : Type 0} {xs ys : List A} → Sublist xs ys → (d : A) → List·Memᴰ d xs → List·Memᴰ d ys
+sub-mem nothing d m = m
+sub-mem (dropped h) d m = List·Memᴰ·tail (sub-mem h d m)
+sub-mem (taken h) d m = ⊎-elim (λ q. List·Memᴰ·head q) (λ k. List·Memᴰ·tail (sub-mem h d k)) (List·Memᴰ·cases-cons m)
 
 not-so : (b : Bool) → (b ≡ true → ⊥) → b ≡ false
 not-so true h = absurd (h refl)
@@ -56,17 +67,6 @@ module _ {A : Type 0} (g : List A → Bool) where
       go true q drop keep = drop q
       go false q drop keep = keep
 
-  -- those kept so far stay, and after them come some of the others, in their order
-  pub kept-some : (ks cs : List A) → (zs : List A) × (kept g ks cs ≡ ks ++ zs) × Sublist zs cs
-  unfolding kept
-  kept-some ks [] = ([], sym (append-nil ks), nothing)
-  kept-some ks (c ∷ cs) = go (g (ks ++ cs)) (kept-some ks cs) (kept-some (ks ++ (c ∷ [])) cs)
-    where
-      go : (b : Bool) → (zs : List A) × (kept g ks cs ≡ ks ++ zs) × Sublist zs cs → (zs : List A) × (kept g (ks ++ (c ∷ [])) cs ≡ (ks ++ (c ∷ [])) ++ zs) × Sublist zs cs
-          → (zs : List A) × (kept g (cond b ks (ks ++ (c ∷ []))) cs ≡ ks ++ zs) × Sublist zs (c ∷ cs)
-      go true drop keep = (drop .0, drop .1, dropped (drop .2))
-      go false drop keep = (c ∷ keep .0, keep .1 ∙ append-assoc ks (c ∷ []) (keep .0), taken (keep .2))
-
   module _ (more : Gains A g) where
     -- where those kept are enough, all others are dropped
     pub kept-done : (ks cs : List A) → g ks ≡ true → kept g ks cs ≡ ks
@@ -95,6 +95,22 @@ module _ {A : Type 0} (g : List A → Bool) where
         fewer : (d : A) → List·Memᴰ d (ks ++ cs) → List·Memᴰ d (ks ++ (c ∷ cs))
         fewer d m = ⊎-elim (λ k. Memᴰ·append-left (c ∷ cs) k) (λ k. Memᴰ·append-right ks (List·Memᴰ·tail k)) (List·Memᴰ·append-cases ks m)
 
+    -- those kept so far stay; after them come some of the others, in their order, and none of these can be missed
+    pub kept-each : (ks cs : List A) → (zs : List A) × (kept g ks cs ≡ ks ++ zs) × Sublist zs cs × Each g ks zs
+    unfolding kept
+    kept-each ks [] = ([], sym (append-nil ks), nothing, last)
+    kept-each ks (c ∷ cs) = go (g (ks ++ cs)) refl (kept-each ks cs) (kept-each (ks ++ (c ∷ [])) cs)
+      where
+        fewer : {zs : List A} → Sublist zs cs → (d : A) → List·Memᴰ d (ks ++ zs) → List·Memᴰ d (ks ++ cs)
+        fewer h d m = ⊎-elim (λ k. Memᴰ·append-left cs k) (λ k. Memᴰ·append-right ks (sub-mem h d k)) (List·Memᴰ·append-cases ks m)
+
+        go : (b : Bool) → g (ks ++ cs) ≡ b → (zs : List A) × (kept g ks cs ≡ ks ++ zs) × Sublist zs cs × Each g ks zs
+            → (zs : List A) × (kept g (ks ++ (c ∷ [])) cs ≡ (ks ++ (c ∷ [])) ++ zs) × Sublist zs cs × Each g (ks ++ (c ∷ [])) zs
+            → (zs : List A) × (kept g (cond b ks (ks ++ (c ∷ []))) cs ≡ ks ++ zs) × Sublist zs (c ∷ cs) × Each g ks zs
+        go true q drop keep = (drop .0, drop .1, dropped (drop .2), drop .3)
+        go false q drop keep =
+            (c ∷ keep .0, keep .1 ∙ append-assoc ks (c ∷ []) (keep .0), taken (keep .2), next (not-so (g (ks ++ keep .0)) (λ k. false-true (sym q ∙ more .gains (fewer (keep .2)) k))) (keep .3))
+
 -- The needed credentials
 
 module _ (shown : List Credential) (f e : Expression) (own : List Credential) where
@@ -109,13 +125,20 @@ module _ (shown : List Credential) (f e : Expression) (own : List Credential) wh
   needed-enough h = kept-enough (enough shown f e) [] own h
 
   -- where those shown are enough, none is needed
-  pub needed-none : from? (shown ++ []) f e ≡ true → needed shown f e own ≡ []
+  pub needed-none : from? shown f e ≡ true → needed shown f e own ≡ []
   unfolding needed
-  needed-none h = kept-done (enough shown f e) (enough-gains shown f e) [] own h
+  needed-none h = kept-done (enough shown f e) (enough-gains shown f e) [] own (ap (λ (l : List Credential). from? l f e) (append-nil shown) ∙ h)
+
+  -- none of the needed ones can be missed
+  pub needed-each : Each (enough shown f e) [] (needed shown f e own)
+  unfolding needed
+  needed-each =
+      let r = kept-each (enough shown f e) (enough-gains shown f e) [] own in
+      subst (λ (zs : List Credential). Each (enough shown f e) [] zs) (sym (r .1)) (r .3)
 
   -- the needed ones are some of the own ones, in their order
   pub needed-some : Sublist (needed shown f e own) own
   unfolding needed
   needed-some =
-      let r = kept-some (enough shown f e) [] own in
+      let r = kept-each (enough shown f e) (enough-gains shown f e) [] own in
       subst (λ (zs : List Credential). Sublist zs own) (sym (r .1)) (r .2)

@@ -3,22 +3,22 @@
 // is justified; the one that made it so is kept; then the same again with it, for those after it.
 use closure::readers;
 use expression::Expression;
-use relation::ask;
 use relation::relation;
-use relation::switch_on;
 use rules::rules_of;
 ghost use mathlib.Core.Path.{_≡_};
-ghost use mathlib.Core.Bool.{false};
 ghost use Prim.Native.Nat.{ℕ, _<_, _≤_};
 ghost use lib.ListN.{length};
-ghost use Rattle.rt0.specs.Decide.{from? as fromOf};
 ghost use Rattle.rt0.specs.Pool.{poolOf};
 ghost use Rattle.closure.specs.Rules.{rulesOf, el};
 ghost use Rattle.rules.specs.Table.{chosen};
 ghost use Rattle.rules.specs.Ruled.{Ruled};
 ghost use Rattle.relation.specs.Relation.{Relation};
 ghost use Rattle.needed.specs.Needed.{needed as neededOf, firstOf, restOf};
-ghost use Rattle.needed.specs.Columns.{FirstOn, LastNeeded, WithRest, Needed};
+ghost use Rattle.needed.specs.Columns.{FirstOn, WithRest, Needed};
+
+mod next;
+
+use next::next_kept;
 
 // The column where the first s credentials are on.
 fn first_on(s: usize) -> [u8; 128]
@@ -48,73 +48,7 @@ fn with_rest(n: usize, a: usize, kept: [u8; 128]) -> [u8; 128]
     r
 }
 
-// The credential from a on that, switched on after all that follow it, makes f from e hold, or 128.
-fn last_needed<'a>(
-    n: usize,
-    heads: &'a [u16; 256],
-    kinds: &'a [u8; 256],
-    numbers: &'a [u16; 1024],
-    words: usize,
-    head: &'a [usize; 128],
-    part: &'a [usize; 512],
-    first: &'a [usize; 128],
-    named: &'a [u64; 260],
-    src: &'a [usize; 128],
-    deps: &'a [u64; 260],
-    a: usize,
-    was: [u8; 128],
-    held: [u64; 260],
-    f: Expression,
-    e: Expression,
-) -> usize
-    requires { ⌜ (n ≤ 128) × (a ≤ n) × Ruled (poolOf n (now heads) (now kinds) (now numbers)) (rulesOf n words (now head) (now part) (now first) (now named) (now src)) × (length was ≡ 128) × Relation (poolOf n (now heads) (now kinds) (now numbers)) was held × (fromOf (chosen (poolOf n (now heads) (now kinds) (now numbers)) was) f e ≡ false) ⌝ }
-    ensures { λ r. ⌜ LastNeeded (poolOf n (now (heads .entry)) (now (kinds .entry)) (now (numbers .entry))) was f e a r ⌝ }
-{
-    let mut on = was;
-    let mut rows = held;
-    let mut i = n;
-    while i > a {
-        i -= 1;
-        switch_on(
-            n,
-            heads,
-            kinds,
-            numbers,
-            words,
-            head,
-            part,
-            first,
-            named,
-            src,
-            deps,
-            i,
-            &mut on,
-            &mut rows,
-        );
-        if ask(
-            n,
-            heads,
-            kinds,
-            numbers,
-            words,
-            head,
-            part,
-            first,
-            named,
-            src,
-            deps,
-            &on,
-            &rows,
-            f,
-            e,
-        ) {
-            return i;
-        }
-    }
-    128
-}
-
-// The needed ones, with the first s switched on, whose relation is held.
+// The needed ones. The first s are on, and their relation is held.
 fn keep<'a>(
     n: usize,
     heads: &'a [u16; 256],
@@ -128,39 +62,18 @@ fn keep<'a>(
     src: &'a [usize; 128],
     deps: &'a [u64; 260],
     s: usize,
-    was: [u8; 128],
-    held: [u64; 260],
+    on: &'a mut [u8; 128],
+    rows: &'a mut [u64; 260],
     f: Expression,
     e: Expression,
 ) -> [u8; 128]
-    requires { ⌜ (n ≤ 128) × (s ≤ n) × Ruled (poolOf n (now heads) (now kinds) (now numbers)) (rulesOf n words (now head) (now part) (now first) (now named) (now src)) × FirstOn s was × Relation (poolOf n (now heads) (now kinds) (now numbers)) was held ⌝ }
+    requires { ⌜ (n ≤ 128) × (s ≤ n) × Ruled (poolOf n (now heads) (now kinds) (now numbers)) (rulesOf n words (now head) (now part) (now first) (now named) (now src)) × FirstOn s (now on) × Relation (poolOf n (now heads) (now kinds) (now numbers)) (now on) (now rows) ⌝ }
     ensures { λ r. ⌜ Needed (poolOf n (now (heads .entry)) (now (kinds .entry)) (now (numbers .entry))) s f e r ⌝ }
 {
-    let mut on = was;
-    let mut rows = held;
     let mut r = [0u8; 128];
     let mut a = s;
     while a < n {
-        if ask(
-            n,
-            heads,
-            kinds,
-            numbers,
-            words,
-            head,
-            part,
-            first,
-            named,
-            src,
-            deps,
-            &on,
-            &rows,
-            f,
-            e,
-        ) {
-            return r;
-        }
-        let k = last_needed(
+        let k = next_kept(
             n,
             heads,
             kinds,
@@ -178,25 +91,12 @@ fn keep<'a>(
             f,
             e,
         );
-        if k >= n {
+        if k > n {
             return with_rest(n, a, r);
         }
-        switch_on(
-            n,
-            heads,
-            kinds,
-            numbers,
-            words,
-            head,
-            part,
-            first,
-            named,
-            src,
-            deps,
-            k,
-            &mut on,
-            &mut rows,
-        );
+        if k == n {
+            return r;
+        }
         r[k] = 1;
         a = k + 1;
     }
@@ -219,8 +119,8 @@ pub fn needed<'a>(
 {
     let x = rules_of(n, heads, kinds, numbers);
     let deps = readers(n, &x.part, &x.first, &x.named);
-    let on = first_on(shown);
-    let rows = relation(
+    let mut on = first_on(shown);
+    let mut rows = relation(
         n,
         heads,
         kinds,
@@ -247,8 +147,8 @@ pub fn needed<'a>(
         &x.src,
         &deps,
         shown,
-        on,
-        rows,
+        &mut on,
+        &mut rows,
         f,
         e,
     )

@@ -1,6 +1,5 @@
-use Prim.Native.Nat.{_-_}
+use Prim.Native.Nat.{_-_, _<_}
 use native.Mathlib.Omega.{arith}
-use mathlib.Core.Path.{sym, _∙_}
 use Rattle.rt0.specs.declared.Pool.{Pool}
 use Rattle.rt0.specs.Pool.{poolOf}
 use Rattle.relation.specs.Relation.{Relation}
@@ -10,11 +9,11 @@ use Rattle.needed.proofs.keep.Statement.{statement}
 use Rattle.needed.proofs.keep.Tie as tie
 
 abbrev Inv-loop : tie.InvT-loop
-Inv-loop n heads kinds numbers words head part first named src deps s f e on₀ rows₀ r₀ a₀ on rows r a =
+Inv-loop n heads kinds numbers words head part first named src deps s on₀ rows₀ f e r₀ a₀ on rows r a =
     Keeping (poolOf n heads kinds numbers) s f e r on a × Relation (poolOf n heads kinds numbers) on rows
 
 abbrev μ-loop : tie.MeasureT-loop
-μ-loop n heads kinds numbers words head part first named src deps s f e on₀ rows₀ r₀ a₀ on rows r a = n - a
+μ-loop n heads kinds numbers words head part first named src deps s on₀ rows₀ f e r₀ a₀ on rows r a = n - a
 
 abbrev pool : (c : tie.Start Inv-loop μ-loop) → Pool
 pool c = poolOf (c .args .n) (c .args .heads .now) (c .args .kinds .now) (c .args .numbers .now)
@@ -22,35 +21,32 @@ pool c = poolOf (c .args .n) (c .args .heads .now) (c .args .kinds .now) (c .arg
 loop-holds : tie.Need-loop-holds Inv-loop μ-loop
 loop-holds c = (keep-start (pool c) (c .pre .0) (c .args .s) (c .args .f) (c .args .e) _ (c .pre .1) (c .pre .3), c .pre .4)
 
-ask-requires : tie.Need-ask-requires Inv-loop μ-loop
-ask-requires c κs = (c .before .before .before .before .pre .0, c .before .before .before .before .pre .2, c .before .before .before .loop .inv .1)
-
-returns : tie.Need-returns Inv-loop μ-loop
-returns c = keep-done (pool (c .before .before .before .before .before .before)) (c .before .before .before .before .before .before .pre .0) (c .before .before .before .before .before .before .args .s) (c .before .before .before .before .before .before .args .f) (c .before .before .before .before .before .before .args .e) _ _ _ (c .before .before .before .before .before .loop .inv .0) (c .before .ask .ensures) (c .if1 .taken)
-
-last-needed-requires : tie.Need-last-needed-requires Inv-loop μ-loop
-last-needed-requires c κs = (c .before .before .before .before .before .before .pre .0, c .before .before .before .before .before .loop .inv .0 .within, c .before .before .before .before .before .before .pre .2, c .before .before .before .before .before .loop .inv .0 .on-sized, c .before .before .before .before .before .loop .inv .1, sym (c .before .ask .ensures) ∙ c .if1 .left)
+next-kept-requires : tie.Need-next-kept-requires Inv-loop μ-loop
+next-kept-requires c κs = (c .before .before .before .before .pre .0, c .before .before .before .loop .inv .0 .within, c .before .before .before .before .pre .2, c .before .before .before .loop .inv .0 .on-sized, c .before .before .before .loop .inv .1)
 
 with-rest-requires : tie.Need-with-rest-requires Inv-loop μ-loop
-with-rest-requires c κs = (c .before .before .before .before .before .before .before .before .pre .0, c .before .before .before .before .before .before .before .loop .inv .0 .within, c .before .before .before .before .before .before .before .loop .inv .0 .sized)
+with-rest-requires c κs = (c .before .before .before .before .before .before .pre .0, c .before .before .before .before .before .loop .inv .0 .within, c .before .before .before .before .before .loop .inv .0 .sized)
+
+returns : tie.Need-returns Inv-loop μ-loop
+returns c = keep-all (pool (c .before .before .before .before .before .before .before)) (c .before .before .before .before .before .before .before .pre .0) (c .before .before .before .before .before .before .before .args .s) (c .before .before .before .before .before .before .before .args .f) (c .before .before .before .before .before .before .before .args .e) _ _ _ (c .before .before .before .before .before .before .loop .inv .0) _ _ (c .before .before .next-kept .ensures .0) (c .before .if1 .taken) (c .with-rest .ensures)
 
 returns-2 : tie.Need-returns-2 Inv-loop μ-loop
-returns-2 c = keep-all (pool (c .before .before .before .before .before .before .before .before .before)) (c .before .before .before .before .before .before .before .before .before .pre .0) (c .before .before .before .before .before .before .before .before .before .args .s) (c .before .before .before .before .before .before .before .before .before .args .f) (c .before .before .before .before .before .before .before .before .before .args .e) _ _ _ (c .before .before .before .before .before .before .before .before .loop .inv .0) _ _ (c .before .before .last-needed .ensures) (c .before .if2 .taken) (c .with-rest .ensures)
+returns-2 c = keep-done (pool (c .before .before .before .before .before .before .before)) (c .before .before .before .before .before .before .before .pre .0) (c .before .before .before .before .before .before .before .args .s) (c .before .before .before .before .before .before .before .args .f) (c .before .before .before .before .before .before .before .args .e) _ _ _ (c .before .before .before .before .before .before .loop .inv .0) _ (c .before .before .next-kept .ensures .0) (c .if2 .taken)
 
-switch-on-requires : tie.Need-switch-on-requires Inv-loop μ-loop
-switch-on-requires c κs = (c .before .before .before .before .before .before .before .before .before .before .pre .0, c .before .before .if2 .left, c .before .before .before .before .before .before .before .before .before .before .pre .2, c .before .before .before .before .before .before .before .before .before .loop .inv .0 .on-sized, c .before .before .before .before .before .before .before .before .before .loop .inv .1)
+below : (c : tie.Else2 Inv-loop μ-loop) → c .before .before .next-kept .result < c .before .before .before .before .before .before .before .args .n
+below c = omega (arith, c .before .if1 .left, c .if2 .left)
 
 array-write-r : tie.Need-array-write-r Inv-loop μ-loop
-array-write-r c = omega (arith, c .before .before .before .if2 .left, c .before .before .before .before .before .before .before .before .before .before .before .pre .0)
+array-write-r c = omega (arith, below c, c .before .before .before .before .before .before .before .pre .0)
 
 add-a : tie.Need-add-a Inv-loop μ-loop
-add-a c = omega (arith, c .before .before .before .if2 .left, c .before .before .before .before .before .before .before .before .before .before .before .pre .0)
+add-a c = omega (arith, below c, c .before .before .before .before .before .before .before .pre .0)
 
 loop-less : tie.Need-loop-less Inv-loop μ-loop
-loop-less c = omega (arith, c .before .before .before .if2 .left, c .before .before .before .before .last-needed .ensures .found (c .before .before .before .if2 .left) .0)
+loop-less c = omega (arith, below c, c .before .before .next-kept .ensures .0 .found (c .before .if1 .left) .0)
 
 loop-again : tie.Need-loop-again Inv-loop μ-loop
-loop-again c = (keep-next (pool (c .before .before .before .before .before .before .before .before .before .before .before)) (c .before .before .before .before .before .before .before .before .before .before .before .pre .0) (c .before .before .before .before .before .before .before .before .before .before .before .args .s) (c .before .before .before .before .before .before .before .before .before .before .before .args .f) (c .before .before .before .before .before .before .before .before .before .before .before .args .e) _ _ _ (c .before .before .before .before .before .before .before .before .before .before .loop .inv .0) _ _ (c .before .before .before .before .last-needed .ensures) (c .before .before .before .if2 .left) (c .switch-on .ensures .0), c .switch-on .ensures .1)
+loop-again c = (keep-next (pool (c .before .before .before .before .before .before .before)) (c .before .before .before .before .before .before .before .pre .0) (c .before .before .before .before .before .before .before .args .s) (c .before .before .before .before .before .before .before .args .f) (c .before .before .before .before .before .before .before .args .e) _ _ _ (c .before .before .before .before .before .before .loop .inv .0) _ _ (c .before .before .next-kept .ensures .0) (below c) (c .before .before .next-kept .ensures .1 .0 (below c)), c .before .before .next-kept .ensures .1 .1 (below c))
 
 returns-3 : tie.Need-returns-3 Inv-loop μ-loop
 returns-3 c = keep-end (pool (c .before .before)) (c .before .before .pre .0) (c .before .before .args .s) (c .before .before .args .f) (c .before .before .args .e) _ _ _ (c .before .loop .inv .0) (c .loop-test .left)
@@ -62,12 +58,10 @@ keep-spec =
     Inv-loop
     μ-loop
     loop-holds
-    ask-requires
-    returns
-    last-needed-requires
+    next-kept-requires
     with-rest-requires
+    returns
     returns-2
-    switch-on-requires
     array-write-r
     add-a
     loop-less
