@@ -1,0 +1,5 @@
+pub mod Needed
+pub mod NeededLaws
+pub mod Columns
+pub mod ColumnLaws
+pub mod KeepingLaws
