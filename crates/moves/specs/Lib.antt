@@ -3,3 +3,4 @@ pub mod Initial
 pub mod Frontiers
 pub mod Wanted
 pub mod Rules
+pub mod Move

@@ -31,7 +31,7 @@ pub record End : Type 0 where
   pub known : List KnownRole
   pub state : State
 
-isEntity : Expression → Bool
+abbrev pub isEntity : Expression → Bool
 isEntity (E.Entity a) = true
 isEntity (E.Role a) = false
 isEntity (E.Linked a r) = false

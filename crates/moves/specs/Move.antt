@@ -1,0 +1,95 @@
+-- A move: an edge with the credentials that it needs, or a mark (document 01, "The reply"). Assumes nothing.
+use Prim.Native.Nat.{ℕ, suc}
+use mathlib.Core.Bool.{Bool, true, false, not, cond, _||_}
+use mathlib.Core.List.{List, [], _∷_, _++_, map}
+use lib.Dec.{eqb, ltb}
+use lib.ListN.{length}
+use Rattle.expression.specs.declared.Credential.{Credential}
+use Rattle.expression.specs.declared.Expression.{Expression}
+use Rattle.expression.specs.declared.Expression.the-variants as E
+use Rattle.needed.specs.Needed.{needed}
+use Rattle.tables.specs.Lookup.{directOf}
+use Rattle.tables.specs.Public.{keep}
+use Rattle.graph.specs.declared.Node.{Node}
+use Rattle.graph.specs.Find.{findNode, hasEdge}
+use Rattle.message.specs.declared.Command.{Command}
+use Rattle.message.specs.declared.Command.the-variants.{Show, Bring, Join, Mark}
+use Rattle.negotiation.specs.State.{State}
+use Rattle.damage.specs.Records.{isShown}
+use Rattle.update.specs.Step.{processedBy}
+use Rattle.moves.specs.Initial.{initialState}
+use Rattle.moves.specs.Wanted.{Wanted, Plan}
+use Rattle.moves.specs.Rules.{End, verifierRules, opponentRules}
+
+-- the commands of a move; none where no move is left
+abbrev pub Move : Type 0
+Move = List Command
+
+module _ (o : End) where
+  abbrev pub side : ℕ
+  side = o .state .header .side
+
+  -- the number of the wanted child, where it stands
+  abbrev pub childNumber : Wanted → ℕ
+  childNumber w = findNode (o .state .nodes) (w .expression) (w .verifier) (w .subject)
+
+  abbrev pub childStands : Wanted → Bool
+  childStands w = ltb (childNumber w) (length (o .state .nodes))
+
+  -- "An edge already there, or one to the node itself, counts as done"
+  unfoldable pub isDone : ℕ → Wanted → Bool
+  isDone i w = cond (childStands w) (eqb i (childNumber w) || hasEdge (o .state .edges) (record { kind = w .kind; parent = i; child = childNumber w })) false
+
+  -- "less .. those already shown"
+  abbrev pub unshown : List Credential → List Credential
+  unshown cs = keep (λ c. not (isShown (o .state .shown) c)) cs
+
+  -- "For rule (3) only the direct credential is sent, unless shown"
+  abbrev pub directFor : Expression → List Credential
+  directFor (E.Entity a) = []
+  directFor (E.Role a) = unshown (directOf (o .tables .own) a ∷ [])
+  directFor (E.Linked a r) = []
+  directFor (E.Intersection p) = []
+  directFor (E.Goal r) = []
+
+  -- "from the own set for that side, less direct credentials of sensitive roles and those already shown"
+  abbrev pub ownSet : Node → List Credential
+  ownSet n = cond (eqb (n .verifier) side) (o .tables .issuerStored) (o .tables .subjectStored)
+
+  -- "Before a kind 1 edge go the credentials it needs"
+  unfoldable pub credentialsFor : Node → Wanted → List Credential
+  credentialsFor n w =
+      cond (eqb (w .kind) 1)
+      (cond (w .direct) (directFor (n .expression)) (needed (o .state .shown) (n .expression) (w .expression) (unshown (ownSet n))))
+      []
+
+  -- "An old child is joined by 0x04"
+  abbrev pub edgeCommand : ℕ → Wanted → Command
+  edgeCommand i w =
+      cond (childStands w)
+      (Join (record { kind = w .kind; parent = i; child = childNumber w }))
+      (Bring (record { kind = w .kind; parent = i; expression = w .expression; subject = w .subject; state = initialState (o .tables .names) (eqb (w .verifier) side) (w .expression) }))
+
+  -- "The first move not yet done is made": the first edge of the plan that is not done, else the mark, if it is allowed
+  abbrev pub firstMove : ℕ → Node → Bool → List Wanted → Move
+  firstMove i n marks [] = cond marks (Mark i ∷ []) []
+  firstMove i n marks (w ∷ ws) = cond (isDone i w) (firstMove i n marks ws) (map Show (credentialsFor n w) ++ (edgeCommand i w ∷ []))
+
+  abbrev pub byPlan : ℕ → Node → Plan → Move
+  byPlan i n p = firstMove i n (p .marks) (p .wanted)
+
+  -- at node i, if our side has not processed it
+  unfoldable pub moveAt : ℕ → Node → Move
+  moveAt i n = cond (processedBy side n) [] (byPlan i n (cond (eqb (n .verifier) side) (verifierRules o i n (n .expression)) (opponentRules o i n (n .expression))))
+
+  abbrev pub orNext : Move → Move → Move
+  orNext [] next = next
+  orNext (c ∷ cs) next = c ∷ cs
+
+  -- "Nodes are tried by rising number"
+  unfoldable pub movesFrom : ℕ → List Node → Move
+  movesFrom i [] = []
+  movesFrom i (n ∷ ns) = orNext (moveAt i n) (movesFrom (suc i) ns)
+
+  unfoldable pub nextMove : Move
+  nextMove = movesFrom 0 (o .state .nodes)

@@ -1,0 +1,105 @@
+-- Marked cases (i) and (j) of document 01: both ends, by the definitions of reply and take. One table, one computed proof. Assumes nothing.
+use Prim.Native.Nat.{ℕ, zero, suc, _+_, _%_, _/_}
+use mathlib.Core.Path.{_≡_, refl}
+use mathlib.Core.Bool.{Bool, true, false, cond, _&&_}
+use lib.Dec.{eqb}
+use mathlib.Core.List.{List, [], _∷_, _++_, map}
+use lib.ListN.{length}
+use Rattle.expression.specs.declared.Role.{Role}
+use Rattle.expression.specs.declared.Credential.{Credential}
+use Rattle.expression.specs.declared.Expression.{Expression}
+use Rattle.expression.specs.declared.Expression.the-variants as E
+use Rattle.rt0.specs.From.{roleOf}
+use Rattle.class.specs.declared.Name.{Name}
+use Rattle.record.specs.declared.Pair.{Pair}
+use Rattle.tables.specs.Tables.{Tables}
+use Rattle.negotiation.specs.State.{State}
+use Rattle.rt0.specs.Decide.{roleFrom, reaches, pass, close, closure, from?}
+use Rattle.expression.specs.Same.{sameRole, same}
+use Rattle.expression.specs.Order.{beforeOf, beforeCredential}
+use Rattle.expression.specs.Credential.{wellFormedCredential, readCredential}
+use Rattle.class.specs.Names.{namesOf, classOf}
+use Rattle.class.specs.Typing.{named as namedType, linked as linkedType, together, typeOf, credentialNumber}
+use Rattle.tables.specs.Lookup.{holds, isSensitive, otherOf, isDirect}
+use Rattle.tables.specs.Public.{lessDirect, heldOf, publicOf, hiddenOf}
+use Rattle.propagation.specs.Flags.{cnt}
+use Rattle.propagation.specs.Least.{rounds, least}
+use Rattle.graph.specs.Graph.{expressionFrom, nodesOf, edgesOf}
+use Rattle.graph.specs.Find.{findNode, hasEdge}
+use Rattle.graph.specs.Form.{hasRole, form, legalState}
+use Rattle.graph.specs.Propagated.{satisfiedB, failedB, completeB, stateOf as propagated}
+use Rattle.justification.specs.Justified.{solves, solved, monitors, monitored, implied, impliedIf, monitoredIf, justified}
+use Rattle.message.specs.Command.{commandBytes}
+use Rattle.negotiation.specs.State.{freshState, withNode, withEdge, withShown, withMark, withHeader, within}
+use Rattle.damage.specs.Header.{wantedSound, headerSound, requester, entityOf, emptySound, countSound, endSound}
+use Rattle.damage.specs.Records.{nodeSound, nodeFits, primarySound, credentialSound, isShown, credentialFits}
+use Rattle.needed.specs.Needed.{kept, needed, firstOf, restOf}
+use Rattle.update.specs.Step.{processedBy, markedState, primaryOf, verifierOf, childOf, stepped, hasRoom}
+use Rattle.update.specs.Legal.{refuse, first, isFresh, isAbsent, formedAs, showNumber, openNumber, markNumber, endNumber, joinWrong, justifiedBy, justifiedFor, joinNumber, bringWrong, bringNumber, justifiedIn, legalBy, legalNumber}
+use Rattle.update.specs.After.{endOf, isStalled, idleOf, headerAfter, afterMessage}
+use Rattle.moves.specs.Known.{holdingOf, isAcknowledged, knownOf}
+use Rattle.moves.specs.Initial.{initialState}
+use Rattle.moves.specs.Frontiers.{spread, frontierOf}
+use Rattle.moves.specs.Wanted.{ordered}
+use Rattle.moves.specs.Rules.{verifierRules, sensitiveRules, opponentRules}
+use Rattle.moves.specs.Move.{isDone, credentialsFor, moveAt, movesFrom, nextMove}
+use Rattle.message.specs.declared.Command.{Command}
+use Rattle.take.specs.Message.{moved}
+use Rattle.reply.specs.Reply.{Replied, carried, endIn, replyFrom, replyIn, repliedState, replyBytes}
+
+abbrev named : ℕ → ℕ → Name
+named n c = record { name = n; class = c }
+
+-- "Names 1 class 1, 2 and 3 class 3"
+abbrev names : List Name
+names = named 1 1 ∷ named 2 3 ∷ named 3 3 ∷ []
+
+abbrev _←_ : Role → Expression → Credential
+p ← b = record { head = p; body = b }
+
+infix 4 _←_
+-- "Studio 3 .. has 0x12 3.1←4.3 and 0x13 1.2←3"
+abbrev studio : Tables
+studio = record { own = 3; names = names; issuerStored = (roleOf 3 1 ← E.Role (roleOf 4 3)) ∷ []; subjectStored = (roleOf 1 2 ← E.Entity 3) ∷ []; sensitive = []; access = [] }
+
+-- "House has 0x13 4.3←2, 4.3 sensitive, Ack 1.2, no AC"; (j) "House without 4.3←2"
+abbrev house : List Credential → Tables
+house held = record { own = 2; names = names; issuerStored = []; subjectStored = held; sensitive = record { role = roleOf 4 3; other = roleOf 1 2 } ∷ []; access = [] }
+
+-- a message as both ends see it: its length, whether each of its commands is a legal update at the end that takes it, and the end and the nodes there
+-- afterwards
+pub record Turn : Type 0 where
+  pub bytes : ℕ
+  pub legal : Bool
+  pub end : ℕ
+  pub nodes : ℕ
+
+abbrev turn : ℕ → ℕ → ℕ → Turn
+turn b e n = record { bytes = b; legal = true; end = e; nodes = n }
+
+-- each command is legal where it stands
+abbrev allLegal : List Name → ℕ → State → List Command → Bool
+allLegal ns s S [] = true
+allLegal ns s S (c ∷ cs) = eqb (legalNumber ns s S c) 0 && allLegal ns s (stepped S s c) cs
+
+-- what the message leaves at the end that takes it
+abbrev takenState : ℕ → State → List Command → State
+takenState s R cs = afterMessage (carried s R cs) (moved cs) false
+
+-- so many messages, the first by the end of tables T in state S to that of U in R, and then in turn
+abbrev play : ℕ → Tables → State → Tables → State → List Turn
+play zero T S U R = []
+play (suc k) T S U R =
+    let r : Replied = replyIn T S in
+    let A : State = takenState (S .header .side) R (r .commands) in
+    record { bytes = length (replyBytes r); legal = allLegal (U .names) (S .header .side) R (r .commands); end = A .header .end; nodes = length (A .nodes) }
+    ∷ play k U A T (repliedState r)
+
+-- "Studio 3 mediates 3.1 for House 2"
+abbrev played : List Credential → List Turn
+played held = play 4 studio (freshState 0 3 2 (roleOf 3 1)) (house held) (freshState 1 2 3 (roleOf 0 0))
+
+pub marked-negotiations : (played ((roleOf 4 3 ← E.Entity 2) ∷ []) ≡ turn 56 0 2 ∷ turn 25 0 3 ∷ turn 50 0 4 ∷ turn 48 1 5 ∷ [])
+    × (played [] ≡ turn 56 0 2 ∷ turn 25 0 3 ∷ turn 50 0 4 ∷ turn 3 2 4 ∷ [])
+unfolding roleFrom reaches pass close closure from? sameRole same beforeOf beforeCredential wellFormedCredential readCredential namesOf classOf namedType linkedType together typeOf credentialNumber holds isSensitive otherOf isDirect lessDirect heldOf publicOf hiddenOf cnt rounds least expressionFrom nodesOf edgesOf findNode hasEdge hasRole form legalState satisfiedB failedB completeB propagated solves solved monitors monitored implied impliedIf monitoredIf justified commandBytes freshState withNode withEdge withShown withMark withHeader within wantedSound headerSound requester entityOf emptySound countSound endSound nodeSound nodeFits primarySound credentialSound isShown credentialFits kept needed firstOf restOf processedBy markedState primaryOf verifierOf childOf stepped hasRoom refuse first isFresh isAbsent formedAs showNumber openNumber markNumber endNumber joinWrong justifiedBy justifiedFor joinNumber bringWrong bringNumber justifiedIn legalBy legalNumber endOf isStalled idleOf headerAfter afterMessage holdingOf isAcknowledged knownOf initialState spread frontierOf ordered verifierRules sensitiveRules opponentRules isDone credentialsFor moveAt movesFrom nextMove endIn replyFrom replyIn repliedState replyBytes
+marked-negotiations = (refl, refl)

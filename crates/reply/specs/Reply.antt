@@ -1,0 +1,119 @@
+-- The reply (document 01, "The reply"). Assumes nothing.
+use Prim.Native.Nat.{ℕ, zero, suc, _+_, _*_}
+use mathlib.Core.Bool.{Bool, true, false, not, cond, _&&_}
+use mathlib.Core.List.{List, [], _∷_, _++_}
+use lib.Dec.{eqb, leb}
+use lib.ListN.{length, drop}
+use Rattle.expression.specs.declared.Expression.the-variants as E
+use Rattle.tables.specs.Tables.{Tables}
+use Rattle.tables.specs.Public.{publicOf, hiddenOf}
+use Rattle.graph.specs.Propagated.{stateOf as propagated}
+use Rattle.message.specs.declared.Command.{Command}
+use Rattle.message.specs.declared.Command.the-variants.{Open}
+use Rattle.negotiation.specs.State.{State}
+use Rattle.negotiation.specs.Layout.{stateBytes, zeros}
+use Rattle.damage.specs.Restored as R
+use Rattle.update.specs.Step.{stepped, hasRoom}
+use Rattle.update.specs.After.{afterMessage}
+use Rattle.take.specs.Message.{bytesOf, messageBytes, moved}
+use Rattle.take.specs.Take.{sends}
+use Rattle.moves.specs.Known.{knownOf}
+use Rattle.moves.specs.Initial.{initialState}
+use Rattle.moves.specs.Rules.{End}
+use Rattle.moves.specs.Move.{Move, nextMove}
+
+-- our end in a state
+unfoldable pub endIn : Tables → State → End
+endIn T S = record { tables = publicOf T; known = knownOf (hiddenOf T) (T .sensitive) S; state = S }
+
+-- "Each command carries the negotiation to its next state"
+abbrev pub carried : ℕ → State → List Command → State
+carried s S [] = S
+carried s S (c ∷ cs) = carried s (stepped S s c) cs
+
+-- each command of a move has room where it stands
+abbrev pub hasRoomFor : ℕ → State → List Command → Bool
+hasRoomFor s S [] = true
+hasRoomFor s S (c ∷ cs) = hasRoom S c && hasRoomFor s (stepped S s c) cs
+
+-- the commands so far, the state that they lead to, and whether it stopped on a size
+pub record Replied : Type 0 where
+  pub commands : List Command
+  pub state : State
+  pub full : Bool
+
+abbrev pub stopped : List Command → State → Bool → Replied
+stopped cs S full = record { commands = cs; state = S; full = full }
+
+-- a move that fits is carried out, and the search restarts: "the next move would not fit before the end byte within 4,096 bytes, or it would pass
+-- a size; the last sets end 4, also together with the one before"
+abbrev pub withMove : (State → List Command → Replied) → State → List Command → Move → Replied
+withMove next S cs [] = stopped cs S false
+withMove next S cs (c ∷ ms) =
+    cond (hasRoomFor (S .header .side) S (c ∷ ms))
+    (cond (leb (length (bytesOf (cs ++ (c ∷ ms))) + 1) 4096) (next (carried (S .header .side) S (c ∷ ms)) (cs ++ (c ∷ ms))) (stopped cs S false))
+    (stopped cs S true)
+
+-- "The reply stops when no move remains, the primary is satisfied, .." The first number is at least that of the moves left.
+unfoldable pub replyFrom : ℕ → Tables → State → List Command → Replied
+replyFrom zero T S cs = stopped cs S false
+replyFrom (suc f) T S cs = cond (eqb (propagated (S .nodes) (S .edges) 0) 1) (stopped cs S false) (withMove (λ U ds. replyFrom f T U ds) S cs (nextMove (endIn T S)))
+
+-- "The mediator's first reply starts with open"
+abbrev pub opening : Tables → State → List Command
+opening T S = cond (eqb (length (S .nodes)) 0) (Open (record { role = S .header .wanted; state = initialState (T .names) true (E.Role (S .header .wanted)) }) ∷ []) []
+
+-- a move has two bytes or more, so there are fewer than 4,096
+unfoldable pub replyIn : Tables → State → Replied
+replyIn T S = replyFrom 4096 T (carried (S .header .side) S (opening T S)) (opening T S)
+
+-- what the reply leaves: "success, failed, stalled, full, in that order"
+unfoldable pub repliedState : Replied → State
+repliedState r = afterMessage (r .state) (moved (r .commands)) (r .full)
+
+-- "Then 0x06 is written"
+unfoldable pub replyBytes : Replied → List ℕ
+replyBytes r = messageBytes (r .commands)
+
+-- The call
+
+-- a refusal number, or the message and the state of the negotiation behind it
+pub data Outcome : Type 0 where
+  refused : ℕ → Outcome
+  given : List ℕ → State → Outcome
+
+unfoldable pub repliedIn : Tables → State → Outcome
+repliedIn T S =
+    cond (not (eqb (S .header .end) 0)) (refused 22)
+    (cond (not (sends (S .header .side) (S .header .messages))) (refused 21)
+    (given (replyBytes (replyIn T S)) (repliedState (replyIn T S))))
+
+abbrev pub behindStanding : R.Standing → Outcome
+behindStanding (R.refusal k) = refused k
+behindStanding (R.standing T S) = repliedIn T S
+
+-- "reply buffer 4,096 or more", "scratch 4,096 exactly"
+unfoldable pub replySize : ℕ → ℕ → Bool
+replySize reply scratch = leb 4096 reply && eqb scratch 4096
+
+-- "Order: 1, tables 2 to 6 record by record .., 20, 22, 21"
+unfoldable pub replyOf : List ℕ → List ℕ → List ℕ → List ℕ → Outcome
+replyOf tables negotiation reply scratch = cond (replySize (length reply) (length scratch)) (behindStanding (R.restoreOf tables negotiation)) (refused 1)
+
+-- "the length returned": 256 times it
+abbrev pub answerOf : Outcome → ℕ
+answerOf (refused k) = k
+answerOf (given m S) = length m * 256
+
+-- "After acceptance, take changes the negotiation, reply also its message bytes, both set the scratch to zero"
+abbrev pub negotiationLeft : List ℕ → Outcome → List ℕ
+negotiationLeft before (refused k) = before
+negotiationLeft before (given m S) = stateBytes S
+
+abbrev pub replyLeft : List ℕ → Outcome → List ℕ
+replyLeft before (refused k) = before
+replyLeft before (given m S) = m ++ drop (length m) before
+
+abbrev pub scratchLeft : List ℕ → Outcome → List ℕ
+scratchLeft before (refused k) = before
+scratchLeft before (given m S) = zeros (length before)

@@ -1,0 +1,1 @@
+// The reply: its definition, in specs/.
