@@ -13,10 +13,10 @@ use lib.Seq.{getD-set-same, getD-set-other}
 use Rattle.expression.specs.declared.Credential.{Credential}
 use Rattle.rt0.specs.declared.Pool.{Pool}
 use Rattle.rt0.specs.Added.{upTo-same}
-use Rattle.rt0.specs.Pool.{upTo, credentialAt}
+use Rattle.rt0.specs.Pool.{upTo, credentialAt, credentials}
 use Rattle.closure.specs.Rules.{el}
 use Rattle.rules.specs.Table.{chosen, chosenTo}
-use Rattle.needed.specs.Needed.{restOf}
+use Rattle.needed.specs.Needed.{firstOf, restOf}
 use Rattle.needed.specs.Columns.{FirstOn, WithRest}
 
 -- Lists by their numbers
@@ -80,6 +80,13 @@ module _ (P : Pool) where
       let r = upTo-find (P .count - k) (λ (j : ℕ). credentialAt P (k + j)) c m in
       let l : r .0 < P .count - k = r .1 in
       (k + r .0, omega arith, omega arith, r .2)
+
+-- the credentials of a pool are the first ones and the rest
+pub first-rest : (P : Pool) (s : ℕ) → s ≤ P .count → credentials P ≡ firstOf P s ++ restOf P s
+unfolding credentials firstOf restOf
+first-rest P s l =
+    let z : P .count ≡ s + (P .count - s) = omega arith in
+    ap (λ (n : ℕ). upTo n (credentialAt P)) z ∙ upTo-split s (P .count - s) (credentialAt P)
 
 -- Columns
 
