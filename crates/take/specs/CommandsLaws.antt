@@ -34,7 +34,7 @@ use Rattle.update.specs.declared.Known.{Known}
 use Rattle.update.specs.Known.{Knows}
 use Rattle.update.specs.Judged.{kindOf, isImplication, KnownFor, Judges, legal-judged}
 use Rattle.update.specs.Step.{stepped, isMove, hasRoom, childOf, childIn, primaryOf, markedState}
-use Rattle.update.specs.Legal.{legalBy, legalNumber}
+use Rattle.update.specs.Legal.{justifiedIn, legalBy, legalNumber}
 use Rattle.update.specs.RoomLaws.{legal-room, step-within}
 use Rattle.update.specs.StepFormed.{step-formed}
 use Rattle.take.specs.Commands.{Taken, refused, taken, judged, isEnd, onCommand, commandsFrom, takenOf}
@@ -67,6 +67,34 @@ isCredential (Bring n) = false
 isCredential (Join e) = false
 isCredential (Mark i) = false
 isCredential End = false
+
+abbrev pub isEdge : Command → Bool
+isEdge (Show c) = false
+isEdge (Open o) = false
+isEdge (Bring n) = true
+isEdge (Join e) = true
+isEdge (Mark i) = false
+isEdge End = false
+
+-- a command that adds no edge needs no justification
+no-edge : (S : State) (c : Command) → isEdge c ≡ false → true ≡ justifiedIn S c
+unfolding justifiedIn
+no-edge S (Show c) h = refl
+no-edge S (Open o) h = refl
+no-edge S (Bring n) h = absurd (false-true (sym h))
+no-edge S (Join e) h = absurd (false-true (sym h))
+no-edge S (Mark i) h = refl
+no-edge S End h = refl
+
+module _ (S : State) (c : Command) (j : Bool) where
+  pub judged-edge : {r : Bool} → Judges S c r → j ≡ r → Judges S c j
+  judged-edge h e = record { judges = λ z. e ∙ h .judges z }
+
+  pub judged-none : {b : Bool} → b ≡ isEdge c → b ≡ false → j ≡ true → Judges S c j
+  judged-none be z e = record { judges = λ y. e ∙ no-edge S c (sym be ∙ z) }
+
+  pub judged-by : {A B : Type 0} → (A → Judges S c j) → (B → Judges S c j) → A ⊎ B → Judges S c j
+  judged-by f g h = ⊎-elim f g h
 
 -- where it is not stale, it is what the pool proves
 pub record Current (stale : Bool) (known : Known) (pool : Pool) : Type 0 where

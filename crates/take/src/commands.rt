@@ -22,7 +22,7 @@ ghost use Rattle.graph.specs.Graph.{nodesOf};
 ghost use Rattle.states.specs.Brings.{NodesFormed};
 ghost use Rattle.negotiation.specs.State.{stateOf, within};
 ghost use Rattle.take.specs.Commands.{isEnd, commandsFrom, takenOf};
-ghost use Rattle.take.specs.CommandsLaws.{refusalOf, isCredential, Room};
+ghost use Rattle.take.specs.CommandsLaws.{refusalOf, isCredential, isEdge, Room};
 
 const COMMAND: u64 = 2;
 
@@ -73,6 +73,20 @@ fn is_credential(c: Command) -> bool
     }
 }
 
+// Whether a command adds an edge.
+fn is_edge(c: Command) -> bool
+    ensures { λ r. ⌜ r ≡ isEdge c ⌝ }
+{
+    match c {
+        Command::Show(_) => false,
+        Command::Open(_) => false,
+        Command::Bring(_) => true,
+        Command::Join(_) => true,
+        Command::Mark(_) => false,
+        Command::End => false,
+    }
+}
+
 // Each command is judged and carried out before the next is read. What the credentials shown prove is found again only where an implication asks
 // it and a credential has come since.
 pub fn take_commands(names: Names, sender: u8, start: Negotiation, message: &[u8]) -> Taking
@@ -95,7 +109,11 @@ pub fn take_commands(names: Names, sender: u8, start: Negotiation, message: &[u8
             known = known_of(shown);
             stale = false;
         }
-        let k = legal(names, sender, n, c, is_justified(n, known, c));
+        let mut justified = true;
+        if is_edge(c) {
+            justified = is_justified(n, known, c);
+        }
+        let k = legal(names, sender, n, c, justified);
         if k != 0 {
             return taking(k, moved, n);
         }

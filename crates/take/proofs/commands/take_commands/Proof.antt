@@ -1,7 +1,7 @@
 use Rattle.update.specs.LegalLaws.{within-few}
 use Rattle.update.specs.RoomLaws.{legal-room}
 use Rattle.update.specs.Judged.{legal-judged}
-use Rattle.take.specs.CommandsLaws.{Reading, Current, current-stale, ready-made, ready-left, ready-by, current-next, reading-start, reading-past, reading-unread, reading-illegal, reading-end, reading-next, reading-room}
+use Rattle.take.specs.CommandsLaws.{Reading, Current, current-stale, ready-made, ready-left, ready-by, judged-edge, judged-none, judged-by, current-next, reading-start, reading-past, reading-unread, reading-illegal, reading-end, reading-next, reading-room}
 use mathlib.Core.Path.{refl, sym, _∙_}
 use lib.ListN.{length}
 use Prim.Native.Nat.{_-_}
@@ -15,6 +15,7 @@ use Rattle.take.proofs.commands.take_commands.Lts as lts
 use Rattle.message.proofs.read_command.Reads as read-command-reads
 use Rattle.message.proofs.size_of.Reads as size-of-reads
 use Rattle.take.proofs.commands.is_credential.Reads as is-credential-reads
+use Rattle.take.proofs.commands.is_edge.Reads as is-edge-reads
 use Rattle.take.proofs.commands.is_end.Reads as is-end-reads
 use Rattle.take.proofs.commands.refusal_of.Reads as refusal-of-reads
 use Rattle.take.proofs.commands.taking.Reads as taking-reads
@@ -62,17 +63,20 @@ is-implication-requires c κs = search needs
 known-of-requires : tie.Need-known-of-requires Inv-loop μ-loop
 known-of-requires c κs = omega (arith, within-few _ (c .before .before .before .before .before .before .before .before .loop .inv .0 .sizes) .2)
 
+is-edge-requires : tie.Need-is-edge-requires Inv-loop μ-loop
+is-edge-requires c κs = search needs
+
 is-justified-requires : tie.Need-is-justified-requires Inv-loop μ-loop
-is-justified-requires c κs = ((c .before .before .before .before .before .before .before .loop .inv .0 .sizes), (c .before .before .before .before .before .before .before .loop .inv .0 .formed), ready-by (c .if1 .stale) (c .if1 .known) (c .before .before .before .before .before .before .before .loop .n .shown) (c .before .before .before .a .given .0 .0) (λ w. ready-made _ _ _ _ _ (w .2 .ensures .0) (w .2 .ensures .1) (w .3) (w .4)) (λ w. ready-left _ _ _ _ _ (c .before .before .before .before .before .before .before .loop .inv .1) (c .before .is-implication .ensures) (w .0 .left) (w .1) (w .2)) (c .if1 .came) .asked)
+is-justified-requires c κs = ((c .before .before .before .before .before .before .before .before .before .loop .inv .0 .sizes), (c .before .before .before .before .before .before .before .before .before .loop .inv .0 .formed), ready-by (c .before .before .if1 .stale) (c .before .before .if1 .known) (c .before .before .before .before .before .before .before .before .before .loop .n .shown) (c .before .before .before .before .before .a .given .0 .0) (λ w. ready-made _ _ _ _ _ (w .2 .ensures .0) (w .2 .ensures .1) (w .3) (w .4)) (λ w. ready-left _ _ _ _ _ (c .before .before .before .before .before .before .before .before .before .loop .inv .1) (c .before .before .before .is-implication .ensures) (w .0 .left) (w .1) (w .2)) (c .before .before .if1 .came) .asked)
 
 legal-requires : tie.Need-legal-requires Inv-loop μ-loop
-legal-requires c κs = ((c .before .before .before .before .before .before .before .before .before .before .before .pre .0), (c .before .before .before .before .before .before .before .before .before .before .before .pre .1), (c .before .before .before .before .before .before .before .before .loop .inv .0 .sizes))
+legal-requires c κs = ((c .before .before .before .before .before .before .before .before .before .before .before .before .pre .0), (c .before .before .before .before .before .before .before .before .before .before .before .before .pre .1), (c .before .before .before .before .before .before .before .before .before .loop .inv .0 .sizes))
 
 taking-requires-2 : tie.Need-taking-requires-2 Inv-loop μ-loop
 taking-requires-2 c κs = search needs
 
 returns-2 : tie.Need-returns-2 Inv-loop μ-loop
-returns-2 c = reading-illegal _ _ _ (c .before .before .before .before .before .before .before .before .before .before .before .loop .inv .0) (c .before .before .before .before .before .before .before .before .before .before .loop-test .taken) (c .before .before .before .before .before .before .before .before .before .read-command .ensures) (c .before .before .before .before .before .before .before .a .given .1) ((c .before .before .legal .ensures) ∙ legal-judged _ _ _ _ _ (c .before .before .before .is-justified .ensures)) _ (c .before .if2 .taken) (c .taking2 .ensures .0)
+returns-2 c = reading-illegal _ _ _ (c .before .before .before .before .before .before .before .before .before .before .before .before .loop .inv .0) (c .before .before .before .before .before .before .before .before .before .before .before .loop-test .taken) (c .before .before .before .before .before .before .before .before .before .before .read-command .ensures) (c .before .before .before .before .before .before .before .before .a .given .1) ((c .before .before .legal .ensures) ∙ legal-judged _ _ _ _ _ (judged-by (stateOf (c .before .before .before .before .before .before .before .before .before .before .before .before .loop .n)) (c .before .before .before .before .before .before .before .before .a .given .0 .0) (c .before .before .before .if2 .justified) (λ w. judged-edge _ _ _ (w .1 .ensures) (w .2)) (λ w. judged-none _ _ _ (c .before .before .before .before .is-edge .ensures) (w .0 .left) (w .1)) (c .before .before .before .if2 .came))) _ (c .before .if3 .taken) (c .taking2 .ensures .0)
 
 is-end-requires : tie.Need-is-end-requires Inv-loop μ-loop
 is-end-requires c κs = search needs
@@ -81,10 +85,10 @@ taking-requires-3 : tie.Need-taking-requires-3 Inv-loop μ-loop
 taking-requires-3 c κs = search needs
 
 returns-3 : tie.Need-returns-3 Inv-loop μ-loop
-returns-3 c = reading-end _ _ _ (c .before .before .before .before .before .before .before .before .before .before .before .before .before .loop .inv .0) (c .before .before .before .before .before .before .before .before .before .before .before .before .loop-test .taken) (c .before .before .before .before .before .before .before .before .before .before .before .read-command .ensures) (c .before .before .before .before .before .before .before .before .before .a .given .1) ((c .before .before .before .before .legal .ensures) ∙ legal-judged _ _ _ _ _ (c .before .before .before .before .before .is-justified .ensures)) (c .before .before .before .if2 .left) (c .before .before .is-end .ensures) _ (c .before .if3 .taken) (c .taking3 .ensures .0) (c .taking3 .ensures .1) (c .taking3 .ensures .2)
+returns-3 c = reading-end _ _ _ (c .before .before .before .before .before .before .before .before .before .before .before .before .before .before .loop .inv .0) (c .before .before .before .before .before .before .before .before .before .before .before .before .before .loop-test .taken) (c .before .before .before .before .before .before .before .before .before .before .before .before .read-command .ensures) (c .before .before .before .before .before .before .before .before .before .before .a .given .1) ((c .before .before .before .before .legal .ensures) ∙ legal-judged _ _ _ _ _ (judged-by (stateOf (c .before .before .before .before .before .before .before .before .before .before .before .before .before .before .loop .n)) (c .before .before .before .before .before .before .before .before .before .before .a .given .0 .0) (c .before .before .before .before .before .if2 .justified) (λ w. judged-edge _ _ _ (w .1 .ensures) (w .2)) (λ w. judged-none _ _ _ (c .before .before .before .before .before .before .is-edge .ensures) (w .0 .left) (w .1)) (c .before .before .before .before .before .if2 .came))) (c .before .before .before .if3 .left) (c .before .before .is-end .ensures) _ (c .before .if4 .taken) (c .taking3 .ensures .0) (c .taking3 .ensures .1) (c .taking3 .ensures .2)
 
 step-requires : tie.Need-step-requires Inv-loop μ-loop
-step-requires c κs = ((c .before .before .before .before .before .before .before .before .before .before .before .before .loop .inv .0 .sizes), legal-room _ _ _ _ (sym ((c .before .before .before .legal .ensures) ∙ legal-judged _ _ _ _ _ (c .before .before .before .before .is-justified .ensures)) ∙ (c .before .before .if2 .left)))
+step-requires c κs = ((c .before .before .before .before .before .before .before .before .before .before .before .before .before .loop .inv .0 .sizes), legal-room _ _ _ _ (sym ((c .before .before .before .legal .ensures) ∙ legal-judged _ _ _ _ _ (judged-by (stateOf (c .before .before .before .before .before .before .before .before .before .before .before .before .before .loop .n)) (c .before .before .before .before .before .before .before .before .before .a .given .0 .0) (c .before .before .before .before .if2 .justified) (λ w. judged-edge _ _ _ (w .1 .ensures) (w .2)) (λ w. judged-none _ _ _ (c .before .before .before .before .before .is-edge .ensures) (w .0 .left) (w .1)) (c .before .before .before .before .if2 .came))) ∙ (c .before .before .if3 .left)))
 
 is-move-requires : tie.Need-is-move-requires Inv-loop μ-loop
 is-move-requires c κs = search needs
@@ -96,13 +100,13 @@ size-of-requires : tie.Need-size-of-requires Inv-loop μ-loop
 size-of-requires c κs = search needs
 
 add-at : tie.Need-add-at Inv-loop μ-loop
-add-at c = omega (arith, (c .before .before .before .before .before .before .before .before .before .before .before .before .before .before .before .before .before .before .before .pre .4), reading-room _ _ _ (c .before .before .before .before .before .before .before .before .before .before .before .before .before .before .before .before .loop .inv .0) (c .before .before .before .before .before .before .before .before .before .before .before .before .before .before .before .loop-test .taken) (c .before .before .before .before .before .before .before .before .before .before .before .before .before .before .read-command .ensures) (c .before .before .before .before .before .before .before .before .before .before .before .before .a .given .1) ((c .before .before .before .before .before .before .before .legal .ensures) ∙ legal-judged _ _ _ _ _ (c .before .before .before .before .before .before .before .before .is-justified .ensures)) (c .before .before .before .before .before .before .if2 .left) (c .before .before .before .before .before .is-end .ensures) (c .size-of .ensures) .0)
+add-at c = omega (arith, (c .before .before .before .before .before .before .before .before .before .before .before .before .before .before .before .before .before .before .before .before .pre .4), reading-room _ _ _ (c .before .before .before .before .before .before .before .before .before .before .before .before .before .before .before .before .before .loop .inv .0) (c .before .before .before .before .before .before .before .before .before .before .before .before .before .before .before .before .loop-test .taken) (c .before .before .before .before .before .before .before .before .before .before .before .before .before .before .before .read-command .ensures) (c .before .before .before .before .before .before .before .before .before .before .before .before .before .a .given .1) ((c .before .before .before .before .before .before .before .legal .ensures) ∙ legal-judged _ _ _ _ _ (judged-by (stateOf (c .before .before .before .before .before .before .before .before .before .before .before .before .before .before .before .before .before .loop .n)) (c .before .before .before .before .before .before .before .before .before .before .before .before .before .a .given .0 .0) (c .before .before .before .before .before .before .before .before .if2 .justified) (λ w. judged-edge _ _ _ (w .1 .ensures) (w .2)) (λ w. judged-none _ _ _ (c .before .before .before .before .before .before .before .before .before .is-edge .ensures) (w .0 .left) (w .1)) (c .before .before .before .before .before .before .before .before .if2 .came))) (c .before .before .before .before .before .before .if3 .left) (c .before .before .before .before .before .is-end .ensures) (c .size-of .ensures) .0)
 
 loop-less : tie.Need-loop-less Inv-loop μ-loop
-loop-less c = omega (arith, reading-room _ _ _ (c .before .before .before .before .before .before .before .before .before .before .before .before .before .before .before .before .loop .inv .0) (c .before .before .before .before .before .before .before .before .before .before .before .before .before .before .before .loop-test .taken) (c .before .before .before .before .before .before .before .before .before .before .before .before .before .before .read-command .ensures) (c .before .before .before .before .before .before .before .before .before .before .before .before .a .given .1) ((c .before .before .before .before .before .before .before .legal .ensures) ∙ legal-judged _ _ _ _ _ (c .before .before .before .before .before .before .before .before .is-justified .ensures)) (c .before .before .before .before .before .before .if2 .left) (c .before .before .before .before .before .is-end .ensures) (c .size-of .ensures) .0, reading-room _ _ _ (c .before .before .before .before .before .before .before .before .before .before .before .before .before .before .before .before .loop .inv .0) (c .before .before .before .before .before .before .before .before .before .before .before .before .before .before .before .loop-test .taken) (c .before .before .before .before .before .before .before .before .before .before .before .before .before .before .read-command .ensures) (c .before .before .before .before .before .before .before .before .before .before .before .before .a .given .1) ((c .before .before .before .before .before .before .before .legal .ensures) ∙ legal-judged _ _ _ _ _ (c .before .before .before .before .before .before .before .before .is-justified .ensures)) (c .before .before .before .before .before .before .if2 .left) (c .before .before .before .before .before .is-end .ensures) (c .size-of .ensures) .1)
+loop-less c = omega (arith, reading-room _ _ _ (c .before .before .before .before .before .before .before .before .before .before .before .before .before .before .before .before .before .loop .inv .0) (c .before .before .before .before .before .before .before .before .before .before .before .before .before .before .before .before .loop-test .taken) (c .before .before .before .before .before .before .before .before .before .before .before .before .before .before .before .read-command .ensures) (c .before .before .before .before .before .before .before .before .before .before .before .before .before .a .given .1) ((c .before .before .before .before .before .before .before .legal .ensures) ∙ legal-judged _ _ _ _ _ (judged-by (stateOf (c .before .before .before .before .before .before .before .before .before .before .before .before .before .before .before .before .before .loop .n)) (c .before .before .before .before .before .before .before .before .before .before .before .before .before .a .given .0 .0) (c .before .before .before .before .before .before .before .before .if2 .justified) (λ w. judged-edge _ _ _ (w .1 .ensures) (w .2)) (λ w. judged-none _ _ _ (c .before .before .before .before .before .before .before .before .before .is-edge .ensures) (w .0 .left) (w .1)) (c .before .before .before .before .before .before .before .before .if2 .came))) (c .before .before .before .before .before .before .if3 .left) (c .before .before .before .before .before .is-end .ensures) (c .size-of .ensures) .0, reading-room _ _ _ (c .before .before .before .before .before .before .before .before .before .before .before .before .before .before .before .before .before .loop .inv .0) (c .before .before .before .before .before .before .before .before .before .before .before .before .before .before .before .before .loop-test .taken) (c .before .before .before .before .before .before .before .before .before .before .before .before .before .before .before .read-command .ensures) (c .before .before .before .before .before .before .before .before .before .before .before .before .before .a .given .1) ((c .before .before .before .before .before .before .before .legal .ensures) ∙ legal-judged _ _ _ _ _ (judged-by (stateOf (c .before .before .before .before .before .before .before .before .before .before .before .before .before .before .before .before .before .loop .n)) (c .before .before .before .before .before .before .before .before .before .before .before .before .before .a .given .0 .0) (c .before .before .before .before .before .before .before .before .if2 .justified) (λ w. judged-edge _ _ _ (w .1 .ensures) (w .2)) (λ w. judged-none _ _ _ (c .before .before .before .before .before .before .before .before .before .is-edge .ensures) (w .0 .left) (w .1)) (c .before .before .before .before .before .before .before .before .if2 .came))) (c .before .before .before .before .before .before .if3 .left) (c .before .before .before .before .before .is-end .ensures) (c .size-of .ensures) .1)
 
 loop-again : tie.Need-loop-again Inv-loop μ-loop
-loop-again c = (reading-next _ _ _ (c .before .before .before .before .before .before .before .before .before .before .before .before .before .before .before .before .loop .inv .0) (c .before .before .before .before .before .before .before .before .before .before .before .before .before .before .before .loop-test .taken) (c .before .before .before .before .before .before .before .before .before .before .before .before .before .before .read-command .ensures) (c .before .before .before .before .before .before .before .before .before .before .before .before .a .given .1) ((c .before .before .before .before .before .before .before .legal .ensures) ∙ legal-judged _ _ _ _ _ (c .before .before .before .before .before .before .before .before .is-justified .ensures)) (c .before .before .before .before .before .before .if2 .left) (c .before .before .before .before .before .is-end .ensures) (c .before .before .before .before .if3 .left) (c .before .before .before .step .ensures) (c .before .before .is-move .ensures) refl (c .size-of .ensures), current-next _ _ _ _ (ready-by (c .before .before .before .before .before .before .before .before .before .if1 .stale) (c .before .before .before .before .before .before .before .before .before .if1 .known) (c .before .before .before .before .before .before .before .before .before .before .before .before .before .before .before .before .loop .n .shown) (c .before .before .before .before .before .before .before .before .before .before .before .before .a .given .0 .0) (λ w. ready-made _ _ _ _ _ (w .2 .ensures .0) (w .2 .ensures .1) (w .3) (w .4)) (λ w. ready-left _ _ _ _ _ (c .before .before .before .before .before .before .before .before .before .before .before .before .before .before .before .before .loop .inv .1) (c .before .before .before .before .before .before .before .before .before .before .is-implication .ensures) (w .0 .left) (w .1) (w .2)) (c .before .before .before .before .before .before .before .before .before .if1 .came) .current) (c .before .before .before .step .ensures) (c .before .is-credential .ensures) refl)
+loop-again c = (reading-next _ _ _ (c .before .before .before .before .before .before .before .before .before .before .before .before .before .before .before .before .before .loop .inv .0) (c .before .before .before .before .before .before .before .before .before .before .before .before .before .before .before .before .loop-test .taken) (c .before .before .before .before .before .before .before .before .before .before .before .before .before .before .before .read-command .ensures) (c .before .before .before .before .before .before .before .before .before .before .before .before .before .a .given .1) ((c .before .before .before .before .before .before .before .legal .ensures) ∙ legal-judged _ _ _ _ _ (judged-by (stateOf (c .before .before .before .before .before .before .before .before .before .before .before .before .before .before .before .before .before .loop .n)) (c .before .before .before .before .before .before .before .before .before .before .before .before .before .a .given .0 .0) (c .before .before .before .before .before .before .before .before .if2 .justified) (λ w. judged-edge _ _ _ (w .1 .ensures) (w .2)) (λ w. judged-none _ _ _ (c .before .before .before .before .before .before .before .before .before .is-edge .ensures) (w .0 .left) (w .1)) (c .before .before .before .before .before .before .before .before .if2 .came))) (c .before .before .before .before .before .before .if3 .left) (c .before .before .before .before .before .is-end .ensures) (c .before .before .before .before .if4 .left) (c .before .before .before .step .ensures) (c .before .before .is-move .ensures) refl (c .size-of .ensures), current-next _ _ _ _ (ready-by (c .before .before .before .before .before .before .before .before .before .before .if1 .stale) (c .before .before .before .before .before .before .before .before .before .before .if1 .known) (c .before .before .before .before .before .before .before .before .before .before .before .before .before .before .before .before .before .loop .n .shown) (c .before .before .before .before .before .before .before .before .before .before .before .before .before .a .given .0 .0) (λ w. ready-made _ _ _ _ _ (w .2 .ensures .0) (w .2 .ensures .1) (w .3) (w .4)) (λ w. ready-left _ _ _ _ _ (c .before .before .before .before .before .before .before .before .before .before .before .before .before .before .before .before .before .loop .inv .1) (c .before .before .before .before .before .before .before .before .before .before .before .is-implication .ensures) (w .0 .left) (w .1) (w .2)) (c .before .before .before .before .before .before .before .before .before .before .if1 .came) .current) (c .before .before .before .step .ensures) (c .before .is-credential .ensures) refl)
 
 taking-requires-4 : tie.Need-taking-requires-4 Inv-loop μ-loop
 taking-requires-4 c κs = search needs
@@ -126,6 +130,7 @@ take-commands-spec =
     returns
     is-implication-requires
     known-of-requires
+    is-edge-requires
     is-justified-requires
     legal-requires
     taking-requires-2
