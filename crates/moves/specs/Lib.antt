@@ -1,6 +1,7 @@
 pub mod Known
 pub mod Initial
 pub mod Frontiers
+pub mod FrontiersExact
 pub mod Wanted
 pub mod Rules
 pub mod Move
