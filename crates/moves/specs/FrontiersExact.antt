@@ -46,28 +46,37 @@ module _ {A : Type 0} where
 -- One step
 
 module _ (pred : Expression → Bool) (C : List Credential) where
+  -- the bodies that one step looks at
+  abbrev bodies : List Expression → List Expression
+  bodies xs = gather (bodiesOf C) (keep (λ x. not (pred x)) xs)
+
+  -- those that are new
+  abbrev fresh : List Expression → List Expression
+  fresh xs = keep (λ y. not (any (same y) xs)) (bodies xs)
+
   -- the expressions after one step more
   abbrev stepped : List Expression → List Expression
-  stepped xs = xs ++ keep (λ y. not (any (same y) xs)) (gather (bodiesOf C) (keep (λ x. not (pred x)) xs))
+  stepped xs = xs ++ fresh xs
 
   -- a step reaches the bodies of the credentials whose heads are there
   step-mem : (xs : List Expression) {c : Credential} {x : Expression} → pred x ≡ false → List·Memᴰ c C → x ≡ E.Role (c .head) → List·Memᴰ x xs → List·Memᴰ (c .body) (stepped xs)
   step-mem xs {c} {x} n k q m = go (any (same (c .body)) xs) refl
     where
-      body : List·Memᴰ (c .body) (gather (bodiesOf C) (keep (λ y. not (pred y)) xs))
-      body = gather-mem (bodiesOf C) (keep-mem (λ y. not (pred y)) m (ap not n)) (map-mem (λ (d : Credential). d .body) (keep-mem (λ (d : Credential). same (E.Role (d .head)) x) k (eq-same (E.Role (c .head)) x (sym q))))
+      body : List·Memᴰ (c .body) (bodies xs)
+      body = gather-mem (bodiesOf C) (keep-mem (λ y. not (pred y)) m (ap not n))
+          (map-mem (λ (d : Credential). d .body) (keep-mem (λ (d : Credential). same (E.Role (d .head)) x) k (eq-same (E.Role (c .head)) x (sym q))))
 
       go : (b : Bool) → any (same (c .body)) xs ≡ b → List·Memᴰ (c .body) (stepped xs)
-      go true h = let w = any-find (same (c .body)) xs h in Memᴰ·append-left (keep (λ y. not (any (same y) xs)) (gather (bodiesOf C) (keep (λ x. not (pred x)) xs))) (subst (λ (y : Expression). List·Memᴰ y xs) (sym (same-eq (c .body) (w .0) (w .2))) (w .1))
+      go true h = let w = any-find (same (c .body)) xs h in Memᴰ·append-left (fresh xs) (subst (λ (y : Expression). List·Memᴰ y xs) (sym (same-eq (c .body) (w .0) (w .2))) (w .1))
       go false h = Memᴰ·append-right xs (keep-mem (λ y. not (any (same y) xs)) body (ap not h))
 
-  -- and nothing else
+  -- and the frontier of what it reaches is part of the frontier of one that was there
   step-find : (xs : List Expression) {y f : Expression} → List·Memᴰ y (stepped xs) → Frontier pred C y f → (x : Expression) × List·Memᴰ x xs × Frontier pred C x f
   step-find xs {y} {f} m h = ⊎-elim (λ k. (y, k, h)) new (List·Memᴰ·append-cases xs m)
     where
-      new : List·Memᴰ y (keep (λ y. not (any (same y) xs)) (gather (bodiesOf C) (keep (λ x. not (pred x)) xs))) → (x : Expression) × List·Memᴰ x xs × Frontier pred C x f
+      new : List·Memᴰ y (fresh xs) → (x : Expression) × List·Memᴰ x xs × Frontier pred C x f
       new k =
-          let g = gather-find (bodiesOf C) (keep (λ x. not (pred x)) xs) (keep-find (λ y. not (any (same y) xs)) (gather (bodiesOf C) (keep (λ x. not (pred x)) xs)) k .0) in
+          let g = gather-find (bodiesOf C) (keep (λ x. not (pred x)) xs) (keep-find (λ y. not (any (same y) xs)) (bodies xs) k .0) in
           let p = keep-find (λ x. not (pred x)) xs (g .1) in
           let b = map-find (λ (c : Credential). c .body) (keep (λ (c : Credential). same (E.Role (c .head)) (g .0)) C) (g .2) in
           let c = keep-find (λ (c : Credential). same (E.Role (c .head)) (g .0)) C (b .1) in (
@@ -82,7 +91,7 @@ module _ (pred : Expression → Bool) (C : List Credential) where
   spread-more : (k : ℕ) (xs : List Expression) {x : Expression} → List·Memᴰ x xs → List·Memᴰ x (spread k pred C xs)
   unfolding spread
   spread-more zero xs m = m
-  spread-more (suc k) xs m = spread-more k (stepped xs) (Memᴰ·append-left (keep (λ y. not (any (same y) xs)) (gather (bodiesOf C) (keep (λ x. not (pred x)) xs))) m)
+  spread-more (suc k) xs m = spread-more k (stepped xs) (Memᴰ·append-left (fresh xs) m)
 
   -- the frontier of an expression that is reached is part of the frontier of one of xs
   spread-find : (k : ℕ) (xs : List Expression) {y f : Expression} → List·Memᴰ y (spread k pred C xs) → Frontier pred C y f → (x : Expression) × List·Memᴰ x xs × Frontier pred C x f
@@ -90,12 +99,14 @@ module _ (pred : Expression → Bool) (C : List Credential) where
   spread-find zero xs {y} m h = (y, m, h)
   spread-find (suc k) xs m h = let r = spread-find k (stepped xs) m h in step-find xs (r .1) (r .2)
 
-  -- a chain of credentials has c for the last time, or not at all, and goes on without it
+  -- a member is found without c, or from the body of c without c: after c is used for the last time
   without : {c : Credential} {L D : List Credential} {e f : Expression} → ((d : Credential) → List·Memᴰ d L → (d ≡ c) ⊎ List·Memᴰ d D) → Frontier pred L e f → Frontier pred D e f ⊎ Frontier pred D (c .body) f
   without s (here h) = inl (here h)
-  without {c} {L} {D} {e} {f} s (through {c = d} n m q k) = ⊎-elim (λ t. ⊎-elim (λ z. inr (subst (λ (y : Credential). Frontier pred D (y .body) f) z t)) (λ z. inl (through {c = d} n z q t)) (s d m)) (λ t. inr t) (without s k)
+  without {c} {L} {D} {e} {f} s (through {c = d} n m q k) =
+      ⊎-elim (λ t. ⊎-elim (λ z. inr (subst (λ (y : Credential). Frontier pred D (y .body) f) z t)) (λ z. inl (through {c = d} n z q t)) (s d m)) (λ t. inr t)
+      (without s k)
 
-  -- so a chain of credentials needs each once, and as many steps suffice
+  -- so a member is found with each credential used once at most, and as many steps as there are credentials suffice
   spread-mem : (k : ℕ) (D : List Credential) → length D ≡ k → ((d : Credential) → List·Memᴰ d D → List·Memᴰ d C) → (xs : List Expression) {x f : Expression} → List·Memᴰ x xs → Frontier pred D x f → List·Memᴰ f (spread k pred C xs)
   unfolding spread
   spread-mem zero D l s xs m (here h) = m

@@ -290,6 +290,14 @@ pub record LeastOf (d : Wanted → Bool) (vs : List Wanted) (w : Wanted) : Type 
 pub record Alike (d : Wanted → Bool) (vs : List Wanted) : Type 0 where
   pub alike : (v w : Wanted) → List·Memᴰ v vs → List·Memᴰ w vs → equals v w ≡ true → d v ≡ d w
 
+-- as do all edges of one kind into one node: those that are equal are the same edge
+pub alike-one : (d : Wanted → Bool) (vs : List Wanted)
+    → ((v w : Wanted) → List·Memᴰ v vs → List·Memᴰ w vs → (v .kind ≡ w .kind) × (v .verifier ≡ w .verifier) × (v .direct ≡ w .direct)) → Alike d vs
+alike-one d vs h = record { alike = λ v w m n e. ap d (one v w (h v w m n) (equals-parts v w e)) }
+  where
+    one : (v w : Wanted) → (v .kind ≡ w .kind) × (v .verifier ≡ w .verifier) × (v .direct ≡ w .direct) → (v .expression ≡ w .expression) × (v .subject ≡ w .subject) → v ≡ w
+    one v w k e = λ i. record { kind = k .0 i; verifier = k .1 i; expression = e .0 i; subject = e .1 i; direct = k .2 i }
+
 module _ {d : Wanted → Bool} where
   first-mem : {L : List Wanted} {w : Wanted} → First d L w → List·Memᴰ w L
   first-mem (first-here h) = List·Memᴰ·head refl
