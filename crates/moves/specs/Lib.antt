@@ -1,5 +1,6 @@
 pub mod Known
 pub mod Initial
+pub mod InitialLaws
 pub mod Frontiers
 pub mod FrontiersExact
 pub mod Wanted

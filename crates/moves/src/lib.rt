@@ -1,1 +1,4 @@
-// The moves of a reply: their definitions, in specs/.
+// The moves of a reply. What they are stands in specs/.
+mod initial;
+
+pub use initial::initial_state;
