@@ -1,4 +1,5 @@
 pub mod Known
+pub mod KnownLaws
 pub mod Initial
 pub mod Frontiers
 pub mod Wanted
