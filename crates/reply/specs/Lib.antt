@@ -1,2 +1,3 @@
 pub mod Reply
 pub mod Cases
+pub mod TwoReplies
