@@ -1,3 +1,4 @@
 pub mod Reply
 pub mod Cases
+pub mod Stays
 pub mod TwoReplies

@@ -1,18 +1,15 @@
 -- Two replies: while no differing role's Ack target is satisfied, the tables of two runs give the same reply (document 01, "Two runs").
 -- Assumes nothing.
 use Prim.Native.Nat.{ℕ, zero, suc, _+_}
-use native.Mathlib.Omega.{arith}
 use mathlib.Core.Path.{_≡_, refl, sym, _∙_, ap, subst}
 use mathlib.Core.Logic.{_⊎_, ⊎-elim}
-use mathlib.Core.Bool.{Bool, true, false, cond, _&&_}
+use mathlib.Core.Bool.{Bool, true, false, cond}
 use mathlib.Core.List.{List, [], _∷_, _++_}
-use borrow.Author.Tests.{eqb-true, lt-ltb}
-use lib.Dec.{eqb, ltb, leb}
+use lib.Dec.{eqb, leb}
 use lib.ListN.{length}
 use Rattle.expression.specs.declared.Expression.the-variants as E
-use Rattle.rt0.specs.Lists.{false-true, and-parts, and-both}
+use Rattle.rt0.specs.Lists.{false-true}
 use Rattle.class.specs.declared.Name.{Name}
-use Rattle.record.specs.declared.Pair.{Pair}
 use Rattle.tables.specs.Tables.{Tables}
 use Rattle.tables.specs.Public.{Public, publicOf, hiddenOf}
 use Rattle.propagation.specs.Flags.{not-of}
@@ -20,62 +17,13 @@ use Rattle.graph.specs.Propagated.{stateOf as propagated}
 use Rattle.message.specs.declared.Command.{Command}
 use Rattle.message.specs.declared.Command.the-variants.{Open}
 use Rattle.negotiation.specs.State.{State, within}
-use Rattle.update.specs.Step.{stepped, hasRoom}
-use Rattle.update.specs.RoomLaws.{step-within}
 use Rattle.take.specs.Message.{bytesOf}
-use Rattle.moves.specs.Known.{KnownRole, knownOf}
+use Rattle.moves.specs.Known.{knownOf}
 use Rattle.moves.specs.KnownLaws.{isOpen, known-alike}
-use Rattle.moves.specs.KnownStays.{open-step}
 use Rattle.moves.specs.Initial.{initialState}
-use Rattle.moves.specs.Rules.{End}
 use Rattle.moves.specs.Move.{Move, nextMove}
-use Rattle.reply.specs.Reply.{endIn, carried, hasRoomFor, Replied, stopped, withMove, replyFrom, opening, replyIn, repliedState, replyBytes, repliedIn}
-
--- Staying
-
--- the test is a plain variable here, so that a list of commands is what the proofs go by
-module _ (T U : Tables) where
-  -- a satisfied Ack target of a differing role, in a state within the sizes
-  abbrev Standing : State → Type 0
-  Standing S = (within S ≡ true) × (isOpen T U S ≡ true)
-
-  carried-stays : (s : ℕ) (S : State) (cs : List Command) → hasRoomFor s S cs ≡ true → Standing S → Standing (carried s S cs)
-  carried-stays s S [] r h = h
-  carried-stays s S (c ∷ cs) r h =
-      let p = and-parts (hasRoom S c) (hasRoomFor s (stepped S s c) cs) r in
-      carried-stays s (stepped S s c) cs (p .1) (step-within S (h .0) s c (p .0), open-step T U S s c (h .0) (h .1))
-
-  move-stays : (next : State → List Command → Replied) (S : State) (cs : List Command) (m : Move)
-      → ((R : State) (ds : List Command) → Standing R → isOpen T U (next R ds .state) ≡ true)
-      → Standing S → isOpen T U (withMove next S cs m .state) ≡ true
-  move-stays next S cs [] ih h = h .1
-  move-stays next S cs (c ∷ ms) ih h = go (hasRoomFor (S .header .side) S (c ∷ ms)) refl (leb (length (bytesOf (cs ++ (c ∷ ms))) + 1) 4096)
-    where
-      go : (b : Bool) → hasRoomFor (S .header .side) S (c ∷ ms) ≡ b → (d : Bool)
-          → isOpen T U (cond b (cond d (next (carried (S .header .side) S (c ∷ ms)) (cs ++ (c ∷ ms))) (stopped cs S false)) (stopped cs S true) .state) ≡ true
-      go true e true = ih (carried (S .header .side) S (c ∷ ms)) (cs ++ (c ∷ ms)) (carried-stays (S .header .side) S (c ∷ ms) e h)
-      go true e false = h .1
-      go false e d = h .1
-
-  -- once satisfied, it is so at the end of the reply, by whichever tables
-  pub open-stays : (f : ℕ) (W : Tables) (S : State) (cs : List Command) → within S ≡ true → isOpen T U S ≡ true → isOpen T U (replyFrom f W S cs .state) ≡ true
-  unfolding replyFrom
-  open-stays zero W S cs w h = h
-  open-stays (suc f) W S cs w h =
-      let r : Replied = withMove (λ R ds. replyFrom f W R ds) S cs (nextMove (endIn W S)) in
-      go (eqb (propagated (S .nodes) (S .edges) 0) 1) r (move-stays (λ R ds. replyFrom f W R ds) S cs (nextMove (endIn W S)) (λ R ds k. open-stays f W R ds (k .0) (k .1)) (w, h))
-    where
-      go : (b : Bool) (r : Replied) → isOpen T U (r .state) ≡ true → isOpen T U (cond b (stopped cs S false) r .state) ≡ true
-      go true r k = h
-      go false r k = k
-
--- The same reply
-
-carried-within : (s : ℕ) (S : State) (cs : List Command) → hasRoomFor s S cs ≡ true → within S ≡ true → within (carried s S cs) ≡ true
-carried-within s S [] r w = w
-carried-within s S (c ∷ cs) r w =
-    let p = and-parts (hasRoom S c) (hasRoomFor s (stepped S s c) cs) r in
-    carried-within s (stepped S s c) cs (p .1) (step-within S w s c (p .0))
+use Rattle.reply.specs.Reply.{endIn, carried, hasRoomFor, Replied, stopped, withMove, replyFrom, opening, replyIn}
+use Rattle.reply.specs.Stays.{within-stays, Standing, standing-stays, carried-stays, from-stays, opening-stays}
 
 module _ (T U : Tables) (e : publicOf T ≡ publicOf U) where
   same-sensitive : T .sensitive ≡ U .sensitive
@@ -113,13 +61,13 @@ module _ (T U : Tables) (e : publicOf T ≡ publicOf U) where
       go : (b : Bool) → hasRoomFor (S .header .side) S (c ∷ ms) ≡ b → (d : Bool)
           → Shut (chosen b d (next R (cs ++ (c ∷ ms)))) (chosen b d (then R (cs ++ (c ∷ ms))))
           → chosen b d (next R (cs ++ (c ∷ ms))) ≡ chosen b d (then R (cs ++ (c ∷ ms)))
-      go true q true k = ih R (cs ++ (c ∷ ms)) (carried-within (S .header .side) S (c ∷ ms) q w) k
+      go true q true k = ih R (cs ++ (c ∷ ms)) (carried-stays within-stays (S .header .side) S (c ∷ ms) q w) k
       go true q false k = refl
       go false q d k = refl
 
   -- the two are shut at the end, so they were at the start
   shut-before : (f : ℕ) (S : State) (cs : List Command) → within S ≡ true → Shut (replyFrom f T S cs) (replyFrom f U S cs) → isOpen T U S ≡ false
-  shut-before f S cs w h = not-of (isOpen T U S) (λ o. ⊎-elim (λ k. false-true (sym k ∙ open-stays T U f T S cs w o)) (λ k. false-true (sym k ∙ open-stays T U f U S cs w o)) h)
+  shut-before f S cs w h = not-of (isOpen T U S) (λ o. let p : Standing T U S = record { sizes = w; opened = o } in ⊎-elim (λ k. false-true (sym k ∙ from-stays (standing-stays T U) f T S cs p .opened)) (λ k. false-true (sym k ∙ from-stays (standing-stays T U) f U S cs p .opened)) h)
 
   from-alike : (f : ℕ) (S : State) (cs : List Command) → within S ≡ true → Shut (replyFrom f T S cs) (replyFrom f U S cs) → replyFrom f T S cs ≡ replyFrom f U S cs
   unfolding replyFrom
@@ -144,17 +92,6 @@ module _ (T U : Tables) (e : publicOf T ≡ publicOf U) where
   opening-alike : (S : State) → opening T S ≡ opening U S
   opening-alike S = ap (λ (ns : List Name). cond (eqb (length (S .nodes)) 0) (Open (record { role = S .header .wanted; state = initialState ns true (E.Role (S .header .wanted)) }) ∷ []) []) same-names
 
-  opening-room : (S : State) → hasRoomFor (S .header .side) S (opening T S) ≡ true
-  unfolding hasRoom
-  opening-room S = go (eqb (length (S .nodes)) 0) refl
-    where
-      first : Command
-      first = Open (record { role = S .header .wanted; state = initialState (T .names) true (E.Role (S .header .wanted)) })
-
-      go : (b : Bool) → eqb (length (S .nodes)) 0 ≡ b → hasRoomFor (S .header .side) S (cond b (first ∷ []) []) ≡ true
-      go true q = let z : length (S .nodes) ≡ 0 = eqb-true (length (S .nodes)) 0 q in and-both (ltb (length (S .nodes)) 128) true (lt-ltb (length (S .nodes)) 128 (omega (arith, z))) refl
-      go false q = refl
-
   -- Where, after one of the two replies, no differing role's Ack target is satisfied, they are the same
   pub replies-alike : (S : State) → within S ≡ true → (isOpen T U (replyIn T S .state) ≡ false) ⊎ (isOpen T U (replyIn U S .state) ≡ false) → replyIn T S ≡ replyIn U S
   unfolding replyIn
@@ -162,4 +99,4 @@ module _ (T U : Tables) (e : publicOf T ≡ publicOf U) where
       let s : ℕ = S .header .side in
       let by : List Command → Replied = λ cs. replyFrom 4096 U (carried s S cs) cs in
       let q : by (opening T S) ≡ by (opening U S) = ap by (opening-alike S) in
-      from-alike 4096 (carried s S (opening T S)) (opening T S) (carried-within s S (opening T S) (opening-room S) w) (subst (λ (r : Replied). Shut (replyIn T S) r) (sym q) h) ∙ q
+      from-alike 4096 (carried s S (opening T S)) (opening T S) (opening-stays within-stays T S w) (subst (λ (r : Replied). Shut (replyIn T S) r) (sym q) h) ∙ q
