@@ -2,3 +2,4 @@ pub mod Reply
 pub mod Cases
 pub mod Stays
 pub mod TwoReplies
+pub mod ReplyPublic
