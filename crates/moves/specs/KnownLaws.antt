@@ -1,18 +1,22 @@
 -- Where the tables of two runs differ, and until when what is known of the sensitive roles is the same in both (document 01, "Two runs").
 -- Assumes nothing.
+use Prim.Native.Nat.{ℕ}
 use mathlib.Core.Path.{_≡_, refl, sym, _∙_, ap}
 use mathlib.Core.Logic.{_⊎_, ⊎-elim, _↔_}
 use mathlib.Core.Bool.{Bool, true, false, not, cond, _&&_, _||_}
 use mathlib.Core.List.{List, [], _∷_, List·Memᴰ}
 use Rattle.expression.specs.declared.Role.{Role}
+use Rattle.expression.specs.declared.Credential.{Credential}
 use Rattle.expression.specs.Same.{sameRole, sameRole-eq, eq-sameRole}
 use Rattle.rt0.specs.Lists.{any, any-find, any-here, and-parts, and-both, false-true}
 use Rattle.record.specs.declared.Pair.{Pair}
 use Rattle.tables.specs.Tables.{Tables}
-use Rattle.tables.specs.Public.{Hidden, hiddenOf}
-use Rattle.propagation.specs.Flags.{not-of}
+use Rattle.tables.specs.Lookup.{holds, isSensitive, otherOf}
+use Rattle.tables.specs.Public.{Hidden, heldOf, hiddenOf}
+use Rattle.tables.specs.PublicLaws.{held-mem, held-find}
+use Rattle.propagation.specs.Flags.{bool-iff, not-of}
 use Rattle.negotiation.specs.State.{State}
-use Rattle.moves.specs.Known.{Holding, absent, free, guarded, holdingOf, isAcknowledged, waiting, seen, knownOf}
+use Rattle.moves.specs.Known.{Holding, absent, free, guarded, policyOf, holdingOf, isAcknowledged, waiting, seen, knownOf}
 
 -- held alike, and under the same access policy
 unfoldable pub sameHolding : Holding → Holding → Bool
@@ -50,6 +54,24 @@ eq-same-holding x y e = ap (sameHolding x) (sym e) ∙ same-own x
 -- A sensitive role differs where one of the tables holds it and the other does not, or where their access policies of it differ
 abbrev pub Differs : Tables → Tables → Role → Type 0
 Differs T U r = holdingOf (hiddenOf T) r ≡ holdingOf (hiddenOf U) r → ⊥
+
+-- "A role is held if 0x13 has its direct credential"
+held-exact : (own : ℕ) (P : List Pair) (C : List Credential) (r : Role) → isSensitive P r ≡ true → any (sameRole r) (heldOf own P C) ≡ holds own C r
+held-exact own P C r s = bool-iff (any (sameRole r) (heldOf own P C)) (holds own C r) there (λ h. any-here (sameRole r) (held-mem own P C r s h) (eq-sameRole r r refl))
+  where
+    there : any (sameRole r) (heldOf own P C) ≡ true → holds own C r ≡ true
+    there h = let f = any-find (sameRole r) (heldOf own P C) h in ap (holds own C) (sameRole-eq r (f .0) (f .2)) ∙ held-find own P C (f .0) (f .1) .1
+
+-- a sensitive role that both hold or neither, under the same access policy or none, does not differ
+pub holding-alike : (T U : Tables) (r : Role) → T .sensitive ≡ U .sensitive → isSensitive (T .sensitive) r ≡ true
+    → holds (T .own) (T .subjectStored) r ≡ holds (U .own) (U .subjectStored) r → otherOf (T .access) r ≡ otherOf (U .access) r
+    → holdingOf (hiddenOf T) r ≡ holdingOf (hiddenOf U) r
+unfolding holdingOf hiddenOf
+holding-alike T U r e s h a =
+    let t = held-exact (T .own) (T .sensitive) (T .subjectStored) r s in
+    let u = held-exact (U .own) (U .sensitive) (U .subjectStored) r (sym (ap (λ (P : List Pair). isSensitive P r) e) ∙ s) in
+    let b : any (sameRole r) (heldOf (T .own) (T .sensitive) (T .subjectStored)) ≡ any (sameRole r) (heldOf (U .own) (U .sensitive) (U .subjectStored)) = t ∙ h ∙ sym u in
+    λ i. cond (b i) (policyOf (a i)) absent
 
 abbrev pub differing : Hidden → Hidden → Pair → Bool
 differing H K p = not (sameHolding (holdingOf H (p .role)) (holdingOf K (p .role)))
@@ -124,8 +146,7 @@ unfolding knownOf
 known-among H K S [] h = refl
 known-among H K S (p ∷ ps) h =
     let q = or-none (differing H K p && isAcknowledged S (p .other)) (openAmong H K S ps) h in
-    let e : cond (isAcknowledged S (p .other)) (seen (holdingOf H (p .role))) waiting ≡ cond (isAcknowledged S (p .other)) (seen (holdingOf K (p .role))) waiting
-          = known-one (isAcknowledged S (p .other)) (holdingOf H (p .role)) (holdingOf K (p .role)) (q .0) in
+    let e = known-one (isAcknowledged S (p .other)) (holdingOf H (p .role)) (holdingOf K (p .role)) (q .0) in
     let es : knownOf H ps S ≡ knownOf K ps S = known-among H K S ps (q .1) in
     λ i. record { role = p .role; ack = p .other; known = e i } ∷ es i
 

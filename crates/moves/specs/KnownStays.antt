@@ -16,7 +16,7 @@ use Rattle.expression.specs.declared.Expression.the-variants as E
 use Rattle.expression.specs.Same.{same}
 use Rattle.rt0.specs.Lists.{and-parts, and-both}
 use Rattle.propagation.specs.Flags.{at}
-use Rattle.class.specs.Find.{Missed, first-at}
+use Rattle.class.specs.Find.{first-at}
 use Rattle.graph.specs.declared.Node.{Node}
 use Rattle.graph.specs.declared.Edge.{Edge}
 use Rattle.graph.specs.Graph.{nodeIn, blank, inState}

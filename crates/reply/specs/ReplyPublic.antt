@@ -1,7 +1,6 @@
 -- While no differing role's Ack target is satisfied, a call for a reply goes by the public part of the tables; once one is, it stays so through
 -- calls (document 01, "Two runs"). Assumes nothing.
 use Prim.Native.Nat.{ℕ}
-use native.Mathlib.Omega.{arith}
 use mathlib.Core.Path.{_≡_, refl, sym, _∙_, ap, subst}
 use mathlib.Core.Logic.{_⊎_, inl, inr, ⊎-elim}
 use mathlib.Core.Bool.{Bool, true, false, not, cond}
@@ -27,7 +26,7 @@ use Rattle.take.specs.TakeKept.{Took, took}
 use Rattle.moves.specs.Known.{isAcknowledged}
 use Rattle.moves.specs.KnownLaws.{isOpen}
 use Rattle.reply.specs.Reply.{Replied, replyIn, repliedState, replyBytes, Outcome, refused, given, repliedIn, behindStanding, replySize, replyOf}
-use Rattle.reply.specs.Stays.{within-stays, Standing, standing-stays, reply-stays, commands-stay}
+use Rattle.reply.specs.Stays.{Stays, within-kept, OpenIn, open-kept, reply-stays, commands-stay}
 use Rattle.reply.specs.TwoReplies.{replies-alike}
 
 -- A message leaves the graph, and the header's side and other end
@@ -40,8 +39,8 @@ after-within : (S : State) (m full : Bool) → within (afterMessage S m full) �
 unfolding within afterMessage withHeader
 after-within S m full = refl
 
-after-standing : (T U : Tables) (S : State) (m full : Bool) → Standing T U S → Standing T U (afterMessage S m full)
-after-standing T U S m full h = record { sizes = after-within S m full ∙ h .sizes; opened = after-open T U S m full ∙ h .opened }
+after-both : (T U : Tables) (S : State) (m full : Bool) → OpenIn T U S → OpenIn T U (afterMessage S m full)
+after-both T U S m full h = record { sizes = after-within S m full ∙ h .sizes; opened = after-open T U S m full ∙ h .opened }
 
 pub open-replied : (T U : Tables) (r : Replied) → isOpen T U (repliedState r) ≡ isOpen T U (r .state)
 unfolding repliedState
@@ -98,8 +97,8 @@ module _ (T U : Tables) (e : publicOf T ≡ publicOf U) where
       go false true k = refl
       go false false k = ap (λ (r : Replied). given (replyBytes r) (repliedState r)) (replies-alike T U e S w (⊎-elim (λ q. inl (shut T q)) (λ q. inr (shut U q)) k))
 
-  -- Two calls for a reply, with tables that "differ only in which sensitive roles are held and in access policies" and all else the same: where one
-  -- of them leaves no differing role's Ack target satisfied, they answer alike and leave the same bytes
+  -- Two calls for a reply whose tables differ only in which sensitive roles are held and in access policies: where one of them leaves no differing
+  -- role's Ack target satisfied, they have one outcome
   pub reply-public : (s t : List ℕ) → readTables s ≡ accepted T → readTables t ≡ accepted U → (negotiation reply scratch : List ℕ)
       → Quiet T U (replyOf s negotiation reply scratch) ⊎ Quiet T U (replyOf t negotiation reply scratch)
       → replyOf s negotiation reply scratch ≡ replyOf t negotiation reply scratch
@@ -120,30 +119,40 @@ module _ (T U : Tables) (e : publicOf T ≡ publicOf U) where
 
 -- Calls one after another
 
-module _ (T U : Tables) (W : Tables) (S A : State) (h : Standing T U S) where
-  -- a reply given
-  pub given-stays : (m : List ℕ) → repliedIn W S ≡ given m A → Standing T U A
+-- what every command with room keeps, and the end of a message
+module _ {P : State → Type 0} (k : Stays P) (after : (S : State) (m full : Bool) → P S → P (afterMessage S m full)) (W : Tables) (S A : State) (h : P S) where
+  given-kept : (m : List ℕ) → repliedIn W S ≡ given m A → P A
   unfolding repliedIn repliedState
-  given-stays m e = go (not (eqb (S .header .end) 0)) (not (K.sends (S .header .side) (S .header .messages))) e
+  given-kept m e = go (not (eqb (S .header .end) 0)) (not (K.sends (S .header .side) (S .header .messages))) e
     where
       left : Outcome → State
-      left (refused k) = S
-      left (given m A) = A
+      left (refused n) = S
+      left (given m B) = B
 
       isGiven : Outcome → Bool
-      isGiven (refused k) = false
-      isGiven (given m A) = true
+      isGiven (refused n) = false
+      isGiven (given m B) = true
 
       r : Replied
       r = replyIn W S
 
-      go : (b d : Bool) → cond b (refused 22) (cond d (refused 21) (given (replyBytes r) (repliedState r))) ≡ given m A → Standing T U A
-      go true d k = absurd (false-true (ap isGiven k))
-      go false true k = absurd (false-true (ap isGiven k))
-      go false false k = subst (Standing T U) (ap left k) (after-standing T U (r .state) (moved (r .commands)) (r .full) (reply-stays (standing-stays T U) W S h))
+      go : (b d : Bool) → cond b (refused 22) (cond d (refused 21) (given (replyBytes r) (repliedState r))) ≡ given m A → P A
+      go true d q = absurd (false-true (ap isGiven q))
+      go false true q = absurd (false-true (ap isGiven q))
+      go false false q = subst P (ap left q) (after (r .state) (moved (r .commands)) (r .full) (reply-stays k W S h))
 
-  -- a message taken
-  pub taken-stays : (m : List ℕ) → K.takenIn m W S ≡ K.accepted A → Standing T U A
-  taken-stays m e =
-      let k : Took m W S A = took m W S A e in
-      subst (Standing T U) (sym (k .after)) (after-standing T U (k .led) (k .moved) false (commands-stay (standing-stays T U) (length m) (W .names) (K.senderTo S) m 0 S false (k .led) (k .moved) h (k .commands)))
+  taken-kept : (m : List ℕ) → K.takenIn m W S ≡ K.accepted A → P A
+  taken-kept m e =
+      let t : Took m W S A = took m W S A e in
+      subst P (sym (t .after)) (after (t .led) (t .moved) false (commands-stay k (length m) (W .names) (K.senderTo S) m 0 S false (t .led) (t .moved) h (t .commands)))
+
+-- a reply given keeps the sizes, as a message taken does
+pub given-within : (W : Tables) (S A : State) → within S ≡ true → (m : List ℕ) → repliedIn W S ≡ given m A → within A ≡ true
+given-within W S A w = given-kept within-kept (λ B m full v. after-within B m full ∙ v) W S A w
+
+-- both keep an Ack target of a differing role satisfied
+pub given-open : (T U W : Tables) (S A : State) → OpenIn T U S → (m : List ℕ) → repliedIn W S ≡ given m A → OpenIn T U A
+given-open T U W S A h = given-kept (open-kept T U) (after-both T U) W S A h
+
+pub taken-open : (T U W : Tables) (S A : State) → OpenIn T U S → (m : List ℕ) → K.takenIn m W S ≡ K.accepted A → OpenIn T U A
+taken-open T U W S A h = taken-kept (open-kept T U) (after-both T U) W S A h

@@ -2,8 +2,8 @@
 -- "The graph after a call is built by the commands of all messages accepted and replies given so far"). Assumes nothing.
 use Prim.Native.Nat.{ℕ, zero, suc, _+_}
 use native.Mathlib.Omega.{arith}
-use mathlib.Core.Path.{_≡_, refl, sym, _∙_, ap, subst}
-use mathlib.Core.Bool.{Bool, true, false, cond, _&&_, _||_}
+use mathlib.Core.Path.{_≡_, refl, ap, subst}
+use mathlib.Core.Bool.{Bool, true, false, cond, _||_}
 use mathlib.Core.List.{List, [], _∷_, _++_}
 use borrow.Author.Tests.{eqb-true, lt-ltb}
 use lib.Dec.{eqb, ltb, leb}
@@ -34,16 +34,16 @@ use Rattle.reply.specs.Reply.{endIn, carried, hasRoomFor, Replied, stopp
 pub record Stays (P : State → Type 0) : Type 0 where
   pub step : (S : State) (s : ℕ) (c : Command) → hasRoom S c ≡ true → P S → P (stepped S s c)
 
-pub within-stays : Stays (λ S. within S ≡ true)
-within-stays = record { step = λ S s c r w. step-within S w s c r }
+pub within-kept : Stays (λ S. within S ≡ true)
+within-kept = record { step = λ S s c r w. step-within S w s c r }
 
 -- within the sizes, an Ack target of a role in which T and U differ is satisfied
-pub record Standing (T U : Tables) (S : State) : Type 0 where
+pub record OpenIn (T U : Tables) (S : State) : Type 0 where
   pub sizes : within S ≡ true
   pub opened : isOpen T U S ≡ true
 
-pub standing-stays : (T U : Tables) → Stays (Standing T U)
-standing-stays T U = record { step = λ S s c r h. record { sizes = step-within S (h .sizes) s c r; opened = open-step T U S s c (h .sizes) (h .opened) } }
+pub open-kept : (T U : Tables) → Stays (OpenIn T U)
+open-kept T U = record { step = λ S s c r h. record { sizes = step-within S (h .sizes) s c r; opened = open-step T U S s c (h .sizes) (h .opened) } }
 
 -- the mediator's open has room
 opening-room : (W : Tables) (S : State) → hasRoomFor (S .header .side) S (opening W S) ≡ true
@@ -132,3 +132,7 @@ module _ {P : State → Type 0} (k : Stays P) where
   commands-stay zero ns s m at S moved A v h e = absurd (refused-taken e)
   commands-stay (suc f) ns s m at S moved A v h e =
       command-stays (λ size R w. commandsFrom f ns s m (at + size) R w) ns s S moved (commandAt m at) A v (λ size R w p q. commands-stay f ns s m (at + size) R w A v p q) h e
+
+-- By whichever tables a reply goes on, an Ack target of a differing role that is satisfied is so at its end
+pub open-stays : (T U : Tables) (f : ℕ) (W : Tables) (S : State) (cs : List Command) → within S ≡ true → isOpen T U S ≡ true → isOpen T U (replyFrom f W S cs .state) ≡ true
+open-stays T U f W S cs w h = from-stays (open-kept T U) f W S cs (record { sizes = w; opened = h }) .opened

@@ -23,7 +23,7 @@ use Rattle.moves.specs.KnownLaws.{isOpen, known-alike}
 use Rattle.moves.specs.Initial.{initialState}
 use Rattle.moves.specs.Move.{Move, nextMove}
 use Rattle.reply.specs.Reply.{endIn, carried, hasRoomFor, Replied, stopped, withMove, replyFrom, opening, replyIn}
-use Rattle.reply.specs.Stays.{within-stays, Standing, standing-stays, carried-stays, from-stays, opening-stays}
+use Rattle.reply.specs.Stays.{within-kept, carried-stays, opening-stays, open-stays}
 
 module _ (T U : Tables) (e : publicOf T ≡ publicOf U) where
   same-sensitive : T .sensitive ≡ U .sensitive
@@ -61,13 +61,13 @@ module _ (T U : Tables) (e : publicOf T ≡ publicOf U) where
       go : (b : Bool) → hasRoomFor (S .header .side) S (c ∷ ms) ≡ b → (d : Bool)
           → Shut (chosen b d (next R (cs ++ (c ∷ ms)))) (chosen b d (then R (cs ++ (c ∷ ms))))
           → chosen b d (next R (cs ++ (c ∷ ms))) ≡ chosen b d (then R (cs ++ (c ∷ ms)))
-      go true q true k = ih R (cs ++ (c ∷ ms)) (carried-stays within-stays (S .header .side) S (c ∷ ms) q w) k
+      go true q true k = ih R (cs ++ (c ∷ ms)) (carried-stays within-kept (S .header .side) S (c ∷ ms) q w) k
       go true q false k = refl
       go false q d k = refl
 
   -- the two are shut at the end, so they were at the start
   shut-before : (f : ℕ) (S : State) (cs : List Command) → within S ≡ true → Shut (replyFrom f T S cs) (replyFrom f U S cs) → isOpen T U S ≡ false
-  shut-before f S cs w h = not-of (isOpen T U S) (λ o. let p : Standing T U S = record { sizes = w; opened = o } in ⊎-elim (λ k. false-true (sym k ∙ from-stays (standing-stays T U) f T S cs p .opened)) (λ k. false-true (sym k ∙ from-stays (standing-stays T U) f U S cs p .opened)) h)
+  shut-before f S cs w h = not-of (isOpen T U S) (λ o. ⊎-elim (λ k. false-true (sym k ∙ open-stays T U f T S cs w o)) (λ k. false-true (sym k ∙ open-stays T U f U S cs w o)) h)
 
   from-alike : (f : ℕ) (S : State) (cs : List Command) → within S ≡ true → Shut (replyFrom f T S cs) (replyFrom f U S cs) → replyFrom f T S cs ≡ replyFrom f U S cs
   unfolding replyFrom
@@ -99,4 +99,4 @@ module _ (T U : Tables) (e : publicOf T ≡ publicOf U) where
       let s : ℕ = S .header .side in
       let by : List Command → Replied = λ cs. replyFrom 4096 U (carried s S cs) cs in
       let q : by (opening T S) ≡ by (opening U S) = ap by (opening-alike S) in
-      from-alike 4096 (carried s S (opening T S)) (opening T S) (opening-stays within-stays T S w) (subst (λ (r : Replied). Shut (replyIn T S) r) (sym q) h) ∙ q
+      from-alike 4096 (carried s S (opening T S)) (opening T S) (opening-stays within-kept T S w) (subst (λ (r : Replied). Shut (replyIn T S) r) (sym q) h) ∙ q
