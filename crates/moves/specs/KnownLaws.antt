@@ -51,7 +51,7 @@ same-own (guarded a) = eq-sameRole a a refl
 pub eq-same-holding : (x y : Holding) → x ≡ y → sameHolding x y ≡ true
 eq-same-holding x y e = ap (sameHolding x) (sym e) ∙ same-own x
 
--- A sensitive role differs where one of the tables holds it and the other does not, or where their access policies of it differ
+-- A sensitive role differs where one of the tables holds it and the other does not, or where both hold it under different access policies
 abbrev pub Differs : Tables → Tables → Role → Type 0
 Differs T U r = holdingOf (hiddenOf T) r ≡ holdingOf (hiddenOf U) r → ⊥
 

@@ -56,7 +56,7 @@ abbrev isFound : R.Standing → Bool
 isFound (R.refusal k) = false
 isFound (R.standing T A) = true
 
-restored-within : (s negotiation : List ℕ) (T W : Tables) (S : State) → readTables s ≡ accepted T → R.restoreOf s negotiation ≡ R.standing W S → within S ≡ true
+pub restored-within : (s negotiation : List ℕ) (T W : Tables) (S : State) → readTables s ≡ accepted T → R.restoreOf s negotiation ≡ R.standing W S → within S ≡ true
 unfolding R.restoreOf readSound
 restored-within s negotiation T W S h a =
     let b : Bool = eqb (length negotiation) 5120 in
