@@ -1,4 +1,6 @@
 pub mod Known
+pub mod KnownLaws
+pub mod KnownStays
 pub mod Initial
 pub mod InitialLaws
 pub mod Frontiers

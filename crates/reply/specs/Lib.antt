@@ -1,2 +1,5 @@
 pub mod Reply
 pub mod Cases
+pub mod Stays
+pub mod TwoReplies
+pub mod ReplyPublic
