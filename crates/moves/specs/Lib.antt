@@ -9,3 +9,4 @@ pub mod Wanted
 pub mod WantedLaws
 pub mod Rules
 pub mod Move
+pub mod Stops

@@ -8,7 +8,7 @@ ghost use Rattle.moves.specs.Initial.{isSubjectAll, traced, initialState
 
 const SUBJECT_ALL: u8 = 3;
 
-fn is_subject_all<'a>(n: usize, names: &'a [u16; 64], classes: &'a [u8; 64], r: u16) -> bool
+pub fn is_subject_all<'a>(n: usize, names: &'a [u16; 64], classes: &'a [u8; 64], r: u16) -> bool
     requires { ⌜ (n ≤ 64) × Ascending n (now names) ⌝ }
     ensures { λ b. ⌜ b ≡ isSubjectAll (namesOf (namesFrom n (now (names .entry)) (now (classes .entry)))) r ⌝ }
 {
