@@ -14,7 +14,7 @@ use Rattle.negotiation.specs.Layout.{stateBytes, readState}
 use Rattle.negotiation.specs.Codec.{state-back, read-within}
 use Rattle.damage.specs.Damage.{sound, ifSound, readSound}
 use Rattle.damage.specs.Restored as R
-use Rattle.update.specs.After.{headerAfter, afterMessage}
+use Rattle.update.specs.After.{afterMessage}
 use Rattle.take.specs.Take as K
 use Rattle.take.specs.TakeKept.{Took, took}
 use Rattle.reply.specs.Reply as A

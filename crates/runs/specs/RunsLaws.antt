@@ -1,12 +1,12 @@
 -- The negotiation along a run is that of the messages accepted and replies given so far. Assumes nothing.
 use Prim.Native.Nat.{ℕ}
-use mathlib.Core.Path.{_≡_, refl, sym, _∙_, ap}
+use mathlib.Core.Path.{_≡_, refl, _∙_, ap}
 use mathlib.Core.List.{List, [], _∷_}
 use Rattle.negotiation.specs.State.{State}
 use Rattle.negotiation.specs.Layout.{stateBytes}
 use Rattle.take.specs.Take as K
 use Rattle.reply.specs.Reply as A
-use Rattle.runs.specs.Runs.{Call, take, reply, report, Left, takeLeft, replyLeft, reportLeft, leftBy, run, lastOf, takenTo, givenTo, afterCall, after}
+use Rattle.runs.specs.Runs.{Call, take, reply, report, takeLeft, replyLeft, reportLeft, leftBy, run, lastOf, takenTo, givenTo, afterCall, after}
 
 taken-bytes : (S : State) (o : K.Outcome) → K.negotiationLeft (stateBytes S) o ≡ stateBytes (takenTo S o)
 taken-bytes S (K.refused k) = refl

@@ -1,6 +1,6 @@
 -- Two runs (document 01, "Two runs": "one claim about the whole list, not one for each call"). Assumes nothing.
 use Prim.Native.Nat.{ℕ}
-use mathlib.Core.Path.{_≡_, refl, sym, _∙_, ap, subst}
+use mathlib.Core.Path.{_≡_, refl, sym, _∙_, ap}
 use mathlib.Core.Logic.{_⊎_, inl, inr, ⊎-elim}
 use mathlib.Core.Bool.{Bool, true, false}
 use mathlib.Core.List.{List, [], _∷_, List·Memᴰ}
@@ -11,22 +11,19 @@ use Rattle.propagation.specs.Flags.{not-of}
 use Rattle.record.specs.declared.Pair.{Pair}
 use Rattle.tables.specs.Tables.{Tables}
 use Rattle.tables.specs.Check.{accepted, readTables}
-use Rattle.tables.specs.Lookup.{holds, isSensitive, otherOf}
+use Rattle.tables.specs.Lookup.{holds, isSensitive}
 use Rattle.tables.specs.Public.{DifferOnly, publicOf}
 use Rattle.tables.specs.SoundLaws.{accepted-public}
 use Rattle.negotiation.specs.State.{State, within}
 use Rattle.negotiation.specs.Layout.{stateBytes}
-use Rattle.take.specs.Take as K
 use Rattle.take.specs.TakePublic.{take-public}
 use Rattle.moves.specs.KnownLaws.{Differs, holding-alike, isOpen, Opened, open-exact}
 use Rattle.reply.specs.Reply as A
-use Rattle.reply.specs.Stays.{OpenIn}
 use Rattle.reply.specs.ReplyPublic.{Quiet, reply-public}
-use Rattle.report.specs.Report as B
 use Rattle.report.specs.ReportPublic.{report-public}
 use Rattle.begin.specs.Begin.{begun, beginOf}
 use Rattle.begin.specs.Kept.{begin-alike}
-use Rattle.runs.specs.Runs.{Call, take, reply, report, Left, takeLeft, replyLeft, reportLeft, leftBy, run, takenTo, givenTo, afterCall, after, Differing, held, policy, NoneSatisfied}
+use Rattle.runs.specs.Runs.{Call, take, reply, report, takeLeft, replyLeft, reportLeft, leftBy, run, takenTo, givenTo, afterCall, after, Differing, held, policy, NoneSatisfied}
 use Rattle.runs.specs.RunsLaws.{left-after}
 use Rattle.runs.specs.RunsKept.{call-keeps, calls-keep, keeps-sizes, keeps-open, begun-within}
 
@@ -96,8 +93,9 @@ module _ (T U : Tables) (e : publicOf T ≡ publicOf U) (s t : List ℕ) (h : re
 -- Two runs whose tables differ only in which sensitive roles are held and in access policies
 
 module _ (s t : List ℕ) (T U : Tables) (h : readTables s ≡ accepted T) (k : readTables t ≡ accepted U) (d : DifferOnly T U) (negotiation : List ℕ) (other entity name : ℕ) where
-  -- "Begin, given the same arguments and, but for the tables, the same buffers in both runs, answers alike and leaves the same bytes"; "where it
-  -- accepts, the list starts there": as long as in one of them no differing role's Ack target is satisfied, all calls answer alike and leave the same bytes
+  -- "Begin, given the same arguments and, but for the tables, the same buffers in both runs, answers alike and leaves the same bytes; where it
+  -- accepts, the list starts there." While in one of the runs no differing role's Ack target is satisfied, every call of the list answers alike
+  -- and leaves the same bytes in both.
   pub two-runs : (beginOf s negotiation other entity name ≡ beginOf t negotiation other entity name)
       × ((S : State) → beginOf s negotiation other entity name ≡ begun S → (cs : List Call) → NoneSatisfied T U (after s S cs) ⊎ NoneSatisfied T U (after t S cs)
       → (run s (stateBytes S) cs ≡ run t (stateBytes S) cs) × (after s S cs ≡ after t S cs))
