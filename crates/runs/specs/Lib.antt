@@ -1,0 +1,4 @@
+pub mod Runs
+pub mod RunsLaws
+pub mod RunsKept
+pub mod TwoRuns

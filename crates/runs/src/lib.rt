@@ -1,0 +1,1 @@
+// The calls of a run: their definition, in specs/.
