@@ -5,8 +5,14 @@
 //! take. The large questions of `shapes` are asked besides, each whole and without each one of its credentials, some
 //! tables are checked with each fault at each place, and the messages of the marked cases and those at the sizes are
 //! taken. What has a count of 0 is left out.
+//!
+//! With the feature `reply`, for an engine that has `lavutremo_reply`, three counts more, HONEST ADVERSARIAL TWO_RUNS: how
+//! many whole negotiations to play between honest ends and against ends that do as they like, and how many lists of calls
+//! to compare on two tables each.
 
 mod negotiations;
+#[cfg(feature = "reply")]
+mod replies;
 mod takes;
 
 use negotiations::ask_negotiations;
@@ -242,6 +248,14 @@ fn main() {
     }
     if takes_count > 0 {
         results.push(ask_takes(seed, takes_count));
+    }
+    #[cfg(feature = "reply")]
+    for (at, default, ask) in [
+        (7, 2_000, replies::ask_honest as fn(u64, u64) -> (u64, u64)),
+        (8, 1_000, replies::ask_adversarial),
+        (9, 500, replies::ask_two_runs),
+    ] {
+        results.push(ask(seed, argument(at, default)));
     }
     let passed: u64 = results.iter().map(|(passed, _)| passed).sum();
     let failed: u64 = results.iter().map(|(_, failed)| failed).sum();
