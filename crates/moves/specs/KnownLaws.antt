@@ -16,37 +16,40 @@ use Rattle.tables.specs.Public.{Hidden, heldOf, hiddenOf}
 use Rattle.tables.specs.PublicLaws.{held-mem, held-find}
 use Rattle.propagation.specs.Flags.{bool-iff, not-of}
 use Rattle.negotiation.specs.State.{State}
-use Rattle.moves.specs.Known.{Holding, absent, free, guarded, policyOf, holdingOf, isAcknowledged, waiting, seen, knownOf}
+use Rattle.moves.specs.declared.Holding.{Holding}
+use Rattle.moves.specs.declared.Holding.the-variants.{Absent, Free, Guarded}
+use Rattle.moves.specs.declared.Known.the-variants.{Waiting, Seen}
+use Rattle.moves.specs.Known.{policyOf, holdingOf, isAcknowledged, knownOf}
 
 -- held alike, and under the same access policy
 unfoldable pub sameHolding : Holding → Holding → Bool
-sameHolding absent absent = true
-sameHolding absent free = false
-sameHolding absent (guarded b) = false
-sameHolding free absent = false
-sameHolding free free = true
-sameHolding free (guarded b) = false
-sameHolding (guarded a) absent = false
-sameHolding (guarded a) free = false
-sameHolding (guarded a) (guarded b) = sameRole a b
+sameHolding Absent Absent = true
+sameHolding Absent Free = false
+sameHolding Absent (Guarded b) = false
+sameHolding Free Absent = false
+sameHolding Free Free = true
+sameHolding Free (Guarded b) = false
+sameHolding (Guarded a) Absent = false
+sameHolding (Guarded a) Free = false
+sameHolding (Guarded a) (Guarded b) = sameRole a b
 
 pub same-holding-eq : (x y : Holding) → sameHolding x y ≡ true → x ≡ y
 unfolding sameHolding
-same-holding-eq absent absent h = refl
-same-holding-eq absent free h = absurd (false-true h)
-same-holding-eq absent (guarded b) h = absurd (false-true h)
-same-holding-eq free absent h = absurd (false-true h)
-same-holding-eq free free h = refl
-same-holding-eq free (guarded b) h = absurd (false-true h)
-same-holding-eq (guarded a) absent h = absurd (false-true h)
-same-holding-eq (guarded a) free h = absurd (false-true h)
-same-holding-eq (guarded a) (guarded b) h = ap guarded (sameRole-eq a b h)
+same-holding-eq Absent Absent h = refl
+same-holding-eq Absent Free h = absurd (false-true h)
+same-holding-eq Absent (Guarded b) h = absurd (false-true h)
+same-holding-eq Free Absent h = absurd (false-true h)
+same-holding-eq Free Free h = refl
+same-holding-eq Free (Guarded b) h = absurd (false-true h)
+same-holding-eq (Guarded a) Absent h = absurd (false-true h)
+same-holding-eq (Guarded a) Free h = absurd (false-true h)
+same-holding-eq (Guarded a) (Guarded b) h = ap Guarded (sameRole-eq a b h)
 
 same-own : (x : Holding) → sameHolding x x ≡ true
 unfolding sameHolding
-same-own absent = refl
-same-own free = refl
-same-own (guarded a) = eq-sameRole a a refl
+same-own Absent = refl
+same-own Free = refl
+same-own (Guarded a) = eq-sameRole a a refl
 
 pub eq-same-holding : (x y : Holding) → x ≡ y → sameHolding x y ≡ true
 eq-same-holding x y e = ap (sameHolding x) (sym e) ∙ same-own x
@@ -71,7 +74,7 @@ holding-alike T U r e s h a =
     let t = held-exact (T .own) (T .sensitive) (T .subjectStored) r s in
     let u = held-exact (U .own) (U .sensitive) (U .subjectStored) r (sym (ap (λ (P : List Pair). isSensitive P r) e) ∙ s) in
     let b : any (sameRole r) (heldOf (T .own) (T .sensitive) (T .subjectStored)) ≡ any (sameRole r) (heldOf (U .own) (U .sensitive) (U .subjectStored)) = t ∙ h ∙ sym u in
-    λ i. cond (b i) (policyOf (a i)) absent
+    λ i. cond (b i) (policyOf (a i)) Absent
 
 abbrev pub differing : Hidden → Hidden → Pair → Bool
 differing H K p = not (sameHolding (holdingOf H (p .role)) (holdingOf K (p .role)))
@@ -129,12 +132,12 @@ open-exact T U S = (there, back)
 -- What is known
 
 -- of one role: the same while it does not differ or its Ack target is unsatisfied
-known-one : (b : Bool) (x y : Holding) → (not (sameHolding x y) && b) ≡ false → cond b (seen x) waiting ≡ cond b (seen y) waiting
+known-one : (b : Bool) (x y : Holding) → (not (sameHolding x y) && b) ≡ false → cond b (Seen x) Waiting ≡ cond b (Seen y) Waiting
 known-one false x y h = refl
 known-one true x y h = go (sameHolding x y) refl h
   where
-    go : (c : Bool) → sameHolding x y ≡ c → (not c && true) ≡ false → seen x ≡ seen y
-    go true e h = ap seen (same-holding-eq x y e)
+    go : (c : Bool) → sameHolding x y ≡ c → (not c && true) ≡ false → Seen x ≡ Seen y
+    go true e h = ap Seen (same-holding-eq x y e)
     go false e h = absurd (false-true (sym h))
 
 or-none : (a b : Bool) → (a || b) ≡ false → (a ≡ false) × (b ≡ false)

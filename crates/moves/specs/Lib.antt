@@ -9,4 +9,6 @@ pub mod Wanted
 pub mod WantedLaws
 pub mod Rules
 pub mod Move
+pub mod Carried
+pub mod Alike
 pub mod Stops

@@ -1,9 +1,8 @@
 -- A move: an edge with the credentials that it needs, or a mark (document 01, "The reply"). Assumes nothing.
 use Prim.Native.Nat.{ℕ, suc}
-use mathlib.Core.Bool.{Bool, true, false, not, cond, _||_}
+use mathlib.Core.Bool.{not, cond}
 use mathlib.Core.List.{List, [], _∷_, _++_, map}
-use lib.Dec.{eqb, ltb}
-use lib.ListN.{length}
+use lib.Dec.{eqb}
 use Rattle.expression.specs.declared.Credential.{Credential}
 use Rattle.expression.specs.declared.Expression.{Expression}
 use Rattle.expression.specs.declared.Expression.the-variants as E
@@ -11,14 +10,16 @@ use Rattle.needed.specs.Needed.{needed}
 use Rattle.tables.specs.Lookup.{directOf}
 use Rattle.tables.specs.Public.{keep}
 use Rattle.graph.specs.declared.Node.{Node}
-use Rattle.graph.specs.Find.{findNode, hasEdge}
 use Rattle.message.specs.declared.Command.{Command}
 use Rattle.message.specs.declared.Command.the-variants.{Show, Bring, Join, Mark}
 use Rattle.negotiation.specs.State.{State}
 use Rattle.damage.specs.Records.{isShown}
 use Rattle.update.specs.Step.{processedBy}
 use Rattle.moves.specs.Initial.{initialState}
-use Rattle.moves.specs.Wanted.{Wanted, Plan}
+use Rattle.moves.specs.declared.Wanted.{Wanted}
+use Rattle.moves.specs.declared.Choice.{Choice}
+use Rattle.moves.specs.declared.Choice.the-variants as K
+use Rattle.moves.specs.Wanted.{Plan, chosenIn, childNumber, childStands, isDone}
 use Rattle.moves.specs.Rules.{End, verifierRules, opponentRules}
 
 -- the commands of a move; none where no move is left
@@ -28,17 +29,6 @@ Move = List Command
 module _ (o : End) where
   abbrev pub side : ℕ
   side = o .state .header .side
-
-  -- the number of the wanted child, where it stands
-  abbrev pub childNumber : Wanted → ℕ
-  childNumber w = findNode (o .state .nodes) (w .expression) (w .verifier) (w .subject)
-
-  abbrev pub childStands : Wanted → Bool
-  childStands w = ltb (childNumber w) (length (o .state .nodes))
-
-  -- "An edge already there, or one to the node itself, counts as done"
-  unfoldable pub isDone : ℕ → Wanted → Bool
-  isDone i w = cond (childStands w) (eqb i (childNumber w) || hasEdge (o .state .edges) (record { kind = w .kind; parent = i; child = childNumber w })) false
 
   -- "less .. those already shown"
   abbrev pub unshown : List Credential → List Credential
@@ -66,21 +56,23 @@ module _ (o : End) where
   -- "An old child is joined by 0x04"
   abbrev pub edgeCommand : ℕ → Wanted → Command
   edgeCommand i w =
-      cond (childStands w)
-      (Join (record { kind = w .kind; parent = i; child = childNumber w }))
+      cond (childStands (o .state .nodes) w)
+      (Join (record { kind = w .kind; parent = i; child = childNumber (o .state .nodes) w }))
       (Bring (record { kind = w .kind; parent = i; expression = w .expression; subject = w .subject; state = initialState (o .tables .names) (eqb (w .verifier) side) (w .expression) }))
 
-  -- "The first move not yet done is made": the first edge of the plan that is not done, else the mark, if it is allowed
-  abbrev pub firstMove : ℕ → Node → Bool → List Wanted → Move
-  firstMove i n marks [] = cond marks (Mark i ∷ []) []
-  firstMove i n marks (w ∷ ws) = cond (isDone i w) (firstMove i n marks ws) (map Show (credentialsFor n w) ++ (edgeCommand i w ∷ []))
+  -- an edge goes out behind the credentials it needs
+  abbrev pub moveFor : ℕ → Node → Choice → Move
+  moveFor i n (K.Edge w) = map Show (credentialsFor n w) ++ (edgeCommand i w ∷ [])
+  moveFor i n K.Mark = Mark i ∷ []
+  moveFor i n K.Nothing = []
 
-  abbrev pub byPlan : ℕ → Node → Plan → Move
-  byPlan i n p = firstMove i n (p .marks) (p .wanted)
+  -- the rules of our side for node i
+  abbrev pub planAt : ℕ → Node → Plan
+  planAt i n = cond (eqb (n .verifier) side) (verifierRules o i n (n .expression)) (opponentRules o i n (n .expression))
 
   -- at node i, if our side has not processed it
-  unfoldable pub moveAt : ℕ → Node → Move
-  moveAt i n = cond (processedBy side n) [] (byPlan i n (cond (eqb (n .verifier) side) (verifierRules o i n (n .expression)) (opponentRules o i n (n .expression))))
+  unfoldable pub choiceAt : ℕ → Node → Choice
+  choiceAt i n = cond (processedBy side n) K.Nothing (chosenIn (isDone (o .state .nodes) (o .state .edges) i) (planAt i n))
 
   abbrev pub orNext : Move → Move → Move
   orNext [] next = next
@@ -89,7 +81,7 @@ module _ (o : End) where
   -- "Nodes are tried by rising number"
   unfoldable pub movesFrom : ℕ → List Node → Move
   movesFrom i [] = []
-  movesFrom i (n ∷ ns) = orNext (moveAt i n) (movesFrom (suc i) ns)
+  movesFrom i (n ∷ ns) = orNext (moveFor i n (choiceAt i n)) (movesFrom (suc i) ns)
 
   unfoldable pub nextMove : Move
   nextMove = movesFrom 0 (o .state .nodes)

@@ -13,7 +13,8 @@ use Rattle.rt0.specs.From.{roleOf, rolesOf}
 use Rattle.rt0.specs.Decide.{from? as fromOf}
 use Rattle.class.specs.Names.{classOf}
 use Rattle.record.specs.declared.Pair.{Pair}
-use Rattle.tables.specs.Public.{Public, keep}
+use Rattle.tables.specs.Tables.{Tables}
+use Rattle.tables.specs.Public.{Public, publicOf, hiddenOf, keep}
 use Rattle.propagation.specs.Flags.{at}
 use Rattle.graph.specs.declared.Node.{Node}
 use Rattle.graph.specs.declared.Edge.{Edge}
@@ -21,15 +22,23 @@ use Rattle.graph.specs.Graph.{nodeIn}
 use Rattle.graph.specs.Propagated.{satisfiedB, completeB}
 use Rattle.negotiation.specs.State.{State}
 use Rattle.update.specs.Step.{otherSide}
-use Rattle.moves.specs.Known.{Holding, absent, free, guarded, Known, waiting, seen, KnownRole, isAcknowledged}
+use Rattle.moves.specs.declared.Wanted.{Wanted}
+use Rattle.moves.specs.declared.Holding.the-variants.{Absent, Free, Guarded}
+use Rattle.moves.specs.declared.Known.{Known}
+use Rattle.moves.specs.declared.Known.the-variants.{Waiting, Seen}
+use Rattle.moves.specs.Known.{KnownRole, isAcknowledged, knownOf}
 use Rattle.moves.specs.Frontiers.{gather, bodiesOf, frontierOf, oppo, simp, sens}
-use Rattle.moves.specs.Wanted.{Wanted, ordered, Plan}
+use Rattle.moves.specs.Wanted.{ordered, Plan}
 
 -- our end while it replies: what may show of its tables, what is known of its sensitive roles, and the negotiation
 pub record End : Type 0 where
   pub tables : Public
   pub known : List KnownRole
   pub state : State
+
+-- our end in a state
+unfoldable pub endIn : Tables → State → End
+endIn T S = record { tables = publicOf T; known = knownOf (hiddenOf T) (T .sensitive) S; state = S }
 
 abbrev pub isEntity : Expression → Bool
 isEntity (E.Entity a) = true
@@ -137,10 +146,10 @@ module _ (o : End) where
   -- a sensitive role: (1) the Ack target; (2) and (3) by what is known; (4) the frontiers of its other credentials' bodies; (5) "if T is satisfied, or
   -- all of the above steps are done". "Rule (2) waits for the Ack target, rule (3) for the Ack target and, if set, the AC target"
   unfoldable pub sensitiveRules : ℕ → Node → Wanted → List Wanted → Known → Plan
-  sensitiveRules i n ack rest waiting = record { wanted = ack ∷ rest; marks = isSatisfied i }
-  sensitiveRules i n ack rest (seen absent) = record { wanted = ack ∷ rest; marks = true }
-  sensitiveRules i n ack rest (seen free) = record { wanted = ack ∷ ownEdge n ∷ rest; marks = true }
-  sensitiveRules i n ack rest (seen (guarded r)) =
+  sensitiveRules i n ack rest Waiting = record { wanted = ack ∷ rest; marks = isSatisfied i }
+  sensitiveRules i n ack rest (Seen Absent) = record { wanted = ack ∷ rest; marks = true }
+  sensitiveRules i n ack rest (Seen Free) = record { wanted = ack ∷ ownEdge n ∷ rest; marks = true }
+  sensitiveRules i n ack rest (Seen (Guarded r)) =
       record {
         wanted = ack ∷ controlEdge n r ∷ (cond (isAcknowledged (o .state) r) (ownEdge n ∷ []) [] ++ rest);
         marks = isAcknowledged (o .state) r || isSatisfied i;

@@ -1,19 +1,17 @@
--- The edges that a rule may add to a node, in order (document 01, "The reply"). Assumes nothing.
+-- The edges that a rule may add to a node, in order, and which of them are done (document 01, "The reply"). Assumes nothing.
 use Prim.Native.Nat.{ℕ}
-use mathlib.Core.Bool.{Bool, cond, _&&_, _||_}
+use mathlib.Core.Bool.{Bool, false, cond, _&&_, _||_}
 use mathlib.Core.List.{List, [], _∷_}
 use lib.Dec.{eqb, ltb}
-use Rattle.expression.specs.declared.Expression.{Expression}
+use lib.ListN.{length}
 use Rattle.expression.specs.Same.{same}
 use Rattle.expression.specs.Order.{beforeOf}
-
--- an edge by its kind and its child's verifier, expression and subject; direct: it goes out with the direct credential alone
-pub record Wanted : Type 0 where
-  pub kind : ℕ
-  pub verifier : ℕ
-  pub expression : Expression
-  pub subject : ℕ
-  pub direct : Bool
+use Rattle.graph.specs.declared.Node.{Node}
+use Rattle.graph.specs.declared.Edge.{Edge}
+use Rattle.graph.specs.Find.{findNode, hasEdge}
+use Rattle.moves.specs.declared.Wanted.{Wanted}
+use Rattle.moves.specs.declared.Choice.{Choice}
+use Rattle.moves.specs.declared.Choice.the-variants as C
 
 -- "edges by the child's expression bytes, then subject"
 abbrev pub precedes : Wanted → Wanted → Bool
@@ -35,3 +33,26 @@ ordered (v ∷ vs) = inserted v (ordered vs)
 pub record Plan : Type 0 where
   pub wanted : List Wanted
   pub marks : Bool
+
+-- "The first move not yet done is made": the first edge of a plan that is not done, else the mark, if it is allowed
+unfoldable pub firstNot : (Wanted → Bool) → Choice → List Wanted → Choice
+firstNot done rest [] = rest
+firstNot done rest (w ∷ ws) = cond (done w) (firstNot done rest ws) (C.Edge w)
+
+abbrev pub markIf : Bool → Choice
+markIf marks = cond marks C.Mark C.Nothing
+
+unfoldable pub chosenIn : (Wanted → Bool) → Plan → Choice
+chosenIn done p = firstNot done (markIf (p .marks)) (p .wanted)
+
+module _ (ns : List Node) where
+  -- the number of the wanted child, where it stands
+  abbrev pub childNumber : Wanted → ℕ
+  childNumber w = findNode ns (w .expression) (w .verifier) (w .subject)
+
+  abbrev pub childStands : Wanted → Bool
+  childStands w = ltb (childNumber w) (length ns)
+
+  -- "An edge already there, or one to the node itself, counts as done"
+  unfoldable pub isDone : List Edge → ℕ → Wanted → Bool
+  isDone es i w = cond (childStands w) (eqb i (childNumber w) || hasEdge es (record { kind = w .kind; parent = i; child = childNumber w })) false

@@ -20,7 +20,8 @@ use Rattle.tables.specs.Chain.{before-chain}
 use Rattle.tables.specs.Sorted.{Strict, Rising, rising-none, rising-cons, rising-parts}
 use Rattle.tables.specs.Public.{keep}
 use Rattle.tables.specs.PublicLaws.{before-self}
-use Rattle.moves.specs.Wanted.{Wanted, precedes, equals, inserted, ordered}
+use Rattle.moves.specs.declared.Wanted.{Wanted}
+use Rattle.moves.specs.Wanted.{precedes, equals, inserted, ordered}
 
 -- Bool
 

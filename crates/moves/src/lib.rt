@@ -2,6 +2,8 @@
 mod initial;
 mod predicates;
 
+use expression::Expression;
+use expression::Role;
 pub use initial::initial_state;
 pub use predicates::stops;
 
@@ -10,4 +12,33 @@ pub enum Predicate {
     Oppo,
     Simp,
     Sens,
+}
+
+// An edge by its kind and its child's verifier, expression and subject; direct: it goes out with the direct credential alone.
+pub struct Wanted {
+    pub kind: u8,
+    pub verifier: u8,
+    pub expression: Expression,
+    pub subject: u16,
+    pub direct: bool,
+}
+
+// What the rules for a node come to: an edge, a mark of the node, or nothing to do for now.
+pub enum Choice {
+    Edge(Wanted),
+    Mark,
+    Nothing,
+}
+
+// "A role is held if 0x13 has its direct credential; its access policy is its 0x15 record or none."
+pub enum Holding {
+    Absent,
+    Free,
+    Guarded(Role),
+}
+
+// Nothing while the Ack target is unsatisfied, then what we hold.
+pub enum Known {
+    Waiting,
+    Seen(Holding),
 }

@@ -40,12 +40,13 @@ use Rattle.update.specs.After.{endOf, isStalled, idleOf, headerAfter, afterMess
 use Rattle.moves.specs.Known.{holdingOf, isAcknowledged, knownOf}
 use Rattle.moves.specs.Initial.{traced, initialState}
 use Rattle.moves.specs.Frontiers.{spread, frontierOf}
-use Rattle.moves.specs.Wanted.{ordered}
-use Rattle.moves.specs.Rules.{verifierRules, sensitiveRules, opponentRules}
-use Rattle.moves.specs.Move.{isDone, credentialsFor, moveAt, movesFrom, nextMove}
+use Rattle.moves.specs.Wanted.{ordered, firstNot, chosenIn, isDone}
+use Rattle.moves.specs.Carried.{carried}
+use Rattle.moves.specs.Rules.{endIn, verifierRules, sensitiveRules, opponentRules}
+use Rattle.moves.specs.Move.{credentialsFor, choiceAt, movesFrom, nextMove}
 use Rattle.message.specs.declared.Command.{Command}
 use Rattle.take.specs.Message.{moved}
-use Rattle.reply.specs.Reply.{Replied, carried, endIn, replyFrom, replyIn, repliedState, replyBytes}
+use Rattle.reply.specs.Reply.{Replied, replyFrom, replyIn, repliedState, replyBytes}
 
 abbrev named : ℕ → ℕ → Name
 named n c = record { name = n; class = c }
@@ -101,5 +102,5 @@ played held = play 4 studio (freshState 0 3 2 (roleOf 3 1)) (house held) (freshS
 
 pub marked-negotiations : (played ((roleOf 4 3 ← E.Entity 2) ∷ []) ≡ turn 56 0 2 ∷ turn 25 0 3 ∷ turn 50 0 4 ∷ turn 48 1 5 ∷ [])
     × (played [] ≡ turn 56 0 2 ∷ turn 25 0 3 ∷ turn 50 0 4 ∷ turn 3 2 4 ∷ [])
-unfolding roleFrom reaches pass close closure from? sameRole same beforeOf beforeCredential wellFormedCredential readCredential namesOf classOf namedType linkedType together typeOf credentialNumber holds isSensitive otherOf isDirect lessDirect heldOf publicOf hiddenOf cnt rounds least expressionFrom nodesOf edgesOf findNode hasEdge hasRole form legalState satisfiedB failedB completeB propagated solves solved monitors monitored implied impliedIf monitoredIf justified commandBytes freshState withNode withEdge withShown withMark withHeader within wantedSound headerSound requester entityOf emptySound countSound endSound nodeSound nodeFits primarySound credentialSound isShown credentialFits kept needed firstOf restOf processedBy markedState primaryOf verifierOf childOf stepped hasRoom refuse first isFresh isAbsent formedAs showNumber openNumber markNumber endNumber joinWrong justifiedBy justifiedFor joinNumber bringWrong bringNumber justifiedIn legalBy legalNumber endOf isStalled idleOf headerAfter afterMessage holdingOf isAcknowledged knownOf traced initialState spread frontierOf ordered verifierRules sensitiveRules opponentRules isDone credentialsFor moveAt movesFrom nextMove endIn replyFrom replyIn repliedState replyBytes
+unfolding roleFrom reaches pass close closure from? sameRole same beforeOf beforeCredential wellFormedCredential readCredential namesOf classOf namedType linkedType together typeOf credentialNumber holds isSensitive otherOf isDirect lessDirect heldOf publicOf hiddenOf cnt rounds least expressionFrom nodesOf edgesOf findNode hasEdge hasRole form legalState satisfiedB failedB completeB propagated solves solved monitors monitored implied impliedIf monitoredIf justified commandBytes freshState withNode withEdge withShown withMark withHeader within wantedSound headerSound requester entityOf emptySound countSound endSound nodeSound nodeFits primarySound credentialSound isShown credentialFits kept needed firstOf restOf processedBy markedState primaryOf verifierOf childOf stepped hasRoom refuse first isFresh isAbsent formedAs showNumber openNumber markNumber endNumber joinWrong justifiedBy justifiedFor joinNumber bringWrong bringNumber justifiedIn legalBy legalNumber endOf isStalled idleOf headerAfter afterMessage holdingOf isAcknowledged knownOf traced initialState spread frontierOf ordered verifierRules sensitiveRules opponentRules firstNot chosenIn isDone credentialsFor choiceAt movesFrom nextMove endIn replyFrom replyIn repliedState replyBytes
 marked-negotiations = (refl, refl)

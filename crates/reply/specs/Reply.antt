@@ -6,35 +6,19 @@ use lib.Dec.{eqb, leb}
 use lib.ListN.{length, drop}
 use Rattle.expression.specs.declared.Expression.the-variants as E
 use Rattle.tables.specs.Tables.{Tables}
-use Rattle.tables.specs.Public.{publicOf, hiddenOf}
 use Rattle.graph.specs.Propagated.{stateOf as propagated}
 use Rattle.message.specs.declared.Command.{Command}
 use Rattle.message.specs.declared.Command.the-variants.{Open}
 use Rattle.negotiation.specs.State.{State}
 use Rattle.negotiation.specs.Layout.{stateBytes, zeros}
 use Rattle.damage.specs.Restored as R
-use Rattle.update.specs.Step.{stepped, hasRoom}
 use Rattle.update.specs.After.{afterMessage}
 use Rattle.take.specs.Message.{bytesOf, messageBytes, moved}
 use Rattle.take.specs.Take.{sends}
-use Rattle.moves.specs.Known.{knownOf}
 use Rattle.moves.specs.Initial.{initialState}
-use Rattle.moves.specs.Rules.{End}
+use Rattle.moves.specs.Rules.{endIn}
 use Rattle.moves.specs.Move.{Move, nextMove}
-
--- our end in a state
-unfoldable pub endIn : Tables → State → End
-endIn T S = record { tables = publicOf T; known = knownOf (hiddenOf T) (T .sensitive) S; state = S }
-
--- "Each command carries the negotiation to its next state"
-abbrev pub carried : ℕ → State → List Command → State
-carried s S [] = S
-carried s S (c ∷ cs) = carried s (stepped S s c) cs
-
--- each command of a move has room where it stands
-abbrev pub hasRoomFor : ℕ → State → List Command → Bool
-hasRoomFor s S [] = true
-hasRoomFor s S (c ∷ cs) = hasRoom S c && hasRoomFor s (stepped S s c) cs
+use Rattle.moves.specs.Carried.{carried, hasRoomFor}
 
 -- the commands so far, the state that they lead to, and whether it stopped on a size
 pub record Replied : Type 0 where

@@ -27,8 +27,10 @@ use Rattle.take.specs.Commands.{Taken, refused, taken, judged, isEnd, onCommand
 use Rattle.moves.specs.KnownLaws.{isOpen}
 use Rattle.moves.specs.KnownStays.{open-step}
 use Rattle.moves.specs.Initial.{initialState}
+use Rattle.moves.specs.Rules.{endIn}
 use Rattle.moves.specs.Move.{Move, nextMove}
-use Rattle.reply.specs.Reply.{endIn, carried, hasRoomFor, Replied, stopped, withMove, replyFrom, opening, replyIn}
+use Rattle.moves.specs.Carried.{carried, hasRoomFor}
+use Rattle.reply.specs.Reply.{Replied, stopped, withMove, replyFrom, opening, replyIn}
 
 -- every command that has room keeps P
 pub record Stays (P : State → Type 0) : Type 0 where

@@ -11,36 +11,26 @@ use Rattle.expression.specs.declared.Expression.the-variants as E
 use Rattle.rt0.specs.Lists.{false-true}
 use Rattle.class.specs.declared.Name.{Name}
 use Rattle.tables.specs.Tables.{Tables}
-use Rattle.tables.specs.Public.{Public, publicOf, hiddenOf}
+use Rattle.tables.specs.Public.{Public, publicOf}
 use Rattle.propagation.specs.Flags.{not-of}
 use Rattle.graph.specs.Propagated.{stateOf as propagated}
 use Rattle.message.specs.declared.Command.{Command}
 use Rattle.message.specs.declared.Command.the-variants.{Open}
 use Rattle.negotiation.specs.State.{State, within}
 use Rattle.take.specs.Message.{bytesOf}
-use Rattle.moves.specs.Known.{knownOf}
-use Rattle.moves.specs.KnownLaws.{isOpen, known-alike}
+use Rattle.moves.specs.KnownLaws.{isOpen}
 use Rattle.moves.specs.Initial.{initialState}
+use Rattle.moves.specs.Rules.{endIn}
 use Rattle.moves.specs.Move.{Move, nextMove}
-use Rattle.reply.specs.Reply.{endIn, carried, hasRoomFor, Replied, stopped, withMove, replyFrom, opening, replyIn}
+use Rattle.moves.specs.Carried.{carried, hasRoomFor}
+use Rattle.moves.specs.Alike.{move-alike}
+use Rattle.reply.specs.Reply.{Replied, stopped, withMove, replyFrom, opening, replyIn}
 use Rattle.reply.specs.Stays.{within-kept, carried-stays, opening-stays, open-stays}
 
 module _ (T U : Tables) (e : publicOf T ≡ publicOf U) where
-  same-sensitive : T .sensitive ≡ U .sensitive
-  unfolding publicOf
-  same-sensitive = ap (λ (p : Public). p .sensitive) e
-
   same-names : T .names ≡ U .names
   unfolding publicOf
   same-names = ap (λ (p : Public). p .names) e
-
-  -- our end is the same while no differing role's Ack target is satisfied, and with it the next move
-  pub end-alike : (S : State) → isOpen T U S ≡ false → endIn T S ≡ endIn U S
-  unfolding endIn
-  end-alike S h = let k : knownOf (hiddenOf T) (T .sensitive) S ≡ knownOf (hiddenOf U) (U .sensitive) S = known-alike T U S same-sensitive h in λ i. record { tables = e i; known = k i; state = S }
-
-  pub move-alike : (S : State) → isOpen T U S ≡ false → nextMove (endIn T S) ≡ nextMove (endIn U S)
-  move-alike S h = ap nextMove (end-alike S h)
 
   -- after one of the two no differing role's Ack target is satisfied
   abbrev pub Shut : Replied → Replied → Type 0
@@ -73,7 +63,7 @@ module _ (T U : Tables) (e : publicOf T ≡ publicOf U) where
   unfolding replyFrom
   from-alike zero S cs w h = refl
   from-alike (suc f) S cs w h =
-      go (eqb (propagated (S .nodes) (S .edges) 0) 1) (nextMove (endIn T S)) (nextMove (endIn U S)) (move-alike S (shut-before (suc f) S cs w h)) (λ R ds v k. from-alike f R ds v k) h
+      go (eqb (propagated (S .nodes) (S .edges) 0) 1) (nextMove (endIn T S)) (nextMove (endIn U S)) (move-alike T U e S (shut-before (suc f) S cs w h)) (λ R ds v k. from-alike f R ds v k) h
     where
       by : Tables → Bool → Move → Replied
       by W b m = cond b (stopped cs S false) (withMove (λ R ds. replyFrom f W R ds) S cs m)

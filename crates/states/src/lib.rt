@@ -7,9 +7,9 @@ ghost use mathlib.Core.Path.{_≡_};
 ghost use Prim.Native.Nat.{_≤_, _<_};
 ghost use Rattle.rt0.specs.Lists.{any};
 ghost use Rattle.graph.specs.Graph.{edgesFrom, edgeAt, nodesOf, edgesOf};
-ghost use Rattle.graph.specs.Propagated.{stateOf};
+ghost use Rattle.graph.specs.Propagated.{completeB, stateOf};
 ghost use Rattle.states.specs.Brings.{NodesFormed, EdgesFormed};
-ghost use Rattle.states.specs.Complete.{isOpen, completeBy};
+ghost use Rattle.states.specs.Complete.{isOpen, completeBy, Settled};
 
 mod fill;
 
@@ -21,6 +21,12 @@ pub use fill::ways;
 pub struct EdgeColumns {
     pub from: [u8; 256],
     pub slot: [u16; 256],
+}
+
+// By node number, 1 for each that is satisfied, and for each that has failed.
+pub struct NodeStates {
+    pub satisfied: [u8; 128],
+    pub failed: [u8; 128],
 }
 
 fn wide(x: u8) -> usize
@@ -86,12 +92,52 @@ fn complete_by(kind: u8, state: u8, any_open: bool) -> bool
     (kind != 1) & (kind != 2) & (kind != 3) & (kind != 4) & (state == 3) & !any_open
 }
 
+// Whether node i is a complete goal.
+pub fn is_complete<'a>(
+    nodes: Nodes,
+    edges: Edges,
+    sat: &'a [u8; 128],
+    failed: &'a [u8; 128],
+    i: usize,
+) -> bool
+    requires { ⌜ (i < nodes .count) × (nodes .count ≤ 128) × (edges .count ≤ 256) × Settled (nodesOf nodes) (edgesOf edges) (now sat) (now failed) ⌝ }
+    ensures { λ r. ⌜ r ≡ completeB (nodesOf nodes) (edgesOf edges) i ⌝ }
+{
+    let any_open = has_open(
+        nodes.count,
+        edges.count,
+        &edges.kind,
+        &edges.parent,
+        &edges.child,
+        sat,
+        failed,
+        i,
+    );
+    complete_by(nodes.kind[i], nodes.state[i], any_open)
+}
+
+// Which nodes are satisfied, and which have failed.
+pub fn node_states(nodes: Nodes, edges: Edges) -> NodeStates
+    requires { ⌜ (nodes .count ≤ 128) × (edges .count ≤ 256) × NodesFormed (nodesOf nodes) × EdgesFormed (nodesOf nodes) (edgesOf edges) ⌝ }
+    ensures { λ r. ⌜ Settled (nodesOf nodes) (edgesOf edges) (r .satisfied) (r .failed) ⌝ }
+{
+    let m = edges.count;
+    let need = needs(nodes);
+    let e = links(nodes, edges);
+    let sat = satisfied(m, &e.from, &e.slot, &need);
+    let way = ways(nodes);
+    let fail = failed(m, &e.from, &e.slot, &way);
+    NodeStates {
+        satisfied: sat,
+        failed: fail,
+    }
+}
+
 // The propagated state of node i: 0 unknown or incomplete, 1 satisfied or complete, 2 failed.
 pub fn state_of(nodes: Nodes, edges: Edges, i: usize) -> u8
     requires { ⌜ (i < nodes .count) × (nodes .count ≤ 128) × (edges .count ≤ 256) × NodesFormed (nodesOf nodes) × EdgesFormed (nodesOf nodes) (edgesOf edges) ⌝ }
     ensures { λ r. ⌜ r ≡ stateOf (nodesOf nodes) (edgesOf edges) i ⌝ }
 {
-    let n = nodes.count;
     let m = edges.count;
     let need = needs(nodes);
     let e = links(nodes, edges);
@@ -101,17 +147,7 @@ pub fn state_of(nodes: Nodes, edges: Edges, i: usize) -> u8
     }
     let way = ways(nodes);
     let fail = failed(m, &e.from, &e.slot, &way);
-    let any_open = has_open(
-        n,
-        m,
-        &edges.kind,
-        &edges.parent,
-        &edges.child,
-        &sat,
-        &fail,
-        i,
-    );
-    if complete_by(nodes.kind[i], nodes.state[i], any_open) {
+    if is_complete(nodes, edges, &sat, &fail, i) {
         return 1;
     }
     if fail[i] == 1 {
