@@ -12,3 +12,4 @@ pub mod Move
 pub mod Carried
 pub mod Alike
 pub mod Stops
+pub mod Own

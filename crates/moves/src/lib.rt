@@ -4,6 +4,9 @@ mod predicates;
 
 use expression::Expression;
 use expression::Role;
+use message::Command;
+use rt0::Pool;
+use tables::House;
 pub use initial::initial_state;
 pub use predicates::stops;
 
@@ -41,4 +44,27 @@ pub enum Holding {
 pub enum Known {
     Waiting,
     Seen(Holding),
+}
+
+// What a reply asks of our tables, found once: which credentials of 0x13 are no direct ones of sensitive roles, and at which bodies the
+// frontiers stop, oppo over 0x12, simp and sens over 0x13; 1 for each.
+pub struct Own {
+    pub house: House,
+    pub visible: [u8; 128],
+    pub oppo: [u8; 128],
+    pub simp: [u8; 128],
+    pub sens: [u8; 128],
+}
+
+// The node at which the next move is made, and what it is; nothing where no move is left.
+pub struct Found {
+    pub node: u8,
+    pub choice: Choice,
+}
+
+// A move as it is sent: first the credentials of the pool that are on, then the command.
+pub struct Outgoing {
+    pub pool: Pool,
+    pub on: [u8; 128],
+    pub command: Command,
 }
