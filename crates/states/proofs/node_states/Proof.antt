@@ -1,0 +1,42 @@
+use Rattle.states.specs.Complete.{settled-read}
+use borrow.Author.Needs.{needs}
+use Rattle.states.proofs.node_states.Statement.{statement}
+use Rattle.states.proofs.node_states.Tie as tie
+use Rattle.states.proofs.node_states.Reads as reads
+use Rattle.states.proofs.node_states.Lts as lts
+use Rattle.propagation.proofs.failed.Reads as failed-reads
+use Rattle.propagation.proofs.satisfied.Reads as satisfied-reads
+use Rattle.states.proofs.fill.links.Reads as links-reads
+use Rattle.states.proofs.fill.needs.Reads as needs-reads
+use Rattle.states.proofs.fill.ways.Reads as ways-reads
+
+needs-requires : tie.Need-needs-requires
+needs-requires c κs = search needs
+
+links-requires : tie.Need-links-requires
+links-requires c κs = search needs
+
+satisfied-requires : tie.Need-satisfied-requires
+satisfied-requires c κs = search needs
+
+ways-requires : tie.Need-ways-requires
+ways-requires c κs = search needs
+
+failed-requires : tie.Need-failed-requires
+failed-requires c κs = search needs
+
+returns : tie.Need-returns
+returns c =
+    let s = c .before .before .before .before .before .before .before .before .before .before .before .before .before in
+    settled-read (s .args .nodes) (s .args .edges) _ _ (s .pre .2) (c .before .before .before .before .before .before .before .before .before .before .before .links .ensures) _ _ (s .pre .3) (c .before .before .before .before .before .before .before .before .before .before .before .before .needs .ensures) (c .before .before .before .before .before .ways .ensures) (c .before .before .before .before .before .before .satisfied .ensures) (c .failed .ensures)
+
+pub node-states-spec : {M : Type 1} → statement M
+node-states-spec =
+    tie.close
+    (tie.spec
+    needs-requires
+    links-requires
+    satisfied-requires
+    ways-requires
+    failed-requires
+    returns)
