@@ -107,7 +107,7 @@ module _ (T : Tables) (S : State) (i : ℕ) (w : Wanted) where
 -- Kind 1
 
 -- what is from something over our credentials is so over those shown and those not shown yet
-unshown-from : (shown own : List Credential) {f e : Expression} → From own f e → From (shown ++ keep (λ c. not (isShown shown c)) own) f e
+pub unshown-from : (shown own : List Credential) {f e : Expression} → From own f e → From (shown ++ keep (λ c. not (isShown shown c)) own) f e
 unshown-from shown own h = more sub h
   where
     sub : (c : Credential) → List·Memᴰ c own → List·Memᴰ c (shown ++ keep (λ c. not (isShown shown c)) own)

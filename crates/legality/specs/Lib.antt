@@ -5,3 +5,4 @@ pub mod Forms
 pub mod Shown
 pub mod Reached
 pub mod Fit
+pub mod Rules
