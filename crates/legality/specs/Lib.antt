@@ -6,3 +6,5 @@ pub mod Shown
 pub mod Reached
 pub mod Fit
 pub mod Rules
+pub mod Legal
+pub mod Kept

@@ -118,8 +118,8 @@ module _ (ns : List Name) where
 
       rest : (two three four : Bool)
           → choose two (isEmpty (p .third) && isEmpty (p .fourth))
-            (choose three (isRole (p .third) && ascends (p .second) (p .third) && isEmpty (p .fourth))
-            (choose four (isRole (p .third) && ascends (p .second) (p .third) && isRole (p .fourth) && ascends (p .third) (p .fourth)) false)) ≡ true
+          (choose three (isRole (p .third) && ascends (p .second) (p .third) && isEmpty (p .fourth))
+          (choose four (isRole (p .third) && ascends (p .second) (p .third) && isRole (p .fourth) && ascends (p .third) (p .fourth)) false)) ≡ true
           → List·Memᴰ a (cond two [] (p .third ∷ cond three [] (p .fourth ∷ []))) → isRole a ≡ true
       rest true three four h k = absurd (List·Memᴰ·not-nil k)
       rest false true four h k =

@@ -380,9 +380,9 @@ module _ (T : Tables) (S : State) (g : Going T S) (i : ℕ) (l : i < length (S .
         let k = keep-find (isNamed (endIn T S) r) (map (λ (p : Pair). p .role) (T .sensitive) ++ map (λ (c : Credential). c .head) C) m in
         let name : a .name ≡ r = eqb-true (a .name) r (k .1) in
         let role : isRole a ≡ true = ⊎-elim
-            (λ j. let w = map-find (λ (p : Pair). p .role) (T .sensitive) j in ap isRole (w .2) ∙ sensitive-role T (g .tables) (w .0) (w .1))
-            (λ j. let w = map-find (λ (c : Credential). c .head) C j in ap isRole (w .2) ∙ head-formed (T .names) (w .0) (less-stored T (g .tables) .each (w .0) (w .1)))
-            (List·Memᴰ·append-cases (map (λ (p : Pair). p .role) (T .sensitive)) (k .0)) in
+        (λ j. let w = map-find (λ (p : Pair). p .role) (T .sensitive) j in ap isRole (w .2) ∙ sensitive-role T (g .tables) (w .0) (w .1))
+        (λ j. let w = map-find (λ (c : Credential). c .head) C j in ap isRole (w .2) ∙ head-formed (T .names) (w .0) (less-stored T (g .tables) .each (w .0) (w .1)))
+        (List·Memᴰ·append-cases (map (λ (p : Pair). p .role) (T .sensitive)) (k .0)) in
         plain-fit T S i (childFor 3 n (E.Role a) (n .subject)) refl refl refl (λ t. form-three _ n (childNode (childFor 3 n (E.Role a) (n .subject)) t) e (k .1) refl refl)
         (role-proper (T .names) a (ap (λ (s : ℕ). eqb (classOf (T .names) s) 0) name ∙ proper-goal (T .names) r (proper e)) role)
         (going-node T S g i l .subject) (λ z. absurd (let y : _≡_ {A = ℕ} 3 4 = z in omega (arith, y))))
