@@ -8,3 +8,4 @@ pub mod Fit
 pub mod Rules
 pub mod Legal
 pub mod Kept
+pub mod Mirror
