@@ -122,11 +122,11 @@ module _ (T : Tables) (t : Sound T) (S : State) (h : sound T S ≡ true) (w : wi
         let p = and-parts (isRole r) (not b) (sym (ap (λ (v : ℕ). wantedSound (T .names) v r) side) ∙ parts .wanted) in
         (p .0, not-true b (p .1))
 
-    open-formed : formedCommand (Open opening) ≡ true
+    pub open-formed : formedCommand (Open opening) ≡ true
     unfolding formedCommand
     open-formed = and-both (isRole (S .header .wanted)) (legalState (E.Role (S .header .wanted)) (opening .state)) (wanted-parts .0) (initial-legal (T .names) true (E.Role (S .header .wanted)))
 
-    open-legal : Legal (T .names) (S .header .side) S (Open opening)
+    pub open-legal : Legal (T .names) (S .header .side) S (Open opening)
     unfolding Legal
     open-legal = record { classes = eqb-false (classOf (T .names) (S .header .wanted .name)) 0 (wanted-parts .1); fresh = fresh }
 

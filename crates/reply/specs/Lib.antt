@@ -3,3 +3,4 @@ pub mod Cases
 pub mod Stays
 pub mod TwoReplies
 pub mod ReplyPublic
+pub mod ReplyLegal
