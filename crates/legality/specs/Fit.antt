@@ -2,30 +2,26 @@
 -- shown. Assumes nothing.
 use Prim.Native.Nat.{ℕ, _<_}
 use native.Mathlib.Omega.{arith}
-use mathlib.Core.Path.{_≡_, refl, sym, _∙_, ap, subst}
+use mathlib.Core.Path.{_≡_, refl, sym, ap, subst}
 use mathlib.Core.Logic.{⊎-elim}
-use mathlib.Core.Bool.{Bool, true, false, not, cond, _&&_}
-use mathlib.Core.List.{List, [], _∷_, _++_, List·Memᴰ, Memᴰ·append-left, Memᴰ·append-right}
-use borrow.Author.Tests.{eq-eqb, ne-eqb, eqb-true, eqb-false, ltb-true, lt-ltb}
-use lib.Dec.{eqb, ltb}
+use mathlib.Core.Bool.{true, false, not}
+use mathlib.Core.List.{List, [], _++_, List·Memᴰ, Memᴰ·append-left, Memᴰ·append-right}
+use borrow.Author.Tests.{eqb-false}
+use lib.Dec.{eqb}
 use lib.ListN.{length}
 use Rattle.expression.specs.declared.Credential.{Credential}
 use Rattle.expression.specs.declared.Expression.{Expression}
-use Rattle.expression.specs.declared.Expression.the-variants as E
-use Rattle.expression.specs.Credential.{isBody}
 use Rattle.rt0.specs.From.{From}
-use Rattle.rt0.specs.Decide.{from? as fromOf}
 use Rattle.rt0.specs.Laws.{more, sound, complete}
-use Rattle.class.specs.declared.Name.{Name}
 use Rattle.propagation.specs.Flags.{decided}
 use Rattle.tables.specs.Tables.{Tables}
-use Rattle.tables.specs.Public.{keep, publicOf}
+use Rattle.tables.specs.Public.{keep}
 use Rattle.tables.specs.PublicLaws.{keep-mem}
 use Rattle.needed.specs.Needed.{needed}
 use Rattle.needed.specs.NeededLaws.{needed-enough, needed-some}
 use Rattle.graph.specs.declared.Node.{Node}
 use Rattle.graph.specs.Graph.{nodeIn}
-use Rattle.graph.specs.Form.{isStandard, isTarget, form}
+use Rattle.graph.specs.Form.{isStandard, form}
 use Rattle.message.specs.Command.{edgeKind}
 use Rattle.negotiation.specs.State.{State}
 use Rattle.damage.specs.Records.{isShown}
@@ -34,10 +30,10 @@ use Rattle.update.specs.Legal.{formedAs}
 use Rattle.update.specs.Update.{Monitored, Justifies}
 use Rattle.moves.specs.declared.Wanted.{Wanted}
 use Rattle.moves.specs.Rules.{End, endIn, childFor, suitsNode}
-use Rattle.moves.specs.Move.{unshown, ownSet, credentialsFor}
+use Rattle.moves.specs.Move.{ownSet, credentialsFor}
 use Rattle.legality.specs.Proper.{Proper}
 use Rattle.legality.specs.Stored.{Stored}
-use Rattle.legality.specs.Going.{Going, NodeParts, going-node}
+use Rattle.legality.specs.Going.{Going, going-node}
 use Rattle.legality.specs.Forms.{form-one, body-target}
 use Rattle.legality.specs.Shown.{showing, Showable, showable-none, sub-showable, unshown-showable, shown-mem}
 use Rattle.legality.specs.Reached.{Reached}

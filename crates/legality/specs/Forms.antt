@@ -2,7 +2,7 @@
 use Prim.Native.Nat.{ℕ}
 use native.Mathlib.Omega.{arith}
 use mathlib.Core.Path.{_≡_, refl, sym, _∙_, ap}
-use mathlib.Core.Bool.{Bool, true, false, not, cond, _&&_, _||_}
+use mathlib.Core.Bool.{Bool, true, false, not, cond, _&&_}
 use mathlib.Core.List.{List, List·Memᴰ}
 use borrow.Author.Tests.{eq-eqb, ne-eqb, eqb-true, eqb-false}
 use lib.Dec.{eqb, ltb}
@@ -15,11 +15,11 @@ use Rattle.expression.specs.Same.{same, same-eq, eq-same}
 use Rattle.rt0.specs.From.{rolesOf}
 use Rattle.rt0.specs.Lists.{false-true, and-both, any-here}
 use Rattle.graph.specs.declared.Node.{Node}
-use Rattle.graph.specs.Form.{isStandard, isTarget, isNamed, isMonitor, isSolution, isFirst, hasRole, isPart, sameVerifier, sameEnds, isControl, form, legalState}
+use Rattle.graph.specs.Form.{isStandard, isTarget, isNamed, isMonitor, isSolution, isFirst, hasRole, isPart, sameVerifier, sameEnds, form, legalState}
 use Rattle.class.specs.declared.Name.{Name}
 use Rattle.update.specs.Step.{otherSide}
 use Rattle.moves.specs.Initial.{traced, initialState}
-use Rattle.moves.specs.Rules.{isEntity, suitsNode}
+use Rattle.moves.specs.Rules.{suitsNode}
 
 module _ (v : ℕ) (p c : Node) where
   ends : c .verifier ≡ p .verifier → c .subject ≡ p .subject → sameEnds p c ≡ true

@@ -1,13 +1,12 @@
 -- What holds while we reply: our tables are sound, and so is the graph of the negotiation. Assumes nothing.
 use Prim.Native.Nat.{ℕ, zero, suc, _<_, _≤_}
 use native.Mathlib.Omega.{arith}
-use mathlib.Core.Path.{_≡_, refl, sym, _∙_, ap, subst}
-use mathlib.Core.Bool.{Bool, true, false, not, cond, _&&_}
+use mathlib.Core.Path.{_≡_, refl}
+use mathlib.Core.Bool.{true, not, _&&_}
 use mathlib.Core.List.{List, [], _∷_, List·Memᴰ, List·Memᴰ·head, List·Memᴰ·tail}
 use borrow.Author.Tests.{ltb-true, leb-true, eqb-true, eqb-false, not-true}
 use lib.Dec.{eqb, ltb, leb}
 use lib.ListN.{length, getD}
-use Rattle.expression.specs.declared.Expression.{Expression}
 use Rattle.expression.specs.Form.{wellFormed}
 use Rattle.rt0.specs.Lists.{and-parts}
 use Rattle.class.specs.declared.Name.{Name}
@@ -15,9 +14,8 @@ use Rattle.class.specs.Typing.{typeOf}
 use Rattle.tables.specs.Tables.{Tables}
 use Rattle.tables.specs.Accepted.{Sound}
 use Rattle.graph.specs.declared.Node.{Node}
-use Rattle.graph.specs.declared.Edge.{Edge}
 use Rattle.graph.specs.Graph.{nodeIn, edgeIn, blank}
-use Rattle.graph.specs.Form.{form, legalState}
+use Rattle.graph.specs.Form.{legalState}
 use Rattle.states.specs.Brings.{NodesFormed, EdgesFormed}
 use Rattle.negotiation.specs.declared.Header.{Header}
 use Rattle.negotiation.specs.State.{State, within}

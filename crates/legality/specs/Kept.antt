@@ -1,7 +1,7 @@
 -- Legal updates keep what holds while we reply: so does each move, and the mediator's open begins it. Assumes nothing.
-use Prim.Native.Nat.{ℕ, suc, _<_}
+use Prim.Native.Nat.{ℕ}
 use native.Mathlib.Omega.{arith}
-use mathlib.Core.Path.{_≡_, refl, sym, _∙_, ap, subst}
+use mathlib.Core.Path.{_≡_, refl, sym, _∙_, ap}
 use mathlib.Core.Bool.{Bool, true, false, not, cond, _&&_}
 use mathlib.Core.List.{List, [], _∷_, _++_}
 use borrow.Author.Tests.{eq-eqb, eqb-true, eqb-false, lt-ltb, not-true}
@@ -27,14 +27,13 @@ use Rattle.message.specs.declared.Opening.{Opening}
 use Rattle.message.specs.declared.Command.{Command}
 use Rattle.message.specs.declared.Command.the-variants.{Open}
 use Rattle.message.specs.Command.{formedCommand}
-use Rattle.negotiation.specs.declared.Header.{Header}
 use Rattle.negotiation.specs.State.{State, within, withNode}
 use Rattle.damage.specs.Header.{wantedSound, headerSound, requester, emptySound}
-use Rattle.damage.specs.Records.{isTyped, isRoleTarget, nodeSound, nodeFits, primarySound, credentialFits}
+use Rattle.damage.specs.Records.{isTyped, nodeSound, nodeFits, primarySound, credentialFits}
 use Rattle.damage.specs.Edges.{broughtFrom, brought, edgeFits}
 use Rattle.damage.specs.Damage.{edgesJustified, graphSound, sound}
 use Rattle.damage.specs.DamageLaws.{graph-parts, sound-some}
-use Rattle.update.specs.Step.{primaryOf, stepped, hasRoom}
+use Rattle.update.specs.Step.{primaryOf, stepped}
 use Rattle.update.specs.Update.{Legal}
 use Rattle.update.specs.UpdateExact.{legal-exactly}
 use Rattle.update.specs.Kept.{GraphKept, records-of, brought-of}

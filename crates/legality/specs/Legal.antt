@@ -1,11 +1,11 @@
 -- Every command of our next move is a legal update (document 01, "The reply"). Assumes nothing.
-use Prim.Native.Nat.{ℕ, zero, suc, _+_, _<_}
+use Prim.Native.Nat.{ℕ, suc, _+_, _<_}
 use native.Mathlib.Omega.{arith}
 use mathlib.Core.Path.{_≡_, refl, sym, _∙_, ap, subst}
 use mathlib.Core.Logic.{⊎-elim}
 use mathlib.Core.Bool.{Bool, true, false, cond, _&&_, _||_}
 use mathlib.Core.List.{List, [], _∷_, _++_, map, List·Memᴰ, List·Memᴰ·head, List·Memᴰ·tail}
-use borrow.Author.Tests.{eq-eqb, eqb-true, eqb-false, ltb-true, ltb-false, lt-ltb}
+use borrow.Author.Tests.{eq-eqb, eqb-true, eqb-false, ltb-true, lt-ltb}
 use lib.Dec.{eqb, ltb}
 use lib.ListN.{length, getD}
 use Rattle.expression.specs.declared.Credential.{Credential}
@@ -20,30 +20,30 @@ use Rattle.graph.specs.declared.Node.{Node}
 use Rattle.graph.specs.declared.Edge.{Edge}
 use Rattle.graph.specs.Graph.{nodeIn, blank}
 use Rattle.graph.specs.Form.{legalState}
-use Rattle.graph.specs.Find.{isNode, findNode, hasEdge}
+use Rattle.graph.specs.Find.{isNode, hasEdge}
 use Rattle.graph.specs.FindExact.{Absent, Found, find-cases, has-exact}
 use Rattle.message.specs.declared.NewEdge.{NewEdge}
 use Rattle.message.specs.declared.Command.{Command}
 use Rattle.message.specs.declared.Command.the-variants.{Show, Bring, Join, Mark}
 use Rattle.message.specs.Command.{edgeKind, formedCommand}
 use Rattle.negotiation.specs.State.{State}
-use Rattle.update.specs.Step.{processedBy, verifierOf, childOf, stepped, hasRoom}
+use Rattle.update.specs.Step.{processedBy, childOf, stepped, hasRoom}
 use Rattle.update.specs.Legal.{formedAs}
 use Rattle.update.specs.LegalLaws.{or-false}
-use Rattle.update.specs.Update.{Justifies, LegalNewChild, LegalOldChild, Legal}
+use Rattle.update.specs.Update.{Justifies, Legal}
 use Rattle.take.specs.Message.{Updates, none, next}
 use Rattle.moves.specs.declared.Wanted.{Wanted}
 use Rattle.moves.specs.declared.Choice.{Choice}
 use Rattle.moves.specs.declared.Choice.the-variants as K
 use Rattle.moves.specs.Initial.{initialState}
-use Rattle.moves.specs.Wanted.{Plan, firstNot, markIf, chosenIn, childNumber, childStands, isDone}
+use Rattle.moves.specs.Wanted.{firstNot, markIf, chosenIn, childNumber, childStands, isDone}
 use Rattle.moves.specs.Rules.{End, endIn}
 use Rattle.moves.specs.Move.{Move, credentialsFor, edgeCommand, moveFor, planAt, choiceAt, orNext, movesFrom, nextMove}
 use Rattle.moves.specs.Carried.{carried, hasRoomFor}
 use Rattle.legality.specs.Going.{Going, going-few}
 use Rattle.legality.specs.Forms.{initial-legal}
 use Rattle.legality.specs.Shown.{showing, shows-updates}
-use Rattle.legality.specs.Fit.{childNode, FitWith, Fit}
+use Rattle.legality.specs.Fit.{FitWith}
 use Rattle.legality.specs.Rules.{plan-fit}
 
 -- updates lead where the commands carry the state

@@ -1,11 +1,10 @@
 -- Expressions of right form whose names have classes, and what that says of their parts. Assumes nothing.
-use Prim.Native.Nat.{ℕ, _<_}
+use Prim.Native.Nat.{ℕ}
 use native.Mathlib.Omega.{arith}
-use mathlib.Core.Path.{_≡_, refl, sym, _∙_, ap, subst}
+use mathlib.Core.Path.{_≡_, refl, sym, _∙_, ap}
 use mathlib.Core.Logic.{⊎-elim}
 use mathlib.Core.Bool.{Bool, true, false, cond, _&&_, _||_}
 use mathlib.Core.List.{List, [], _∷_, map, List·Memᴰ, List·Memᴰ·cases-cons, List·Memᴰ·not-nil}
-use borrow.Author.Tests.{ltb-true}
 use lib.Dec.{eqb, ltb}
 use Rattle.expression.specs.declared.Role.{Role}
 use Rattle.expression.specs.declared.Parts.{Parts}
@@ -15,7 +14,7 @@ use Rattle.expression.specs.declared.Expression.the-variants as E
 use Rattle.expression.specs.Form.{choose, ascends, isRole, isEmpty, tailFormed, wellFormed}
 use Rattle.expression.specs.Credential.{isBody, beginsWith, wellFormedCredential}
 use Rattle.rt0.specs.From.{roleOf, rolesOf}
-use Rattle.rt0.specs.Lists.{any, all, false-true, and-parts, and-both, any-here, map-mem}
+use Rattle.rt0.specs.Lists.{any, false-true, and-parts, and-both, any-here, map-mem}
 use Rattle.class.specs.declared.Name.{Name}
 use Rattle.class.specs.declared.Typing.{Typing}
 use Rattle.class.specs.declared.Typing.the-variants.{Unnamed, Ill, Any, Class}

@@ -1,29 +1,23 @@
 -- The members of a frontier are from the expression that it starts at, over the credentials by which they are reached. Assumes nothing.
-use Prim.Native.Nat.{ℕ}
-use mathlib.Core.Path.{_≡_, refl, sym, _∙_, ap, subst}
-use mathlib.Core.Bool.{Bool, true, false, cond}
-use mathlib.Core.List.{List, [], _∷_, _++_, map, List·Memᴰ, List·Memᴰ·cases-cons, List·Memᴰ·not-nil}
+use mathlib.Core.Path.{_≡_, sym, subst}
+use mathlib.Core.Bool.{Bool, true}
+use mathlib.Core.List.{List, [], _∷_, List·Memᴰ, List·Memᴰ·cases-cons, List·Memᴰ·not-nil}
 use mathlib.Core.Logic.{⊎-elim}
-use lib.Dec.{ltb}
 use Rattle.expression.specs.declared.Role.{Role}
 use Rattle.expression.specs.declared.Credential.{Credential}
 use Rattle.expression.specs.declared.Expression.{Expression}
 use Rattle.expression.specs.declared.Expression.the-variants as E
 use Rattle.expression.specs.Credential.{isBody}
-use Rattle.expression.specs.Form.{wellFormed}
 use Rattle.expression.specs.Same.{same, same-eq}
-use Rattle.rt0.specs.From.{From, reflexive, transitive, credential, linking, roleOf}
-use Rattle.rt0.specs.Decide.{from? as fromOf}
-use Rattle.rt0.specs.Laws.{sound}
+use Rattle.rt0.specs.From.{From, reflexive, transitive, credential}
 use Rattle.rt0.specs.Lists.{map-find}
 use Rattle.class.specs.declared.Name.{Name}
 use Rattle.tables.specs.Public.{keep}
 use Rattle.tables.specs.PublicLaws.{keep-find}
 use Rattle.frontier.specs.Frontier.{Frontier, here, through}
-use Rattle.moves.specs.Frontiers.{gather, bodiesOf, frontierOf}
+use Rattle.moves.specs.Frontiers.{bodiesOf, frontierOf}
 use Rattle.moves.specs.FrontiersExact.{frontier-find}
-use Rattle.moves.specs.Rules.{entitiesIn}
-use Rattle.legality.specs.Proper.{Proper, linked-second, ProperCredential, body-proper, body-body}
+use Rattle.legality.specs.Proper.{Proper, body-proper, body-body}
 use Rattle.legality.specs.Stored.{Stored}
 
 -- x may be the child of an implication edge into a node of expression top: it is proper and no goal, and top from x holds over C

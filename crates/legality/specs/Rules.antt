@@ -3,9 +3,9 @@ use Prim.Native.Nat.{ℕ, _<_}
 use native.Mathlib.Omega.{arith}
 use mathlib.Core.Path.{_≡_, refl, sym, _∙_, ap, subst}
 use mathlib.Core.Logic.{⊎-elim}
-use mathlib.Core.Bool.{Bool, true, false, not, cond, _&&_, _||_}
+use mathlib.Core.Bool.{Bool, true, false, not, cond, _&&_}
 use mathlib.Core.List.{List, [], _∷_, _++_, map, List·Memᴰ, List·Memᴰ·head, List·Memᴰ·tail, List·Memᴰ·cases-cons, List·Memᴰ·not-nil, List·Memᴰ·append-cases}
-use borrow.Author.Tests.{eq-eqb, ne-eqb, eqb-true, eqb-false, ltb-true, lt-ltb}
+use borrow.Author.Tests.{eq-eqb, eqb-true, ltb-true, lt-ltb}
 use lib.Dec.{eqb, ltb}
 use lib.ListN.{length}
 use Rattle.expression.specs.declared.Role.{Role}
@@ -19,8 +19,7 @@ use Rattle.expression.specs.Same.{same, same-eq, eq-same, sameRole, sameRole-eq
 use Rattle.rt0.specs.From.{From, reflexive, credential, linking, roleOf, rolesOf}
 use Rattle.rt0.specs.Decide.{from? as fromOf}
 use Rattle.rt0.specs.Laws.{sound}
-use Rattle.rt0.specs.Lists.{any, false-true, and-parts, and-both, or-left, or-right, any-find, map-find}
-use Rattle.class.specs.declared.Name.{Name}
+use Rattle.rt0.specs.Lists.{any, and-parts, any-find, map-find}
 use Rattle.class.specs.Names.{classOf}
 use Rattle.record.specs.declared.Pair.{Pair}
 use Rattle.tables.specs.declared.RoleAnswer.{RoleAnswer}
@@ -29,20 +28,15 @@ use Rattle.tables.specs.Tables.{Tables}
 use Rattle.tables.specs.Sorted.{rising-none, rising-cons}
 use Rattle.tables.specs.Lookup.{directOf, otherOf}
 use Rattle.tables.specs.Public.{keep, lessDirect, heldOf, publicOf, hiddenOf}
-use Rattle.tables.specs.PublicLaws.{keep-find, less-find, held-find, holds-find}
-use Rattle.propagation.specs.Flags.{at}
+use Rattle.tables.specs.PublicLaws.{keep-find, held-find, holds-find}
 use Rattle.graph.specs.declared.Node.{Node}
 use Rattle.graph.specs.declared.Edge.{Edge}
 use Rattle.graph.specs.Graph.{nodeIn}
 use Rattle.graph.specs.Form.{isStandard}
-use Rattle.graph.specs.States.{Child, solutionKind}
 use Rattle.graph.specs.PropagatedLaws.{satisfied-exact}
-use Rattle.graph.specs.Propagated.{satisfiedB}
-use Rattle.justification.specs.Justified.{monitorKind}
 use Rattle.negotiation.specs.State.{State}
 use Rattle.damage.specs.Header.{entityOf}
-use Rattle.damage.specs.Records.{isShown}
-use Rattle.update.specs.Step.{verifierOf, otherSide}
+use Rattle.update.specs.Step.{verifierOf}
 use Rattle.update.specs.Legal.{formedAs}
 use Rattle.update.specs.Update.{Monitored}
 use Rattle.moves.specs.declared.Wanted.{Wanted}
@@ -51,15 +45,15 @@ use Rattle.moves.specs.declared.Holding.the-variants.{Absent, Free, Guarded}
 use Rattle.moves.specs.declared.Known.{Known}
 use Rattle.moves.specs.declared.Known.the-variants.{Waiting, Seen}
 use Rattle.moves.specs.Known.{policyOf, holdingOf, isAcknowledged, KnownRole, knownOf}
-use Rattle.moves.specs.Frontiers.{gather, bodiesOf, frontierOf, oppo, simp, sens}
+use Rattle.moves.specs.Frontiers.{gather, bodiesOf, oppo, simp, sens}
 use Rattle.moves.specs.Wanted.{ordered, Plan}
 use Rattle.moves.specs.WantedLaws.{ordered-find}
-use Rattle.moves.specs.Rules.{End, endIn, isEntity, entitiesIn, ownersIn, childFor, suitsNode, implications, toSubject, partEdges, thenMark, childrenBy, isSatisfied, solutionsOf, linkRules, membersOf, oppoFrontier, byClass, verifierRules, controlEdge, ownEdge, sensitiveRules, sensFrontier, simpFrontier, ownRules, isNamed, solutionRoles, opponentRules}
+use Rattle.moves.specs.Rules.{End, endIn, isEntity, entitiesIn, ownersIn, childFor, suitsNode, implications, toSubject, partEdges, thenMark, childrenBy, isSatisfied, solutionsOf, linkRules, membersOf, oppoFrontier, verifierRules, controlEdge, ownEdge, sensitiveRules, sensFrontier, simpFrontier, ownRules, isNamed, solutionRoles, opponentRules}
 use Rattle.moves.specs.Move.{ownSet, directFor, credentialsFor, planAt}
 use Rattle.legality.specs.Proper.{Proper, role-proper, proper-goal, entity-proper, linked-first, linked-goal, linked-second, part-proper, ProperCredential, head-formed, body-proper}
 use Rattle.legality.specs.Stored.{Stored, issuer-stored, subject-stored, less-stored, sensitive-role, ack-proper, access-proper}
 use Rattle.legality.specs.Going.{Going, going-header, going-node, going-ends}
-use Rattle.legality.specs.Forms.{form-one, form-two, form-three, form-four, form-five, form-six, other-side, entity-eq}
+use Rattle.legality.specs.Forms.{form-one, form-two, form-three, form-four, form-five, form-six, other-side}
 use Rattle.legality.specs.Shown.{unshown-showable}
 use Rattle.legality.specs.Reached.{Reached, frontier-reached, bodies-reached, self-reached}
 use Rattle.legality.specs.Fit.{childNode, FitWith, Fit, AllFit, plain-fit, unshown-from, implication-fit}

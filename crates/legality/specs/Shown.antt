@@ -1,22 +1,21 @@
 -- Credentials that go out one after another are legal, and where they lead. Assumes nothing.
 use Prim.Native.Nat.{ℕ, _<_}
-use native.Mathlib.Omega.{arith}
 use mathlib.Core.Path.{_≡_, refl, sym, _∙_, ap, subst}
 use mathlib.Core.Logic.{⊎-elim}
-use mathlib.Core.Bool.{Bool, true, false, not, _&&_}
-use mathlib.Core.List.{List, [], _∷_, _++_, map, append-assoc, append-nil, List·Memᴰ, List·Memᴰ·head, List·Memᴰ·tail, List·Memᴰ·not-nil, List·Memᴰ·append-cases, List·Memᴰ·eq-of-singleton, Memᴰ·append-left}
+use mathlib.Core.Bool.{Bool, true, not}
+use mathlib.Core.List.{List, [], _∷_, _++_, map, append-assoc, append-nil, List·Memᴰ, List·Memᴰ·head, List·Memᴰ·tail, List·Memᴰ·not-nil, List·Memᴰ·append-cases, List·Memᴰ·eq-of-singleton}
 use borrow.Author.Tests.{ltb-true, not-true}
 use lib.Dec.{ltb}
 use lib.ListN.{length}
 use Rattle.expression.specs.declared.Credential.{Credential}
 use Rattle.expression.specs.Order.{beforeCredential}
 use Rattle.expression.specs.Same.{same, same-eq, eq-same, sameRole, sameRole-eq, eq-sameRole}
-use Rattle.rt0.specs.Lists.{any, all, false-true, and-parts, and-both, all-each, all-of, any-find, any-here}
+use Rattle.rt0.specs.Lists.{false-true, and-parts, and-both, all-each, all-of, any-find, any-here}
 use Rattle.class.specs.declared.Name.{Name}
 use Rattle.tables.specs.Lookup.{sameCredential}
 use Rattle.tables.specs.Sorted.{Rising, rising-none, rising-cons, rising-parts}
 use Rattle.tables.specs.Public.{keep}
-use Rattle.tables.specs.PublicLaws.{before-self, keep-find, keep-mem, rising-keep}
+use Rattle.tables.specs.PublicLaws.{before-self, keep-find, rising-keep}
 use Rattle.needed.specs.NeededLaws.{Sublist, nothing, dropped, taken, sub-mem}
 use Rattle.message.specs.declared.Command.{Command}
 use Rattle.message.specs.declared.Command.the-variants.{Show}
@@ -24,8 +23,8 @@ use Rattle.message.specs.Command.{formedCommand}
 use Rattle.negotiation.specs.State.{State, withShown}
 use Rattle.damage.specs.Records.{isShown}
 use Rattle.update.specs.Step.{stepped, hasRoom}
-use Rattle.update.specs.Update.{LegalCredential, Legal}
-use Rattle.take.specs.Message.{Updates, none, next}
+use Rattle.update.specs.Update.{Legal}
+use Rattle.take.specs.Message.{Updates, next}
 use Rattle.moves.specs.Carried.{hasRoomFor}
 use Rattle.legality.specs.Proper.{ProperCredential}
 use Rattle.legality.specs.Stored.{Stored}

@@ -1,9 +1,9 @@
 -- What sound tables say of their credentials, and of sensitive roles with their Ack and AC roles. Assumes nothing.
-use Prim.Native.Nat.{ℕ, _<_}
+use Prim.Native.Nat.{ℕ}
 use native.Mathlib.Omega.{arith}
-use mathlib.Core.Path.{_≡_, refl, sym, _∙_, ap, subst}
-use mathlib.Core.Bool.{Bool, true, false, cond, _&&_, _||_}
-use mathlib.Core.List.{List, [], _∷_, map, List·Memᴰ}
+use mathlib.Core.Path.{_≡_, refl, ap, subst}
+use mathlib.Core.Bool.{Bool, true, false, cond, _||_}
+use mathlib.Core.List.{List, [], _∷_, List·Memᴰ}
 use borrow.Author.Tests.{eqb-true}
 use lib.Dec.{eqb}
 use Rattle.expression.specs.declared.Role.{Role}
@@ -12,7 +12,7 @@ use Rattle.expression.specs.declared.Expression.the-variants as E
 use Rattle.expression.specs.Form.{isRole}
 use Rattle.expression.specs.Order.{beforeCredential}
 use Rattle.expression.specs.Same.{sameRole}
-use Rattle.rt0.specs.Lists.{any, false-true, and-parts}
+use Rattle.rt0.specs.Lists.{and-parts}
 use Rattle.class.specs.declared.Name.{Name}
 use Rattle.class.specs.Find.{firstOr}
 use Rattle.class.specs.Names.{classOf}
@@ -22,11 +22,11 @@ use Rattle.record.specs.Record.{formed}
 use Rattle.tables.specs.declared.RoleAnswer.{RoleAnswer}
 use Rattle.tables.specs.declared.RoleAnswer.the-variants as A
 use Rattle.tables.specs.Tables.{Tables}
-use Rattle.tables.specs.Check.{orElse, suitsStorage, storedNumber, suitsPair, pairNumber}
+use Rattle.tables.specs.Check.{orElse, storedNumber, suitsPair, pairNumber}
 use Rattle.tables.specs.Sorted.{Rising}
 use Rattle.tables.specs.Accepted.{Sound}
-use Rattle.tables.specs.Lookup.{directOf, otherOf}
-use Rattle.tables.specs.Public.{Public, lessDirect, publicOf}
+use Rattle.tables.specs.Lookup.{otherOf}
+use Rattle.tables.specs.Public.{lessDirect}
 use Rattle.tables.specs.PublicLaws.{less-find, less-rising}
 use Rattle.legality.specs.Proper.{Proper, HasClass, role-proper, ProperCredential}
 

@@ -1,18 +1,16 @@
 -- A reply consists of legal updates, leaves a negotiation that is not damaged, and is taken at the other end (document 01, "The reply").
 -- Assumes nothing.
-use Prim.Native.Nat.{ℕ, zero, suc, _+_, _%_, _≤_, _<_}
+use Prim.Native.Nat.{ℕ, zero, suc, _+_, _%_, _<_}
 use native.Mathlib.Omega.{arith}
 use mathlib.Core.Path.{_≡_, refl, sym, _∙_, ap, subst}
-use mathlib.Core.Logic.{⊎-elim}
 use mathlib.Core.Bool.{Bool, true, false, not, cond, _&&_, _||_}
 use mathlib.Core.List.{List, [], _∷_, _++_, append-assoc, append-nil}
-use borrow.Author.Tests.{eq-eqb, ne-eqb, eqb-true, eqb-false}
+use borrow.Author.Tests.{eq-eqb, eqb-true, eqb-false}
 use lib.Dec.{eqb, leb}
 use lib.ListN.{length}
-use Rattle.rt0.specs.Lists.{any, false-true, and-parts}
+use Rattle.rt0.specs.Lists.{false-true, and-parts}
 use Rattle.expression.specs.declared.Expression.the-variants as E
 use Rattle.class.specs.declared.Name.{Name}
-use Rattle.propagation.specs.Flags.{decided}
 use Rattle.tables.specs.Tables.{Tables}
 use Rattle.tables.specs.Accepted.{Sound}
 use Rattle.graph.specs.Propagated.{stateOf as propagated}
@@ -32,18 +30,18 @@ use Rattle.update.specs.Update.{Legal}
 use Rattle.take.specs.Message.{bytesOf, messageBytes, Updates, none, next, moved}
 use Rattle.take.specs.Commands as C
 use Rattle.take.specs.CommandsKept.{step-header, step-still}
-use Rattle.take.specs.Take.{sends, Outcome, refused, accepted, behindCommands, senderTo, takenIn}
+use Rattle.take.specs.Take.{sends, refused, accepted, behindCommands, senderTo, takenIn}
 use Rattle.take.specs.TakeKept.{going-on}
 use Rattle.take.specs.TakenExactly.{carried as commands-taken}
 use Rattle.moves.specs.Initial.{initialState}
 use Rattle.moves.specs.Rules.{endIn}
 use Rattle.moves.specs.Move.{Move, nextMove}
 use Rattle.moves.specs.Carried.{carried, hasRoomFor}
-use Rattle.legality.specs.Going.{Going, going-header}
+use Rattle.legality.specs.Going.{Going}
 use Rattle.legality.specs.Legal.{move-updates}
 use Rattle.legality.specs.Kept.{updates-going, updates-header, sound-going, open-formed, open-legal, opening-going}
 use Rattle.legality.specs.Mirror.{Mirrored, Mirror, mirror-state, updates-mirror, opened-mirror}
-use Rattle.reply.specs.Reply.{Replied, stopped, withMove, replyFrom, opening, replyIn, repliedState, replyBytes}
+use Rattle.reply.specs.Reply.{Replied, stopped, withMove, replyFrom, replyIn, repliedState, replyBytes}
 
 -- Updates
 
