@@ -3,3 +3,5 @@ pub mod Cases
 pub mod Stays
 pub mod TwoReplies
 pub mod ReplyPublic
+pub mod ReplyLength
+pub mod ReplyLegal
