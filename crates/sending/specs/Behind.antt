@@ -1,17 +1,17 @@
 -- A pool with credentials of another one behind its own. Assumes nothing.
-use Prim.Native.Nat.{ℕ, zero, suc, _+_, _≤_, _<_}
+use Prim.Native.Nat.{ℕ, _+_, _≤_, _<_}
 use native.Mathlib.Omega.{arith}
 use native.Mathlib.Numerals.{add-one}
-use mathlib.Core.Path.{_≡_, refl, sym, _∙_, ap, ap₂}
+use mathlib.Core.Path.{_≡_, refl, sym, _∙_, ap}
 use mathlib.Core.Bool.{Bool, true, false, not, cond, _&&_}
-use mathlib.Core.List.{List, [], _∷_, _++_, append-nil, append-assoc, append-inj}
+use mathlib.Core.List.{List, [], _∷_, _++_, append-nil, append-assoc, head-eq-of-cons-eq, tail-eq-of-cons-eq}
 use borrow.Author.Tests.{not-true, not-false}
 use lib.Dec.{eqb}
 use lib.ListN.{length, length-append}
 use Rattle.expression.specs.declared.Credential.{Credential}
 use Rattle.rt0.specs.declared.Pool.{Pool}
 use Rattle.rt0.specs.Pool.{credentialAt, credentials}
-use Rattle.rt0.specs.Added.{Sized, Stored, count-length}
+use Rattle.rt0.specs.Added.{Sized, Stored, count-length, length-upTo}
 use Rattle.closure.specs.Rules.{el}
 use Rattle.rules.specs.Table.{chosenTo, chosen}
 use Rattle.tables.specs.Public.{keep}
@@ -68,7 +68,22 @@ module _ (f : Credential → Bool) (S P : Pool) (on : List ℕ) where
   unfolding chosen
   behind-all {i} {Q} h l = let z : i ≡ P .count = omega (arith, h .within) in h .all ∙ ap (λ (k : ℕ). credentials S ++ keep f (chosenTo P on k)) z
 
+append-parts : {A : Type 0} (a c b d : List A) → length a ≡ length c → a ++ b ≡ c ++ d → (a ≡ c) × (b ≡ d)
+append-parts [] [] b d l h = (refl, h)
+append-parts [] (y ∷ c) b d l h = absurd (omega arith)
+append-parts (x ∷ a) [] b d l h = absurd (omega arith)
+append-parts (x ∷ a) (y ∷ c) b d l h =
+    let r = append-parts a c b d (omega arith) (tail-eq-of-cons-eq h) in
+    (λ i. head-eq-of-cons-eq h i ∷ r .0 i, r .1)
+
 -- the credentials of a pool that has those of S first
 module _ (S Q : Pool) (L : List Credential) (h : credentials Q ≡ credentials S ++ L) where
   pub behind-count : S .count ≤ Q .count
   behind-count = omega (arith, count-length Q, count-length S, ap length h, length-append (credentials S) L)
+
+  pub behind-parts : (firstOf Q (S .count) ≡ credentials S) × (restOf Q (S .count) ≡ L)
+  unfolding firstOf
+  behind-parts =
+      append-parts (firstOf Q (S .count)) (credentials S) (restOf Q (S .count)) L
+      (length-upTo (S .count) (credentialAt Q) ∙ sym (count-length S))
+      (sym (first-rest Q (S .count) behind-count) ∙ h)
