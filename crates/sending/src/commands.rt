@@ -1,6 +1,5 @@
 // The command of an edge.
 use class::Names;
-use expression::Expression;
 use graph::Edge;
 use graph::Node;
 use graph::Nodes;

@@ -11,7 +11,7 @@ use needed::needed;
 use rt0::Pool;
 ghost use mathlib.Core.List.{[], _∷_};
 ghost use Prim.Native.Nat.{_≤_};
-ghost use Rattle.rt0.specs.Pool.{poolOf, credentials};
+ghost use Rattle.rt0.specs.Pool.{credentials};
 ghost use Rattle.rules.specs.Table.{chosen};
 ghost use Rattle.needed.specs.Needed.{needed as neededOf};
 ghost use Rattle.tables.specs.Tables.{tablesOf};
@@ -68,22 +68,19 @@ pub fn direct_for(own: u16, shown: Pool, f: Expression, command: Command) -> Out
     }
 }
 
-// Those of m own credentials that are on, not shown, and needed for f from e.
-fn needed_of<'a>(
+// Those of a set of own credentials that are on, not shown, and needed for f from e.
+fn needed_of(
     shown: Pool,
-    m: usize,
-    heads: &'a [u16; 256],
-    kinds: &'a [u8; 256],
-    numbers: &'a [u16; 1024],
-    on: &'a [u8; 128],
+    set: Pool,
+    on: [u8; 128],
     f: Expression,
     e: Expression,
     command: Command,
 ) -> Outgoing
-    requires { ⌜ (shown .count ≤ 64) × (m ≤ 64) ⌝ }
-    ensures { λ r. ⌜ Sends (neededOf (credentials shown) f e (unshownOf (credentials shown) (chosen (poolOf m (now (heads .entry)) (now (kinds .entry)) (now (numbers .entry))) (now (on .entry))))) command r ⌝ }
+    requires { ⌜ (shown .count ≤ 64) × (set .count ≤ 64) ⌝ }
+    ensures { λ r. ⌜ Sends (neededOf (credentials shown) f e (unshownOf (credentials shown) (chosen set on))) command r ⌝ }
 {
-    let pool = own_pool(shown, m, heads, kinds, numbers, on);
+    let pool = own_pool(shown, set.count, &set.heads, &set.kinds, &set.numbers, &on);
     let kept = needed(
         pool.count,
         &pool.heads,
@@ -100,8 +97,8 @@ fn needed_of<'a>(
     }
 }
 
-// Those needed for node x from e, of our set for our side of the node: 0x12 where we verify it, else 0x13 less direct credentials of
-// sensitive roles.
+// Those needed for node x from e, of our set for our side of it: 0x12 where we verify it, else 0x13 less direct credentials of sensitive
+// roles.
 pub fn needed_for(
     own: Own,
     side: u8,
@@ -116,31 +113,10 @@ pub fn needed_for(
     let house = own.house;
     let f = x.expression;
     if x.verifier == side {
-        let p = house.issuer;
-        let all = [1u8; 128];
-        return needed_of(
-            shown,
-            p.count,
-            &p.heads,
-            &p.kinds,
-            &p.numbers,
-            &all,
-            f,
-            e,
-            command,
-        );
+        let issuer = house.issuer;
+        return needed_of(shown, issuer, [1u8; 128], f, e, command);
     }
-    let p = house.subject;
+    let subject = house.subject;
     let visible = own.visible;
-    needed_of(
-        shown,
-        p.count,
-        &p.heads,
-        &p.kinds,
-        &p.numbers,
-        &visible,
-        f,
-        e,
-        command,
-    )
+    needed_of(shown, subject, visible, f, e, command)
 }
