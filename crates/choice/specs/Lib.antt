@@ -7,3 +7,5 @@ pub mod Subject
 pub mod Parts
 pub mod Goals
 pub mod Links
+pub mod Known
+pub mod Sensitive

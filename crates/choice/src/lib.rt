@@ -1,7 +1,9 @@
 // Which move comes next. What it is stands in moves/specs.
 mod done;
 mod goals;
+mod known;
 mod links;
 mod members;
 mod parts;
+mod sensitive;
 mod subject;

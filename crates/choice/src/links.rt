@@ -229,15 +229,19 @@ fn any_complete<'a>(
 pub fn mark_if(marks: bool) -> Choice
     ensures { λ c. ⌜ c ≡ markIf marks ⌝ }
 {
-    if marks {
-        Choice::Mark
-    } else {
-        Choice::Nothing
-    }
+    if marks { Choice::Mark } else { Choice::Nothing }
 }
 
 // The goal; then a linking implication for each satisfied solution; then a mark once the goal is complete.
-pub fn link_rules(nodes: Nodes, edges: Edges, states: NodeStates, i: u8, n: Node, a: Role, r: u16) -> Choice
+pub fn link_rules(
+    nodes: Nodes,
+    edges: Edges,
+    states: NodeStates,
+    i: u8,
+    n: Node,
+    a: Role,
+    r: u16,
+) -> Choice
     requires { ⌜ (nodes .count ≤ 128) × (edges .count ≤ 256) × EdgesFormed (nodesOf nodes) (edgesOf edges) × Settled (nodesOf nodes) (edgesOf edges) (states .satisfied) (states .failed) ⌝ }
     ensures { λ c. ⌜ Linked nodes edges (states .satisfied) i n a r c ⌝ }
 {
@@ -245,13 +249,7 @@ pub fn link_rules(nodes: Nodes, edges: Edges, states: NodeStates, i: u8, n: Node
     if !is_done(nodes, edges, i, goal) {
         return Choice::Edge(goal);
     }
-    let monitors = monitored(
-        edges.count,
-        &edges.kind,
-        &edges.parent,
-        &edges.child,
-        i,
-    );
+    let monitors = monitored(edges.count, &edges.kind, &edges.parent, &edges.child, i);
     let best = with_solutions(nodes, edges, &monitors, &states.satisfied, i, n, a, r);
     let marks = any_complete(nodes, edges, &states.satisfied, &states.failed, i);
     or_else(best, mark_if(marks))

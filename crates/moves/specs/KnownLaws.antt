@@ -59,7 +59,7 @@ abbrev pub Differs : Tables → Tables → Role → Type 0
 Differs T U r = holdingOf (hiddenOf T) r ≡ holdingOf (hiddenOf U) r → ⊥
 
 -- "A role is held if 0x13 has its direct credential"
-held-exact : (own : ℕ) (P : List Pair) (C : List Credential) (r : Role) → isSensitive P r ≡ true → any (sameRole r) (heldOf own P C) ≡ holds own C r
+pub held-exact : (own : ℕ) (P : List Pair) (C : List Credential) (r : Role) → isSensitive P r ≡ true → any (sameRole r) (heldOf own P C) ≡ holds own C r
 held-exact own P C r s = bool-iff (any (sameRole r) (heldOf own P C)) (holds own C r) there (λ h. any-here (sameRole r) (held-mem own P C r s h) (eq-sameRole r r refl))
   where
     there : any (sameRole r) (heldOf own P C) ≡ true → holds own C r ≡ true
