@@ -9,3 +9,8 @@ pub mod Goals
 pub mod Links
 pub mod Known
 pub mod Sensitive
+pub mod Ready
+pub mod OwnRules
+pub mod All
+pub mod RuleChoice
+pub mod Next

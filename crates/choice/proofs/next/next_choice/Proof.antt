@@ -1,0 +1,78 @@
+use Prim.Native.Nat.{_-_}
+use native.Mathlib.Omega.{arith}
+use mathlib.Core.Path.{refl}
+use borrow.Author.Needs.{needs}
+use Rattle.tables.specs.Tables.{tablesOf}
+use Rattle.graph.specs.Columns.{nodes-length}
+use Rattle.negotiation.specs.State.{stateOf}
+use Rattle.update.specs.LegalLaws.{within-few}
+use Rattle.moves.specs.Rules.{endIn}
+use Rattle.choice.specs.Ready.{ready-of}
+use Rattle.choice.specs.Next.{Passed, passed-start, passed-next, found-here, found-nothing}
+use Rattle.choice.proofs.next.next_choice.Statement.{statement}
+use Rattle.choice.proofs.next.next_choice.Tie as tie
+use Rattle.choice.proofs.next.next_choice.Reads as reads
+use Rattle.choice.proofs.next.next_choice.Lts as lts
+use Rattle.choice.proofs.next.is_nothing.Reads as is-nothing-reads
+use Rattle.choice.proofs.next.node_of.Reads as node-of-reads
+use Rattle.choice.proofs.processing.choice_at.Reads as choice-at-reads
+
+abbrev Inv-loop : tie.InvT-loop
+Inv-loop own n states nodes i₀ i = Passed (endIn (tablesOf (own .house)) (stateOf n)) i
+
+abbrev μ-loop : tie.MeasureT-loop
+μ-loop own n states nodes i₀ i = nodes .count - i
+
+loop-holds : tie.Need-loop-holds Inv-loop μ-loop
+loop-holds c = passed-start _
+
+node-of-requires : tie.Need-node-of-requires Inv-loop μ-loop
+node-of-requires c κs = (c .if1 .taken, within-few _ (c .before .before .before .before .pre .1) .0)
+
+cast-choice-at : tie.Need-cast-choice-at Inv-loop μ-loop
+cast-choice-at c = omega (arith, c .before .if1 .taken, within-few _ (c .before .before .before .before .before .pre .1) .0)
+
+choice-at-requires : tie.Need-choice-at-requires Inv-loop μ-loop
+choice-at-requires c κs = let s = c .before .before .before .before .before in (ready-of (s .pre .0) (s .pre .1) (s .pre .4) (s .pre .5), c .before .if1 .taken)
+
+is-nothing-requires : tie.Need-is-nothing-requires Inv-loop μ-loop
+is-nothing-requires c κs = search needs
+
+cast-t11 : tie.Need-cast-t11 Inv-loop μ-loop
+cast-t11 c = omega (arith, c .before .before .before .before .if1 .taken, within-few _ (c .before .before .before .before .before .before .before .before .pre .1) .0)
+
+returns : tie.Need-returns Inv-loop μ-loop
+unfolding endIn stateOf
+returns c = let s = c .before .before .before .before .before .before .before .before in (found-here (endIn (tablesOf (s .args .own .house)) (stateOf (s .args .n))) (c .before .before .before .before .before .before .loop .inv) (c .before .before .before .node-of .ensures) (c .before .before .choice-at .ensures) (c .before .is-nothing .ensures) (c .if2 .taken) (omega (arith, nodes-length (s .args .n .nodes), c .before .before .before .before .if1 .taken)) refl, c .before .before .before .before .if1 .taken)
+
+add-i : tie.Need-add-i Inv-loop μ-loop
+add-i c = omega (arith, c .before .before .before .before .if1 .taken, within-few _ (c .before .before .before .before .before .before .before .before .pre .1) .0)
+
+loop-less : tie.Need-loop-less Inv-loop μ-loop
+loop-less c = omega (arith, c .before .before .before .before .if1 .taken)
+
+loop-again : tie.Need-loop-again Inv-loop μ-loop
+unfolding endIn stateOf
+loop-again c = let s = c .before .before .before .before .before .before .before .before in passed-next (endIn (tablesOf (s .args .own .house)) (stateOf (s .args .n))) (c .before .before .before .before .before .before .loop .inv) (c .before .before .before .node-of .ensures) (c .before .before .choice-at .ensures) (c .before .is-nothing .ensures) (c .if2 .left)
+
+returns-2 : tie.Need-returns-2 Inv-loop μ-loop
+unfolding endIn stateOf
+returns-2 c = let s = c .before .before .before .before in (found-nothing (endIn (tablesOf (s .args .own .house)) (stateOf (s .args .n))) (c .before .before .loop .inv) (omega (arith, nodes-length (s .args .n .nodes), c .if1 .left)), s .pre .2)
+
+pub next-choice-spec : {M : Type 1} → statement M
+next-choice-spec =
+    tie.close
+    (tie.spec
+    Inv-loop
+    μ-loop
+    loop-holds
+    node-of-requires
+    cast-choice-at
+    choice-at-requires
+    is-nothing-requires
+    cast-t11
+    returns
+    add-i
+    loop-less
+    loop-again
+    returns-2)

@@ -1,0 +1,14 @@
+use Rattle.update.specs.StepLaws.{processed-own, processed-other}
+use Rattle.choice.proofs.processing.is_processed.Statement.{statement}
+use Rattle.choice.proofs.processing.is_processed.Tie as tie
+use Rattle.choice.proofs.processing.is_processed.Reads as reads
+use Rattle.choice.proofs.processing.is_processed.Lts as lts
+
+returns : tie.Need-returns
+returns c = processed-own _ _ (c .before .if1 .taken)
+
+returns-2 : tie.Need-returns-2
+returns-2 c = processed-other _ _ (c .before .if1 .left)
+
+pub is-processed-spec : {M : Type 1} → statement M
+is-processed-spec = tie.close (tie.spec returns returns-2)

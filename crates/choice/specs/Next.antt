@@ -1,0 +1,104 @@
+-- The first node, by rising number, at which there is something to do. Assumes nothing.
+use Prim.Native.Nat.{ℕ, zero, suc, _+_, _≤_, _<_}
+use native.Mathlib.Omega.{arith}
+use mathlib.Core.Path.{_≡_, refl, sym, _∙_, ap, subst}
+use mathlib.Core.Logic.{⊎-elim}
+use mathlib.Core.Bool.{Bool, true, false, not}
+use mathlib.Core.List.{List, [], _∷_, _++_, map}
+use borrow.Author.Tests.{eqb-true, eqb-false, not-true, not-false}
+use lib.Dec.{eqb}
+use lib.ListN.{length, getD}
+use Rattle.rt0.specs.Lists.{false-true}
+use Rattle.propagation.specs.Flags.{decided}
+use Rattle.graph.specs.declared.Node.{Node}
+use Rattle.graph.specs.Graph.{nodeIn}
+use Rattle.message.specs.declared.Command.{Command}
+use Rattle.message.specs.declared.Command.the-variants.{Show}
+use Rattle.moves.specs.declared.Found.{Found}
+use Rattle.moves.specs.declared.Choice.{Choice}
+use Rattle.moves.specs.declared.Choice.the-variants as C
+use Rattle.moves.specs.Rules.{End}
+use Rattle.moves.specs.Move.{Move, credentialsFor, edgeCommand, moveFor, choiceAt, orNext, movesFrom, nextMove}
+use Rattle.moves.specs.Own.{foundMove}
+
+abbrev pub isNothing : Choice → Bool
+isNothing (C.Edge w) = false
+isNothing C.Mark = false
+isNothing C.Nothing = true
+
+nothing-is : (c : Choice) → isNothing c ≡ true → c ≡ C.Nothing
+nothing-is (C.Edge w) h = absurd (false-true h)
+nothing-is C.Mark h = absurd (false-true h)
+nothing-is C.Nothing h = refl
+
+module _ (o : End) where
+  or-append : (cs : List Command) (c : Command) (m : Move) → orNext o (cs ++ (c ∷ [])) m ≡ cs ++ (c ∷ [])
+  or-append [] c m = refl
+  or-append (x ∷ cs) c m = refl
+
+  -- a move that is there is made
+  or-first : (i : ℕ) (n : Node) (c : Choice) (m : Move) → isNothing c ≡ false → orNext o (moveFor o i n c) m ≡ moveFor o i n c
+  or-first i n (C.Edge w) m h = or-append (map Show (credentialsFor o n w)) (edgeCommand o i w) m
+  or-first i n C.Mark m h = refl
+  or-first i n C.Nothing m h = absurd (false-true (sym h))
+
+  -- nothing is to be done at the first j nodes, numbered from k on
+  found-from : (k : ℕ) (ns : List Node) (j : ℕ) → j < length ns → ((t : ℕ) → t < j → choiceAt o (k + t) (nodeIn ns t) ≡ C.Nothing) → isNothing (choiceAt o (k + j) (nodeIn ns j)) ≡ false
+      → movesFrom o k ns ≡ moveFor o (k + j) (nodeIn ns j) (choiceAt o (k + j) (nodeIn ns j))
+  unfolding movesFrom
+  found-from k [] j l h z = absurd (omega arith)
+  found-from k (n ∷ ns) zero l h z =
+      let e : k + 0 ≡ k = omega arith in
+      let q : isNothing (choiceAt o k n) ≡ false = sym (ap (λ (m : ℕ). isNothing (choiceAt o m n)) e) ∙ z in
+      or-first k n (choiceAt o k n) (movesFrom o (suc k) ns) q ∙ sym (ap (λ (m : ℕ). moveFor o m n (choiceAt o m n)) e)
+  found-from k (n ∷ ns) (suc j) l h z =
+      let e : k + 0 ≡ k = omega arith in
+      let s : suc k + j ≡ k + suc j = omega arith in
+      let first : choiceAt o k n ≡ C.Nothing = sym (ap (λ (m : ℕ). choiceAt o m n) e) ∙ h 0 (omega arith) in
+      ap (λ (c : Choice). orNext o (moveFor o k n c) (movesFrom o (suc k) ns)) first
+      ∙ (found-from (suc k) ns j (omega arith) (λ t q. let u : suc k + t ≡ k + suc t = omega arith in ap (λ (m : ℕ). choiceAt o m (nodeIn ns t)) u ∙ h (suc t) (omega arith)) (ap (λ (m : ℕ). isNothing (choiceAt o m (nodeIn ns j))) s ∙ z)
+      ∙ ap (λ (m : ℕ). moveFor o m (nodeIn ns j) (choiceAt o m (nodeIn ns j))) s)
+
+  none-from : (k : ℕ) (ns : List Node) → ((t : ℕ) → t < length ns → choiceAt o (k + t) (nodeIn ns t) ≡ C.Nothing) → movesFrom o k ns ≡ []
+  unfolding movesFrom
+  none-from k [] h = refl
+  none-from k (n ∷ ns) h =
+      let e : k + 0 ≡ k = omega arith in
+      let first : choiceAt o k n ≡ C.Nothing = sym (ap (λ (m : ℕ). choiceAt o m n) e) ∙ h 0 (omega arith) in
+      ap (λ (c : Choice). orNext o (moveFor o k n c) (movesFrom o (suc k) ns)) first
+      ∙ none-from (suc k) ns (λ t q. let u : suc k + t ≡ k + suc t = omega arith in ap (λ (m : ℕ). choiceAt o m (nodeIn ns t)) u ∙ h (suc t) (omega arith))
+
+  from-zero : (ns : List Node) (t : ℕ) → choiceAt o t (nodeIn ns t) ≡ C.Nothing → choiceAt o (0 + t) (nodeIn ns t) ≡ C.Nothing
+  from-zero ns t h = let u : 0 + t ≡ t = omega arith in ap (λ (m : ℕ). choiceAt o m (nodeIn ns t)) u ∙ h
+
+-- nothing is to be done at the nodes below i
+pub record Passed (o : End) (i : ℕ) : Type 0 where
+  pub none : (j : ℕ) → j < i → choiceAt o j (nodeIn (o .state .nodes) j) ≡ C.Nothing
+
+pub passed-start : (o : End) → Passed o 0
+passed-start o = record { none = λ j l. absurd (omega arith) }
+
+module _ (o : End) {i : ℕ} (P : Passed o i) {n : Node} (ne : n ≡ nodeIn (o .state .nodes) i) {c : Choice} (ce : c ≡ choiceAt o i n) {b : Bool} (be : b ≡ isNothing c) where
+  here : c ≡ choiceAt o i (nodeIn (o .state .nodes) i)
+  here = ce ∙ ap (choiceAt o i) ne
+
+  pub passed-next : not b ≡ false → Passed o (i + 1)
+  passed-next h =
+      record {
+        none = λ j l.
+            ⊎-elim
+            (λ z. let q : j ≡ i = eqb-true j i z in ap (λ (m : ℕ). choiceAt o m (nodeIn (o .state .nodes) m)) q ∙ (sym here ∙ nothing-is c (sym be ∙ not-false b h)))
+            (λ z. P .none j (omega (arith, eqb-false j i z))) (decided (eqb j i));
+      }
+
+  pub found-here : not b ≡ true → i < length (o .state .nodes) → {m : ℕ} → m ≡ i → nextMove o ≡ foundMove o (record { node = m; choice = c })
+  unfolding nextMove foundMove
+  found-here h l e =
+      let z : 0 + i ≡ i = omega arith in
+      let q : isNothing (choiceAt o i (nodeIn (o .state .nodes) i)) ≡ false = ap isNothing (sym here) ∙ (sym be ∙ not-true b h) in
+      found-from o 0 (o .state .nodes) i l (λ t k. from-zero o (o .state .nodes) t (P .none t k)) (ap (λ (m : ℕ). isNothing (choiceAt o m (nodeIn (o .state .nodes) i))) z ∙ q)
+      ∙ (ap (λ (m : ℕ). moveFor o m (nodeIn (o .state .nodes) i) (choiceAt o m (nodeIn (o .state .nodes) i))) z ∙ ((λ t. moveFor o i (nodeIn (o .state .nodes) i) (sym here t)) ∙ ap (λ (j : ℕ). moveFor o j (nodeIn (o .state .nodes) j) c) (sym e)))
+
+pub found-nothing : (o : End) {i : ℕ} → Passed o i → length (o .state .nodes) ≤ i → nextMove o ≡ foundMove o (record { node = 0; choice = C.Nothing })
+unfolding nextMove foundMove
+found-nothing o {i} P l = none-from o 0 (o .state .nodes) (λ t q. from-zero o (o .state .nodes) t (P .none t (omega arith)))

@@ -1,0 +1,93 @@
+// The edges of the frontiers that the rules name.
+use crate::members::with_frontier;
+use crate::subject::to_subject;
+use expression::Role;
+use graph::Node;
+use moves::Choice;
+use moves::Own;
+use negotiation::Negotiation;
+ghost use mathlib.Core.Path.{_≡_};
+ghost use mathlib.Core.Bool.{false, not};
+ghost use mathlib.Core.List.{[], _∷_};
+ghost use Prim.Native.Nat.{_≤_};
+ghost use Rattle.expression.specs.declared.Expression.the-variants as E;
+ghost use Rattle.tables.specs.Tables.{tablesOf};
+ghost use Rattle.tables.specs.Lookup.{isSensitive};
+ghost use Rattle.tables.specs.Public.{publicOf, keep};
+ghost use Rattle.graph.specs.Graph.{nodesOf, edgesOf};
+ghost use Rattle.moves.specs.declared.Choice.the-variants as C;
+ghost use Rattle.moves.specs.Frontiers.{bodiesOf, frontierOf, oppo, simp, sens};
+ghost use Rattle.moves.specs.Wanted.{isDone, firstNot};
+ghost use Rattle.moves.specs.Rules.{isEntity, implications, toSubject};
+ghost use Rattle.moves.specs.Own.{Prepared};
+
+// The verifier's: the oppo frontier of the bodies of 0x12.
+pub fn issuer_edges(own: Own, n: Negotiation, i: u8, x: Node, a: Role) -> Choice
+    requires { ⌜ Prepared own × (n .nodes .count ≤ 128) × (n .edges .count ≤ 256) ⌝ }
+    ensures { λ c. ⌜ c ≡ firstNot (isDone (nodesOf (n .nodes)) (edgesOf (n .edges)) i) C.Nothing (implications x (frontierOf (oppo (tablesOf (own .house) .names)) (tablesOf (own .house) .issuerStored) (bodiesOf (tablesOf (own .house) .issuerStored) (E.Role a)))) ⌝ }
+{
+    let house = own.house;
+    let pool = house.issuer;
+    let nodes = n.nodes;
+    let edges = n.edges;
+    let on = [1u8; 128];
+    with_frontier(
+        pool,
+        &on,
+        &own.oppo,
+        nodes,
+        edges,
+        i,
+        x,
+        true,
+        a,
+        Choice::Nothing,
+    )
+}
+
+// Rule (4) of a sensitive role: the sens frontiers of the bodies of its other credentials, less entities.
+pub fn rest_edges(own: Own, n: Negotiation, i: u8, x: Node, a: Role) -> Choice
+    requires { ⌜ Prepared own × (n .nodes .count ≤ 128) × (n .edges .count ≤ 256) ⌝ }
+    ensures { λ c. ⌜ c ≡ firstNot (isDone (nodesOf (n .nodes)) (edgesOf (n .edges)) i) C.Nothing (implications x (keep (λ y. not (isEntity y)) (frontierOf (sens (tablesOf (own .house) .sensitive)) (publicOf (tablesOf (own .house)) .subjectStored) (bodiesOf (publicOf (tablesOf (own .house)) .subjectStored) (E.Role a))))) ⌝ }
+{
+    let house = own.house;
+    let pool = house.subject;
+    let nodes = n.nodes;
+    let edges = n.edges;
+    with_frontier(
+        pool,
+        &own.visible,
+        &own.sens,
+        nodes,
+        edges,
+        i,
+        x,
+        false,
+        a,
+        Choice::Nothing,
+    )
+}
+
+// A role about us that is not sensitive: its sens frontier.
+pub fn plain_edges(own: Own, n: Negotiation, i: u8, x: Node, a: Role) -> Choice
+    requires { ⌜ Prepared own × (n .nodes .count ≤ 128) × (n .edges .count ≤ 256) × (isSensitive (tablesOf (own .house) .sensitive) a ≡ false) ⌝ }
+    ensures { λ c. ⌜ c ≡ firstNot (isDone (nodesOf (n .nodes)) (edgesOf (n .edges)) i) C.Nothing (toSubject x (frontierOf (sens (tablesOf (own .house) .sensitive)) (publicOf (tablesOf (own .house)) .subjectStored) (E.Role a ∷ []))) ⌝ }
+{
+    let house = own.house;
+    let pool = house.subject;
+    let nodes = n.nodes;
+    let edges = n.edges;
+    to_subject(pool, &own.visible, &own.sens, nodes, edges, i, x, a)
+}
+
+// A role about another: its simp frontier.
+pub fn other_edges(own: Own, n: Negotiation, i: u8, x: Node, a: Role) -> Choice
+    requires { ⌜ Prepared own × (n .nodes .count ≤ 128) × (n .edges .count ≤ 256) ⌝ }
+    ensures { λ c. ⌜ c ≡ firstNot (isDone (nodesOf (n .nodes)) (edgesOf (n .edges)) i) C.Nothing (toSubject x (frontierOf simp (publicOf (tablesOf (own .house)) .subjectStored) (E.Role a ∷ []))) ⌝ }
+{
+    let house = own.house;
+    let pool = house.subject;
+    let nodes = n.nodes;
+    let edges = n.edges;
+    to_subject(pool, &own.visible, &own.simp, nodes, edges, i, x, a)
+}

@@ -1,0 +1,181 @@
+// The processing rules: what is to be done at a node.
+use crate::all::all_edges;
+use crate::done::or_else;
+use crate::frontiers::issuer_edges;
+use crate::frontiers::other_edges;
+use crate::frontiers::plain_edges;
+use crate::frontiers::rest_edges;
+use crate::goals::solutions;
+use crate::known::known_of;
+use crate::links::link_rules;
+use crate::parts::part_edges;
+use crate::sensitive::behind_ack;
+use crate::sensitive::by_known;
+use class::class_of;
+use expression::Expression;
+use expression::Role;
+use graph::Node;
+use moves::Choice;
+use moves::Own;
+use negotiation::Negotiation;
+use states::NodeStates;
+use tables::RoleAnswer;
+use tables::other_of;
+ghost use mathlib.Core.Path.{_≡_};
+ghost use Prim.Native.Nat.{_≤_, _<_};
+ghost use Rattle.tables.specs.Tables.{tablesOf};
+ghost use Rattle.negotiation.specs.State.{stateOf};
+ghost use Rattle.graph.specs.Graph.{nodesOf, edgesOf};
+ghost use Rattle.expression.specs.declared.Expression.the-variants as E;
+ghost use Rattle.update.specs.Step.{processedBy};
+ghost use Rattle.moves.specs.Wanted.{chosenIn, isDone};
+ghost use Rattle.moves.specs.Rules.{endIn, linkRules, verifierRules, ownRules, opponentRules};
+ghost use Rattle.moves.specs.Move.{choiceAt};
+ghost use Rattle.choice.specs.Ready.{Ready};
+
+const ISSUER_DEF: u8 = 1;
+
+const ISSUER_ALL: u8 = 2;
+
+// A linked target by the rules that both sides share.
+fn linked(own: Own, n: Negotiation, states: NodeStates, i: u8, x: Node, a: Role, r: u16) -> Choice
+    requires { ⌜ Ready own n states ⌝ }
+    ensures { λ c. ⌜ c ≡ chosenIn (isDone (nodesOf (n .nodes)) (edgesOf (n .edges)) i) (linkRules (endIn (tablesOf (own .house)) (stateOf n)) i x a r) ⌝ }
+{
+    let nodes = n.nodes;
+    let edges = n.edges;
+    link_rules(nodes, edges, states, i, x, a, r)
+}
+
+// 5.3: a linked target, by the class of its first name.
+fn verifier_link(
+    own: Own,
+    n: Negotiation,
+    states: NodeStates,
+    i: u8,
+    x: Node,
+    a: Role,
+    r: u16,
+) -> Choice
+    requires { ⌜ Ready own n states ⌝ }
+    ensures { λ c. ⌜ c ≡ chosenIn (isDone (nodesOf (n .nodes)) (edgesOf (n .edges)) i) (verifierRules (endIn (tablesOf (own .house)) (stateOf n)) i x (E.Linked a r)) ⌝ }
+{
+    let house = own.house;
+    let names = house.names;
+    let k = class_of(names.count, &names.name, &names.class, a.name);
+    if k == ISSUER_DEF {
+        return linked(own, n, states, i, x, a, r);
+    }
+    if k != ISSUER_ALL {
+        return Choice::Mark;
+    }
+    let nodes = n.nodes;
+    let edges = n.edges;
+    or_else(all_edges(own, nodes, edges, i, x, a, r), Choice::Mark)
+}
+
+// 5.3, Verifier-Side Processing.
+fn verifier_rules(
+    own: Own,
+    n: Negotiation,
+    states: NodeStates,
+    i: u8,
+    x: Node,
+    e: Expression,
+) -> Choice
+    requires { ⌜ Ready own n states ⌝ }
+    ensures { λ c. ⌜ c ≡ chosenIn (isDone (nodesOf (n .nodes)) (edgesOf (n .edges)) i) (verifierRules (endIn (tablesOf (own .house)) (stateOf n)) i x e) ⌝ }
+{
+    let nodes = n.nodes;
+    let edges = n.edges;
+    match e {
+        Expression::Entity(_) => Choice::Mark,
+        Expression::Role(a) => or_else(issuer_edges(own, n, i, x, a), Choice::Mark),
+        Expression::Linked(a, r) => verifier_link(own, n, states, i, x, a, r),
+        Expression::Intersection(p) => or_else(part_edges(nodes, edges, i, x, p), Choice::Mark),
+        Expression::Goal(_) => Choice::Mark,
+    }
+}
+
+// A role about us: by whether it is sensitive, and what is known of it.
+fn own_rules(own: Own, n: Negotiation, states: NodeStates, i: u8, x: Node, a: Role) -> Choice
+    requires { ⌜ Ready own n states × (i < n .nodes .count) ⌝ }
+    ensures { λ c. ⌜ c ≡ chosenIn (isDone (nodesOf (n .nodes)) (edgesOf (n .edges)) i) (ownRules (endIn (tablesOf (own .house)) (stateOf n)) i x a (endIn (tablesOf (own .house)) (stateOf n) .known)) ⌝ }
+{
+    let house = own.house;
+    let pairs = house.sensitive;
+    let answer = other_of(pairs.count, &pairs.roles, &pairs.others, a);
+    let RoleAnswer::Found(ack) = answer else {
+        return or_else(plain_edges(own, n, i, x, a), Choice::Mark);
+    };
+    let rest = rest_edges(own, n, i, x, a);
+    let known = known_of(house, n, &states.satisfied, a, ack);
+    behind_ack(
+        n,
+        i,
+        x,
+        ack,
+        by_known(n, &states.satisfied, i, x, known, rest),
+    )
+}
+
+// A role target, by whether it is about us.
+fn opponent_role(own: Own, n: Negotiation, states: NodeStates, i: u8, x: Node, a: Role) -> Choice
+    requires { ⌜ Ready own n states × (i < n .nodes .count) ⌝ }
+    ensures { λ c. ⌜ c ≡ chosenIn (isDone (nodesOf (n .nodes)) (edgesOf (n .edges)) i) (opponentRules (endIn (tablesOf (own .house)) (stateOf n)) i x (E.Role a)) ⌝ }
+{
+    let house = own.house;
+    if x.subject == house.own {
+        return own_rules(own, n, states, i, x, a);
+    }
+    or_else(other_edges(own, n, i, x, a), Choice::Mark)
+}
+
+// 5.4, Opponent-Side Processing.
+fn opponent_rules(
+    own: Own,
+    n: Negotiation,
+    states: NodeStates,
+    i: u8,
+    x: Node,
+    e: Expression,
+) -> Choice
+    requires { ⌜ Ready own n states × (i < n .nodes .count) ⌝ }
+    ensures { λ c. ⌜ c ≡ chosenIn (isDone (nodesOf (n .nodes)) (edgesOf (n .edges)) i) (opponentRules (endIn (tablesOf (own .house)) (stateOf n)) i x e) ⌝ }
+{
+    let nodes = n.nodes;
+    let edges = n.edges;
+    match e {
+        Expression::Entity(_) => Choice::Mark,
+        Expression::Role(a) => opponent_role(own, n, states, i, x, a),
+        Expression::Linked(a, r) => linked(own, n, states, i, x, a, r),
+        Expression::Intersection(p) => or_else(part_edges(nodes, edges, i, x, p), Choice::Mark),
+        Expression::Goal(r) => or_else(solutions(own, nodes, edges, i, x, r), Choice::Mark),
+    }
+}
+
+// Whether a side has processed a node.
+fn is_processed(side: u8, x: Node) -> bool
+    ensures { λ r. ⌜ r ≡ processedBy side x ⌝ }
+{
+    if x.verifier == side {
+        return x.state % 2 == 1;
+    }
+    x.state / 2 % 2 == 1
+}
+
+// What is to be done at node i: nothing where our side has processed it.
+pub fn choice_at(own: Own, n: Negotiation, states: NodeStates, i: u8, x: Node) -> Choice
+    requires { ⌜ Ready own n states × (i < n .nodes .count) ⌝ }
+    ensures { λ c. ⌜ c ≡ choiceAt (endIn (tablesOf (own .house)) (stateOf n)) i x ⌝ }
+{
+    let h = n.header;
+    if is_processed(h.side, x) {
+        return Choice::Nothing;
+    }
+    let e = x.expression;
+    if x.verifier == h.side {
+        return verifier_rules(own, n, states, i, x, e);
+    }
+    opponent_rules(own, n, states, i, x, e)
+}
