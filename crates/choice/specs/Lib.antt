@@ -9,3 +9,4 @@ pub mod Goals
 pub mod Links
 pub mod Known
 pub mod Sensitive
+pub mod All

@@ -1,4 +1,5 @@
 // Which move comes next. What it is stands in moves/specs.
+mod all;
 mod done;
 mod goals;
 mod known;
