@@ -17,17 +17,16 @@ use Rattle.rt0.specs.declared.Pool.{Pool}
 use Rattle.rt0.specs.From.{roleOf}
 use Rattle.rt0.specs.Decide.{from? as fromOf}
 use Rattle.rt0.specs.Pool.{bodyAt, credentialAt, credentials}
-use Rattle.rt0.specs.Lists.{false-true, and-parts, and-both, map-find, map-mem}
+use Rattle.rt0.specs.Lists.{false-true, map-find, map-mem}
 use Rattle.rules.specs.Table.{chosen}
 use Rattle.relation.specs.Reached.{all-on}
-use Rattle.class.specs.declared.Name.{Name}
 use Rattle.class.specs.Names.{namesOf, classOf}
 use Rattle.tables.specs.declared.House.{House}
 use Rattle.tables.specs.Tables.{Tables, tablesOf}
 use Rattle.tables.specs.Public.{keep}
 use Rattle.tables.specs.PublicLaws.{keep-find, keep-mem}
 use Rattle.propagation.specs.Flags.{flag, decided}
-use Rattle.frontier.specs.Frontier.{Frontier, here, Stops}
+use Rattle.frontier.specs.Frontier.{here, Stops}
 use Rattle.frontier.specs.FrontierLaws.{frontier-here}
 use Rattle.graph.specs.declared.Node.{Node}
 use Rattle.needed.specs.ColumnLaws.{upTo-mem, upTo-find}
@@ -39,10 +38,10 @@ use Rattle.moves.specs.Frontiers.{gather, frontierOf, oppo}
 use Rattle.moves.specs.FrontiersExact.{gather-mem, gather-find, frontier-find, frontier-mem}
 use Rattle.moves.specs.Stops.{predicateOf, Told}
 use Rattle.moves.specs.Own.{Prepared}
-use Rattle.moves.specs.Wanted.{ordered, firstNot}
+use Rattle.moves.specs.Wanted.{firstNot}
 use Rattle.moves.specs.Rules.{isEntity, entitiesIn, childFor, implications}
 use Rattle.choice.specs.Least.{better, Best, best-start, best-same, best-next, best-first}
-use Rattle.choice.specs.Offers.{Among, Is, offers-best}
+use Rattle.choice.specs.Offers.{Among, offers-best}
 use Rattle.choice.specs.Members.{admits, edgesTo, all-implications, edges-uniform, isMember, memberEdge, Extended, Reads, reads-role, edges-among, among-edges}
 
 -- "each entity B such that A.r1 ← B"

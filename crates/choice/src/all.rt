@@ -1,4 +1,5 @@
-// The edges of a linked target A.r1.r2 whose first name is issuer-traces-all: to the frontiers of the roles B.r2, for "each entity B such that A.r1 ← B".
+// The edges of a linked target A.r1.r2 whose first name is issuer-traces-all: to the frontiers of the roles B.r2, for "each entity B such that
+// A.r1 ← B".
 use crate::done::better;
 use crate::members::child_for;
 use crate::members::with_frontier;
@@ -66,7 +67,21 @@ fn is_from<'a>(
     let e = Expression::Role(a);
     match x {
         Expression::Entity(_) => ask(
-            m, heads, kinds, numbers, words, head, part, first, named, src, deps, on, rows, e, x,
+            m,
+            heads,
+            kinds,
+            numbers,
+            words,
+            head,
+            part,
+            first,
+            named,
+            src,
+            deps,
+            on,
+            rows,
+            e,
+            x,
         ),
         Expression::Role(_) => false,
         Expression::Linked(_, _) => false,
@@ -100,7 +115,21 @@ fn flagged<'a>(
     while k < m {
         let x = body_at(m, heads, kinds, numbers, k);
         r[k] = flag_of(is_from(
-            m, heads, kinds, numbers, words, head, part, first, named, src, deps, on, rows, a, x,
+            m,
+            heads,
+            kinds,
+            numbers,
+            words,
+            head,
+            part,
+            first,
+            named,
+            src,
+            deps,
+            on,
+            rows,
+            a,
+            x,
         ));
         k += 1;
     }
@@ -149,15 +178,7 @@ fn members(pool: Pool, a: Role) -> [u8; 128]
 }
 
 // The best of what is chosen and the edges to the frontier of a role.
-fn with_role(
-    own: Own,
-    nodes: Nodes,
-    edges: Edges,
-    i: u8,
-    n: Node,
-    e: Role,
-    best: Choice,
-) -> Choice
+fn with_role(own: Own, nodes: Nodes, edges: Edges, i: u8, n: Node, e: Role, best: Choice) -> Choice
     requires { ⌜ Prepared own × (nodes .count ≤ 128) × (edges .count ≤ 256) ⌝ }
     ensures { λ c. ⌜ Widened (isDone (nodesOf nodes) (edgesOf edges) i) (oppoOf (own .house)) (own .house .issuer) (own .oppo) n e best c ⌝ }
 {
@@ -194,7 +215,15 @@ fn with_one(
     let pool = house.issuer;
     let x = body_at(pool.count, &pool.heads, &pool.kinds, &pool.numbers, k);
     match x {
-        Expression::Entity(b) => with_role(own, nodes, edges, i, n, Role { entity: b, name: r }, best),
+        Expression::Entity(b) => with_role(
+            own,
+            nodes,
+            edges,
+            i,
+            n,
+            Role { entity: b, name: r },
+            best,
+        ),
         Expression::Role(_) => best,
         Expression::Linked(_, _) => best,
         Expression::Intersection(_) => best,
