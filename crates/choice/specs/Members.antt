@@ -55,7 +55,7 @@ no-entities n xs = ap (map (λ x. childFor 1 n x (n .subject))) (twice xs)
         go true e ih = ih
         go false e ih = ap (λ (zs : List Expression). y ∷ zs) ih ∙ sym (ap (λ (b : Bool). cond (not b || same y (E.Entity (n .subject))) (y ∷ keep (suitsNode n) (keep (λ x. not (isEntity x)) ys)) (keep (suitsNode n) (keep (λ x. not (isEntity x)) ys))) e)
 
-edges-uniform : (entities : Bool) (n : Node) (xs : List Expression) → Uniform 1 (n .verifier) (edgesTo entities n xs)
+pub edges-uniform : (entities : Bool) (n : Node) (xs : List Expression) → Uniform 1 (n .verifier) (edgesTo entities n xs)
 edges-uniform entities n xs =
     record { each = λ w m. let f = map-find (λ x. childFor 1 n x (n .subject)) (keep (admits entities n) xs) m in (ap (λ (v : Wanted). v .kind) (f .2), ap (λ (v : Wanted). v .verifier) (f .2), ap (λ (v : Wanted). v .direct) (f .2)) }
 
