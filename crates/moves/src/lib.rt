@@ -4,11 +4,11 @@ mod predicates;
 
 use expression::Expression;
 use expression::Role;
+pub use initial::initial_state;
 use message::Command;
+pub use predicates::stops;
 use rt0::Pool;
 use tables::House;
-pub use initial::initial_state;
-pub use predicates::stops;
 
 // Of which expressions a frontier consists.
 pub enum Predicate {

@@ -1,4 +1,6 @@
 pub mod Reply
+pub mod Outgoing
+pub mod Carry
 pub mod Cases
 pub mod Stays
 pub mod TwoReplies
