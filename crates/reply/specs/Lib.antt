@@ -1,6 +1,10 @@
 pub mod Reply
 pub mod Outgoing
 pub mod Carry
+pub mod Going
+pub mod Turns
+pub mod TurnLaws
+pub mod Writing
 pub mod Cases
 pub mod Stays
 pub mod TwoReplies

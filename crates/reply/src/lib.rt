@@ -4,6 +4,7 @@ use negotiation::Negotiation;
 
 mod carry;
 mod stubs;
+mod turns;
 
 // What comes next: 0 this move, 1 the reply stops, 2 it stops as the move would pass a size.
 pub struct Turn {
