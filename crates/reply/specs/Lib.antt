@@ -1,11 +1,12 @@
 pub mod Reply
 pub mod Outgoing
 pub mod Carry
-pub mod Going
 pub mod Turns
 pub mod TurnLaws
 pub mod Writing
+pub mod Moved
 pub mod Cases
 pub mod Stays
 pub mod TwoReplies
 pub mod ReplyPublic
+pub mod ReplyLegal

@@ -42,7 +42,7 @@ use Rattle.moves.specs.Rules.{endIn}
 use Rattle.moves.specs.Move.{Move, moveFor, nextMove}
 use Rattle.moves.specs.Carried.{hasRoomFor}
 use Rattle.reply.specs.declared.Turn.{Turn}
-use Rattle.reply.specs.Going.{Going, going-nodes, going-edges}
+use Rattle.legality.specs.Going.{Going, going-nodes, going-edges}
 use Rattle.reply.specs.Outgoing.{shows}
 use Rattle.reply.specs.Turns.{Next, stops, goes, byRoom, fitsBehind, behindMove, nextIn, nextOf}
 

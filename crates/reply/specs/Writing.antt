@@ -23,7 +23,8 @@ use Rattle.moves.specs.Carried.{carried, hasRoomFor}
 use Rattle.reply.specs.declared.Turn.{Turn}
 use Rattle.reply.specs.declared.Replying.{Replying}
 use Rattle.reply.specs.Reply.{Replied, stopped}
-use Rattle.reply.specs.Going.{Going, move-going}
+use Rattle.legality.specs.Going.{Going}
+use Rattle.legality.specs.Kept.{move-going}
 use Rattle.reply.specs.Outgoing.{bytes-append}
 use Rattle.reply.specs.Carry.{paste-length, pasted-behind}
 use Rattle.reply.specs.Turns.{Next, stops, goes, byRoom, fitsBehind, behindMove, nextIn, nextOf, behind, goOn, restFrom, behind-behind, bytes-behind}
@@ -53,7 +54,7 @@ pub record Fits (T : Tables) (S : State) (at : ℕ) (m : List Command) : Type 0 
   pub room : hasRoomFor (S .header .side) S m ≡ true
   pub most : at + length (bytesOf m) + 1 ≤ 4096
 
-next-fits : (T : Tables) (S : State) (at : ℕ) (m : List Command) → nextIn T S at ≡ goes m → Fits T S at m
+pub next-fits : (T : Tables) (S : State) (at : ℕ) (m : List Command) → nextIn T S at ≡ goes m → Fits T S at m
 unfolding nextIn
 next-fits T S at m h = by-primary (eqb (propagated (S .nodes) (S .edges) 0) 1) (nextMove (endIn T S)) refl h
   where

@@ -21,7 +21,7 @@ ghost use Rattle.tables.specs.Tables.{tablesOf};
 ghost use Rattle.negotiation.specs.State.{stateOf, within};
 ghost use Rattle.moves.specs.Own.{Prepared, commandsOf};
 ghost use Rattle.moves.specs.Carried.{hasRoomFor};
-ghost use Rattle.reply.specs.Going.{Going};
+ghost use Rattle.legality.specs.Going.{Going};
 ghost use Rattle.reply.specs.Turns.{byRoom, fitsBehind, nextIn, nextOf, restFrom};
 ghost use Rattle.reply.specs.TurnLaws.{isNothing};
 ghost use Rattle.reply.specs.Writing.{Gives};

@@ -56,7 +56,7 @@ pub record Led (ns : List Name) (S : State) (v : Bool) (T : State) (w : Bool) : 
 
 -- One command
 
-step-header : (S : State) (s : ℕ) (c : Command) → stepped S s c .header ≡ S .header
+pub step-header : (S : State) (s : ℕ) (c : Command) → stepped S s c .header ≡ S .header
 unfolding stepped withShown withNode withEdge withMark
 step-header S s (Show c) = refl
 step-header S s (Open o) = refl
@@ -65,7 +65,7 @@ step-header S s (Join e) = refl
 step-header S s (Mark i) = refl
 step-header S s End = refl
 
-step-still : (S : State) (s : ℕ) (c : Command) → isMove c ≡ false → (stepped S s c .nodes ≡ S .nodes) × (stepped S s c .edges ≡ S .edges)
+pub step-still : (S : State) (s : ℕ) (c : Command) → isMove c ≡ false → (stepped S s c .nodes ≡ S .nodes) × (stepped S s c .edges ≡ S .edges)
 unfolding stepped withShown
 step-still S s (Show c) h = (refl, refl)
 step-still S s (Open o) h = absurd (false-true (sym h))
@@ -74,7 +74,7 @@ step-still S s (Join e) h = absurd (false-true (sym h))
 step-still S s (Mark i) h = absurd (false-true (sym h))
 step-still S s End h = (refl, refl)
 
-step-some : (S : State) (s : ℕ) (c : Command) → (length (S .nodes) ≡ 0 → ⊥) → length (stepped S s c .nodes) ≡ 0 → ⊥
+pub step-some : (S : State) (s : ℕ) (c : Command) → (length (S .nodes) ≡ 0 → ⊥) → length (stepped S s c .nodes) ≡ 0 → ⊥
 unfolding stepped withShown withNode withEdge withMark
 step-some S s (Show c) some z = some z
 step-some S s (Open o) some z = omega (arith, length-append (S .nodes) (primaryOf (S .header) o ∷ []))

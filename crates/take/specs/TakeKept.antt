@@ -129,7 +129,7 @@ took m T S A h = by-end (eqb (S .header .end) 0) refl h
     by-end false e q = absurd (false-true (ap isAccepted q))
 
 -- while it goes on, the primary is neither satisfied nor failed
-going-on : (p e i : ℕ) → e ≡ 0 → endSound p e i ≡ true → (p ≡ 1 → ⊥) × (p ≡ 2 → ⊥)
+pub going-on : (p e i : ℕ) → e ≡ 0 → endSound p e i ≡ true → (p ≡ 1 → ⊥) × (p ≡ 2 → ⊥)
 unfolding endSound
 going-on p e i z h = go (eqb p 1) refl (eqb p 2) refl (sym (ap (λ (k : ℕ). endSound p k i) z) ∙ h)
   where

@@ -86,7 +86,7 @@ module _ (ns : List Name) (s : ℕ) (m : List ℕ) where
       ∙ ap (λ (k : ℕ). C.judged k (cond (C.isEnd c) (C.taken S v) (C.commandsFrom f ns s m (at + sizeOf c) (stepped S s c) (v || isMove c)))) (legal-exactly ns s S c .1 l)
 
   -- the commands from an index on
-  carried : {S T : State} {cs : List Command} → Updates ns s S cs T → Legal ns s T End → (f at : ℕ) (v : Bool) → drop at m ≡ messageBytes cs → length (messageBytes cs) ≤ f → C.commandsFrom f ns s m at S v ≡ C.taken T (v || moved cs)
+  pub carried : {S T : State} {cs : List Command} → Updates ns s S cs T → Legal ns s T End → (f at : ℕ) (v : Bool) → drop at m ≡ messageBytes cs → length (messageBytes cs) ≤ f → C.commandsFrom f ns s m at S v ≡ C.taken T (v || moved cs)
   unfolding commandBytes formedCommand
   carried (none {S}) l zero at v h few = absurd (omega arith)
   carried (none {S}) l (suc f) at v h few = taken-one f at S v End (command-back m at End [] h refl (λ q. refl)) l ∙ ap (C.taken S) (sym (or-none v))
