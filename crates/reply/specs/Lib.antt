@@ -10,3 +10,5 @@ pub mod Stays
 pub mod TwoReplies
 pub mod ReplyPublic
 pub mod ReplyLegal
+pub mod ReplyLaws
+pub mod CallLaws

@@ -27,7 +27,7 @@ use Rattle.moves.specs.declared.Choice.{Choice}
 use Rattle.moves.specs.declared.Choice.the-variants as K
 use Rattle.moves.specs.Wanted.{childStands}
 use Rattle.moves.specs.Rules.{End as OurEnd, endIn}
-use Rattle.moves.specs.Move.{Move, edgeCommand, moveFor, choiceAt, orNext, movesFrom, nextMove}
+use Rattle.moves.specs.Move.{Move, credentialsFor, edgeCommand, moveFor, choiceAt, orNext, movesFrom, nextMove}
 use Rattle.moves.specs.Carried.{carried}
 use Rattle.reply.specs.Reply.{Replied, opening, replyFrom, replyIn}
 use Rattle.reply.specs.Turns.{Next, stops, goes, nextIn, behind, goOn, restFrom, from-rest}
@@ -57,18 +57,18 @@ edge-moved o i w = go (childStands (o .state .nodes) w) _ _
     go false e n = refl
 
 for-moves : (o : OurEnd) (i : ℕ) (n : Node) (k : Choice) → Moves (moveFor o i n k)
-for-moves o i n (K.Edge w) = inr (last-moved _ (edgeCommand o i w) (edge-moved o i w))
+for-moves o i n (K.Edge w) = inr (last-moved (credentialsFor o n w) (edgeCommand o i w) (edge-moved o i w))
 for-moves o i n K.Mark = inr refl
 for-moves o i n K.Nothing = inl refl
 
-or-moves : (a b : Move) → Moves a → Moves b → Moves (orNext a b)
-or-moves [] b m k = k
-or-moves (c ∷ a) b m k = m
+or-moves : (o : OurEnd) (a b : Move) → Moves a → Moves b → Moves (orNext o a b)
+or-moves o [] b m k = k
+or-moves o (c ∷ a) b m k = m
 
 from-moves : (o : OurEnd) (i : ℕ) (ns : List Node) → Moves (movesFrom o i ns)
 unfolding movesFrom
 from-moves o i [] = inl refl
-from-moves o i (n ∷ ns) = or-moves (moveFor o i n (choiceAt o i n)) (movesFrom o (suc i) ns) (for-moves o i n (choiceAt o i n)) (from-moves o (suc i) ns)
+from-moves o i (n ∷ ns) = or-moves o (moveFor o i n (choiceAt o i n)) (movesFrom o (suc i) ns) (for-moves o i n (choiceAt o i n)) (from-moves o (suc i) ns)
 
 next-moves : (o : OurEnd) → Moves (nextMove o)
 unfolding nextMove

@@ -2,9 +2,12 @@
 use moves::Outgoing;
 use negotiation::Negotiation;
 
+mod call;
 mod carry;
 mod stubs;
 mod turns;
+
+pub use call::reply;
 
 // What comes next: 0 this move, 1 the reply stops, 2 it stops as the move would pass a size.
 pub struct Turn {
