@@ -61,34 +61,48 @@ module _ {P : Pool} {on stop : List ℕ} {e : Role} where
         let b : bodyAt P (w .0) ≡ c .body = sym (ap (λ (d : Credential). d .body) (w .3)) in
         walk (w .0) (next k (S .stops j (chain-below k) ∙ (ap pred q ∙ n)) (q ∙ (r ∙ z)) (w .1) (w .2)) b h
 
-    back : {f : Expression} (i : ℕ) → pred (E.Role e) ≡ false → Chain P on stop e i → Frontier pred (chosen P on) (bodyAt P i) f → Frontier pred (chosen P on) (E.Role e) f
+    -- a chain begins with a credential of the role
+    begun : {f : Expression} (i : ℕ) → Chain P on stop e i → Frontier pred (chosen P on) (bodyAt P i) f
+        → (c : Credential) × List·Memᴰ c (chosen P on) × (c .head ≡ e) × Frontier pred (chosen P on) (c .body) f
     unfolding chosen
-    back i n (first l o h) k = through {c = credentialAt P i} n (chosen-mem P on (P .count) i l o) (ap E.Role (sym h)) k
-    back i n (next {j = j} c s q l o) k =
-        back j n c (through {c = credentialAt P i} (sym (S .stops j (chain-below c)) ∙ s) (chosen-mem P on (P .count) i l o) q k)
+    begun i (first l o h) k = (credentialAt P i, chosen-mem P on (P .count) i l o, h, k)
+    begun i (next {j = j} c s q l o) k = begun j c (through {c = credentialAt P i} (sym (S .stops j (chain-below c)) ∙ s) (chosen-mem P on (P .count) i l o) q k)
 
-    -- where pred is false of a role, a chain leads to each member of its frontier
-    pub frontier-stopped : {f : Expression} → pred (E.Role e) ≡ false → Frontier pred (chosen P on) (E.Role e) f → Stopped P on stop e f
+    -- a chain leads to each member of the frontier of the body of a credential of the role
+    pub body-stopped : {f : Expression} (c : Credential) → List·Memᴰ c (chosen P on) → c .head ≡ e → Frontier pred (chosen P on) (c .body) f → Stopped P on stop e f
     unfolding chosen
-    frontier-stopped n (here h) = absurd (false-true (sym n ∙ h))
-    frontier-stopped n (through {c = c} _ m r h) =
+    body-stopped c m h k =
         let w = chosen-find P on (P .count) c m in
         let z : headAt P (w .0) ≡ c .head = sym (ap (λ (d : Credential). d .head) (w .3)) in
         let b : bodyAt P (w .0) ≡ c .body = sym (ap (λ (d : Credential). d .body) (w .3)) in
-        walk (w .0) (first (w .1) (w .2) (z ∙ sym (role-eq r))) b h
+        walk (w .0) (first (w .1) (w .2) (z ∙ h)) b k
+
+    -- and each stop that a chain leads to is a member of such a frontier
+    pub stopped-body : {f : Expression} → Stopped P on stop e f → (c : Credential) × List·Memᴰ c (chosen P on) × (c .head ≡ e) × Frontier pred (chosen P on) (c .body) f
+    stopped-body {f} w =
+        begun (w .at) (w .chain) (subst (λ (x : Expression). Frontier pred (chosen P on) (bodyAt P (w .at)) x) (w .body) (here (sym (S .stops (w .at) (chain-below (w .chain))) ∙ w .ends)))
+
+    -- where pred is false of a role, a chain leads to each member of its frontier
+    pub frontier-stopped : {f : Expression} → pred (E.Role e) ≡ false → Frontier pred (chosen P on) (E.Role e) f → Stopped P on stop e f
+    frontier-stopped n (here h) = absurd (false-true (sym n ∙ h))
+    frontier-stopped n (through {c = c} _ m r h) = body-stopped c m (sym (role-eq r)) h
 
     -- and each stop that a chain leads to is a member
     pub stopped-frontier : {f : Expression} → pred (E.Role e) ≡ false → Stopped P on stop e f → Frontier pred (chosen P on) (E.Role e) f
-    stopped-frontier {f} n w =
-        back (w .at) n (w .chain) (subst (λ (x : Expression). Frontier pred (chosen P on) (bodyAt P (w .at)) x) (w .body) (here (sym (S .stops (w .at) (chain-below (w .chain))) ∙ w .ends)))
+    stopped-frontier n w = let b = stopped-body w in through {c = b .0} n (b .1) (ap E.Role (sym (b .2))) (b .3)
 
     -- both: the members are the stops that the chains come to
     pub frontier-chain : {f : Expression} → pred (E.Role e) ≡ false → (Frontier pred (chosen P on) (E.Role e) f → Stopped P on stop e f) × (Stopped P on stop e f → Frontier pred (chosen P on) (E.Role e) f)
     frontier-chain n = (frontier-stopped n, stopped-frontier n)
 
-    -- the frontier as it is read off a column of the credentials found
+    -- the stops as they are read off a column of the credentials found
+    module _ {r : List ℕ} {f : Expression} (R : Reaches P on stop e r) where
+      pub stopped-member : Stopped P on stop e f → Member P stop r f
+      stopped-member w = record { at = w .at; below = chain-below (w .chain); flagged = R .complete (w .at) (w .chain); ends = w .ends; body = w .body }
+
+      pub member-stopped : Member P stop r f → Stopped P on stop e f
+      member-stopped m = record { at = m .at; chain = R .sound (m .at) (m .flagged); ends = m .ends; body = m .body }
+
+    -- the frontier as it is read off the column
     pub frontier-member : {r : List ℕ} {f : Expression} → pred (E.Role e) ≡ false → Reaches P on stop e r → (Frontier pred (chosen P on) (E.Role e) f → Member P stop r f) × (Member P stop r f → Frontier pred (chosen P on) (E.Role e) f)
-    frontier-member {r} {f} n R = (λ h. member (frontier-stopped n h), λ m. stopped-frontier n (record { at = m .at; chain = R .sound (m .at) (m .flagged); ends = m .ends; body = m .body }))
-      where
-        member : Stopped P on stop e f → Member P stop r f
-        member w = record { at = w .at; below = chain-below (w .chain); flagged = R .complete (w .at) (w .chain); ends = w .ends; body = w .body }
+    frontier-member n R = (λ h. stopped-member R (frontier-stopped n h), λ m. stopped-frontier n (member-stopped R m))

@@ -34,11 +34,11 @@ module _ {A : Type 0} where
       )
 
   module _ {B : Type 0} (f : A → List B) where
-    gather-mem : {x : A} {xs : List A} {y : B} → List·Memᴰ x xs → List·Memᴰ y (f x) → List·Memᴰ y (gather f xs)
+    pub gather-mem : {x : A} {xs : List A} {y : B} → List·Memᴰ x xs → List·Memᴰ y (f x) → List·Memᴰ y (gather f xs)
     gather-mem {y = y} (List·Memᴰ·head {x = z} {xs = zs} e) k = Memᴰ·append-left (gather f zs) (subst (λ (w : A). List·Memᴰ y (f w)) e k)
     gather-mem (List·Memᴰ·tail {x = z} {xs = zs} m) k = Memᴰ·append-right (f z) (gather-mem m k)
 
-    gather-find : (xs : List A) {y : B} → List·Memᴰ y (gather f xs) → (x : A) × List·Memᴰ x xs × List·Memᴰ y (f x)
+    pub gather-find : (xs : List A) {y : B} → List·Memᴰ y (gather f xs) → (x : A) × List·Memᴰ x xs × List·Memᴰ y (f x)
     gather-find [] m = absurd (List·Memᴰ·not-nil m)
     gather-find (x ∷ xs) m =
         ⊎-elim (λ k. (x, List·Memᴰ·head refl, k)) (λ k. let r = gather-find xs k in (r .0, List·Memᴰ·tail (r .1), r .2)) (List·Memᴰ·append-cases (f x) m)

@@ -9,6 +9,7 @@ pub mod Cases
 pub mod Stays
 pub mod TwoReplies
 pub mod ReplyPublic
+pub mod ReplyLength
 pub mod ReplyLegal
 pub mod ReplyLaws
 pub mod CallLaws

@@ -1,0 +1,9 @@
+pub mod Least
+pub mod Offers
+pub mod Members
+pub mod DoneLaws
+pub mod MembersLaws
+pub mod Subject
+pub mod Parts
+pub mod Goals
+pub mod Links
