@@ -1,0 +1,61 @@
+use Prim.Native.Nat.{_-_}
+use native.Mathlib.Omega.{arith}
+use mathlib.Core.Bool.{not}
+use borrow.Author.Needs.{needs}
+use Rattle.rt0.specs.Pool.{poolOf, credentials}
+use Rattle.damage.specs.Records.{isShown}
+use Rattle.sending.specs.Unshown.{unshownOf, isNew}
+use Rattle.sending.specs.Behind.{Behind, behind-start, behind-next, behind-all}
+use Rattle.sending.proofs.pool.own_pool.Statement.{statement}
+use Rattle.sending.proofs.pool.own_pool.Tie as tie
+
+abbrev Inv-loop : tie.InvT-loop
+Inv-loop m heads kinds numbers on shown h₀ k₀ u₀ count₀ i₀ h k u count i = Behind (λ c. not (isShown (credentials shown) c)) shown (poolOf m heads kinds numbers) on i (poolOf count h k u)
+
+abbrev μ-loop : tie.MeasureT-loop
+μ-loop m heads kinds numbers on shown h₀ k₀ u₀ count₀ i₀ h k u count i = m - i
+
+loop-holds : tie.Need-loop-holds Inv-loop μ-loop
+loop-holds c = behind-start _ _ _ _ (record { heads = search needs; kinds = search needs; numbers = search needs })
+
+credential-at-requires : tie.Need-credential-at-requires Inv-loop μ-loop
+credential-at-requires c κs = search needs
+
+element-copy-out-is-new : tie.Need-element-copy-out-is-new Inv-loop μ-loop
+element-copy-out-is-new c = search needs
+
+is-new-requires : tie.Need-is-new-requires Inv-loop μ-loop
+is-new-requires c κs = search needs
+
+store-if-requires : tie.Need-store-if-requires Inv-loop μ-loop
+store-if-requires c κs = (omega (arith, c .before .before .before .before .before .before .before .before .before .before .before .loop .inv .few, c .before .before .before .before .before .before .before .before .before .before .loop-test .taken, c .before .before .before .before .before .before .before .before .before .before .before .before .before .before .before .pre .0, c .before .before .before .before .before .before .before .before .before .before .before .before .before .before .before .pre .1), c .before .before .before .before .before .before .before .before .before .before .before .loop .inv .sized)
+
+add-i : tie.Need-add-i Inv-loop μ-loop
+add-i c = omega arith
+
+loop-less : tie.Need-loop-less Inv-loop μ-loop
+loop-less c = omega arith
+
+loop-again : tie.Need-loop-again Inv-loop μ-loop
+unfolding isNew
+loop-again c = behind-next _ _ _ _ (c .before .before .before .before .before .before .before .before .before .before .before .before .loop .inv) (c .before .before .before .before .before .before .before .before .before .before .before .loop-test .taken) (c .before .before .before .before .before .before .before .before .before .before .credential-at .ensures) (c .before .before .before .before .is-new .ensures) (c .store-if .ensures)
+
+returns : tie.Need-returns Inv-loop μ-loop
+unfolding unshownOf
+returns c = (omega (arith, c .before .loop .inv .few, c .before .loop .inv .within, c .before .before .before .before .before .pre .0, c .before .before .before .before .before .pre .1), behind-all _ _ _ _ (c .before .loop .inv) (c .loop-test .left))
+
+pub own-pool-spec : {M : Type 1} → statement M
+own-pool-spec =
+    tie.close
+    (tie.spec
+    Inv-loop
+    μ-loop
+    loop-holds
+    credential-at-requires
+    element-copy-out-is-new
+    is-new-requires
+    store-if-requires
+    add-i
+    loop-less
+    loop-again
+    returns)

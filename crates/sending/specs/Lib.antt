@@ -1,0 +1,6 @@
+pub mod Picked
+pub mod Behind
+pub mod Unshown
+pub mod Sent
+pub mod SentLaws
+pub mod Edge

@@ -1,0 +1,122 @@
+// The credentials that go before a command.
+use crate::pool::own_pool;
+use damage::is_shown;
+use expression::Credential;
+use expression::Expression;
+use graph::Node;
+use message::Command;
+use moves::Outgoing;
+use moves::Own;
+use needed::needed;
+use rt0::Pool;
+ghost use mathlib.Core.List.{[], _∷_};
+ghost use Prim.Native.Nat.{_≤_};
+ghost use Rattle.rt0.specs.Pool.{credentials};
+ghost use Rattle.rules.specs.Table.{chosen};
+ghost use Rattle.needed.specs.Needed.{needed as neededOf};
+ghost use Rattle.tables.specs.Tables.{tablesOf};
+ghost use Rattle.tables.specs.Public.{publicOf};
+ghost use Rattle.moves.specs.Own.{Prepared};
+ghost use Rattle.sending.specs.Unshown.{unshownOf};
+ghost use Rattle.sending.specs.Sent.{Sends, directIn, ownSetOf};
+
+// A command alone.
+pub fn alone(command: Command) -> Outgoing
+    ensures { λ r. ⌜ Sends [] command r ⌝ }
+{
+    Outgoing {
+        pool: Pool::empty(),
+        on: [0u8; 128],
+        command,
+    }
+}
+
+// One credential, unless shown.
+fn with_one(shown: Pool, c: Credential, command: Command) -> Outgoing
+    requires { ⌜ shown .count ≤ 64 ⌝ }
+    ensures { λ r. ⌜ Sends (unshownOf (credentials shown) (c ∷ [])) command r ⌝ }
+{
+    if is_shown(shown.count, &shown.heads, &shown.kinds, &shown.numbers, c) {
+        return alone(command);
+    }
+    let none = Pool::empty();
+    Outgoing {
+        pool: none.add(c),
+        on: [1u8; 128],
+        command,
+    }
+}
+
+// The direct credential of a role, unless shown. The rule that asks for it has looked whether we hold it.
+pub fn direct_for(own: u16, shown: Pool, f: Expression, command: Command) -> Outgoing
+    requires { ⌜ shown .count ≤ 64 ⌝ }
+    ensures { λ r. ⌜ Sends (directIn (credentials shown) own f) command r ⌝ }
+{
+    match f {
+        Expression::Entity(_) => alone(command),
+        Expression::Role(a) => with_one(
+            shown,
+            Credential {
+                head: a,
+                body: Expression::Entity(own),
+            },
+            command,
+        ),
+        Expression::Linked(_, _) => alone(command),
+        Expression::Intersection(_) => alone(command),
+        Expression::Goal(_) => alone(command),
+    }
+}
+
+// Those of a set of own credentials that are on, not shown, and needed for f from e.
+fn needed_of(
+    shown: Pool,
+    set: Pool,
+    on: [u8; 128],
+    f: Expression,
+    e: Expression,
+    command: Command,
+) -> Outgoing
+    requires { ⌜ (shown .count ≤ 64) × (set .count ≤ 64) ⌝ }
+    ensures { λ r. ⌜ Sends (neededOf (credentials shown) f e (unshownOf (credentials shown) (chosen set on))) command r ⌝ }
+{
+    let pool = own_pool(shown, set.count, &set.heads, &set.kinds, &set.numbers, &on);
+    let kept = needed(
+        pool.count,
+        &pool.heads,
+        &pool.kinds,
+        &pool.numbers,
+        shown.count,
+        f,
+        e,
+    );
+    Outgoing {
+        pool,
+        on: kept,
+        command,
+    }
+}
+
+// Those needed for node x from e, of our set for our side of it: 0x12 where we verify it, else 0x13 less direct credentials of sensitive
+// roles.
+pub fn needed_for(
+    own: Own,
+    side: u8,
+    shown: Pool,
+    x: Node,
+    e: Expression,
+    command: Command,
+) -> Outgoing
+    requires { ⌜ Prepared own × (shown .count ≤ 64) ⌝ }
+    ensures { λ r. ⌜ Sends (neededOf (credentials shown) (x .expression) e (unshownOf (credentials shown) (ownSetOf (publicOf (tablesOf (own .house))) side x))) command r ⌝ }
+{
+    let house = own.house;
+    let f = x.expression;
+    if x.verifier == side {
+        let issuer = house.issuer;
+        return needed_of(shown, issuer, [1u8; 128], f, e, command);
+    }
+    let subject = house.subject;
+    let visible = own.visible;
+    needed_of(shown, subject, visible, f, e, command)
+}

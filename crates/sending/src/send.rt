@@ -1,0 +1,61 @@
+// A move as it is sent.
+use crate::commands::edge_command;
+use crate::commands::node_of;
+use crate::credentials::alone;
+use crate::credentials::direct_for;
+use crate::credentials::needed_for;
+use message::Command;
+use moves::Choice;
+use moves::Found;
+use moves::Outgoing;
+use moves::Own;
+use moves::Wanted;
+use negotiation::Negotiation;
+ghost use mathlib.Core.Path.{_≡_};
+ghost use mathlib.Core.Bool.{true};
+ghost use Prim.Native.Nat.{_≤_, _<_};
+ghost use Rattle.tables.specs.Tables.{tablesOf};
+ghost use Rattle.negotiation.specs.State.{stateOf, within};
+ghost use Rattle.moves.specs.declared.Choice.the-variants as K;
+ghost use Rattle.moves.specs.Own.{Prepared, foundMove, commandsOf};
+ghost use Rattle.moves.specs.Rules.{endIn};
+ghost use Rattle.sending.specs.Edge.{EdgeSent};
+
+const IMPLICATION: u8 = 1;
+
+// An edge into node i behind the credentials it needs.
+fn edge(own: Own, n: Negotiation, i: u8, w: Wanted) -> Outgoing
+    requires { ⌜ Prepared own × (within (stateOf n) ≡ true) × (i < n .nodes .count) ⌝ }
+    ensures { λ r. ⌜ EdgeSent (endIn (tablesOf (own .house)) (stateOf n)) i w r ⌝ }
+{
+    let house = own.house;
+    let header = n.header;
+    let nodes = n.nodes;
+    let shown = n.shown;
+    let names = house.names;
+    let command = edge_command(names, header.side, nodes, i, w);
+    if w.kind != IMPLICATION {
+        return alone(command);
+    }
+    let x = node_of(nodes, i);
+    if w.direct {
+        let f = x.expression;
+        return direct_for(house.own, shown, f, command);
+    }
+    let e = w.expression;
+    needed_for(own, header.side, shown, x, e, command)
+}
+
+// The move that is found.
+pub fn outgoing(own: Own, n: Negotiation, found: Found) -> Outgoing
+    requires { ⌜ Prepared own × (within (stateOf n) ≡ true) × (found .node < n .nodes .count) × ((found .choice ≡ K.Nothing) → ⊥) ⌝ }
+    ensures sent { λ r. ⌜ commandsOf r ≡ foundMove (endIn (tablesOf (own .house)) (stateOf n)) found ⌝ }
+    ensures few { λ r. ⌜ r .pool .count ≤ 128 ⌝ }
+{
+    let choice = found.choice;
+    match choice {
+        Choice::Edge(w) => edge(own, n, found.node, w),
+        Choice::Mark => alone(Command::Mark(found.node)),
+        Choice::Nothing => alone(Command::End),
+    }
+}
