@@ -1,6 +1,5 @@
 // The call: lengths, tables, negotiation, end and turn, then the reply.
 use crate::Replying;
-use crate::stubs::own_of;
 use crate::turns::MESSAGE;
 use crate::turns::reply_from;
 use crate::turns::replying;
@@ -16,6 +15,7 @@ use moves::initial_state;
 use negotiation::Negotiation;
 use negotiation::write;
 use negotiation::write_zeros;
+use sending::own_of;
 use tables::House;
 use take::sends;
 use update::after_message;

@@ -8,7 +8,7 @@ use Rattle.reply.proofs.call.replied_in.Reads as reads
 use Rattle.reply.proofs.call.replied_in.Lts as lts
 use Rattle.message.proofs.write_command.Reads as write-command-reads
 use Rattle.reply.proofs.call.reply_in.Reads as reply-in-reads
-use Rattle.reply.proofs.stubs.own_of.Reads as own-of-reads
+use Rattle.sending.proofs.own_of.Reads as own-of-reads
 use Rattle.reply.proofs.turns.replying.Reads as replying-reads
 use Rattle.take.proofs.sends.Reads as sends-reads
 use Rattle.update.proofs.after_message.Reads as after-message-reads
