@@ -49,7 +49,7 @@ pub record Aimed (d : Wanted → Bool) (P : Pool) (on stop : List ℕ) (n : Node
   pub reaches : Reaches P on stop e found
   pub best : r
       ≡ cond (hasSubject P stop found (n .subject)) (better d C.Nothing (childFor 1 n (E.Entity (n .subject)) (n .subject)))
-        (folded (P .count) (offer d (isMember P stop found false n) (memberEdge P n)) C.Nothing)
+      (folded (P .count) (offer d (isMember P stop found false n) (memberEdge P n)) C.Nothing)
 
 module _ {P : Pool} {stop found : List ℕ} {xs : List Expression} (D : Reads P stop found xs) where
   subject-read : (s : ℕ) → hasSubject P stop found s ≡ any (same (E.Entity s)) xs

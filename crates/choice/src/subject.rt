@@ -1,7 +1,7 @@
 // The edge to the subject where a frontier has it, else those to what is no entity.
+use crate::done::better;
 use crate::members::child_for;
 use crate::members::with_members;
-use crate::done::better;
 use expression::Expression;
 use expression::Role;
 use expression::same;

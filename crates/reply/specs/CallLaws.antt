@@ -1,9 +1,8 @@
 -- What the call leaves in the buffers. Assumes nothing.
 use Prim.Native.Nat.{ℕ, _-_, _*_, _≤_}
-use native.Mathlib.Omega.{arith}
 use mathlib.Core.Path.{_≡_, refl, sym, _∙_, ap, subst}
 use mathlib.Core.Bool.{Bool, true, false, not, cond}
-use mathlib.Core.List.{List, _++_}
+use mathlib.Core.List.{List}
 use mathlib.Core.Option.{Option, none, some}
 use borrow.Author.Tests.{eq-eqb, ne-eqb, not-true, not-false, eqb-true, leb-true}
 use lib.Dec.{eqb, leb}
@@ -21,7 +20,7 @@ use Rattle.damage.specs.declared.Restored.{Restored}
 use Rattle.damage.specs.Damage.{readSound}
 use Rattle.damage.specs.Restored as R
 use Rattle.reply.specs.declared.Replying.{Replying}
-use Rattle.reply.specs.Reply.{replyIn, replyBytes, Outcome, refused, given, repliedIn, behindStanding, replySize, replyOf, answerOf, negotiationLeft, replyLeft, scratchLeft}
+use Rattle.reply.specs.Reply.{Outcome, refused, repliedIn, behindStanding, replySize, replyOf, answerOf, negotiationLeft, replyLeft, scratchLeft}
 use Rattle.reply.specs.ReplyLaws.{Replies}
 
 -- Tables that stand are sound

@@ -3,7 +3,7 @@ use Prim.Native.Nat.{ℕ, zero, suc, _+_, _<_}
 use native.Mathlib.Omega.{arith}
 use mathlib.Core.Path.{_≡_, refl, sym, _∙_, ap, subst}
 use mathlib.Core.Logic.{_⊎_, inl, inr, ⊎-elim}
-use mathlib.Core.Bool.{Bool, true, false, not, cond, _||_}
+use mathlib.Core.Bool.{Bool, true, false, not, cond}
 use mathlib.Core.List.{List, [], _∷_, _++_, map}
 use borrow.Author.Tests.{ne-eqb}
 use lib.Dec.{eqb}
@@ -29,7 +29,7 @@ use Rattle.moves.specs.Wanted.{childStands}
 use Rattle.moves.specs.Rules.{End as OurEnd, endIn}
 use Rattle.moves.specs.Move.{Move, credentialsFor, edgeCommand, moveFor, choiceAt, orNext, movesFrom, nextMove}
 use Rattle.moves.specs.Carried.{carried}
-use Rattle.reply.specs.Reply.{Replied, opening, replyFrom, replyIn}
+use Rattle.reply.specs.Reply.{Replied, opening, replyIn}
 use Rattle.reply.specs.Turns.{Next, stops, goes, nextIn, behind, goOn, restFrom, from-rest}
 use Rattle.reply.specs.Writing.{next-fits}
 

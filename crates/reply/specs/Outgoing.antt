@@ -2,23 +2,21 @@
 use Prim.Native.Nat.{ℕ, zero, suc, _+_, _*_, _≤_, _<_}
 use native.Mathlib.Omega.{arith}
 use native.Mathlib.Numerals.{add-one}
-use mathlib.Core.Path.{_≡_, refl, sym, _∙_, ap, subst}
+use mathlib.Core.Path.{_≡_, refl, sym, _∙_, ap}
 use mathlib.Core.Bool.{Bool, true, false, cond, _&&_}
 use mathlib.Core.List.{List, [], _∷_, _++_, map, append-assoc, append-nil}
-use borrow.Author.Tests.{eq-eqb, ne-eqb, lt-ltb, ltb-true, ltb-false}
+use borrow.Author.Tests.{eq-eqb, ne-eqb, lt-ltb, ltb-true}
 use lib.Dec.{eqb, ltb}
 use lib.ListN.{length, length-append}
-use lib.Seq.{paste-zero, length-paste}
+use lib.Seq.{paste-zero}
 use Rattle.expression.specs.declared.Credential.{Credential}
 use Rattle.expression.specs.Bytes.{pasted}
-use Rattle.expression.specs.Codec.{paste-paste}
 use Rattle.rt0.specs.declared.Pool.{Pool}
 use Rattle.rt0.specs.Lists.{and-parts}
 use Rattle.rt0.specs.Pool.{credentials, credentialAt}
 use Rattle.rt0.specs.Added.{count-length}
 use Rattle.rules.specs.Table.{chosenTo, chosen}
 use Rattle.closure.specs.Rules.{el}
-use Rattle.graph.specs.Graph.{nodesOf, edgesOf}
 use Rattle.graph.specs.Columns.{nodes-length, edges-length}
 use Rattle.message.specs.declared.NewEdge.{NewEdge}
 use Rattle.message.specs.declared.Command.{Command}

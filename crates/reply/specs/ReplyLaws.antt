@@ -1,29 +1,24 @@
 -- The call, test by test. Assumes nothing.
-use Prim.Native.Nat.{ℕ, zero, suc, _+_, _-_, _*_, _≤_, _<_}
+use Prim.Native.Nat.{ℕ, _+_, _≤_, _<_}
 use native.Mathlib.Omega.{arith}
 use mathlib.Core.Path.{_≡_, refl, sym, _∙_, ap, subst}
-use mathlib.Core.Bool.{Bool, true, false, not, cond, _&&_}
+use mathlib.Core.Bool.{Bool, true, false, not, cond}
 use mathlib.Core.List.{List, [], _∷_, _++_, append-nil, append-assoc}
-use mathlib.Core.Option.{Option, none, some}
-use borrow.Author.Tests.{eq-eqb, ne-eqb, lt-ltb, not-true, not-false, eqb-true, eqb-false, leb-true}
-use lib.Dec.{eqb, ltb, leb}
+use borrow.Author.Tests.{eq-eqb, ne-eqb, lt-ltb, not-false, eqb-true, eqb-false}
+use lib.Dec.{eqb}
 use lib.ListN.{length, drop, length-append}
 use lib.Seq.{paste-zero, take-length}
 use Rattle.expression.specs.declared.Role.{Role}
 use Rattle.expression.specs.declared.Expression.the-variants as E
 use Rattle.expression.specs.Bytes.{pasted}
-use Rattle.rt0.specs.Lists.{and-parts, false-true}
 use Rattle.class.specs.declared.Name.{Name}
 use Rattle.class.specs.Names.{namesOf}
 use Rattle.tables.specs.declared.House.{House}
 use Rattle.tables.specs.Tables.{Tables, tablesOf}
 use Rattle.tables.specs.Accepted.{Sound}
-use Rattle.tables.specs.AcceptedLaws.{accepted-sound}
-use Rattle.tables.specs.Check as C
 use Rattle.graph.specs.Graph.{nodesOf, edgesOf}
 use Rattle.graph.specs.Columns.{nodes-length}
 use Rattle.states.specs.Brings.{NodesFormed, EdgesFormed}
-use Rattle.message.specs.declared.Opening.{Opening}
 use Rattle.message.specs.declared.Command.{Command}
 use Rattle.message.specs.declared.Command.the-variants.{Open, End}
 use Rattle.message.specs.Command.{commandBytes, sizeOf}
@@ -31,14 +26,10 @@ use Rattle.message.specs.CommandExact.{command-length}
 use Rattle.negotiation.specs.declared.Header.{Header}
 use Rattle.negotiation.specs.declared.Negotiation.{Negotiation}
 use Rattle.negotiation.specs.State.{State, stateOf, within, withHeader}
-use Rattle.negotiation.specs.Layout.{stateBytes, zeros}
-use Rattle.negotiation.specs.LayoutLaws.{paste-whole, length-zeros}
-use Rattle.damage.specs.declared.Restored.{Restored}
-use Rattle.damage.specs.Damage.{sound, readSound}
-use Rattle.damage.specs.Restored as R
+use Rattle.damage.specs.Damage.{sound}
 use Rattle.update.specs.Step.{stepped, hasRoom}
 use Rattle.update.specs.After.{afterMessage}
-use Rattle.take.specs.Message.{bytesOf, messageBytes, moved}
+use Rattle.take.specs.Message.{bytesOf, messageBytes}
 use Rattle.take.specs.Take.{sends}
 use Rattle.take.specs.TakeKept.{sound-count}
 use Rattle.moves.specs.Initial.{initialState}
@@ -46,7 +37,7 @@ use Rattle.moves.specs.Carried.{carried}
 use Rattle.legality.specs.Going.{Going}
 use Rattle.legality.specs.Kept.{sound-going, opening-going, updates-header}
 use Rattle.reply.specs.declared.Replying.{Replying}
-use Rattle.reply.specs.Reply.{Replied, opening, replyIn, repliedState, replyBytes, Outcome, refused, given, repliedIn, behindStanding, replySize, replyOf, answerOf, negotiationLeft, replyLeft, scratchLeft}
+use Rattle.reply.specs.Reply.{Replied, opening, replyIn, repliedState, replyBytes, refused, given, repliedIn}
 use Rattle.reply.specs.Outgoing.{bytes-append, one-length}
 use Rattle.reply.specs.Carry.{paste-length, pasted-behind}
 use Rattle.reply.specs.Turns.{behind, restFrom, from-rest, bytes-behind}

@@ -1,17 +1,17 @@
 -- What comes next in a reply, test by test. Assumes nothing.
-use Prim.Native.Nat.{ℕ, zero, suc, _+_, _≤_, _<_}
+use Prim.Native.Nat.{ℕ, _+_, _≤_, _<_}
 use native.Mathlib.Omega.{arith}
-use mathlib.Core.Path.{_≡_, refl, sym, _∙_, ap, subst}
+use mathlib.Core.Path.{_≡_, refl, sym, _∙_, ap}
 use mathlib.Core.Bool.{Bool, true, false, not, cond, _&&_, _||_}
-use mathlib.Core.List.{List, [], _∷_, _++_, map}
-use borrow.Author.Tests.{eq-eqb, ne-eqb, lt-leb, le-leb, leb-true, not-true, not-false}
-use lib.Dec.{eqb, leb}
+use mathlib.Core.List.{List, [], _∷_, _++_}
+use borrow.Author.Tests.{ne-eqb, lt-leb, le-leb, not-true, not-false}
+use lib.Dec.{eqb}
 use lib.ListN.{length, getD, length-append}
 use Rattle.expression.specs.declared.Expression.{Expression}
 use Rattle.expression.specs.declared.Expression.the-variants as E
 use Rattle.expression.specs.Same.{same, same-eq}
 use Rattle.rt0.specs.Lists.{and-parts, false-true}
-use Rattle.propagation.specs.Flags.{at, flag}
+use Rattle.propagation.specs.Flags.{at}
 use Rattle.rt0.specs.declared.Pool.{Pool}
 use Rattle.rt0.specs.Pool.{credentials}
 use Rattle.rt0.specs.Added.{count-length}
@@ -20,7 +20,7 @@ use Rattle.tables.specs.Tables.{Tables}
 use Rattle.graph.specs.declared.Node.{Node}
 use Rattle.graph.specs.declared.Edge.{Edge}
 use Rattle.graph.specs.Graph.{nodesOf, edgesOf, nodeIn}
-use Rattle.graph.specs.Propagated.{completeAs, completeB, satisfiedB, failedB, stateOf as propagated}
+use Rattle.graph.specs.Propagated.{completeAs, completeB, failedB, stateOf as propagated}
 use Rattle.graph.specs.Columns.{nodes-length}
 use Rattle.states.specs.Brings.{NodesFormed, EdgesFormed}
 use Rattle.states.specs.Complete.{Settled, state-satisfied}
@@ -44,7 +44,7 @@ use Rattle.moves.specs.Carried.{hasRoomFor}
 use Rattle.reply.specs.declared.Turn.{Turn}
 use Rattle.legality.specs.Going.{Going, going-nodes, going-edges}
 use Rattle.reply.specs.Outgoing.{shows}
-use Rattle.reply.specs.Turns.{Next, stops, goes, byRoom, fitsBehind, behindMove, nextIn, nextOf}
+use Rattle.reply.specs.Turns.{stops, goes, byRoom, fitsBehind, behindMove, nextIn, nextOf}
 
 abbrev pub isNothing : Choice → Bool
 isNothing (K.Edge w) = false

@@ -1,12 +1,12 @@
 -- A reply while it is written, move by move. Assumes nothing.
-use Prim.Native.Nat.{ℕ, zero, suc, _+_, _-_, _≤_, _<_}
+use Prim.Native.Nat.{ℕ, suc, _+_, _-_, _≤_, _<_}
 use native.Mathlib.Omega.{arith}
 use mathlib.Core.Path.{_≡_, refl, sym, _∙_, ap, subst}
 use mathlib.Core.Bool.{Bool, true, false, cond}
-use mathlib.Core.List.{List, [], _∷_, _++_, append-assoc, append-nil}
+use mathlib.Core.List.{List, [], _∷_, _++_, append-nil}
 use borrow.Author.Tests.{leb-true}
-use lib.Dec.{eqb, leb}
-use lib.ListN.{length, length-append}
+use lib.Dec.{eqb}
+use lib.ListN.{length}
 use lib.Seq.{paste-zero}
 use Rattle.expression.specs.Bytes.{pasted}
 use Rattle.rt0.specs.Lists.{false-true}
@@ -14,7 +14,7 @@ use Rattle.tables.specs.Tables.{Tables}
 use Rattle.graph.specs.Propagated.{stateOf as propagated}
 use Rattle.message.specs.declared.Command.{Command}
 use Rattle.negotiation.specs.declared.Negotiation.{Negotiation}
-use Rattle.negotiation.specs.State.{State, stateOf, within}
+use Rattle.negotiation.specs.State.{State, stateOf}
 use Rattle.take.specs.Message.{bytesOf}
 use Rattle.moves.specs.Own.{commandsOf}
 use Rattle.moves.specs.Rules.{endIn}
@@ -25,7 +25,6 @@ use Rattle.reply.specs.declared.Replying.{Replying}
 use Rattle.reply.specs.Reply.{Replied, stopped}
 use Rattle.legality.specs.Going.{Going}
 use Rattle.legality.specs.Kept.{move-going}
-use Rattle.reply.specs.Outgoing.{bytes-append}
 use Rattle.reply.specs.Carry.{paste-length, pasted-behind}
 use Rattle.reply.specs.Turns.{Next, stops, goes, byRoom, fitsBehind, behindMove, nextIn, nextOf, behind, goOn, restFrom, behind-behind, bytes-behind}
 use Rattle.reply.specs.TurnLaws.{answer-stops, answer-goes}

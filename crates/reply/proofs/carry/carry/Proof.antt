@@ -1,4 +1,3 @@
-use native.Mathlib.Omega.{arith}
 use Rattle.negotiation.specs.State.{stateOf}
 use Rattle.reply.specs.Carry.{carry-room, carry-fits, carry-within, carry-step, carry-behind, carry-led}
 use borrow.Author.Needs.{needs}

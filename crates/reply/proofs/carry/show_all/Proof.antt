@@ -1,9 +1,8 @@
-use Rattle.reply.specs.Carry.{showing-length}
+use Rattle.reply.specs.Carry.{showing-length, Showing, showing-start, showing-end, showing-room, showing-fits, showing-next, showing-inside}
 use Prim.Native.Nat.{_-_}
 use native.Mathlib.Omega.{arith}
 use borrow.Author.Needs.{needs}
 use Rattle.negotiation.specs.State.{stateOf}
-use Rattle.reply.specs.Carry.{Showing, showing-start, showing-end, showing-room, showing-fits, showing-next, showing-inside}
 use Rattle.reply.proofs.carry.show_all.Statement.{statement}
 use Rattle.reply.proofs.carry.show_all.Tie as tie
 use Rattle.reply.proofs.carry.show_all.Reads as reads
