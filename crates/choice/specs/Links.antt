@@ -6,9 +6,9 @@ use mathlib.Core.Path.{_≡_, refl, sym, _∙_, ap, subst}
 use mathlib.Core.Logic.{⊎-elim}
 use mathlib.Core.Bool.{Bool, true, false, not, cond, _&&_, _||_}
 use mathlib.Core.List.{List, [], _∷_, map, List·Memᴰ, List·Memᴰ·head, List·Memᴰ·cases-cons, List·Memᴰ·not-nil}
-use borrow.Author.Tests.{eqb-true, eqb-false, eq-eqb, ne-eqb, leb-false, lt-leb, not-true, not-false}
-use lib.Dec.{eqb, leb}
-use lib.ListN.{length, getD, set, length-set}
+use borrow.Author.Tests.{eqb-true, eqb-false, eq-eqb, ne-eqb, ltb-true, lt-ltb, leb-false, lt-leb, not-true, not-false}
+use lib.Dec.{eqb, ltb, leb}
+use lib.ListN.{length, getD, set, length-set, replicate, length-replicate}
 use Rattle.expression.specs.declared.Role.{Role}
 use Rattle.expression.specs.declared.Expression.{Expression}
 use Rattle.expression.specs.declared.Expression.the-variants as E
@@ -16,7 +16,7 @@ use Rattle.rt0.specs.Pool.{upTo}
 use Rattle.rt0.specs.Lists.{false-true, and-parts, and-both, any, any-find, any-here, map-find, map-mem}
 use Rattle.tables.specs.Public.{keep}
 use Rattle.tables.specs.PublicLaws.{keep-find, keep-mem}
-use Rattle.propagation.specs.Flags.{at, flag, decided, bool-iff, flag-same, flag-grows, flag-cases}
+use Rattle.propagation.specs.Flags.{at, flag, decided, bool-iff, flag-zeros, flag-same, flag-grows, flag-cases}
 use Rattle.graph.specs.declared.Node.{Node}
 use Rattle.graph.specs.declared.Edge.{Edge}
 use Rattle.graph.specs.declared.Nodes.{Nodes}
@@ -33,9 +33,9 @@ use Rattle.moves.specs.declared.Choice.{Choice}
 use Rattle.moves.specs.declared.Choice.the-variants as C
 use Rattle.moves.specs.Frontiers.{gather}
 use Rattle.moves.specs.FrontiersExact.{gather-mem, gather-find}
-use Rattle.moves.specs.Wanted.{ordered, firstNot}
-use Rattle.moves.specs.Rules.{End, ownersIn, childFor, childrenBy, isSatisfied, solutionsOf}
-use Rattle.choice.specs.Least.{better, Uniform}
+use Rattle.moves.specs.Wanted.{ordered, firstNot, markIf, chosenIn, isDone}
+use Rattle.moves.specs.Rules.{End, ownersIn, childFor, childrenBy, isSatisfied, solutionsOf, linkRules}
+use Rattle.choice.specs.Least.{better, Uniform, orElse, first-rest}
 use Rattle.choice.specs.Offers.{folded, offer, offer-taken, offer-left, Among, Is, offers-first}
 
 -- The goals that a node monitors
@@ -47,8 +47,8 @@ pub record Monitoring (E : Edges) (i k : ℕ) (r : List ℕ) : Type 0 where
   pub all : (j : ℕ) → j < k → getD (E .kind) j 0 ≡ 2 → getD (E .parent) j 0 ≡ i → getD (E .child) j 0 < 128 → flag r (getD (E .child) j 0) ≡ true
 
 module _ (E : Edges) (i : ℕ) where
-  pub monitoring-start : (r : List ℕ) → length r ≡ 128 → ((g : ℕ) → flag r g ≡ false) → Monitoring E i 0 r
-  monitoring-start r l z = record { sized = l; from = λ g h. absurd (false-true (sym (z g) ∙ h)); all = λ j h. absurd (omega arith) }
+  pub monitoring-start : Monitoring E i 0 (replicate 128 0)
+  monitoring-start = record { sized = length-replicate {A = ℕ} 128 0; from = λ g h. absurd (false-true (sym (flag-zeros 128 g) ∙ h)); all = λ j h. absurd (omega arith) }
 
   -- edge k is none, or its child has no place in the column
   pub monitoring-skip : {k : ℕ} {r : List ℕ} → Monitoring E i k r → (getD (E .kind) k 0 ≡ 2 → getD (E .parent) k 0 ≡ i → getD (E .child) k 0 < 128 → ⊥) → Monitoring E i (k + 1) r
@@ -77,6 +77,25 @@ module _ (E : Edges) (i : ℕ) where
             (λ z. ap (λ (x : List ℕ). flag x (getD (E .child) j 0)) s ∙ flag-grows r c (getD (E .child) j 0) inside (M .all j (omega (arith, eqb-false j k z)) u v t))
             (decided (eqb j k));
       }
+
+  -- by the test of edge k
+  module _ {k : ℕ} {r q : List ℕ} {c : ℕ} (M : Monitoring E i k r) (e : c ≡ getD (E .child) k 0) where
+    pub monitoring-hit : (eqb (getD (E .kind) k 0) 2 && eqb (getD (E .parent) k 0) i && ltb c 128) ≡ true → q ≡ set r c 1 → Monitoring E i (k + 1) q
+    monitoring-hit h s =
+        let p = and-parts (eqb (getD (E .kind) k 0) 2 && eqb (getD (E .parent) k 0) i) (ltb c 128) h in
+        let t = and-parts (eqb (getD (E .kind) k 0) 2) (eqb (getD (E .parent) k 0) i) (p .0) in
+        monitoring-next M (eqb-true (getD (E .kind) k 0) 2 (t .0)) (eqb-true (getD (E .parent) k 0) i (t .1)) e (ltb-true c 128 (p .1)) s
+
+    pub monitoring-miss : (eqb (getD (E .kind) k 0) 2 && eqb (getD (E .parent) k 0) i && ltb c 128) ≡ false → q ≡ r → Monitoring E i (k + 1) q
+    monitoring-miss h s =
+        subst (Monitoring E i (k + 1)) (sym s)
+        (monitoring-skip M (λ a b l. false-true (sym h ∙ and-both (eqb (getD (E .kind) k 0) 2 && eqb (getD (E .parent) k 0) i) (ltb c 128) (and-both (eqb (getD (E .kind) k 0) 2) (eqb (getD (E .parent) k 0) i) (eq-eqb (getD (E .kind) k 0) 2 a) (eq-eqb (getD (E .parent) k 0) i b)) (lt-ltb c 128 (omega (arith, e, l))))))
+
+pub monitoring-room : (E : Edges) (i k c : ℕ) → (eqb (getD (E .kind) k 0) 2 && eqb (getD (E .parent) k 0) i && ltb c 128) ≡ true → c < 128
+monitoring-room E i k c h = ltb-true c 128 (and-parts (eqb (getD (E .kind) k 0) 2 && eqb (getD (E .parent) k 0) i) (ltb c 128) h .1)
+
+pub monitoring-all : (E : Edges) (i : ℕ) {k m : ℕ} {r : List ℕ} → Monitoring E i k r → m ≤ k → k ≤ m → Monitoring E i m r
+monitoring-all E i {k} {m} {r} M l h = subst (λ (j : ℕ). Monitoring E i j r) (omega arith) M
 
 -- The satisfied solutions
 
@@ -120,6 +139,9 @@ or-neither : (a b : Bool) → (a || b) ≡ false → (a ≡ false) × (b ≡ fal
 or-neither true b h = absurd (false-true (sym h))
 or-neither false b h = (refl, h)
 
+pub outside-not : (n g c : ℕ) → (leb n g || leb n c) ≡ false → (g < n) × (c < n)
+outside-not n g c h = let o = or-neither (leb n g) (leb n c) h in (leb-false n g (o .0), leb-false n c (o .1))
+
 module _ (N : Nodes) (E : Edges) (mon sat : List ℕ) (r : ℕ) (j : ℕ) where
   abbrev pub goalAt : ℕ
   goalAt = getD (E .parent) j 0
@@ -162,9 +184,9 @@ module _ (N : Nodes) (E : Edges) (mon sat : List ℕ) (r : ℕ) (j : ℕ) where
   unfolding isSolved
   solved-parts h =
       let w = behind-parts (eqb (getD (E .kind) j 0) 3) (leb (N .count) goalAt || leb (N .count) solutionAt) (not (flag mon goalAt) || not (flag sat solutionAt)) (isNamed r (nodeAt N solutionAt .expression)) h in
-      let o = or-neither (leb (N .count) goalAt) (leb (N .count) solutionAt) (w .1) in
+      let o = outside-not (N .count) goalAt solutionAt (w .1) in
       let f = or-neither (not (flag mon goalAt)) (not (flag sat solutionAt)) (w .2) in
-      (eqb-true (getD (E .kind) j 0) 3 (w .0), leb-false (N .count) goalAt (o .0), leb-false (N .count) solutionAt (o .1), not-false (flag mon goalAt) (f .0), not-false (flag sat solutionAt) (f .1), w .3)
+      (eqb-true (getD (E .kind) j 0) 3 (w .0), o .0, o .1, not-false (flag mon goalAt) (f .0), not-false (flag sat solutionAt) (f .1), w .3)
 
   pub solved-of : getD (E .kind) j 0 ≡ 3 → goalAt < N .count → solutionAt < N .count → flag mon goalAt ≡ true → flag sat solutionAt ≡ true → isNamed r (nodeAt N solutionAt .expression) ≡ true → isSolved ≡ true
   unfolding isSolved
@@ -174,6 +196,9 @@ module _ (N : Nodes) (E : Edges) (mon sat : List ℕ) (r : ℕ) (j : ℕ) where
 abbrev pub linkEdge : Node → Role → ℕ → Wanted
 linkEdge n a b = childFor 4 n (E.Role a) b
 
+pub was-solved : {t b : Bool} → t ≡ b → not t ≡ false → b ≡ true
+was-solved {t} p h = sym p ∙ not-false t h
+
 unfoldable pub solvedEdge : Nodes → Edges → Node → Role → ℕ → Wanted
 solvedEdge N X n a j = linkEdge n a (entityIn (nodeAt N (getD (X .child) j 0) .expression))
 
@@ -181,13 +206,27 @@ pub solved-left : (d : Wanted → Bool) (N : Nodes) (E : Edges) (mon sat : List 
 solved-left d N E mon sat r n a b j {t} p h = offer-left d (isSolved N E mon sat r) (solvedEdge N E n a) b j (sym p ∙ not-true t h)
 
 pub solved-taken : (d : Wanted → Bool) (N : Nodes) (E : Edges) (mon sat : List ℕ) (r : ℕ) (n : Node) (a : Role) (b : Choice) (j : ℕ) {t : Bool} → t ≡ isSolved N E mon sat r j → not t ≡ false
-    → {x : Expression} {e : ℕ} {w : Wanted} {c : Choice} → x ≡ nodeAt N (getD (E .child) j 0) .expression → e ≡ entityIn x → w ≡ linkEdge n a e → c ≡ better d b w
+    → {x : Expression} {e g : ℕ} {w : Wanted} {c : Choice} → g ≡ getD (E .child) j 0 → x ≡ nodeAt N g .expression → e ≡ entityIn x → w ≡ linkEdge n a e → c ≡ better d b w
     → c ≡ offer d (isSolved N E mon sat r) (solvedEdge N E n a) b j
 unfolding solvedEdge
-solved-taken d N E mon sat r n a b j {t} p h f g u v =
-    offer-taken d (isSolved N E mon sat r) (solvedEdge N E n a) b j (sym p ∙ not-false t h) (v ∙ ap (better d b) (u ∙ ap (linkEdge n a) (g ∙ ap entityIn f)))
+solved-taken d N E mon sat r n a b j {t} p h l f g u v =
+    offer-taken d (isSolved N E mon sat r) (solvedEdge N E n a) b j (sym p ∙ not-false t h) (v ∙ ap (better d b) (u ∙ ap (linkEdge n a) (g ∙ ap entityIn (f ∙ ap (λ (m : ℕ). nodeAt N m .expression) l))))
 
 -- All of them
+
+-- every edge of the columns joins nodes
+inside : (N : Nodes) (E : Edges) → EdgesFormed (nodesOf N) (edgesOf E) → (j : ℕ) → j < E .count → (getD (E .parent) j 0 < N .count) × (getD (E .child) j 0 < N .count)
+inside N E F j l =
+    let e = edge-in E j l in
+    let h : j < length (edgesOf E) = omega (arith, edges-length E) in
+    let a = F .parent j h in
+    let b = F .child j h in
+    let p : edgeIn (edgesOf E) j .parent ≡ getD (E .parent) j 0 = ap (λ (x : Edge). x .parent) e in
+    let q : edgeIn (edgesOf E) j .child ≡ getD (E .child) j 0 = ap (λ (x : Edge). x .child) e in
+    (omega (arith, a, p, nodes-length N), omega (arith, b, q, nodes-length N))
+
+pub child-inside : (N : Nodes) (E : Edges) → EdgesFormed (nodesOf N) (edgesOf E) → (j : ℕ) → j < E .count → {g : ℕ} → g ≡ getD (E .child) j 0 → g < N .count
+child-inside N E F j l p = omega (arith, inside N E F j l .1)
 
 module _ (o : End) (N : Nodes) (E : Edges) (ne : o .state .nodes ≡ nodesOf N) (ee : o .state .edges ≡ edgesOf E) where
   -- a child by an edge of kind k is one of the columns
@@ -205,17 +244,6 @@ module _ (o : End) (N : Nodes) (E : Edges) (ne : o .state .nodes ≡ nodesOf N) 
   child-mem k i j l a b =
       map-mem (λ (e : Edge). e .child) (keep-mem (λ (e : Edge). eqb (e .kind) k && eqb (e .parent) i) (subst (λ (es : List Edge). List·Memᴰ (edgeAt E j) es) (sym ee) (upTo-mem (E .count) (edgeAt E) j l))
       (and-both (eqb (getD (E .kind) j 0) k) (eqb (getD (E .parent) j 0) i) (eq-eqb (getD (E .kind) j 0) k a) (eq-eqb (getD (E .parent) j 0) i b)))
-
-  -- every edge of the columns joins nodes
-  inside : EdgesFormed (nodesOf N) (edgesOf E) → (j : ℕ) → j < E .count → (getD (E .parent) j 0 < N .count) × (getD (E .child) j 0 < N .count)
-  inside F j l =
-      let e = edge-in E j l in
-      let h : j < length (edgesOf E) = omega (arith, edges-length E) in
-      let a = F .parent j h in
-      let b = F .child j h in
-      let p : edgeIn (edgesOf E) j .parent ≡ getD (E .parent) j 0 = ap (λ (x : Edge). x .parent) e in
-      let q : edgeIn (edgesOf E) j .child ≡ getD (E .child) j 0 = ap (λ (x : Edge). x .child) e in
-      (omega (arith, a, p, nodes-length N), omega (arith, b, q, nodes-length N))
 
   module _ (F : EdgesFormed (nodesOf N) (edgesOf E)) (few : N .count ≤ 128) {mon sat failed : List ℕ} {i : ℕ} (M : Monitoring E i (E .count) mon) (S : Settled (nodesOf N) (edgesOf E) sat failed) (r : ℕ) (n : Node) (a : Role) where
     abbrev edges : List Wanted
@@ -239,8 +267,8 @@ module _ (o : End) (N : Nodes) (E : Edges) (ne : o .state .nodes ≡ nodesOf N) 
         let y = child-find 3 (g .0) (s .0) in
         let v = owners-find r (nodeIn (o .state .nodes) (c .0) .expression) (c .2) in
         let j : ℕ = y .0 in
-        let ij = inside F j (y .1) in
-        let ix = inside F (x .0) (x .1) in
+        let ij = inside N E F j (y .1) in
+        let ix = inside N E F (x .0) (x .1) in
         let e : c .0 ≡ getD (E .child) j 0 = y .4 in
         let z : nodeIn (o .state .nodes) (c .0) .expression ≡ nodeAt N (getD (E .child) j 0) .expression = ap (λ (t : ℕ). nodeIn (o .state .nodes) t .expression) e ∙ expressed (getD (E .child) j 0) (ij .1) in
         let q : getD (E .parent) j 0 ≡ getD (E .child) (x .0) 0 = y .3 ∙ x .4 in
@@ -320,3 +348,37 @@ any-complete o N E ne ee i = bool-iff (any (isCompleteAt N E i) (upTo (E .count)
         let z : completeB (nodesOf N) (edgesOf E) (getD (E .child) j 0) ≡ true = sym (both (getD (E .child) j 0)) ∙ (ap (completeB (o .state .nodes) (o .state .edges)) (sym (x .4)) ∙ w .2) in
         any-here (isCompleteAt N E i) (upTo-mem (E .count) (λ j. j) j (x .1))
         (λ t. cond (not (eq-eqb (getD (E .kind) j 0) 2 (x .2) t) || not (eq-eqb (getD (E .parent) j 0) i (x .3) t)) false (z t))
+
+-- What the rules come to
+
+abbrev pub goalEdge : Node → ℕ → Wanted
+goalEdge n r = childFor 2 n (E.Goal r) (n .subject)
+
+-- the choice for a linked target A.r1.r2, node i
+pub data Linked (N : Nodes) (X : Edges) (sat : List ℕ) (i : ℕ) (n : Node) (a : Role) (r : ℕ) (c : Choice) : Type 0 where
+  goal-first : isDone (nodesOf N) (edgesOf X) i (goalEdge n r) ≡ false → c ≡ C.Edge (goalEdge n r) → Linked N X sat i n a r c
+  goal-done : isDone (nodesOf N) (edgesOf X) i (goalEdge n r) ≡ true → (monitors : List ℕ) → Monitoring X i (X .count) monitors
+      → c ≡ orElse (folded (X .count) (offer (isDone (nodesOf N) (edgesOf X) i) (isSolved N X monitors sat r) (solvedEdge N X n a)) C.Nothing) (markIf (any (isCompleteAt N X i) (upTo (X .count) (λ j. j))))
+      → Linked N X sat i n a r c
+
+pub goal-edge : {N : Nodes} {X : Edges} {sat : List ℕ} {i : ℕ} {n : Node} {a : Role} {r : ℕ} {w : Wanted} {b : Bool} → w ≡ goalEdge n r → b ≡ isDone (nodesOf N) (edgesOf X) i w → not b ≡ true → Linked N X sat i n a r (C.Edge w)
+goal-edge {N} {X} {i = i} {b = b} e p h = goal-first (sym (ap (isDone (nodesOf N) (edgesOf X) i) e) ∙ (sym p ∙ not-true b h)) (ap C.Edge e)
+
+pub goal-stands : (N : Nodes) (X : Edges) (i : ℕ) (n : Node) {r : ℕ} {w : Wanted} {b : Bool} → w ≡ goalEdge n r → b ≡ isDone (nodesOf N) (edgesOf X) i w → not b ≡ false → isDone (nodesOf N) (edgesOf X) i (goalEdge n r) ≡ true
+goal-stands N X i n {b = b} e p h = sym (ap (isDone (nodesOf N) (edgesOf X) i) e) ∙ (sym p ∙ not-false b h)
+
+pub link-parts : {best mark c : Choice} {m : Bool} {x : Choice} {z : Bool} → best ≡ x → m ≡ z → mark ≡ markIf m → c ≡ orElse best mark → c ≡ orElse x (markIf z)
+link-parts {x = x} p q r s = s ∙ ((λ t. orElse (p t) (r t)) ∙ ap (λ (b : Bool). orElse x (markIf b)) q)
+
+-- it is what the rules give
+pub linked-rules : (o : End) (N : Nodes) (X : Edges) → o .state .nodes ≡ nodesOf N → o .state .edges ≡ edgesOf X → EdgesFormed (nodesOf N) (edgesOf X) → N .count ≤ 128
+    → {sat failed : List ℕ} → Settled (nodesOf N) (edgesOf X) sat failed → {i : ℕ} {n : Node} {a : Role} {r : ℕ} {c : Choice} → Linked N X sat i n a r c → c ≡ chosenIn (isDone (nodesOf N) (edgesOf X) i) (linkRules o i n a r)
+unfolding chosenIn firstNot
+linked-rules o N X ne ee F few S {i} {n} {a} {r} (goal-first h e) =
+    e ∙ sym (ap (λ (b : Bool). cond b (firstNot (isDone (nodesOf N) (edgesOf X) i) (markIf (linkRules o i n a r .marks)) (ordered (map (linkEdge n a) (solutionsOf o r i)))) (C.Edge (goalEdge n r))) h)
+linked-rules o N X ne ee F few S {i} {n} {a} {r} {c} (goal-done h monitors M e) =
+    let d : Wanted → Bool = isDone (nodesOf N) (edgesOf X) i in
+    let rest : Choice = firstNot d (markIf (linkRules o i n a r .marks)) (ordered (map (linkEdge n a) (solutionsOf o r i))) in
+    e ∙ ((λ t. orElse (links-first o N X ne ee F few M S r n a d refl t) (markIf (any-complete o N X ne ee i t)))
+    ∙ (sym (first-rest d (markIf (linkRules o i n a r .marks)) (ordered (map (linkEdge n a) (solutionsOf o r i))))
+    ∙ sym (ap (λ (b : Bool). cond b rest (C.Edge (goalEdge n r))) h)))
