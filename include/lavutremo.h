@@ -172,6 +172,34 @@ uint64_t lavutremo_take(const uint8_t *tables, size_t tables_len, uint8_t *negot
                         const uint8_t *message, size_t message_len, uint8_t *scratch, size_t scratch_len);
 
 /*
+ * Replies to the other end.
+ *
+ * Reads
+ *   tables       as above
+ *   negotiation  5,120 bytes that a call left
+ *
+ * Writes
+ *   negotiation  the one that the reply's commands lead to, its count one higher, its end judged: 1 success or 2 failed
+ *                where the first target is satisfied or failed, 3 stalled where this message and the one before had no
+ *                open, edge or mark, 4 full where the next move would pass a size of the negotiation, else 0
+ *   reply        4,096 bytes or more: the message to send, commands as above and an end, 1 to 4,096 bytes from the start;
+ *                the bytes behind it stay
+ *   scratch      4,096 bytes: zeros
+ *
+ * Returns 256 times the length of the message if the call is accepted; lavutremo_value gives the length. A refused call
+ * returns its number alone, the first of these that applies, and then no byte changes, of the scratch neither:
+ *   LAVUTREMO_LENGTH   a length is outside the sizes,
+ *   LAVUTREMO_COMMAND, LAVUTREMO_OPERAND, LAVUTREMO_NAME, LAVUTREMO_CLASS, LAVUTREMO_ORDER   the tables, as above,
+ *   LAVUTREMO_DAMAGED  the bytes are not those of a sound negotiation of these tables' house,
+ *   LAVUTREMO_ENDED    the negotiation has ended,
+ *   LAVUTREMO_TURN     it is the other side's turn to send: the mediator sends when the count of messages is even.
+ *
+ * The buffers may have any content and any length. They must not overlap.
+ */
+uint64_t lavutremo_reply(const uint8_t *tables, size_t tables_len, uint8_t *negotiation, size_t negotiation_len,
+                         uint8_t *reply, size_t reply_len, uint8_t *scratch, size_t scratch_len);
+
+/*
  * How does a negotiation stand, and one of its nodes?
  *
  * Reads

@@ -2,6 +2,7 @@
 ghost use mathlib.Core.Path.{_≡_};
 ghost use Rattle.begin.specs.Begin.{beginOf, answerOf, leftOf};
 ghost use Rattle.question.specs.Question.{questionOf};
+ghost use Rattle.reply.specs.Reply.{replyOf, answerOf as replyAnswer, negotiationLeft as replyNegotiation, replyLeft, scratchLeft as replyScratch};
 ghost use Rattle.report.specs.Report.{reportOf, answerOf as reportAnswer};
 ghost use Rattle.tables.specs.Check.{checkOf};
 ghost use Rattle.take.specs.Take.{takeOf, answerOf as takeAnswer, negotiationLeft, scratchLeft};
@@ -43,6 +44,23 @@ pub extern "C" fn lavutremo_take(
     ensures cleared { λ _. ⌜ now (scratch .exit) ≡ scratchLeft (now (scratch .entry)) (takeOf (now (tables .entry)) (now (negotiation .entry)) (now (message .entry)) (now (scratch .entry))) ⌝ }
 {
     take::take(tables, negotiation, message, scratch)
+}
+
+// The negotiation goes on by our reply, which is written into its buffer, and the scratch becomes zero: 256 times the reply's length, or a refusal
+// number, and then nothing changes.
+#[no_mangle]
+pub extern "C" fn lavutremo_reply(
+    tables: &[u8],
+    negotiation: &mut [u8],
+    reply: &mut [u8],
+    scratch: &mut [u8],
+) -> u64
+    ensures answered { λ r. ⌜ r ≡ replyAnswer (replyOf (now (tables .entry)) (now (negotiation .entry)) (now (reply .entry)) (now (scratch .entry))) ⌝ }
+    ensures left { λ _. ⌜ now (negotiation .exit) ≡ replyNegotiation (now (negotiation .entry)) (replyOf (now (tables .entry)) (now (negotiation .entry)) (now (reply .entry)) (now (scratch .entry))) ⌝ }
+    ensures written { λ _. ⌜ now (reply .exit) ≡ replyLeft (now (reply .entry)) (replyOf (now (tables .entry)) (now (negotiation .entry)) (now (reply .entry)) (now (scratch .entry))) ⌝ }
+    ensures cleared { λ _. ⌜ now (scratch .exit) ≡ replyScratch (now (scratch .entry)) (replyOf (now (tables .entry)) (now (negotiation .entry)) (now (reply .entry)) (now (scratch .entry))) ⌝ }
+{
+    reply::reply(tables, negotiation, reply, scratch)
 }
 
 // The report on a node of a negotiation: 256 times its numbers in one, or a refusal number. Nothing changes.

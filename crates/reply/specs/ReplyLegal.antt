@@ -114,7 +114,7 @@ record Given (T : Tables) (S : State) (r : Replied) : Type 0 where
   mirror : (k : Header) → Mirrored (S .header) k → Updates (T .names) (S .header .side) (withHeader S k) (r .commands) (withHeader (r .state) k)
 
 -- while none is counted, the mediator sends
-first-side : (v n : ℕ) → n ≡ 0 → sends v n ≡ true → v ≡ 0
+pub first-side : (v n : ℕ) → n ≡ 0 → sends v n ≡ true → v ≡ 0
 unfolding sends
 first-side v n z h = sym (eqb-true (n % 2) v h) ∙ ap (λ (k : ℕ). k % 2) z
 
@@ -125,7 +125,7 @@ module _ (T : Tables) (t : Sound T) (S : State) (h : sound T S ≡ true) (w : wi
   abbrev first : Opening
   first = record { role = S .header .wanted; state = initialState (T .names) true (E.Role (S .header .wanted)) }
 
-  no-messages : length (S .nodes) ≡ 0 → S .header .messages ≡ 0
+  pub no-messages : length (S .nodes) ≡ 0 → S .header .messages ≡ 0
   unfolding sound emptySound
   no-messages z =
       let m : ℕ = length (S .edges) in

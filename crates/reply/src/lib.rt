@@ -1,1 +1,25 @@
-// The reply: its definition, in specs/.
+// The reply.
+use moves::Outgoing;
+use negotiation::Negotiation;
+
+mod call;
+mod carry;
+mod stubs;
+mod turns;
+
+pub use call::reply;
+
+// What comes next: 0 this move, 1 the reply stops, 2 it stops as the move would pass a size.
+pub struct Turn {
+    pub stop: u8,
+    pub outgoing: Outgoing,
+}
+
+// The negotiation that a reply has led to so far, how many bytes it has, and whether it stopped on a size, where the refusal is 0; else they do not
+// count.
+pub struct Replying {
+    pub refusal: u64,
+    pub negotiation: Negotiation,
+    pub at: usize,
+    pub full: bool,
+}

@@ -38,7 +38,7 @@ fn other_side(side: u8) -> u8
 }
 
 // Whether a side sends next.
-fn sends(side: u8, messages: u16) -> bool
+pub fn sends(side: u8, messages: u16) -> bool
     ensures { λ r. ⌜ r ≡ sendsAt side messages ⌝ }
 {
     messages % 2 == side as u16

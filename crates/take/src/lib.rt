@@ -4,6 +4,7 @@ use negotiation::Negotiation;
 mod call;
 mod commands;
 
+pub use call::sends;
 pub use call::take;
 pub use commands::take_commands;
 

@@ -1,0 +1,71 @@
+use Rattle.reply.specs.ReplyLaws.{own-sound, own-undamaged, own-gives, replied-ended, replied-turn, in-turn, after-ready, end-fits, replied-given}
+use Rattle.negotiation.specs.State.{stateOf}
+use Rattle.tables.specs.Tables.{tablesOf}
+use borrow.Author.Needs.{needs}
+use Rattle.reply.proofs.call.replied_in.Statement.{statement}
+use Rattle.reply.proofs.call.replied_in.Tie as tie
+use Rattle.reply.proofs.call.replied_in.Reads as reads
+use Rattle.reply.proofs.call.replied_in.Lts as lts
+use Rattle.message.proofs.write_command.Reads as write-command-reads
+use Rattle.reply.proofs.call.reply_in.Reads as reply-in-reads
+use Rattle.sending.proofs.own_of.Reads as own-of-reads
+use Rattle.reply.proofs.turns.replying.Reads as replying-reads
+use Rattle.take.proofs.sends.Reads as sends-reads
+use Rattle.update.proofs.after_message.Reads as after-message-reads
+
+replying-requires : tie.Need-replying-requires
+replying-requires c κs = search needs
+
+returns : tie.Need-returns
+returns c = replied-ended (tablesOf (c .before .before .before .before .before .args .house)) (c .before .before .before .before .before .args .n) (c .before .before .before .before .before .args .s .now) (c .replying .result) (c .before .if1 .taken) (c .replying .ensures .0)
+
+sends-requires : tie.Need-sends-requires
+sends-requires c κs = search needs
+
+replying-requires-2 : tie.Need-replying-requires-2
+replying-requires-2 c κs = search needs
+
+returns-2 : tie.Need-returns-2
+returns-2 c = replied-turn (tablesOf (c .before .before .before .before .before .before .before .args .house)) (c .before .before .before .before .before .before .before .args .n) (c .before .before .before .if1 .left) (c .before .before .sends .ensures) (c .before .before .before .before .before .before .before .args .s .now) (c .replying2 .result) (c .before .if2 .taken) (c .replying2 .ensures .0)
+
+own-of-requires : tie.Need-own-of-requires
+own-of-requires c κs = search needs
+
+reply-in-requires : tie.Need-reply-in-requires
+reply-in-requires c κs = ((c .before .own-of .ensures .0), own-sound (c .before .own-of .ensures .1) (c .before .before .before .before .before .before .before .before .pre .1), own-undamaged (c .before .own-of .ensures .1) (stateOf (c .before .before .before .before .before .before .before .before .args .n)) (c .before .before .before .before .before .before .before .before .pre .2), (c .before .before .before .before .before .before .before .before .pre .3), in-turn (tablesOf (c .before .before .before .before .before .before .before .before .args .house)) (c .before .before .before .before .before .before .before .before .args .n) (c .before .before .before .before .if1 .left) (c .before .before .before .sends .ensures) (c .before .before .if2 .left), (c .before .before .before .before .before .before .before .before .pre .4))
+
+after-message-requires : tie.Need-after-message-requires
+after-message-requires c κs = after-ready (tablesOf (c .before .before .before .before .before .before .before .before .before .before .before .before .args .house)) (c .before .before .before .before .before .before .before .before .before .before .before .before .args .n) (c .before .before .before .before .before .before .before .before .if1 .left) (c .before .before .before .before .before .before .before .sends .ensures) (c .before .before .before .before .before .before .if2 .left) (c .before .before .before .before .before .before .before .before .before .before .before .before .pre .1) (c .before .before .before .before .before .before .before .before .before .before .before .before .pre .2) (c .before .before .before .before .before .before .before .before .before .before .before .before .pre .3) (c .before .before .before .reply-in .result) (own-gives (c .before .before .before .before .before .own-of .ensures .1) (stateOf (c .before .before .before .before .before .before .before .before .before .before .before .before .args .n)) (c .before .before .before .reply-in .result) (c .before .before .before .reply-in .ensures))
+
+write-command-requires : tie.Need-write-command-requires
+write-command-requires c κs = end-fits (tablesOf (c .before .before .before .before .before .before .before .before .before .before .before .before .before .before .args .house)) (c .before .before .before .before .before .before .before .before .before .before .before .before .before .before .args .n) (c .before .before .before .before .before .before .before .before .before .before .if1 .left) (c .before .before .before .before .before .before .before .before .before .sends .ensures) (c .before .before .before .before .before .before .before .before .if2 .left) (c .before .before .before .before .before .before .before .before .before .before .before .before .before .before .pre .1) (c .before .before .before .before .before .before .before .before .before .before .before .before .before .before .pre .2) (c .before .before .before .before .before .before .before .before .before .before .before .before .before .before .pre .3) (c .before .before .before .before .before .reply-in .result) (own-gives (c .before .before .before .before .before .before .before .own-of .ensures .1) (stateOf (c .before .before .before .before .before .before .before .before .before .before .before .before .before .before .args .n)) (c .before .before .before .before .before .reply-in .result) (c .before .before .before .before .before .reply-in .ensures)) (c .before .before .before .before .before .before .before .before .before .before .before .before .before .before .pre .4)
+
+add-replying : tie.Need-add-replying
+add-replying c = search needs
+
+replying-requires-3 : tie.Need-replying-requires-3
+replying-requires-3 c κs = search needs
+
+same-length : tie.Need-same-length
+same-length c = search needs
+
+returns-3 : tie.Need-returns-3
+returns-3 c = replied-given (tablesOf (c .before .before .before .before .before .before .before .before .before .before .before .before .before .before .before .before .before .before .before .args .house)) (c .before .before .before .before .before .before .before .before .before .before .before .before .before .before .before .before .before .before .before .args .n) (c .before .before .before .before .before .before .before .before .before .before .before .before .before .before .before .if1 .left) (c .before .before .before .before .before .before .before .before .before .before .before .before .before .before .sends .ensures) (c .before .before .before .before .before .before .before .before .before .before .before .before .before .if2 .left) (c .before .before .before .before .before .before .before .before .before .before .before .before .before .before .before .before .before .before .before .pre .1) (c .before .before .before .before .before .before .before .before .before .before .before .before .before .before .before .before .before .before .before .pre .2) (c .before .before .before .before .before .before .before .before .before .before .before .before .before .before .before .before .before .before .before .pre .3) (c .before .before .before .before .before .before .before .before .before .before .reply-in .result) (own-gives (c .before .before .before .before .before .before .before .before .before .before .before .before .own-of .ensures .1) (stateOf (c .before .before .before .before .before .before .before .before .before .before .before .before .before .before .before .before .before .before .before .args .n)) (c .before .before .before .before .before .before .before .before .before .before .reply-in .result) (c .before .before .before .before .before .before .before .before .before .before .reply-in .ensures)) (c .before .before .before .before .before .before .before .before .before .before .before .before .before .before .before .before .before .before .before .pre .4) (c .before .before .before .before .before .before .after-message .result) (c .replying3 .result) (c .before .before .before .before .before .before .after-message .ensures) (c .before .before .before .before .write-command .ensures) (c .replying3 .ensures .0) (c .replying3 .ensures .1) (c .replying3 .ensures .2)
+
+pub replied-in-spec : {M : Type 1} → statement M
+replied-in-spec =
+    tie.close
+    (tie.spec
+    replying-requires
+    returns
+    sends-requires
+    replying-requires-2
+    returns-2
+    own-of-requires
+    reply-in-requires
+    after-message-requires
+    write-command-requires
+    add-replying
+    replying-requires-3
+    same-length
+    returns-3)
