@@ -1,40 +1,27 @@
 -- The commands of a message, test by test. Assumes nothing.
 use Prim.Native.Nat.{ℕ, zero, suc, _+_, _≤_, _<_}
 use native.Mathlib.Omega.{arith}
-use native.Mathlib.Nat.{add-assoc}
 use mathlib.Core.Path.{_≡_, refl, sym, _∙_, ap, subst}
 use mathlib.Core.Logic.{_⊎_, ⊎-elim}
-use mathlib.Core.Bool.{Bool, true, false, not, cond, _&&_, _||_}
-use mathlib.Core.List.{List, [], _∷_, _++_}
-use borrow.Author.Tests.{eq-eqb, ne-eqb, ltb-true, leb-true, le-leb, eqb-true, eqb-false}
-use lib.Dec.{eqb, ltb, leb}
-use lib.ListN.{length, getD, set, length-append, length-set, List·getD-append}
-use lib.Seq.{getD-append-seam, getD-set-same, getD-set-other}
-use Rattle.expression.specs.Form.{wellFormed}
-use Rattle.rt0.specs.Lists.{and-parts, and-both, false-true}
-use Rattle.rt0.specs.declared.Pool.{Pool}
-use Rattle.rt0.specs.Pool.{credentials}
+use mathlib.Core.Bool.{Bool, true, false, cond, _||_}
+use mathlib.Core.List.{List}
+use borrow.Author.Tests.{eq-eqb, ne-eqb}
+use lib.ListN.{length}
 use Rattle.class.specs.declared.Name.{Name}
-use Rattle.propagation.specs.Flags.{decided}
-use Rattle.graph.specs.declared.Node.{Node}
-use Rattle.graph.specs.declared.Edge.{Edge}
-use Rattle.graph.specs.Graph.{nodesOf, nodeIn, blank, inState}
+use Rattle.graph.specs.Graph.{nodesOf}
 use Rattle.states.specs.Brings.{NodesFormed}
 use Rattle.message.specs.declared.Command.{Command}
 use Rattle.message.specs.declared.Command.the-variants.{Show, Open, Bring, Join, Mark, End}
 use Rattle.message.specs.declared.CommandAnswer.{CommandAnswer}
 use Rattle.message.specs.declared.CommandAnswer.the-variants.{Read, Refused}
-use Rattle.message.specs.Command.{commandAt, sizeOf, formedCommand}
+use Rattle.message.specs.Command.{commandAt, sizeOf}
 use Rattle.message.specs.CommandLaws.{nothing}
 use Rattle.message.specs.CommandExact.{command-formed, command-room, command-refusal}
 use Rattle.negotiation.specs.declared.Negotiation.{Negotiation}
-use Rattle.negotiation.specs.State.{State, stateOf, within, withNode, withEdge, withShown, withMark}
+use Rattle.negotiation.specs.State.{State, stateOf, within}
 use Rattle.take.specs.declared.Taking.{Taking}
-use Rattle.update.specs.declared.Known.{Known}
-use Rattle.update.specs.Known.{Knows}
-use Rattle.update.specs.Judged.{kindOf, isImplication, KnownFor, Judges, legal-judged}
-use Rattle.update.specs.Step.{stepped, isMove, hasRoom, childOf, childIn, primaryOf, markedState}
-use Rattle.update.specs.Legal.{justifiedIn, legalBy, legalNumber}
+use Rattle.update.specs.Step.{stepped, isMove, hasRoom}
+use Rattle.update.specs.Legal.{legalNumber}
 use Rattle.update.specs.RoomLaws.{legal-room, step-within}
 use Rattle.update.specs.StepFormed.{step-formed}
 use Rattle.take.specs.Commands.{Taken, refused, taken, judged, isEnd, onCommand, commandsFrom, takenOf}

@@ -194,9 +194,9 @@ module _ {k r : Kept} (n n′ : Negotiation) (s : ℕ) (c : Command) (h : Keeps 
   unfolding stateOf
   settled-next =
       let both : r .unsettled ≡ false → (k .unsettled ≡ false) × (not (keepsStates (nodesOf (n .nodes)) (k .sat) c) ≡ false) =
-          λ z. neither (k .unsettled) (not (keepsStates (nodesOf (n .nodes)) (k .sat) c)) (sym (w .unsettled) ∙ z) in
+      λ z. neither (k .unsettled) (not (keepsStates (nodesOf (n .nodes)) (k .sat) c)) (sym (w .unsettled) ∙ z) in
       let next : r .unsettled ≡ false → Says (stepped (stateOf n) s c .nodes) (stepped (stateOf n) s c .edges) (k .sat) × Inside (stepped (stateOf n) s c .nodes) (stepped (stateOf n) s c .edges) =
-          λ z. keeps-states (stateOf n) s c (k .sat) (h .settled .says (both z .0)) (h .settled .inside (both z .0)) (not-no (keepsStates (nodesOf (n .nodes)) (k .sat) c) (both z .1)) in
+      λ z. keeps-states (stateOf n) s c (k .sat) (h .settled .says (both z .0)) (h .settled .inside (both z .0)) (not-no (keepsStates (nodesOf (n .nodes)) (k .sat) c) (both z .1)) in
       record {
         says = λ z. subst (λ (x : List ℕ). Says (nodesOf (n′ .nodes)) (edgesOf (n′ .edges)) x) (sym (w .sat)) (subst (λ (S : State). Says (S .nodes) (S .edges) (k .sat)) (sym e) (next z .0));
         inside = λ z. subst (λ (S : State). Inside (S .nodes) (S .edges)) (sym e) (next z .1);

@@ -4,21 +4,20 @@ use native.Mathlib.Omega.{arith}
 use mathlib.Core.Path.{_≡_, refl, sym, _∙_, ap, subst}
 use mathlib.Core.Logic.{⊎-elim}
 use mathlib.Core.Bool.{Bool, true, false, not, _&&_, _||_}
-use mathlib.Core.List.{List, [], _∷_, _++_, List·Memᴰ}
+use mathlib.Core.List.{List, [], _∷_, _++_}
 use borrow.Author.Tests.{eqb-true, eqb-false, eq-eqb, ltb-true, lt-ltb, le-ltb}
 use lib.Dec.{eqb, ltb}
 use lib.ListN.{length, getD, length-append}
 use Rattle.expression.specs.declared.Credential.{Credential}
 use Rattle.rt0.specs.Lists.{false-true, or-cases, and-parts}
-use Rattle.propagation.specs.Flags.{at, flag, flag-past, decided}
+use Rattle.propagation.specs.Flags.{flag, flag-past, decided}
 use Rattle.graph.specs.declared.Node.{Node}
 use Rattle.graph.specs.declared.Edge.{Edge}
 use Rattle.graph.specs.declared.Nodes.{Nodes}
 use Rattle.graph.specs.declared.Edges.{Edges}
 use Rattle.graph.specs.Graph.{nodesOf, edgesOf, nodeIn}
 use Rattle.graph.specs.Columns.{nodes-length, edges-length, edge-in}
-use Rattle.graph.specs.States.{implicationKind, intersectionKind, FullyProcessed, Satisfied}
-use Rattle.graph.specs.Propagated.{satisfiedB}
+use Rattle.graph.specs.States.{Satisfied}
 use Rattle.graph.specs.PropagatedLaws.{satisfied-exact}
 use Rattle.states.specs.Places.{mem-index}
 use Rattle.justification.specs.Justified.{Says}
@@ -96,14 +95,12 @@ still-step S s (Bring n) sat says inside h =
     let e : Edge = edgeIn S n in
     let q = and-parts (ltb (n .parent) (length (S .nodes))) (not (isTrivial (n .expression))) h in
     let plain : isTrivial (n .expression) ≡ false = not-is (isTrivial (n .expression)) (q .1) in
-    let l : n .parent < length (S .nodes) = ltb-true (n .parent) (length (S .nodes)) (q .0) in
-    (
+    let l : n .parent < length (S .nodes) = ltb-true (n .parent) (length (S .nodes)) (q .0) in (
       still-both (still-node (S .nodes) (S .edges) x inside plain) (still-edge (S .nodes ++ (x ∷ [])) (S .edges) e (idle-new (S .nodes) (S .edges) x inside plain e refl)),
       inside-edge (S .nodes ++ (x ∷ [])) (S .edges) e (inside-node (S .nodes) (S .edges) x inside) (omega (arith, l, length-append (S .nodes) (x ∷ []))),
     )
 still-step S s (Join e) sat says inside h =
-    let q = and-parts (ltb (e .parent) (length (S .nodes))) (bringsNothing (e .kind) (nodeIn (S .nodes) (e .parent) .state) (flag sat (e .child)) (flag sat (e .parent))) h in
-    (
+    let q = and-parts (ltb (e .parent) (length (S .nodes))) (bringsNothing (e .kind) (nodeIn (S .nodes) (e .parent) .state) (flag sat (e .child)) (flag sat (e .parent))) h in (
       still-edge (S .nodes) (S .edges) e (idle-by (S .nodes) (S .edges) sat says e (q .1)),
       inside-edge (S .nodes) (S .edges) e inside (ltb-true (e .parent) (length (S .nodes)) (q .0)),
     )

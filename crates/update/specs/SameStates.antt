@@ -1,6 +1,6 @@
 -- Which steps of a graph leave its satisfied nodes as they are: a node that is no trivial target, an edge that brings nothing, a mark of a node
 -- that is no intersection. Assumes nothing.
-use Prim.Native.Nat.{ℕ, _≤_, _<_}
+use Prim.Native.Nat.{ℕ, _<_}
 use native.Mathlib.Omega.{arith}
 use mathlib.Core.Path.{_≡_, refl, sym, _∙_, ap, subst}
 use mathlib.Core.Logic.{⊎-elim}
@@ -16,7 +16,7 @@ use Rattle.expression.specs.declared.Expression.{Expression}
 use Rattle.expression.specs.declared.Expression.the-variants as E
 use Rattle.rt0.specs.Lists.{false-true}
 use Rattle.rt0.specs.From.{rolesOf}
-use Rattle.propagation.specs.Flags.{at, bool-iff, decided}
+use Rattle.propagation.specs.Flags.{at, bool-iff}
 use Rattle.graph.specs.declared.Node.{Node}
 use Rattle.graph.specs.declared.Edge.{Edge}
 use Rattle.graph.specs.Graph.{nodeIn, blank, inState}
@@ -85,8 +85,8 @@ module _ (ns : List Node) (es : List Edge) (e : Edge) where
             (λ j.
             let q : record { kind = w a m .child .kind; parent = i; child = f a m } ≡ e = List·Memᴰ·eq-of-singleton j in
             let g : Satisfied ns es i =
-                subst (Satisfied ns es) (sym (ap (λ (d : Edge). d .parent) q))
-                (idle .part (sym (ap (λ (d : Edge). intersectionKind (d .kind)) q) ∙ w a m .child .passes) (sym (ap (λ (d : Edge). nodeIn ns (d .parent) .state) q) ∙ z) (subst (Satisfied ns es) (ap (λ (d : Edge). d .child) q) (h a m))) in
+            subst (Satisfied ns es) (sym (ap (λ (d : Edge). d .parent) q))
+            (idle .part (sym (ap (λ (d : Edge). intersectionKind (d .kind)) q) ∙ w a m .child .passes) (sym (ap (λ (d : Edge). nodeIn ns (d .parent) .state) q) ∙ z) (subst (Satisfied ns es) (ap (λ (d : Edge). d .child) q) (h a m))) in
             absurd (false-true (sym n ∙ satisfied-exact ns es i .1 g)))
             (List·Memᴰ·append-cases es (w a m .child .edge))
 

@@ -78,7 +78,15 @@ fn is_linked_for(nodes: Nodes, edges: Edges, sat: [u8; 128], x: Expression, b: u
 }
 
 // Whether an edge into node p is justified, its child having expression y and subject B.
-fn is_justified_for(n: Negotiation, k: Known, sat: [u8; 128], kind: u8, p: u8, y: Expression, b: u16) -> bool
+fn is_justified_for(
+    n: Negotiation,
+    k: Known,
+    sat: [u8; 128],
+    kind: u8,
+    p: u8,
+    y: Expression,
+    b: u16,
+) -> bool
     requires { ⌜ (p < n .nodes .count) × (n .nodes .count ≤ 128) × (n .edges .count ≤ 256) × KnownFor kind k (n .shown) × SaysFor kind (nodesOf (n .nodes)) (edgesOf (n .edges)) sat ⌝ }
     ensures { λ r. ⌜ r ≡ justifiedFor (stateOf n) kind p y b ⌝ }
 {
