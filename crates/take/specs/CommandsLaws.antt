@@ -1,40 +1,27 @@
 -- The commands of a message, test by test. Assumes nothing.
 use Prim.Native.Nat.{ℕ, zero, suc, _+_, _≤_, _<_}
 use native.Mathlib.Omega.{arith}
-use native.Mathlib.Nat.{add-assoc}
 use mathlib.Core.Path.{_≡_, refl, sym, _∙_, ap, subst}
 use mathlib.Core.Logic.{_⊎_, ⊎-elim}
-use mathlib.Core.Bool.{Bool, true, false, not, cond, _&&_, _||_}
-use mathlib.Core.List.{List, [], _∷_, _++_}
-use borrow.Author.Tests.{eq-eqb, ne-eqb, ltb-true, leb-true, le-leb, eqb-true, eqb-false}
-use lib.Dec.{eqb, ltb, leb}
-use lib.ListN.{length, getD, set, length-append, length-set, List·getD-append}
-use lib.Seq.{getD-append-seam, getD-set-same, getD-set-other}
-use Rattle.expression.specs.Form.{wellFormed}
-use Rattle.rt0.specs.Lists.{and-parts, and-both, false-true}
-use Rattle.rt0.specs.declared.Pool.{Pool}
-use Rattle.rt0.specs.Pool.{credentials}
+use mathlib.Core.Bool.{Bool, true, false, cond, _||_}
+use mathlib.Core.List.{List}
+use borrow.Author.Tests.{eq-eqb, ne-eqb}
+use lib.ListN.{length}
 use Rattle.class.specs.declared.Name.{Name}
-use Rattle.propagation.specs.Flags.{decided}
-use Rattle.graph.specs.declared.Node.{Node}
-use Rattle.graph.specs.declared.Edge.{Edge}
-use Rattle.graph.specs.Graph.{nodesOf, nodeIn, blank, inState}
+use Rattle.graph.specs.Graph.{nodesOf}
 use Rattle.states.specs.Brings.{NodesFormed}
 use Rattle.message.specs.declared.Command.{Command}
 use Rattle.message.specs.declared.Command.the-variants.{Show, Open, Bring, Join, Mark, End}
 use Rattle.message.specs.declared.CommandAnswer.{CommandAnswer}
 use Rattle.message.specs.declared.CommandAnswer.the-variants.{Read, Refused}
-use Rattle.message.specs.Command.{commandAt, sizeOf, formedCommand}
+use Rattle.message.specs.Command.{commandAt, sizeOf}
 use Rattle.message.specs.CommandLaws.{nothing}
 use Rattle.message.specs.CommandExact.{command-formed, command-room, command-refusal}
 use Rattle.negotiation.specs.declared.Negotiation.{Negotiation}
-use Rattle.negotiation.specs.State.{State, stateOf, within, withNode, withEdge, withShown, withMark}
+use Rattle.negotiation.specs.State.{State, stateOf, within}
 use Rattle.take.specs.declared.Taking.{Taking}
-use Rattle.update.specs.declared.Known.{Known}
-use Rattle.update.specs.Known.{Knows}
-use Rattle.update.specs.Judged.{kindOf, isImplication, KnownFor, Judges, legal-judged}
-use Rattle.update.specs.Step.{stepped, isMove, hasRoom, childOf, childIn, primaryOf, markedState}
-use Rattle.update.specs.Legal.{justifiedIn, legalBy, legalNumber}
+use Rattle.update.specs.Step.{stepped, isMove, hasRoom}
+use Rattle.update.specs.Legal.{legalNumber}
 use Rattle.update.specs.RoomLaws.{legal-room, step-within}
 use Rattle.update.specs.StepFormed.{step-formed}
 use Rattle.take.specs.Commands.{Taken, refused, taken, judged, isEnd, onCommand, commandsFrom, takenOf}
@@ -57,110 +44,6 @@ size-some (Bring n) = omega arith
 size-some (Join e) = omega arith
 size-some (Mark i) = omega arith
 size-some End = omega arith
-
--- What is known of the credentials shown
-
-abbrev pub isCredential : Command → Bool
-isCredential (Show c) = true
-isCredential (Open o) = false
-isCredential (Bring n) = false
-isCredential (Join e) = false
-isCredential (Mark i) = false
-isCredential End = false
-
-abbrev pub isEdge : Command → Bool
-isEdge (Show c) = false
-isEdge (Open o) = false
-isEdge (Bring n) = true
-isEdge (Join e) = true
-isEdge (Mark i) = false
-isEdge End = false
-
--- a command that adds no edge needs no justification
-no-edge : (S : State) (c : Command) → isEdge c ≡ false → true ≡ justifiedIn S c
-unfolding justifiedIn
-no-edge S (Show c) h = refl
-no-edge S (Open o) h = refl
-no-edge S (Bring n) h = absurd (false-true (sym h))
-no-edge S (Join e) h = absurd (false-true (sym h))
-no-edge S (Mark i) h = refl
-no-edge S End h = refl
-
-module _ (S : State) (c : Command) (j : Bool) where
-  pub judged-edge : {r : Bool} → Judges S c r → j ≡ r → Judges S c j
-  judged-edge h e = record { judges = λ z. e ∙ h .judges z }
-
-  pub judged-none : {b : Bool} → b ≡ isEdge c → b ≡ false → j ≡ true → Judges S c j
-  judged-none be z e = record { judges = λ y. e ∙ no-edge S c (sym be ∙ z) }
-
-  pub judged-by : {A B : Type 0} → (A → Judges S c j) → (B → Judges S c j) → A ⊎ B → Judges S c j
-  judged-by f g h = ⊎-elim f g h
-
--- where it is not stale, it is what the pool proves
-pub record Current (stale : Bool) (known : Known) (pool : Pool) : Type 0 where
-  pub knows : stale ≡ false → Knows known
-  pub same : stale ≡ false → credentials (known .pool) ≡ credentials pool
-
-pub current-stale : (known : Known) (pool : Pool) → Current true known pool
-current-stale known pool = record { knows = λ e. absurd (false-true (sym e)); same = λ e. absurd (false-true (sym e)) }
-
--- an implication finds it where it is not stale
-implication : (c : Command) → kindOf c ≡ 1 → isImplication c ≡ true
-implication (Show c) h = absurd (omega arith)
-implication (Open o) h = absurd (omega arith)
-implication (Bring n) h = eq-eqb (n .kind) 1 h
-implication (Join e) h = eq-eqb (e .kind) 1 h
-implication (Mark i) h = absurd (omega arith)
-implication End h = absurd (omega arith)
-
--- it is found again where an implication asks and it is stale
-pub record Ready (stale : Bool) (known : Known) (pool : Pool) (c : Command) : Type 0 where
-  pub current : Current stale known pool
-  pub asked : KnownFor (kindOf c) known pool
-
-module _ (stale : Bool) (known : Known) (pool : Pool) (c : Command) where
-  pub ready-made : (k : Known) → Knows k → k .pool ≡ pool → known ≡ k → stale ≡ false → Ready stale known pool c
-  ready-made k h e q z =
-      let g : Knows known = subst Knows (sym q) h in
-      let same : credentials (known .pool) ≡ credentials pool = ap (λ (x : Known). credentials (x .pool)) q ∙ ap credentials e in
-      record { current = record { knows = λ y. g; same = λ y. same }; asked = record { knows = λ y. g; same = λ y. same } }
-
-  pub ready-left : {b s : Bool} (k : Known) → Current s k pool → b ≡ isImplication c → (s && b) ≡ false → known ≡ k → stale ≡ s → Ready stale known pool c
-  ready-left {b} {s} k h be z q e =
-      let current : Current stale known pool = subst (λ (x : Bool). Current x known pool) (sym e) (subst (λ (x : Known). Current s x pool) (sym q) h) in
-      record { current = current; asked = record { knows = λ y. current .knows (fresh y); same = λ y. current .same (fresh y) } }
-    where
-      unstale : (x y : Bool) → y ≡ true → (x && y) ≡ false → x ≡ false
-      unstale true y h z = absurd (false-true (sym z ∙ h))
-      unstale false y h z = refl
-
-      fresh : kindOf c ≡ 1 → stale ≡ false
-      fresh y = e ∙ unstale s b (be ∙ implication c y) z
-
-  pub ready-by : {A B : Type 0} → (A → Ready stale known pool c) → (B → Ready stale known pool c) → A ⊎ B → Ready stale known pool c
-  ready-by f g h = ⊎-elim f g h
-
--- a command but a credential leaves the credentials shown
-shown-same : (S : State) (s : ℕ) (c : Command) → isCredential c ≡ false → stepped S s c .shown ≡ S .shown
-unfolding stepped withNode withEdge withMark
-shown-same S s (Show c) h = absurd (false-true (sym h))
-shown-same S s (Open o) h = refl
-shown-same S s (Bring n) h = refl
-shown-same S s (Join e) h = refl
-shown-same S s (Mark i) h = refl
-shown-same S s End h = refl
-
-pub current-next : {stale stale′ b : Bool} {known : Known} (n n′ : Negotiation) (s : ℕ) (c : Command) → Current stale known (n .shown) → stateOf n′ ≡ stepped (stateOf n) s c → b ≡ isCredential c → stale′ ≡ (stale || b) → Current stale′ known (n′ .shown)
-unfolding stateOf
-current-next {stale} {stale′} {b} {known} n n′ s c k e be se =
-    record { knows = λ z. k .knows (both z .0); same = λ z. k .same (both z .0) ∙ sym (ap (λ (S : State). S .shown) e ∙ shown-same (stateOf n) s c (sym be ∙ both z .1)) }
-  where
-    neither : (x y : Bool) → (x || y) ≡ false → (x ≡ false) × (y ≡ false)
-    neither true y h = absurd (false-true (sym h))
-    neither false y h = (refl, h)
-
-    both : stale′ ≡ false → (stale ≡ false) × (b ≡ false)
-    both z = neither stale b (sym se ∙ z)
 
 -- The loop
 

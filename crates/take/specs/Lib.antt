@@ -1,4 +1,5 @@
 pub mod Commands
+pub mod KeptLaws
 pub mod CommandsLaws
 pub mod CommandsKept
 pub mod Take

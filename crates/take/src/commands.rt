@@ -1,18 +1,18 @@
 // The commands of a message, one after another.
 use crate::Taking;
+use crate::beside::carried;
+use crate::beside::is_edge_justified;
+use crate::beside::nothing_kept;
+use crate::beside::ready;
 use class::Names;
 use message::Command;
 use message::CommandAnswer;
 use message::read_command;
 use message::size_of;
 use negotiation::Negotiation;
-use update::is_implication;
-use update::is_justified;
 use update::is_move;
-use update::known_of;
 use update::legal;
 use update::step;
-use update::unknown;
 ghost use mathlib.Core.Path.{_≡_};
 ghost use mathlib.Core.Bool.{true, false};
 ghost use Prim.Native.Nat.{_≤_};
@@ -22,7 +22,7 @@ ghost use Rattle.graph.specs.Graph.{nodesOf};
 ghost use Rattle.states.specs.Brings.{NodesFormed};
 ghost use Rattle.negotiation.specs.State.{stateOf, within};
 ghost use Rattle.take.specs.Commands.{isEnd, commandsFrom, takenOf};
-ghost use Rattle.take.specs.CommandsLaws.{refusalOf, isCredential, isEdge, Room};
+ghost use Rattle.take.specs.CommandsLaws.{refusalOf, Room};
 
 const COMMAND: u64 = 2;
 
@@ -59,36 +59,7 @@ pub fn taking(refusal: u64, moved: bool, negotiation: Negotiation) -> Taking
     }
 }
 
-// Whether a command shows a credential.
-fn is_credential(c: Command) -> bool
-    ensures { λ r. ⌜ r ≡ isCredential c ⌝ }
-{
-    match c {
-        Command::Show(_) => true,
-        Command::Open(_) => false,
-        Command::Bring(_) => false,
-        Command::Join(_) => false,
-        Command::Mark(_) => false,
-        Command::End => false,
-    }
-}
-
-// Whether a command adds an edge.
-fn is_edge(c: Command) -> bool
-    ensures { λ r. ⌜ r ≡ isEdge c ⌝ }
-{
-    match c {
-        Command::Show(_) => false,
-        Command::Open(_) => false,
-        Command::Bring(_) => true,
-        Command::Join(_) => true,
-        Command::Mark(_) => false,
-        Command::End => false,
-    }
-}
-
-// Each command is judged and carried out before the next is read. What the credentials shown prove is found again only where an implication asks
-// it and a credential has come since.
+// Each command is judged and carried out before the next is read. What the credentials shown prove and which nodes are satisfied is kept beside.
 pub fn take_commands(names: Names, sender: u8, start: Negotiation, message: &[u8]) -> Taking
     requires { ⌜ (names .count ≤ 64) × Ascending (names .count) (names .name) × (within (stateOf start) ≡ true) × NodesFormed (nodesOf (start .nodes)) × (length (now message) ≤ 4096) ⌝ }
     ensures taken { λ r. ⌜ takenOf r ≡ commandsFrom (length (now (message .entry))) (namesOf names) sender (now (message .entry)) 0 (stateOf start) false ⌝ }
@@ -96,23 +67,15 @@ pub fn take_commands(names: Names, sender: u8, start: Negotiation, message: &[u8
 {
     let mut n = start;
     let mut moved = false;
-    let mut known = unknown();
-    let mut stale = true;
+    let mut kept = nothing_kept();
     let mut at = 0;
     while at < message.len() {
         let a = read_command(message, at);
         let CommandAnswer::Read(c) = a else {
             return taking(refusal_of(a), moved, n);
         };
-        if stale & is_implication(c) {
-            let shown = n.shown;
-            known = known_of(shown);
-            stale = false;
-        }
-        let mut justified = true;
-        if is_edge(c) {
-            justified = is_justified(n, known, c);
-        }
+        let fresh = ready(kept, n, c);
+        let justified = is_edge_justified(n, fresh, c);
         let k = legal(names, sender, n, c, justified);
         if k != 0 {
             return taking(k, moved, n);
@@ -120,10 +83,12 @@ pub fn take_commands(names: Names, sender: u8, start: Negotiation, message: &[u8
         if is_end(c) {
             return taking(0, moved, n);
         }
+        let nodes = n.nodes;
+        let past = carried(fresh, nodes, c);
+        kept = past;
         let next = step(n, sender, c);
         n = next;
         moved = moved | is_move(c);
-        stale = stale | is_credential(c);
         at += size_of(c);
     }
     taking(COMMAND, moved, n)

@@ -1,6 +1,8 @@
 // Take a message.
 use negotiation::Negotiation;
+use update::Known;
 
+mod beside;
 mod call;
 mod commands;
 
@@ -14,4 +16,13 @@ pub struct Taking {
     pub refusal: u64,
     pub moved: bool,
     pub negotiation: Negotiation,
+}
+
+// What is kept beside the negotiation while commands arrive: what the credentials shown prove, unless it is stale, and the column of the satisfied
+// nodes, unless it is unsettled.
+struct Kept {
+    known: Known,
+    stale: bool,
+    sat: [u8; 128],
+    unsettled: bool,
 }

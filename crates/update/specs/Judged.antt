@@ -9,8 +9,10 @@ use Rattle.rt0.specs.declared.Pool.{Pool}
 use Rattle.rt0.specs.Pool.{credentials}
 use Rattle.class.specs.declared.Name.{Name}
 use Rattle.class.specs.Typing.{typeOf}
+use Rattle.graph.specs.declared.Node.{Node}
 use Rattle.graph.specs.declared.Edge.{Edge}
 use Rattle.graph.specs.Graph.{nodeIn}
+use Rattle.justification.specs.Justified.{Says}
 use Rattle.message.specs.declared.NewEdge.{NewEdge}
 use Rattle.message.specs.declared.Command.{Command}
 use Rattle.message.specs.declared.Command.the-variants.{Show, Open, Bring, Join, Mark, End}
@@ -39,10 +41,23 @@ isImplication (Join e) = eqb (e .kind) 1
 isImplication (Mark i) = false
 isImplication End = false
 
+-- "4 linking implication"
+abbrev pub isLinking : Command → Bool
+isLinking (Show c) = false
+isLinking (Open o) = false
+isLinking (Bring n) = eqb (n .kind) 4
+isLinking (Join e) = eqb (e .kind) 4
+isLinking (Mark i) = false
+isLinking End = false
+
 -- what a pool proves is known, where an edge of kind k asks it
 pub record KnownFor (k : ℕ) (known : Known) (pool : Pool) : Type 0 where
   pub knows : k ≡ 1 → Knows known
   pub same : k ≡ 1 → credentials (known .pool) ≡ credentials pool
+
+-- the column says which nodes are satisfied, where an edge of kind k asks it
+pub record SaysFor (k : ℕ) (ns : List Node) (es : List Edge) (sat : List ℕ) : Type 0 where
+  pub says : k ≡ 4 → Says ns es sat
 
 -- the nodes that the edge of a command joins stand
 abbrev pub standsFor : State → Command → Bool

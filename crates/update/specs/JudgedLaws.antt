@@ -22,7 +22,7 @@ use Rattle.update.specs.declared.Known.{Known}
 use Rattle.update.specs.Legal.{isAbsent, justifiedFor, justifiedIn}
 use Rattle.update.specs.LegalLaws.{absent-yes, parent-absent, child-absent}
 use Rattle.update.specs.EdgeLaws.{for-implied, join-justified}
-use Rattle.update.specs.Judged.{kindOf, KnownFor, Judges}
+use Rattle.update.specs.Judged.{kindOf, KnownFor, SaysFor, Judges}
 
 -- what is known answers for the credentials shown
 pub for-known : (n : Negotiation) (k p : ℕ) (y : Expression) (b : ℕ) (P : Node) {r : Bool} (known : Known) → P ≡ nodeIn (nodesOf (n .nodes)) p → k ≡ 1 → KnownFor k known (n .shown)
@@ -54,6 +54,9 @@ judges-for S c k {r} h j = subst (λ (d : Command). Judges S d r) (sym h) j
 
 pub known-for : (c k : Command) (known : Known) (pool : Pool) → c ≡ k → KnownFor (kindOf c) known pool → KnownFor (kindOf k) known pool
 known-for c k known pool h f = subst (λ (d : Command). KnownFor (kindOf d) known pool) h f
+
+pub says-for : (c k : Command) (ns : List Node) (es : List Edge) (sat : List ℕ) → c ≡ k → SaysFor (kindOf c) ns es sat → SaysFor (kindOf k) ns es sat
+says-for c k ns es sat h f = subst (λ (d : Command). SaysFor (kindOf d) ns es sat) h f
 
 module _ (S : State) where
   pub show-judged : (c : Credential) → Judges S (Show c) true

@@ -9,6 +9,8 @@ pub mod EdgeLaws
 pub mod JudgedLaws
 pub mod RoomLaws
 pub mod NewChild
+pub mod SameStates
+pub mod KeepsStates
 pub mod StepFormed
 pub mod Growth
 pub mod Marked

@@ -24,7 +24,7 @@ ghost use Rattle.justification.specs.Justified.{monitors, Says};
 ghost use Rattle.message.specs.declared.Command.the-variants as C;
 ghost use Rattle.negotiation.specs.State.{stateOf, within};
 ghost use Rattle.update.specs.Legal.{justifiedFor};
-ghost use Rattle.update.specs.Judged.{kindOf, isImplication, KnownFor, Judges};
+ghost use Rattle.update.specs.Judged.{kindOf, isImplication, isLinking, KnownFor, SaysFor, Judges};
 
 const IMPLICATION: u8 = 1;
 
@@ -37,7 +37,7 @@ fn wide(x: u8) -> usize
 }
 
 // Which nodes are satisfied.
-fn satisfied_nodes(nodes: Nodes, edges: Edges) -> [u8; 128]
+pub fn satisfied_nodes(nodes: Nodes, edges: Edges) -> [u8; 128]
     requires { ⌜ (nodes .count ≤ 128) × (edges .count ≤ 256) × NodesFormed (nodesOf nodes) ⌝ }
     ensures { λ r. ⌜ Says (nodesOf nodes) (edgesOf edges) r ⌝ }
 {
@@ -47,11 +47,10 @@ fn satisfied_nodes(nodes: Nodes, edges: Edges) -> [u8; 128]
 }
 
 // Whether a linking implication edge into node p, a target of expression x, is justified for B.
-fn is_linked_for(nodes: Nodes, edges: Edges, x: Expression, b: u16, p: u8) -> bool
-    requires { ⌜ (nodes .count ≤ 128) × (edges .count ≤ 256) × NodesFormed (nodesOf nodes) ⌝ }
+fn is_linked_for(nodes: Nodes, edges: Edges, sat: [u8; 128], x: Expression, b: u16, p: u8) -> bool
+    requires { ⌜ (nodes .count ≤ 128) × (edges .count ≤ 256) × Says (nodesOf nodes) (edgesOf edges) sat ⌝ }
     ensures { λ r. ⌜ r ≡ any (monitors (nodesOf nodes) (edgesOf edges) x b p) (edgesOf edges) ⌝ }
 {
-    let sat = satisfied_nodes(nodes, edges);
     is_monitored_for(
         nodes.count,
         &nodes.kind,
@@ -79,8 +78,16 @@ fn is_linked_for(nodes: Nodes, edges: Edges, x: Expression, b: u16, p: u8) -> bo
 }
 
 // Whether an edge into node p is justified, its child having expression y and subject B.
-fn is_justified_for(n: Negotiation, k: Known, kind: u8, p: u8, y: Expression, b: u16) -> bool
-    requires { ⌜ (p < n .nodes .count) × (n .nodes .count ≤ 128) × (n .edges .count ≤ 256) × NodesFormed (nodesOf (n .nodes)) × KnownFor kind k (n .shown) ⌝ }
+fn is_justified_for(
+    n: Negotiation,
+    k: Known,
+    sat: [u8; 128],
+    kind: u8,
+    p: u8,
+    y: Expression,
+    b: u16,
+) -> bool
+    requires { ⌜ (p < n .nodes .count) × (n .nodes .count ≤ 128) × (n .edges .count ≤ 256) × KnownFor kind k (n .shown) × SaysFor kind (nodesOf (n .nodes)) (edgesOf (n .edges)) sat ⌝ }
     ensures { λ r. ⌜ r ≡ justifiedFor (stateOf n) kind p y b ⌝ }
 {
     let nodes = n.nodes;
@@ -91,13 +98,13 @@ fn is_justified_for(n: Negotiation, k: Known, kind: u8, p: u8, y: Expression, b:
     }
     if kind == LINKING_IMPLICATION {
         let edges = n.edges;
-        return is_linked_for(nodes, edges, x, b, p);
+        return is_linked_for(nodes, edges, sat, x, b, p);
     }
     true
 }
 
-fn is_bring_justified(n: Negotiation, k: Known, b: NewEdge) -> bool
-    requires { ⌜ (n .nodes .count ≤ 128) × (n .edges .count ≤ 256) × NodesFormed (nodesOf (n .nodes)) × KnownFor (b .kind) k (n .shown) ⌝ }
+fn is_bring_justified(n: Negotiation, k: Known, sat: [u8; 128], b: NewEdge) -> bool
+    requires { ⌜ (n .nodes .count ≤ 128) × (n .edges .count ≤ 256) × KnownFor (b .kind) k (n .shown) × SaysFor (b .kind) (nodesOf (n .nodes)) (edgesOf (n .edges)) sat ⌝ }
     ensures { λ r. ⌜ Judges (stateOf n) (C.Bring b) r ⌝ }
 {
     let nodes = n.nodes;
@@ -105,11 +112,11 @@ fn is_bring_justified(n: Negotiation, k: Known, b: NewEdge) -> bool
         return false;
     }
     let y = b.expression;
-    is_justified_for(n, k, b.kind, b.parent, y, b.subject)
+    is_justified_for(n, k, sat, b.kind, b.parent, y, b.subject)
 }
 
-fn is_join_justified(n: Negotiation, k: Known, e: Edge) -> bool
-    requires { ⌜ (n .nodes .count ≤ 128) × (n .edges .count ≤ 256) × NodesFormed (nodesOf (n .nodes)) × KnownFor (e .kind) k (n .shown) ⌝ }
+fn is_join_justified(n: Negotiation, k: Known, sat: [u8; 128], e: Edge) -> bool
+    requires { ⌜ (n .nodes .count ≤ 128) × (n .edges .count ≤ 256) × KnownFor (e .kind) k (n .shown) × SaysFor (e .kind) (nodesOf (n .nodes)) (edgesOf (n .edges)) sat ⌝ }
     ensures { λ r. ⌜ Judges (stateOf n) (C.Join e) r ⌝ }
 {
     let nodes = n.nodes;
@@ -121,7 +128,7 @@ fn is_join_justified(n: Negotiation, k: Known, e: Edge) -> bool
     }
     let c = node_of(nodes, e.child);
     let y = c.expression;
-    is_justified_for(n, k, e.kind, e.parent, y, c.subject)
+    is_justified_for(n, k, sat, e.kind, e.parent, y, c.subject)
 }
 
 // Whether a command adds an implication edge: it asks what the credentials shown prove.
@@ -138,16 +145,31 @@ pub fn is_implication(c: Command) -> bool
     }
 }
 
-// Whether the edge of a command is justified, where its nodes stand; k has what the credentials shown prove, if an implication asks it.
-pub fn is_justified(n: Negotiation, k: Known, c: Command) -> bool
-    requires { ⌜ (within (stateOf n) ≡ true) × NodesFormed (nodesOf (n .nodes)) × KnownFor (kindOf c) k (n .shown) ⌝ }
+// Whether a command adds a linking implication edge: it asks which nodes are satisfied.
+pub fn is_linking(c: Command) -> bool
+    ensures { λ r. ⌜ r ≡ isLinking c ⌝ }
+{
+    match c {
+        Command::Show(_) => false,
+        Command::Open(_) => false,
+        Command::Bring(b) => b.kind == LINKING_IMPLICATION,
+        Command::Join(e) => e.kind == LINKING_IMPLICATION,
+        Command::Mark(_) => false,
+        Command::End => false,
+    }
+}
+
+// Whether the edge of a command is justified, where its nodes stand; k has what the credentials shown prove, if an implication asks it, and sat
+// the satisfied nodes, if a linking implication asks them.
+pub fn is_justified(n: Negotiation, k: Known, sat: [u8; 128], c: Command) -> bool
+    requires { ⌜ (within (stateOf n) ≡ true) × KnownFor (kindOf c) k (n .shown) × SaysFor (kindOf c) (nodesOf (n .nodes)) (edgesOf (n .edges)) sat ⌝ }
     ensures { λ r. ⌜ Judges (stateOf n) c r ⌝ }
 {
     match c {
         Command::Show(_) => true,
         Command::Open(_) => true,
-        Command::Bring(b) => is_bring_justified(n, k, b),
-        Command::Join(e) => is_join_justified(n, k, e),
+        Command::Bring(b) => is_bring_justified(n, k, sat, b),
+        Command::Join(e) => is_join_justified(n, k, sat, e),
         Command::Mark(_) => true,
         Command::End => true,
     }

@@ -1,5 +1,5 @@
 use Rattle.update.specs.LegalLaws.{within-few}
-use Rattle.update.specs.JudgedLaws.{judges-for, known-for, show-judged, open-judged, mark-judged, end-judged}
+use Rattle.update.specs.JudgedLaws.{judges-for, known-for, says-for, show-judged, open-judged, mark-judged, end-judged}
 use borrow.Author.Needs.{needs}
 use Rattle.update.proofs.justify.is_justified.Statement.{statement}
 use Rattle.update.proofs.justify.is_justified.Tie as tie
@@ -17,13 +17,13 @@ enum-known-c : tie.Need-enum-known-c
 enum-known-c c = search needs
 
 is-bring-justified-requires : tie.Need-is-bring-justified-requires
-is-bring-justified-requires c κs = (within-few _ (c .before .before .before .pre .0) .0, within-few _ (c .before .before .before .pre .0) .1, (c .before .before .before .pre .1), known-for _ _ _ _ (c .before .c .given .1) (c .before .before .before .pre .2))
+is-bring-justified-requires c κs = (within-few _ (c .before .before .before .pre .0) .0, within-few _ (c .before .before .before .pre .0) .1, known-for _ _ _ _ (c .before .c .given .1) (c .before .before .before .pre .1), says-for _ _ _ _ _ (c .before .c .given .1) (c .before .before .before .pre .2))
 
 enum-known-c-2 : tie.Need-enum-known-c-2
 enum-known-c-2 c = search needs
 
 is-join-justified-requires : tie.Need-is-join-justified-requires
-is-join-justified-requires c κs = (within-few _ (c .before .before .before .pre .0) .0, within-few _ (c .before .before .before .pre .0) .1, (c .before .before .before .pre .1), known-for _ _ _ _ (c .before .c2 .given .1) (c .before .before .before .pre .2))
+is-join-justified-requires c κs = (within-few _ (c .before .before .before .pre .0) .0, within-few _ (c .before .before .before .pre .0) .1, known-for _ _ _ _ (c .before .c2 .given .1) (c .before .before .before .pre .1), says-for _ _ _ _ _ (c .before .c2 .given .1) (c .before .before .before .pre .2))
 
 enum-told-3 : tie.Need-enum-told-3
 enum-told-3 c = search needs

@@ -12,13 +12,13 @@ node-of-requires : tie.Need-node-of-requires
 node-of-requires c κs = search needs
 
 is-known-requires : tie.Need-is-known-requires
-is-known-requires c κs = (c .before .before .before .pre .4 .knows) (c .if1 .taken)
+is-known-requires c κs = (c .before .before .before .pre .3 .knows) (c .if1 .taken)
 
 returns : tie.Need-returns
-returns c = for-known _ _ _ _ _ _ _ (c .before .before .node-of .ensures) (c .before .if1 .taken) (c .before .before .before .before .pre .4) (c .is-known .ensures)
+returns c = for-known _ _ _ _ _ _ _ (c .before .before .node-of .ensures) (c .before .if1 .taken) (c .before .before .before .before .pre .3) (c .is-known .ensures)
 
 is-linked-for-requires : tie.Need-is-linked-for-requires
-is-linked-for-requires c κs = search needs
+is-linked-for-requires c κs = ((c .before .before .before .before .before .pre .1), (c .before .before .before .before .before .pre .2), (c .before .before .before .before .before .pre .4 .says) (c .before .if2 .taken))
 
 returns-2 : tie.Need-returns-2
 returns-2 c = for-linked _ _ _ _ _ _ (c .before .before .before .before .node-of .ensures) (c .before .before .if2 .taken) (c .is-linked-for .ensures)

@@ -1,0 +1,23 @@
+use native.Mathlib.Omega.{arith}
+use Rattle.update.specs.KeepsStates.{bring-absent, bring-keeps}
+use borrow.Author.Needs.{needs}
+use Rattle.update.proofs.keeps.bring_keeps.Statement.{statement}
+use Rattle.update.proofs.keeps.bring_keeps.Tie as tie
+use Rattle.update.proofs.keeps.bring_keeps.Lts as lts
+use Rattle.update.proofs.keeps.is_trivial.Reads as is-trivial-reads
+use Rattle.update.proofs.keeps.wide.Reads as wide-reads
+
+wide-requires : tie.Need-wide-requires
+wide-requires c κs = search needs
+
+returns : tie.Need-returns
+returns c = bring-absent _ _ _ (omega (arith, (c .before .before .wide .ensures), (c .if1 .taken)))
+
+is-trivial-requires : tie.Need-is-trivial-requires
+is-trivial-requires c κs = search needs
+
+returns-2 : tie.Need-returns-2
+returns-2 c = bring-keeps _ _ _ (omega (arith, (c .before .before .before .wide .ensures), (c .before .if1 .left))) (c .is-trivial .ensures)
+
+pub bring-keeps-spec : {M : Type 1} → statement M
+bring-keeps-spec = tie.close (tie.spec wide-requires returns is-trivial-requires returns-2)
