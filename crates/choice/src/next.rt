@@ -1,18 +1,16 @@
 // The search for the next move: nodes by rising number.
 use crate::processing::choice_at;
-use graph::Node;
-use graph::Nodes;
-use graph::node_at;
 use moves::Choice;
 use moves::Found;
 use moves::Own;
 use negotiation::Negotiation;
 use states::NodeStates;
+use update::node_of;
 ghost use mathlib.Core.Path.{_≡_};
 ghost use mathlib.Core.Bool.{true};
 ghost use Prim.Native.Nat.{_≤_, _<_};
 ghost use Rattle.tables.specs.Tables.{tablesOf};
-ghost use Rattle.graph.specs.Graph.{nodesOf, edgesOf, nodeIn};
+ghost use Rattle.graph.specs.Graph.{nodesOf, edgesOf};
 ghost use Rattle.states.specs.Brings.{NodesFormed, EdgesFormed};
 ghost use Rattle.states.specs.Complete.{Settled};
 ghost use Rattle.negotiation.specs.State.{stateOf, within};
@@ -31,29 +29,6 @@ fn is_nothing(c: Choice) -> bool
     }
 }
 
-fn node_of(nodes: Nodes, i: usize) -> Node
-    requires { ⌜ (i < nodes .count) × (nodes .count ≤ 128) ⌝ }
-    ensures { λ x. ⌜ x ≡ nodeIn (nodesOf nodes) i ⌝ }
-{
-    node_at(
-        nodes.count,
-        &nodes.kind,
-        &nodes.parts,
-        &nodes.n0,
-        &nodes.n1,
-        &nodes.n2,
-        &nodes.n3,
-        &nodes.n4,
-        &nodes.n5,
-        &nodes.n6,
-        &nodes.n7,
-        &nodes.subject,
-        &nodes.verifier,
-        &nodes.state,
-        i,
-    )
-}
-
 // "Nodes are tried by rising number": the first at which there is something to do.
 pub fn next_choice(own: Own, n: Negotiation, states: NodeStates) -> Found
     requires { ⌜ Prepared own × (within (stateOf n) ≡ true) × (0 < n .nodes .count) × NodesFormed (nodesOf (n .nodes)) × EdgesFormed (nodesOf (n .nodes)) (edgesOf (n .edges)) × Settled (nodesOf (n .nodes)) (edgesOf (n .edges)) (states .satisfied) (states .failed) ⌝ }
@@ -63,13 +38,11 @@ pub fn next_choice(own: Own, n: Negotiation, states: NodeStates) -> Found
     let nodes = n.nodes;
     let mut i = 0;
     while i < nodes.count {
-        let x = node_of(nodes, i);
-        let choice = choice_at(own, n, states, i as u8, x);
+        let node = i as u8;
+        let x = node_of(nodes, node);
+        let choice = choice_at(own, n, states, node, x);
         if !is_nothing(choice) {
-            return Found {
-                node: i as u8,
-                choice,
-            };
+            return Found { node, choice };
         }
         i += 1;
     }

@@ -21,13 +21,13 @@ use negotiation::Negotiation;
 use states::NodeStates;
 use tables::RoleAnswer;
 use tables::other_of;
+use update::is_processed;
 ghost use mathlib.Core.Path.{_≡_};
 ghost use Prim.Native.Nat.{_≤_, _<_};
 ghost use Rattle.tables.specs.Tables.{tablesOf};
 ghost use Rattle.negotiation.specs.State.{stateOf};
 ghost use Rattle.graph.specs.Graph.{nodesOf, edgesOf};
 ghost use Rattle.expression.specs.declared.Expression.the-variants as E;
-ghost use Rattle.update.specs.Step.{processedBy};
 ghost use Rattle.moves.specs.Wanted.{chosenIn, isDone};
 ghost use Rattle.moves.specs.Rules.{endIn, linkRules, verifierRules, ownRules, opponentRules};
 ghost use Rattle.moves.specs.Move.{choiceAt};
@@ -152,16 +152,6 @@ fn opponent_rules(
         Expression::Intersection(p) => or_else(part_edges(nodes, edges, i, x, p), Choice::Mark),
         Expression::Goal(r) => or_else(solutions(own, nodes, edges, i, x, r), Choice::Mark),
     }
-}
-
-// Whether a side has processed a node.
-fn is_processed(side: u8, x: Node) -> bool
-    ensures { λ r. ⌜ r ≡ processedBy side x ⌝ }
-{
-    if x.verifier == side {
-        return x.state % 2 == 1;
-    }
-    x.state / 2 % 2 == 1
 }
 
 // What is to be done at node i: nothing where our side has processed it.

@@ -6,8 +6,7 @@ use message::write_command;
 use moves::Outgoing;
 use negotiation::Negotiation;
 use rt0::Pool;
-use rt0::body_at;
-use rt0::head_at;
+use sending::credential_at;
 use update::step;
 ghost use mathlib.Core.Path.{_≡_};
 ghost use mathlib.Core.Bool.{true};
@@ -99,10 +98,7 @@ fn credential_of(pool: Pool, k: usize) -> Credential
     requires { ⌜ k < 128 ⌝ }
     ensures { λ r. ⌜ r ≡ credentialAt pool k ⌝ }
 {
-    Credential {
-        head: head_at(pool.count, &pool.heads, &pool.kinds, &pool.numbers, k),
-        body: body_at(pool.count, &pool.heads, &pool.kinds, &pool.numbers, k),
-    }
+    credential_at(pool.count, &pool.heads, &pool.kinds, &pool.numbers, k)
 }
 
 // Credential k of a pool is written and shown, if its flag is on.

@@ -4,7 +4,6 @@ use negotiation::Negotiation;
 
 mod call;
 mod carry;
-mod stubs;
 mod turns;
 
 pub use call::reply;

@@ -4,7 +4,7 @@ use crate::Turn;
 use crate::carry::carry;
 use crate::carry::room_for;
 use crate::carry::size_of_outgoing;
-use crate::stubs::next_choice;
+use choice::next_choice;
 use message::Command;
 use moves::Choice;
 use moves::Outgoing;

@@ -1,10 +1,8 @@
 // The command of an edge.
 use class::Names;
 use graph::Edge;
-use graph::Node;
 use graph::Nodes;
 use graph::find_node;
-use graph::node_at;
 use message::Command;
 use message::NewEdge;
 use moves::Wanted;
@@ -12,39 +10,9 @@ use moves::initial_state;
 ghost use mathlib.Core.Path.{_≡_};
 ghost use Prim.Native.Nat.{_≤_, _<_};
 ghost use Rattle.class.specs.Names.{namesOf, Ascending};
-ghost use Rattle.graph.specs.Graph.{nodesOf, nodeIn};
+ghost use Rattle.graph.specs.Graph.{nodesOf};
 ghost use Rattle.moves.specs.Wanted.{childNumber};
 ghost use Rattle.sending.specs.Sent.{commandFor};
-
-fn wide(x: u8) -> usize
-    ensures { λ r. ⌜ r ≡ x ⌝ }
-{
-    x as usize
-}
-
-// Node i.
-pub fn node_of(nodes: Nodes, i: u8) -> Node
-    requires { ⌜ (i < nodes .count) × (nodes .count ≤ 128) ⌝ }
-    ensures { λ r. ⌜ r ≡ nodeIn (nodesOf nodes) i ⌝ }
-{
-    node_at(
-        nodes.count,
-        &nodes.kind,
-        &nodes.parts,
-        &nodes.n0,
-        &nodes.n1,
-        &nodes.n2,
-        &nodes.n3,
-        &nodes.n4,
-        &nodes.n5,
-        &nodes.n6,
-        &nodes.n7,
-        &nodes.subject,
-        &nodes.verifier,
-        &nodes.state,
-        wide(i),
-    )
-}
 
 // The number of the wanted child, or 128.
 fn child_number(nodes: Nodes, w: Wanted) -> usize

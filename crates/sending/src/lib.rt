@@ -6,4 +6,5 @@ mod pool;
 mod send;
 
 pub use own::own_of;
+pub use pool::credential_at;
 pub use send::outgoing;

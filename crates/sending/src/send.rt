@@ -1,6 +1,5 @@
 // A move as it is sent.
 use crate::commands::edge_command;
-use crate::commands::node_of;
 use crate::credentials::alone;
 use crate::credentials::direct_for;
 use crate::credentials::needed_for;
@@ -11,6 +10,7 @@ use moves::Outgoing;
 use moves::Own;
 use moves::Wanted;
 use negotiation::Negotiation;
+use update::node_of;
 ghost use mathlib.Core.Path.{_≡_};
 ghost use mathlib.Core.Bool.{true};
 ghost use Prim.Native.Nat.{_≤_, _<_};

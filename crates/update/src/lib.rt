@@ -35,7 +35,9 @@ use numbers::end_number;
 use numbers::mark_number;
 use numbers::open_number;
 use numbers::show_number;
+pub use sides::is_processed;
 pub use steps::is_move;
+pub use steps::node_of;
 pub use steps::step;
 
 // Why a command is refused: any but open while no node stands, or open later; no such node; wrong form or already present; not justified;

@@ -14,8 +14,8 @@ use Rattle.choice.proofs.next.next_choice.Tie as tie
 use Rattle.choice.proofs.next.next_choice.Reads as reads
 use Rattle.choice.proofs.next.next_choice.Lts as lts
 use Rattle.choice.proofs.next.is_nothing.Reads as is-nothing-reads
-use Rattle.choice.proofs.next.node_of.Reads as node-of-reads
 use Rattle.choice.proofs.processing.choice_at.Reads as choice-at-reads
+use Rattle.update.proofs.node_of.Reads as node-of-reads
 
 abbrev Inv-loop : tie.InvT-loop
 Inv-loop own n states nodes i₀ i = Passed (endIn (tablesOf (own .house)) (stateOf n)) i
@@ -26,20 +26,17 @@ abbrev μ-loop : tie.MeasureT-loop
 loop-holds : tie.Need-loop-holds Inv-loop μ-loop
 loop-holds c = passed-start _
 
+cast-node : tie.Need-cast-node Inv-loop μ-loop
+cast-node c = omega (arith, c .if1 .taken, within-few _ (c .before .before .before .before .pre .1) .0)
+
 node-of-requires : tie.Need-node-of-requires Inv-loop μ-loop
 node-of-requires c κs = (c .if1 .taken, within-few _ (c .before .before .before .before .pre .1) .0)
-
-cast-choice-at : tie.Need-cast-choice-at Inv-loop μ-loop
-cast-choice-at c = omega (arith, c .before .if1 .taken, within-few _ (c .before .before .before .before .before .pre .1) .0)
 
 choice-at-requires : tie.Need-choice-at-requires Inv-loop μ-loop
 choice-at-requires c κs = let s = c .before .before .before .before .before in (ready-of (s .pre .0) (s .pre .1) (s .pre .4) (s .pre .5), c .before .if1 .taken)
 
 is-nothing-requires : tie.Need-is-nothing-requires Inv-loop μ-loop
 is-nothing-requires c κs = search needs
-
-cast-t11 : tie.Need-cast-t11 Inv-loop μ-loop
-cast-t11 c = omega (arith, c .before .before .before .before .if1 .taken, within-few _ (c .before .before .before .before .before .before .before .before .pre .1) .0)
 
 returns : tie.Need-returns Inv-loop μ-loop
 unfolding endIn stateOf
@@ -66,11 +63,10 @@ next-choice-spec =
     Inv-loop
     μ-loop
     loop-holds
+    cast-node
     node-of-requires
-    cast-choice-at
     choice-at-requires
     is-nothing-requires
-    cast-t11
     returns
     add-i
     loop-less

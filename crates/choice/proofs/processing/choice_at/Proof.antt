@@ -7,7 +7,7 @@ use Rattle.choice.proofs.processing.choice_at.Statement.{statement}
 use Rattle.choice.proofs.processing.choice_at.Tie as tie
 use Rattle.choice.proofs.processing.choice_at.Reads as reads
 use Rattle.choice.proofs.processing.choice_at.Lts as lts
-use Rattle.choice.proofs.processing.is_processed.Reads as is-processed-reads
+use Rattle.update.proofs.is_processed.Reads as is-processed-reads
 use Rattle.choice.proofs.processing.opponent_rules.Reads as opponent-rules-reads
 use Rattle.choice.proofs.processing.verifier_rules.Reads as verifier-rules-reads
 

@@ -5,7 +5,7 @@ use Rattle.reply.proofs.turns.next_turn.Statement.{statement}
 use Rattle.reply.proofs.turns.next_turn.Tie as tie
 use Rattle.reply.proofs.turns.next_turn.Reads as reads
 use Rattle.reply.proofs.turns.next_turn.Lts as lts
-use Rattle.reply.proofs.stubs.next_choice.Reads as next-choice-reads
+use Rattle.choice.proofs.next_choice.Reads as next-choice-reads
 use Rattle.sending.proofs.outgoing.Reads as outgoing-reads
 use Rattle.reply.proofs.turns.is_nothing.Reads as is-nothing-reads
 use Rattle.reply.proofs.turns.stop.Reads as stop-reads
