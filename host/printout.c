@@ -53,9 +53,9 @@ static int keep(const char *path, const char *text, size_t length)
 void printout_close(struct printout *printout, const char *path)
 {
     int whole = fclose(printout->to) == 0;
-    if (whole)
-        write_all(STDOUT_FILENO, printout->text, printout->length);
     if (path != NULL && !(whole && keep(path, printout->text, printout->length)))
         fprintf(stderr, "%s.negotiation: cannot be written\n", path);
+    if (whole)
+        write_all(STDOUT_FILENO, printout->text, printout->length);
     free(printout->text);
 }
