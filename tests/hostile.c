@@ -123,7 +123,7 @@ static int stall(uint16_t port, int seconds)
     }
     for (int i = 0; i < 4; i++)
         if (!comes("stall", connections[i], first, sizeof first) ||
-            !closes("stall", connections[i], seconds * 1000LL + 1000))
+            !closes("stall", connections[i], seconds * 1000LL + 2000))
             return 0;
     return 1;
 }
@@ -132,7 +132,7 @@ static int stall(uint16_t port, int seconds)
 static int drip(uint16_t port, int seconds)
 {
     int connection = connected(port);
-    long long until = now_ms() + seconds * 1000LL + 1000;
+    long long until = now_ms() + seconds * 1000LL + 2000;
     static const uint8_t head[] = {16, 0};
     push(connection, head, sizeof head);
     if (!comes("drip", connection, first, sizeof first))
@@ -235,27 +235,31 @@ static int flood(uint16_t port, int count)
     return 1;
 }
 
-/*
- * Opens 100 connections and keeps them for a while. No more than so many may be served at the beginning. Says when they
- * are open.
- */
+/* How many of these connections have been given something. */
+static int served(struct pollfd *connections, int count)
+{
+    int found = 0;
+    poll(connections, (nfds_t)count, 0);
+    for (int i = 0; i < count; i++)
+        found += (connections[i].revents & POLLIN) != 0;
+    return found;
+}
+
+/* Opens 100 connections, and keeps them until so many are served and a while longer. No more may be. */
 static int hold(uint16_t port, int most)
 {
     struct pollfd connections[100];
-    int served = 0;
     for (int i = 0; i < 100; i++)
         connections[i] = (struct pollfd){.fd = begun(port), .events = POLLIN};
-    poll(NULL, 0, 500);
-    poll(connections, 100, 0);
-    for (int i = 0; i < 100; i++)
-        served += (connections[i].revents & POLLIN) != 0;
+    for (int i = 0; i < 40 && served(connections, 100) < most; i++)
+        poll(NULL, 0, 100);
     printf("held\n");
     fflush(stdout);
-    poll(NULL, 0, 1500);
-    if (served == most)
-        return 1;
-    fprintf(stderr, "hostile hold: %d of 100 were served, not %d\n", served, most);
-    return 0;
+    poll(NULL, 0, 700);
+    int found = served(connections, 100);
+    if (found != most)
+        fprintf(stderr, "hostile hold: %d of 100 were served, not %d\n", found, most);
+    return found == most;
 }
 
 /* A server that plays case (i) and then gives less of the file than it says. Prints its port; serves one connection. */
