@@ -28,7 +28,7 @@ export CARGO_TARGET_DIR = $(CURDIR)/build/cargo
 export LAVUTREMO_LIB = $(CURDIR)/target/staticlib
 
 # The parts of the C programs: tables and their printing, one end of a negotiation, a connection.
-HOUSE_PARTS = host/print.c host/text.c host/house.c
+HOUSE_PARTS = host/print.c host/read.c host/text.c host/house.c
 END_PARTS = $(HOUSE_PARTS) host/end.c
 LINK_PARTS = $(END_PARTS) host/negotiate.c host/link.c host/printout.c host/arguments.c
 HEADERS := include/lavutremo.h $(wildcard host/*.h)

@@ -2,7 +2,8 @@
 
 #include <string.h>
 
-#include "text.h"
+#include "layout.h"
+#include "read.h"
 
 int argument_number(const char *text, unsigned long long least, unsigned long long most, unsigned long long *number)
 {
@@ -37,7 +38,7 @@ int argument_role(const char *text, uint16_t *entity, uint16_t *name)
     cursor_on(&cursor, text, strlen(text));
     if (!read_role(&cursor, role) || cursor.at != cursor.end)
         return 0;
-    *entity = (uint16_t)(role[0] << 8 | role[1]);
-    *name = (uint16_t)(role[2] << 8 | role[3]);
+    *entity = (uint16_t)number_at(role);
+    *name = (uint16_t)number_at(role + 2);
     return 1;
 }

@@ -8,7 +8,9 @@
 #include <string.h>
 
 #include "end.h"
+#include "layout.h"
 #include "print.h"
+#include "read.h"
 #include "text.h"
 
 struct question {
@@ -112,7 +114,8 @@ static void read_house(const char *who, const char *text, struct house *house)
 /* Whether both ends hold the same graph and credentials: all that stands behind the header. */
 static int alike(const struct end *one, const struct end *other)
 {
-    return memcmp(one->negotiation + 128, other->negotiation + 128, sizeof one->negotiation - 128) == 0;
+    return memcmp(one->negotiation + NODES_AT, other->negotiation + NODES_AT,
+                  sizeof one->negotiation - NODES_AT) == 0;
 }
 
 /* One message, given by the sender and taken by the receiver. Returns 1 if it has this length and both ends agree. */
@@ -164,7 +167,7 @@ static int negotiate_both(const struct run *run)
         right = right && same_message(i, &mediator);
         right = right && end_now(&mediator) == (i < 3 ? LAVUTREMO_END_NONE : run->end);
     }
-    right = right && mediator.negotiation[14] == run->nodes;
+    right = right && mediator.negotiation[NODE_COUNT_AT] == run->nodes;
     if (!right)
         printf("(%c) is marked otherwise\n", run->letter);
     return right;

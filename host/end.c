@@ -1,9 +1,7 @@
 #include "end.h"
 
+#include "layout.h"
 #include "print.h"
-
-/* Where docs/LAYOUT.md puts the counts. */
-enum { MESSAGE_COUNT_AT = 12, NODE_COUNT_AT = 14 };
 
 unsigned end_begin(struct end *end, const struct house *house, uint16_t other, uint16_t entity, uint16_t name)
 {
@@ -41,8 +39,7 @@ unsigned end_now(const struct end *end)
 
 void end_print(FILE *to, const struct end *end, const char *direction)
 {
-    const uint8_t *count = end->negotiation + MESSAGE_COUNT_AT;
-    fprintf(to, "message %u, %s, %zu bytes\n", (unsigned)(count[0] << 8 | count[1]), direction, end->length);
+    fprintf(to, "message %u, %s, %zu bytes\n", number_at(end->negotiation + MESSAGE_COUNT_AT), direction, end->length);
     print_commands(to, end->message, end->length, end->nodes_before);
     print_graph(to, end->house, end->negotiation);
 }

@@ -17,8 +17,8 @@ static const char help[] =
     "usage: fetch [-s SECONDS] [-m MESSAGES] [-b BYTES] [-k] TABLES OTHER PORT FILE\n"
     "Fetches a file from the entity OTHER, which serves on PORT of the loopback address, and writes it to FILE.\n"
     "TABLES are records, or text as the program tables reads it.\n"
-    "  -s SECONDS   how long the negotiation may take, and then the file stand still: 1 to 3600, else 30\n"
-    "  -m MESSAGES  how many messages the negotiation may have: 1 to 1027, else 128\n"
+    "  -s SECONDS   how long the negotiation may take, and then each 64 KiB of the file: 1 to 3600, else 30\n"
+    "  -m MESSAGES  how many messages the negotiation may have: 1 to 1027, else 64\n"
     "  -b BYTES     how long the file may be; otherwise 1 GiB\n"
     "  -k           keeps the printout as FILE.negotiation\n";
 
@@ -106,8 +106,10 @@ static int fetch(struct errand *errand)
         fprintf(stderr, "port %u: %s\n", errand->port, strerror(errno));
         return 0;
     }
-    if (!printout_open(&printout))
+    if (!printout_open(&printout)) {
+        close(connection);
         return 0;
+    }
     unsigned end = negotiate(&errand->end, connection, &bounds, printout.to);
     int received = end == LAVUTREMO_END_SUCCESS && receive_file(connection, errand, printout.to);
     close(connection);
@@ -159,7 +161,7 @@ static void prepare(struct errand *errand, int count, char **arguments)
 
 int main(int count, char **arguments)
 {
-    static struct errand errand = {.seconds = 30, .messages = 128, .most_bytes = 1ull << 30};
+    static struct errand errand = {.seconds = 30, .messages = 64, .most_bytes = 1ull << 30};
     prepare(&errand, count, arguments);
     signal(SIGPIPE, SIG_IGN);
     return fetch(&errand) ? 0 : 1;

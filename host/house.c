@@ -4,6 +4,7 @@
 #include <stdio.h>
 #include <string.h>
 
+#include "layout.h"
 #include "print.h"
 #include "text.h"
 
@@ -14,7 +15,7 @@
 
 uint16_t house_self(const struct house *house)
 {
-    return (uint16_t)(house->bytes[1] << 8 | house->bytes[2]);
+    return (uint16_t)number_at(house->bytes + 1);
 }
 
 size_t record_size(uint8_t command)

@@ -1,16 +1,13 @@
 #include "negotiate.h"
 
+#include "layout.h"
 #include "link.h"
 #include "print.h"
-
-/* Where docs/LAYOUT.md puts our side, 0 being the mediator's, and the other end. */
-enum { SIDE_AT = 1, OTHER_AT = 4 };
 
 static void print_direction(FILE *to, const struct end *end, const char *verb)
 {
     char direction[40];
-    const uint8_t *other = end->negotiation + OTHER_AT;
-    snprintf(direction, sizeof direction, "%s %u", verb, (unsigned)(other[0] << 8 | other[1]));
+    snprintf(direction, sizeof direction, "%s %u", verb, number_at(end->negotiation + OTHER_AT));
     end_print(to, end, direction);
 }
 

@@ -1,15 +1,9 @@
 #include "print.h"
 
-/* Where docs/LAYOUT.md puts what is printed. */
-enum { NODE_COUNT_AT = 14, NODES_AT = 128, NODE_BYTES = 22, SUBJECT_AT = 18 };
+#include "layout.h"
 
 enum { CREDENTIAL = 1, OPEN, CHILD, JOIN, MARK, END };
 enum { KIND_ENTITY = 1, KIND_ROLE, KIND_LINKED, KIND_INTERSECTION, KIND_GOAL };
-
-static unsigned number_at(const uint8_t *bytes)
-{
-    return (unsigned)(bytes[0] << 8 | bytes[1]);
-}
 
 /* The word of this number, the first having number first. */
 static const char *word_of(const char *const *words, size_t count, unsigned first, unsigned number)
@@ -173,7 +167,7 @@ static void print_node(FILE *to, const uint8_t *node, unsigned number, uint64_t 
     fprintf(to, "    %4u  ", number);
     int width = print_wide(to, node);
     int is_goal = node[0] == KIND_GOAL;
-    fprintf(to, "%*s  %6u  %s\n", width < 16 ? 16 - width : 0, "", number_at(node + SUBJECT_AT),
+    fprintf(to, "%*s  %6u  %s\n", width < 16 ? 16 - width : 0, "", number_at(node + NODE_SUBJECT_AT),
             propagated_words(lavutremo_propagated(report), is_goal));
 }
 

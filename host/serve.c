@@ -28,8 +28,8 @@ static const char help[] =
     "Serves FILE on the loopback address to the entity OTHER, once it has proved to be in ROLE, as 3.1.\n"
     "TABLES are records, or text as the program tables reads it.\n"
     "  -p PORT         the port; 0, which it is otherwise, lets the system choose. It is printed.\n"
-    "  -s SECONDS      how long a negotiation may take, and then the file stand still: 1 to 3600, else 30\n"
-    "  -m MESSAGES     how many messages a negotiation may have: 1 to 1027, else 128\n"
+    "  -s SECONDS      how long a negotiation may take, and then each 64 KiB of the file: 1 to 3600, else 30\n"
+    "  -m MESSAGES     how many messages a negotiation may have: 1 to 1027, else 64\n"
     "  -c CONNECTIONS  how many there may be at a time, others wait: 1 to 1000, else 64\n"
     "  -k              keeps the printout of the last negotiation that got the file, as FILE.negotiation\n";
 
@@ -109,8 +109,10 @@ static unsigned reap(unsigned running, unsigned long long most)
         pid_t over = waitpid(-1, NULL, running < most ? WNOHANG : 0);
         if (over > 0)
             running--;
-        else if (over == 0 || errno != EINTR)
+        else if (over == 0)
             break;
+        else if (errno != EINTR)
+            running = 0;
     }
     return running;
 }
@@ -223,7 +225,7 @@ static void prepare(struct service *service, int count, char **arguments)
 
 int main(int count, char **arguments)
 {
-    static struct service service = {.seconds = 30, .messages = 128, .connections = 64};
+    static struct service service = {.seconds = 30, .messages = 64, .connections = 64};
     prepare(&service, count, arguments);
     set_signals();
     int listening = link_listen((uint16_t)service.port, 128);

@@ -39,28 +39,4 @@ void house_to_text(FILE *to, const struct house *house);
 /* Why lavutremo_check refused a record that begins with this byte, in words. */
 const char *record_refusal_words(unsigned number, uint8_t command);
 
-/* A place in a line. The first thing that is wrong stays in wrong and where; wrong is NULL before. */
-struct cursor {
-    const char *at, *end;
-    const char *wrong, *where;
-};
-
-void cursor_on(struct cursor *cursor, const char *line, size_t length);
-
-/*
- * Read, after blanks, the 18 bytes of an expression of kind 1 to 4, or the 22 bytes of a credential's operands. Return
- * 1, or 0 with the cursor's error set.
- */
-int read_expression(struct cursor *cursor, uint8_t *expression);
-int read_credential(struct cursor *cursor, uint8_t *operands);
-
-/* Reads a role, 4 bytes. */
-int read_role(struct cursor *cursor, uint8_t *role);
-
-/* Reads an entity or a name, 2 bytes, without blanks before it. */
-int read_number(struct cursor *cursor, uint8_t *number);
-
-/* Skips blanks; returns 1 if the line ends there or a comment begins. */
-int at_end(struct cursor *cursor);
-
 #endif

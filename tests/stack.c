@@ -42,7 +42,8 @@ struct job {
 
 static uint64_t ask(const struct input *input)
 {
-    static const uint8_t f[LAVUTREMO_EXPRESSION_BYTES] = {2, 0, 0, 1, 0, 1}, e[LAVUTREMO_EXPRESSION_BYTES] = {2, 0, 0, 9, 0, 9};
+    static const uint8_t f[LAVUTREMO_EXPRESSION_BYTES] = {2, 0, 0, 1, 0, 1};
+    static const uint8_t e[LAVUTREMO_EXPRESSION_BYTES] = {2, 0, 0, 9, 0, 9};
     return lavutremo_question(input->credentials, input->length, f, sizeof f, e, sizeof e);
 }
 
