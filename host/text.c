@@ -47,9 +47,12 @@ static const struct kind {
     int (*read)(struct cursor *, uint8_t *operands);
     size_t key_size;
 } kinds[] = {
-    {SELF, "self", read_number, 1},          {NAME, "class", read_name, 3},
-    {ISSUED, "issued", read_credential, 23}, {STORED, "stored", read_credential, 23},
-    {SENSITIVE, "sensitive", read_sensitive, 5}, {ACCESS, "access", read_access, 5},
+    {SELF, "self", read_number, 1},
+    {NAME, "class", read_name, 3},
+    {ISSUED, "issued", read_credential, LAVUTREMO_CREDENTIAL_BYTES},
+    {STORED, "stored", read_credential, LAVUTREMO_CREDENTIAL_BYTES},
+    {SENSITIVE, "sensitive", read_sensitive, 5},
+    {ACCESS, "access", read_access, 5},
 };
 
 struct record {
