@@ -81,6 +81,10 @@ build/refusals: tests/refusals.c include/lavutremo.h $(ENGINE) | gcc
 	@mkdir -p build
 	gcc $(CFLAGS) -o $@ tests/refusals.c $(ENGINE)
 
+build/replies: tests/replies.c $(HOUSE_PARTS) $(HEADERS) $(ENGINE) | gcc
+	@mkdir -p build
+	gcc $(CFLAGS) -Ihost -o $@ tests/replies.c $(HOUSE_PARTS) $(ENGINE)
+
 build/stack: tests/stack.c $(END_PARTS) $(HEADERS) $(ENGINE) | gcc
 	@mkdir -p build
 	gcc $(CFLAGS) -Ihost -pthread -o $@ tests/stack.c $(END_PARTS) $(ENGINE)
