@@ -1,4 +1,7 @@
+# make lib     builds the engine and puts it into build/lib/liblavutremo.a, for include/lavutremo.h
+# make host    builds the C programs of host/: build/tables, build/serve and build/fetch
 # make demo    builds the engine and the C program host/demo.c, and runs it
+# make stack   prints how much stack each call needs
 # make test    runs all tests; its last line is 'N passed, M failed'
 # make fuzz    compares the engine with the reference on many questions, tables, negotiations and messages (SEED,
 #              RANDOM_COUNT, DAMAGED_COUNT, TABLES_COUNT, NEGOTIATIONS_COUNT, TAKES_COUNT)
@@ -15,6 +18,7 @@ NEGOTIATIONS_COUNT = 1000000
 TAKES_COUNT = 1000000
 
 ENGINE = target/staticlib/libengine.a
+LIB = build/lib/liblavutremo.a
 MEASURE = target/staticlib/libmeasure.a
 CRATES := crates.txt $(shell find crates)
 REFERENCE := $(wildcard reference/Cargo.* reference/build.rs reference/src/*.rs reference/src/bin/*.rs)
@@ -23,10 +27,23 @@ BENCH := $(wildcard bench/Cargo.* bench/src/*.rs)
 export CARGO_TARGET_DIR = $(CURDIR)/build/cargo
 export LAVUTREMO_LIB = $(CURDIR)/target/staticlib
 
-.PHONY: demo test fuzz bench clean rt gcc g++ cargo
+# The parts of the C programs: tables and their printing, one end of a negotiation, a connection.
+HOUSE_PARTS = host/print.c host/read.c host/text.c host/house.c
+END_PARTS = $(HOUSE_PARTS) host/end.c
+LINK_PARTS = $(END_PARTS) host/negotiate.c host/link.c host/printout.c host/arguments.c
+HEADERS := include/lavutremo.h $(wildcard host/*.h)
+
+.PHONY: lib host demo stack test fuzz bench clean rt gcc g++ cargo
+
+lib: $(LIB)
+
+host: build/tables build/serve build/fetch
 
 demo: build/demo
 	@build/demo
+
+stack: build/stack
+	@build/stack
 
 test:
 	@exec tests/run
@@ -48,13 +65,33 @@ $(MEASURE): $(CRATES) | rt
 	rt staticlib measure
 	@touch $@
 
-build/demo: host/demo.c include/lavutremo.h $(ENGINE) | gcc
+$(LIB): $(ENGINE)
+	@mkdir -p build/lib
+	cp $(ENGINE) $@
+
+build/demo: $(END_PARTS)
+build/tables: $(HOUSE_PARTS)
+build/serve build/fetch: $(LINK_PARTS)
+
+build/demo build/tables build/serve build/fetch: build/%: host/%.c $(HEADERS) $(ENGINE) | gcc
 	@mkdir -p build
-	gcc $(CFLAGS) -o $@ host/demo.c $(ENGINE)
+	gcc $(CFLAGS) -o $@ $(filter %.c,$^) $(ENGINE)
 
 build/refusals: tests/refusals.c include/lavutremo.h $(ENGINE) | gcc
 	@mkdir -p build
 	gcc $(CFLAGS) -o $@ tests/refusals.c $(ENGINE)
+
+build/replies: tests/replies.c $(HOUSE_PARTS) $(HEADERS) $(ENGINE) | gcc
+	@mkdir -p build
+	gcc $(CFLAGS) -Ihost -o $@ tests/replies.c $(HOUSE_PARTS) $(ENGINE)
+
+build/stack: tests/stack.c $(END_PARTS) $(HEADERS) $(ENGINE) | gcc
+	@mkdir -p build
+	gcc $(CFLAGS) -Ihost -pthread -o $@ tests/stack.c $(END_PARTS) $(ENGINE)
+
+build/hostile: tests/hostile.c host/link.c $(HEADERS) | gcc
+	@mkdir -p build
+	gcc $(CFLAGS) -Ihost -o $@ tests/hostile.c host/link.c
 
 build/fuzz: $(REFERENCE) $(ENGINE) | cargo
 	cargo build --quiet --release --locked --manifest-path reference/Cargo.toml --bin fuzz

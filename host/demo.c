@@ -1,175 +1,184 @@
 /*
- * Asks the marked cases (a) to (h) and prints each: its credentials, the question and the answer. Exits with 1 if an
- * answer is not the marked one.
+ * Runs the marked cases and prints them: the questions (a) to (h) with their credentials and answers, then the
+ * negotiations (i) and (j) with the tables of both ends, each message and the graph after it. Exits with 1 if one of
+ * them comes out otherwise than marked.
  */
 #include <stdio.h>
+#include <stdlib.h>
 #include <string.h>
 
-#include "lavutremo.h"
+#include "end.h"
+#include "layout.h"
+#include "print.h"
+#include "read.h"
+#include "text.h"
 
-struct role {
-    uint16_t entity, name;
-};
-
-/* roles[0] alone but for an intersection; name is the second name of a linked role. */
-struct expression {
-    enum { KIND_ENTITY = 1, KIND_ROLE, KIND_LINKED, KIND_INTERSECTION } kind;
-    int part_count;
-    struct role roles[4];
-    uint16_t name;
-};
-
-struct credential {
-    struct role head;
-    struct expression body;
-};
-
-struct marked_case {
+struct question {
     char letter;
-    int credential_count;
-    struct credential credentials[3];
-    struct expression f, e;
+    const char *credentials[4]; /* up to the first that is NULL */
+    const char *f, *e;
     int yes;
 };
 
-#define ENTITY(a) {KIND_ENTITY, 0, {{a, 0}}, 0}
-#define ROLE(a, r) {KIND_ROLE, 0, {{a, r}}, 0}
-#define LINKED(a, r1, r2) {KIND_LINKED, 0, {{a, r1}}, r2}
-#define INTERSECTION(a, r, b, s) {KIND_INTERSECTION, 2, {{a, r}, {b, s}}, 0}
-
-static const struct marked_case cases[] = {
-    {'a', 0, {{{0, 0}, ENTITY(0)}}, ROLE(1, 1), ROLE(1, 1), 1},
-    {'b', 0, {{{0, 0}, ENTITY(0)}}, ROLE(1, 1), ENTITY(2), 0},
-    {'c', 2, {{{1, 1}, ROLE(2, 2)}, {{2, 2}, ENTITY(3)}}, ROLE(1, 1), ENTITY(3), 1},
-    {'d', 2, {{{1, 1}, ROLE(2, 2)}, {{2, 2}, ENTITY(3)}}, ROLE(2, 2), ROLE(1, 1), 0},
-    {'e', 3, {{{1, 1}, LINKED(1, 2, 3)}, {{1, 2}, ENTITY(2)}, {{2, 3}, ENTITY(4)}}, ROLE(1, 1), ENTITY(4), 1},
-    {'f', 2, {{{1, 1}, LINKED(1, 2, 3)}, {{2, 3}, ENTITY(4)}}, ROLE(1, 1), ENTITY(4), 0},
-    {'g', 2, {{{1, 1}, INTERSECTION(2, 2, 3, 3)}, {{2, 2}, ENTITY(4)}}, ROLE(1, 1), ENTITY(4), 0},
-    {'h', 3, {{{1, 1}, INTERSECTION(2, 2, 3, 3)}, {{2, 2}, ENTITY(4)}, {{3, 3}, ENTITY(4)}}, ROLE(1, 1), ENTITY(4), 1},
+static const struct question questions[] = {
+    {'a', {NULL}, "1.1", "1.1", 1},
+    {'b', {NULL}, "1.1", "2", 0},
+    {'c', {"1.1 <- 2.2", "2.2 <- 3"}, "1.1", "3", 1},
+    {'d', {"1.1 <- 2.2", "2.2 <- 3"}, "2.2", "1.1", 0},
+    {'e', {"1.1 <- 1.2.3", "1.2 <- 2", "2.3 <- 4"}, "1.1", "4", 1},
+    {'f', {"1.1 <- 1.2.3", "2.3 <- 4"}, "1.1", "4", 0},
+    {'g', {"1.1 <- 2.2 & 3.3", "2.2 <- 4"}, "1.1", "4", 0},
+    {'h', {"1.1 <- 2.2 & 3.3", "2.2 <- 4", "3.3 <- 4"}, "1.1", "4", 1},
 };
 
-static uint8_t *put_number(uint8_t *to, uint16_t number)
-{
-    *to++ = (uint8_t)(number >> 8);
-    *to++ = (uint8_t)(number & 255);
-    return to;
-}
+#define CLASSES "class 1 issuer-def\nclass 2 subject-all\nclass 3 subject-all\n"
+#define STUDIO "self 3\n" CLASSES "issued 3.1 <- 4.3\nstored 1.2 <- 3\n"
+#define HOUSE "self 2\n" CLASSES
+#define SENSITIVE "sensitive 4.3 ack 1.2\n"
 
-static uint8_t *put_role(uint8_t *to, struct role role)
-{
-    return put_number(put_number(to, role.entity), role.name);
-}
+/* The mediator wants 3.1 of the requester. Both runs have four messages; an end is expected after the last alone. */
+static const struct run {
+    char letter;
+    const char *mediator, *requester;
+    size_t lengths[4];
+    unsigned nodes, end;
+} runs[] = {
+    {'i', STUDIO, HOUSE "stored 4.3 <- 2\n" SENSITIVE, {56, 25, 50, 48}, 5, LAVUTREMO_END_SUCCESS},
+    {'j', STUDIO, HOUSE SENSITIVE, {56, 25, 50, 3}, 4, LAVUTREMO_END_FAILED},
+};
 
-/* Writes the 18 bytes of an expression and returns where they end. */
-static uint8_t *put_expression(uint8_t *to, const struct expression *expression)
+/* The texts above are right, or the program is wrong. */
+static void must(int read, const char *text)
 {
-    uint8_t *end = to + LAVUTREMO_EXPRESSION_BYTES;
-    memset(to, 0, LAVUTREMO_EXPRESSION_BYTES);
-    *to++ = (uint8_t)expression->kind;
-    *to++ = (uint8_t)expression->part_count;
-    switch (expression->kind) {
-    case KIND_ENTITY:
-        put_number(to, expression->roles[0].entity);
-        break;
-    case KIND_ROLE:
-        put_role(to, expression->roles[0]);
-        break;
-    case KIND_LINKED:
-        put_number(put_role(to, expression->roles[0]), expression->name);
-        break;
-    case KIND_INTERSECTION:
-        for (int i = 0; i < expression->part_count; i++)
-            to = put_role(to, expression->roles[i]);
-        break;
-    }
-    return end;
-}
-
-static uint8_t *put_credential(uint8_t *to, const struct credential *credential)
-{
-    *to++ = 0x01;
-    return put_expression(put_role(to, credential->head), &credential->body);
-}
-
-static void print_role(struct role role)
-{
-    printf("%u.%u", role.entity, role.name);
-}
-
-static void print_expression(const struct expression *expression)
-{
-    switch (expression->kind) {
-    case KIND_ENTITY:
-        printf("%u", expression->roles[0].entity);
-        break;
-    case KIND_ROLE:
-        print_role(expression->roles[0]);
-        break;
-    case KIND_LINKED:
-        print_role(expression->roles[0]);
-        printf(".%u", expression->name);
-        break;
-    case KIND_INTERSECTION:
-        for (int i = 0; i < expression->part_count; i++) {
-            if (i > 0)
-                printf(" & ");
-            print_role(expression->roles[i]);
-        }
-        break;
+    if (!read) {
+        printf("cannot be read: %s\n", text);
+        exit(2);
     }
 }
 
-static void print_case(const struct marked_case *marked)
+static void expression_of(const char *text, uint8_t *expression)
 {
-    printf("(%c) ", marked->letter);
-    if (marked->credential_count == 0)
-        printf("no credentials");
-    for (int i = 0; i < marked->credential_count; i++) {
-        if (i > 0)
-            printf(", ");
-        print_role(marked->credentials[i].head);
-        printf(" <- ");
-        print_expression(&marked->credentials[i].body);
-    }
-    printf("\n    ");
-    print_expression(&marked->f);
-    printf(" from ");
-    print_expression(&marked->e);
-    printf(": ");
+    struct cursor cursor;
+    cursor_on(&cursor, text, strlen(text));
+    must(read_expression(&cursor, expression) && at_end(&cursor), text);
 }
 
-static uint64_t ask(const struct marked_case *marked)
+/* The credentials and an end, as lavutremo_question takes them; printed on the way. Returns their length. */
+static size_t put_credentials(const char *const *texts, uint8_t *to)
+{
+    size_t length = 0;
+    for (size_t i = 0; texts[i] != NULL; i++) {
+        struct cursor cursor;
+        cursor_on(&cursor, texts[i], strlen(texts[i]));
+        to[length] = 0x01;
+        must(read_credential(&cursor, to + length + 1) && at_end(&cursor), texts[i]);
+        fputs(i > 0 ? ", " : "", stdout);
+        print_credential(stdout, to + length + 1);
+        length += LAVUTREMO_CREDENTIAL_BYTES;
+    }
+    to[length++] = 0x06;
+    return length;
+}
+
+/* Returns 1 if the answer is the marked one. */
+static int ask(const struct question *question)
 {
     uint8_t credentials[LAVUTREMO_MOST_CREDENTIALS_BYTES];
-    uint8_t f[LAVUTREMO_EXPRESSION_BYTES];
-    uint8_t e[LAVUTREMO_EXPRESSION_BYTES];
-    uint8_t *end = credentials;
-    for (int i = 0; i < marked->credential_count; i++)
-        end = put_credential(end, &marked->credentials[i]);
-    *end++ = 0x06;
-    put_expression(f, &marked->f);
-    put_expression(e, &marked->e);
-    return lavutremo_question(credentials, (size_t)(end - credentials), f, sizeof f, e, sizeof e);
+    uint8_t f[LAVUTREMO_EXPRESSION_BYTES], e[LAVUTREMO_EXPRESSION_BYTES];
+    printf("(%c) %s", question->letter, question->credentials[0] == NULL ? "no credentials" : "");
+    size_t length = put_credentials(question->credentials, credentials);
+    expression_of(question->f, f);
+    expression_of(question->e, e);
+    printf("\n    ");
+    print_expression(stdout, f);
+    printf(" from ");
+    print_expression(stdout, e);
+    uint64_t answer = lavutremo_question(credentials, length, f, sizeof f, e, sizeof e);
+    if (lavutremo_number(answer) != 0) {
+        printf(": refused %u\n", lavutremo_number(answer));
+        return 0;
+    }
+    int yes = lavutremo_value(answer) == 1;
+    printf(": %s%s\n", yes ? "yes" : "no", yes == question->yes ? "" : ", marked otherwise");
+    return yes == question->yes;
+}
+
+static void read_house(const char *who, const char *text, struct house *house)
+{
+    struct text_error error;
+    must(text_to_house(text, strlen(text), house, &error), text);
+    printf("%s\n", who);
+    house_to_text(stdout, house);
+}
+
+/* Whether both ends hold the same graph and credentials: all that stands behind the header. */
+static int alike(const struct end *one, const struct end *other)
+{
+    return memcmp(one->negotiation + NODES_AT, other->negotiation + NODES_AT,
+                  sizeof one->negotiation - NODES_AT) == 0;
+}
+
+/* One message, given by the sender and taken by the receiver. Returns 1 if it has this length and both ends agree. */
+static int pass(struct end *sender, struct end *receiver, const char *direction, size_t length)
+{
+    unsigned number = end_reply(sender);
+    if (number != 0) {
+        printf("%s: reply refused %u: %s\n", direction, number, refusal_words(number));
+        return 0;
+    }
+    memcpy(receiver->message, sender->message, sender->length);
+    receiver->length = sender->length;
+    number = end_take(receiver);
+    if (number != 0) {
+        printf("%s: take refused %u: %s\n", direction, number, refusal_words(number));
+        return 0;
+    }
+    end_print(stdout, receiver, direction);
+    return sender->length == length && alike(sender, receiver) && end_now(sender) == end_now(receiver);
+}
+
+/* The first three messages are the same in both runs: keeps those of the first, and compares those of the second. */
+static int same_message(int index, const struct end *end)
+{
+    static uint8_t kept[3][LAVUTREMO_MOST_MESSAGE_BYTES];
+    static size_t lengths[3];
+    if (index >= 3)
+        return 1;
+    if (lengths[index] == 0) {
+        memcpy(kept[index], end->message, end->length);
+        lengths[index] = end->length;
+    }
+    return lengths[index] == end->length && memcmp(kept[index], end->message, end->length) == 0;
+}
+
+/* Returns 1 if the run comes out as marked. */
+static int negotiate_both(const struct run *run)
+{
+    static struct house mediating, requesting;
+    static struct end mediator, requester;
+    printf("(%c) 3.1 is wanted of 2\n", run->letter);
+    read_house("tables of the mediator", run->mediator, &mediating);
+    read_house("tables of the requester", run->requester, &requesting);
+    int right = end_begin(&mediator, &mediating, house_self(&requesting), 3, 1) == 0 &&
+                end_begin(&requester, &requesting, house_self(&mediating), 0, 0) == 0;
+    for (int i = 0; i < 4 && right; i++) {
+        right = i % 2 == 0 ? pass(&mediator, &requester, "mediator to requester", run->lengths[i])
+                           : pass(&requester, &mediator, "requester to mediator", run->lengths[i]);
+        right = right && same_message(i, &mediator);
+        right = right && end_now(&mediator) == (i < 3 ? LAVUTREMO_END_NONE : run->end);
+    }
+    right = right && mediator.negotiation[NODE_COUNT_AT] == run->nodes;
+    if (!right)
+        printf("(%c) is marked otherwise\n", run->letter);
+    return right;
 }
 
 int main(void)
 {
-    int wrong = 0;
-    for (size_t i = 0; i < sizeof cases / sizeof cases[0]; i++) {
-        const struct marked_case *marked = &cases[i];
-        print_case(marked);
-        uint64_t answer = ask(marked);
-        int refused = lavutremo_number(answer) != 0;
-        int yes = lavutremo_value(answer) == 1;
-        if (refused)
-            printf("refused %u", lavutremo_number(answer));
-        else
-            printf("%s", yes ? "yes" : "no");
-        if (refused || yes != marked->yes) {
-            printf(", marked %s", marked->yes ? "yes" : "no");
-            wrong = 1;
-        }
-        printf("\n");
-    }
-    return wrong;
+    int right = 1;
+    for (size_t i = 0; i < sizeof questions / sizeof questions[0]; i++)
+        right &= ask(&questions[i]);
+    for (size_t i = 0; i < sizeof runs / sizeof runs[0]; i++)
+        right &= negotiate_both(&runs[i]);
+    return !right;
 }

@@ -61,6 +61,16 @@
 #define LAVUTREMO_PROCESSED 27u   /* already processed by the sender */
 #define LAVUTREMO_FULL 28u    /* a size passed */
 
+/* The propagated state of a node, and the end of a negotiation, as lavutremo_report gives them. */
+#define LAVUTREMO_UNKNOWN 0u /* or incomplete, of a goal */
+#define LAVUTREMO_SATISFIED 1u /* or complete, of a goal */
+#define LAVUTREMO_FAILED 2u
+#define LAVUTREMO_END_NONE 0u
+#define LAVUTREMO_END_SUCCESS 1u
+#define LAVUTREMO_END_FAILED 2u
+#define LAVUTREMO_END_STALLED 3u
+#define LAVUTREMO_END_FULL 4u
+
 /* Sizes in bytes. */
 #define LAVUTREMO_EXPRESSION_BYTES 18
 #define LAVUTREMO_CREDENTIAL_BYTES 23
@@ -69,6 +79,7 @@
 #define LAVUTREMO_MOST_TABLES_BYTES 4096
 #define LAVUTREMO_NEGOTIATION_BYTES 5120
 #define LAVUTREMO_MOST_MESSAGE_BYTES 4096
+#define LAVUTREMO_LEAST_REPLY_BYTES 4096
 #define LAVUTREMO_SCRATCH_BYTES 4096
 
 /* Sizes of a negotiation in records. */
@@ -172,27 +183,26 @@ uint64_t lavutremo_take(const uint8_t *tables, size_t tables_len, uint8_t *negot
                         const uint8_t *message, size_t message_len, uint8_t *scratch, size_t scratch_len);
 
 /*
- * Replies to the other end.
+ * Gives our next message to the other end: the moves that the rules ask for, and an end. The mediator's first one opens.
  *
  * Reads
  *   tables       as above
  *   negotiation  5,120 bytes that a call left
  *
  * Writes
- *   negotiation  the one that the reply's commands lead to, its count one higher, its end judged: 1 success or 2 failed
- *                where the first target is satisfied or failed, 3 stalled where this message and the one before had no
- *                open, edge or mark, 4 full where the next move would pass a size of the negotiation, else 0
- *   reply        4,096 bytes or more: the message to send, commands as above and an end, 1 to 4,096 bytes from the start;
- *                the bytes behind it stay
+ *   negotiation  the one that the commands lead to, its count one higher, its end judged: 1 success or 2 failed where the
+ *                first target is satisfied or failed, 3 stalled where this message and the one before had no open, edge or
+ *                mark, 4 full where the next move would pass a size, else 0
+ *   reply        4,096 bytes or more: the message at their start; those behind it stay as they are
  *   scratch      4,096 bytes: zeros
  *
- * Returns 256 times the length of the message if the call is accepted; lavutremo_value gives the length. A refused call
- * returns its number alone, the first of these that applies, and then no byte changes, of the scratch neither:
+ * Returns 256 times the message's length if the call is accepted; lavutremo_length gives it. A refused call returns its
+ * number alone, the first of these that applies, and then no byte changes, of the reply and the scratch neither:
  *   LAVUTREMO_LENGTH   a length is outside the sizes,
  *   LAVUTREMO_COMMAND, LAVUTREMO_OPERAND, LAVUTREMO_NAME, LAVUTREMO_CLASS, LAVUTREMO_ORDER   the tables, as above,
  *   LAVUTREMO_DAMAGED  the bytes are not those of a sound negotiation of these tables' house,
  *   LAVUTREMO_ENDED    the negotiation has ended,
- *   LAVUTREMO_TURN     it is the other side's turn to send: the mediator sends when the count of messages is even.
+ *   LAVUTREMO_TURN     it is the other side's turn to send.
  *
  * The buffers may have any content and any length. They must not overlap.
  */
@@ -255,6 +265,12 @@ static inline unsigned lavutremo_number(uint64_t answer)
 static inline uint64_t lavutremo_value(uint64_t answer)
 {
     return answer >> 8;
+}
+
+/* The length in bytes of the message that an accepted reply gave. */
+static inline size_t lavutremo_length(uint64_t answer)
+{
+    return (size_t)(answer >> 8);
 }
 
 /* The numbers of an accepted report. The node's state byte: bit 0 verifier-processed, bit 1 opponent-processed. */

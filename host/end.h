@@ -1,0 +1,35 @@
+/* One end of a negotiation: its tables, its bytes, and the message that it gave or took last. */
+#ifndef END_H
+#define END_H
+
+#include <stdio.h>
+
+#include "house.h"
+
+struct end {
+    const struct house *house;
+    uint8_t negotiation[LAVUTREMO_NEGOTIATION_BYTES];
+    uint8_t message[LAVUTREMO_MOST_MESSAGE_BYTES];
+    size_t length;
+    unsigned nodes_before; /* how many nodes stood before the message */
+    uint8_t scratch[LAVUTREMO_SCRATCH_BYTES];
+};
+
+/* These return 0, or the number of the refusal. The house stays the caller's. */
+
+/* Begins as the mediator of the role entity.name, or, both being zero, as the requester. */
+unsigned end_begin(struct end *end, const struct house *house, uint16_t other, uint16_t entity, uint16_t name);
+
+/* Leaves our next message in the end. */
+unsigned end_reply(struct end *end);
+
+/* Takes the message in the end, which the other end sent. */
+unsigned end_take(struct end *end);
+
+/* How the negotiation has ended, after a message. */
+unsigned end_now(const struct end *end);
+
+/* Prints the last message with its direction, as in "message 1, 3 to 2, 56 bytes", and the graph after it. */
+void end_print(FILE *to, const struct end *end, const char *direction);
+
+#endif

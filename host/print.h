@@ -1,0 +1,36 @@
+/*
+ * What a person reads of a negotiation: expressions, messages and graphs from their bytes, numbers in words.
+ *
+ * Any bytes may be printed. What is no expression or command is printed as such.
+ */
+#ifndef PRINT_H
+#define PRINT_H
+
+#include <stddef.h>
+#include <stdint.h>
+#include <stdio.h>
+
+#include "house.h"
+
+/* The 4 bytes of a role: 4.3. Returns how many characters it printed. */
+int print_role(FILE *to, const uint8_t *role);
+
+/* The 18 bytes of an expression: 4, 4.3, 1.2.3, 2.2 & 3.3, or goal 3. */
+void print_expression(FILE *to, const uint8_t *expression);
+
+/* The 22 bytes after the first of a credential: 3.1 <- 4.3. */
+void print_credential(FILE *to, const uint8_t *operands);
+
+/*
+ * A message's commands, a line each. The new nodes are numbered from node_count, the number of nodes before the message.
+ */
+void print_commands(FILE *to, const uint8_t *message, size_t length, unsigned node_count);
+
+/* The graph: a line for each node with its number, role, holder and state; then the end. */
+void print_graph(FILE *to, const struct house *house, const uint8_t *negotiation);
+
+/* Why a call was refused, and what an end is, in words. */
+const char *refusal_words(unsigned number);
+const char *end_words(unsigned end);
+
+#endif
