@@ -26,7 +26,7 @@ isNothing (C.Edge w) = false
 isNothing C.Mark = false
 isNothing C.Nothing = true
 
-nothing-is : (c : Choice) → isNothing c ≡ true → c ≡ C.Nothing
+pub nothing-is : (c : Choice) → isNothing c ≡ true → c ≡ C.Nothing
 nothing-is (C.Edge w) h = absurd (false-true h)
 nothing-is C.Mark h = absurd (false-true h)
 nothing-is C.Nothing h = refl

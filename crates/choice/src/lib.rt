@@ -12,4 +12,5 @@ mod processing;
 mod sensitive;
 mod subject;
 
+pub use next::is_nothing;
 pub use next::next_choice;

@@ -19,7 +19,8 @@ ghost use Rattle.moves.specs.Move.{nextMove};
 ghost use Rattle.moves.specs.Own.{Prepared, foundMove};
 ghost use Rattle.choice.specs.Next.{isNothing};
 
-fn is_nothing(c: Choice) -> bool
+// Whether there is nothing to do.
+pub fn is_nothing(c: Choice) -> bool
     ensures { λ b. ⌜ b ≡ isNothing c ⌝ }
 {
     match c {

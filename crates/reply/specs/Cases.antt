@@ -1,4 +1,5 @@
--- Marked cases (i) and (j) of document 01: both ends, by the definitions of reply and take. One table, one computed proof. Assumes nothing.
+-- The marked cases (a) to (j) of document 01: questions, and negotiations by the definitions of reply and take at both ends. One table, one
+-- computed proof. Assumes nothing.
 use Prim.Native.Nat.{ℕ, zero, suc, _+_, _%_, _/_}
 use mathlib.Core.Path.{_≡_, refl}
 use mathlib.Core.Bool.{Bool, true, false, cond, _&&_}
@@ -59,6 +60,27 @@ abbrev _←_ : Role → Expression → Credential
 p ← b = record { head = p; body = b }
 
 infix 4 _←_
+-- Questions
+
+-- a role, written entity, name
+abbrev role : ℕ → ℕ → Expression
+role a r = E.Role (roleOf a r)
+
+-- an intersection of two roles
+abbrev both : Role → Role → Expression
+both p q = E.Intersection (record { count = 2; first = p; second = q; third = roleOf 0 0; fourth = roleOf 0 0 })
+
+abbrev chain : List Credential
+chain = (roleOf 1 1 ← role 2 2) ∷ (roleOf 2 2 ← E.Entity 3) ∷ []
+
+abbrev link : List Credential
+link = (roleOf 1 1 ← E.Linked (roleOf 1 2) 3) ∷ (roleOf 2 3 ← E.Entity 4) ∷ []
+
+abbrev meet : List Credential
+meet = (roleOf 1 1 ← both (roleOf 2 2) (roleOf 3 3)) ∷ (roleOf 2 2 ← E.Entity 4) ∷ []
+
+-- Negotiations
+
 -- "Studio 3 .. has 0x12 3.1←4.3 and 0x13 1.2←3"
 abbrev studio : Tables
 studio = record { own = 3; names = names; issuerStored = (roleOf 3 1 ← E.Role (roleOf 4 3)) ∷ []; subjectStored = (roleOf 1 2 ← E.Entity 3) ∷ []; sensitive = []; access = [] }
@@ -100,7 +122,37 @@ play (suc k) T S U R =
 abbrev played : List Credential → List Turn
 played held = play 4 studio (freshState 0 3 2 (roleOf 3 1)) (house held) (freshState 1 2 3 (roleOf 0 0))
 
-pub marked-negotiations : (played ((roleOf 4 3 ← E.Entity 2) ∷ []) ≡ turn 56 0 2 ∷ turn 25 0 3 ∷ turn 50 0 4 ∷ turn 48 1 5 ∷ [])
-    × (played [] ≡ turn 56 0 2 ∷ turn 25 0 3 ∷ turn 50 0 4 ∷ turn 3 2 4 ∷ [])
+-- The table
+
+-- "f from e" over credentials; House with these credentials
+pub data Case : Type 0 where
+  question : List Credential → Expression → Expression → Case
+  negotiation : List Credential → Case
+
+pub data Outcome : Type 0 where
+  answer : Bool → Outcome
+  turns : List Turn → Outcome
+
+abbrev outcome : Case → Outcome
+outcome (question C f e) = answer (from? C f e)
+outcome (negotiation held) = turns (played held)
+
+abbrev table : List Case
+table =
+    question [] (role 1 1) (role 1 1)
+    ∷ question [] (role 1 1) (E.Entity 2)
+    ∷ question chain (role 1 1) (E.Entity 3)
+    ∷ question chain (role 2 2) (role 1 1)
+    ∷ question ((roleOf 1 2 ← E.Entity 2) ∷ link) (role 1 1) (E.Entity 4)
+    ∷ question link (role 1 1) (E.Entity 4)
+    ∷ question meet (role 1 1) (E.Entity 4)
+    ∷ question ((roleOf 3 3 ← E.Entity 4) ∷ meet) (role 1 1) (E.Entity 4)
+    ∷ negotiation ((roleOf 4 3 ← E.Entity 2) ∷ [])
+    ∷ negotiation []
+    ∷ []
+
+pub marked-cases : map outcome table
+    ≡ answer true ∷ answer false ∷ answer true ∷ answer false ∷ answer true ∷ answer false ∷ answer false ∷ answer true
+    ∷ turns (turn 56 0 2 ∷ turn 25 0 3 ∷ turn 50 0 4 ∷ turn 48 1 5 ∷ []) ∷ turns (turn 56 0 2 ∷ turn 25 0 3 ∷ turn 50 0 4 ∷ turn 3 2 4 ∷ []) ∷ []
 unfolding roleFrom reaches pass close closure from? sameRole same beforeOf beforeCredential wellFormedCredential readCredential namesOf classOf namedType linkedType together typeOf credentialNumber holds isSensitive otherOf isDirect lessDirect heldOf publicOf hiddenOf cnt rounds least expressionFrom nodesOf edgesOf findNode hasEdge hasRole form legalState satisfiedB failedB completeB propagated solves solved monitors monitored implied impliedIf monitoredIf justified commandBytes freshState withNode withEdge withShown withMark withHeader within wantedSound headerSound requester entityOf emptySound countSound endSound nodeSound nodeFits primarySound credentialSound isShown credentialFits kept needed firstOf restOf processedBy markedState primaryOf verifierOf childOf stepped hasRoom refuse first isFresh isAbsent formedAs showNumber openNumber markNumber endNumber joinWrong justifiedBy justifiedFor joinNumber bringWrong bringNumber justifiedIn legalBy legalNumber endOf isStalled idleOf headerAfter afterMessage holdingOf isAcknowledged knownOf traced initialState spread frontierOf ordered verifierRules sensitiveRules opponentRules firstNot chosenIn isDone credentialsFor choiceAt movesFrom nextMove endIn replyFrom replyIn repliedState replyBytes
-marked-negotiations = (refl, refl)
+marked-cases = refl

@@ -41,23 +41,14 @@ use Rattle.moves.specs.Own.{commandsOf, foundMove}
 use Rattle.moves.specs.Rules.{endIn}
 use Rattle.moves.specs.Move.{Move, moveFor, nextMove}
 use Rattle.moves.specs.Carried.{hasRoomFor}
+use Rattle.choice.specs.Next.{isNothing, nothing-is}
 use Rattle.reply.specs.declared.Turn.{Turn}
 use Rattle.legality.specs.Going.{Going, going-nodes, going-edges}
 use Rattle.reply.specs.Outgoing.{shows}
 use Rattle.reply.specs.Turns.{stops, goes, byRoom, fitsBehind, behindMove, nextIn, nextOf}
 
-abbrev pub isNothing : Choice → Bool
-isNothing (K.Edge w) = false
-isNothing K.Mark = false
-isNothing K.Nothing = true
-
 pub something : (k : Choice) {b : Bool} → b ≡ isNothing k → b ≡ false → k ≡ K.Nothing → ⊥
 something k e z h = false-true (sym z ∙ e ∙ ap isNothing h)
-
-nothing : (k : Choice) → isNothing k ≡ true → k ≡ K.Nothing
-nothing (K.Edge w) h = absurd (false-true h)
-nothing K.Mark h = absurd (false-true h)
-nothing K.Nothing h = refl
 
 -- What the code answers
 
@@ -166,7 +157,7 @@ module _ (T : Tables) (n : Negotiation) (bytes : ℕ) {sat failed : List ℕ} (z
     -- no move is left
     pub next-none : (r : Turn) {b : Bool} → b ≡ isNothing (f .choice) → b ≡ true → r .stop ≡ 1 → nextOf r ≡ nextIn T (stateOf n) bytes
     unfolding foundMove
-    next-none r be k e = by-stop r e ∙ sym (by-move ∙ ap (λ (x : Choice). behindMove (stateOf n) bytes (moveFor (endIn T (stateOf n)) (f .node) (nodeIn (endIn T (stateOf n) .state .nodes) (f .node)) x)) (nothing (f .choice) (sym be ∙ k)))
+    next-none r be k e = by-stop r e ∙ sym (by-move ∙ ap (λ (x : Choice). behindMove (stateOf n) bytes (moveFor (endIn T (stateOf n)) (f .node) (nodeIn (endIn T (stateOf n) .state .nodes) (f .node)) x)) (nothing-is (f .choice) (sym be ∙ k)))
 
     pub next-move : (r : Turn) (out : Outgoing) → commandsOf out ≡ foundMove (endIn T (stateOf n)) f
         → nextOf r ≡ byRoom (commandsOf out) (hasRoomFor (n .header .side) (stateOf n) (commandsOf out)) (fitsBehind bytes (commandsOf out)) → nextOf r ≡ nextIn T (stateOf n) bytes

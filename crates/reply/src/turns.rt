@@ -4,9 +4,9 @@ use crate::Turn;
 use crate::carry::carry;
 use crate::carry::room_for;
 use crate::carry::size_of_outgoing;
+use choice::is_nothing;
 use choice::next_choice;
 use message::Command;
-use moves::Choice;
 use moves::Outgoing;
 use moves::Own;
 use negotiation::Negotiation;
@@ -23,7 +23,6 @@ ghost use Rattle.moves.specs.Own.{Prepared, commandsOf};
 ghost use Rattle.moves.specs.Carried.{hasRoomFor};
 ghost use Rattle.legality.specs.Going.{Going};
 ghost use Rattle.reply.specs.Turns.{byRoom, fitsBehind, nextIn, nextOf, restFrom};
-ghost use Rattle.reply.specs.TurnLaws.{isNothing};
 ghost use Rattle.reply.specs.Writing.{Gives};
 
 // A message has so many bytes at most, and no more moves.
@@ -35,16 +34,6 @@ const GOES: u8 = 0;
 const STOPS: u8 = 1;
 
 const FULL: u8 = 2;
-
-fn is_nothing(c: Choice) -> bool
-    ensures { λ r. ⌜ r ≡ isNothing c ⌝ }
-{
-    match c {
-        Choice::Edge(_) => false,
-        Choice::Mark => false,
-        Choice::Nothing => true,
-    }
-}
 
 // No move is made.
 fn stop(kind: u8) -> Turn

@@ -7,7 +7,7 @@ use Rattle.reply.proofs.turns.next_turn.Reads as reads
 use Rattle.reply.proofs.turns.next_turn.Lts as lts
 use Rattle.choice.proofs.next_choice.Reads as next-choice-reads
 use Rattle.sending.proofs.outgoing.Reads as outgoing-reads
-use Rattle.reply.proofs.turns.is_nothing.Reads as is-nothing-reads
+use Rattle.choice.proofs.is_nothing.Reads as is-nothing-reads
 use Rattle.reply.proofs.turns.stop.Reads as stop-reads
 use Rattle.reply.proofs.turns.turn_by.Reads as turn-by-reads
 use Rattle.states.proofs.node_states.Reads as node-states-reads
