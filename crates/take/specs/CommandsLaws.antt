@@ -3,10 +3,12 @@ use Prim.Native.Nat.{ℕ, zero, suc, _+_, _≤_, _<_}
 use native.Mathlib.Omega.{arith}
 use mathlib.Core.Path.{_≡_, refl, sym, _∙_, ap, subst}
 use mathlib.Core.Logic.{_⊎_, ⊎-elim}
-use mathlib.Core.Bool.{Bool, true, false, cond, _||_}
+use mathlib.Core.Bool.{Bool, true, false, not, cond, _||_}
 use mathlib.Core.List.{List}
-use borrow.Author.Tests.{eq-eqb, ne-eqb}
+use borrow.Author.Tests.{eq-eqb, ne-eqb, eqb-true, eqb-false}
+use lib.Dec.{eqb}
 use lib.ListN.{length}
+use Rattle.rt0.specs.Lists.{false-true}
 use Rattle.class.specs.declared.Name.{Name}
 use Rattle.graph.specs.Graph.{nodesOf}
 use Rattle.states.specs.Brings.{NodesFormed}
@@ -139,3 +141,19 @@ module _ (ns : List Name) (s : ℕ) (m : List ℕ) where
           -- it stands behind this one
           pub reading-room : {d : ℕ} → d ≡ sizeOf c → (at + d ≤ length m) × (at < at + d)
           reading-room de = (omega (arith, de, command-room m at c (sym ae ∙ h)), omega (arith, de, size-some c))
+
+        -- one that is not legal, or the end
+        pub reading-stop : {b : Bool} → b ≡ isEnd c → (t : Taking) → (not (eqb k 0) || b) ≡ true → t .refusal ≡ k → t .moved ≡ v → t .negotiation ≡ n → (takenOf t ≡ commandsFrom (length m) ns s m 0 S₀ false) × Room t
+        reading-stop {b} be t z e w x = go (eqb k 0) refl z
+          where
+            go : (d : Bool) → eqb k 0 ≡ d → (not d || b) ≡ true → (takenOf t ≡ commandsFrom (length m) ns s m 0 S₀ false) × Room t
+            go true q y = reading-end (eqb-true k 0 q) be t y (e ∙ eqb-true k 0 q) w x
+            go false q y = reading-illegal t (eqb-false k 0 q) e
+
+-- neither
+pub stop-left : (k : ℕ) (b : Bool) → (not (eqb k 0) || b) ≡ false → (k ≡ 0) × (b ≡ false)
+stop-left k b h = go (eqb k 0) refl h
+  where
+    go : (d : Bool) → eqb k 0 ≡ d → (not d || b) ≡ false → (k ≡ 0) × (b ≡ false)
+    go true q y = (eqb-true k 0 q, y)
+    go false q y = absurd (false-true (sym y))

@@ -2,6 +2,7 @@
 use Prim.Native.Nat.{ℕ}
 use native.Mathlib.Omega.{arith}
 use mathlib.Core.Path.{_≡_, refl, sym, _∙_, ap, subst}
+use mathlib.Core.Logic.{_⊎_, ⊎-elim}
 use mathlib.Core.Bool.{Bool, true, false, not, _&&_, _||_}
 use mathlib.Core.List.{List}
 use borrow.Author.Tests.{eq-eqb}
@@ -51,12 +52,19 @@ no-edge S (Join e) h = absurd (false-true (sym h))
 no-edge S (Mark i) h = refl
 no-edge S End h = refl
 
-pub judged-none : (S : State) (c : Command) {b : Bool} → b ≡ isEdge c → not b ≡ true → Judges S c true
-judged-none S c {b} be z = record { judges = λ y. no-edge S c (sym be ∙ not-is b z) }
-  where
-    not-is : (a : Bool) → not a ≡ true → a ≡ false
-    not-is true h = absurd (false-true h)
-    not-is false h = refl
+module _ (S : State) (c : Command) (j : Bool) where
+  pub judged-edge : {r : Bool} → Judges S c r → j ≡ r → Judges S c j
+  judged-edge h e = record { judges = λ z. e ∙ h .judges z }
+
+  pub judged-none : {b : Bool} → b ≡ isEdge c → b ≡ false → j ≡ true → Judges S c j
+  judged-none be z e = record { judges = λ y. e ∙ no-edge S c (sym be ∙ z) }
+
+  pub judged-by : {A B : Type 0} → (A → Judges S c j) → (B → Judges S c j) → A ⊎ B → Judges S c j
+  judged-by f g h = ⊎-elim f g h
+
+-- a command asks what is not there
+abbrev pub isAsked : Bool → Bool → Command → Bool
+isAsked stale unsettled c = (stale && isImplication c) || (unsettled && isLinking c)
 
 -- What is kept
 
@@ -155,12 +163,65 @@ module _ (n : Negotiation) (c : Command) where
       is true e = refl
       is false e = absurd (false-true (sym e))
 
+neither : (x y : Bool) → (x || y) ≡ false → (x ≡ false) × (y ≡ false)
+neither true y h = absurd (false-true (sym h))
+neither false y h = (refl, h)
+
+module _ (k : Kept) (n : Negotiation) (c : Command) where
+  -- nothing has to be found
+  pub asked-left : (o : Kept) {b : Bool} → Keeps o n → b ≡ isAsked (o .stale) (o .unsettled) c → b ≡ false → k ≡ o → Ready k n c
+  asked-left o {b} h be z e =
+      let q = neither (o .stale && isImplication c) (o .unsettled && isLinking c) (sym be ∙ z) in
+      subst (λ (x : Kept). Ready x n c) (sym e) (ready-left n c o (knowing-left n c o h refl (ap not (q .0))) refl (ap not (q .1)))
+
+  pub asked-made : (o : Kept) → Ready o n c → k ≡ o → Ready k n c
+  asked-made o h e = subst (λ (x : Kept). Ready x n c) (sym e) h
+
+  pub asked-by : {A B : Type 0} → (A → Ready k n c) → (B → Ready k n c) → A ⊎ B → Ready k n c
+  asked-by f g h = ⊎-elim f g h
+
 -- Past a command
 
-pub carried-is : (k : Kept) (ns : List Node) (c : Command) {b q : Bool} → b ≡ isCredential c → q ≡ keepsStates ns (k .sat) c
-    → Carried k ns c (record { known = k .known; stale = k .stale || b; sat = k .sat; unsettled = k .unsettled || not q })
-carried-is k ns c be qe =
-    record { known = refl; stale = ap (λ (x : Bool). k .stale || x) be; sat = refl; unsettled = ap (λ (x : Bool). k .unsettled || not x) qe }
+-- the column has been held to a command
+pub record Held (k : Kept) (ns : List Node) (c : Command) (r : Kept) : Type 0 where
+  pub known : r .known ≡ k .known
+  pub stale : r .stale ≡ k .stale
+  pub sat : r .sat ≡ k .sat
+  pub unsettled : r .unsettled ≡ (k .unsettled || not (keepsStates ns (k .sat) c))
+
+module _ (k : Kept) (ns : List Node) (c : Command) (r : Kept) where
+  pub held-made : {b : Bool} → not (k .unsettled) ≡ true → b ≡ keepsStates ns (k .sat) c → r ≡ record { known = k .known; stale = k .stale; sat = k .sat; unsettled = not b } → Held k ns c r
+  held-made {b} z be e =
+      record {
+        known = ap (λ (x : Kept). x .known) e;
+        stale = ap (λ (x : Kept). x .stale) e;
+        sat = ap (λ (x : Kept). x .sat) e;
+        unsettled = ap (λ (x : Kept). x .unsettled) e ∙ ap not be ∙ settled (k .unsettled) (not (keepsStates ns (k .sat) c)) z;
+      }
+    where
+      settled : (x y : Bool) → not x ≡ true → y ≡ (x || y)
+      settled true y h = absurd (false-true h)
+      settled false y h = refl
+
+  pub held-left : not (k .unsettled) ≡ false → r ≡ k → Held k ns c r
+  held-left z e =
+      record {
+        known = ap (λ (x : Kept). x .known) e;
+        stale = ap (λ (x : Kept). x .stale) e;
+        sat = ap (λ (x : Kept). x .sat) e;
+        unsettled = ap (λ (x : Kept). x .unsettled) e ∙ still (k .unsettled) (not (keepsStates ns (k .sat) c)) z;
+      }
+    where
+      still : (x y : Bool) → not x ≡ false → x ≡ (x || y)
+      still true y h = refl
+      still false y h = absurd (false-true (sym h))
+
+  pub held-by : {A B : Type 0} → (A → Held k ns c r) → (B → Held k ns c r) → A ⊎ B → Held k ns c r
+  held-by f g h = ⊎-elim f g h
+
+pub carried-is : (k r : Kept) (ns : List Node) (c : Command) {b : Bool} → Held k ns c r → b ≡ isCredential c
+    → Carried k ns c (record { known = r .known; stale = r .stale || b; sat = r .sat; unsettled = r .unsettled })
+carried-is k r ns c h be = record { known = h .known; stale = λ i. h .stale i || be i; sat = h .sat; unsettled = h .unsettled }
 
 -- a command but a credential leaves the credentials shown
 shown-same : (S : State) (s : ℕ) (c : Command) → isCredential c ≡ false → stepped S s c .shown ≡ S .shown
@@ -171,10 +232,6 @@ shown-same S s (Bring n) h = refl
 shown-same S s (Join e) h = refl
 shown-same S s (Mark i) h = refl
 shown-same S s End h = refl
-
-neither : (x y : Bool) → (x || y) ≡ false → (x ≡ false) × (y ≡ false)
-neither true y h = absurd (false-true (sym h))
-neither false y h = (refl, h)
 
 not-no : (b : Bool) → not b ≡ false → b ≡ true
 not-no true e = refl

@@ -1,28 +1,23 @@
 // What is kept beside the negotiation while commands arrive. It is found again only where an edge asks it and a command has come since that may
 // change it.
 use crate::Kept;
-use graph::Nodes;
 use message::Command;
 use negotiation::Negotiation;
 use update::is_implication;
 use update::is_inside;
-use update::is_justified;
 use update::is_linking;
-use update::keeps_states;
 use update::known_of;
 use update::satisfied_nodes;
 use update::unknown;
 ghost use mathlib.Core.Path.{_≡_};
 ghost use mathlib.Core.Bool.{true};
-ghost use Prim.Native.Nat.{_≤_};
 ghost use Rattle.graph.specs.Graph.{nodesOf};
 ghost use Rattle.states.specs.Brings.{NodesFormed};
 ghost use Rattle.negotiation.specs.State.{stateOf, within};
-ghost use Rattle.update.specs.Judged.{Judges};
-ghost use Rattle.take.specs.KeptLaws.{isCredential, isEdge, Keeps, Knowing, Ready, Carried};
+ghost use Rattle.take.specs.KeptLaws.{isCredential, isEdge, isAsked, Keeps, Knowing, Ready};
 
 // Whether a command shows a credential.
-fn is_credential(c: Command) -> bool
+pub fn is_credential(c: Command) -> bool
     ensures { λ r. ⌜ r ≡ isCredential c ⌝ }
 {
     match c {
@@ -36,7 +31,7 @@ fn is_credential(c: Command) -> bool
 }
 
 // Whether a command adds an edge.
-fn is_edge(c: Command) -> bool
+pub fn is_edge(c: Command) -> bool
     ensures { λ r. ⌜ r ≡ isEdge c ⌝ }
 {
     match c {
@@ -47,6 +42,13 @@ fn is_edge(c: Command) -> bool
         Command::Mark(_) => false,
         Command::End => false,
     }
+}
+
+// Whether a command asks what is not there.
+pub fn is_asked(stale: bool, unsettled: bool, c: Command) -> bool
+    ensures { λ r. ⌜ r ≡ isAsked stale unsettled c ⌝ }
+{
+    (stale & is_implication(c)) | (unsettled & is_linking(c))
 }
 
 // Nothing as yet.
@@ -108,33 +110,4 @@ pub fn ready(k: Kept, n: Negotiation, c: Command) -> Kept
 {
     let known = knowing(k, n, c);
     settled(known, n, c)
-}
-
-// Whether the edge that a command adds, if any, is justified.
-pub fn is_edge_justified(n: Negotiation, k: Kept, c: Command) -> bool
-    requires { ⌜ (within (stateOf n) ≡ true) × Ready k n c ⌝ }
-    ensures { λ r. ⌜ Judges (stateOf n) c r ⌝ }
-{
-    if !is_edge(c) {
-        return true;
-    }
-    let known = k.known;
-    let sat = k.sat;
-    is_justified(n, known, sat, c)
-}
-
-// Past a command, the nodes being those before it.
-pub fn carried(k: Kept, nodes: Nodes, c: Command) -> Kept
-    requires { ⌜ nodes .count ≤ 128 ⌝ }
-    ensures { λ r. ⌜ Carried k (nodesOf nodes) c r ⌝ }
-{
-    let known = k.known;
-    let sat = k.sat;
-    let keeps = keeps_states(nodes, sat, c);
-    Kept {
-        known,
-        stale: k.stale | is_credential(c),
-        sat,
-        unsettled: k.unsettled | !keeps,
-    }
 }

@@ -1,7 +1,8 @@
 // The commands of a message, one after another.
 use crate::Taking;
-use crate::beside::carried;
-use crate::beside::is_edge_justified;
+use crate::beside::is_asked;
+use crate::beside::is_credential;
+use crate::beside::is_edge;
 use crate::beside::nothing_kept;
 use crate::beside::ready;
 use class::Names;
@@ -10,7 +11,9 @@ use message::CommandAnswer;
 use message::read_command;
 use message::size_of;
 use negotiation::Negotiation;
+use update::is_justified;
 use update::is_move;
+use update::keeps_states;
 use update::legal;
 use update::step;
 ghost use mathlib.Core.Path.{_≡_};
@@ -74,18 +77,24 @@ pub fn take_commands(names: Names, sender: u8, start: Negotiation, message: &[u8
         let CommandAnswer::Read(c) = a else {
             return taking(refusal_of(a), moved, n);
         };
-        let fresh = ready(kept, n, c);
-        let justified = is_edge_justified(n, fresh, c);
+        if is_asked(kept.stale, kept.unsettled, c) {
+            let fresh = ready(kept, n, c);
+            kept = fresh;
+        }
+        let sat = kept.sat;
+        let mut justified = true;
+        if is_edge(c) {
+            justified = is_justified(n, kept.known, sat, c);
+        }
         let k = legal(names, sender, n, c, justified);
-        if k != 0 {
+        if (k != 0) | is_end(c) {
             return taking(k, moved, n);
         }
-        if is_end(c) {
-            return taking(0, moved, n);
+        if !kept.unsettled {
+            let nodes = n.nodes;
+            kept.unsettled = !keeps_states(nodes, sat, c);
         }
-        let nodes = n.nodes;
-        let past = carried(fresh, nodes, c);
-        kept = past;
+        kept.stale = kept.stale | is_credential(c);
         let next = step(n, sender, c);
         n = next;
         moved = moved | is_move(c);
