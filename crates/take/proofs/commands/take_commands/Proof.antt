@@ -13,7 +13,7 @@ use borrow.Author.Needs.{needs}
 use Rattle.take.proofs.commands.take_commands.Statement.{statement}
 use Rattle.take.proofs.commands.take_commands.Tie as tie
 use Rattle.take.proofs.commands.take_commands.Lts as lts
-use Rattle.message.proofs.read_command.Reads as read-command-reads
+use Rattle.reader.proofs.command_at.Reads as command-at-reads
 use Rattle.message.proofs.size_of.Reads as size-of-reads
 use Rattle.take.proofs.beside.carried.Reads as carried-reads
 use Rattle.take.proofs.beside.is_edge_justified.Reads as is-edge-justified-reads
@@ -38,8 +38,8 @@ nothing-kept-requires c κs = search needs
 loop-holds : tie.Need-loop-holds Inv-loop μ-loop
 loop-holds c = (reading-start _ _ _ _ (c .before .before .pre .2) (c .before .before .pre .3), keeps-start _ _ (c .nothing-kept .ensures .0) (c .nothing-kept .ensures .1))
 
-read-command-requires : tie.Need-read-command-requires Inv-loop μ-loop
-read-command-requires c κs = search needs
+command-at-requires : tie.Need-command-at-requires Inv-loop μ-loop
+command-at-requires c κs = search needs
 
 enum-known-a : tie.Need-enum-known-a Inv-loop μ-loop
 enum-known-a c = search needs
@@ -54,7 +54,7 @@ taking-requires : tie.Need-taking-requires Inv-loop μ-loop
 taking-requires c κs = search needs
 
 returns : tie.Need-returns Inv-loop μ-loop
-returns c = reading-unread _ _ _ (c .before .before .before .before .before .before .loop .inv .0) (c .before .before .before .before .before .loop-test .taken) (c .before .before .before .before .read-command .ensures) _ (c .before .before .enum-told .given .1) (c .before .refusal-of .ensures) (c .taking .ensures .0)
+returns c = reading-unread _ _ _ (c .before .before .before .before .before .before .loop .inv .0) (c .before .before .before .before .before .loop-test .taken) (c .before .before .before .before .command-at .ensures) _ (c .before .before .enum-told .given .1) (c .before .refusal-of .ensures) (c .taking .ensures .0)
 
 ready-requires : tie.Need-ready-requires Inv-loop μ-loop
 ready-requires c κs = ((c .before .before .before .before .before .loop .inv .0 .sizes), (c .before .before .before .before .before .loop .inv .0 .formed), (c .before .before .before .before .before .loop .inv .1))
@@ -69,7 +69,7 @@ taking-requires-2 : tie.Need-taking-requires-2 Inv-loop μ-loop
 taking-requires-2 c κs = search needs
 
 returns-2 : tie.Need-returns-2 Inv-loop μ-loop
-returns-2 c = reading-illegal _ _ _ (c .before .before .before .before .before .before .before .before .before .before .loop .inv .0) (c .before .before .before .before .before .before .before .before .before .loop-test .taken) (c .before .before .before .before .before .before .before .before .read-command .ensures) (c .before .before .before .before .before .before .a .given .1) ((c .before .before .legal .ensures) ∙ legal-judged _ _ _ _ _ (c .before .before .before .is-edge-justified .ensures)) _ (c .before .if1 .taken) (c .taking2 .ensures .0)
+returns-2 c = reading-illegal _ _ _ (c .before .before .before .before .before .before .before .before .before .before .loop .inv .0) (c .before .before .before .before .before .before .before .before .before .loop-test .taken) (c .before .before .before .before .before .before .before .before .command-at .ensures) (c .before .before .before .before .before .before .a .given .1) ((c .before .before .legal .ensures) ∙ legal-judged _ _ _ _ _ (c .before .before .before .is-edge-justified .ensures)) _ (c .before .if1 .taken) (c .taking2 .ensures .0)
 
 is-end-requires : tie.Need-is-end-requires Inv-loop μ-loop
 is-end-requires c κs = search needs
@@ -78,7 +78,7 @@ taking-requires-3 : tie.Need-taking-requires-3 Inv-loop μ-loop
 taking-requires-3 c κs = search needs
 
 returns-3 : tie.Need-returns-3 Inv-loop μ-loop
-returns-3 c = reading-end _ _ _ (c .before .before .before .before .before .before .before .before .before .before .before .before .loop .inv .0) (c .before .before .before .before .before .before .before .before .before .before .before .loop-test .taken) (c .before .before .before .before .before .before .before .before .before .before .read-command .ensures) (c .before .before .before .before .before .before .before .before .a .given .1) ((c .before .before .before .before .legal .ensures) ∙ legal-judged _ _ _ _ _ (c .before .before .before .before .before .is-edge-justified .ensures)) (c .before .before .before .if1 .left) (c .before .before .is-end .ensures) _ (c .before .if2 .taken) (c .taking3 .ensures .0) (c .taking3 .ensures .1) (c .taking3 .ensures .2)
+returns-3 c = reading-end _ _ _ (c .before .before .before .before .before .before .before .before .before .before .before .before .loop .inv .0) (c .before .before .before .before .before .before .before .before .before .before .before .loop-test .taken) (c .before .before .before .before .before .before .before .before .before .before .command-at .ensures) (c .before .before .before .before .before .before .before .before .a .given .1) ((c .before .before .before .before .legal .ensures) ∙ legal-judged _ _ _ _ _ (c .before .before .before .before .before .is-edge-justified .ensures)) (c .before .before .before .if1 .left) (c .before .before .is-end .ensures) _ (c .before .if2 .taken) (c .taking3 .ensures .0) (c .taking3 .ensures .1) (c .taking3 .ensures .2)
 
 carried-requires : tie.Need-carried-requires Inv-loop μ-loop
 carried-requires c κs = within-few _ (c .before .before .before .before .before .before .before .before .before .before .before .before .loop .inv .0 .sizes) .0
@@ -93,13 +93,13 @@ size-of-requires : tie.Need-size-of-requires Inv-loop μ-loop
 size-of-requires c κs = search needs
 
 add-at : tie.Need-add-at Inv-loop μ-loop
-add-at c = omega (arith, (c .before .before .before .before .before .before .before .before .before .before .before .before .before .before .before .before .before .before .before .pre .4), reading-room _ _ _ (c .before .before .before .before .before .before .before .before .before .before .before .before .before .before .before .before .loop .inv .0) (c .before .before .before .before .before .before .before .before .before .before .before .before .before .before .before .loop-test .taken) (c .before .before .before .before .before .before .before .before .before .before .before .before .before .before .read-command .ensures) (c .before .before .before .before .before .before .before .before .before .before .before .before .a .given .1) ((c .before .before .before .before .before .before .before .before .legal .ensures) ∙ legal-judged _ _ _ _ _ (c .before .before .before .before .before .before .before .before .before .is-edge-justified .ensures)) (c .before .before .before .before .before .before .before .if1 .left) (c .before .before .before .before .before .before .is-end .ensures) (c .size-of .ensures) .0)
+add-at c = omega (arith, (c .before .before .before .before .before .before .before .before .before .before .before .before .before .before .before .before .before .before .before .pre .4), reading-room _ _ _ (c .before .before .before .before .before .before .before .before .before .before .before .before .before .before .before .before .loop .inv .0) (c .before .before .before .before .before .before .before .before .before .before .before .before .before .before .before .loop-test .taken) (c .before .before .before .before .before .before .before .before .before .before .before .before .before .before .command-at .ensures) (c .before .before .before .before .before .before .before .before .before .before .before .before .a .given .1) ((c .before .before .before .before .before .before .before .before .legal .ensures) ∙ legal-judged _ _ _ _ _ (c .before .before .before .before .before .before .before .before .before .is-edge-justified .ensures)) (c .before .before .before .before .before .before .before .if1 .left) (c .before .before .before .before .before .before .is-end .ensures) (c .size-of .ensures) .0)
 
 loop-less : tie.Need-loop-less Inv-loop μ-loop
-loop-less c = omega (arith, reading-room _ _ _ (c .before .before .before .before .before .before .before .before .before .before .before .before .before .before .before .before .loop .inv .0) (c .before .before .before .before .before .before .before .before .before .before .before .before .before .before .before .loop-test .taken) (c .before .before .before .before .before .before .before .before .before .before .before .before .before .before .read-command .ensures) (c .before .before .before .before .before .before .before .before .before .before .before .before .a .given .1) ((c .before .before .before .before .before .before .before .before .legal .ensures) ∙ legal-judged _ _ _ _ _ (c .before .before .before .before .before .before .before .before .before .is-edge-justified .ensures)) (c .before .before .before .before .before .before .before .if1 .left) (c .before .before .before .before .before .before .is-end .ensures) (c .size-of .ensures) .0, reading-room _ _ _ (c .before .before .before .before .before .before .before .before .before .before .before .before .before .before .before .before .loop .inv .0) (c .before .before .before .before .before .before .before .before .before .before .before .before .before .before .before .loop-test .taken) (c .before .before .before .before .before .before .before .before .before .before .before .before .before .before .read-command .ensures) (c .before .before .before .before .before .before .before .before .before .before .before .before .a .given .1) ((c .before .before .before .before .before .before .before .before .legal .ensures) ∙ legal-judged _ _ _ _ _ (c .before .before .before .before .before .before .before .before .before .is-edge-justified .ensures)) (c .before .before .before .before .before .before .before .if1 .left) (c .before .before .before .before .before .before .is-end .ensures) (c .size-of .ensures) .1)
+loop-less c = omega (arith, reading-room _ _ _ (c .before .before .before .before .before .before .before .before .before .before .before .before .before .before .before .before .loop .inv .0) (c .before .before .before .before .before .before .before .before .before .before .before .before .before .before .before .loop-test .taken) (c .before .before .before .before .before .before .before .before .before .before .before .before .before .before .command-at .ensures) (c .before .before .before .before .before .before .before .before .before .before .before .before .a .given .1) ((c .before .before .before .before .before .before .before .before .legal .ensures) ∙ legal-judged _ _ _ _ _ (c .before .before .before .before .before .before .before .before .before .is-edge-justified .ensures)) (c .before .before .before .before .before .before .before .if1 .left) (c .before .before .before .before .before .before .is-end .ensures) (c .size-of .ensures) .0, reading-room _ _ _ (c .before .before .before .before .before .before .before .before .before .before .before .before .before .before .before .before .loop .inv .0) (c .before .before .before .before .before .before .before .before .before .before .before .before .before .before .before .loop-test .taken) (c .before .before .before .before .before .before .before .before .before .before .before .before .before .before .command-at .ensures) (c .before .before .before .before .before .before .before .before .before .before .before .before .a .given .1) ((c .before .before .before .before .before .before .before .before .legal .ensures) ∙ legal-judged _ _ _ _ _ (c .before .before .before .before .before .before .before .before .before .is-edge-justified .ensures)) (c .before .before .before .before .before .before .before .if1 .left) (c .before .before .before .before .before .before .is-end .ensures) (c .size-of .ensures) .1)
 
 loop-again : tie.Need-loop-again Inv-loop μ-loop
-loop-again c = (reading-next _ _ _ (c .before .before .before .before .before .before .before .before .before .before .before .before .before .before .before .before .loop .inv .0) (c .before .before .before .before .before .before .before .before .before .before .before .before .before .before .before .loop-test .taken) (c .before .before .before .before .before .before .before .before .before .before .before .before .before .before .read-command .ensures) (c .before .before .before .before .before .before .before .before .before .before .before .before .a .given .1) ((c .before .before .before .before .before .before .before .before .legal .ensures) ∙ legal-judged _ _ _ _ _ (c .before .before .before .before .before .before .before .before .before .is-edge-justified .ensures)) (c .before .before .before .before .before .before .before .if1 .left) (c .before .before .before .before .before .before .is-end .ensures) (c .before .before .before .before .before .if2 .left) (c .before .before .step .ensures) (c .before .is-move .ensures) refl (c .size-of .ensures), keeps-next _ _ _ _ (c .before .before .before .before .before .before .before .before .before .before .ready .ensures .keeps) (c .before .before .step .ensures) (c .before .before .before .carried .ensures))
+loop-again c = (reading-next _ _ _ (c .before .before .before .before .before .before .before .before .before .before .before .before .before .before .before .before .loop .inv .0) (c .before .before .before .before .before .before .before .before .before .before .before .before .before .before .before .loop-test .taken) (c .before .before .before .before .before .before .before .before .before .before .before .before .before .before .command-at .ensures) (c .before .before .before .before .before .before .before .before .before .before .before .before .a .given .1) ((c .before .before .before .before .before .before .before .before .legal .ensures) ∙ legal-judged _ _ _ _ _ (c .before .before .before .before .before .before .before .before .before .is-edge-justified .ensures)) (c .before .before .before .before .before .before .before .if1 .left) (c .before .before .before .before .before .before .is-end .ensures) (c .before .before .before .before .before .if2 .left) (c .before .before .step .ensures) (c .before .is-move .ensures) refl (c .size-of .ensures), keeps-next _ _ _ _ (c .before .before .before .before .before .before .before .before .before .before .ready .ensures .keeps) (c .before .before .step .ensures) (c .before .before .before .carried .ensures))
 
 taking-requires-4 : tie.Need-taking-requires-4 Inv-loop μ-loop
 taking-requires-4 c κs = search needs
@@ -115,7 +115,7 @@ take-commands-spec =
     μ-loop
     nothing-kept-requires
     loop-holds
-    read-command-requires
+    command-at-requires
     enum-known-a
     enum-told
     refusal-of-requires
