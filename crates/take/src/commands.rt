@@ -8,9 +8,9 @@ use crate::beside::ready;
 use class::Names;
 use message::Command;
 use message::CommandAnswer;
-use message::read_command;
 use message::size_of;
 use negotiation::Negotiation;
+use reader::command_at;
 use update::is_justified;
 use update::is_move;
 use update::keeps_states;
@@ -73,7 +73,7 @@ pub fn take_commands(names: Names, sender: u8, start: Negotiation, message: &[u8
     let mut kept = nothing_kept();
     let mut at = 0;
     while at < message.len() {
-        let a = read_command(message, at);
+        let a = command_at(message, at);
         let CommandAnswer::Read(c) = a else {
             return taking(refusal_of(a), moved, n);
         };

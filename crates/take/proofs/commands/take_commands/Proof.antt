@@ -14,7 +14,7 @@ use borrow.Author.Needs.{needs}
 use Rattle.take.proofs.commands.take_commands.Statement.{statement}
 use Rattle.take.proofs.commands.take_commands.Tie as tie
 use Rattle.take.proofs.commands.take_commands.Lts as lts
-use Rattle.message.proofs.read_command.Reads as read-command-reads
+use Rattle.reader.proofs.command_at.Reads as command-at-reads
 use Rattle.message.proofs.size_of.Reads as size-of-reads
 use Rattle.take.proofs.beside.is_asked.Reads as is-asked-reads
 use Rattle.take.proofs.beside.is_credential.Reads as is-credential-reads
@@ -42,8 +42,8 @@ nothing-kept-requires c κs = search needs
 loop-holds : tie.Need-loop-holds Inv-loop μ-loop
 loop-holds c = (reading-start _ _ _ _ (c .before .before .pre .2) (c .before .before .pre .3), keeps-start _ _ (c .nothing-kept .ensures .0) (c .nothing-kept .ensures .1))
 
-read-command-requires : tie.Need-read-command-requires Inv-loop μ-loop
-read-command-requires c κs = search needs
+command-at-requires : tie.Need-command-at-requires Inv-loop μ-loop
+command-at-requires c κs = search needs
 
 enum-known-a : tie.Need-enum-known-a Inv-loop μ-loop
 enum-known-a c = search needs
@@ -58,7 +58,7 @@ taking-requires : tie.Need-taking-requires Inv-loop μ-loop
 taking-requires c κs = search needs
 
 returns : tie.Need-returns Inv-loop μ-loop
-returns c = reading-unread _ _ _ (c .before .before .before .before .before .before .loop .inv .0) (c .before .before .before .before .before .loop-test .taken) (c .before .before .before .before .read-command .ensures) _ (c .before .before .enum-told .given .1) (c .before .refusal-of .ensures) (c .taking .ensures .0)
+returns c = reading-unread _ _ _ (c .before .before .before .before .before .before .loop .inv .0) (c .before .before .before .before .before .loop-test .taken) (c .before .before .before .before .command-at .ensures) _ (c .before .before .enum-told .given .1) (c .before .refusal-of .ensures) (c .taking .ensures .0)
 
 is-asked-requires : tie.Need-is-asked-requires Inv-loop μ-loop
 is-asked-requires c κs = search needs
@@ -82,7 +82,7 @@ taking-requires-2 : tie.Need-taking-requires-2 Inv-loop μ-loop
 taking-requires-2 c κs = search needs
 
 returns-2 : tie.Need-returns-2 Inv-loop μ-loop
-returns-2 c = reading-stop _ _ _ (c .before .before .before .before .before .before .before .before .before .before .before .before .before .before .loop .inv .0) (c .before .before .before .before .before .before .before .before .before .before .before .before .before .loop-test .taken) (c .before .before .before .before .before .before .before .before .before .before .before .before .read-command .ensures) (c .before .before .before .before .before .before .before .before .before .before .a .given .1) ((c .before .before .before .legal .ensures) ∙ legal-judged _ _ _ _ _ (judged-by (stateOf (c .before .before .before .before .before .before .before .before .before .before .before .before .before .before .loop .n)) (c .before .before .before .before .before .before .before .before .before .before .a .given .0 .0) (c .before .before .before .before .if2 .justified) (λ w. judged-edge _ _ _ (w .1 .ensures) (w .2)) (λ w. judged-none _ _ _ (c .before .before .before .before .before .is-edge .ensures) (w .0 .left) (w .1)) (c .before .before .before .before .if2 .came))) (c .before .before .is-end .ensures) _ (c .before .if3 .taken) (c .taking2 .ensures .0) (c .taking2 .ensures .1) (c .taking2 .ensures .2)
+returns-2 c = reading-stop _ _ _ (c .before .before .before .before .before .before .before .before .before .before .before .before .before .before .loop .inv .0) (c .before .before .before .before .before .before .before .before .before .before .before .before .before .loop-test .taken) (c .before .before .before .before .before .before .before .before .before .before .before .before .command-at .ensures) (c .before .before .before .before .before .before .before .before .before .before .a .given .1) ((c .before .before .before .legal .ensures) ∙ legal-judged _ _ _ _ _ (judged-by (stateOf (c .before .before .before .before .before .before .before .before .before .before .before .before .before .before .loop .n)) (c .before .before .before .before .before .before .before .before .before .before .a .given .0 .0) (c .before .before .before .before .if2 .justified) (λ w. judged-edge _ _ _ (w .1 .ensures) (w .2)) (λ w. judged-none _ _ _ (c .before .before .before .before .before .is-edge .ensures) (w .0 .left) (w .1)) (c .before .before .before .before .if2 .came))) (c .before .before .is-end .ensures) _ (c .before .if3 .taken) (c .taking2 .ensures .0) (c .taking2 .ensures .1) (c .taking2 .ensures .2)
 
 keeps-states-requires : tie.Need-keeps-states-requires Inv-loop μ-loop
 keeps-states-requires c κs = within-few _ (c .before .before .before .before .before .before .before .before .before .before .before .before .before .before .before .before .loop .inv .0 .sizes) .0
@@ -100,13 +100,13 @@ size-of-requires : tie.Need-size-of-requires Inv-loop μ-loop
 size-of-requires c κs = search needs
 
 add-at : tie.Need-add-at Inv-loop μ-loop
-add-at c = omega (arith, (c .before .before .before .before .before .before .before .before .before .before .before .before .before .before .before .before .before .before .before .before .before .before .before .pre .4), reading-room _ _ _ (c .before .before .before .before .before .before .before .before .before .before .before .before .before .before .before .before .before .before .before .before .loop .inv .0) (c .before .before .before .before .before .before .before .before .before .before .before .before .before .before .before .before .before .before .before .loop-test .taken) (c .before .before .before .before .before .before .before .before .before .before .before .before .before .before .before .before .before .before .read-command .ensures) (c .before .before .before .before .before .before .before .before .before .before .before .before .before .before .before .before .a .given .1) ((c .before .before .before .before .before .before .before .before .before .legal .ensures) ∙ legal-judged _ _ _ _ _ (judged-by (stateOf (c .before .before .before .before .before .before .before .before .before .before .before .before .before .before .before .before .before .before .before .before .loop .n)) (c .before .before .before .before .before .before .before .before .before .before .before .before .before .before .before .before .a .given .0 .0) (c .before .before .before .before .before .before .before .before .before .before .if2 .justified) (λ w. judged-edge _ _ _ (w .1 .ensures) (w .2)) (λ w. judged-none _ _ _ (c .before .before .before .before .before .before .before .before .before .before .before .is-edge .ensures) (w .0 .left) (w .1)) (c .before .before .before .before .before .before .before .before .before .before .if2 .came))) (stop-left _ _ (c .before .before .before .before .before .before .before .if3 .left) .0) (c .before .before .before .before .before .before .before .before .is-end .ensures) (c .size-of .ensures) .0)
+add-at c = omega (arith, (c .before .before .before .before .before .before .before .before .before .before .before .before .before .before .before .before .before .before .before .before .before .before .before .pre .4), reading-room _ _ _ (c .before .before .before .before .before .before .before .before .before .before .before .before .before .before .before .before .before .before .before .before .loop .inv .0) (c .before .before .before .before .before .before .before .before .before .before .before .before .before .before .before .before .before .before .before .loop-test .taken) (c .before .before .before .before .before .before .before .before .before .before .before .before .before .before .before .before .before .before .command-at .ensures) (c .before .before .before .before .before .before .before .before .before .before .before .before .before .before .before .before .a .given .1) ((c .before .before .before .before .before .before .before .before .before .legal .ensures) ∙ legal-judged _ _ _ _ _ (judged-by (stateOf (c .before .before .before .before .before .before .before .before .before .before .before .before .before .before .before .before .before .before .before .before .loop .n)) (c .before .before .before .before .before .before .before .before .before .before .before .before .before .before .before .before .a .given .0 .0) (c .before .before .before .before .before .before .before .before .before .before .if2 .justified) (λ w. judged-edge _ _ _ (w .1 .ensures) (w .2)) (λ w. judged-none _ _ _ (c .before .before .before .before .before .before .before .before .before .before .before .is-edge .ensures) (w .0 .left) (w .1)) (c .before .before .before .before .before .before .before .before .before .before .if2 .came))) (stop-left _ _ (c .before .before .before .before .before .before .before .if3 .left) .0) (c .before .before .before .before .before .before .before .before .is-end .ensures) (c .size-of .ensures) .0)
 
 loop-less : tie.Need-loop-less Inv-loop μ-loop
-loop-less c = omega (arith, reading-room _ _ _ (c .before .before .before .before .before .before .before .before .before .before .before .before .before .before .before .before .before .before .before .before .loop .inv .0) (c .before .before .before .before .before .before .before .before .before .before .before .before .before .before .before .before .before .before .before .loop-test .taken) (c .before .before .before .before .before .before .before .before .before .before .before .before .before .before .before .before .before .before .read-command .ensures) (c .before .before .before .before .before .before .before .before .before .before .before .before .before .before .before .before .a .given .1) ((c .before .before .before .before .before .before .before .before .before .legal .ensures) ∙ legal-judged _ _ _ _ _ (judged-by (stateOf (c .before .before .before .before .before .before .before .before .before .before .before .before .before .before .before .before .before .before .before .before .loop .n)) (c .before .before .before .before .before .before .before .before .before .before .before .before .before .before .before .before .a .given .0 .0) (c .before .before .before .before .before .before .before .before .before .before .if2 .justified) (λ w. judged-edge _ _ _ (w .1 .ensures) (w .2)) (λ w. judged-none _ _ _ (c .before .before .before .before .before .before .before .before .before .before .before .is-edge .ensures) (w .0 .left) (w .1)) (c .before .before .before .before .before .before .before .before .before .before .if2 .came))) (stop-left _ _ (c .before .before .before .before .before .before .before .if3 .left) .0) (c .before .before .before .before .before .before .before .before .is-end .ensures) (c .size-of .ensures) .0, reading-room _ _ _ (c .before .before .before .before .before .before .before .before .before .before .before .before .before .before .before .before .before .before .before .before .loop .inv .0) (c .before .before .before .before .before .before .before .before .before .before .before .before .before .before .before .before .before .before .before .loop-test .taken) (c .before .before .before .before .before .before .before .before .before .before .before .before .before .before .before .before .before .before .read-command .ensures) (c .before .before .before .before .before .before .before .before .before .before .before .before .before .before .before .before .a .given .1) ((c .before .before .before .before .before .before .before .before .before .legal .ensures) ∙ legal-judged _ _ _ _ _ (judged-by (stateOf (c .before .before .before .before .before .before .before .before .before .before .before .before .before .before .before .before .before .before .before .before .loop .n)) (c .before .before .before .before .before .before .before .before .before .before .before .before .before .before .before .before .a .given .0 .0) (c .before .before .before .before .before .before .before .before .before .before .if2 .justified) (λ w. judged-edge _ _ _ (w .1 .ensures) (w .2)) (λ w. judged-none _ _ _ (c .before .before .before .before .before .before .before .before .before .before .before .is-edge .ensures) (w .0 .left) (w .1)) (c .before .before .before .before .before .before .before .before .before .before .if2 .came))) (stop-left _ _ (c .before .before .before .before .before .before .before .if3 .left) .0) (c .before .before .before .before .before .before .before .before .is-end .ensures) (c .size-of .ensures) .1)
+loop-less c = omega (arith, reading-room _ _ _ (c .before .before .before .before .before .before .before .before .before .before .before .before .before .before .before .before .before .before .before .before .loop .inv .0) (c .before .before .before .before .before .before .before .before .before .before .before .before .before .before .before .before .before .before .before .loop-test .taken) (c .before .before .before .before .before .before .before .before .before .before .before .before .before .before .before .before .before .before .command-at .ensures) (c .before .before .before .before .before .before .before .before .before .before .before .before .before .before .before .before .a .given .1) ((c .before .before .before .before .before .before .before .before .before .legal .ensures) ∙ legal-judged _ _ _ _ _ (judged-by (stateOf (c .before .before .before .before .before .before .before .before .before .before .before .before .before .before .before .before .before .before .before .before .loop .n)) (c .before .before .before .before .before .before .before .before .before .before .before .before .before .before .before .before .a .given .0 .0) (c .before .before .before .before .before .before .before .before .before .before .if2 .justified) (λ w. judged-edge _ _ _ (w .1 .ensures) (w .2)) (λ w. judged-none _ _ _ (c .before .before .before .before .before .before .before .before .before .before .before .is-edge .ensures) (w .0 .left) (w .1)) (c .before .before .before .before .before .before .before .before .before .before .if2 .came))) (stop-left _ _ (c .before .before .before .before .before .before .before .if3 .left) .0) (c .before .before .before .before .before .before .before .before .is-end .ensures) (c .size-of .ensures) .0, reading-room _ _ _ (c .before .before .before .before .before .before .before .before .before .before .before .before .before .before .before .before .before .before .before .before .loop .inv .0) (c .before .before .before .before .before .before .before .before .before .before .before .before .before .before .before .before .before .before .before .loop-test .taken) (c .before .before .before .before .before .before .before .before .before .before .before .before .before .before .before .before .before .before .command-at .ensures) (c .before .before .before .before .before .before .before .before .before .before .before .before .before .before .before .before .a .given .1) ((c .before .before .before .before .before .before .before .before .before .legal .ensures) ∙ legal-judged _ _ _ _ _ (judged-by (stateOf (c .before .before .before .before .before .before .before .before .before .before .before .before .before .before .before .before .before .before .before .before .loop .n)) (c .before .before .before .before .before .before .before .before .before .before .before .before .before .before .before .before .a .given .0 .0) (c .before .before .before .before .before .before .before .before .before .before .if2 .justified) (λ w. judged-edge _ _ _ (w .1 .ensures) (w .2)) (λ w. judged-none _ _ _ (c .before .before .before .before .before .before .before .before .before .before .before .is-edge .ensures) (w .0 .left) (w .1)) (c .before .before .before .before .before .before .before .before .before .before .if2 .came))) (stop-left _ _ (c .before .before .before .before .before .before .before .if3 .left) .0) (c .before .before .before .before .before .before .before .before .is-end .ensures) (c .size-of .ensures) .1)
 
 loop-again : tie.Need-loop-again Inv-loop μ-loop
-loop-again c = (reading-next _ _ _ (c .before .before .before .before .before .before .before .before .before .before .before .before .before .before .before .before .before .before .before .before .loop .inv .0) (c .before .before .before .before .before .before .before .before .before .before .before .before .before .before .before .before .before .before .before .loop-test .taken) (c .before .before .before .before .before .before .before .before .before .before .before .before .before .before .before .before .before .before .read-command .ensures) (c .before .before .before .before .before .before .before .before .before .before .before .before .before .before .before .before .a .given .1) ((c .before .before .before .before .before .before .before .before .before .legal .ensures) ∙ legal-judged _ _ _ _ _ (judged-by (stateOf (c .before .before .before .before .before .before .before .before .before .before .before .before .before .before .before .before .before .before .before .before .loop .n)) (c .before .before .before .before .before .before .before .before .before .before .before .before .before .before .before .before .a .given .0 .0) (c .before .before .before .before .before .before .before .before .before .before .if2 .justified) (λ w. judged-edge _ _ _ (w .1 .ensures) (w .2)) (λ w. judged-none _ _ _ (c .before .before .before .before .before .before .before .before .before .before .before .is-edge .ensures) (w .0 .left) (w .1)) (c .before .before .before .before .before .before .before .before .before .before .if2 .came))) (stop-left _ _ (c .before .before .before .before .before .before .before .if3 .left) .0) (c .before .before .before .before .before .before .before .before .is-end .ensures) (stop-left (c .before .before .before .before .before .before .before .before .before .legal .result) _ (c .before .before .before .before .before .before .before .if3 .left) .1) (c .before .before .step .ensures) (c .before .is-move .ensures) refl (c .size-of .ensures), keeps-next _ _ _ _ (asked-by (c .before .before .before .before .before .before .before .before .before .before .before .before .before .if1 .kept) (c .before .before .before .before .before .before .before .before .before .before .before .before .before .before .before .before .before .before .before .before .loop .n) (c .before .before .before .before .before .before .before .before .before .before .before .before .before .before .before .before .a .given .0 .0) (λ w. asked-made _ _ _ _ (w .1 .ensures) (w .2)) (λ w. asked-left _ _ _ _ (c .before .before .before .before .before .before .before .before .before .before .before .before .before .before .before .before .before .before .before .before .loop .inv .1) (c .before .before .before .before .before .before .before .before .before .before .before .before .before .before .is-asked .ensures) (w .0 .left) (w .1)) (c .before .before .before .before .before .before .before .before .before .before .before .before .before .if1 .came) .keeps) (c .before .before .step .ensures) (carried-is _ _ _ _ (held-by (c .before .before .before .before .before .before .before .before .before .before .before .before .before .if1 .kept) (nodesOf (c .before .before .before .before .before .before .before .before .before .before .before .before .before .before .before .before .before .before .before .before .loop .n .nodes)) (c .before .before .before .before .before .before .before .before .before .before .before .before .before .before .before .before .a .given .0 .0) (c .before .before .before .before .before .if4 .kept) (λ w. held-made _ _ _ _ (w .0 .taken) (w .2 .ensures) (w .3)) (λ w. held-left _ _ _ _ (w .0 .left) (w .1)) (c .before .before .before .before .before .if4 .came)) (c .before .before .before .before .is-credential .ensures)))
+loop-again c = (reading-next _ _ _ (c .before .before .before .before .before .before .before .before .before .before .before .before .before .before .before .before .before .before .before .before .loop .inv .0) (c .before .before .before .before .before .before .before .before .before .before .before .before .before .before .before .before .before .before .before .loop-test .taken) (c .before .before .before .before .before .before .before .before .before .before .before .before .before .before .before .before .before .before .command-at .ensures) (c .before .before .before .before .before .before .before .before .before .before .before .before .before .before .before .before .a .given .1) ((c .before .before .before .before .before .before .before .before .before .legal .ensures) ∙ legal-judged _ _ _ _ _ (judged-by (stateOf (c .before .before .before .before .before .before .before .before .before .before .before .before .before .before .before .before .before .before .before .before .loop .n)) (c .before .before .before .before .before .before .before .before .before .before .before .before .before .before .before .before .a .given .0 .0) (c .before .before .before .before .before .before .before .before .before .before .if2 .justified) (λ w. judged-edge _ _ _ (w .1 .ensures) (w .2)) (λ w. judged-none _ _ _ (c .before .before .before .before .before .before .before .before .before .before .before .is-edge .ensures) (w .0 .left) (w .1)) (c .before .before .before .before .before .before .before .before .before .before .if2 .came))) (stop-left _ _ (c .before .before .before .before .before .before .before .if3 .left) .0) (c .before .before .before .before .before .before .before .before .is-end .ensures) (stop-left (c .before .before .before .before .before .before .before .before .before .legal .result) _ (c .before .before .before .before .before .before .before .if3 .left) .1) (c .before .before .step .ensures) (c .before .is-move .ensures) refl (c .size-of .ensures), keeps-next _ _ _ _ (asked-by (c .before .before .before .before .before .before .before .before .before .before .before .before .before .if1 .kept) (c .before .before .before .before .before .before .before .before .before .before .before .before .before .before .before .before .before .before .before .before .loop .n) (c .before .before .before .before .before .before .before .before .before .before .before .before .before .before .before .before .a .given .0 .0) (λ w. asked-made _ _ _ _ (w .1 .ensures) (w .2)) (λ w. asked-left _ _ _ _ (c .before .before .before .before .before .before .before .before .before .before .before .before .before .before .before .before .before .before .before .before .loop .inv .1) (c .before .before .before .before .before .before .before .before .before .before .before .before .before .before .is-asked .ensures) (w .0 .left) (w .1)) (c .before .before .before .before .before .before .before .before .before .before .before .before .before .if1 .came) .keeps) (c .before .before .step .ensures) (carried-is _ _ _ _ (held-by (c .before .before .before .before .before .before .before .before .before .before .before .before .before .if1 .kept) (nodesOf (c .before .before .before .before .before .before .before .before .before .before .before .before .before .before .before .before .before .before .before .before .loop .n .nodes)) (c .before .before .before .before .before .before .before .before .before .before .before .before .before .before .before .before .a .given .0 .0) (c .before .before .before .before .before .if4 .kept) (λ w. held-made _ _ _ _ (w .0 .taken) (w .2 .ensures) (w .3)) (λ w. held-left _ _ _ _ (w .0 .left) (w .1)) (c .before .before .before .before .before .if4 .came)) (c .before .before .before .before .is-credential .ensures)))
 
 taking-requires-3 : tie.Need-taking-requires-3 Inv-loop μ-loop
 taking-requires-3 c κs = search needs
@@ -122,7 +122,7 @@ take-commands-spec =
     μ-loop
     nothing-kept-requires
     loop-holds
-    read-command-requires
+    command-at-requires
     enum-known-a
     enum-told
     refusal-of-requires
