@@ -1,5 +1,6 @@
 pub mod Least
 pub mod Offers
+pub mod Skipped
 pub mod DoneLaws
 pub mod Members
 pub mod MembersLaws

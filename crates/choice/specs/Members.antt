@@ -61,7 +61,11 @@ edges-uniform entities n xs =
 
 -- What is read off the columns
 
--- credential k was found, its body is a stop, and it is admitted
+-- credential k was found, and its body is a stop
+unfoldable pub isStopped : List ℕ → List ℕ → ℕ → Bool
+isStopped stop r k = flag r k && flag stop k
+
+-- and it is admitted
 unfoldable pub isMember : Pool → List ℕ → List ℕ → Bool → Node → ℕ → Bool
 isMember P stop r entities n k = flag r k && flag stop k && admits entities n (bodyAt P k)
 

@@ -19,7 +19,7 @@ use Rattle.moves.specs.declared.Choice.{Choice}
 use Rattle.moves.specs.Rules.{isEntity, childFor}
 use Rattle.choice.specs.Least.{better}
 use Rattle.choice.specs.Offers.{offer, offer-taken, offer-left}
-use Rattle.choice.specs.Members.{admits, isMember, memberEdge}
+use Rattle.choice.specs.Members.{admits, isStopped, isMember, memberEdge}
 
 module _ (entities : Bool) (n : Node) (x : Expression) {e : Bool} (p : e ≡ isEntity x) where
   pub admits-other : not e ≡ true → true ≡ admits entities n x
@@ -66,3 +66,8 @@ module _ (d : Wanted → Bool) (P : Pool) (stop found : List ℕ) (entities : Bo
     member-edge z {w} {r} e f =
         offer-taken d (isMember P stop found entities n) (memberEdge P n) b k (is-admitted ∙ not-false a z)
         (f ∙ ap (better d b) (e ∙ ap (λ (y : Expression). childFor 1 n y (n .subject)) p))
+
+-- what is not found, or no stop, is passed over
+pub member-skip : (d : Wanted → Bool) (P : Pool) (stop found : List ℕ) (entities : Bool) (n : Node) (k : ℕ) → isStopped stop found k ≡ false → (b : Choice) → offer d (isMember P stop found entities n) (memberEdge P n) b k ≡ b
+unfolding isStopped isMember
+member-skip d P stop found entities n k h b = sym (offer-left d (isMember P stop found entities n) (memberEdge P n) b k (ap (λ (x : Bool). x && admits entities n (bodyAt P k)) h))

@@ -1,25 +1,32 @@
 -- The first node, by rising number, at which there is something to do. Assumes nothing.
-use Prim.Native.Nat.{ℕ, zero, suc, _+_, _≤_, _<_}
+use Prim.Native.Nat.{ℕ, zero, suc, _+_, _/_, _%_, _≤_, _<_}
 use native.Mathlib.Omega.{arith}
 use mathlib.Core.Path.{_≡_, refl, sym, _∙_, ap, subst}
 use mathlib.Core.Logic.{⊎-elim}
-use mathlib.Core.Bool.{Bool, true, false, not}
+use mathlib.Core.Bool.{Bool, true, false, not, cond}
 use mathlib.Core.List.{List, [], _∷_, _++_, map}
-use borrow.Author.Tests.{eqb-true, eqb-false, not-true, not-false}
-use lib.Dec.{eqb}
+use borrow.Author.Tests.{eqb-true, eqb-false, eq-eqb, ne-eqb, ltb-true, ltb-false, not-true, not-false}
+use lib.Dec.{eqb, ltb}
 use lib.ListN.{length, getD}
 use Rattle.rt0.specs.Lists.{false-true}
 use Rattle.propagation.specs.Flags.{decided}
 use Rattle.graph.specs.declared.Node.{Node}
-use Rattle.graph.specs.Graph.{nodeIn}
+use Rattle.graph.specs.Graph.{nodeAt, nodesOf, nodeIn}
+use Rattle.graph.specs.Columns.{node-in}
+use Rattle.tables.specs.Tables.{Tables}
+use Rattle.negotiation.specs.declared.Negotiation.{Negotiation}
+use Rattle.negotiation.specs.State.{stateOf}
+use Rattle.update.specs.Step.{processedBy}
 use Rattle.message.specs.declared.Command.{Command}
 use Rattle.message.specs.declared.Command.the-variants.{Show}
 use Rattle.moves.specs.declared.Found.{Found}
 use Rattle.moves.specs.declared.Choice.{Choice}
 use Rattle.moves.specs.declared.Choice.the-variants as C
-use Rattle.moves.specs.Rules.{End}
+use Rattle.moves.specs.Rules.{End, endIn}
 use Rattle.moves.specs.Move.{Move, credentialsFor, edgeCommand, moveFor, choiceAt, orNext, movesFrom, nextMove}
 use Rattle.moves.specs.Own.{foundMove}
+use Rattle.choice.specs.Skipped.{Skipped}
+use Rattle.choice.specs.RuleChoice.{at-processed}
 
 abbrev pub isNothing : Choice → Bool
 isNothing (C.Edge w) = false
@@ -71,6 +78,30 @@ module _ (o : End) where
   from-zero : (ns : List Node) (t : ℕ) → choiceAt o t (nodeIn ns t) ≡ C.Nothing → choiceAt o (0 + t) (nodeIn ns t) ≡ C.Nothing
   from-zero ns t h = let u : 0 + t ≡ t = omega arith in ap (λ (m : ℕ). choiceAt o m (nodeIn ns t)) u ∙ h
 
+-- our side has not processed a node of this verifier and state
+unfoldable pub isOpen : ℕ → ℕ → ℕ → Bool
+isOpen s v t = cond (eqb v s) (not (eqb (t % 2) 1)) (not (eqb (t / 2 % 2) 1))
+
+unfoldable pub openAt : List ℕ → List ℕ → ℕ → ℕ → Bool
+openAt W S s i = isOpen s (getD W i 0) (getD S i 0)
+
+-- it is open or processed
+open-not : (s : ℕ) (n : Node) → isOpen s (n .verifier) (n .state) ≡ false → processedBy s n ≡ true
+unfolding isOpen processedBy
+open-not s n h = go (eqb (n .verifier) s) (eqb (n .state % 2) 1) (eqb (n .state / 2 % 2) 1) h
+  where
+    go : (a b c : Bool) → cond a (not b) (not c) ≡ false → cond a b c ≡ true
+    go true b c k = not-false b k
+    go false b c k = not-false c k
+
+pub open-own : (s v t : ℕ) → v ≡ s → not (eqb (t % 2) 1) ≡ isOpen s v t
+unfolding isOpen
+open-own s v t h = sym (ap (λ (b : Bool). cond b (not (eqb (t % 2) 1)) (not (eqb (t / 2 % 2) 1))) (eq-eqb v s h))
+
+pub open-other : (s v t : ℕ) → (v ≡ s → ⊥) → not (eqb (t / 2 % 2) 1) ≡ isOpen s v t
+unfolding isOpen
+open-other s v t h = sym (ap (λ (b : Bool). cond b (not (eqb (t % 2) 1)) (not (eqb (t / 2 % 2) 1))) (ne-eqb v s h))
+
 -- nothing is to be done at the nodes below i
 pub record Passed (o : End) (i : ℕ) : Type 0 where
   pub none : (j : ℕ) → j < i → choiceAt o j (nodeIn (o .state .nodes) j) ≡ C.Nothing
@@ -102,3 +133,16 @@ module _ (o : End) {i : ℕ} (P : Passed o i) {n : Node} (ne : n ≡ nodeIn (o .
 pub found-nothing : (o : End) {i : ℕ} → Passed o i → length (o .state .nodes) ≤ i → nextMove o ≡ foundMove o (record { node = 0; choice = C.Nothing })
 unfolding nextMove foundMove
 found-nothing o {i} P l = none-from o 0 (o .state .nodes) (λ t q. from-zero o (o .state .nodes) t (P .none t (omega arith)))
+
+-- nodes that our side has processed are passed over
+pub passed-skip : (T : Tables) (n : Negotiation) {i r : ℕ} → Passed (endIn T (stateOf n)) i → Skipped (openAt (n .nodes .verifier) (n .nodes .state) (n .header .side)) i (n .nodes .count) r → Passed (endIn T (stateOf n)) r
+unfolding endIn stateOf openAt
+passed-skip T n {i} {r} P S =
+    record { none = λ j l. ⊎-elim (λ y. P .none j (ltb-true j i y)) (λ y. skipped j (ltb-false j i y) l) (decided (ltb j i)) }
+  where
+    skipped : (j : ℕ) → i ≤ j → j < r → choiceAt (endIn T (stateOf n)) j (nodeIn (nodesOf (n .nodes)) j) ≡ C.Nothing
+    skipped j l h =
+        let w = S .within in
+        let q : nodeIn (nodesOf (n .nodes)) j ≡ nodeAt (n .nodes) j = node-in (n .nodes) j (omega arith) in
+        let p : processedBy (n .header .side) (nodeAt (n .nodes) j) ≡ true = open-not (n .header .side) (nodeAt (n .nodes) j) (S .none j l h) in
+        ap (choiceAt (endIn T (stateOf n)) j) q ∙ sym (at-processed T (stateOf n) j (nodeAt (n .nodes) j) {p = true} (sym p) refl refl)

@@ -18,7 +18,8 @@ ghost use Rattle.graph.specs.Graph.{nodesOf, edgesOf};
 ghost use Rattle.moves.specs.Wanted.{isDone};
 ghost use Rattle.moves.specs.Rules.{isEntity, childFor};
 ghost use Rattle.choice.specs.Offers.{folded, offer};
-ghost use Rattle.choice.specs.Members.{admits as admitsOf, isMember, memberEdge, Extended};
+ghost use Rattle.choice.specs.Members.{admits as admitsOf, isMember, isStopped, memberEdge, Extended};
+ghost use Rattle.choice.specs.Skipped.{Skipped};
 
 const IMPLICATION: u8 = 1;
 
@@ -95,6 +96,29 @@ fn with_member<'a>(
     )
 }
 
+// Whether credential k was found and its body is a stop.
+fn is_stopped<'a>(stop: &'a [u8; 128], found: &'a [u8; 128], k: usize) -> bool
+    requires { ⌜ k < 128 ⌝ }
+    ensures { λ r. ⌜ r ≡ isStopped (now (stop .entry)) (now (found .entry)) k ⌝ }
+{
+    (found[k] == 1) & (stop[k] == 1)
+}
+
+// The next such credential from an index on, or m.
+fn next_stopped<'a>(m: usize, stop: &'a [u8; 128], found: &'a [u8; 128], from: usize) -> usize
+    requires { ⌜ (m ≤ 128) × (from ≤ m) ⌝ }
+    ensures { λ r. ⌜ Skipped (isStopped (now (stop .entry)) (now (found .entry))) from m r ⌝ }
+{
+    let mut k = from;
+    while k < m {
+        if is_stopped(stop, found, k) {
+            return k;
+        }
+        k += 1;
+    }
+    k
+}
+
 // The best of what is chosen and the edges to all members.
 pub fn with_members<'a>(
     m: usize,
@@ -114,7 +138,7 @@ pub fn with_members<'a>(
     ensures { λ r. ⌜ r ≡ folded m (offer (isDone (nodesOf nodes) (edgesOf edges) i) (isMember (poolOf m (now (heads .entry)) (now (kinds .entry)) (now (numbers .entry))) (now (stop .entry)) (now (found .entry)) entities n) (memberEdge (poolOf m (now (heads .entry)) (now (kinds .entry)) (now (numbers .entry))) n)) start ⌝ }
 {
     let mut best = start;
-    let mut k = 0;
+    let mut k = next_stopped(m, stop, found, 0);
     while k < m {
         best = with_member(
             m,
@@ -131,7 +155,7 @@ pub fn with_members<'a>(
             best,
             k,
         );
-        k += 1;
+        k = next_stopped(m, stop, found, k + 1);
     }
     best
 }

@@ -17,7 +17,8 @@ ghost use Rattle.negotiation.specs.State.{stateOf, within};
 ghost use Rattle.moves.specs.Rules.{endIn};
 ghost use Rattle.moves.specs.Move.{nextMove};
 ghost use Rattle.moves.specs.Own.{Prepared, foundMove};
-ghost use Rattle.choice.specs.Next.{isNothing};
+ghost use Rattle.choice.specs.Next.{isNothing, isOpen, openAt};
+ghost use Rattle.choice.specs.Skipped.{Skipped};
 
 // Whether there is nothing to do.
 pub fn is_nothing(c: Choice) -> bool
@@ -30,22 +31,55 @@ pub fn is_nothing(c: Choice) -> bool
     }
 }
 
+// Whether our side has not processed a node of this verifier and state.
+fn is_open(side: u8, verifier: u8, state: u8) -> bool
+    ensures { λ r. ⌜ r ≡ isOpen side verifier state ⌝ }
+{
+    if verifier == side {
+        return state % 2 != 1;
+    }
+    state / 2 % 2 != 1
+}
+
+// The next node from an index on that our side has not processed, or n.
+fn next_open<'a>(
+    n: usize,
+    verifier: &'a [u8; 128],
+    state: &'a [u8; 128],
+    side: u8,
+    from: usize,
+) -> usize
+    requires { ⌜ (n ≤ 128) × (from ≤ n) ⌝ }
+    ensures { λ r. ⌜ Skipped (openAt (now (verifier .entry)) (now (state .entry)) side) from n r ⌝ }
+{
+    let mut i = from;
+    while i < n {
+        if is_open(side, verifier[i], state[i]) {
+            return i;
+        }
+        i += 1;
+    }
+    i
+}
+
 // "Nodes are tried by rising number": the first at which there is something to do.
 pub fn next_choice(own: Own, n: Negotiation, states: NodeStates) -> Found
     requires { ⌜ Prepared own × (within (stateOf n) ≡ true) × (0 < n .nodes .count) × NodesFormed (nodesOf (n .nodes)) × EdgesFormed (nodesOf (n .nodes)) (edgesOf (n .edges)) × Settled (nodesOf (n .nodes)) (edgesOf (n .edges)) (states .satisfied) (states .failed) ⌝ }
     ensures found { λ r. ⌜ nextMove (endIn (tablesOf (own .house)) (stateOf n)) ≡ foundMove (endIn (tablesOf (own .house)) (stateOf n)) r ⌝ }
     ensures standing { λ r. ⌜ r .node < n .nodes .count ⌝ }
 {
+    let h = n.header;
     let nodes = n.nodes;
-    let mut i = 0;
-    while i < nodes.count {
+    let count = nodes.count;
+    let mut i = next_open(count, &nodes.verifier, &nodes.state, h.side, 0);
+    while i < count {
         let node = i as u8;
         let x = node_of(nodes, node);
         let choice = choice_at(own, n, states, node, x);
         if !is_nothing(choice) {
             return Found { node, choice };
         }
-        i += 1;
+        i = next_open(count, &nodes.verifier, &nodes.state, h.side, i + 1);
     }
     Found {
         node: 0,
