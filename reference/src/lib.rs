@@ -67,6 +67,7 @@ pub mod refusal;
 pub mod relation;
 pub mod reply;
 pub mod reply_counts;
+pub mod reply_large;
 #[cfg(test)]
 mod reply_tests;
 pub mod report;
