@@ -177,10 +177,9 @@ fn negotiate(calls: &mut impl Calls, two: &Two, messages: usize, buffers: &mut B
     given
 }
 
-fn whole_time(calls: &mut impl Calls, two: &Two, messages: usize) -> f64 {
-    let mut buffers = Buffers::new();
+fn whole_time(calls: &mut impl Calls, two: &Two, messages: usize, buffers: &mut Buffers) -> f64 {
     let start = Instant::now();
-    negotiate(calls, two, messages, &mut buffers);
+    negotiate(calls, two, messages, buffers);
     start.elapsed().as_secs_f64() * 1e6
 }
 
@@ -263,8 +262,8 @@ impl Row {
             set: format!("{}, {messages} messages, all calls of both ends", two.name),
             sizes: sizes(&buffers[0].negotiations[0]),
             bytes: given.iter().map(Vec::len).sum(),
-            engine: steady(|| whole_time(&mut Engine, two, messages)),
-            reference: median(5, || whole_time(&mut Reference::default(), two, messages)),
+            engine: steady(|| whole_time(&mut Engine, two, messages, &mut buffers[0])),
+            reference: median(5, || whole_time(&mut Reference::default(), two, messages, &mut buffers[1])),
         }
     }
 

@@ -3,6 +3,8 @@
 use crate::classes::Class::{self, *};
 use crate::expression::*;
 use crate::negotiation::*;
+use crate::negotiation_large::large;
+use crate::negotiation_shapes::Shaped;
 use crate::records::*;
 
 /// A reply onto a negotiation.
@@ -336,6 +338,36 @@ fn waiting_links(links: u16, members: u16) -> Giving {
     draft.finish(format!("{links} linked roles that wait, {members} solutions each"), &house)
 }
 
+/// So many linked targets that wait for one goal; then other roles, which are marked.
+fn waiting_for_one_goal(links: u16) -> Giving {
+    let mut house = House::new(REQUESTER);
+    house.hide(role(999, 20), role(9, 21));
+    let mut draft = Draft::new(Side::Requester);
+    let verifier = Side::Mediator;
+    let acknowledging = draft.own_target(role(9, 21));
+    let linked = |i: u16| Expression::Linked(role(7000 + i, 2), 20);
+    let first = draft.other_target(acknowledging, linked(0), 0);
+    let goal = draft.bring(MONITOR, first, Form::Goal(20), REQUESTER, verifier, 1);
+    for i in 1..links {
+        let node = draft.other_target(acknowledging, linked(i), 0);
+        draft.join(MONITOR, node, goal);
+    }
+    draft.bring(SOLUTION, goal, Form::Target(to_role(999, 20)), REQUESTER, verifier, 1);
+    for i in 0..124 - links {
+        draft.other_target(acknowledging, to_role(6000 + i, 22), 1);
+    }
+    draft.finish(format!("{links} linked roles that wait for one goal"), &house)
+}
+
+/// Full negotiations that have not ended, on the mediator's turn.
+fn onto_full() -> Vec<Giving> {
+    let giving = |Shaped { name, tables, negotiation }| {
+        let negotiation = encode(&Negotiation { messages: 2, ..negotiation });
+        Giving { name: format!("onto: {name}"), tables, negotiation }
+    };
+    large().into_iter().filter(|shaped| shaped.negotiation.end == 0).map(giving).collect()
+}
+
 pub fn long_replies() -> Vec<Giving> {
     let mut all = vec![many_bodies(), plain_members()];
     for shown in [0, 63] {
@@ -348,6 +380,8 @@ pub fn long_replies() -> Vec<Giving> {
         [(7, 16, 24), (7, 10, 36), (7, 24, 9)].map(|(links, members, targets)| many_members(links, members, targets)),
     );
     all.extend([(1, 60), (3, 20), (6, 10), (10, 6)].map(|(links, members)| waiting_links(links, members)));
+    all.extend([30, 62, 90].map(waiting_for_one_goal));
+    all.extend(onto_full());
     all
 }
 
