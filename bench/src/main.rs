@@ -1,8 +1,9 @@
 //! Times the engine beside the reference, in microseconds a question over 64 credentials, then a check of tables at
 //! their sizes, then reports on negotiations, then takes of messages, then replies; `bench tables`, `bench report`,
 //! `bench take` and `bench reply` do one of the latter alone. `bench search STEPS [SEED]` looks for sets that take longest,
-//! `bench report search STEPS [SEED]` for negotiations, `bench take search STEPS [SEED]` for messages. `bench reply repeat
-//! WORDS TIMES` gives the replies whose name has the words so many times, for a profile.
+//! `bench report search STEPS [SEED]` for negotiations, `bench take search STEPS [SEED]` for messages. `bench take repeat
+//! WORDS TIMES` takes the messages whose name has the words so many times, for a profile, and `bench reply repeat WORDS
+//! TIMES` gives such replies.
 //!
 //! engine: the whole call. making: the part of it that reads the bytes and makes the relation. one more: asking one
 //! more question over a relation that is made already. reference: the separate code.
@@ -174,6 +175,7 @@ fn main() {
         ["tables"] => tables::table(),
         ["report"] => report::table(),
         ["take"] => take::table(),
+        ["take", "repeat", words, times] => take::repeat(words, number(times) as usize),
         ["reply"] => reply::table(),
         ["reply", "repeat", words, times] => reply::repeat(words, number(times)),
         ["report", "search", steps] => report_search::search(number(steps), 1),
