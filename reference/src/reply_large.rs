@@ -64,19 +64,16 @@ impl House {
 
     /// Records that no proof uses, as many as there is room for.
     fn fill(&mut self) {
-        for i in 0..64 {
-            if self.issuer.len() < 64 {
-                self.issue(role(1000 + i, 9), to_role(2000 + i, 41));
-            }
-            if self.subject.len() < 64 {
-                self.store(role(1000 + i, 40), to_role(2000 + i, 41));
-            }
+        for spare in (3000..).map(|entity| role(entity, 42)).take(32 - self.sensitive.len()) {
+            self.store(spare, Expression::Entity(self.own));
+            self.hide(spare, Role { name: 43, ..spare });
+            self.access.push(Guard { role: spare, by: Role { name: 44, ..spare } });
         }
-        for i in 0..32 {
-            let spare = role(3000 + i, 42);
-            if self.sensitive.len() < 32 && self.subject.len() < 64 + 32 {
-                self.hide(spare, role(3000 + i, 43));
-            }
+        for i in 0..64 - self.issuer.len() as u16 {
+            self.issue(role(1000 + i, 9), to_role(2000 + i, 41));
+        }
+        for i in 0..64 - self.subject.len() as u16 {
+            self.store(role(1000 + i, 40), to_role(2000 + i, 41));
         }
     }
 
@@ -397,7 +394,7 @@ mod tests {
     #[test]
     fn large_success_succeeds() {
         let tables = large_success();
-        tables.iter().for_each(|tables| assert_eq!(check(tables), 0));
+        tables.iter().for_each(|tables| assert_eq!((check(tables), tables.len()), (0, 3779)));
         let mut reference = Reference::default();
         let mut ends = TwoEnds::begun(&mut reference, tables, WANTED);
         assert_eq!(ends.run(&mut reference), 1);
@@ -409,7 +406,7 @@ mod tests {
             edges.len(),
             shown.len()
         );
-        assert_eq!((nodes.len(), shown.len()), (70, 64));
+        assert_eq!((nodes.len(), edges.len(), shown.len()), (70, 103, 64));
     }
 
     #[test]
