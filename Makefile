@@ -3,8 +3,9 @@
 # make demo    builds the engine and the C program host/demo.c, and runs it
 # make stack   prints how much stack each call needs
 # make test    runs all tests; its last line is 'N passed, M failed'
-# make fuzz    compares the engine with the reference on many questions, tables, negotiations and messages (SEED,
-#              RANDOM_COUNT, DAMAGED_COUNT, TABLES_COUNT, NEGOTIATIONS_COUNT, TAKES_COUNT)
+# make fuzz    compares the engine with the reference on many questions, tables, negotiations, messages and replies, and
+#              on lists of calls for two runs (SEED, RANDOM_COUNT, DAMAGED_COUNT, TABLES_COUNT, NEGOTIATIONS_COUNT,
+#              TAKES_COUNT, HONEST_COUNT, ADVERSARIAL_COUNT, TWO_RUNS_COUNT)
 # make bench   times the engine beside the reference
 # make clean   removes what the others made
 
@@ -16,6 +17,9 @@ DAMAGED_COUNT = 2000000
 TABLES_COUNT = 1000000
 NEGOTIATIONS_COUNT = 1000000
 TAKES_COUNT = 1000000
+HONEST_COUNT = 100000
+ADVERSARIAL_COUNT = 50000
+TWO_RUNS_COUNT = 100000
 
 ENGINE = target/staticlib/libengine.a
 LIB = build/lib/liblavutremo.a
@@ -49,7 +53,8 @@ test:
 	@exec tests/run
 
 fuzz: build/fuzz
-	build/fuzz $(SEED) $(RANDOM_COUNT) $(DAMAGED_COUNT) $(TABLES_COUNT) $(NEGOTIATIONS_COUNT) $(TAKES_COUNT)
+	build/fuzz $(SEED) $(RANDOM_COUNT) $(DAMAGED_COUNT) $(TABLES_COUNT) $(NEGOTIATIONS_COUNT) $(TAKES_COUNT) \
+		$(HONEST_COUNT) $(ADVERSARIAL_COUNT) $(TWO_RUNS_COUNT)
 
 bench: build/bench
 	@build/bench

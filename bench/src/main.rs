@@ -1,11 +1,14 @@
 //! Times the engine beside the reference, in microseconds a question over 64 credentials, then a check of tables at
-//! their sizes, then reports on negotiations, then takes of messages; `bench tables`, `bench report` and `bench take` do
-//! one of the latter alone. `bench search STEPS [SEED]` looks for sets that take longest, `bench report search STEPS
-//! [SEED]` for negotiations, `bench take search STEPS [SEED]` for messages.
+//! their sizes, then reports on negotiations, then takes of messages, then replies; `bench tables`, `bench report`,
+//! `bench take` and `bench reply` do one of the latter alone. `bench search STEPS [SEED]` looks for sets that take longest,
+//! `bench report search STEPS [SEED]` for negotiations, `bench take search STEPS [SEED]` for messages. `bench take repeat
+//! WORDS TIMES` takes the messages whose name has the words so many times, for a profile, and `bench reply repeat WORDS
+//! TIMES` gives such replies.
 //!
 //! engine: the whole call. making: the part of it that reads the bytes and makes the relation. one more: asking one
 //! more question over a relation that is made already. reference: the separate code.
 
+mod reply;
 mod report;
 mod report_search;
 mod search;
@@ -166,10 +169,15 @@ fn main() {
             report::table();
             println!();
             take::table();
+            println!();
+            reply::table();
         }
         ["tables"] => tables::table(),
         ["report"] => report::table(),
         ["take"] => take::table(),
+        ["take", "repeat", words, times] => take::repeat(words, number(times) as usize),
+        ["reply"] => reply::table(),
+        ["reply", "repeat", words, times] => reply::repeat(words, number(times)),
         ["report", "search", steps] => report_search::search(number(steps), 1),
         ["report", "search", steps, seed] => report_search::search(number(steps), number(seed).into()),
         ["take", "search", steps] => take_search::search(number(steps), 1),
@@ -177,7 +185,7 @@ fn main() {
         ["search", steps] => search::search(number(steps), 1),
         ["search", steps, seed] => search::search(number(steps), number(seed).into()),
         _ => {
-            println!("usage: bench [tables | report | take | [report | take] search STEPS [SEED]]");
+            println!("usage: bench [tables | report | take | reply | [report | take] search STEPS [SEED]]");
             exit(2);
         }
     }

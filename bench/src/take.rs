@@ -163,3 +163,11 @@ pub fn table() {
     let worst = rows.iter().max_by(|a, b| a.engine.total_cmp(&b.engine)).unwrap();
     println!("worst take: {:.2} ({})", worst.engine, worst.set);
 }
+
+/// Takes the messages whose name has these words again and again, for a profile.
+pub fn repeat(words: &str, times: usize) {
+    let runs = [marked_takes(true).0, size_runs(), long_messages()].concat();
+    for run in runs.iter().filter(|run| run.answer == 0 && run.name.contains(words)) {
+        median(&run.lent, engine, times);
+    }
+}

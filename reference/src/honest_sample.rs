@@ -297,7 +297,9 @@ impl Random {
             };
             draft.store(Side::Mediator, Credential { head: draft.wanted, body });
         }
-        self.add_noise(&mut draft, 1, 30);
+        // Where the other end adds little, the next reply has room to go on.
+        let noise = [0, 0, 30][self.below(3)];
+        self.add_noise(&mut draft, 1, noise);
         draft
     }
 

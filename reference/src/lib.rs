@@ -23,8 +23,9 @@
 //! `reply` is the call that gives a reply, `moves` finds its next move by the rules of `verifier` and `opponent`, which ask
 //! `frontier`, and `needed` the credentials that go before an edge. `calls` names the calls together, `two_ends` has two
 //! ends that negotiate, `honest_sample` makes random tables for them, `adversary` random negotiations with an end that
-//! does as it likes, `reply_counts` counts what occurred. `two_runs` is the check that nothing is told of a sensitive
-//! role too early, `two_runs_sample` makes its lists of calls, `leak` the mistakes that it must find.
+//! does as it likes, `reply_counts` counts what occurred, `reply_large` has replies that last long. `two_runs` is the
+//! check that nothing is told of a sensitive role too early, `two_runs_sample` makes its lists of calls, `leak` the
+//! mistakes that it must find.
 //!
 //! `refusal` numbers the refusals.
 
@@ -67,6 +68,7 @@ pub mod refusal;
 pub mod relation;
 pub mod reply;
 pub mod reply_counts;
+pub mod reply_large;
 #[cfg(test)]
 mod reply_tests;
 pub mod report;

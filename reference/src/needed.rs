@@ -1,7 +1,7 @@
 //! The credentials that go before a kind 1 edge.
 
 use crate::expression::*;
-use crate::relation::from;
+use crate::relation::Asked;
 use crate::tables::Tables;
 
 /// Whether it is our direct credential of a sensitive role, which no move but rule (3) looks at.
@@ -17,18 +17,17 @@ pub fn without_hidden(tables: &Tables, storage: &[Credential]) -> Vec<Credential
 /// Of these credentials, less those already shown, each is dropped, first to last, without which "f from e" still holds
 /// over the ones shown and the ones still kept.
 pub fn needed(credentials: &[Credential], shown: &[Credential], f: &Expression, e: &Expression) -> Vec<Credential> {
-    let mut kept: Vec<Credential> = credentials.iter().filter(|one| !shown.contains(one)).cloned().collect();
+    let asked = Asked::new(&[shown, credentials].concat(), f, e);
+    let mut kept: Vec<&Credential> = credentials.iter().filter(|one| !shown.contains(one)).collect();
     let mut at = 0;
     while at < kept.len() {
-        let mut less = kept.clone();
-        less.remove(at);
-        if from(&[shown, &less].concat(), f, e) {
-            kept = less;
-        } else {
+        let dropped = kept.remove(at);
+        if !asked.over(shown.iter().chain(kept.iter().copied())) {
+            kept.insert(at, dropped);
             at += 1;
         }
     }
-    kept
+    kept.into_iter().cloned().collect()
 }
 
 #[cfg(test)]

@@ -25,14 +25,33 @@ pub struct Relation {
 
 impl Relation {
     pub fn new<'a>(credentials: &[Credential], asked: impl IntoIterator<Item = &'a Expression>) -> Relation {
-        let mut expressions = Expressions::default();
-        expressions.collect(credentials, asked);
+        let expressions = Expressions::of(credentials, asked);
         let pairs = least(credentials, &expressions);
         Relation { expressions, pairs }
     }
 
     pub fn has(&self, f: &Expression, e: &Expression) -> bool {
         self.pairs.has(self.expressions.number(f), self.expressions.number(e))
+    }
+}
+
+/// One "f from e", to be asked over several sets of credentials. Expressions that matter to one set do no harm in another.
+pub struct Asked {
+    expressions: Expressions,
+    f: usize,
+    e: usize,
+}
+
+impl Asked {
+    /// All sets are among these credentials.
+    pub fn new(credentials: &[Credential], f: &Expression, e: &Expression) -> Asked {
+        let expressions = Expressions::of(credentials, [f, e]);
+        let [f, e] = [f, e].map(|asked| expressions.number(asked));
+        Asked { expressions, f, e }
+    }
+
+    pub fn over<'a>(&self, credentials: impl IntoIterator<Item = &'a Credential>) -> bool {
+        least(credentials, &self.expressions).has(self.f, self.e)
     }
 }
 
@@ -44,6 +63,12 @@ struct Expressions {
 }
 
 impl Expressions {
+    fn of<'a>(credentials: &[Credential], asked: impl IntoIterator<Item = &'a Expression>) -> Expressions {
+        let mut expressions = Expressions::default();
+        expressions.collect(credentials, asked);
+        expressions
+    }
+
     /// All expressions that occur, their parts, and for each linked role A.r1.r2 among them the role B.r2 of every
     /// entity B that occurs.
     ///
@@ -111,36 +136,42 @@ impl Expressions {
     }
 }
 
-/// A set of pairs (a, b) of numbers below `size`, as rows of bits: bit b of row a.
+/// A set of pairs (a, b) of numbers below `size`, as rows of bits, one after another: bit b of row a.
 #[derive(Clone, PartialEq)]
 struct Pairs {
     size: usize,
-    rows: Vec<Vec<u64>>,
+    width: usize,
+    words: Vec<u64>,
 }
 
 impl Pairs {
     fn none(size: usize) -> Pairs {
-        Pairs { size, rows: vec![vec![0; size.div_ceil(64)]; size] }
+        let width = size.div_ceil(64);
+        Pairs { size, width, words: vec![0; size * width] }
     }
 
     fn has(&self, a: usize, b: usize) -> bool {
-        self.rows[a][b / 64] >> (b % 64) & 1 == 1
+        self.words[a * self.width + b / 64] >> (b % 64) & 1 == 1
     }
 
     fn add(&mut self, a: usize, b: usize) {
-        self.rows[a][b / 64] |= 1 << (b % 64);
+        self.words[a * self.width + b / 64] |= 1 << (b % 64);
+    }
+
+    fn row(&self, a: usize) -> &[u64] {
+        &self.words[a * self.width..][..self.width]
     }
 
     /// Adds (a, x) for every x of the row.
     fn add_row(&mut self, a: usize, row: &[u64]) {
-        for (word, more) in self.rows[a].iter_mut().zip(row) {
+        for (word, more) in self.words[a * self.width..].iter_mut().zip(row) {
             *word |= more;
         }
     }
 }
 
 /// The least set of pairs (f, e), over the numbers of these expressions, with the five conditions.
-fn least(credentials: &[Credential], expressions: &Expressions) -> Pairs {
+fn least<'a>(credentials: impl IntoIterator<Item = &'a Credential>, expressions: &Expressions) -> Pairs {
     let mut pairs = Pairs::none(expressions.list.len());
     reflexive(&mut pairs);
     stated(&mut pairs, credentials, expressions);
@@ -163,7 +194,7 @@ fn reflexive(pairs: &mut Pairs) {
 }
 
 /// Condition 3: a credential's head is from its body.
-fn stated(pairs: &mut Pairs, credentials: &[Credential], expressions: &Expressions) {
+fn stated<'a>(pairs: &mut Pairs, credentials: impl IntoIterator<Item = &'a Credential>, expressions: &Expressions) {
     for credential in credentials {
         pairs.add(expressions.number_of_role(credential.head), expressions.number(&credential.body));
     }
@@ -187,9 +218,9 @@ fn linking(pairs: &mut Pairs, expressions: &Expressions) {
 fn intersection(pairs: &mut Pairs, expressions: &Expressions) {
     for (whole, expression) in expressions.list.iter().enumerate() {
         let Expression::Intersection(parts) = expression else { continue };
-        let mut common = pairs.rows[expressions.number_of_role(parts[0])].clone();
+        let mut common = pairs.row(expressions.number_of_role(parts[0])).to_vec();
         for part in &parts[1..] {
-            let row = &pairs.rows[expressions.number_of_role(*part)];
+            let row = pairs.row(expressions.number_of_role(*part));
             for (word, other) in common.iter_mut().zip(row) {
                 *word &= other;
             }
@@ -201,7 +232,11 @@ fn intersection(pairs: &mut Pairs, expressions: &Expressions) {
 /// Condition 2: what is from b is from all that b is from. Taking each b once, for all pairs, closes the set.
 fn transitive(pairs: &mut Pairs) {
     for b in 0..pairs.size {
-        let row = pairs.rows[b].clone();
+        let row = pairs.row(b).to_vec();
+        // What is from itself alone adds nothing.
+        if row.iter().map(|word| word.count_ones()).sum::<u32>() == 1 {
+            continue;
+        }
         for a in 0..pairs.size {
             if pairs.has(a, b) {
                 pairs.add_row(a, &row);

@@ -21,8 +21,16 @@ pub enum Stop {
     Satisfied,
     /// The next move does not fit before the end byte.
     Bytes,
-    /// The next move would pass a size, whether it fits or not.
-    Size,
+    /// The next move would pass a size, whether it fits or not; the first such size.
+    Size(Size),
+}
+
+/// The sizes that a move can pass.
+#[derive(Clone, Copy, Debug, PartialEq, Eq, PartialOrd, Ord)]
+pub enum Size {
+    Nodes,
+    Edges,
+    Shown,
 }
 
 /// A reply: its commands with the end, the rules that asked for its moves, why it stopped, and the negotiation after it.
@@ -44,16 +52,19 @@ fn commands_of(next: &Move) -> Vec<Command> {
     credentials.chain([next.command.clone()]).collect()
 }
 
-/// Whether there would be more nodes, edges or credentials than a negotiation has room for.
-fn passes_a_size(negotiation: &Negotiation, next: &Move) -> bool {
+/// The first of nodes, edges and credentials shown of which there would be more than a negotiation has room for.
+fn passed_size(negotiation: &Negotiation, next: &Move) -> Option<Size> {
     let (new_nodes, new_edges) = match next.command {
         Command::Child(_) => (1, 1),
         Command::Join(_) => (0, 1),
         _ => (0, 0),
     };
-    negotiation.nodes.len() + new_nodes > MOST_NODES
-        || negotiation.edges.len() + new_edges > MOST_EDGES
-        || negotiation.shown.len() + next.credentials.len() > MOST_SHOWN
+    let sizes = [
+        (Size::Nodes, negotiation.nodes.len() + new_nodes > MOST_NODES),
+        (Size::Edges, negotiation.edges.len() + new_edges > MOST_EDGES),
+        (Size::Shown, negotiation.shown.len() + next.credentials.len() > MOST_SHOWN),
+    ];
+    sizes.into_iter().find(|(_, passed)| *passed).map(|(size, _)| size)
 }
 
 /// A reply in the making; the negotiation goes along.
@@ -94,8 +105,8 @@ impl Replying<'_> {
             return Err(Stop::Satisfied);
         }
         let next = View::new(self.tables, &self.now, self.leak).next_move().ok_or(Stop::NoMove)?;
-        if passes_a_size(&self.now, &next) {
-            return Err(Stop::Size);
+        if let Some(size) = passed_size(&self.now, &next) {
+            return Err(Stop::Size(size));
         }
         let commands = commands_of(&next);
         if !self.fits(&commands) {
@@ -127,7 +138,7 @@ fn close(negotiation: &mut Negotiation, idle: bool, stop: Stop) {
         Propagated::Done => 1,
         Propagated::Failed => 2,
         Propagated::Open if stalled => 3,
-        Propagated::Open if stop == Stop::Size => 4,
+        Propagated::Open if matches!(stop, Stop::Size(_)) => 4,
         Propagated::Open => 0,
     };
 }

@@ -2,7 +2,7 @@
 
 use crate::message::*;
 use crate::refusal::Refusal;
-use crate::reply::{Given, Stop};
+use crate::reply::{Given, Size, Stop};
 use std::collections::BTreeMap;
 
 /// Every rule that adds an edge, and the marks.
@@ -29,7 +29,8 @@ pub const RULES: [&str; 20] = [
     "opponent's mark",
 ];
 
-const STOPS: [Stop; 4] = [Stop::NoMove, Stop::Satisfied, Stop::Bytes, Stop::Size];
+const SIZES: [Size; 3] = [Size::Nodes, Size::Edges, Size::Shown];
+const STOPS: [Stop; 3] = [Stop::NoMove, Stop::Satisfied, Stop::Bytes];
 
 #[derive(Clone, Debug, Default)]
 pub struct ReplyCounts {
@@ -37,6 +38,8 @@ pub struct ReplyCounts {
     numbers: BTreeMap<u64, u64>,
     ends: BTreeMap<u8, u64>,
     stops: BTreeMap<Stop, u64>,
+    /// Replies with the end full, by the size.
+    full: BTreeMap<Size, u64>,
     rules: BTreeMap<&'static str, u64>,
     /// Replies by the number of their commands, at most 10.
     commands: BTreeMap<usize, u64>,
@@ -70,6 +73,9 @@ impl ReplyCounts {
         let Given { commands, rules, stop, after } = given;
         count(&mut self.ends, after.end);
         count(&mut self.stops, *stop);
+        if let (Stop::Size(size), 4) = (stop, after.end) {
+            count(&mut self.full, *size);
+        }
         rules.iter().for_each(|&rule| count(&mut self.rules, rule));
         count(&mut self.commands, commands.len().min(10));
         self.credentials(commands);
@@ -108,6 +114,7 @@ impl ReplyCounts {
         );
         println!("ends after a reply: {}", line(&self.ends, u8::to_string));
         println!("stops: {}", line(&self.stops, |stop| format!("{stop:?}")));
+        println!("full by: {}", line(&self.full, |size| format!("{size:?}")));
         println!("commands in a reply: {}", line(&self.commands, |count| format!("{count}:")));
         println!("credentials before a kind 1 edge: {}", line(&self.needed, |count| format!("{count}:")));
         println!("edges between old nodes: {}", self.joins);
@@ -128,6 +135,7 @@ impl ReplyCounts {
         };
         RULES.iter().for_each(|rule| note(self.rules.contains_key(rule), (*rule).into()));
         STOPS.iter().for_each(|stop| note(self.stops.contains_key(stop), format!("stop {stop:?}")));
+        SIZES.iter().for_each(|size| note(self.full.contains_key(size), format!("full by {size:?}")));
         (0..=4).for_each(|end| note(self.ends.contains_key(&end), format!("end {end}")));
         (0..=4).for_each(|count| note(self.needed.contains_key(&count), format!("{count} credentials before an edge")));
         note(self.joins > 0, "an edge between old nodes".into());

@@ -711,14 +711,14 @@ fn stop_on_bytes() {
     // Where the move would pass a size too, the reply is full.
     let full = first_reply_of(&house, MOST_EDGES - 108);
     assert_eq!(encode_message(&full.commands).len(), 4095);
-    assert_eq!((full.stop, full.after.end), (Stop::Size, 4));
+    assert_eq!((full.stop, full.after.end), (Stop::Size(Size::Edges), 4));
 }
 
 /// One primary, 40 intersections and 87 parts.
 #[test]
 fn stop_on_nodes() {
     let full = first_reply_of(&wide((1..=40).map(|i| quarter(2 * i))), 0);
-    assert_eq!((full.stop, full.after.end, full.after.nodes.len()), (Stop::Size, 4, MOST_NODES));
+    assert_eq!((full.stop, full.after.end, full.after.nodes.len()), (Stop::Size(Size::Nodes), 4, MOST_NODES));
     assert_eq!(encode_message(&full.commands).len(), 6 + 40 * 47 + 2 + 21 * 98 + 3 * 24 + 1);
 }
 
@@ -728,7 +728,7 @@ fn stop_on_edges() {
     let fits = first_reply_of(&house, MOST_EDGES - 3);
     assert_eq!((fits.stop, fits.after.end), (Stop::NoMove, 0));
     let full = first_reply_of(&house, MOST_EDGES - 2);
-    assert_eq!((full.stop, full.after.end, full.after.edges.len()), (Stop::Size, 4, MOST_EDGES));
+    assert_eq!((full.stop, full.after.end, full.after.edges.len()), (Stop::Size(Size::Edges), 4, MOST_EDGES));
     assert_eq!(full.rules.len(), 3);
 }
 
@@ -746,9 +746,9 @@ fn stop_on_shown() {
     let fits = with_shown(MOST_SHOWN - 3, true);
     assert_eq!((fits.stop, fits.after.end, fits.after.shown.len()), (Stop::NoMove, 0, MOST_SHOWN));
     let one_edge = with_shown(MOST_SHOWN - 2, true);
-    assert_eq!((one_edge.stop, one_edge.after.end, one_edge.commands.len()), (Stop::Size, 4, 4));
+    assert_eq!((one_edge.stop, one_edge.after.end, one_edge.commands.len()), (Stop::Size(Size::Shown), 4, 4));
     let none = with_shown(MOST_SHOWN - 1, false);
-    assert_eq!((none.stop, none.after.end, none.after.idle), (Stop::Size, 4, true));
+    assert_eq!((none.stop, none.after.end, none.after.idle), (Stop::Size(Size::Shown), 4, true));
     assert_eq!(none.commands, [Command::End]);
     // Stalled comes before full.
     assert_eq!(with_shown(MOST_SHOWN - 1, true).after.end, 3);

@@ -1,17 +1,12 @@
 //! Compares the engine's answers with the reference's, and looks whether a lent buffer was changed.
 //!
-//! fuzz [SEED [RANDOM [DAMAGED [TABLES [NEGOTIATIONS [TAKES]]]]]]: the seed, how many random and damaged questions to
-//! ask, how many random tables to check, how many sound and damaged negotiations to report on, and how many messages to
-//! take. The large questions of `shapes` are asked besides, each whole and without each one of its credentials, some
-//! tables are checked with each fault at each place, and the messages of the marked cases and those at the sizes are
-//! taken. What has a count of 0 is left out.
-//!
-//! With the feature `reply`, for an engine that has `lavutremo_reply`, three counts more, HONEST ADVERSARIAL TWO_RUNS: how
-//! many whole negotiations to play between honest ends and against ends that do as they like, and how many lists of calls
-//! to compare on two tables each.
+//! fuzz [SEED [COUNT..]], the counts in this order: how many random and damaged questions to ask, random tables to check,
+//! sound and damaged negotiations to report on, messages to take, whole negotiations to play between honest ends and
+//! against ends that do as they like, and lists of calls to compare on two tables each. What has a count of 0 is left out.
+//! The large questions of `shapes` are asked besides, each whole and without each one of its credentials, some tables are
+//! checked with each fault at each place, and the messages of the marked cases and those at the sizes are taken.
 
 mod negotiations;
-#[cfg(feature = "reply")]
 mod replies;
 mod takes;
 
@@ -21,6 +16,7 @@ use reference::sample::Random;
 use reference::shapes;
 use reference::table_bytes::each_fault_of_each_size;
 use reference::tables;
+use replies::{ask_adversarial, ask_honest, ask_two_runs};
 use std::process::exit;
 use takes::ask_takes;
 
@@ -195,7 +191,7 @@ fn argument(at: usize, default: u64) -> u64 {
     match std::env::args().nth(at) {
         None => default,
         Some(word) => word.parse().unwrap_or_else(|_| {
-            eprintln!("usage: fuzz [SEED [RANDOM [DAMAGED [TABLES [NEGOTIATIONS [TAKES]]]]]], each a number");
+            eprintln!("usage: fuzz [SEED [RANDOM [DAMAGED [TABLES [NEGOTIATIONS [TAKES [HONEST [ADVERSARIAL [TWO_RUNS]]]]]]]]]");
             exit(2)
         }),
     }
@@ -232,30 +228,30 @@ fn ask_questions(seed: u64, random_count: u64, damaged_count: u64) -> (u64, u64)
     (passed, failed)
 }
 
+/// Asks so many of one sort. Returns how many passed and failed.
+type Ask = fn(seed: u64, count: u64) -> (u64, u64);
+
+/// What follows the questions, each with the count that it has where none is given.
+const SORTS: [(u64, Ask); 6] = [
+    (100_000, ask_tables),
+    (100_000, ask_negotiations),
+    (100_000, ask_takes),
+    (2_000, ask_honest),
+    (1_000, ask_adversarial),
+    (1_000, ask_two_runs),
+];
+
 fn main() {
     let (seed, random_count, damaged_count) = (argument(1, 1), argument(2, 200_000), argument(3, 200_000));
-    let (tables_count, negotiations_count) = (argument(4, 100_000), argument(5, 100_000));
-    let takes_count = argument(6, 100_000);
     let mut results = Vec::new();
     if random_count + damaged_count > 0 {
         results.push(ask_questions(seed, random_count, damaged_count));
     }
-    if tables_count > 0 {
-        results.push(ask_tables(seed, tables_count));
-    }
-    if negotiations_count > 0 {
-        results.push(ask_negotiations(seed, negotiations_count));
-    }
-    if takes_count > 0 {
-        results.push(ask_takes(seed, takes_count));
-    }
-    #[cfg(feature = "reply")]
-    for (at, default, ask) in [
-        (7, 2_000, replies::ask_honest as fn(u64, u64) -> (u64, u64)),
-        (8, 1_000, replies::ask_adversarial),
-        (9, 500, replies::ask_two_runs),
-    ] {
-        results.push(ask(seed, argument(at, default)));
+    for (at, (default, ask)) in (4..).zip(SORTS) {
+        match argument(at, default) {
+            0 => {}
+            count => results.push(ask(seed, count)),
+        }
     }
     let passed: u64 = results.iter().map(|(passed, _)| passed).sum();
     let failed: u64 = results.iter().map(|(_, failed)| failed).sum();

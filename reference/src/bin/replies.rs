@@ -5,6 +5,8 @@ use crate::{hex, Guarded};
 use reference::adversary::against_adversaries;
 use reference::calls::{Calls, Reference};
 use reference::expression::Role;
+use reference::leak::{Leak, LEAKS};
+use reference::message::MOST_MESSAGE_BYTES;
 use reference::sample::Random;
 use reference::two_ends::TwoEnds;
 use reference::two_runs::{compare, Outcome};
@@ -213,6 +215,10 @@ impl Calls for Both {
     }
 }
 
+/// From so many negotiations, or lists for two runs, on all that is to occur must have occurred.
+const ENOUGH: u64 = 10_000;
+const ENOUGH_LISTS: u64 = 1_000;
+
 /// Prints what occurred and gives how many calls passed and failed.
 fn counted(both: Both, enough: bool) -> (u64, u64) {
     let Both { reference, passed, mut failed, .. } = both;
@@ -225,27 +231,68 @@ fn counted(both: Both, enough: bool) -> (u64, u64) {
     (passed, failed)
 }
 
+/// What occurred among whole honest negotiations.
+#[derive(Default)]
+struct Played {
+    ends: [u64; 5],
+    messages: usize,
+    /// Negotiations in which a reply had no room for its next move and the next reply of that end went on.
+    continued: u64,
+}
+
+impl Played {
+    fn note(&mut self, two: &TwoEnds) {
+        self.ends[two.end() as usize] += 1;
+        self.messages += two.messages.len();
+        let lengths: Vec<usize> = two.messages.iter().map(Vec::len).collect();
+        // A move is an edge with its credentials: with one credential or none, 47 bytes at most.
+        let goes_on = |three: &[usize]| three[0] + 47 > MOST_MESSAGE_BYTES && three[2] > 1;
+        self.continued += lengths.windows(3).any(goes_on) as u64;
+    }
+
+    fn print(&self, count: u64) {
+        let Played { ends: [_, success, failed, stalled, full], messages, continued } = self;
+        println!("{count} honest negotiations, {messages} messages");
+        println!("their ends: success {success}, failed {failed}, stalled {stalled}, full {full}");
+        println!(
+            "with a reply of nearly {MOST_MESSAGE_BYTES} bytes that the next reply of its end continues: {continued}"
+        );
+    }
+
+    fn is_complete(&self) -> bool {
+        self.continued > 0 && !self.ends[1..].contains(&0)
+    }
+}
+
+/// To its end, each message with reports at both ends.
+fn play_honest(random: &mut Random, both: &mut Both) -> TwoEnds {
+    let pair = random.pair();
+    let mut two = TwoEnds::begun(both, pair.tables(), pair.wanted);
+    while two.messages.is_empty() || two.end() == 0 {
+        two.next(both);
+        for end in &two.ends {
+            let nodes = end.state().nodes.len();
+            both.report(&end.tables, &end.negotiation, random.below(nodes + 1) as u8);
+        }
+    }
+    two
+}
+
 /// Negotiations of two honest ends: each reply, its take at the other end, and reports at both. Returns how many calls
 /// passed and failed.
 pub fn ask_honest(seed: u64, count: u64) -> (u64, u64) {
     let (mut random, mut both) = (Random::new(seed), Both::new(seed));
-    let (mut ends, mut messages) = ([0; 5], 0);
+    let mut played = Played::default();
     for _ in 0..count {
-        let pair = random.pair();
-        let mut two = TwoEnds::begun(&mut both, pair.tables(), pair.wanted);
-        while two.messages.is_empty() || two.end() == 0 {
-            two.next(&mut both);
-            for end in &two.ends {
-                let nodes = end.state().nodes.len();
-                both.report(&end.tables, &end.negotiation, random.below(nodes + 1) as u8);
-            }
-        }
-        ends[two.end() as usize] += 1;
-        messages += two.messages.len();
+        played.note(&play_honest(&mut random, &mut both));
     }
-    let [_, success, failed, stalled, full] = ends;
-    println!("{count} honest negotiations, {messages} messages: success {success}, failed {failed}, stalled {stalled}, full {full}");
-    counted(both, count >= 10_000)
+    played.print(count);
+    let (passed, failed) = counted(both, count >= ENOUGH);
+    let lacks = count >= ENOUGH && !played.is_complete();
+    if lacks {
+        println!("an end, or a reply that is continued, never occurred");
+    }
+    (passed, failed + lacks as u64)
 }
 
 /// Negotiations against ends that do as they like. Returns how many calls passed and failed.
@@ -253,28 +300,60 @@ pub fn ask_adversarial(seed: u64, count: u64) -> (u64, u64) {
     let (mut random, mut both) = (Random::new(seed), Both::new(seed));
     against_adversaries(&mut random, count, &mut both);
     println!("{count} negotiations against ends that do as they like, and as many replies onto random graphs");
-    counted(both, count >= 10_000)
+    counted(both, count >= ENOUGH)
 }
 
-/// Lists of calls on two tables each, by the engine. Returns how many lists passed and failed.
-pub fn ask_two_runs(seed: u64, count: u64) -> (u64, u64) {
-    let (mut random, mut engine) = (Random::new(seed), Engine::new(seed));
-    let (mut alike, mut parted, mut leaks) = (0, 0, 0);
-    for _ in 0..count {
-        let TwoRuns { tables, list } = random.two_runs();
-        match compare(&mut engine, tables.each_ref().map(Vec::as_slice), &list) {
-            Some(Outcome::Alike) => alike += 1,
-            Some(Outcome::Parted(_)) => parted += 1,
-            outcome => {
-                leaks += 1;
-                if leaks == 1 {
-                    println!("first list that tells too much, or too little: {outcome:?}");
-                    tables.iter().for_each(|tables| println!("  tables {}", hex(tables)));
-                    println!("  {list:?}");
-                }
-            }
+/// How the lists for two runs went.
+#[derive(Default)]
+struct Compared {
+    alike: u64,
+    parted: u64,
+    leaks: u64,
+    calls: usize,
+}
+
+impl Compared {
+    fn note(&mut self, two: &TwoRuns, outcome: Option<Outcome>) {
+        self.calls += two.list.calls.len();
+        match outcome {
+            Some(Outcome::Alike) => self.alike += 1,
+            Some(Outcome::Parted(_)) => self.parted += 1,
+            _ => self.leaks += 1,
+        }
+        let told = !matches!(outcome, Some(Outcome::Alike | Outcome::Parted(_)));
+        if told && self.leaks == 1 {
+            println!("first list that tells too much, or too little: {outcome:?}");
+            two.tables.iter().for_each(|tables| println!("  tables {}", hex(tables)));
+            println!("  {:?}", two.list);
         }
     }
-    println!("{count} lists for two runs: alike to the end {alike}, parted after an Ack target was satisfied {parted}");
-    (alike + parted, leaks + (engine.strays > 0) as u64)
+}
+
+fn compare_by(calls: &mut impl Calls, two: &TwoRuns) -> Option<Outcome> {
+    compare(calls, two.tables.each_ref().map(Vec::as_slice), &two.list)
+}
+
+/// The number, from 1, of the first of these lists that shows the reference with this leak to tell too much.
+fn found_by(seed: u64, count: u64, leak: Leak) -> Option<u64> {
+    let (mut random, mut leaking) = (Random::new(seed), Reference { leak, ..Reference::default() });
+    (1..=count).find(|_| matches!(compare_by(&mut leaking, &random.two_runs()), Some(Outcome::Leak(_))))
+}
+
+/// Lists of calls on two tables each, by the engine; then the same lists by the reference with each planted leak, until
+/// one finds it. Returns how many lists and leaks passed and failed.
+pub fn ask_two_runs(seed: u64, count: u64) -> (u64, u64) {
+    let (mut random, mut engine) = (Random::new(seed), Engine::new(seed));
+    let mut compared = Compared::default();
+    for _ in 0..count {
+        let two = random.two_runs();
+        let outcome = compare_by(&mut engine, &two);
+        compared.note(&two, outcome);
+    }
+    let Compared { alike, parted, leaks, calls } = compared;
+    println!("{count} lists for two runs, {calls} calls: alike to the end {alike}, parted after an Ack target was satisfied {parted}");
+    let found = LEAKS.map(|leak| (leak, found_by(seed, count, leak)));
+    found.iter().for_each(|(leak, list)| println!("  planted leak {leak:?}: found by list {list:?}"));
+    let missed = found.iter().filter(|(_, list)| list.is_none()).count() as u64;
+    let missed = if count >= ENOUGH_LISTS { missed } else { 0 };
+    (alike + parted + LEAKS.len() as u64 - missed, leaks + missed + (engine.strays > 0) as u64)
 }
