@@ -8,6 +8,7 @@
 //! engine: the whole call. making: the part of it that reads the bytes and makes the relation. one more: asking one
 //! more question over a relation that is made already. reference: the separate code.
 
+mod engine;
 mod reply;
 mod report;
 mod report_search;

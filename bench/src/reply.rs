@@ -3,6 +3,7 @@
 //!
 //! A reply changes what it is lent, so each call has its own copy, which is made before the clock starts.
 
+use crate::engine::{lavutremo_begin, lavutremo_reply, lavutremo_report, lavutremo_take};
 use reference::calls::{Calls, Reference};
 use reference::classes::Class::{IssuerDef, SubjectAll};
 use reference::expression::{Credential, Expression, Role};
@@ -18,49 +19,6 @@ use std::time::Instant;
 const MOST_CASE: f64 = 80.0;
 const MOST_LARGE: f64 = 1_900.0;
 const MOST_REPLY: f64 = 12_000.0;
-
-#[link(name = "engine", kind = "static")]
-extern "C" {
-    fn lavutremo_begin(
-        tables: *const u8,
-        tables_len: usize,
-        negotiation: *mut u8,
-        negotiation_len: usize,
-        other: u16,
-        entity: u16,
-        name: u16,
-    ) -> u64;
-
-    fn lavutremo_take(
-        tables: *const u8,
-        tables_len: usize,
-        negotiation: *mut u8,
-        negotiation_len: usize,
-        message: *const u8,
-        message_len: usize,
-        scratch: *mut u8,
-        scratch_len: usize,
-    ) -> u64;
-
-    fn lavutremo_reply(
-        tables: *const u8,
-        tables_len: usize,
-        negotiation: *mut u8,
-        negotiation_len: usize,
-        reply: *mut u8,
-        reply_len: usize,
-        scratch: *mut u8,
-        scratch_len: usize,
-    ) -> u64;
-
-    fn lavutremo_report(
-        tables: *const u8,
-        tables_len: usize,
-        negotiation: *const u8,
-        negotiation_len: usize,
-        node: u8,
-    ) -> u64;
-}
 
 struct Engine;
 

@@ -1,5 +1,6 @@
 //! Times reports on negotiations beside the reference's, in microseconds. All are sound, so that nothing is skipped.
 
+use crate::engine::lavutremo_report;
 use crate::{least, time};
 use reference::expression::Role;
 use reference::negotiation::*;
@@ -12,17 +13,6 @@ use reference::table_shapes::TABLE_SHAPES;
 use std::process::exit;
 
 const RANDOM: usize = 15;
-
-#[link(name = "engine", kind = "static")]
-extern "C" {
-    fn lavutremo_report(
-        tables: *const u8,
-        tables_len: usize,
-        negotiation: *const u8,
-        negotiation_len: usize,
-        node: u8,
-    ) -> u64;
-}
 
 /// The engine's report on the primary.
 pub fn engine(tables: &[u8], negotiation: &[u8]) -> u64 {

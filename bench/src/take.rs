@@ -2,6 +2,7 @@
 //!
 //! A take changes what it is lent, so each call has its own copy, which is made before the clock starts.
 
+use crate::engine::lavutremo_take;
 use reference::message_writer::Run;
 use reference::negotiation::{decode, MOST_EDGES, MOST_NODES, MOST_SHOWN};
 use reference::take::{self, Lent};
@@ -12,20 +13,6 @@ use std::time::Instant;
 
 /// How many of the slowest are shown, of those that are many.
 const SHOWN: usize = 8;
-
-#[link(name = "engine", kind = "static")]
-extern "C" {
-    fn lavutremo_take(
-        tables: *const u8,
-        tables_len: usize,
-        negotiation: *mut u8,
-        negotiation_len: usize,
-        message: *const u8,
-        message_len: usize,
-        scratch: *mut u8,
-        scratch_len: usize,
-    ) -> u64;
-}
 
 pub fn engine(lent: &mut Lent) -> u64 {
     let Lent { tables, negotiation, message, scratch } = lent;
