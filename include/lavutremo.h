@@ -36,6 +36,9 @@
  * all parts are, else 1. An entity suits every class. A credential whose head is class 2 or 3 needs a body of that
  * class; class 1 takes any well-typed body. Heads of 0x12 have class 1 or 2, of 0x13 class 3. Sensitive roles have
  * class 3. An 0x15 record needs the credential role <- self in 0x13, and the role in 0x14.
+ *
+ * The calls allocate no memory. The stack that they need, in bytes, measured on x86-64 by painting it (make stack):
+ *   check 30,000, begin 40,000, question 39,000, report 103,000, take 164,000, reply 215,000.
  */
 #ifndef LAVUTREMO_H
 #define LAVUTREMO_H
