@@ -497,7 +497,15 @@ pub fn links_justified(nodes: Nodes, edges: Edges) -> bool
     let mut got = [0u8; 512];
     let mut sat = [0u8; 128];
     let mut queue = [0u8; 128];
-    let t = seed(&x.from, &x.slot, &need, &got, &mut sat, &mut queue);
+    let t = seed(
+        nodes.count,
+        &x.from,
+        &x.slot,
+        &need,
+        &got,
+        &mut sat,
+        &mut queue,
+    );
     linked_in_turn(
         nodes.count,
         &nodes.kind,

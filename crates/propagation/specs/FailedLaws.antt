@@ -6,13 +6,14 @@ use mathlib.Core.Path.{_≡_, refl, sym, _∙_, ap, subst}
 use mathlib.Core.Logic.{⊎-elim}
 use mathlib.Core.Bool.{Bool, true, false, _&&_, _||_, not}
 use mathlib.Core.List.{List}
-use borrow.Author.Tests.{eqb-true, eqb-false, eq-eqb, ne-eqb, ltb-true, lt-ltb, le-ltb, not-true}
+use borrow.Author.Tests.{eqb-true, eqb-false, eq-eqb, ne-eqb, ltb-true, ltb-false, lt-ltb, le-ltb, not-true}
 use lib.Dec.{eqb, ltb}
 use lib.ListN.{getD, length, set, length-set, replicate, length-replicate}
 use Rattle.rt0.specs.Lists.{false-true, or-cases, or-left, or-right, and-parts, and-both}
 use Rattle.propagation.specs.Flags.{bool-iff, not-of, and-none, or-none, or-true, decided, anyTo, anyTo-find, anyTo-here, at, cnt, cnt-le, cnt-one, flag, flag-same, flag-other, flag-grows, flag-cases, flag-zeros}
 use Rattle.propagation.specs.Least.{Monotone, least-closed, least-below}
 use Rattle.propagation.specs.Satisfied.{Graph, fromAt, slotAt, nodeAt}
+use Rattle.propagation.specs.Work.{Beyond}
 use Rattle.propagation.specs.Failed.{brings, childOf, failsBy, failedRule, failedOf, Sound, sameB, Touched, Swept}
 
 -- The rule
@@ -165,8 +166,20 @@ module _ (way alive hit failed : List ℕ) where
       subst (λ (n : ℕ). Swept way alive hit failed (k + 1) r′ n) (sym ae) (subst (λ (s : List ℕ). Swept way alive hit failed (k + 1) s a) (sym re)
       (sweep-skip r k a l (λ h. ⊎-elim (λ y. y) (λ y. absurd (false-true (sym (sym e ∙ t) ∙ and-both (not (flag r k)) (falls k) (ap not y) h))) (decided (flag r k))) w))
 
-  pub sweep-all : (r : List ℕ) (k a : ℕ) → k ≤ 128 → 128 ≤ k → Swept way alive hit failed k r a → Swept way alive hit failed 128 r a
-  sweep-all r k a p q w = let z : k ≡ 128 = omega arith in subst (λ (n : ℕ). Swept way alive hit failed n r a) z w
+  -- beyond the nodes none fails
+  pub sweep-all : (r : List ℕ) (n k a : ℕ) → n ≤ k → Beyond n 0 way → Swept way alive hit failed k r a → Swept way alive hit failed 128 r a
+  unfolding failsBy
+  sweep-all r n k a h b w =
+      record {
+        size = w .size;
+        within = omega arith;
+        sound = w .sound;
+        seen = λ i l f. ⊎-elim (λ e. w .seen i (ltb-true i k e) f)
+            (λ e. let z : getD way i 0 ≡ 0 = b .beyond i (omega (arith, ltb-false i k e)) l in absurd (false-true (sym (ap (λ (x : ℕ). failsBy x (flag alive i) (flag hit i)) z) ∙ f)))
+            (decided (ltb i k));
+        counted = w .counted;
+        same = w .same;
+      }
 
 pub cnt-few : (r : List ℕ) → cnt 128 (flag r) ≤ 128
 cnt-few r = cnt-le 128 (flag r)

@@ -12,6 +12,10 @@ use Rattle.propagation.specs.Satisfied.{Graph, fromAt, slotAt, nodeAt, f
 unfoldable pub readyAt : ℕ → List ℕ → ℕ → Bool
 readyAt k got a = ltb k 5 && (ltb k 1 || flag got a) && (ltb k 2 || flag got (a + 1)) && (ltb k 3 || flag got (a + 2)) && (ltb k 4 || flag got (a + 3))
 
+-- the column has k from number n on
+pub record Beyond (n k : ℕ) (col : List ℕ) : Type 0 where
+  pub beyond : (i : ℕ) → n ≤ i → i < 128 → getD col i 0 ≡ k
+
 -- the slots filled, the nodes satisfied, and these in the order of their finding
 pub record Work : Type 0 where
   pub got : List ℕ

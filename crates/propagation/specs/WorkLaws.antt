@@ -15,7 +15,7 @@ use Rattle.propagation.specs.Least.{least-closed, least-below}
 use Rattle.propagation.specs.Satisfied.{Graph, fromAt, slotAt, nodeAt, filledBy, satisfiedRule, satisfiedOf}
 use Rattle.propagation.specs.SatisfiedLaws.{filled-find, filled-here, filled-mono, satisfied-parts, satisfied-of, satisfied-mono, satisfied-more}
 use Rattle.propagation.specs.Chains.{Chained}
-use Rattle.propagation.specs.Work.{readyAt, Work, work, Base, Full, Later, Marked, Brought, Visited, Done}
+use Rattle.propagation.specs.Work.{readyAt, Beyond, Work, work, Base, Full, Later, Marked, Brought, Visited, Done}
 
 -- Slots
 
@@ -261,8 +261,15 @@ full-next {m} {G} {got} {s} {q} {s′} {q′} {t} {t′} i f d =
           (λ e. d .later .sat-grows n (f .full n (omega (arith, eqb-false n i e)) r)) (decided (eqb n i));
     }
 
-pub full-all : {G : Graph} {W : Work} (i : ℕ) → 128 ≤ i → Full i G W → Full 128 G W
-full-all i h f = record { full = λ n l r. f .full n (omega arith) r }
+-- beyond the nodes none needs anything that it gets
+pub full-all : {G : Graph} {W : Work} (n i : ℕ) → n ≤ i → Beyond n 5 (G .node) → Full i G W → Full 128 G W
+unfolding readyAt
+full-all {G} {W} n i h b f =
+    record {
+      full = λ j l r. ⊎-elim (λ e. f .full j (ltb-true j i e) r)
+          (λ e. let z : nodeAt G j ≡ 5 = b .beyond j (omega (arith, ltb-false j i e)) l in absurd (false-true (sym (ap (λ (k : ℕ). readyAt k (W .got) (j * 4)) z) ∙ r)))
+          (decided (ltb j i));
+    }
 
 -- with no edge there is none to follow
 pub done-none : {G : Graph} {W : Work} → Base 0 G W → Full 128 G W → Done 0 G W (W .tail)

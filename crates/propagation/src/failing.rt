@@ -9,6 +9,7 @@ ghost use Prim.Native.Nat.{ℕ, _≤_, _<_};
 ghost use lib.ListN.{length, getD};
 ghost use Rattle.propagation.specs.Flags.{at, flag};
 ghost use Rattle.propagation.specs.Satisfied.{graph};
+ghost use Rattle.propagation.specs.Work.{Beyond};
 ghost use Rattle.propagation.specs.Chains.{Chained};
 ghost use Rattle.propagation.specs.Failed.{childOf, failsBy, failedOf, sameB, Sound, Touched, Swept};
 ghost use Rattle.propagation.specs.Failing.{Tallied, Failing};
@@ -165,8 +166,9 @@ fn run_queue<'a>(
     }
 }
 
-// The nodes that fail with no failed child.
+// Of n nodes, those that fail with no failed child.
 fn fail_childless<'a>(
+    n: usize,
     m: usize,
     from: &'a [u8; 256],
     slot: &'a [u16; 256],
@@ -176,12 +178,12 @@ fn fail_childless<'a>(
     failed: &'a mut [u8; 128],
     queue: &'a mut [u8; 128],
 ) -> usize
-    requires { ⌜ Failing m (graph (now from) (now slot) (now way)) (now failed) (now left) (now gone) ⌝ }
+    requires { ⌜ (n ≤ 128) × Failing m (graph (now from) (now slot) (now way)) (now failed) (now left) (now gone) ⌝ }
     ensures { λ r. ⌜ (r ≤ 128) × Failing m (graph (now (from .entry)) (now (slot .entry)) (now (way .entry))) (now (failed .exit)) (now (left .entry)) (now (gone .entry)) ⌝ }
 {
     let mut t = 0;
     let mut i = 0;
-    while i < 128 {
+    while i < n {
         t = fail_node(m, from, slot, way, left, gone, failed, queue, t, i, false);
         i += 1;
     }
@@ -190,12 +192,13 @@ fn fail_childless<'a>(
 
 // Nodes that have failed. That none is missing is left to the rounds.
 fn fail_by_queue<'a>(
+    n: usize,
     m: usize,
     from: &'a [u8; 256],
     slot: &'a [u16; 256],
     way: &'a [u8; 128],
 ) -> [u8; 128]
-    requires { ⌜ (m ≤ 256) × ((j : ℕ) → getD (now slot) j 0 < 512) ⌝ }
+    requires { ⌜ (n ≤ 128) × (m ≤ 256) × ((j : ℕ) → getD (now slot) j 0 < 512) ⌝ }
     ensures { λ r. ⌜ Sound m (graph (now (from .entry)) (now (slot .entry)) (now (way .entry))) r ⌝ }
 {
     let mut head = [0u16; 256];
@@ -205,7 +208,7 @@ fn fail_by_queue<'a>(
     let mut queue = [0u8; 128];
     chain(m, from, &mut head, &mut next);
     let mut left = tally(m, from, slot, way);
-    let t = fail_childless(m, from, slot, way, &left, &gone, &mut failed, &mut queue);
+    let t = fail_childless(n, m, from, slot, way, &left, &gone, &mut failed, &mut queue);
     run_queue(
         m,
         from,
@@ -257,20 +260,21 @@ fn fails_anew(way: u8, alive: u8, hit: u8, failed: u8) -> bool
     (failed != 1) & fails(way, alive == 1, hit == 1)
 }
 
-// The nodes that fail by the columns are added.
+// Of n nodes, those that fail by the columns are added.
 fn swept<'a>(
+    n: usize,
     way: &'a [u8; 128],
     alive: &'a [u8; 128],
     hit: &'a [u8; 128],
     failed: [u8; 128],
 ) -> Sweep
-    requires { ⌜ length failed ≡ 128 ⌝ }
+    requires { ⌜ (n ≤ 128) × Beyond n 0 (now way) × (length failed ≡ 128) ⌝ }
     ensures { λ r. ⌜ Swept (now (way .entry)) (now (alive .entry)) (now (hit .entry)) failed 128 (r .failed) (r .added) ⌝ }
 {
     let mut next = failed;
     let mut added = 0;
     let mut i = 0;
-    while i < 128 {
+    while i < n {
         if fails_anew(way[i], alive[i], hit[i], next[i]) {
             next[i] = 1;
             added += 1;
@@ -283,21 +287,22 @@ fn swept<'a>(
     }
 }
 
-// The nodes that have failed over the first m edges. The queue finds them, and the round that adds none proves that all are found.
+// The nodes, of n, that have failed over the first m edges. The queue finds them, and the round that adds none proves that all are found.
 pub fn failed<'a>(
+    n: usize,
     m: usize,
     from: &'a [u8; 256],
     slot: &'a [u16; 256],
     way: &'a [u8; 128],
 ) -> [u8; 128]
-    requires { ⌜ (m ≤ 256) × ((j : ℕ) → getD (now slot) j 0 < 512) ⌝ }
+    requires { ⌜ (n ≤ 128) × (m ≤ 256) × ((j : ℕ) → getD (now slot) j 0 < 512) × Beyond n 0 (now way) ⌝ }
     ensures { λ r. ⌜ ((i : ℕ) → flag r i ≡ at (failedOf m (graph (now (from .entry)) (now (slot .entry)) (now (way .entry)))) i) ⌝ }
 {
-    let mut failed = fail_by_queue(m, from, slot, way);
+    let mut failed = fail_by_queue(n, m, from, slot, way);
     loop {
         let alive = touched(m, from, slot, way, &failed, false);
         let hit = touched(m, from, slot, way, &failed, true);
-        let s = swept(way, &alive, &hit, failed);
+        let s = swept(n, way, &alive, &hit, failed);
         failed = s.failed;
         if s.added == 0 {
             break;

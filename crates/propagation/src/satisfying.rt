@@ -9,7 +9,7 @@ ghost use lib.ListN.{getD};
 ghost use Rattle.propagation.specs.Flags.{at, flag};
 ghost use Rattle.propagation.specs.Satisfied.{graph, satisfiedOf};
 ghost use Rattle.propagation.specs.Chains.{Chained};
-ghost use Rattle.propagation.specs.Work.{work, readyAt, Base, Full, Marked, Brought, Visited, Done};
+ghost use Rattle.propagation.specs.Work.{work, readyAt, Beyond, Base, Full, Marked, Brought, Visited, Done};
 
 // Whether the first `need` of the four slots from a on are filled.
 fn ready<'a>(need: u8, got: &'a [u8; 512], a: usize) -> bool
@@ -128,8 +128,9 @@ fn settle<'a>(
     t
 }
 
-// The nodes that are satisfied without an edge.
+// Of n nodes, those that are satisfied without an edge.
 pub fn seed<'a>(
+    n: usize,
     from: &'a [u8; 256],
     slot: &'a [u16; 256],
     need: &'a [u8; 128],
@@ -137,12 +138,12 @@ pub fn seed<'a>(
     sat: &'a mut [u8; 128],
     queue: &'a mut [u8; 128],
 ) -> usize
-    requires { ⌜ Base 0 (graph (now from) (now slot) (now need)) (work (now got) (now sat) (now queue) 0) ⌝ }
+    requires { ⌜ (n ≤ 128) × Beyond n 5 (now need) × Base 0 (graph (now from) (now slot) (now need)) (work (now got) (now sat) (now queue) 0) ⌝ }
     ensures { λ r. ⌜ Done 0 (graph (now (from .entry)) (now (slot .entry)) (now (need .entry))) (work (now (got .entry)) (now (sat .exit)) (now (queue .exit)) r) r ⌝ }
 {
     let mut t = 0;
     let mut i = 0;
-    while i < 128 {
+    while i < n {
         t = mark(0, from, slot, need, got, sat, queue, t, i);
         i += 1;
     }
@@ -188,14 +189,15 @@ pub fn insert<'a>(
     tail
 }
 
-// The nodes that the first m edges satisfy.
+// The nodes, of n, that the first m edges satisfy.
 pub fn satisfied<'a>(
+    n: usize,
     m: usize,
     from: &'a [u8; 256],
     slot: &'a [u16; 256],
     need: &'a [u8; 128],
 ) -> [u8; 128]
-    requires { ⌜ (m ≤ 256) × ((j : ℕ) → getD (now slot) j 0 < 512) ⌝ }
+    requires { ⌜ (n ≤ 128) × (m ≤ 256) × ((j : ℕ) → getD (now slot) j 0 < 512) × Beyond n 5 (now need) ⌝ }
     ensures { λ r. ⌜ ((i : ℕ) → flag r i ≡ at (satisfiedOf m (graph (now (from .entry)) (now (slot .entry)) (now (need .entry)))) i) ⌝ }
 {
     let mut head = [0u16; 256];
@@ -203,7 +205,7 @@ pub fn satisfied<'a>(
     let mut got = [0u8; 512];
     let mut sat = [0u8; 128];
     let mut queue = [0u8; 128];
-    let mut t = seed(from, slot, need, &got, &mut sat, &mut queue);
+    let mut t = seed(n, from, slot, need, &got, &mut sat, &mut queue);
     let mut j = 0;
     while j < m {
         t = insert(

@@ -18,6 +18,7 @@ use Rattle.graph.specs.Graph.{expressionFrom, nodeAt, edgeAt, nodesOf, edgesOf,
 use Rattle.graph.specs.Columns.{nodes-length, edges-length, node-in, edge-in}
 use Rattle.rt0.specs.Lists.{and-parts, and-both}
 use Rattle.propagation.specs.Flags.{decided, not-of, bool-iff}
+use Rattle.propagation.specs.Work.{Beyond}
 use Rattle.states.specs.Brings.{needOf, wayOf, slotAs, bringsBy, slotBy, slotFor, brings, fromOf, slotOf, Joined, Needs, Ways}
 use Rattle.states.specs.BringsLaws.{brings-parts, brings-of, from-child, into-slot, from-none, into-none, slot-few}
 use Rattle.states.specs.Fields.{rawIn, needBy, wayBy, need-raw, way-raw}
@@ -89,6 +90,19 @@ ways-add N {i} {x} {r} {r′} l e h z = column-add N wayOf r′ x l e (h ∙ way
 
 pub ways-all : (N : Nodes) {i : ℕ} {r : List ℕ} → i ≤ N .count → N .count ≤ i → NodeColumn N wayOf i r → Ways (nodesOf N) r
 ways-all N a b z = record { way = column-all N wayOf a b z }
+
+-- beyond the nodes the columns have the number of a node past the end
+module _ (N : Nodes) where
+  past : (k : ℕ) → N .count ≤ k → nodeIn (nodesOf N) k ≡ blank
+  past k l = List·getD-eq-default (nodesOf N) blank (omega (arith, l, nodes-length N))
+
+  pub needs-beyond : (M : List ℕ) → Needs (nodesOf N) M → Beyond (N .count) 5 M
+  unfolding needOf
+  needs-beyond M z = record { beyond = λ k l m. z .need k m ∙ ap needOf (past k l) }
+
+  pub ways-beyond : (M : List ℕ) → Ways (nodesOf N) M → Beyond (N .count) 0 M
+  unfolding wayOf
+  ways-beyond M z = record { beyond = λ k l m. z .way k m ∙ ap wayOf (past k l) }
 
 -- Edges
 

@@ -124,9 +124,9 @@ pub fn node_states(nodes: Nodes, edges: Edges) -> NodeStates
     let m = edges.count;
     let need = needs(nodes);
     let e = links(nodes, edges);
-    let sat = satisfied(m, &e.from, &e.slot, &need);
+    let sat = satisfied(nodes.count, m, &e.from, &e.slot, &need);
     let way = ways(nodes);
-    let fail = failed(m, &e.from, &e.slot, &way);
+    let fail = failed(nodes.count, m, &e.from, &e.slot, &way);
     NodeStates {
         satisfied: sat,
         failed: fail,
@@ -141,12 +141,12 @@ pub fn state_of(nodes: Nodes, edges: Edges, i: usize) -> u8
     let m = edges.count;
     let need = needs(nodes);
     let e = links(nodes, edges);
-    let sat = satisfied(m, &e.from, &e.slot, &need);
+    let sat = satisfied(nodes.count, m, &e.from, &e.slot, &need);
     if sat[i] == 1 {
         return 1;
     }
     let way = ways(nodes);
-    let fail = failed(m, &e.from, &e.slot, &way);
+    let fail = failed(nodes.count, m, &e.from, &e.slot, &way);
     if is_complete(nodes, edges, &sat, &fail, i) {
         return 1;
     }

@@ -43,7 +43,7 @@ pub fn satisfied_nodes(nodes: Nodes, edges: Edges) -> [u8; 128]
 {
     let need = needs(nodes);
     let x = links(nodes, edges);
-    satisfied(edges.count, &x.from, &x.slot, &need)
+    satisfied(nodes.count, edges.count, &x.from, &x.slot, &need)
 }
 
 // Whether a linking implication edge into node p, a target of expression x, is justified for B.

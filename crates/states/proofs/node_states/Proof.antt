@@ -1,3 +1,4 @@
+use Rattle.states.specs.Filled.{needs-beyond, ways-beyond}
 use Rattle.states.specs.Complete.{settled-read}
 use borrow.Author.Needs.{needs}
 use Rattle.states.proofs.node_states.Statement.{statement}
@@ -17,13 +18,13 @@ links-requires : tie.Need-links-requires
 links-requires c κs = search needs
 
 satisfied-requires : tie.Need-satisfied-requires
-satisfied-requires c κs = search needs
+satisfied-requires c κs = let s = c .before .before .before .before .before .before in (s .pre .0, s .pre .1, c .before .before .before .before .links .ensures .slots, needs-beyond (s .args .nodes) _ (c .before .before .before .before .before .needs .ensures))
 
 ways-requires : tie.Need-ways-requires
 ways-requires c κs = search needs
 
 failed-requires : tie.Need-failed-requires
-failed-requires c κs = search needs
+failed-requires c κs = let s = c .before .before .before .before .before .before .before .before .before .before .before .before in (s .pre .0, s .pre .1, c .before .before .before .before .before .before .before .before .before .before .links .ensures .slots, ways-beyond (s .args .nodes) _ (c .before .before .before .before .ways .ensures))
 
 returns : tie.Need-returns
 returns c =

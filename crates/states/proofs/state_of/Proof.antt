@@ -1,4 +1,5 @@
 use Rattle.graph.specs.Graph.{nodesOf, edgesOf}
+use Rattle.states.specs.Filled.{needs-beyond, ways-beyond}
 use Rattle.states.specs.Complete.{Settled, satisfied-read, settled-read, state-satisfied, state-complete, state-failed, state-none}
 use borrow.Author.Needs.{needs}
 use Rattle.states.proofs.state_of.Statement.{statement}
@@ -25,7 +26,7 @@ links-requires : tie.Need-links-requires
 links-requires c κs = search needs
 
 satisfied-requires : tie.Need-satisfied-requires
-satisfied-requires c κs = search needs
+satisfied-requires c κs = let s = c .before .before .before .before .before .before in (s .pre .1, s .pre .2, c .before .before .before .before .links .ensures .slots, needs-beyond (s .args .nodes) _ (c .before .before .before .before .before .needs .ensures))
 
 array-read-if1 : tie.Need-array-read-if1
 array-read-if1 c = search needs
@@ -39,7 +40,7 @@ ways-requires : tie.Need-ways-requires
 ways-requires c κs = search needs
 
 failed-requires : tie.Need-failed-requires
-failed-requires c κs = search needs
+failed-requires c κs = let s = c .before .before .before .before .before .before .before .before .before .before .before .before .before in (s .pre .1, s .pre .2, c .before .before .before .before .before .before .before .before .before .before .before .links .ensures .slots, ways-beyond (s .args .nodes) _ (c .before .before .before .before .ways .ensures))
 
 is-complete-requires : tie.Need-is-complete-requires
 is-complete-requires c κs = let s = c .before .before .before .before .before .before .before .before .before .before .before .before .before .before .before .before in (s .pre .0, s .pre .1, s .pre .2, settled c)

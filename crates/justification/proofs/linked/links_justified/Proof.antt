@@ -1,3 +1,4 @@
+use Rattle.states.specs.Filled.{needs-beyond}
 use Rattle.propagation.specs.Chains.{chain-start}
 use Rattle.propagation.specs.WorkLaws.{start}
 use borrow.Author.Needs.{needs}
@@ -12,7 +13,7 @@ links-requires : tie.Need-links-requires
 links-requires c κs = search needs
 
 seed-requires : tie.Need-seed-requires
-seed-requires c κs = start _ (c .before .before .before .before .before .before .before .links .ensures .slots)
+seed-requires c κs = let s = c .before .before .before .before .before .before .before .before .before in (s .pre .0, needs-beyond (s .args .t1) _ (c .before .before .before .before .before .before .before .before .needs .ensures), start _ (c .before .before .before .before .before .before .before .links .ensures .slots))
 
 linked-in-turn-requires : tie.Need-linked-in-turn-requires
 linked-in-turn-requires c κs = ((c .before .before .before .before .before .before .before .before .before .before .before .before .before .before .before .before .before .before .before .before .before .before .before .before .before .before .before .before .before .before .before .before .before .before .before .before .before .pre .0), (c .before .before .before .before .before .before .before .before .before .before .before .before .before .before .before .before .before .before .before .before .before .before .before .before .before .before .before .before .before .before .before .before .before .before .before .before .before .pre .1), (c .before .before .before .before .before .before .before .before .before .before .before .before .before .before .before .before .before .before .before .before .before .before .before .before .before .before .before .before .before .before .before .before .before .before .before .before .before .pre .2), (c .before .before .before .before .before .before .before .before .before .before .before .before .before .before .before .before .before .before .before .before .before .before .before .before .before .before .before .before .before .before .before .before .before .before .before .before .before .pre .3), (c .before .before .before .before .before .before .before .before .before .before .before .before .before .before .before .before .before .before .before .before .before .before .before .before .before .before .before .before .before .before .before .before .before .before .before .links .ensures), (c .before .before .before .before .before .before .before .before .before .before .before .before .before .before .before .before .before .before .before .before .before .before .before .before .before .before .before .before .before .before .before .before .before .before .before .before .needs .ensures), chain-start _, (c .before .before .before .before .before .before .before .before .before .before .before .before .before .before .before .before .before .before .before .before .before .before .before .before .before .before .before .seed .ensures))

@@ -5,13 +5,13 @@ use Rattle.propagation.proofs.failing.fail_by_queue.Statement.{statemen
 use Rattle.propagation.proofs.failing.fail_by_queue.Tie as tie
 
 chain-requires : tie.Need-chain-requires
-chain-requires c κs = (c .before .before .pre .0, chain-start _)
+chain-requires c κs = (c .before .before .pre .1, chain-start _)
 
 tally-requires : tie.Need-tally-requires
 tally-requires c κs = search needs
 
 fail-childless-requires : tie.Need-fail-childless-requires
-fail-childless-requires c κs = failing-start _ _ _ (c .before .before .before .before .before .before .before .before .pre .0) (c .before .before .before .before .before .before .before .before .pre .1) (c .before .before .before .before .tally .ensures)
+fail-childless-requires c κs = (c .before .before .before .before .before .before .before .before .pre .0, failing-start _ _ _ (c .before .before .before .before .before .before .before .before .pre .1) (c .before .before .before .before .before .before .before .before .pre .2) (c .before .before .before .before .tally .ensures))
 
 run-queue-requires : tie.Need-run-queue-requires
 run-queue-requires c κs = search needs

@@ -7,16 +7,16 @@ use Rattle.propagation.proofs.failing.fail_childless.Statement.{stateme
 use Rattle.propagation.proofs.failing.fail_childless.Tie as tie
 
 abbrev Inv-loop : tie.InvT-loop
-Inv-loop m from slot way left gone failed₀ queue₀ t₀ i₀ failed queue t i = (t ≤ 128) × Failing m (graph from slot way) failed left gone
+Inv-loop n m from slot way left gone failed₀ queue₀ t₀ i₀ failed queue t i = (t ≤ 128) × Failing m (graph from slot way) failed left gone
 
 abbrev μ-loop : tie.MeasureT-loop
-μ-loop m from slot way left gone failed₀ queue₀ t₀ i₀ failed queue t i = 128 - i
+μ-loop n m from slot way left gone failed₀ queue₀ t₀ i₀ failed queue t i = n - i
 
 loop-holds : tie.Need-loop-holds Inv-loop μ-loop
-loop-holds c = (omega arith, c .pre)
+loop-holds c = (omega arith, c .pre .1)
 
 fail-node-requires : tie.Need-fail-node-requires Inv-loop μ-loop
-fail-node-requires c κs = (omega arith, c .before .before .before .loop .inv .0, (λ e. absurd (false-true e)), c .before .before .before .loop .inv .1)
+fail-node-requires c κs = (omega (arith, c .before .before .loop-test .taken, c .before .before .before .before .pre .0), c .before .before .before .loop .inv .0, (λ e. absurd (false-true e)), c .before .before .before .loop .inv .1)
 
 add-i : tie.Need-add-i Inv-loop μ-loop
 add-i c = omega arith

@@ -8,25 +8,25 @@ use Rattle.propagation.proofs.failing.failed.Statement.{statement}
 use Rattle.propagation.proofs.failing.failed.Tie as tie
 
 abbrev Inv-loop : tie.InvT-loop
-Inv-loop m from slot way failed₀ failed = Sound m (graph from slot way) failed
+Inv-loop n m from slot way failed₀ failed = Sound m (graph from slot way) failed
 
 abbrev μ-loop : tie.MeasureT-loop
-μ-loop m from slot way failed₀ failed = 128 - cnt 128 (flag failed)
+μ-loop n m from slot way failed₀ failed = 128 - cnt 128 (flag failed)
 
 fail-by-queue-requires : tie.Need-fail-by-queue-requires Inv-loop μ-loop
-fail-by-queue-requires c κs = c .pre
+fail-by-queue-requires c κs = (c .pre .0, c .pre .1, c .pre .2)
 
 loop-holds : tie.Need-loop-holds Inv-loop μ-loop
 loop-holds c = c .fail-by-queue .ensures
 
 touched-requires : tie.Need-touched-requires Inv-loop μ-loop
-touched-requires c κs = (c .before .before .before .pre .0, c .before .before .before .pre .1, c .before .loop .inv .size)
+touched-requires c κs = (c .before .before .before .pre .1, c .before .before .before .pre .2, c .before .loop .inv .size)
 
 touched-requires-2 : tie.Need-touched-requires-2 Inv-loop μ-loop
-touched-requires-2 c κs = (c .before .before .before .before .before .pre .0, c .before .before .before .before .before .pre .1, c .before .before .before .loop .inv .size)
+touched-requires-2 c κs = (c .before .before .before .before .before .pre .1, c .before .before .before .before .before .pre .2, c .before .before .before .loop .inv .size)
 
 swept-requires : tie.Need-swept-requires Inv-loop μ-loop
-swept-requires c κs = c .before .before .before .before .before .before .loop .inv .size
+swept-requires c κs = (c .before .before .before .before .before .before .before .before .pre .0, c .before .before .before .before .before .before .before .before .pre .3, c .before .before .before .before .before .before .loop .inv .size)
 
 loop-less : tie.Need-loop-less Inv-loop μ-loop
 loop-less c = omega (arith, c .before .before .before .swept .ensures .counted, cnt-few (c .before .before .before .swept .result .failed))

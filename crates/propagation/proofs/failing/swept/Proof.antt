@@ -7,13 +7,13 @@ use Rattle.propagation.proofs.failing.swept.Statement.{statement}
 use Rattle.propagation.proofs.failing.swept.Tie as tie
 
 abbrev Inv-loop : tie.InvT-loop
-Inv-loop way alive hit next₀ added₀ i₀ next added i = Swept way alive hit next₀ i next added
+Inv-loop n way alive hit next₀ added₀ i₀ next added i = Swept way alive hit next₀ i next added
 
 abbrev μ-loop : tie.MeasureT-loop
-μ-loop way alive hit next₀ added₀ i₀ next added i = 128 - i
+μ-loop n way alive hit next₀ added₀ i₀ next added i = n - i
 
 loop-holds : tie.Need-loop-holds Inv-loop μ-loop
-loop-holds c = sweep-start _ _ _ _ (c .pre)
+loop-holds c = sweep-start _ _ _ _ (c .pre .2)
 
 element-copy-out-fails-anew : tie.Need-element-copy-out-fails-anew Inv-loop μ-loop
 element-copy-out-fails-anew c = omega arith
@@ -50,7 +50,7 @@ loop-again c =
     (λ w. sweep-skip-at _ _ _ _ (l .next) _ (l .i) (l .added) _ _ (omega arith) (t .ensures) (w .0 .left) (w .1) (w .2) (l .inv)) (c .if1 .came)
 
 returns : tie.Need-returns Inv-loop μ-loop
-returns c = sweep-all _ _ _ _ _ _ _ (c .before .loop .inv .within) (c .loop-test .left) (c .before .loop .inv)
+returns c = sweep-all _ _ _ _ _ _ _ _ (c .loop-test .left) (c .before .before .pre .1) (c .before .loop .inv)
 
 pub swept-spec : {M : Type 1} → statement M
 swept-spec =

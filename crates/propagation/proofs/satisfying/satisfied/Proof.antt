@@ -8,19 +8,19 @@ use Rattle.propagation.proofs.satisfying.satisfied.Statement.{statement
 use Rattle.propagation.proofs.satisfying.satisfied.Tie as tie
 
 abbrev Inv-loop : tie.InvT-loop
-Inv-loop m from slot need head₀ next₀ got₀ sat₀ queue₀ t₀ j₀ head next got sat queue t j = (j ≤ m) × Chained j from head next × Done j (graph from slot need) (work got sat queue t) t
+Inv-loop n m from slot need head₀ next₀ got₀ sat₀ queue₀ t₀ j₀ head next got sat queue t j = (j ≤ m) × Chained j from head next × Done j (graph from slot need) (work got sat queue t) t
 
 abbrev μ-loop : tie.MeasureT-loop
-μ-loop m from slot need head₀ next₀ got₀ sat₀ queue₀ t₀ j₀ head next got sat queue t j = m - j
+μ-loop n m from slot need head₀ next₀ got₀ sat₀ queue₀ t₀ j₀ head next got sat queue t j = m - j
 
 seed-requires : tie.Need-seed-requires Inv-loop μ-loop
-seed-requires c κs = start _ (c .before .before .before .pre .1)
+seed-requires c κs = (c .before .before .before .pre .0, c .before .before .before .pre .3, start _ (c .before .before .before .pre .2))
 
 loop-holds : tie.Need-loop-holds Inv-loop μ-loop
 loop-holds c = (omega arith, chain-start _, c .seed .ensures)
 
 insert-requires : tie.Need-insert-requires Inv-loop μ-loop
-insert-requires c κs = (omega (arith, c .before .before .before .before .before .before .before .before .before .before .before .pre .0), c .before .before .before .before .before .before .loop .inv .1, c .before .before .before .before .before .before .loop .inv .2)
+insert-requires c κs = (omega (arith, c .before .before .before .before .before .before .before .before .before .before .before .pre .1), c .before .before .before .before .before .before .loop .inv .1, c .before .before .before .before .before .before .loop .inv .2)
 
 add-j : tie.Need-add-j Inv-loop μ-loop
 add-j c = omega arith

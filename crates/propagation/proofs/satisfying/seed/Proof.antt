@@ -7,16 +7,16 @@ use Rattle.propagation.proofs.satisfying.seed.Statement.{statement}
 use Rattle.propagation.proofs.satisfying.seed.Tie as tie
 
 abbrev Inv-loop : tie.InvT-loop
-Inv-loop from slot need got sat₀ queue₀ t₀ i₀ sat queue t i = Base 0 (graph from slot need) (work got sat queue t) × Full i (graph from slot need) (work got sat queue t)
+Inv-loop n from slot need got sat₀ queue₀ t₀ i₀ sat queue t i = Base 0 (graph from slot need) (work got sat queue t) × Full i (graph from slot need) (work got sat queue t)
 
 abbrev μ-loop : tie.MeasureT-loop
-μ-loop from slot need got sat₀ queue₀ t₀ i₀ sat queue t i = 128 - i
+μ-loop n from slot need got sat₀ queue₀ t₀ i₀ sat queue t i = n - i
 
 loop-holds : tie.Need-loop-holds Inv-loop μ-loop
-loop-holds c = (c .pre, full-none _ _)
+loop-holds c = (c .pre .2, full-none _ _)
 
 mark-requires : tie.Need-mark-requires Inv-loop μ-loop
-mark-requires c κs = (omega arith, c .before .before .before .loop .inv .0)
+mark-requires c κs = (omega (arith, c .before .before .loop-test .taken, c .before .before .before .before .pre .0), c .before .before .before .loop .inv .0)
 
 add-i : tie.Need-add-i Inv-loop μ-loop
 add-i c = omega arith
@@ -28,7 +28,7 @@ loop-again : tie.Need-loop-again Inv-loop μ-loop
 loop-again c = (c .mark .ensures .base, full-next _ (c .before .before .before .before .loop .inv .1) (c .mark .ensures))
 
 returns : tie.Need-returns Inv-loop μ-loop
-returns c = done-none (c .before .loop .inv .0) (full-all _ (c .loop-test .left) (c .before .loop .inv .1))
+returns c = done-none (c .before .loop .inv .0) (full-all _ _ (c .loop-test .left) (c .before .before .pre .1) (c .before .loop .inv .1))
 
 pub seed-spec : {M : Type 1} → statement M
 seed-spec =
