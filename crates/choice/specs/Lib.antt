@@ -8,6 +8,7 @@ pub mod Subject
 pub mod Parts
 pub mod Goals
 pub mod Links
+pub mod Collected
 pub mod All
 pub mod Known
 pub mod Sensitive

@@ -2,11 +2,12 @@
 // A.r1 ← B".
 use crate::done::better;
 use crate::members::child_for;
-use crate::members::with_frontier;
+use crate::members::with_members;
 use class::class_of;
 use closure::readers;
 use expression::Expression;
 use expression::Role;
+use frontier::reached;
 use graph::Edges;
 use graph::Node;
 use graph::Nodes;
@@ -18,20 +19,25 @@ use rt0::Pool;
 use rt0::body_at;
 use rules::rules_of;
 ghost use mathlib.Core.Path.{_≡_};
-ghost use mathlib.Core.Bool.{cond};
-ghost use Prim.Native.Nat.{_+_, _≤_, _<_};
+ghost use mathlib.Core.Bool.{true, cond};
+ghost use Prim.Native.Nat.{_≤_, _<_};
+ghost use lib.ListN.{length, replicate};
 ghost use Rattle.rt0.specs.Pool.{poolOf, credentials};
 ghost use Rattle.closure.specs.Rules.{rulesOf};
 ghost use Rattle.rules.specs.Table.{chosen};
 ghost use Rattle.rules.specs.Ruled.{Ruled};
 ghost use Rattle.relation.specs.Relation.{Relation};
 ghost use Rattle.tables.specs.Tables.{tablesOf};
+ghost use Rattle.propagation.specs.Flags.{flag};
 ghost use Rattle.graph.specs.Graph.{nodesOf, edgesOf};
 ghost use Rattle.moves.specs.declared.Choice.the-variants as C;
 ghost use Rattle.moves.specs.Own.{Prepared};
 ghost use Rattle.moves.specs.Stops.{Told};
 ghost use Rattle.moves.specs.Wanted.{isDone, firstNot};
-ghost use Rattle.choice.specs.All.{isFrom, oppoOf, Widened, Best-to, allEdges};
+ghost use Rattle.choice.specs.Offers.{folded};
+ghost use Rattle.choice.specs.Skipped.{Skipped};
+ghost use Rattle.choice.specs.Collected.{Added, Grown, Collected};
+ghost use Rattle.choice.specs.All.{isFrom, offerRole, offerRoles, Together, allEdges};
 
 const IMPLICATION: u8 = 1;
 
@@ -177,53 +183,45 @@ fn members(pool: Pool, a: Role) -> [u8; 128]
     )
 }
 
-// The best of what is chosen and the edges to the frontier of a role.
-fn with_role(own: Own, nodes: Nodes, edges: Edges, i: u8, n: Node, e: Role, best: Choice) -> Choice
-    requires { ⌜ Prepared own × (nodes .count ≤ 128) × (edges .count ≤ 256) ⌝ }
-    ensures { λ c. ⌜ Widened (isDone (nodesOf nodes) (edgesOf edges) i) (oppoOf (own .house)) (own .house .issuer) (own .oppo) n e best c ⌝ }
+// The next flagged credential from an index on, or m.
+fn next_flagged(m: usize, flags: &[u8; 128], from: usize) -> usize
+    requires { ⌜ (m ≤ 128) × (from ≤ m) ⌝ }
+    ensures { λ r. ⌜ Skipped (flag (now (flags .entry))) from m r × (r < m → flag (now (flags .entry)) r ≡ true) ⌝ }
 {
-    let house = own.house;
-    let names = house.names;
-    let pool = house.issuer;
-    if class_of(names.count, &names.name, &names.class, e.name) == SUBJECT_ALL {
-        let w = child_for(IMPLICATION, n, Expression::Role(e), n.subject);
-        return better(nodes, edges, i, best, w);
+    let mut k = from;
+    while k < m {
+        if flags[k] == 1 {
+            return k;
+        }
+        k += 1;
     }
-    let on = [1u8; 128];
-    with_frontier(pool, &on, &own.oppo, nodes, edges, i, n, true, e, best)
+    k
 }
 
-// The best of what is chosen and the edges for credential k, if its body is a member.
-fn with_one(
-    own: Own,
-    found: &[u8; 128],
+// The best of what is chosen and the edge to the role B.r, if x is an entity B.
+fn with_role(
     nodes: Nodes,
     edges: Edges,
     i: u8,
     n: Node,
     r: u16,
     best: Choice,
-    k: usize,
+    x: Expression,
 ) -> Choice
-    requires { ⌜ Prepared own × (nodes .count ≤ 128) × (edges .count ≤ 256) × (k < 128) × Best-to (isDone (nodesOf nodes) (edgesOf edges) i) (oppoOf (own .house)) (own .house .issuer) (now found) n r k best ⌝ }
-    ensures { λ c. ⌜ Best-to (isDone (nodesOf nodes) (edgesOf edges) i) (oppoOf (own .house)) (own .house .issuer) (now (found .entry)) n r (k + 1) c ⌝ }
+    requires { ⌜ (nodes .count ≤ 128) × (edges .count ≤ 256) ⌝ }
+    ensures { λ c. ⌜ c ≡ offerRole (isDone (nodesOf nodes) (edgesOf edges) i) n r best x ⌝ }
 {
-    if found[k] != 1 {
-        return best;
-    }
-    let house = own.house;
-    let pool = house.issuer;
-    let x = body_at(pool.count, &pool.heads, &pool.kinds, &pool.numbers, k);
     match x {
-        Expression::Entity(b) => with_role(
-            own,
-            nodes,
-            edges,
-            i,
-            n,
-            Role { entity: b, name: r },
-            best,
-        ),
+        Expression::Entity(b) => {
+            let e = Expression::Role(Role { entity: b, name: r });
+            better(
+                nodes,
+                edges,
+                i,
+                best,
+                child_for(IMPLICATION, n, e, n.subject),
+            )
+        }
         Expression::Role(_) => best,
         Expression::Linked(_, _) => best,
         Expression::Intersection(_) => best,
@@ -231,29 +229,129 @@ fn with_one(
     }
 }
 
-// The best of the edges for all members.
-fn with_all(
-    own: Own,
-    found: &[u8; 128],
+// The best of the edges to the roles B.r of all members.
+fn with_roles<'a>(
+    m: usize,
+    heads: &'a [u16; 256],
+    kinds: &'a [u8; 256],
+    numbers: &'a [u16; 1024],
+    flags: &'a [u8; 128],
     nodes: Nodes,
     edges: Edges,
     i: u8,
     n: Node,
     r: u16,
 ) -> Choice
-    requires { ⌜ Prepared own × (nodes .count ≤ 128) × (edges .count ≤ 256) ⌝ }
-    ensures { λ c. ⌜ Best-to (isDone (nodesOf nodes) (edgesOf edges) i) (oppoOf (own .house)) (own .house .issuer) (now (found .entry)) n r (own .house .issuer .count) c ⌝ }
+    requires { ⌜ (m ≤ 128) × (nodes .count ≤ 128) × (edges .count ≤ 256) ⌝ }
+    ensures { λ c. ⌜ c ≡ folded m (offerRoles (isDone (nodesOf nodes) (edgesOf edges) i) (poolOf m (now (heads .entry)) (now (kinds .entry)) (now (numbers .entry))) (now (flags .entry)) n r) C.Nothing ⌝ }
 {
-    let house = own.house;
-    let pool = house.issuer;
-    let m = pool.count;
     let mut best = Choice::Nothing;
-    let mut k = 0;
+    let mut k = next_flagged(m, flags, 0);
     while k < m {
-        best = with_one(own, found, nodes, edges, i, n, r, best, k);
-        k += 1;
+        let x = body_at(m, heads, kinds, numbers, k);
+        best = with_role(nodes, edges, i, n, r, best, x);
+        k = next_flagged(m, flags, k + 1);
     }
     best
+}
+
+// The first m flags of one column are set in another too.
+fn add_flags<'a>(m: usize, all: &'a mut [u8; 128], found: &'a [u8; 128])
+    requires { ⌜ (m ≤ 128) × (length (now all) ≡ 128) ⌝ }
+    ensures { λ _. ⌜ Added m (now (all .entry)) (now (found .entry)) (now (all .exit)) ⌝ }
+{
+    let mut i = 0;
+    while i < m {
+        all[i] = flag_of((all[i] == 1) | (found[i] == 1));
+        i += 1;
+    }
+}
+
+// The credentials that are found from the role B.r are flagged, if x is an entity B.
+fn add_found<'a>(
+    m: usize,
+    heads: &'a [u16; 256],
+    kinds: &'a [u8; 256],
+    numbers: &'a [u16; 1024],
+    on: &'a [u8; 128],
+    stop: &'a [u8; 128],
+    all: &'a mut [u8; 128],
+    r: u16,
+    x: Expression,
+)
+    requires { ⌜ (m ≤ 128) × (length (now all) ≡ 128) ⌝ }
+    ensures { λ _. ⌜ Grown (poolOf m (now (heads .entry)) (now (kinds .entry)) (now (numbers .entry))) (now (on .entry)) (now (stop .entry)) r x (now (all .entry)) (now (all .exit)) ⌝ }
+{
+    match x {
+        Expression::Entity(b) => {
+            let e = Role { entity: b, name: r };
+            let found = reached(m, heads, kinds, numbers, on, stop, e);
+            add_flags(m, all, &found);
+        }
+        Expression::Role(_) => {}
+        Expression::Linked(_, _) => {}
+        Expression::Intersection(_) => {}
+        Expression::Goal(_) => {}
+    }
+}
+
+// The credentials that are found from the role B.r of any member.
+fn found_from_all<'a>(
+    m: usize,
+    heads: &'a [u16; 256],
+    kinds: &'a [u8; 256],
+    numbers: &'a [u16; 1024],
+    on: &'a [u8; 128],
+    stop: &'a [u8; 128],
+    flags: &'a [u8; 128],
+    r: u16,
+) -> [u8; 128]
+    requires { ⌜ m ≤ 128 ⌝ }
+    ensures { λ all. ⌜ Collected (poolOf m (now (heads .entry)) (now (kinds .entry)) (now (numbers .entry))) (now (on .entry)) (now (stop .entry)) (now (flags .entry)) r m all ⌝ }
+{
+    let mut all = [0u8; 128];
+    let mut k = next_flagged(m, flags, 0);
+    while k < m {
+        let x = body_at(m, heads, kinds, numbers, k);
+        add_found(m, heads, kinds, numbers, on, stop, &mut all, r, x);
+        k = next_flagged(m, flags, k + 1);
+    }
+    all
+}
+
+// The best of the edges to the frontiers of the roles B.r of all members.
+fn with_frontiers<'a>(
+    m: usize,
+    heads: &'a [u16; 256],
+    kinds: &'a [u8; 256],
+    numbers: &'a [u16; 1024],
+    stop: &'a [u8; 128],
+    flags: &'a [u8; 128],
+    nodes: Nodes,
+    edges: Edges,
+    i: u8,
+    n: Node,
+    r: u16,
+) -> Choice
+    requires { ⌜ (m ≤ 128) × (nodes .count ≤ 128) × (edges .count ≤ 256) ⌝ }
+    ensures { λ c. ⌜ Together (isDone (nodesOf nodes) (edgesOf edges) i) (poolOf m (now (heads .entry)) (now (kinds .entry)) (now (numbers .entry))) (replicate 128 1) (now (stop .entry)) (now (flags .entry)) n r c ⌝ }
+{
+    let on = [1u8; 128];
+    let all = found_from_all(m, heads, kinds, numbers, &on, stop, flags, r);
+    with_members(
+        m,
+        heads,
+        kinds,
+        numbers,
+        stop,
+        &all,
+        nodes,
+        edges,
+        i,
+        n,
+        true,
+        Choice::Nothing,
+    )
 }
 
 // The first edge in order that is not done.
@@ -262,6 +360,35 @@ pub fn all_edges(own: Own, nodes: Nodes, edges: Edges, i: u8, n: Node, a: Role, 
     ensures { λ c. ⌜ c ≡ firstNot (isDone (nodesOf nodes) (edgesOf edges) i) C.Nothing (allEdges (tablesOf (own .house)) n a r) ⌝ }
 {
     let house = own.house;
-    let found = members(house.issuer, a);
-    with_all(own, &found, nodes, edges, i, n, r)
+    let names = house.names;
+    let pool = house.issuer;
+    let m = pool.count;
+    let flags = members(pool, a);
+    if class_of(names.count, &names.name, &names.class, r) == SUBJECT_ALL {
+        return with_roles(
+            m,
+            &pool.heads,
+            &pool.kinds,
+            &pool.numbers,
+            &flags,
+            nodes,
+            edges,
+            i,
+            n,
+            r,
+        );
+    }
+    with_frontiers(
+        m,
+        &pool.heads,
+        &pool.kinds,
+        &pool.numbers,
+        &own.oppo,
+        &flags,
+        nodes,
+        edges,
+        i,
+        n,
+        r,
+    )
 }

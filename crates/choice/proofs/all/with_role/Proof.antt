@@ -1,4 +1,5 @@
-use Rattle.choice.specs.All.{issuer-few, widened-once, widened-past}
+use Rattle.choice.specs.All.{offer-entity, offer-other}
+use mathlib.Core.Path.{refl}
 use borrow.Author.Needs.{needs}
 use Rattle.choice.proofs.all.with_role.Statement.{statement}
 use Rattle.choice.proofs.all.with_role.Tie as tie
@@ -6,11 +7,9 @@ use Rattle.choice.proofs.all.with_role.Reads as reads
 use Rattle.choice.proofs.all.with_role.Lts as lts
 use Rattle.choice.proofs.done.better.Reads as better-reads
 use Rattle.choice.proofs.members.child_for.Reads as child-for-reads
-use Rattle.choice.proofs.members.with_frontier.Reads as with-frontier-reads
-use Rattle.class.proofs.class_of.Reads as class-of-reads
 
-class-of-requires : tie.Need-class-of-requires
-class-of-requires c κs = (c .before .before .before .before .before .before .pre .0 .housed .names, c .before .before .before .before .before .before .pre .0 .housed .ascending)
+enum-known-x : tie.Need-enum-known-x
+enum-known-x c = search needs
 
 child-for-requires : tie.Need-child-for-requires
 child-for-requires c κs = search needs
@@ -18,22 +17,46 @@ child-for-requires c κs = search needs
 better-requires : tie.Need-better-requires
 better-requires c κs = search needs
 
-returns : tie.Need-returns
-returns c = widened-once _ (c .before .before .before .before .before .before .before .before .before .before .args .t1 .house) _ _ _ (c .before .before .before .class-of .ensures) (c .before .before .if1 .taken) (c .before .child-for .ensures) (c .better .ensures)
+enum-told : tie.Need-enum-told
+enum-told c = search needs
 
-with-frontier-requires : tie.Need-with-frontier-requires
-with-frontier-requires c κs = (issuer-few _ (c .before .before .before .before .before .before .before .before .before .before .before .pre .0), c .before .before .before .before .before .before .before .before .before .before .before .pre .1, c .before .before .before .before .before .before .before .before .before .before .before .pre .2)
+enum-told-2 : tie.Need-enum-told-2
+enum-told-2 c = search needs
+
+enum-told-3 : tie.Need-enum-told-3
+enum-told-3 c = search needs
+
+enum-told-4 : tie.Need-enum-told-4
+enum-told-4 c = search needs
+
+returns : tie.Need-returns
+returns c = offer-entity _ _ _ _ (c .before .before .before .x .given .1) (c .before .child-for .ensures) (c .better .ensures)
 
 returns-2 : tie.Need-returns-2
-returns-2 c = widened-past _ (c .before .before .before .before .before .before .before .before .before .before .before .before .args .t1 .house) _ _ _ (c .before .before .before .before .before .class-of .ensures) (c .before .before .before .before .if1 .left) (c .with-frontier .ensures)
+returns-2 c = offer-other _ _ _ _ (c .enum-told .given .1) refl
+
+returns-3 : tie.Need-returns-3
+returns-3 c = offer-other _ _ _ _ (c .enum-told2 .given .1) refl
+
+returns-4 : tie.Need-returns-4
+returns-4 c = offer-other _ _ _ _ (c .enum-told3 .given .1) refl
+
+returns-5 : tie.Need-returns-5
+returns-5 c = offer-other _ _ _ _ (c .enum-told4 .given .1) refl
 
 pub with-role-spec : {M : Type 1} → statement M
 with-role-spec =
     tie.close
     (tie.spec
-    class-of-requires
+    enum-known-x
     child-for-requires
     better-requires
+    enum-told
+    enum-told-2
+    enum-told-3
+    enum-told-4
     returns
-    with-frontier-requires
-    returns-2)
+    returns-2
+    returns-3
+    returns-4
+    returns-5)
