@@ -8,7 +8,7 @@ use mathlib.Core.List.{List, [], _∷_, List·Memᴰ}
 use Rattle.expression.specs.declared.Role.{Role}
 use Rattle.expression.specs.declared.Credential.{Credential}
 use Rattle.expression.specs.Same.{sameRole, sameRole-eq, eq-sameRole}
-use Rattle.rt0.specs.Lists.{any, any-find, any-here, and-parts, and-both, false-true}
+use Rattle.rt0.specs.Lists.{any, any-find, any-here, and-parts, and-both, false-true, or-neither}
 use Rattle.record.specs.declared.Pair.{Pair}
 use Rattle.tables.specs.Tables.{Tables}
 use Rattle.tables.specs.Lookup.{holds, isSensitive, otherOf}
@@ -140,15 +140,11 @@ known-one true x y h = go (sameHolding x y) refl h
     go true e h = ap Seen (same-holding-eq x y e)
     go false e h = absurd (false-true (sym h))
 
-or-none : (a b : Bool) → (a || b) ≡ false → (a ≡ false) × (b ≡ false)
-or-none true b h = absurd (false-true (sym h))
-or-none false b h = (refl, h)
-
 known-among : (H K : Hidden) (S : State) (P : List Pair) → openAmong H K S P ≡ false → knownOf H P S ≡ knownOf K P S
 unfolding knownOf
 known-among H K S [] h = refl
 known-among H K S (p ∷ ps) h =
-    let q = or-none (differing H K p && isAcknowledged S (p .other)) (openAmong H K S ps) h in
+    let q = or-neither (differing H K p && isAcknowledged S (p .other)) (openAmong H K S ps) h in
     let e = known-one (isAcknowledged S (p .other)) (holdingOf H (p .role)) (holdingOf K (p .role)) (q .0) in
     let es : knownOf H ps S ≡ knownOf K ps S = known-among H K S ps (q .1) in
     λ i. record { role = p .role; ack = p .other; known = e i } ∷ es i

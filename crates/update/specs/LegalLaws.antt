@@ -8,7 +8,7 @@ use borrow.Author.Tests.{eq-eqb, ne-eqb, eqb-true, eqb-false, le-leb, lt-leb, le
 use lib.Dec.{eqb, leb}
 use lib.ListN.{length}
 use Rattle.expression.specs.Laws.{and-left, and-right}
-use Rattle.rt0.specs.Lists.{false-true}
+use Rattle.rt0.specs.Lists.{false-true, or-neither}
 use Rattle.rt0.specs.Pool.{credentials}
 use Rattle.rt0.specs.Added.{count-length}
 use Rattle.class.specs.declared.Name.{Name}
@@ -53,11 +53,7 @@ first-none k rest h = go (eqb k 0) refl h
     go true e g = (eqb-true k 0 e, g)
     go false e g = absurd (eqb-false k 0 e g)
 
-pub or-false : (a b : Bool) → (a || b) ≡ false → (a ≡ false) × (b ≡ false)
-or-false true b h = absurd (false-true (sym h))
-or-false false b h = (refl, h)
-
-module _ (n : Negotiation) where
+pub module _ (n : Negotiation) where
   pub fresh-yes : n .nodes .count ≡ 0 → isFresh (stateOf n) ≡ true
   unfolding isFresh stateOf
   fresh-yes h = eq-eqb (length (nodesOf (n .nodes))) 0 (nodes-length (n .nodes) ∙ h)
