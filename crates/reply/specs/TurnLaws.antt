@@ -29,9 +29,9 @@ use Rattle.message.specs.declared.Command.{Command}
 use Rattle.negotiation.specs.declared.Header.{Header}
 use Rattle.negotiation.specs.declared.Negotiation.{Negotiation}
 use Rattle.negotiation.specs.State.{State, stateOf}
+use Rattle.negotiation.specs.Within.{within-few}
 use Rattle.damage.specs.Header.{requester}
 use Rattle.damage.specs.Records.{primarySound}
-use Rattle.update.specs.LegalLaws.{within-few}
 use Rattle.update.specs.Kept.{record-parts}
 use Rattle.take.specs.Message.{bytesOf}
 use Rattle.moves.specs.declared.Choice.{Choice}

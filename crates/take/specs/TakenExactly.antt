@@ -26,7 +26,8 @@ use Rattle.update.specs.Update.{Legal}
 use Rattle.update.specs.UpdateExact.{legal-exactly}
 use Rattle.take.specs.Commands as C
 use Rattle.take.specs.Take.{sends, Outcome, refused, accepted, behindCommands, senderTo, takenIn, behindStanding, messageSize, takeOf}
-use Rattle.take.specs.Message.{messageBytes, Updates, none, next, moved, Carries, Stands, InTurn, Accepted}
+use Rattle.take.specs.Message.{messageBytes, Updates, none, next, moved, Carries}
+use Rattle.take.specs.Call.{Stands, InTurn, Accepted}
 
 -- what an answer is
 abbrev isTaken : C.Taken → Bool

@@ -117,17 +117,5 @@ module _ (k : ℕ) (i m : Bool) where
 
 -- One of the commands
 
--- the counts within the sizes
-pub within-few : (n : Negotiation) → within (stateOf n) ≡ true → (n .nodes .count ≤ 128) × (n .edges .count ≤ 256) × (n .shown .count ≤ 64)
-unfolding within stateOf
-within-few n h =
-    let a : Bool = leb (length (nodesOf (n .nodes))) 128 in
-    let b : Bool = leb (length (edgesOf (n .edges))) 256 in
-    let d : Bool = leb (length (credentials (n .shown))) 64 in (
-      omega (arith, nodes-length (n .nodes), leb-true (length (nodesOf (n .nodes))) 128 (and-left a b (and-left (a && b) d h))),
-      omega (arith, edges-length (n .edges), leb-true (length (edgesOf (n .edges))) 256 (and-right a b (and-left (a && b) d h))),
-      omega (arith, count-length (n .shown), leb-true (length (credentials (n .shown))) 64 (and-right (a && b) d h)),
-    )
-
 pub legal-for : (ns : List Name) (s : ℕ) (S : State) (c k : Command) (j : Bool) {r : ℕ} → c ≡ k → r ≡ legalBy ns s S k j → r ≡ legalBy ns s S c j
 legal-for ns s S c k j h e = e ∙ ap (λ (d : Command). legalBy ns s S d j) (sym h)

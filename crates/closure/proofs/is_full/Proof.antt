@@ -1,5 +1,5 @@
 use borrow.Author.Tests.{eqb-true}
-use Rattle.word.specs.Bit.{false-true}
+use Rattle.word.specs.Bools.{false-true}
 use borrow.Author.Needs.{needs}
 use Rattle.closure.proofs.is_full.Statement.{statement}
 use Rattle.closure.proofs.is_full.Tie as tie
