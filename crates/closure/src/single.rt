@@ -1,6 +1,6 @@
 // Rules whose bits are all in the first word of a row.
-use crate::held;
-use crate::meet;
+use crate::rounds::held;
+use crate::rounds::meet;
 use crate::narrow::filled;
 use crate::narrow::gathered;
 ghost use mathlib.Core.Path.{_≡_};
