@@ -9,17 +9,17 @@ ghost use Prim.Native.Nat.{_<_};
 ghost use lib.ListN.{length};
 ghost use Rattle.closure.specs.Rules.{rulesOf, bits, Fits, Grown, Closed, Marked};
 
-mod dirty;
 mod linked_rules;
+mod looks;
 mod narrow;
 mod plain_rules;
 mod rounds;
 mod single;
 
-pub use dirty::awake;
-pub use dirty::readers;
-pub use dirty::woken;
 use linked_rules::drain_links;
+pub use looks::awake;
+pub use looks::readers;
+pub use looks::woken;
 use narrow::drain_narrow;
 use plain_rules::drain_plain;
 use rounds::pass;

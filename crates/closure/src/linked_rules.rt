@@ -2,9 +2,9 @@
 use crate::Dirty;
 use crate::Work;
 use crate::bit;
-use crate::dirty::also;
-use crate::dirty::least;
-use crate::dirty::rest;
+use crate::looks::also;
+use crate::looks::least;
+use crate::looks::rest;
 use crate::mark;
 use crate::rounds::rule;
 use word::one;

@@ -1,10 +1,10 @@
 // A worklist for rules that name no rows.
-use crate::single::meets;
 use crate::Dirty;
 use crate::Rules;
-use crate::dirty::least;
-use crate::dirty::rest;
+use crate::looks::least;
+use crate::looks::rest;
 use crate::rounds::rule;
+use crate::single::meets;
 ghost use mathlib.Core.Path.{_≡_};
 ghost use Prim.Native.Nat.{_<_};
 ghost use lib.ListN.{length};

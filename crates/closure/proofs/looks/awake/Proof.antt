@@ -1,7 +1,7 @@
 use Prim.Native.Nat.{_-_, _≤_}
 use native.Mathlib.Omega.{arith}
-use Rattle.closure.proofs.dirty.awake.Statement.{statement}
-use Rattle.closure.proofs.dirty.awake.Tie as tie
+use Rattle.closure.proofs.looks.awake.Statement.{statement}
+use Rattle.closure.proofs.looks.awake.Tie as tie
 
 abbrev Inv-loop : tie.InvT-loop
 Inv-loop deps rows lo₀ hi₀ r₀ lo hi r = r ≤ 128

@@ -2,8 +2,8 @@ use mathlib.Core.Path.{_≡_, sym, _∙_, ap}
 use lib.ListN.{length}
 use Rattle.word.specs.Bit.{without, without-less}
 use native.Mathlib.Omega.{arith}
-use Rattle.closure.proofs.dirty.read_word.Statement.{statement}
-use Rattle.closure.proofs.dirty.read_word.Tie as tie
+use Rattle.closure.proofs.looks.read_word.Statement.{statement}
+use Rattle.closure.proofs.looks.read_word.Tie as tie
 
 abbrev Inv-loop : tie.InvT-loop
 Inv-loop named base i few rows₀ m₀ rows m = length rows ≡ 260

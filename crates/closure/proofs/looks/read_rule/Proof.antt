@@ -2,8 +2,8 @@ use Prim.Native.Nat.{_-_}
 use lib.ListN.{length}
 use mathlib.Core.Path.{_≡_}
 use native.Mathlib.Omega.{arith}
-use Rattle.closure.proofs.dirty.read_rule.Statement.{statement}
-use Rattle.closure.proofs.dirty.read_rule.Tie as tie
+use Rattle.closure.proofs.looks.read_rule.Statement.{statement}
+use Rattle.closure.proofs.looks.read_rule.Tie as tie
 
 abbrev Inv-loop : tie.InvT-loop
 Inv-loop part first named i few rows₀ k₀ rows k = length rows ≡ 260

@@ -3,8 +3,8 @@ use Prim.Native.Nat.{_-_}
 use lib.ListN.{length}
 use mathlib.Core.Path.{_≡_}
 use native.Mathlib.Omega.{arith}
-use Rattle.closure.proofs.dirty.readers.Statement.{statement}
-use Rattle.closure.proofs.dirty.readers.Tie as tie
+use Rattle.closure.proofs.looks.readers.Statement.{statement}
+use Rattle.closure.proofs.looks.readers.Tie as tie
 
 abbrev Inv-loop : tie.InvT-loop
 Inv-loop n part first named few d₀ i₀ d i = length d ≡ 260
