@@ -27,7 +27,7 @@ use Rattle.states.specs.Complete.{Settled}
 use Rattle.justification.specs.Justified.{Says}
 use Rattle.negotiation.specs.declared.Negotiation.{Negotiation}
 use Rattle.negotiation.specs.State.{stateOf, within}
-use Rattle.update.specs.LegalLaws.{within-few}
+use Rattle.negotiation.specs.Within.{within-few}
 use Rattle.moves.specs.declared.Own.{Own}
 use Rattle.moves.specs.declared.Wanted.{Wanted}
 use Rattle.moves.specs.declared.Choice.{Choice}

@@ -11,7 +11,8 @@ use lib.Dec.{eqb, ltb}
 use lib.Bits.{bitAnd, bitOr}
 use lib.ListN.{length, set, length-set, List·getD-eq-default}
 use lib.Seq.{getD-set-same, getD-set-other}
-use Rattle.word.specs.Bit.{bitAt, only, bit-or, bit-and, bit-zero, bit-only, without, without-sub, without-gone, or-more, false-true}
+use Rattle.word.specs.Bit.{bitAt, only, bit-or, bit-and, bit-zero, bit-only, without, without-sub, without-gone, or-more}
+use Rattle.word.specs.Bools.{false-true, or-neither}
 use Rattle.closure.specs.declared.Rules.{Rules}
 use Rattle.closure.specs.Rules.{el, bits, Fits, Takes, memOf, memRows, Used, Model, Within, Grown, Closed, Marked}
 use Rattle.closure.specs.Words.{InWord, LinksOf, meetOf, WordOf, room, Quiet, TurnOf, RuleOf, PassOf, Poured, HeldOf, FullOf, level, FilledOf, RestsOf, StillOf}
@@ -337,10 +338,6 @@ module _ (X : Rules) (own : Bool) (M : List ℕ) (i h : ℕ) (K : List ℕ) (w :
 
 -- One rule, word by word
 
-or-false : (a b : Bool) → (a || b) ≡ false → (a ≡ false) × (b ≡ false)
-or-false true b q = absurd (true-false q)
-or-false false b q = (refl, q)
-
 module _ (X : Rules) (on : List ℕ) (own : Bool) (M : List ℕ) where
   pub grow-start : (K : List ℕ) → length K ≡ 260 → Grown X on own M K K
   grow-start K h = record { sized = h; kept = record { within = λ r s q. q }; least = λ G m k. k }
@@ -365,8 +362,8 @@ module _ (X : Rules) (on : List ℕ) (own : Bool) (M : List ℕ) where
         upto = omega arith;
         grown = grow-more (inv .grown) (record { sized = turn .sized; kept = turn .kept; least = λ G m k. turn .least G (m .rule i l o) k });
         fewer = few r t (inv .fewer) (turn .fewer);
-        same = λ q. let z = or-false r t q in inv .same (z .0) ∙ turn .same (z .1);
-        still = λ q g k. (let z = or-false r t q in go g k (z .0) (z .1) (eqb g h) refl);
+        same = λ q. let z = or-neither r t q in inv .same (z .0) ∙ turn .same (z .1);
+        still = λ q g k. (let z = or-neither r t q in go g k (z .0) (z .1) (eqb g h) refl);
       }
     where
       few : (r t : Bool) → room K + cond r 1 0 ≤ room K₀ → room K′ + cond t 1 0 ≤ room K → room K′ + cond (r || t) 1 0 ≤ room K₀

@@ -1,6 +1,6 @@
 // A worklist for rules whose rows and bits are all below 64. It makes no promise but soundness.
-use crate::links;
-use crate::rule;
+use crate::rounds::links;
+use crate::rounds::rule;
 use word::lowest;
 use word::one;
 use word::others;

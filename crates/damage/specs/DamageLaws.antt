@@ -36,6 +36,7 @@ use Rattle.tables.specs.Tables.{Tables, tablesOf}
 use Rattle.negotiation.specs.declared.Header.{Header}
 use Rattle.negotiation.specs.declared.Negotiation.{Negotiation}
 use Rattle.negotiation.specs.State.{State, stateOf as stateHeld, within}
+use Rattle.negotiation.specs.Within.{within-few}
 use Rattle.damage.specs.Header.{headerSound, emptySound, countSound, endSound, entityOf}
 use Rattle.damage.specs.Records.{nodeSound, nodeFits, primarySound, credentialFits}
 use Rattle.damage.specs.Edges.{brought, broughtFrom, nextBrought, placed, formed, edgeFits, allBrought}
@@ -200,13 +201,6 @@ module _ (T : Tables) (S : State) where
 
 -- a negotiation as it is held, by the tables of a house
 module _ (H : House) (G : Negotiation) where
-  pub within-counts : within (stateHeld G) ≡ true → (G .nodes .count ≤ 128) × (G .edges .count ≤ 256) × (G .shown .count ≤ 64)
-  unfolding within stateHeld credentials
-  within-counts h =
-      let p = and-parts (leb (length (nodesOf (G .nodes))) 128 && leb (length (edgesOf (G .edges))) 256) _ h in
-      let q = and-parts (leb (length (nodesOf (G .nodes))) 128) (leb (length (edgesOf (G .edges))) 256) (p .0) in
-      (omega (arith, nodes-length (G .nodes), leb-true (length (nodesOf (G .nodes))) 128 (q .0)), omega (arith, edges-length (G .edges), leb-true (length (edgesOf (G .edges))) 256 (q .1)), omega (arith, length-upTo (G .shown .count) (credentialAt (G .shown)), leb-true (length (credentials (G .shown))) 64 (p .1)))
-
   module _ {a : Bool} (ae : a ≡ headerSound (H .own) (namesOf (H .names)) (G .header)) where
     pub sound-header : not a ≡ true → false ≡ sound (tablesOf H) (stateHeld G)
     unfolding tablesOf stateHeld
@@ -253,7 +247,7 @@ module _ (H : House) (G : Negotiation) (w : within (stateHeld G) ≡ true) (h : 
       sound-legal (namesOf (H .names)) (nodeAt (G .nodes) i) (fits-sound (namesOf (H .names)) _ (nodeAt (G .nodes) i) (turn-each (nodeFits (namesOf (H .names))) (nodeAt (G .nodes)) (G .nodes .count) f i l))
 
   pub held-nodes : NodesFormed (nodesOf (G .nodes))
-  held-nodes = records-formed (namesOf (H .names)) (G .nodes) _ (within-counts H G w .0) refl (sym (graph-parts _ _ held-graph .1)) refl
+  held-nodes = records-formed (namesOf (H .names)) (G .nodes) _ (within-few G w .0) refl (sym (graph-parts _ _ held-graph .1)) refl
 
   pub held-edges : EdgesFormed (nodesOf (G .nodes)) (edgesOf (G .edges))
   held-edges = edges-formed (G .header) (G .nodes) (G .edges) some (brought-fit (G .header) (G .nodes) (G .edges) (sym (graph-parts _ _ held-graph .2)) refl)

@@ -14,6 +14,7 @@ use Rattle.expression.specs.declared.Credential.{Credential}
 use Rattle.expression.specs.declared.Expression.{Expression}
 use Rattle.expression.specs.declared.Expression.the-variants as E
 use Rattle.expression.specs.Same.{same, same-eq, eq-same}
+use Rattle.expression.specs.Kinds.{isRoleExpression}
 use Rattle.rt0.specs.Lists.{false-true, or-cases, and-parts, and-both, any, any-find, any-here}
 use Rattle.rt0.specs.From.{roleOf, rolesOf, From, reflexive, transitive, linking, intersection as intersection-from}
 use Rattle.rt0.specs.Laws.{from-exact}
@@ -34,7 +35,7 @@ use Rattle.tables.specs.Tables.{Tables}
 use Rattle.negotiation.specs.declared.Header.{Header}
 use Rattle.negotiation.specs.State.{State}
 use Rattle.damage.specs.Header.{headerSound, emptySound, countSound, endSound, requester, entityOf}
-use Rattle.damage.specs.Records.{nodeSound, nodeFits, isRoleTarget, primarySound}
+use Rattle.damage.specs.Records.{nodeSound, nodeFits, primarySound}
 use Rattle.damage.specs.Edges.{nextBrought, broughtFrom, brought, placed, formed, edgeFits, allBrought}
 use Rattle.damage.specs.Damage.{recordsSound, edgesJustified, graphSound, sound}
 
@@ -262,10 +263,10 @@ module _ (C : List Credential) (ns : List Node) where
 -- The graph of a sound negotiation
 
 -- the primary is a role
-primary-role : (h : Header) (n : Node) → primarySound h n ≡ true → isRoleTarget (n .expression) ≡ true
+primary-role : (h : Header) (n : Node) → primarySound h n ≡ true → isRoleExpression (n .expression) ≡ true
 unfolding primarySound
 primary-role h n k =
-    ⊎-elim (λ a. ap isRoleTarget (same-eq (n .expression) (E.Role (h .wanted)) (a .1))) (λ a. a .1)
+    ⊎-elim (λ a. ap isRoleExpression (same-eq (n .expression) (E.Role (h .wanted)) (a .1))) (λ a. a .1)
     (cond-cases (eqb (h .side) 0) (and-parts (eqb (n .verifier) 0 && eqb (n .subject) (requester h)) _ k .1))
 
 -- and its subject the requester
@@ -350,7 +351,7 @@ module _ (names : List Name) (S : State) (h : graphSound names S ≡ true) where
         own = λ i a e.
             let l : i < length (S .nodes) = satisfied-inside {ns = S .nodes} {es = []} (trivial e) in
             let n : broughtFrom 1 (S .edges) ≡ length (S .nodes) = eqb-true (brought (S .edges)) (length (S .nodes)) (and-parts (inTurn (edgeFits (S .header) (S .nodes)) [] (S .edges)) _ (parts .1) .1) in
-            ⊎-elim (λ k. let z : i ≡ 0 = omega arith in absurd (false-true (sym (ap isRoleTarget (sym (ap (λ (j : ℕ). nodeIn (S .nodes) j .expression) z) ∙ e)) ∙ primary-role (S .header) (nodeIn (S .nodes) 0) (records .1))))
+            ⊎-elim (λ k. let z : i ≡ 0 = omega arith in absurd (false-true (sym (ap isRoleExpression (sym (ap (λ (j : ℕ). nodeIn (S .nodes) j .expression) z) ∙ e)) ∙ primary-role (S .header) (nodeIn (S .nodes) 0) (records .1))))
             (λ r. let f = has-form (r .0) (r .1) in form-entity a (r .0 .kind) (f .0) (nodeIn (S .nodes) (r .0 .parent)) (nodeIn (S .nodes) i) e (ap (λ (j : ℕ). form (r .0 .kind) (f .0) (nodeIn (S .nodes) (r .0 .parent)) (nodeIn (S .nodes) j)) (sym (r .2)) ∙ f .1))
             (brought-by 1 (S .edges) i (omega arith));
       }
@@ -361,7 +362,7 @@ module _ (names : List Name) (S : State) (h : graphSound names S ≡ true) where
 
   end-satisfied : S .header .end ≡ 1 → Satisfied (S .nodes) (S .edges) 0
   end-satisfied e =
-      ⊎-elim (λ s. s) (λ c. absurd (false-true (sym (ap isRoleTarget (c .goal)) ∙ primary-role (S .header) (nodeIn (S .nodes) 0) (records .1))))
+      ⊎-elim (λ s. s) (λ c. absurd (false-true (sym (ap isRoleExpression (c .goal)) ∙ primary-role (S .header) (nodeIn (S .nodes) 0) (records .1))))
       (state-one (S .nodes) (S .edges) 0 .0 (end-one (stateOf (S .nodes) (S .edges) 0) (S .header .end) (S .header .idle) e (parts .3)))
 
 -- The negotiation

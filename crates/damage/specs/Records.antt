@@ -10,6 +10,7 @@ use Rattle.expression.specs.declared.Expression.the-variants as E
 use Rattle.expression.specs.Form.{wellFormed}
 use Rattle.expression.specs.Same.{same}
 use Rattle.expression.specs.Credential.{wellFormedCredential}
+use Rattle.expression.specs.Kinds.{isRoleExpression}
 use Rattle.rt0.specs.Lists.{any}
 use Rattle.class.specs.declared.Name.{Name}
 use Rattle.class.specs.declared.Typing.{Typing}
@@ -37,19 +38,11 @@ nodeSound ns n = wellFormed (n .expression) && ltb 0 (n .subject) && ltb (n .ver
 unfoldable pub nodeFits : List Name → List Node → Node → Bool
 nodeFits ns before n = nodeSound ns n && not (any (isNode (n .expression) (n .verifier) (n .subject)) before)
 
--- a role
-abbrev pub isRoleTarget : Expression → Bool
-isRoleTarget (E.Entity a) = false
-isRoleTarget (E.Role a) = true
-isRoleTarget (E.Linked a r) = false
-isRoleTarget (E.Intersection p) = false
-isRoleTarget (E.Goal r) = false
-
 -- "The primary's verifier is the mediator, its subject the requester"; the mediator knows its role
 unfoldable pub primarySound : Header → Node → Bool
 primarySound h n =
     eqb (n .verifier) 0 && eqb (n .subject) (requester h)
-    && cond (eqb (h .side) 0) (same (n .expression) (E.Role (h .wanted))) (isRoleTarget (n .expression))
+    && cond (eqb (h .side) 0) (same (n .expression) (E.Role (h .wanted))) (isRoleExpression (n .expression))
 
 -- a credential by itself
 unfoldable pub credentialSound : List Name → Credential → Bool

@@ -15,6 +15,7 @@ use Rattle.expression.specs.declared.Expression.the-variants as E
 use Rattle.expression.specs.Form.{wellFormed}
 use Rattle.expression.specs.Same.{same, sameRole}
 use Rattle.expression.specs.Credential.{wellFormedCredential}
+use Rattle.expression.specs.Kinds.{isRoleExpression}
 use Rattle.rt0.specs.declared.Pool.{Pool}
 use Rattle.rt0.specs.Lists.{any, false-true, any-find, any-here}
 use Rattle.rt0.specs.Pool.{headAt, bodyAt, credentials, credentialAt}
@@ -33,7 +34,7 @@ use Rattle.graph.specs.Find.{isNode, findNode}
 use Rattle.graph.specs.FindExact.{find-cases}
 use Rattle.negotiation.specs.declared.Header.{Header}
 use Rattle.damage.specs.Header.{requester}
-use Rattle.damage.specs.Records.{isTyped, nodeSound, nodeFits, isRoleTarget, primarySound, credentialSound, isShown, credentialFits}
+use Rattle.damage.specs.Records.{isTyped, nodeSound, nodeFits, primarySound, credentialSound, isShown, credentialFits}
 
 -- Nodes
 
@@ -72,9 +73,9 @@ module _ (ns : List Name) (N M : Nodes) {i : ℕ} {X : Node} {a : Bool} (l : i <
 -- The primary
 
 module _ (h : Header) (n : Node) where
-  by-primary : (a b c d : Bool) → a ≡ eqb (n .verifier) 0 → b ≡ eqb (n .subject) (requester h) → c ≡ eqb (h .side) 0 → (a && b && cond c (same (n .expression) (E.Role (h .wanted))) (isRoleTarget (n .expression))) ≡ primarySound h n
+  by-primary : (a b c d : Bool) → a ≡ eqb (n .verifier) 0 → b ≡ eqb (n .subject) (requester h) → c ≡ eqb (h .side) 0 → (a && b && cond c (same (n .expression) (E.Role (h .wanted))) (isRoleExpression (n .expression))) ≡ primarySound h n
   unfolding primarySound
-  by-primary a b c d e f g = λ i. e i && f i && cond (g i) (same (n .expression) (E.Role (h .wanted))) (isRoleTarget (n .expression))
+  by-primary a b c d e f g = λ i. e i && f i && cond (g i) (same (n .expression) (E.Role (h .wanted))) (isRoleExpression (n .expression))
 
   neither : (a b : Bool) → (not a || not b) ≡ true → (z : Bool) → false ≡ (a && b && z)
   neither true true k z = absurd (false-true k)
@@ -94,7 +95,7 @@ module _ (h : Header) (n : Node) where
       pub primary-wanted : {b : Bool} → h .side ≡ 0 → b ≡ same (n .expression) (E.Role (h .wanted)) → b ≡ primarySound h n
       primary-wanted e f = let p = both (eqb (n .verifier) 0) (eqb (n .subject) q) k in f ∙ by-primary true true true true (sym (p .0)) (sym (p .1) ∙ ap (eqb (n .subject)) qe) (sym (eq-eqb (h .side) 0 e))
 
-      pub primary-role : {b : Bool} → (h .side ≡ 0 → ⊥) → b ≡ isRoleTarget (n .expression) → b ≡ primarySound h n
+      pub primary-role : {b : Bool} → (h .side ≡ 0 → ⊥) → b ≡ isRoleExpression (n .expression) → b ≡ primarySound h n
       primary-role e f = let p = both (eqb (n .verifier) 0) (eqb (n .subject) q) k in f ∙ by-primary true true false true (sym (p .0)) (sym (p .1) ∙ ap (eqb (n .subject)) qe) (sym (ne-eqb (h .side) 0 e))
 
 -- Credentials

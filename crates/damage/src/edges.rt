@@ -6,16 +6,11 @@ use graph::form;
 use graph::has_edge;
 use graph::node_at;
 use negotiation::Header;
+use word::wide;
 ghost use mathlib.Core.Path.{_≡_};
 ghost use Prim.Native.Nat.{_≤_, _<_};
 ghost use Rattle.graph.specs.Graph.{nodesFrom, edgesFrom, nodesOf, edgesOf, edgeAt};
 ghost use Rattle.damage.specs.Edges.{brought, placed as placedOf, formed as formedOf, edgeFits, allBrought};
-
-fn wide(x: u8) -> usize
-    ensures { λ r. ⌜ r ≡ x ⌝ }
-{
-    x as usize
-}
 
 // An edge behind which b of n nodes are brought.
 fn placed(n: usize, b: usize, e: Edge) -> bool

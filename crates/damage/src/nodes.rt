@@ -4,6 +4,7 @@ use crate::header::requester;
 use class::Typing;
 use class::type_of;
 use expression::Expression;
+use expression::is_role_expression;
 use expression::same;
 use expression::well_formed;
 use graph::Node;
@@ -17,7 +18,7 @@ ghost use Prim.Native.Nat.{_≤_, _<_};
 ghost use Rattle.class.specs.Names.{namesFrom, namesOf, Ascending};
 ghost use Rattle.graph.specs.Graph.{nodesFrom, nodesOf, nodeAt};
 ghost use Rattle.justification.specs.InTurn.{inTurn};
-ghost use Rattle.damage.specs.Records.{isTyped, nodeSound, nodeFits, isRoleTarget, primarySound};
+ghost use Rattle.damage.specs.Records.{isTyped, nodeSound, nodeFits, primarySound};
 
 // What find_node answers where there is none.
 const ABSENT: usize = 128;
@@ -165,18 +166,6 @@ pub fn nodes_fit<'a>(
     true
 }
 
-fn is_role_target(e: Expression) -> bool
-    ensures { λ b. ⌜ b ≡ isRoleTarget e ⌝ }
-{
-    match e {
-        Expression::Entity(_) => false,
-        Expression::Role(_) => true,
-        Expression::Linked(_, _) => false,
-        Expression::Intersection(_) => false,
-        Expression::Goal(_) => false,
-    }
-}
-
 // The primary.
 pub fn primary_sound(h: Header, x: Node) -> bool
     ensures { λ b. ⌜ b ≡ primarySound h x ⌝ }
@@ -189,5 +178,5 @@ pub fn primary_sound(h: Header, x: Node) -> bool
     if h.side == MEDIATOR {
         return same(e, Expression::Role(wanted));
     }
-    is_role_target(e)
+    is_role_expression(e)
 }

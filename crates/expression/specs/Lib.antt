@@ -1,5 +1,6 @@
 pub mod Bytes
 pub mod Form
+pub mod Kinds
 pub mod Laws
 pub mod Codec
 pub mod Same

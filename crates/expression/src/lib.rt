@@ -1,4 +1,4 @@
-// Expressions of RT0, their 18 bytes and their equality. Credentials and the order by bytes are in modules of their own.
+// Expressions of RT0, their 18 bytes and their equality. Credentials, the kinds and the order by bytes are in modules of their own.
 ghost use mathlib.Core.Path.{_≡_};
 ghost use Prim.Native.Nat.{_+_, _≤_, _<_};
 ghost use lib.ListN.{length};
@@ -7,6 +7,7 @@ ghost use Rattle.expression.specs.Form.{candidateOf, plainRaw, rawOf, we
 ghost use Rattle.expression.specs.Same.{sameRole, same as sameExpression};
 
 mod credentials;
+mod kinds;
 mod order;
 
 pub use credentials::is_body;
@@ -14,6 +15,8 @@ pub use credentials::read_credential;
 pub use credentials::role_bytes;
 pub use credentials::well_formed_credential;
 pub use credentials::write_credential;
+pub use kinds::is_entity;
+pub use kinds::is_role_expression;
 pub use order::before;
 pub use order::before_credential;
 

@@ -6,18 +6,13 @@
 use expression::Expression;
 use expression::Role;
 use rt0::body_at;
+use word::wide;
 ghost use mathlib.Core.Path.{_≡_};
 ghost use Prim.Native.Nat.{_<_, _≤_};
 ghost use Rattle.expression.specs.declared.Expression.the-variants as E;
 ghost use Rattle.rt0.specs.Pool.{poolOf};
 ghost use Rattle.frontier.specs.Frontier.{Reaches};
 ghost use Rattle.frontier.specs.Queue.{isNext as isNextOf, work, Queue, Joined, Entered, Followed};
-
-fn wide(x: u8) -> usize
-    ensures { λ r. ⌜ r ≡ x ⌝ }
-{
-    x as usize
-}
 
 // Whether credential i is on and has the head p.
 fn is_next<'a>(

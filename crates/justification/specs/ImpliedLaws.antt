@@ -4,7 +4,7 @@ use native.Mathlib.Omega.{arith}
 use native.Mathlib.Numerals.{add-one}
 use mathlib.Core.Path.{_≡_, refl, sym, _∙_, ap, subst}
 use mathlib.Core.Logic.{_⊎_, inl, inr, ⊎-elim}
-use mathlib.Core.Bool.{Bool, true, false, not, _&&_, _||_}
+use mathlib.Core.Bool.{Bool, true, false, not, _&&_, _||_, or-true}
 use mathlib.Core.List.{List, [], _∷_, _++_, List·Memᴰ}
 use borrow.Author.Tests.{eq-eqb, ne-eqb, eqb-true, eqb-false, not-true, not-false}
 use lib.Dec.{eqb}
@@ -14,7 +14,7 @@ use Rattle.expression.specs.declared.Expression.{Expression}
 use Rattle.rt0.specs.Decide.{from? as fromOf}
 use Rattle.rt0.specs.Lists.{all, false-true, or-cases, or-left, or-right, all-each, all-of}
 use Rattle.rt0.specs.Pool.{upTo}
-use Rattle.propagation.specs.Flags.{bool-iff, decided, flag, flag-same, flag-grows, flag-other, not-of, or-true}
+use Rattle.propagation.specs.Flags.{bool-iff, decided, flag, flag-same, flag-grows, flag-other, not-of}
 use Rattle.graph.specs.declared.Node.{Node}
 use Rattle.graph.specs.declared.Edge.{Edge}
 use Rattle.graph.specs.declared.Nodes.{Nodes}

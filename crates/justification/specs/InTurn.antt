@@ -4,13 +4,13 @@ use native.Mathlib.Omega.{arith}
 use native.Mathlib.Numerals.{add-one}
 use mathlib.Core.Path.{_≡_, refl, sym, _∙_, ap, subst}
 use mathlib.Core.Logic.{⊎-elim}
-use mathlib.Core.Bool.{Bool, true, false, _&&_}
+use mathlib.Core.Bool.{Bool, true, false, _&&_, and-false}
 use mathlib.Core.List.{List, [], _∷_, _++_, append-assoc, append-nil}
 use lib.Dec.{eqb}
 use borrow.Author.Tests.{eqb-true, eqb-false}
 use Rattle.rt0.specs.Lists.{all, and-both, false-true}
 use Rattle.rt0.specs.Pool.{upTo}
-use Rattle.propagation.specs.Flags.{and-none, decided}
+use Rattle.propagation.specs.Flags.{decided}
 
 -- each element passes the test behind those of the first list and the earlier ones of the second
 unfoldable pub inTurn : {A : Type 0} → (List A → A → Bool) → List A → List A → Bool
@@ -71,7 +71,7 @@ module _ {A : Type 0} where
     turn-stop {j} (suc m) l e p = step (eqb j m) refl (λ k. turn-stop m k e p)
       where
         step : (d : Bool) → eqb j m ≡ d → (j < m → false ≡ inTurn t [] (upTo m f)) → false ≡ inTurn t [] (upTo (suc m) f)
-        step true q h = sym (turn-snoc t [] (upTo m f) (f m) ∙ ap (λ (r : Bool). inTurn t [] (upTo m f) && r) (ap (λ (i : ℕ). t (upTo i f) (f i)) (sym (eqb-true j m q)) ∙ sym e ∙ p) ∙ and-none (inTurn t [] (upTo m f)))
+        step true q h = sym (turn-snoc t [] (upTo m f) (f m) ∙ ap (λ (r : Bool). inTurn t [] (upTo m f) && r) (ap (λ (i : ℕ). t (upTo i f) (f i)) (sym (eqb-true j m q)) ∙ sym e ∙ p) ∙ and-false (inTurn t [] (upTo m f)))
         step false q h = sym (turn-snoc t [] (upTo m f) (f m) ∙ ap (λ (r : Bool). r && t (upTo m f) (f m)) (sym (h (omega (arith, eqb-false j m q)))))
 
     -- all are judged

@@ -2,7 +2,7 @@
 use Prim.Native.Nat.{ℕ, _≤_, _<_}
 use native.Mathlib.Omega.{arith}
 use mathlib.Core.Path.{_≡_, refl, sym, _∙_, ap}
-use mathlib.Core.Bool.{Bool, true, false, not, _&&_, _||_}
+use mathlib.Core.Bool.{Bool, true, false, not, _&&_, _||_, and-false}
 use mathlib.Core.List.{List}
 use borrow.Author.Tests.{eq-eqb, ne-eqb, lt-ltb, le-ltb}
 use lib.Dec.{eqb, ltb}
@@ -10,7 +10,7 @@ use lib.ListN.{getD, length}
 use Rattle.expression.specs.declared.Expression.{Expression}
 use Rattle.rt0.specs.Lists.{any, false-true}
 use Rattle.class.specs.Find.{Missed, any-at, any-none}
-use Rattle.propagation.specs.Flags.{at, flag, and-none}
+use Rattle.propagation.specs.Flags.{at, flag}
 use Rattle.graph.specs.declared.Node.{Node}
 use Rattle.graph.specs.declared.Edge.{Edge}
 use Rattle.graph.specs.declared.Nodes.{Nodes}
@@ -41,7 +41,7 @@ second-of true b = refl
 second-of false b = refl
 
 last : (a : Bool) → false ≡ (a && false)
-last a = sym (and-none a)
+last a = sym (and-false a)
 
 module _ (N : Nodes) (es : List Edge) (x : Expression) (b p : ℕ) (d : Edge) where
   inside : {c : ℕ} → c ≡ d .child → c < N .count → ltb (d .child) (length (nodesOf N)) ≡ true

@@ -1,5 +1,4 @@
 // Implication edges of kind 1.
-use crate::wide;
 use closure::readers;
 use expression::Expression;
 use graph::Edges;
@@ -10,6 +9,7 @@ use relation::in_column;
 use relation::relation;
 use rt0::Pool;
 use rules::rules_of;
+use word::wide;
 ghost use mathlib.Core.Path.{_≡_};
 ghost use Prim.Native.Nat.{_≤_, _<_};
 ghost use Rattle.rt0.specs.Lists.{all};

@@ -1,5 +1,4 @@
 // Linking implication edges.
-use crate::wide;
 use expression::Expression;
 use expression::Role;
 use expression::same;
@@ -13,6 +12,7 @@ use propagation::insert;
 use propagation::seed;
 use states::links;
 use states::needs;
+use word::wide;
 ghost use mathlib.Core.Path.{_≡_};
 ghost use mathlib.Core.List.{[]};
 ghost use Prim.Native.Nat.{_≤_, _<_};

@@ -12,7 +12,7 @@ use Rattle.expression.specs.declared.Credential.{Credential}
 use Rattle.expression.specs.declared.Expression.{Expression}
 use Rattle.expression.specs.Form.{wellFormed}
 use Rattle.expression.specs.Same.{same, same-eq, eq-same}
-use Rattle.rt0.specs.Lists.{false-true, and-parts, and-both}
+use Rattle.rt0.specs.Lists.{false-true, and-parts, and-both, or-neither}
 use Rattle.class.specs.declared.Name.{Name}
 use Rattle.tables.specs.Tables.{Tables}
 use Rattle.tables.specs.Public.{publicOf}
@@ -29,7 +29,6 @@ use Rattle.message.specs.Command.{edgeKind, formedCommand}
 use Rattle.negotiation.specs.State.{State}
 use Rattle.update.specs.Step.{processedBy, childOf, stepped, hasRoom}
 use Rattle.update.specs.Legal.{formedAs}
-use Rattle.update.specs.LegalLaws.{or-false}
 use Rattle.update.specs.Update.{Justifies, Legal}
 use Rattle.take.specs.Message.{Updates, none, next}
 use Rattle.moves.specs.declared.Wanted.{Wanted}
@@ -90,7 +89,7 @@ module _ (ns : List Node) (w : Wanted) where
   unfolding isDone
   not-done es i h k =
       let d : Bool = eqb i (childNumber ns w) || hasEdge es (record { kind = w .kind; parent = i; child = childNumber ns w }) in
-      or-false (eqb i (childNumber ns w)) (hasEdge es (record { kind = w .kind; parent = i; child = childNumber ns w })) (sym (ap (λ (b : Bool). cond b d false) k) ∙ h)
+      or-neither (eqb i (childNumber ns w)) (hasEdge es (record { kind = w .kind; parent = i; child = childNumber ns w })) (sym (ap (λ (b : Bool). cond b d false) k) ∙ h)
 
 -- One move
 

@@ -14,7 +14,7 @@ use Rattle.expression.specs.declared.Expression.the-variants as E
 use Rattle.expression.specs.Form.{choose, ascends, isRole, isEmpty, tailFormed, wellFormed}
 use Rattle.expression.specs.Credential.{isBody, beginsWith, wellFormedCredential}
 use Rattle.rt0.specs.From.{roleOf, rolesOf}
-use Rattle.rt0.specs.Lists.{any, false-true, and-parts, and-both, any-here, map-mem}
+use Rattle.rt0.specs.Lists.{any, false-true, and-parts, and-both, any-here, map-mem, or-neither}
 use Rattle.class.specs.declared.Name.{Name}
 use Rattle.class.specs.declared.Typing.{Typing}
 use Rattle.class.specs.declared.Typing.the-variants.{Unnamed, Ill, Any, Class}
@@ -44,10 +44,6 @@ typed-named k h = go (eqb k 0) h
     go : (b : Bool) → isTyped (cond b Unnamed (Class k)) ≡ true → b ≡ false
     go true q = absurd (false-true q)
     go false q = refl
-
-or-neither : (a b : Bool) → (a || b) ≡ false → (a ≡ false) × (b ≡ false)
-or-neither true b h = absurd (false-true (sym h))
-or-neither false b h = (refl, h)
 
 typed-linked : (a b : ℕ) → isTyped (linked a b) ≡ true → (eqb a 0 ≡ false) × (eqb b 0 ≡ false)
 unfolding linked

@@ -6,11 +6,11 @@ use Rattle.tables.specs.Tables.{Tables}
 use Rattle.tables.specs.Public.{Public, publicOf, hiddenOf}
 use Rattle.negotiation.specs.State.{State}
 use Rattle.moves.specs.Known.{knownOf}
-use Rattle.moves.specs.KnownLaws.{isOpen, known-alike}
+use Rattle.moves.specs.KnownLaws.{isDisclosed, known-alike}
 use Rattle.moves.specs.Rules.{endIn}
 use Rattle.moves.specs.Move.{nextMove}
 
-module _ (T U : Tables) (e : publicOf T ≡ publicOf U) (S : State) (h : isOpen T U S ≡ false) where
+module _ (T U : Tables) (e : publicOf T ≡ publicOf U) (S : State) (h : isDisclosed T U S ≡ false) where
   same-sensitive : T .sensitive ≡ U .sensitive
   unfolding publicOf
   same-sensitive = ap (λ (p : Public). p .sensitive) e

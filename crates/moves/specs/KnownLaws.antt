@@ -8,7 +8,7 @@ use mathlib.Core.List.{List, [], _∷_, List·Memᴰ}
 use Rattle.expression.specs.declared.Role.{Role}
 use Rattle.expression.specs.declared.Credential.{Credential}
 use Rattle.expression.specs.Same.{sameRole, sameRole-eq, eq-sameRole}
-use Rattle.rt0.specs.Lists.{any, any-find, any-here, and-parts, and-both, false-true}
+use Rattle.rt0.specs.Lists.{any, any-find, any-here, and-parts, and-both, false-true, or-neither}
 use Rattle.record.specs.declared.Pair.{Pair}
 use Rattle.tables.specs.Tables.{Tables}
 use Rattle.tables.specs.Lookup.{holds, isSensitive, otherOf}
@@ -84,8 +84,8 @@ abbrev openAmong : Hidden → Hidden → State → List Pair → Bool
 openAmong H K S P = any (λ (p : Pair). differing H K p && isAcknowledged S (p .other)) P
 
 -- a differing role's Ack target is satisfied
-unfoldable pub isOpen : Tables → Tables → State → Bool
-isOpen T U S = openAmong (hiddenOf T) (hiddenOf U) S (T .sensitive)
+unfoldable pub isDisclosed : Tables → Tables → State → Bool
+isDisclosed T U S = openAmong (hiddenOf T) (hiddenOf U) S (T .sensitive)
 
 -- such a role
 pub record Opened (T U : Tables) (S : State) : Type 0 where
@@ -102,8 +102,8 @@ true-not : (b : Bool) → (b ≡ true → ⊥) → not b ≡ true
 true-not true h = absurd (h refl)
 true-not false h = refl
 
-pub open-exact : (T U : Tables) (S : State) → (isOpen T U S ≡ true) ↔ Opened T U S
-unfolding isOpen
+pub open-exact : (T U : Tables) (S : State) → (isDisclosed T U S ≡ true) ↔ Opened T U S
+unfolding isDisclosed
 open-exact T U S = (there, back)
   where
     test : Pair → Bool
@@ -140,29 +140,25 @@ known-one true x y h = go (sameHolding x y) refl h
     go true e h = ap Seen (same-holding-eq x y e)
     go false e h = absurd (false-true (sym h))
 
-or-none : (a b : Bool) → (a || b) ≡ false → (a ≡ false) × (b ≡ false)
-or-none true b h = absurd (false-true (sym h))
-or-none false b h = (refl, h)
-
 known-among : (H K : Hidden) (S : State) (P : List Pair) → openAmong H K S P ≡ false → knownOf H P S ≡ knownOf K P S
 unfolding knownOf
 known-among H K S [] h = refl
 known-among H K S (p ∷ ps) h =
-    let q = or-none (differing H K p && isAcknowledged S (p .other)) (openAmong H K S ps) h in
+    let q = or-neither (differing H K p && isAcknowledged S (p .other)) (openAmong H K S ps) h in
     let e = known-one (isAcknowledged S (p .other)) (holdingOf H (p .role)) (holdingOf K (p .role)) (q .0) in
     let es : knownOf H ps S ≡ knownOf K ps S = known-among H K S ps (q .1) in
     λ i. record { role = p .role; ack = p .other; known = e i } ∷ es i
 
 -- "acting on possession before Ack is satisfied" is shut out: while no differing role's Ack target is satisfied, the same is known
-pub known-alike : (T U : Tables) (S : State) → T .sensitive ≡ U .sensitive → isOpen T U S ≡ false → knownOf (hiddenOf T) (T .sensitive) S ≡ knownOf (hiddenOf U) (U .sensitive) S
-unfolding isOpen
+pub known-alike : (T U : Tables) (S : State) → T .sensitive ≡ U .sensitive → isDisclosed T U S ≡ false → knownOf (hiddenOf T) (T .sensitive) S ≡ knownOf (hiddenOf U) (U .sensitive) S
+unfolding isDisclosed
 known-alike T U S e h = known-among (hiddenOf T) (hiddenOf U) S (T .sensitive) h ∙ ap (λ (P : List Pair). knownOf (hiddenOf U) P S) e
 
 -- the same, role by role
 pub known-each : (T U : Tables) (S : State) → T .sensitive ≡ U .sensitive
     → ((p : Pair) → List·Memᴰ p (T .sensitive) → (holdingOf (hiddenOf T) (p .role) ≡ holdingOf (hiddenOf U) (p .role)) ⊎ (isAcknowledged S (p .other) ≡ false))
     → knownOf (hiddenOf T) (T .sensitive) S ≡ knownOf (hiddenOf U) (U .sensitive) S
-known-each T U S e h = known-alike T U S e (not-of (isOpen T U S) (λ o. shut (open-exact T U S .0 o)))
+known-each T U S e h = known-alike T U S e (not-of (isDisclosed T U S) (λ o. shut (open-exact T U S .0 o)))
   where
     shut : Opened T U S → ⊥
     shut o = ⊎-elim (λ a. o .differs a) (λ b. false-true (sym b ∙ o .acknowledged)) (h (o .pair) (o .stands))

@@ -34,7 +34,7 @@ use Rattle.negotiation.specs.declared.Header.{Header}
 use Rattle.negotiation.specs.State.{State, within, withNode, withEdge, withShown, withMark}
 use Rattle.update.specs.Step.{stepped, markedState, primaryOf, childIn, edgeIn}
 use Rattle.moves.specs.Known.{isAcknowledged}
-use Rattle.moves.specs.KnownLaws.{isOpen, Opened, open-exact}
+use Rattle.moves.specs.KnownLaws.{isDisclosed, Opened, open-exact}
 
 -- Graphs
 
@@ -193,7 +193,7 @@ pub acknowledged-stays : (S : State) (s : ℕ) (c : Command) (r : Role) → with
 acknowledged-stays S s c r w = ack-onward S (stepped S s c) r (step-header S s c) (step-onward S s c) (few-nodes S w)
 
 -- so does that of a differing role
-pub open-step : (T U : Tables) (S : State) (s : ℕ) (c : Command) → within S ≡ true → isOpen T U S ≡ true → isOpen T U (stepped S s c) ≡ true
+pub open-step : (T U : Tables) (S : State) (s : ℕ) (c : Command) → within S ≡ true → isDisclosed T U S ≡ true → isDisclosed T U (stepped S s c) ≡ true
 open-step T U S s c w h =
     let o : Opened T U S = open-exact T U S .0 h in
     open-exact T U (stepped S s c) .1 (record { pair = o .pair; stands = o .stands; differs = o .differs; acknowledged = acknowledged-stays S s c (o .pair .other) w (o .acknowledged) })

@@ -8,6 +8,7 @@ use Rattle.expression.specs.declared.Credential.{Credential}
 use Rattle.expression.specs.declared.Expression.{Expression}
 use Rattle.expression.specs.declared.Expression.the-variants as E
 use Rattle.expression.specs.Same.{same, sameRole}
+use Rattle.expression.specs.Kinds.{isEntity}
 use Rattle.rt0.specs.Lists.{any}
 use Rattle.rt0.specs.From.{roleOf, rolesOf}
 use Rattle.rt0.specs.Decide.{from? as fromOf}
@@ -39,13 +40,6 @@ pub record End : Type 0 where
 -- our end in a state
 unfoldable pub endIn : Tables → State → End
 endIn T S = record { tables = publicOf T; known = knownOf (hiddenOf T) (T .sensitive) S; state = S }
-
-abbrev pub isEntity : Expression → Bool
-isEntity (E.Entity a) = true
-isEntity (E.Role a) = false
-isEntity (E.Linked a r) = false
-isEntity (E.Intersection p) = false
-isEntity (E.Goal r) = false
 
 -- the entity of an entity
 abbrev pub entitiesIn : Expression → List ℕ

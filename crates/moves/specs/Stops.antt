@@ -12,6 +12,7 @@ use lib.Seq.{getD-set-same, getD-set-other}
 use Rattle.expression.specs.declared.Role.{Role}
 use Rattle.expression.specs.declared.Expression.{Expression}
 use Rattle.expression.specs.declared.Expression.the-variants as E
+use Rattle.expression.specs.Kinds.{isRoleExpression}
 use Rattle.rt0.specs.Lists.{false-true}
 use Rattle.rt0.specs.declared.Pool.{Pool}
 use Rattle.rt0.specs.Pool.{bodyAt}
@@ -45,13 +46,6 @@ module _ (p : Predicate) (ns : List Name) (P : List Pair) (a : Role) {b : Bool} 
   sens-at h e = e ∙ ap (λ (q : Predicate). predicateOf q ns P (E.Role a)) (sym h)
 
 -- every predicate is true of what is no role
-abbrev pub isRoleExpression : Expression → Bool
-isRoleExpression (E.Entity a) = false
-isRoleExpression (E.Role a) = true
-isRoleExpression (E.Linked a r) = false
-isRoleExpression (E.Intersection p) = false
-isRoleExpression (E.Goal r) = false
-
 module _ (ns : List Name) (P : List Pair) where
   no-role : (p : Predicate) (x : Expression) → isRoleExpression x ≡ false → true ≡ predicateOf p ns P x
   unfolding predicateOf

@@ -15,7 +15,7 @@ use Rattle.expression.specs.Form.{rawOf, expressionOf}
 use Rattle.expression.specs.Laws.{expression-raw}
 use Rattle.expression.specs.Same.{same, same-eq, eq-same}
 use Rattle.expression.specs.Order.{leads, lexLess, rawNumbers, beforeOf, beforeCredential}
-use Rattle.rt0.specs.Lists.{any, all, false-true, or-cases, or-left, or-right, and-parts, and-both, any-find, any-here, all-each, all-of}
+use Rattle.rt0.specs.Lists.{any, all, false-true, or-cases, or-left, or-right, and-parts, and-both, any-find, any-here, all-each, all-of, or-neither}
 use Rattle.tables.specs.Chain.{before-chain}
 use Rattle.tables.specs.Sorted.{Strict, Rising, rising-none, rising-cons, rising-parts}
 use Rattle.tables.specs.Public.{keep}
@@ -24,10 +24,6 @@ use Rattle.moves.specs.declared.Wanted.{Wanted}
 use Rattle.moves.specs.Wanted.{precedes, equals, inserted, ordered}
 
 -- Bool
-
-neither : (a b : Bool) → (a || b) ≡ false → (a ≡ false) × (b ≡ false)
-neither true b h = absurd (false-true (sym h))
-neither false b h = (refl, h)
 
 second : (a b : Bool) → (a && b) ≡ false → a ≡ true → b ≡ false
 second true b h k = h
@@ -60,8 +56,8 @@ expression-chain x y z h k = sym (alone-before x z) ∙ before-chain (alone x) (
 
 leads-none : (m n : ℕ) (r s : Bool) → leads m n r ≡ false → leads n m s ≡ false → (m ≡ n) × (r ≡ false) × (s ≡ false)
 leads-none m n r s h k =
-    let a = neither (ltb m n) (eqb m n && r) h in
-    let b = neither (ltb n m) (eqb n m && s) k in
+    let a = or-neither (ltb m n) (eqb m n && r) h in
+    let b = or-neither (ltb n m) (eqb n m && s) k in
     let e : m ≡ n = omega (arith, ltb-false m n (a .0), ltb-false n m (b .0)) in
     (e, second (eqb m n) r (a .1) (eq-eqb m n e), second (eqb n m) s (b .1) (eq-eqb n m (sym e)))
 
@@ -160,8 +156,8 @@ precedes-total v w h n = go (precedes w v) refl
     go : (b : Bool) → precedes w v ≡ b → b ≡ true
     go true k = refl
     go false k =
-        let a = neither (beforeOf (v .expression) (w .expression)) (same (v .expression) (w .expression) && ltb (v .subject) (w .subject)) h in
-        let b = neither (beforeOf (w .expression) (v .expression)) (same (w .expression) (v .expression) && ltb (w .subject) (v .subject)) k in
+        let a = or-neither (beforeOf (v .expression) (w .expression)) (same (v .expression) (w .expression) && ltb (v .subject) (w .subject)) h in
+        let b = or-neither (beforeOf (w .expression) (v .expression)) (same (w .expression) (v .expression) && ltb (w .subject) (v .subject)) k in
         let e = expression-none (v .expression) (w .expression) (a .0) (b .0) in
         let l = ltb-false (v .subject) (w .subject) (second (same (v .expression) (w .expression)) (ltb (v .subject) (w .subject)) (a .1) (eq-same (v .expression) (w .expression) e)) in
         let m = ltb-false (w .subject) (v .subject) (second (same (w .expression) (v .expression)) (ltb (w .subject) (v .subject)) (b .1) (eq-same (w .expression) (v .expression) (sym e))) in

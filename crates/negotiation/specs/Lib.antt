@@ -1,4 +1,5 @@
 pub mod State
+pub mod Within
 pub mod Layout
 pub mod LayoutLaws
 pub mod ReadLaws

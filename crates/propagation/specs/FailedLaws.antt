@@ -4,13 +4,13 @@ use native.Mathlib.Omega.{arith}
 use native.Mathlib.Numerals.{add-one}
 use mathlib.Core.Path.{_≡_, refl, sym, _∙_, ap, subst}
 use mathlib.Core.Logic.{⊎-elim}
-use mathlib.Core.Bool.{Bool, true, false, _&&_, _||_, not}
+use mathlib.Core.Bool.{Bool, true, false, _&&_, _||_, not, and-false, or-false, or-true}
 use mathlib.Core.List.{List}
 use borrow.Author.Tests.{eqb-true, eqb-false, eq-eqb, ne-eqb, ltb-true, ltb-false, lt-ltb, le-ltb, not-true}
 use lib.Dec.{eqb, ltb}
 use lib.ListN.{getD, length, set, length-set, replicate, length-replicate}
 use Rattle.rt0.specs.Lists.{false-true, or-cases, or-left, or-right, and-parts, and-both}
-use Rattle.propagation.specs.Flags.{bool-iff, not-of, and-none, or-none, or-true, decided, anyTo, anyTo-find, anyTo-here, at, cnt, cnt-le, cnt-one, flag, flag-same, flag-other, flag-grows, flag-cases, flag-zeros}
+use Rattle.propagation.specs.Flags.{bool-iff, not-of, decided, anyTo, anyTo-find, anyTo-here, at, cnt, cnt-le, cnt-one, flag, flag-same, flag-other, flag-grows, flag-cases, flag-zeros}
 use Rattle.propagation.specs.Least.{Monotone, least-closed, least-below}
 use Rattle.propagation.specs.Satisfied.{Graph, fromAt, slotAt, nodeAt}
 use Rattle.propagation.specs.Work.{Beyond}
@@ -82,7 +82,7 @@ module _ (m : ℕ) (G : Graph) (failed : List ℕ) (on : Bool) where
             ap (flag (set r (slotAt G m / 4) 1)) k ∙ flag-same r (slotAt G m / 4) l
             ∙ sym (child-next m G in? i ∙ ap (λ (b : Bool). childOf m G in? i || b) (and-both _ _ (eq-eqb (slotAt G m / 4) i (sym k)) h) ∙ or-true (childOf m G in? i)))
             (λ q. flag-other r (slotAt G m / 4) i (eqb-false i (slotAt G m / 4) q) ∙ t .touched i
-            ∙ sym (child-next m G in? i ∙ ap (λ (b : Bool). childOf m G in? i || (b && (ltb (fromAt G m) 128 && in? (fromAt G m)))) (ne-eqb (slotAt G m / 4) i (λ y. eqb-false i (slotAt G m / 4) q (sym y))) ∙ or-none (childOf m G in? i)))
+            ∙ sym (child-next m G in? i ∙ ap (λ (b : Bool). childOf m G in? i || (b && (ltb (fromAt G m) 128 && in? (fromAt G m)))) (ne-eqb (slotAt G m / 4) i (λ y. eqb-false i (slotAt G m / 4) q (sym y))) ∙ or-false (childOf m G in? i)))
             (decided (eqb i (slotAt G m / 4)));
       }
 
@@ -91,7 +91,7 @@ module _ (m : ℕ) (G : Graph) (failed : List ℕ) (on : Bool) where
       record {
         size = ap length e ∙ t .size;
         touched = λ i. ap (λ (s : List ℕ). flag s i) e ∙ t .touched i
-            ∙ sym (child-next m G in? i ∙ ap (λ (b : Bool). childOf m G in? i || (eqb (slotAt G m / 4) i && b)) h ∙ ap (λ (b : Bool). childOf m G in? i || b) (and-none (eqb (slotAt G m / 4) i)) ∙ or-none (childOf m G in? i));
+            ∙ sym (child-next m G in? i ∙ ap (λ (b : Bool). childOf m G in? i || (eqb (slotAt G m / 4) i && b)) h ∙ ap (λ (b : Bool). childOf m G in? i || b) (and-false (eqb (slotAt G m / 4) i)) ∙ or-false (childOf m G in? i));
       }
 
   -- the same with what the code has read

@@ -3,14 +3,14 @@ use Prim.Native.Nat.{ℕ, _+_, _-_, _/_, _≤_, _<_}
 use native.Mathlib.Omega.{arith}
 use mathlib.Core.Path.{_≡_, refl, sym, _∙_, ap, subst}
 use mathlib.Core.Logic.{⊎-elim}
-use mathlib.Core.Bool.{Bool, true, false, _&&_, not}
+use mathlib.Core.Bool.{Bool, true, false, _&&_, not, and-false}
 use mathlib.Core.List.{List}
 use borrow.Author.Tests.{eqb-true, eqb-false, eq-eqb, ne-eqb, ltb-true, lt-ltb, le-ltb, not-true}
 use lib.Dec.{eqb, ltb}
 use lib.ListN.{getD, length, set, length-set, replicate, length-replicate}
 use lib.Seq.{getD-set-same, getD-set-other}
 use Rattle.rt0.specs.Lists.{false-true, and-parts, and-both}
-use Rattle.propagation.specs.Flags.{not-of, and-none, decided, at, one, cnt, cnt-le, cnt-one, cnt-some, cnt-next, flag, flag-same, flag-other, flag-cases, zeros, flag-zeros}
+use Rattle.propagation.specs.Flags.{not-of, decided, at, one, cnt, cnt-le, cnt-one, cnt-some, cnt-next, flag, flag-same, flag-other, flag-cases, zeros, flag-zeros}
 use Rattle.propagation.specs.Satisfied.{Graph, fromAt, slotAt, nodeAt}
 use Rattle.propagation.specs.Failed.{brings, childOf, failsBy, failedOf, Sound}
 use Rattle.propagation.specs.FailedLaws.{child-find, child-here, fails-mono, failed-closed}
@@ -51,7 +51,7 @@ module _ (m : ℕ) (G : Graph) (left left′ : List ℕ) where
       (record {
         size = t .size;
         counted = λ p l. (let n : getD left p 0 ≡ getD left p 0 + 0 = omega arith in n)
-            ∙ tally-one p false (ap (λ (b : Bool). eqb (slotAt G m / 4) p && (b && true)) (le-ltb (fromAt G m) 128 f) ∙ and-none (eqb (slotAt G m / 4) p)) (t .counted p l);
+            ∙ tally-one p false (ap (λ (b : Bool). eqb (slotAt G m / 4) p && (b && true)) (le-ltb (fromAt G m) 128 f) ∙ and-false (eqb (slotAt G m / 4) p)) (t .counted p l);
       })
 
 pub tally-low : {m : ℕ} {G : Graph} {left : List ℕ} → Tallied m G left → m ≤ 256 → (p : ℕ) → p < 128 → getD left p 0 ≤ 256
@@ -135,7 +135,7 @@ module _ (m : ℕ) (G : Graph) (failed left gone : List ℕ) (w : Failing m G fa
         let inside : j < length gone = omega arith in
         let c : getD (set left (x / 4) (getD left (x / 4) 0 - 1)) (x / 4) 0 ≡ getD left (x / 4) 0 - 1 = getD-set-same left (x / 4) (getD left (x / 4) 0 - 1) 0 (omega arith) in
         let now : brings G (λ i. not (flag (set gone j 1) i)) (x / 4) j ≡ false
-        = ap (λ (b : Bool). eqb (slotAt G j / 4) (x / 4) && (ltb (fromAt G j) 128 && not b)) (flag-same gone j inside) ∙ ap (λ (b : Bool). eqb (slotAt G j / 4) (x / 4) && b) (and-none (ltb (fromAt G j) 128)) ∙ and-none (eqb (slotAt G j / 4) (x / 4)) in
+        = ap (λ (b : Bool). eqb (slotAt G j / 4) (x / 4) && (ltb (fromAt G j) 128 && not b)) (flag-same gone j inside) ∙ ap (λ (b : Bool). eqb (slotAt G j / 4) (x / 4) && b) (and-false (ltb (fromAt G j) 128)) ∙ and-false (eqb (slotAt G j / 4) (x / 4)) in
         let one-less : cnt m (brings G (λ i. not (flag gone i)) (x / 4)) ≡ cnt m (brings G (λ i. not (flag (set gone j 1) i)) (x / 4)) + 1
         = cnt-one m (brings G (λ i. not (flag (set gone j 1) i)) (x / 4)) (brings G (λ i. not (flag gone i)) (x / 4)) j jl now was
         (λ i o. ap (λ (b : Bool). eqb (slotAt G i / 4) (x / 4) && (ltb (fromAt G i) 128 && not b)) (sym (flag-other gone j i o))) in

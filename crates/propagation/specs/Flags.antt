@@ -21,18 +21,6 @@ pub not-of : (a : Bool) → (a ≡ true → ⊥) → a ≡ false
 not-of true h = absurd (h refl)
 not-of false h = refl
 
-pub and-none : (a : Bool) → (a && false) ≡ false
-and-none true = refl
-and-none false = refl
-
-pub or-none : (a : Bool) → (a || false) ≡ a
-or-none true = refl
-or-none false = refl
-
-pub or-true : (a : Bool) → (a || true) ≡ true
-or-true true = refl
-or-true false = refl
-
 pub decided : (a : Bool) → (a ≡ true) ⊎ (a ≡ false)
 decided true = inl refl
 decided false = inr refl

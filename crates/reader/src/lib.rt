@@ -2,7 +2,6 @@
 use message::CommandAnswer;
 use message::read_command;
 ghost use mathlib.Core.Path.{_≡_};
-ghost use Prim.Native.Nat.{_+_, _<_, _^_};
 ghost use Rattle.message.specs.Command.{commandAt};
 
 // A message, and the index of the next command in it.
@@ -23,17 +22,6 @@ pub fn command<'a>(r: Reader<'a>) -> CommandAnswer
     ensures { λ c. ⌜ c ≡ commandAt (now (r .entry .message)) (r .entry .at) ⌝ }
 {
     read_command(r.message, r.at)
-}
-
-// The message behind a command of this size.
-pub fn passed<'a>(r: Reader<'a>, size: usize) -> Reader<'a>
-    requires { ⌜ r .at + size < 2 ^ 64 ⌝ }
-    ensures { λ q. ⌜ (q .message ≡ r .entry .message) × (q .at ≡ r .entry .at + size) ⌝ }
-{
-    Reader {
-        message: r.message,
-        at: r.at + size,
-    }
 }
 
 // The command at an index.

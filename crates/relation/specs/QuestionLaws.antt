@@ -14,6 +14,7 @@ use Rattle.expression.specs.declared.Credential.{Credential}
 use Rattle.expression.specs.declared.Expression.{Expression}
 use Rattle.expression.specs.declared.Expression.the-variants as E
 use Rattle.expression.specs.Same.{same, eq-same}
+use Rattle.expression.specs.Kinds.{isRoleExpression}
 use Rattle.rt0.specs.declared.Pool.{Pool}
 use Rattle.rt0.specs.From.{From, reflexive, transitive, credential}
 use Rattle.rt0.specs.Lists.{false-true, and-parts, and-both}
@@ -86,17 +87,9 @@ module _ (P : Pool) (e : Expression) (i : ℕ) (old : Four) (q : old ≡ fourRow
 
 -- The row of e itself
 
--- the expression is a role
-abbrev pub isRole : Expression → Bool
-isRole (E.Entity b) = false
-isRole (E.Role p) = true
-isRole (E.Linked a m) = false
-isRole (E.Intersection p) = false
-isRole (E.Goal m) = false
-
 -- where e is no role, row 129 stands for it
-pub own-none : (P : Pool) (e : Expression) → isRole e ≡ false → OwnRow P e 129
-own-none P e h = record { small = omega arith; says = inl refl; own = λ p q. absurd (false-true (sym h ∙ sym (ap isRole q))) }
+pub own-none : (P : Pool) (e : Expression) → isRoleExpression e ≡ false → OwnRow P e 129
+own-none P e h = record { small = omega arith; says = inl refl; own = λ p q. absurd (false-true (sym h ∙ sym (ap isRoleExpression q))) }
 
 -- where e is a role, its row where it is asked about stands for it
 pub own-role : (P : Pool) → P .count ≤ 128 → (e : Expression) (q : Role) (r : ℕ) → e ≡ E.Role q → r ≡ rowFor P e q → OwnRow P e r

@@ -25,8 +25,8 @@ use Rattle.message.specs.Command.{commandBytes, sizeOf}
 use Rattle.message.specs.CommandExact.{command-length}
 use Rattle.negotiation.specs.declared.Negotiation.{Negotiation}
 use Rattle.negotiation.specs.State.{State, stateOf, within, withShown}
+use Rattle.negotiation.specs.Within.{within-few}
 use Rattle.update.specs.Step.{stepped, hasRoom}
-use Rattle.update.specs.LegalLaws.{within-few}
 use Rattle.update.specs.RoomLaws.{step-within}
 use Rattle.take.specs.Message.{bytesOf}
 use Rattle.moves.specs.declared.Outgoing.{Outgoing}

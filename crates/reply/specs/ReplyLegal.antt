@@ -8,7 +8,7 @@ use mathlib.Core.List.{List, [], _∷_, _++_, append-assoc, append-nil}
 use borrow.Author.Tests.{eq-eqb, eqb-true, eqb-false}
 use lib.Dec.{eqb, leb}
 use lib.ListN.{length}
-use Rattle.rt0.specs.Lists.{false-true, and-parts}
+use Rattle.rt0.specs.Lists.{false-true, and-parts, or-neither}
 use Rattle.expression.specs.declared.Expression.the-variants as E
 use Rattle.class.specs.declared.Name.{Name}
 use Rattle.tables.specs.Tables.{Tables}
@@ -48,10 +48,6 @@ use Rattle.reply.specs.Reply.{Replied, stopped, withMove, replyFrom, rep
 updates-append : {ns : List Name} {s : ℕ} {S R U : State} {cs ds : List Command} → Updates ns s S cs R → Updates ns s R ds U → Updates ns s S (cs ++ ds) U
 updates-append none v = v
 updates-append (next {c = c} e f l u) v = next {c = c} e f l (updates-append u v)
-
-or-neither : (a b : Bool) → (a || b) ≡ false → (a ≡ false) × (b ≡ false)
-or-neither true b h = absurd (false-true (sym h))
-or-neither false b h = (refl, h)
 
 -- without an open, an edge or a mark the graph stays
 updates-still : {ns : List Name} {s : ℕ} {S U : State} {cs : List Command} → Updates ns s S cs U → moved cs ≡ false → (U .nodes ≡ S .nodes) × (U .edges ≡ S .edges)

@@ -24,15 +24,15 @@ use Rattle.take.specs.Message.{moved}
 use Rattle.take.specs.Take as K
 use Rattle.take.specs.TakeKept.{Took, took}
 use Rattle.moves.specs.Known.{isAcknowledged}
-use Rattle.moves.specs.KnownLaws.{isOpen}
+use Rattle.moves.specs.KnownLaws.{isDisclosed}
 use Rattle.reply.specs.Reply.{Replied, replyIn, repliedState, replyBytes, Outcome, refused, given, repliedIn, behindStanding, replySize, replyOf}
 use Rattle.reply.specs.Stays.{Stays, within-kept, OpenIn, open-kept, reply-stays, commands-stay}
 use Rattle.reply.specs.TwoReplies.{replies-alike}
 
 -- A message leaves the graph, and the header's side and other end
 
-after-open : (T U : Tables) (S : State) (m full : Bool) → isOpen T U (afterMessage S m full) ≡ isOpen T U S
-unfolding isOpen isAcknowledged afterMessage headerAfter withHeader
+after-open : (T U : Tables) (S : State) (m full : Bool) → isDisclosed T U (afterMessage S m full) ≡ isDisclosed T U S
+unfolding isDisclosed isAcknowledged afterMessage headerAfter withHeader
 after-open T U S m full = refl
 
 after-within : (S : State) (m full : Bool) → within (afterMessage S m full) ≡ within S
@@ -42,7 +42,7 @@ after-within S m full = refl
 after-both : (T U : Tables) (S : State) (m full : Bool) → OpenIn T U S → OpenIn T U (afterMessage S m full)
 after-both T U S m full h = record { sizes = after-within S m full ∙ h .sizes; opened = after-open T U S m full ∙ h .opened }
 
-pub open-replied : (T U : Tables) (r : Replied) → isOpen T U (repliedState r) ≡ isOpen T U (r .state)
+pub open-replied : (T U : Tables) (r : Replied) → isDisclosed T U (repliedState r) ≡ isDisclosed T U (r .state)
 unfolding repliedState
 open-replied T U r = after-open T U (r .state) (moved (r .commands)) (r .full)
 
@@ -76,7 +76,7 @@ restored-within s negotiation T W S h a =
 -- no differing role's Ack target is satisfied in what the call leaves; a refusal leaves what was there
 abbrev pub Quiet : Tables → Tables → Outcome → Type 0
 Quiet T U (refused k) = Unit {0}
-Quiet T U (given m S) = isOpen T U S ≡ false
+Quiet T U (given m S) = isDisclosed T U S ≡ false
 
 module _ (T U : Tables) (e : publicOf T ≡ publicOf U) where
   pub replied-alike : (S : State) → within S ≡ true → Quiet T U (repliedIn T S) ⊎ Quiet T U (repliedIn U S) → repliedIn T S ≡ repliedIn U S
@@ -89,7 +89,7 @@ module _ (T U : Tables) (e : publicOf T ≡ publicOf U) where
       chosen : Bool → Bool → Outcome → Outcome
       chosen b d o = cond b (refused 22) (cond d (refused 21) o)
 
-      shut : (W : Tables) → Quiet T U (by W) → isOpen T U (replyIn W S .state) ≡ false
+      shut : (W : Tables) → Quiet T U (by W) → isDisclosed T U (replyIn W S .state) ≡ false
       shut W q = sym (open-replied T U (replyIn W S)) ∙ q
 
       go : (b d : Bool) → Quiet T U (chosen b d (by T)) ⊎ Quiet T U (chosen b d (by U)) → chosen b d (by T) ≡ chosen b d (by U)

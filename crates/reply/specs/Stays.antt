@@ -24,7 +24,7 @@ use Rattle.update.specs.Legal.{legalNumber}
 use Rattle.update.specs.RoomLaws.{legal-room, step-within}
 use Rattle.take.specs.Message.{bytesOf}
 use Rattle.take.specs.Commands.{Taken, refused, taken, judged, isEnd, onCommand, commandsFrom}
-use Rattle.moves.specs.KnownLaws.{isOpen}
+use Rattle.moves.specs.KnownLaws.{isDisclosed}
 use Rattle.moves.specs.KnownStays.{open-step}
 use Rattle.moves.specs.Initial.{initialState}
 use Rattle.moves.specs.Rules.{endIn}
@@ -42,7 +42,7 @@ within-kept = record { step = λ S s c r w. step-within S w s c r }
 -- within the sizes, an Ack target of a role in which T and U differ is satisfied
 pub record OpenIn (T U : Tables) (S : State) : Type 0 where
   pub sizes : within S ≡ true
-  pub opened : isOpen T U S ≡ true
+  pub opened : isDisclosed T U S ≡ true
 
 pub open-kept : (T U : Tables) → Stays (OpenIn T U)
 open-kept T U = record { step = λ S s c r h. record { sizes = step-within S (h .sizes) s c r; opened = open-step T U S s c (h .sizes) (h .opened) } }
@@ -136,5 +136,5 @@ module _ {P : State → Type 0} (k : Stays P) where
       command-stays (λ size R w. commandsFrom f ns s m (at + size) R w) ns s S moved (commandAt m at) A v (λ size R w p q. commands-stay f ns s m (at + size) R w A v p q) h e
 
 -- By whichever tables a reply goes on, an Ack target of a differing role that is satisfied is so at its end
-pub open-stays : (T U : Tables) (f : ℕ) (W : Tables) (S : State) (cs : List Command) → within S ≡ true → isOpen T U S ≡ true → isOpen T U (replyFrom f W S cs .state) ≡ true
+pub open-stays : (T U : Tables) (f : ℕ) (W : Tables) (S : State) (cs : List Command) → within S ≡ true → isDisclosed T U S ≡ true → isDisclosed T U (replyFrom f W S cs .state) ≡ true
 open-stays T U f W S cs w h = from-stays (open-kept T U) f W S cs (record { sizes = w; opened = h }) .opened

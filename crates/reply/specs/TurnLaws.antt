@@ -10,6 +10,7 @@ use lib.ListN.{length, getD, length-append}
 use Rattle.expression.specs.declared.Expression.{Expression}
 use Rattle.expression.specs.declared.Expression.the-variants as E
 use Rattle.expression.specs.Same.{same, same-eq}
+use Rattle.expression.specs.Kinds.{isRoleExpression}
 use Rattle.rt0.specs.Lists.{and-parts, false-true}
 use Rattle.propagation.specs.Flags.{at}
 use Rattle.rt0.specs.declared.Pool.{Pool}
@@ -28,9 +29,9 @@ use Rattle.message.specs.declared.Command.{Command}
 use Rattle.negotiation.specs.declared.Header.{Header}
 use Rattle.negotiation.specs.declared.Negotiation.{Negotiation}
 use Rattle.negotiation.specs.State.{State, stateOf}
+use Rattle.negotiation.specs.Within.{within-few}
 use Rattle.damage.specs.Header.{requester}
-use Rattle.damage.specs.Records.{isRoleTarget, primarySound}
-use Rattle.update.specs.LegalLaws.{within-few}
+use Rattle.damage.specs.Records.{primarySound}
 use Rattle.update.specs.Kept.{record-parts}
 use Rattle.take.specs.Message.{bytesOf}
 use Rattle.moves.specs.declared.Choice.{Choice}
@@ -85,7 +86,7 @@ module _ (r : Turn) where
 -- The primary
 
 -- a role is no goal
-role-open : (ns : List Node) (es : List Edge) (i p : ℕ) (h : Header) (x : Expression) → cond (eqb (h .side) 0) (same x (E.Role (h .wanted))) (isRoleTarget x) ≡ true → completeAs ns es i p x ≡ false
+role-open : (ns : List Node) (es : List Edge) (i p : ℕ) (h : Header) (x : Expression) → cond (eqb (h .side) 0) (same x (E.Role (h .wanted))) (isRoleExpression x) ≡ true → completeAs ns es i p x ≡ false
 role-open ns es i p h (E.Entity a) e = refl
 role-open ns es i p h (E.Role a) e = refl
 role-open ns es i p h (E.Linked a r) e = refl
@@ -93,7 +94,7 @@ role-open ns es i p h (E.Intersection q) e = refl
 role-open ns es i p h (E.Goal r) e = absurd (go (eqb (h .side) 0) e)
   where
     go : (b : Bool) → cond b (same (E.Goal r) (E.Role (h .wanted))) false ≡ true → ⊥
-    go true k = false-true (ap isRoleTarget (same-eq (E.Goal r) (E.Role (h .wanted)) k))
+    go true k = false-true (ap isRoleExpression (same-eq (E.Goal r) (E.Role (h .wanted)) k))
     go false k = false-true k
 
 module _ (T : Tables) (S : State) (g : Going T S) where

@@ -18,7 +18,7 @@ use Rattle.message.specs.declared.Command.{Command}
 use Rattle.message.specs.declared.Command.the-variants.{Open}
 use Rattle.negotiation.specs.State.{State, within}
 use Rattle.take.specs.Message.{bytesOf}
-use Rattle.moves.specs.KnownLaws.{isOpen}
+use Rattle.moves.specs.KnownLaws.{isDisclosed}
 use Rattle.moves.specs.Initial.{initialState}
 use Rattle.moves.specs.Rules.{endIn}
 use Rattle.moves.specs.Move.{Move, nextMove}
@@ -34,7 +34,7 @@ module _ (T U : Tables) (e : publicOf T ≡ publicOf U) where
 
   -- after one of the two no differing role's Ack target is satisfied
   abbrev pub Shut : Replied → Replied → Type 0
-  Shut x y = (isOpen T U (x .state) ≡ false) ⊎ (isOpen T U (y .state) ≡ false)
+  Shut x y = (isDisclosed T U (x .state) ≡ false) ⊎ (isDisclosed T U (y .state) ≡ false)
 
   with-alike : (next then : State → List Command → Replied) (S : State) (cs : List Command) (m : Move)
       → ((R : State) (ds : List Command) → within R ≡ true → Shut (next R ds) (then R ds) → next R ds ≡ then R ds)
@@ -56,8 +56,8 @@ module _ (T U : Tables) (e : publicOf T ≡ publicOf U) where
       go false q d k = refl
 
   -- the two are shut at the end, so they were at the start
-  shut-before : (f : ℕ) (S : State) (cs : List Command) → within S ≡ true → Shut (replyFrom f T S cs) (replyFrom f U S cs) → isOpen T U S ≡ false
-  shut-before f S cs w h = not-of (isOpen T U S) (λ o. ⊎-elim (λ k. false-true (sym k ∙ open-stays T U f T S cs w o)) (λ k. false-true (sym k ∙ open-stays T U f U S cs w o)) h)
+  shut-before : (f : ℕ) (S : State) (cs : List Command) → within S ≡ true → Shut (replyFrom f T S cs) (replyFrom f U S cs) → isDisclosed T U S ≡ false
+  shut-before f S cs w h = not-of (isDisclosed T U S) (λ o. ⊎-elim (λ k. false-true (sym k ∙ open-stays T U f T S cs w o)) (λ k. false-true (sym k ∙ open-stays T U f U S cs w o)) h)
 
   from-alike : (f : ℕ) (S : State) (cs : List Command) → within S ≡ true → Shut (replyFrom f T S cs) (replyFrom f U S cs) → replyFrom f T S cs ≡ replyFrom f U S cs
   unfolding replyFrom
@@ -83,7 +83,7 @@ module _ (T U : Tables) (e : publicOf T ≡ publicOf U) where
   opening-alike S = ap (λ (ns : List Name). cond (eqb (length (S .nodes)) 0) (Open (record { role = S .header .wanted; state = initialState ns true (E.Role (S .header .wanted)) }) ∷ []) []) same-names
 
   -- Where, after one of the two replies, no differing role's Ack target is satisfied, they are the same
-  pub replies-alike : (S : State) → within S ≡ true → (isOpen T U (replyIn T S .state) ≡ false) ⊎ (isOpen T U (replyIn U S .state) ≡ false) → replyIn T S ≡ replyIn U S
+  pub replies-alike : (S : State) → within S ≡ true → (isDisclosed T U (replyIn T S .state) ≡ false) ⊎ (isDisclosed T U (replyIn U S .state) ≡ false) → replyIn T S ≡ replyIn U S
   unfolding replyIn
   replies-alike S w h =
       let s : ℕ = S .header .side in

@@ -8,6 +8,7 @@ use negotiation::Negotiation;
 use rt0::Pool;
 use sending::credential_at;
 use update::step;
+use word::wide;
 ghost use mathlib.Core.Path.{_≡_};
 ghost use mathlib.Core.Bool.{true};
 ghost use Prim.Native.Nat.{_+_, _≤_, _<_};
@@ -23,12 +24,6 @@ ghost use Rattle.reply.specs.Outgoing.{oneIf, roomBy, onAt, shows};
 
 // How many bytes a credential takes.
 const SHOW: usize = 23;
-
-fn wide(x: u8) -> usize
-    ensures { λ r. ⌜ r ≡ x ⌝ }
-{
-    x as usize
-}
 
 // 1 where the flag is on.
 fn one_if(flag: u8) -> usize

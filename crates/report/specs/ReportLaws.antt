@@ -27,12 +27,13 @@ use Rattle.tables.specs.declared.House.{House}
 use Rattle.tables.specs.Tables.{Tables, tablesOf}
 use Rattle.negotiation.specs.declared.Negotiation.{Negotiation}
 use Rattle.negotiation.specs.State.{State, within, stateOf as stateHeld}
+use Rattle.negotiation.specs.Within.{within-few}
 use Rattle.damage.specs.declared.Restored.{Restored}
 use Rattle.damage.specs.Header.{endSound}
 use Rattle.damage.specs.Damage.{sound}
 use Rattle.damage.specs.Restored.{Standing, refusal, standing, restoreOf, standingOf}
 use Rattle.damage.specs.RestoredLaws.{Kept}
-use Rattle.damage.specs.DamageLaws.{within-counts, graph-parts, held-graph, held-legal}
+use Rattle.damage.specs.DamageLaws.{graph-parts, held-graph, held-legal}
 use Rattle.report.specs.Report.{Report, numbered, reportOn, Reported, refused, reported, behindNegotiation, reportOf, packed, unpacked, answerOf}
 
 -- The numbers
@@ -155,7 +156,7 @@ end-few p e i h = go (eqb p 1) (eqb p 2) h
 pub report-numbers : (H : House) (G : Negotiation) → within (stateHeld G) ≡ true → sound (tablesOf H) (stateHeld G) ≡ true → (i : ℕ) → i < G .nodes .count → unpacked (packed (reportOn (stateHeld G) i)) ≡ reportOn (stateHeld G) i
 unfolding reportOn stateHeld credentials
 report-numbers H G w h i l =
-    let c = within-counts H G w in
+    let c = within-few G w in
     let g = held-graph H G w h (omega arith) in
     packed-back (reportOn (stateHeld G) i)
     (subst (λ (n : Node). n .state < 4) (sym (node-in (G .nodes) i l)) (legal-few (nodeAt (G .nodes) i .expression) (nodeAt (G .nodes) i .state) (held-legal H G w h (omega arith) i l)))

@@ -1,31 +1,9 @@
--- Tests over lists, and the laws of Bool that the closure needs. Assumes nothing.
+-- Tests over lists. Assumes nothing.
 use mathlib.Core.Path.{_≡_, refl, sym, _∙_, ap, subst}
 use mathlib.Core.Logic.{_⊎_, inl, inr, ⊎-elim}
 use mathlib.Core.Bool.{Bool, true, false, _&&_, _||_}
 use mathlib.Core.List.{List, [], _∷_, _++_, map, List·Memᴰ, List·Memᴰ·head, List·Memᴰ·tail}
-
-pub false-true : false ≡ true → ⊥
-false-true h = let z : _≡_ {A = Bool} true false = sym h in absurd (mathlib.Core.Bool.true≢false z)
-
-pub or-cases : (a b : Bool) → (a || b) ≡ true → (a ≡ true) ⊎ (b ≡ true)
-or-cases true b h = inl refl
-or-cases false b h = inr h
-
-pub or-left : (a b : Bool) → a ≡ true → (a || b) ≡ true
-or-left true b h = refl
-or-left false b h = absurd (false-true h)
-
-pub or-right : (a b : Bool) → b ≡ true → (a || b) ≡ true
-or-right true b h = refl
-or-right false b h = h
-
-pub and-parts : (a b : Bool) → (a && b) ≡ true → (a ≡ true) × (b ≡ true)
-and-parts true b h = (refl, h)
-and-parts false b h = absurd (false-true h)
-
-pub and-both : (a b : Bool) → a ≡ true → b ≡ true → (a && b) ≡ true
-and-both true b h k = k
-and-both false b h k = absurd (false-true h)
+pub use Rattle.word.specs.Bools.{false-true, or-cases, or-left, or-right, or-neither, and-parts, and-both}
 
 module _ {A : Type 0} where
   abbrev pub any : (A → Bool) → List A → Bool

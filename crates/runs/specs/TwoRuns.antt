@@ -17,7 +17,7 @@ use Rattle.tables.specs.SoundLaws.{accepted-public}
 use Rattle.negotiation.specs.State.{State, within}
 use Rattle.negotiation.specs.Layout.{stateBytes}
 use Rattle.take.specs.TakePublic.{take-public}
-use Rattle.moves.specs.KnownLaws.{Differs, holding-alike, isOpen, Opened, open-exact}
+use Rattle.moves.specs.KnownLaws.{Differs, holding-alike, isDisclosed, Opened, open-exact}
 use Rattle.reply.specs.Reply as A
 use Rattle.reply.specs.ReplyPublic.{Quiet, reply-public}
 use Rattle.report.specs.ReportPublic.{report-public}
@@ -43,21 +43,21 @@ stands-sensitive : (P : List Pair) (p : Pair) → List·Memᴰ p P → isSensiti
 unfolding isSensitive
 stands-sensitive P p m = any-here (λ (q : Pair). sameRole (q .role) (p .role)) m (eq-sameRole (p .role) (p .role) refl)
 
-none-open : (T U : Tables) (S : State) → T .sensitive ≡ U .sensitive → NoneSatisfied T U S → isOpen T U S ≡ false
-none-open T U S e n = not-of (isOpen T U S) (λ h. shut (open-exact T U S .0 h))
+none-open : (T U : Tables) (S : State) → T .sensitive ≡ U .sensitive → NoneSatisfied T U S → isDisclosed T U S ≡ false
+none-open T U S e n = not-of (isDisclosed T U S) (λ h. shut (open-exact T U S .0 h))
   where
     shut : Opened T U S → ⊥
     shut o = n (o .pair) (o .stands) (differs-differing T U (o .pair .role) e (stands-sensitive (T .sensitive) (o .pair) (o .stands)) (o .differs)) (o .acknowledged)
 
 -- One call
 
-quiet : (T U : Tables) (S : State) (o : A.Outcome) → isOpen T U (givenTo S o) ≡ false → Quiet T U o
+quiet : (T U : Tables) (S : State) (o : A.Outcome) → isDisclosed T U (givenTo S o) ≡ false → Quiet T U o
 quiet T U S (A.refused k) h = tt
 quiet T U S (A.given m N) h = h
 
 module _ (T U : Tables) (e : publicOf T ≡ publicOf U) (s t : List ℕ) (h : readTables s ≡ accepted T) (k : readTables t ≡ accepted U) where
   -- where one of two calls leaves no differing role's Ack target satisfied, they leave the same
-  pub call-alike : (S : State) (c : Call) → (isOpen T U (afterCall s S c) ≡ false) ⊎ (isOpen T U (afterCall t S c) ≡ false)
+  pub call-alike : (S : State) (c : Call) → (isDisclosed T U (afterCall s S c) ≡ false) ⊎ (isDisclosed T U (afterCall t S c) ≡ false)
       → (leftBy s (stateBytes S) c ≡ leftBy t (stateBytes S) c) × (afterCall s S c ≡ afterCall t S c)
   unfolding leftBy afterCall
   call-alike S (take message scratch) q =
@@ -69,11 +69,11 @@ module _ (T U : Tables) (e : publicOf T ≡ publicOf U) (s t : List ℕ) (h : re
   call-alike S (report node) q = (ap (reportLeft (stateBytes S)) (report-public s t T U h k e (stateBytes S) node), refl)
 
   -- not open at the end, not open before
-  shut-before : (w : List ℕ) (W : Tables) → readTables w ≡ accepted W → (S : State) (cs : List Call) → within S ≡ true → isOpen T U (after w S cs) ≡ false → isOpen T U S ≡ false
-  shut-before w W r S cs v z = not-of (isOpen T U S) (λ o. false-true (sym z ∙ calls-keep (keeps-open T U) w W r S cs (record { sizes = v; opened = o }) .opened))
+  shut-before : (w : List ℕ) (W : Tables) → readTables w ≡ accepted W → (S : State) (cs : List Call) → within S ≡ true → isDisclosed T U (after w S cs) ≡ false → isDisclosed T U S ≡ false
+  shut-before w W r S cs v z = not-of (isDisclosed T U S) (λ o. false-true (sym z ∙ calls-keep (keeps-open T U) w W r S cs (record { sizes = v; opened = o }) .opened))
 
   -- A list of calls
-  pub calls-alike : (cs : List Call) (S : State) → within S ≡ true → (isOpen T U (after s S cs) ≡ false) ⊎ (isOpen T U (after t S cs) ≡ false)
+  pub calls-alike : (cs : List Call) (S : State) → within S ≡ true → (isDisclosed T U (after s S cs) ≡ false) ⊎ (isDisclosed T U (after t S cs) ≡ false)
       → (run s (stateBytes S) cs ≡ run t (stateBytes S) cs) × (after s S cs ≡ after t S cs)
   unfolding run after
   calls-alike [] S w q = (refl, refl)
@@ -83,7 +83,7 @@ module _ (T U : Tables) (e : publicOf T ≡ publicOf U) (s t : List ℕ) (h : re
       let one = call-alike S c (⊎-elim (λ z. inl (shut-before s T h (afterCall s S c) cs ws z)) (λ z. inr (shut-before t U k (afterCall t S c) cs wt z)) q) in
       let l : leftBy s (stateBytes S) c ≡ leftBy t (stateBytes S) c = one .0 in
       let n : afterCall s S c ≡ afterCall t S c = one .1 in
-      let rest = calls-alike cs (afterCall s S c) ws (⊎-elim (λ z. inl z) (λ z. inr (ap (λ (N : State). isOpen T U (after t N cs)) n ∙ z)) q) in
+      let rest = calls-alike cs (afterCall s S c) ws (⊎-elim (λ z. inl z) (λ z. inr (ap (λ (N : State). isDisclosed T U (after t N cs)) n ∙ z)) q) in
       let b : leftBy s (stateBytes S) c .negotiation ≡ stateBytes (afterCall s S c) = left-after s S c in
       let d : leftBy t (stateBytes S) c .negotiation ≡ stateBytes (afterCall s S c) = left-after t S c ∙ sym (ap stateBytes n) in
       let more : run s (leftBy s (stateBytes S) c .negotiation) cs ≡ run t (leftBy t (stateBytes S) c .negotiation) cs =

@@ -11,6 +11,7 @@ use Rattle.expression.specs.declared.Role.{Role}
 use Rattle.expression.specs.declared.Credential.{Credential}
 use Rattle.expression.specs.declared.Expression.{Expression}
 use Rattle.expression.specs.declared.Expression.the-variants as E
+use Rattle.expression.specs.Kinds.{isRoleExpression}
 use Rattle.rt0.specs.declared.Pool.{Pool}
 use Rattle.rt0.specs.Pool.{credentials}
 use Rattle.rt0.specs.Added.{count-length}
@@ -34,7 +35,6 @@ use Rattle.moves.specs.declared.Own.{Own}
 use Rattle.moves.specs.declared.Wanted.{Wanted}
 use Rattle.moves.specs.declared.Outgoing.{Outgoing}
 use Rattle.moves.specs.Initial.{initialState}
-use Rattle.moves.specs.Stops.{isRoleExpression}
 use Rattle.moves.specs.Wanted.{childNumber}
 use Rattle.moves.specs.Own.{Prepared}
 use Rattle.sending.specs.Unshown.{unshownOf}

@@ -2,7 +2,7 @@
 use Prim.Native.Nat.{ℕ, _≤_, _<_}
 use native.Mathlib.Omega.{arith}
 use mathlib.Core.Path.{_≡_, refl, sym, _∙_, ap}
-use mathlib.Core.Bool.{Bool, true, false, not, cond, _&&_, _||_}
+use mathlib.Core.Bool.{Bool, true, false, not, cond, _&&_, _||_, or-true}
 use mathlib.Core.List.{List, [], _∷_}
 use borrow.Author.Tests.{eq-eqb, ne-eqb, le-ltb, lt-ltb}
 use lib.Dec.{eqb, ltb}
@@ -17,7 +17,7 @@ use Rattle.graph.specs.Graph.{expressionFrom, nodesOf, edgesOf}
 use Rattle.graph.specs.Columns.{nodes-length, edges-length, node-in}
 use Rattle.graph.specs.States.{solutionKind}
 use Rattle.graph.specs.Propagated.{isChild, allChildren, satisfiedB, failedB, completeAs, completeB, stateOf}
-use Rattle.propagation.specs.Flags.{at, flag, or-true}
+use Rattle.propagation.specs.Flags.{at, flag}
 use Rattle.propagation.specs.Satisfied.{graph, satisfiedOf}
 use Rattle.propagation.specs.Failed.{failedOf}
 use Rattle.states.specs.Brings.{NodesFormed, EdgesFormed, Joined, Needs, Ways}

@@ -3,7 +3,7 @@ use Prim.Native.Nat.{ℕ, _+_, _*_, _<_}
 use native.Mathlib.Omega.{arith}
 use mathlib.Core.Path.{_≡_, refl, sym, _∙_, ap}
 use mathlib.Core.Logic.{⊎-elim}
-use mathlib.Core.Bool.{Bool, true, false, not, cond, _||_}
+use mathlib.Core.Bool.{Bool, true, false, not, cond, _||_, or-false}
 use mathlib.Core.List.{List}
 use borrow.Author.Tests.{eqb-true, eq-eqb, not-true}
 use lib.Dec.{eqb}
@@ -24,7 +24,7 @@ use Rattle.graph.specs.States.{intersectionKind, FullyProcessed, Child, Failed,
 use Rattle.graph.specs.StatesLaws.{processed-inside, failed-inside}
 use Rattle.graph.specs.Propagated.{failedB}
 use Rattle.graph.specs.PropagatedLaws.{failed-exact}
-use Rattle.propagation.specs.Flags.{at, bool-iff, decided, not-of, or-none}
+use Rattle.propagation.specs.Flags.{at, bool-iff, decided, not-of}
 use Rattle.propagation.specs.Least.{least-into}
 use Rattle.propagation.specs.Satisfied.{Graph, graph, nodeAt}
 use Rattle.propagation.specs.Failed.{childOf, failsBy, failedRule, failedOf}
@@ -41,7 +41,7 @@ fails-zero a h e = false-true e
 
 fails-one : (t a h : Bool) → failsBy (cond t 1 0) a h ≡ true → (t ≡ true) × (a ≡ false)
 unfolding failsBy
-fails-one true a h e = (refl, not-true a (sym (or-none (not a)) ∙ e))
+fails-one true a h e = (refl, not-true a (sym (or-false (not a)) ∙ e))
 fails-one false a h e = absurd (fails-zero a h e)
 
 fails-two : (a h : Bool) → failsBy 2 a h ≡ true → h ≡ true

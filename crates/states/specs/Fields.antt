@@ -3,7 +3,7 @@ use Prim.Native.Nat.{ℕ, _+_, _*_, _≤_, _<_}
 use native.Mathlib.Omega.{arith}
 use mathlib.Core.Path.{_≡_, refl, sym, _∙_, ap}
 use mathlib.Core.Logic.{⊎-elim}
-use mathlib.Core.Bool.{Bool, true, false, not, cond, _&&_, _||_}
+use mathlib.Core.Bool.{Bool, true, false, not, cond, _&&_, _||_, and-false}
 use borrow.Author.Tests.{eqb-true, lt-ltb, le-ltb, leb-true, leb-false}
 use lib.Dec.{eqb, ltb, leb}
 use Rattle.expression.specs.declared.Role.{Role}
@@ -14,7 +14,7 @@ use Rattle.expression.specs.declared.Expression.the-variants as E
 use Rattle.expression.specs.Form.{pickExpression, expressionOf}
 use Rattle.rt0.specs.Lists.{false-true, or-cases}
 use Rattle.rt0.specs.From.{roleOf}
-use Rattle.propagation.specs.Flags.{decided, and-none}
+use Rattle.propagation.specs.Flags.{decided}
 use Rattle.graph.specs.declared.Nodes.{Nodes}
 use Rattle.graph.specs.Graph.{rawFrom}
 use Rattle.graph.specs.States.{implicationKind}
@@ -159,7 +159,7 @@ module _ (n k p c : ℕ) (X : ℕ → Expression) where
   unfolding slotBy
   slot-outside {x} {y} e f h = sym (ap (λ (b : Bool). cond (b && ltb (slotAs k (X p) (X c)) 4) (p * 4 + slotAs k (X p) (X c)) 512) (⊎-elim
       (λ t. ap (λ (b : Bool). b && ltb c n) (le-ltb p n (omega (arith, leb-true n x t))))
-      (λ t. ap (λ (b : Bool). ltb p n && b) (le-ltb c n (omega (arith, leb-true n y t))) ∙ and-none (ltb p n)) (or-cases (leb n x) (leb n y) h)))
+      (λ t. ap (λ (b : Bool). ltb p n && b) (le-ltb c n (omega (arith, leb-true n y t))) ∙ and-false (ltb p n)) (or-cases (leb n x) (leb n y) h)))
 
   read-slot : {x y s : ℕ} → x ≡ p → y ≡ c → s ≡ slotAs k (X x) (X y) → s ≡ slotAs k (X p) (X c)
   read-slot e f h = h ∙ (λ i. slotAs k (X (e i)) (X (f i)))
@@ -168,7 +168,7 @@ module _ (n k p c : ℕ) (X : ℕ → Expression) where
   unfolding slotBy
   slot-none {s = s} e f h l =
       let z : s ≡ slotAs k (X p) (X c) = read-slot e f h in
-      sym (ap (λ (b : Bool). cond (ltb p n && ltb c n && b) (p * 4 + slotAs k (X p) (X c)) 512) (le-ltb (slotAs k (X p) (X c)) 4 (omega arith)) ∙ ap (λ (b : Bool). cond b (p * 4 + slotAs k (X p) (X c)) 512) (and-none (ltb p n && ltb c n)))
+      sym (ap (λ (b : Bool). cond (ltb p n && ltb c n && b) (p * 4 + slotAs k (X p) (X c)) 512) (le-ltb (slotAs k (X p) (X c)) 4 (omega arith)) ∙ ap (λ (b : Bool). cond b (p * 4 + slotAs k (X p) (X c)) 512) (and-false (ltb p n && ltb c n)))
 
   pub slot-some : {x y s : ℕ} → x ≡ p → y ≡ c → (leb n x || leb n y) ≡ false → s ≡ slotAs k (X x) (X y) → s < 4 → p * 4 + s ≡ slotBy n k p c (X p) (X c)
   unfolding slotBy

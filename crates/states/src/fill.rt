@@ -1,11 +1,11 @@
 // The columns of propagation, filled from a graph.
 use crate::EdgeColumns;
-use crate::wide;
 use expression::Parts;
 use expression::Role;
 use expression::same_role;
 use graph::Edges;
 use graph::Nodes;
+use word::wide;
 ghost use mathlib.Core.Path.{_≡_};
 ghost use Prim.Native.Nat.{_≤_, _<_};
 ghost use Rattle.expression.specs.declared.Expression.the-variants as E;

@@ -3,6 +3,7 @@ use graph::Edges;
 use graph::Nodes;
 use propagation::failed;
 use propagation::satisfied;
+use word::wide;
 ghost use mathlib.Core.Path.{_≡_};
 ghost use Prim.Native.Nat.{_≤_, _<_};
 ghost use Rattle.rt0.specs.Lists.{any};
@@ -27,12 +28,6 @@ pub struct EdgeColumns {
 pub struct NodeStates {
     pub satisfied: [u8; 128],
     pub failed: [u8; 128],
-}
-
-fn wide(x: u8) -> usize
-    ensures { λ r. ⌜ r ≡ x ⌝ }
-{
-    x as usize
 }
 
 // Whether edge j brings goal i a solution that is neither satisfied nor failed.

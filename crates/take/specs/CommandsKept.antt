@@ -3,13 +3,13 @@ use Prim.Native.Nat.{ℕ, zero, suc, _+_}
 use native.Mathlib.Omega.{arith}
 use mathlib.Core.Path.{_≡_, refl, sym, _∙_, ap, subst}
 use mathlib.Core.Logic.{⊎-elim}
-use mathlib.Core.Bool.{Bool, true, false, not, cond, _&&_, _||_}
+use mathlib.Core.Bool.{Bool, true, false, not, cond, _&&_, _||_, or-true}
 use mathlib.Core.List.{List, [], _∷_, _++_}
 use borrow.Author.Tests.{eq-eqb, eqb-true}
 use lib.Dec.{eqb}
 use lib.ListN.{length, length-append, length-set}
 use Rattle.expression.specs.declared.Credential.{Credential}
-use Rattle.rt0.specs.Lists.{false-true}
+use Rattle.rt0.specs.Lists.{false-true, or-neither, or-left}
 use Rattle.class.specs.declared.Name.{Name}
 use Rattle.class.specs.Typing.{typeOf, credentialNumber}
 use Rattle.graph.specs.declared.Node.{Node}
@@ -83,18 +83,6 @@ step-some S s (Join e) some z = some z
 step-some S s (Mark i) some z = some (sym (length-set (S .nodes) i _) ∙ z)
 step-some S s End some z = some z
 
-or-none : (a b : Bool) → (a || b) ≡ false → (a ≡ false) × (b ≡ false)
-or-none true b h = absurd (false-true (sym h))
-or-none false b h = (refl, h)
-
-or-some : (a b : Bool) → a ≡ true → (a || b) ≡ true
-or-some true b h = refl
-or-some false b h = absurd (false-true h)
-
-or-last : (a : Bool) → (a || true) ≡ true
-or-last true = refl
-or-last false = refl
-
 -- All commands
 
 module _ (ns : List Name) (s : ℕ) (m : List ℕ) where
@@ -109,7 +97,7 @@ module _ (ns : List Name) (s : ℕ) (m : List ℕ) where
         some = l .some;
         header = l .header ∙ step-header S s c;
         sizes = l .sizes;
-        moves = λ e. l .moves (or-some v (isMove c) e);
+        moves = λ e. l .moves (or-left v (isMove c) e);
         still = λ e. let p = l .still e in let q = step-still S s c (unmoved e) in (p .0 ∙ q .0, p .1 ∙ q .1);
       }
     where
@@ -118,7 +106,7 @@ module _ (ns : List Name) (s : ℕ) (m : List ℕ) where
         where
           go : (b : Bool) → (v || isMove c) ≡ b → isMove c ≡ false
           go true h = absurd (false-true (sym e ∙ l .moves h))
-          go false h = or-none v (isMove c) h .1
+          go false h = or-neither v (isMove c) h .1
 
   -- the commands from an index on
   abbrev Leads : ℕ → State → Bool → Type 0
@@ -177,7 +165,7 @@ module _ (ns : List Name) (m : List ℕ) (S : State) (side : S .header .side ≡
   behind-open : (f at : ℕ) (v : Bool) (T : State) (w : Bool) (o : Opening) → Behind f at v T w (Open o)
   behind-open f at v T w o e l q =
       let k = commands-led ns 0 m f T w (at + sizeOf (Open o)) (stepped S 0 (Open o)) (v || true) (open-kept ns S o side no-node no-edge no-shown own (command-formed m at (Open o) e) l) (opened-some o) (step-within S wi 0 (Open o) (legal-room S ns 0 (Open o) l)) q in
-      (follows ns 0 m S v (Open o) T w k, k .moves (or-last v))
+      (follows ns 0 m S v (Open o) T w k, k .moves (or-true v))
 
   pub opening-led : (f at : ℕ) (v : Bool) (T : State) (w : Bool) → commandsFrom f ns 0 m at S v ≡ taken T w → Led ns S v T w × (w ≡ true)
   unfolding commandsFrom isFresh

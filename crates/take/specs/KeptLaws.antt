@@ -6,7 +6,7 @@ use mathlib.Core.Logic.{_⊎_, ⊎-elim}
 use mathlib.Core.Bool.{Bool, true, false, not, _&&_, _||_}
 use mathlib.Core.List.{List}
 use borrow.Author.Tests.{eq-eqb}
-use Rattle.rt0.specs.Lists.{false-true}
+use Rattle.rt0.specs.Lists.{false-true, or-neither}
 use Rattle.rt0.specs.declared.Pool.{Pool}
 use Rattle.rt0.specs.Pool.{credentials}
 use Rattle.graph.specs.declared.Node.{Node}
@@ -163,15 +163,11 @@ module _ (n : Negotiation) (c : Command) where
       is true e = refl
       is false e = absurd (false-true (sym e))
 
-neither : (x y : Bool) → (x || y) ≡ false → (x ≡ false) × (y ≡ false)
-neither true y h = absurd (false-true (sym h))
-neither false y h = (refl, h)
-
 module _ (k : Kept) (n : Negotiation) (c : Command) where
   -- nothing has to be found
   pub asked-left : (o : Kept) {b : Bool} → Keeps o n → b ≡ isAsked (o .stale) (o .unsettled) c → b ≡ false → k ≡ o → Ready k n c
   asked-left o {b} h be z e =
-      let q = neither (o .stale && isImplication c) (o .unsettled && isLinking c) (sym be ∙ z) in
+      let q = or-neither (o .stale && isImplication c) (o .unsettled && isLinking c) (sym be ∙ z) in
       subst (λ (x : Kept). Ready x n c) (sym e) (ready-left n c o (knowing-left n c o h refl (ap not (q .0))) refl (ap not (q .1)))
 
   pub asked-made : (o : Kept) → Ready o n c → k ≡ o → Ready k n c
@@ -241,7 +237,7 @@ module _ {k r : Kept} (n n′ : Negotiation) (s : ℕ) (c : Command) (h : Keeps 
   current-next : Current (r .stale) (r .known) (n′ .shown)
   unfolding stateOf
   current-next =
-      let both : r .stale ≡ false → (k .stale ≡ false) × (isCredential c ≡ false) = λ z. neither (k .stale) (isCredential c) (sym (w .stale) ∙ z) in
+      let both : r .stale ≡ false → (k .stale ≡ false) × (isCredential c ≡ false) = λ z. or-neither (k .stale) (isCredential c) (sym (w .stale) ∙ z) in
       record {
         knows = λ z. subst Knows (sym (w .known)) (h .current .knows (both z .0));
         same = λ z. ap (λ (x : Known). credentials (x .pool)) (w .known) ∙ h .current .same (both z .0) ∙ sym (ap (λ (S : State). S .shown) e ∙ shown-same (stateOf n) s c (both z .1));
@@ -251,7 +247,7 @@ module _ {k r : Kept} (n n′ : Negotiation) (s : ℕ) (c : Command) (h : Keeps 
   unfolding stateOf
   settled-next =
       let both : r .unsettled ≡ false → (k .unsettled ≡ false) × (not (keepsStates (nodesOf (n .nodes)) (k .sat) c) ≡ false) =
-      λ z. neither (k .unsettled) (not (keepsStates (nodesOf (n .nodes)) (k .sat) c)) (sym (w .unsettled) ∙ z) in
+      λ z. or-neither (k .unsettled) (not (keepsStates (nodesOf (n .nodes)) (k .sat) c)) (sym (w .unsettled) ∙ z) in
       let next : r .unsettled ≡ false → Says (stepped (stateOf n) s c .nodes) (stepped (stateOf n) s c .edges) (k .sat) × Inside (stepped (stateOf n) s c .nodes) (stepped (stateOf n) s c .edges) =
       λ z. keeps-states (stateOf n) s c (k .sat) (h .settled .says (both z .0)) (h .settled .inside (both z .0)) (not-no (keepsStates (nodesOf (n .nodes)) (k .sat) c) (both z .1)) in
       record {

@@ -6,6 +6,7 @@ pub mod Take
 pub mod TakeKept
 pub mod TakeLaws
 pub mod Message
+pub mod Call
 pub mod TakenExactly
 pub mod RefusedExactly
 pub mod TakePublic

@@ -6,19 +6,15 @@ use mathlib.Core.List.{List, [], _∷_, _++_}
 use lib.ListN.{length}
 use Rattle.rt0.specs.Lists.{any}
 use Rattle.class.specs.declared.Name.{Name}
-use Rattle.tables.specs.Tables.{Tables}
 use Rattle.message.specs.declared.Command.{Command}
 use Rattle.message.specs.declared.Command.the-variants.{End}
 use Rattle.message.specs.declared.CommandAnswer.the-variants.{Read, Refused}
 use Rattle.message.specs.Command.{formedCommand, commandBytes, commandAt}
 use Rattle.negotiation.specs.State.{State}
-use Rattle.damage.specs.Restored.{refusal, standing, restoreOf}
 use Rattle.update.specs.Step.{stepped, isMove}
 use Rattle.update.specs.Legal.{legalNumber}
-use Rattle.update.specs.After.{afterMessage}
 use Rattle.update.specs.Update.{Legal}
 use Rattle.take.specs.Commands.{isEnd}
-use Rattle.take.specs.Take.{sends, senderTo, messageSize}
 
 -- the commands' bytes one after another
 abbrev pub bytesOf : List Command → List ℕ
@@ -27,8 +23,7 @@ bytesOf (c ∷ cs) = commandBytes c ++ bytesOf cs
 
 -- then the end's: "0x06 end, 1: stands last and only there"
 abbrev pub messageBytes : List Command → List ℕ
-messageBytes [] = commandBytes End
-messageBytes (c ∷ cs) = commandBytes c ++ messageBytes cs
+messageBytes cs = bytesOf (cs ++ (End ∷ []))
 
 -- commands of side s lead from one state to another: none is an end, each has operands of right form and is legal in the state before it.
 -- "Each command carries the negotiation to its next state"
@@ -59,35 +54,3 @@ pub record Stops (ns : List Name) (s : ℕ) (m : List ℕ) (S : State) (k : ℕ)
   pub bytes : m ≡ bytesOf before ++ rest
   pub updates : Updates ns s S before led
   pub wrong : Wrong ns s m (length (bytesOf before)) led k
-
--- The call
-
--- the lengths are right, and the tables T and the undamaged state S are what the lent bytes hold
-pub record Stands (tables negotiation message scratch : List ℕ) (T : Tables) (S : State) : Type 0 where
-  pub sized : messageSize (length message) (length scratch) ≡ true
-  pub restored : restoreOf tables negotiation ≡ standing T S
-
--- the negotiation has not ended, and it is the sender's turn
-pub record InTurn (S : State) : Type 0 where
-  pub going : S .header .end ≡ 0
-  pub turn : sends (senderTo S) (S .header .messages) ≡ true
-
--- the message holds legal commands and an end, and A is what they lead to, the end being judged
-pub record Accepted (T : Tables) (S : State) (message : List ℕ) (A : State) : Type 0 where
-  pub commands : List Command
-  pub led : State
-  pub carries : Carries (T .names) (senderTo S) message S commands led
-  pub after : A ≡ afterMessage led (moved commands) false
-
--- why a call is refused with k, in the order of "From the state"
-pub data Refusal (tables negotiation message scratch : List ℕ) (k : ℕ) : Type 0 where
-  -- "1 a lent length outside the sizes"
-  size : messageSize (length message) (length scratch) ≡ false → k ≡ 1 → Refusal tables negotiation message scratch k
-  -- the negotiation's length 1, the tables 1 to 6, "20 negotiation damaged"
-  unrestored : messageSize (length message) (length scratch) ≡ true → restoreOf tables negotiation ≡ refusal k → Refusal tables negotiation message scratch k
-  -- "22 already ended"
-  ended : {T : Tables} {S : State} → Stands tables negotiation message scratch T S → (S .header .end ≡ 0 → ⊥) → k ≡ 22 → Refusal tables negotiation message scratch k
-  -- "21 not that side's turn"
-  out-of-turn : {T : Tables} {S : State} → Stands tables negotiation message scratch T S → S .header .end ≡ 0 → sends (senderTo S) (S .header .messages) ≡ false → k ≡ 21 → Refusal tables negotiation message scratch k
-  -- a command
-  stopped : {T : Tables} {S : State} → Stands tables negotiation message scratch T S → InTurn S → Stops (T .names) (senderTo S) message S k → Refusal tables negotiation message scratch k

@@ -39,7 +39,8 @@ use Rattle.update.specs.UpdateExact.{legal-exactly}
 use Rattle.take.specs.Commands as C
 use Rattle.take.specs.CommandsLaws.{refusalOf}
 use Rattle.take.specs.Take.{sends, Outcome, refused, accepted, behindCommands, senderTo, takenIn, behindStanding, messageSize, takeOf}
-use Rattle.take.specs.Message.{bytesOf, Updates, none, next, Wrong, unreadable, illegal, Stops, Stands, InTurn, Refusal, size, unrestored, ended, out-of-turn, stopped}
+use Rattle.take.specs.Message.{bytesOf, Updates, none, next, Wrong, unreadable, illegal, Stops}
+use Rattle.take.specs.Call.{Stands, InTurn, Refusal, size, unrestored, ended, out-of-turn, stopped}
 use Rattle.take.specs.TakenExactly.{size-some, taken-one, take-ended, take-out-of-turn, take-commands}
 
 -- what an answer is

@@ -2,7 +2,7 @@
 use Prim.Native.Nat.{ℕ, zero, suc, _+_, _≤_, _<_}
 use native.Mathlib.Omega.{arith}
 use mathlib.Core.Path.{_≡_, refl, sym, _∙_, ap, subst}
-use mathlib.Core.Bool.{Bool, true, false, not, cond, _||_}
+use mathlib.Core.Bool.{Bool, true, false, not, cond, _||_, or-false, or-assoc}
 use mathlib.Core.List.{List, [], _∷_, _++_}
 use borrow.Author.Tests.{eq-eqb, eqb-true, ne-eqb}
 use lib.Dec.{eqb}
@@ -26,7 +26,8 @@ use Rattle.update.specs.Update.{Legal}
 use Rattle.update.specs.UpdateExact.{legal-exactly}
 use Rattle.take.specs.Commands as C
 use Rattle.take.specs.Take.{sends, Outcome, refused, accepted, behindCommands, senderTo, takenIn, behindStanding, messageSize, takeOf}
-use Rattle.take.specs.Message.{messageBytes, Updates, none, next, moved, Carries, Stands, InTurn, Accepted}
+use Rattle.take.specs.Message.{messageBytes, Updates, none, next, moved, Carries}
+use Rattle.take.specs.Call.{Stands, InTurn, Accepted}
 
 -- what an answer is
 abbrev isTaken : C.Taken → Bool
@@ -66,14 +67,6 @@ size-some (Join e) = omega arith
 size-some (Mark i) = omega arith
 size-some End = omega arith
 
-or-none : (a : Bool) → (a || false) ≡ a
-or-none true = refl
-or-none false = refl
-
-or-assoc : (a b c : Bool) → ((a || b) || c) ≡ (a || (b || c))
-or-assoc true b c = refl
-or-assoc false b c = refl
-
 module _ (ns : List Name) (s : ℕ) (m : List ℕ) where
   -- Legal commands are taken
 
@@ -89,7 +82,7 @@ module _ (ns : List Name) (s : ℕ) (m : List ℕ) where
   pub carried : {S T : State} {cs : List Command} → Updates ns s S cs T → Legal ns s T End → (f at : ℕ) (v : Bool) → drop at m ≡ messageBytes cs → length (messageBytes cs) ≤ f → C.commandsFrom f ns s m at S v ≡ C.taken T (v || moved cs)
   unfolding commandBytes formedCommand
   carried (none {S}) l zero at v h few = absurd (omega arith)
-  carried (none {S}) l (suc f) at v h few = taken-one f at S v End (command-back m at End [] h refl (λ q. refl)) l ∙ ap (C.taken S) (sym (or-none v))
+  carried (none {S}) l (suc f) at v h few = taken-one f at S v End (command-back m at End [] h refl (λ q. refl)) l ∙ ap (C.taken S) (sym (or-false v))
   carried (next {S} {T} {c} {cs} e g k u) l zero at v h few = absurd (omega (arith, length-append (commandBytes c) (messageBytes cs), command-length c, size-some c))
   carried (next {S} {T} {c} {cs} e g k u) l (suc f) at v h few =
       taken-one f at S v c (command-back m at c (messageBytes cs) h g (λ q. absurd (false-true (sym e ∙ ap C.isEnd q)))) k
@@ -116,7 +109,7 @@ module _ (ns : List Name) (s : ℕ) (m : List ℕ) where
     rest-end : (at : ℕ) (S : State) (v : Bool) → commandAt m at ≡ Read End → Legal ns s S End → Rest at S v S v
     rest-end at S v e l =
         let size : length (drop at m) ≤ 1 = omega (arith, length-drop at m, command-end m at e) in
-        record { commands = []; there = sym (take-all 1 (drop at m) size) ∙ command-only m at End bytes e; updates = none; end = l; moves = sym (or-none v) }
+        record { commands = []; there = sym (take-all 1 (drop at m) size) ∙ command-only m at End bytes e; updates = none; end = l; moves = sym (or-false v) }
 
     -- another command, and those behind it
     rest-next : (at : ℕ) (S : State) (v : Bool) (T : State) (w : Bool) (c : Command) → C.isEnd c ≡ false → commandAt m at ≡ Read c → Legal ns s S c → Rest (at + sizeOf c) (stepped S s c) (v || isMove c) T w → Rest at S v T w

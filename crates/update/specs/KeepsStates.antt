@@ -9,6 +9,7 @@ use borrow.Author.Tests.{eqb-true, eqb-false, eq-eqb, ltb-true, lt-ltb, le-ltb}
 use lib.Dec.{eqb, ltb}
 use lib.ListN.{length, getD, length-append}
 use Rattle.expression.specs.declared.Credential.{Credential}
+use Rattle.expression.specs.Kinds.{isEntity}
 use Rattle.rt0.specs.Lists.{false-true, or-cases, and-parts}
 use Rattle.propagation.specs.Flags.{flag, flag-past, decided}
 use Rattle.graph.specs.declared.Node.{Node}
@@ -27,7 +28,7 @@ use Rattle.message.specs.declared.Command.{Command}
 use Rattle.message.specs.declared.Command.the-variants.{Show, Open, Bring, Join, Mark, End}
 use Rattle.negotiation.specs.State.{State, withShown, withNode, withEdge, withMark}
 use Rattle.update.specs.Step.{stepped, primaryOf, childOf, childIn, edgeIn, markedState}
-use Rattle.update.specs.SameStates.{Still, still-none, still-both, still-same, Inside, Idle, still-edge, inside-edge, isTrivial, still-node, inside-node, idle-new, isParts, still-mark, inside-mark}
+use Rattle.update.specs.SameStates.{Still, still-none, still-both, still-same, Inside, Idle, still-edge, inside-edge, still-node, inside-node, idle-new, isParts, still-mark, inside-mark}
 
 -- an edge of kind k into a node in state s brings it nothing; c and p say whether its child is satisfied, and its parent. A part counts only
 -- where the intersection is fully processed.
@@ -38,7 +39,7 @@ bringsNothing k s c p = not c || p || (not (eqb k 1) && not (eqb k 4) && (not (e
 unfoldable pub keepsStates : List Node → List ℕ → Command → Bool
 keepsStates ns sat (Show c) = true
 keepsStates ns sat (Open o) = true
-keepsStates ns sat (Bring n) = ltb (n .parent) (length ns) && not (isTrivial (n .expression))
+keepsStates ns sat (Bring n) = ltb (n .parent) (length ns) && not (isEntity (n .expression))
 keepsStates ns sat (Join e) = ltb (e .parent) (length ns) && bringsNothing (e .kind) (nodeIn ns (e .parent) .state) (flag sat (e .child)) (flag sat (e .parent))
 keepsStates ns sat (Mark i) = ltb i (length ns) && not (isParts (nodeIn ns i .expression))
 keepsStates ns sat End = true
@@ -93,8 +94,8 @@ still-step S s (Open o) sat says inside h = (still-node (S .nodes) (S .edges) (p
 still-step S s (Bring n) sat says inside h =
     let x : Node = childIn S n in
     let e : Edge = edgeIn S n in
-    let q = and-parts (ltb (n .parent) (length (S .nodes))) (not (isTrivial (n .expression))) h in
-    let plain : isTrivial (n .expression) ≡ false = not-is (isTrivial (n .expression)) (q .1) in
+    let q = and-parts (ltb (n .parent) (length (S .nodes))) (not (isEntity (n .expression))) h in
+    let plain : isEntity (n .expression) ≡ false = not-is (isEntity (n .expression)) (q .1) in
     let l : n .parent < length (S .nodes) = ltb-true (n .parent) (length (S .nodes)) (q .0) in (
       still-both (still-node (S .nodes) (S .edges) x inside plain) (still-edge (S .nodes ++ (x ∷ [])) (S .edges) e (idle-new (S .nodes) (S .edges) x inside plain e refl)),
       inside-edge (S .nodes ++ (x ∷ [])) (S .edges) e (inside-node (S .nodes) (S .edges) x inside) (omega (arith, l, length-append (S .nodes) (x ∷ []))),
@@ -148,11 +149,11 @@ module _ (N : Nodes) (sat : List ℕ) where
 
   pub bring-absent : (n : NewEdge) → N .count ≤ n .parent → false ≡ keepsStates (nodesOf N) sat (Bring n)
   unfolding keepsStates
-  bring-absent n l = absent (n .parent) (not (isTrivial (n .expression))) l
+  bring-absent n l = absent (n .parent) (not (isEntity (n .expression))) l
 
-  pub bring-keeps : (n : NewEdge) {t : Bool} → n .parent < N .count → t ≡ isTrivial (n .expression) → not t ≡ keepsStates (nodesOf N) sat (Bring n)
+  pub bring-keeps : (n : NewEdge) {t : Bool} → n .parent < N .count → t ≡ isEntity (n .expression) → not t ≡ keepsStates (nodesOf N) sat (Bring n)
   unfolding keepsStates
-  bring-keeps n l e = ap not e ∙ present (n .parent) (not (isTrivial (n .expression))) l
+  bring-keeps n l e = ap not e ∙ present (n .parent) (not (isEntity (n .expression))) l
 
   pub join-absent : (e : Edge) → N .count ≤ e .parent → false ≡ keepsStates (nodesOf N) sat (Join e)
   unfolding keepsStates

@@ -10,7 +10,7 @@ use lib.Dec.{eqb}
 use lib.ListN.{length, set, length-set}
 use Rattle.expression.specs.declared.Credential.{Credential}
 use Rattle.expression.specs.Credential.{wellFormedCredential}
-use Rattle.rt0.specs.Lists.{false-true, and-parts, and-both, or-cases, or-left, or-right}
+use Rattle.rt0.specs.Lists.{false-true, and-parts, and-both, or-cases, or-left, or-right, or-neither}
 use Rattle.rt0.specs.Laws.{from?-grows}
 use Rattle.class.specs.declared.Name.{Name}
 use Rattle.class.specs.Typing.{credentialNumber}
@@ -34,7 +34,7 @@ use Rattle.damage.specs.Damage.{recordsSound, edgesJustified}
 use Rattle.damage.specs.DamageLaws.{sound-legal, fits-sound}
 use Rattle.update.specs.Step.{markedState, stepped}
 use Rattle.update.specs.Legal.{refuse, first, isFresh, isAbsent, formedAs, showNumber, joinWrong, joinNumber, markNumber, justifiedIn, legalBy, legalNumber}
-use Rattle.update.specs.LegalLaws.{refuse-none, first-none, or-false}
+use Rattle.update.specs.LegalLaws.{refuse-none, first-none}
 use Rattle.update.specs.Growth.{Each, Ends, turn-last, turn-more, turn-at, fits-of, edges-ends, all-fit, all-justified}
 use Rattle.update.specs.Marked.{marked-legal, marked-gains, turn-marked}
 
@@ -124,12 +124,12 @@ module _ (ns : List Name) (s : ℕ) (S : State) (e : Edge) where
   join-parts l =
       let a = refuse-none (isFresh S) 23 _ (omega arith) l in
       let b = refuse-none (isAbsent S (e .parent) || isAbsent S (e .child)) 24 _ (omega arith) (a .1) in
-      let k = or-false (isAbsent S (e .parent)) (isAbsent S (e .child)) (b .0) in
+      let k = or-neither (isAbsent S (e .parent)) (isAbsent S (e .child)) (b .0) in
       let c = refuse-none (joinWrong S e) 25 _ (omega arith) (b .1) in
       let d = refuse-none (not (justified (S .shown) (S .nodes) (S .edges) e)) 26 _ (omega arith) (c .1) in
       let f : Bool = formedAs (S .header) (e .kind) (nodeIn (S .nodes) (e .parent)) (nodeIn (S .nodes) (e .child)) in
-      let y = or-false (not f) (eqb (e .parent) (e .child) || hasEdge (S .edges) e) (c .0) in
-      let z = or-false (eqb (e .parent) (e .child)) (hasEdge (S .edges) e) (y .1) in
+      let y = or-neither (not f) (eqb (e .parent) (e .child) || hasEdge (S .edges) e) (c .0) in
+      let z = or-neither (eqb (e .parent) (e .child)) (hasEdge (S .edges) e) (y .1) in
       (present S (e .parent) (k .0), present S (e .child) (k .1), not-false f (y .0), z .0, z .1, not-false (justified (S .shown) (S .nodes) (S .edges) e) (d .0))
 
   pub join-kept : GraphKept ns S → legalNumber ns s S (Join e) ≡ 0 → GraphKept ns (stepped S s (Join e))

@@ -11,7 +11,7 @@ use lib.ListN.{length, length-append, List·getD-append}
 use lib.Seq.{getD-append-seam}
 use Rattle.expression.specs.declared.Expression.{Expression}
 use Rattle.expression.specs.Form.{wellFormed}
-use Rattle.rt0.specs.Lists.{and-parts, and-both, any, any-find, false-true}
+use Rattle.rt0.specs.Lists.{and-parts, and-both, any, any-find, false-true, or-neither}
 use Rattle.class.specs.declared.Name.{Name}
 use Rattle.class.specs.declared.Typing.{Typing}
 use Rattle.class.specs.declared.Typing.the-variants.{Unnamed, Ill, Any, Class}
@@ -42,7 +42,7 @@ use Rattle.update.specs.Step.{processedBy, verifierOf, childOf, parentIn
 use Rattle.update.specs.NewChild.{bring-justified}
 use Rattle.update.specs.Legal.{isFresh, isAbsent, formedAs, typeNumber, bringWrong, justifiedFor, bringNumber, justifiedIn, legalBy, legalNumber}
 use Rattle.update.specs.Growth.{Each, Ends, turn-last, turn-at, fits-of, all-fit, all-justified}
-use Rattle.update.specs.LegalLaws.{refuse-none, first-none, or-false}
+use Rattle.update.specs.LegalLaws.{refuse-none, first-none}
 use Rattle.update.specs.Kept.{GraphKept, present, record-parts, records-of, brought-parts, brought-of, all-ends}
 
 -- an expression that is not refused keeps the class rules
@@ -94,7 +94,7 @@ module _ (ns : List Name) (s : ℕ) (S : State) (n : NewEdge) where
       let c = refuse-none (bringWrong S n) 25 _ (omega arith) (b .1) in
       let d = refuse-none (not (justifiedFor S (n .kind) (n .parent) (n .expression) (n .subject))) 26 _ (omega arith) (c .1) in
       let f : Bool = formedAs (S .header) (n .kind) (nodeIn (S .nodes) (n .parent)) (childIn S n) in
-      let w = or-false (not f) (any (isNode (n .expression) v (n .subject)) (S .nodes)) (c .0) in
+      let w = or-neither (not f) (any (isNode (n .expression) v (n .subject)) (S .nodes)) (c .0) in
       (typed (typeOf ns (n .expression)) (t .0), present S (n .parent) (b .0), not-false f (w .0), w .1, not-false (justifiedFor S (n .kind) (n .parent) (n .expression) (n .subject)) (d .0))
 
   child-sound : nodeIn (S .nodes) (n .parent) .verifier < 2 → formedCommand (Bring n) ≡ true → isTyped (typeOf ns (n .expression)) ≡ true → nodeSound ns (childIn S n) ≡ true

@@ -8,7 +8,7 @@ use borrow.Author.Tests.{eq-eqb, ne-eqb, eqb-true, eqb-false, le-leb, lt-leb, le
 use lib.Dec.{eqb, leb}
 use lib.ListN.{length}
 use Rattle.expression.specs.Laws.{and-left, and-right}
-use Rattle.rt0.specs.Lists.{false-true}
+use Rattle.rt0.specs.Lists.{false-true, or-neither}
 use Rattle.rt0.specs.Pool.{credentials}
 use Rattle.rt0.specs.Added.{count-length}
 use Rattle.class.specs.declared.Name.{Name}
@@ -53,11 +53,7 @@ first-none k rest h = go (eqb k 0) refl h
     go true e g = (eqb-true k 0 e, g)
     go false e g = absurd (eqb-false k 0 e g)
 
-pub or-false : (a b : Bool) → (a || b) ≡ false → (a ≡ false) × (b ≡ false)
-or-false true b h = absurd (false-true (sym h))
-or-false false b h = (refl, h)
-
-module _ (n : Negotiation) where
+pub module _ (n : Negotiation) where
   pub fresh-yes : n .nodes .count ≡ 0 → isFresh (stateOf n) ≡ true
   unfolding isFresh stateOf
   fresh-yes h = eq-eqb (length (nodesOf (n .nodes))) 0 (nodes-length (n .nodes) ∙ h)
@@ -120,18 +116,6 @@ module _ (k : ℕ) (i m : Bool) where
   by-kind h g = sym (λ t. (not (ne-eqb k 1 h t) || i) && (not (ne-eqb k 4 g t) || m))
 
 -- One of the commands
-
--- the counts within the sizes
-pub within-few : (n : Negotiation) → within (stateOf n) ≡ true → (n .nodes .count ≤ 128) × (n .edges .count ≤ 256) × (n .shown .count ≤ 64)
-unfolding within stateOf
-within-few n h =
-    let a : Bool = leb (length (nodesOf (n .nodes))) 128 in
-    let b : Bool = leb (length (edgesOf (n .edges))) 256 in
-    let d : Bool = leb (length (credentials (n .shown))) 64 in (
-      omega (arith, nodes-length (n .nodes), leb-true (length (nodesOf (n .nodes))) 128 (and-left a b (and-left (a && b) d h))),
-      omega (arith, edges-length (n .edges), leb-true (length (edgesOf (n .edges))) 256 (and-right a b (and-left (a && b) d h))),
-      omega (arith, count-length (n .shown), leb-true (length (credentials (n .shown))) 64 (and-right (a && b) d h)),
-    )
 
 pub legal-for : (ns : List Name) (s : ℕ) (S : State) (c k : Command) (j : Bool) {r : ℕ} → c ≡ k → r ≡ legalBy ns s S k j → r ≡ legalBy ns s S c j
 legal-for ns s S c k j h e = e ∙ ap (λ (d : Command). legalBy ns s S d j) (sym h)

@@ -3,7 +3,7 @@ use Prim.Native.Nat.{ℕ, zero, suc, _<_}
 use native.Mathlib.Omega.{arith}
 use mathlib.Core.Path.{_≡_, refl, sym, _∙_, ap}
 use mathlib.Core.Logic.{⊎-elim}
-use mathlib.Core.Bool.{Bool, true, false, not, cond, _&&_, _||_}
+use mathlib.Core.Bool.{Bool, true, false, not, cond, _&&_, _||_, or-false}
 use mathlib.Core.List.{List, [], _∷_, _++_}
 use borrow.Author.Tests.{eqb-true, ltb-true}
 use lib.Bits.{bitOr}
@@ -15,7 +15,6 @@ use Rattle.expression.specs.Form.{wellFormed}
 use Rattle.rt0.specs.Lists.{false-true, or-cases, and-parts, and-both, any}
 use Rattle.class.specs.declared.Name.{Name}
 use Rattle.class.specs.Typing.{typeOf}
-use Rattle.propagation.specs.Flags.{or-none}
 use Rattle.graph.specs.declared.Node.{Node}
 use Rattle.graph.specs.Graph.{nodeIn, inState}
 use Rattle.graph.specs.Form.{legalState}
@@ -92,7 +91,7 @@ or-assoc true b c = refl
 or-assoc false b c = refl
 
 any-last : (f : Node → Bool) (xs : List Node) (x : Node) → any f (xs ++ (x ∷ [])) ≡ (any f xs || f x)
-any-last f [] x = or-none (f x)
+any-last f [] x = or-false (f x)
 any-last f (y ∷ ys) x = ap (λ (r : Bool). f y || r) (any-last f ys x) ∙ or-assoc (f y) (any f ys) (f x)
 
 -- the same nodes but for their states

@@ -8,7 +8,7 @@ use borrow.Author.Tests.{eqb-true, eqb-false, lt-ltb, ltb-true, le-leb, leb-true
 use lib.Dec.{eqb, ltb, leb}
 use lib.ListN.{length, length-append, length-set}
 use Rattle.expression.specs.Laws.{and-left, and-right}
-use Rattle.rt0.specs.Lists.{and-both}
+use Rattle.rt0.specs.Lists.{and-both, or-neither}
 use Rattle.class.specs.declared.Name.{Name}
 use Rattle.message.specs.declared.Command.{Command}
 use Rattle.message.specs.declared.Command.the-variants.{Show, Open, Bring, Join, Mark, End}
@@ -16,7 +16,7 @@ use Rattle.graph.specs.Graph.{nodeIn, inState}
 use Rattle.negotiation.specs.State.{State, within, withShown, withNode, withEdge, withMark}
 use Rattle.update.specs.Step.{stepped, markedState, hasRoom}
 use Rattle.update.specs.Legal.{refuse, first, isFresh, isAbsent, showNumber, openNumber, markNumber, joinNumber, bringNumber, legalBy, legalNumber}
-use Rattle.update.specs.LegalLaws.{refuse-none, first-none, or-false}
+use Rattle.update.specs.LegalLaws.{refuse-none, first-none}
 
 room : (most n : ℕ) → leb most n ≡ false → ltb n most ≡ true
 room most n h = lt-ltb n most (leb-false most n h)
@@ -37,7 +37,7 @@ module _ (S : State) where
   legal-room ns s (Bring n) h =
       let a = refuse-none _ _ _ (omega arith) (refuse-none _ _ _ (omega arith) (first-none _ _ h .1) .1) in
       let b = refuse-none _ _ _ (omega arith) (refuse-none _ _ _ (omega arith) (refuse-none _ _ _ (omega arith) (refuse-none _ _ _ (omega arith) (a .1) .1) .1) .1) in
-      let d = or-false (leb 128 (length (S .nodes))) (leb 256 (length (S .edges))) (b .0) in
+      let d = or-neither (leb 128 (length (S .nodes))) (leb 256 (length (S .edges))) (b .0) in
       and-both _ _ (and-both _ _ (stands (n .parent) (a .0)) (room 128 (length (S .nodes)) (d .0))) (room 256 (length (S .edges)) (d .1))
   legal-room ns s (Join e) h =
       let a = refuse-none _ _ _ (omega arith) (refuse-none _ _ _ (omega arith) (refuse-none _ _ _ (omega arith) h .1) .1) in

@@ -14,6 +14,7 @@ use Rattle.expression.specs.declared.Role.{Role}
 use Rattle.expression.specs.declared.Parts.{Parts}
 use Rattle.expression.specs.declared.Expression.{Expression}
 use Rattle.expression.specs.declared.Expression.the-variants as E
+use Rattle.expression.specs.Kinds.{isEntity}
 use Rattle.rt0.specs.Lists.{false-true}
 use Rattle.rt0.specs.From.{rolesOf}
 use Rattle.propagation.specs.Flags.{at, bool-iff}
@@ -111,14 +112,6 @@ module _ (ns : List Node) (es : List Edge) (e : Edge) where
 
 -- A node more
 
--- a trivial target
-abbrev pub isTrivial : Expression → Bool
-isTrivial (E.Entity a) = true
-isTrivial (E.Role a) = false
-isTrivial (E.Linked a r) = false
-isTrivial (E.Intersection p) = false
-isTrivial (E.Goal r) = false
-
 module _ (ns : List Node) (es : List Edge) (x : Node) (inside : Inside ns es) where
   abbrev more : List Node
   more = ns ++ (x ∷ [])
@@ -141,13 +134,13 @@ module _ (ns : List Node) (es : List Edge) (x : Node) (inside : Inside ns es) wh
       (λ a m. record { child = child-wider (w a m .child); role = old-expression (f a m) (w a m .child .inside) ∙ w a m .role })
       (λ a m. node-onward (h a m))
 
-  module _ (plain : isTrivial (x .expression) ≡ false) where
+  module _ (plain : isEntity (x .expression) ≡ false) where
     trivial-back : {i a : ℕ} → nodeIn more i .expression ≡ E.Entity a → Satisfied ns es i
     trivial-back {i} {a} e = go (eqb i (length ns)) refl
       where
         go : (b : Bool) → eqb i (length ns) ≡ b → Satisfied ns es i
         go true q =
-            absurd (false-true (sym plain ∙ ap (λ (n : Node). isTrivial (n .expression)) (sym (getD-append-seam ns x [] blank)) ∙ ap (λ (j : ℕ). isTrivial (nodeIn more j .expression)) (sym (eqb-true i (length ns) q)) ∙ ap isTrivial e))
+            absurd (false-true (sym plain ∙ ap (λ (n : Node). isEntity (n .expression)) (sym (getD-append-seam ns x [] blank)) ∙ ap (λ (j : ℕ). isEntity (nodeIn more j .expression)) (sym (eqb-true i (length ns) q)) ∙ ap isEntity e))
         go false q =
             let l : i < length ns = omega (arith, satisfied-inside {ns = more} {es = es} (trivial e), length-append ns (x ∷ []), eqb-false i (length ns) q) in
             trivial (sym (old-expression i l) ∙ e)
@@ -171,7 +164,7 @@ module _ (ns : List Node) (es : List Edge) (x : Node) (inside : Inside ns es) wh
   inside-node = record { parent = λ d m. omega (arith, inside .parent d m, length-append ns (x ∷ [])) }
 
   -- an edge from the new node brings nothing
-  pub idle-new : isTrivial (x .expression) ≡ false → (e : Edge) → e .child ≡ length ns → Idle more es e
+  pub idle-new : isEntity (x .expression) ≡ false → (e : Edge) → e .child ≡ length ns → Idle more es e
   idle-new plain e q =
       let none : Satisfied more es (e .child) → ⊥ = λ h. omega (arith, satisfied-inside (node-back plain h), q) in
       record { implication = λ k h. absurd (none h); part = λ k z h. absurd (none h) }

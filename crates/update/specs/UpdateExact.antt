@@ -13,7 +13,7 @@ use Rattle.expression.specs.declared.Credential.{Credential}
 use Rattle.expression.specs.declared.Expression.{Expression}
 use Rattle.expression.specs.declared.Expression.the-variants as E
 use Rattle.expression.specs.Same.{same, same-eq, eq-same, sameRole, sameRole-eq, eq-sameRole}
-use Rattle.rt0.specs.Lists.{any, false-true, and-parts, and-both, or-cases, or-left, or-right, any-find, any-here}
+use Rattle.rt0.specs.Lists.{any, false-true, and-parts, and-both, or-cases, or-left, or-right, any-find, any-here, or-neither}
 use Rattle.rt0.specs.From.{roleOf}
 use Rattle.rt0.specs.Decide.{from? as fromOf}
 use Rattle.rt0.specs.Laws.{from-exact}
@@ -42,7 +42,7 @@ use Rattle.damage.specs.Records.{isTyped, isShown}
 use Rattle.update.specs.Limits.{nodesMost, edgesMost, shownMost}
 use Rattle.update.specs.Step.{processedBy, parentIn, childIn}
 use Rattle.update.specs.Legal.{refuse, first, isFresh, isAbsent, formedAs, showNumber, openNumber, markNumber, endNumber, joinWrong, justifiedBy, justifiedFor, joinNumber, typeNumber, bringWrong, bringNumber, justifiedIn, legalBy, legalNumber}
-use Rattle.update.specs.LegalLaws.{passes, first-passes, refuse-none, first-none, or-false}
+use Rattle.update.specs.LegalLaws.{passes, first-passes, refuse-none, first-none}
 use Rattle.update.specs.EdgeLaws.{join-justified}
 use Rattle.update.specs.Update.{Monitored, Justifies, Legal}
 
@@ -295,10 +295,10 @@ module _ (ns : List Name) (s : ℕ) (S : State) where
             let a = refuse-none (isFresh S) 23 _ (omega arith) (k .1) in
             let b = refuse-none (isAbsent S (n .parent)) 24 _ (omega arith) (a .1) in
             let c = refuse-none (not f || g) 25 _ (omega arith) (b .1) in
-            let w = or-false (not f) g (c .0) in
+            let w = or-neither (not f) g (c .0) in
             let d = refuse-none (not j) 26 _ (omega arith) (c .1) in
             let e = refuse-none (processedBy s (parentIn S n)) 27 _ (omega arith) (d .1) in
-            let z = or-false u v (refuse-none (u || v) 28 _ (omega arith) (e .1) .0) in
+            let z = or-neither u v (refuse-none (u || v) 28 _ (omega arith) (e .1) .0) in
             record {
               classes = typed-of (typeOf ns (n .expression)) (k .0);
               parent = stands-of S (n .parent) (b .0);
@@ -333,10 +333,10 @@ module _ (ns : List Name) (s : ℕ) (S : State) where
         λ h.
             let a = refuse-none (isFresh S) 23 _ (omega arith) h in
             let b = refuse-none (isAbsent S (e .parent) || isAbsent S (e .child)) 24 _ (omega arith) (a .1) in
-            let k = or-false (isAbsent S (e .parent)) (isAbsent S (e .child)) (b .0) in
+            let k = or-neither (isAbsent S (e .parent)) (isAbsent S (e .child)) (b .0) in
             let c = refuse-none (not f || (o || g)) 25 _ (omega arith) (b .1) in
-            let w = or-false (not f) (o || g) (c .0) in
-            let y = or-false o g (w .1) in
+            let w = or-neither (not f) (o || g) (c .0) in
+            let y = or-neither o g (w .1) in
             let d = refuse-none (not j) 26 _ (omega arith) (c .1) in
             let u = refuse-none (processedBy s p) 27 _ (omega arith) (d .1) in
             let z = refuse-none (leb edgesMost (length (S .edges))) 28 _ (omega arith) (u .1) in

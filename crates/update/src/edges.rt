@@ -22,6 +22,7 @@ use graph::has_edge;
 use message::NewEdge;
 use negotiation::Header;
 use negotiation::Negotiation;
+use word::wide;
 ghost use mathlib.Core.Path.{_≡_};
 ghost use Prim.Native.Nat.{_≤_, _<_};
 ghost use Rattle.class.specs.Names.{namesOf, Ascending};
@@ -30,12 +31,6 @@ ghost use Rattle.update.specs.Legal.{formedAs, joinWrong, joinNumber, ty
 
 // What find_node answers where there is none.
 const NOWHERE: usize = 128;
-
-fn wide(x: u8) -> usize
-    ensures { λ r. ⌜ r ≡ x ⌝ }
-{
-    x as usize
-}
 
 // An edge from c to p has the form of its kind.
 fn formed_as(h: Header, kind: u8, p: Node, c: Node) -> bool

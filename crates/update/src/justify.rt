@@ -13,6 +13,7 @@ use negotiation::Negotiation;
 use propagation::satisfied;
 use states::links;
 use states::needs;
+use word::wide;
 ghost use mathlib.Core.Path.{_≡_};
 ghost use mathlib.Core.Bool.{true};
 ghost use Prim.Native.Nat.{_≤_, _<_};
@@ -29,12 +30,6 @@ ghost use Rattle.update.specs.Judged.{kindOf, isImplication, isLinking, 
 const IMPLICATION: u8 = 1;
 
 const LINKING_IMPLICATION: u8 = 4;
-
-fn wide(x: u8) -> usize
-    ensures { λ r. ⌜ r ≡ x ⌝ }
-{
-    x as usize
-}
 
 // Which nodes are satisfied.
 pub fn satisfied_nodes(nodes: Nodes, edges: Edges) -> [u8; 128]

@@ -1,18 +1,20 @@
 // Whether a command leaves the satisfied nodes as they are.
 use crate::steps::node_of;
 use expression::Expression;
+use expression::is_entity;
 use graph::Edge;
 use graph::Edges;
 use graph::Nodes;
 use message::Command;
 use message::NewEdge;
+use word::wide;
 ghost use mathlib.Core.Path.{_≡_};
 ghost use mathlib.Core.Bool.{true};
 ghost use Prim.Native.Nat.{_≤_};
 ghost use Rattle.graph.specs.Graph.{nodesOf, edgesOf};
 ghost use Rattle.propagation.specs.Flags.{flag};
 ghost use Rattle.message.specs.declared.Command.the-variants as C;
-ghost use Rattle.update.specs.SameStates.{isTrivial, isParts, Inside};
+ghost use Rattle.update.specs.SameStates.{isParts, Inside};
 ghost use Rattle.update.specs.KeepsStates.{bringsNothing, keepsStates};
 
 const IMPLICATION: u8 = 1;
@@ -23,26 +25,7 @@ const INTERSECTION: u8 = 5;
 
 const PROCESSED: u8 = 3;
 
-fn wide(x: u8) -> usize
-    ensures { λ r. ⌜ r ≡ x ⌝ }
-{
-    x as usize
-}
-
-// Whether an expression is an entity.
-fn is_trivial(x: Expression) -> bool
-    ensures { λ r. ⌜ r ≡ isTrivial x ⌝ }
-{
-    match x {
-        Expression::Entity(_) => true,
-        Expression::Role(_) => false,
-        Expression::Linked(_, _) => false,
-        Expression::Intersection(_) => false,
-        Expression::Goal(_) => false,
-    }
-}
-
-// Whether it is an intersection.
+// Whether an expression is an intersection.
 fn is_parts(x: Expression) -> bool
     ensures { λ r. ⌜ r ≡ isParts x ⌝ }
 {
@@ -85,7 +68,7 @@ fn bring_keeps(nodes: Nodes, sat: [u8; 128], b: NewEdge) -> bool
         return false;
     }
     let y = b.expression;
-    !is_trivial(y)
+    !is_entity(y)
 }
 
 fn join_keeps(nodes: Nodes, sat: [u8; 128], e: Edge) -> bool

@@ -14,17 +14,12 @@ use damage::is_shown;
 use expression::Credential;
 use message::Opening;
 use negotiation::Negotiation;
+use word::wide;
 ghost use mathlib.Core.Path.{_≡_};
 ghost use Prim.Native.Nat.{_≤_};
 ghost use Rattle.class.specs.Names.{namesOf, Ascending};
 ghost use Rattle.negotiation.specs.State.{stateOf};
 ghost use Rattle.update.specs.Legal.{showNumber, openNumber, markNumber, endNumber};
-
-fn wide(x: u8) -> usize
-    ensures { λ r. ⌜ r ≡ x ⌝ }
-{
-    x as usize
-}
 
 pub fn show_number(names: Names, n: Negotiation, c: Credential) -> u64
     requires { ⌜ (names .count ≤ 64) × Ascending (names .count) (names .name) × (n .shown .count ≤ 64) ⌝ }

@@ -10,6 +10,7 @@ use message::Command;
 use message::NewEdge;
 use message::Opening;
 use negotiation::Negotiation;
+use word::wide;
 ghost use mathlib.Core.Path.{_≡_};
 ghost use mathlib.Core.Bool.{true};
 ghost use Prim.Native.Nat.{_≤_, _<_};
@@ -17,12 +18,6 @@ ghost use Rattle.graph.specs.Graph.{nodesOf, nodeIn};
 ghost use Rattle.message.specs.declared.Command.the-variants as C;
 ghost use Rattle.negotiation.specs.State.{stateOf, within};
 ghost use Rattle.update.specs.Step.{stepped, isMove, hasRoom};
-
-fn wide(x: u8) -> usize
-    ensures { λ r. ⌜ r ≡ x ⌝ }
-{
-    x as usize
-}
 
 // Node i.
 pub fn node_of(nodes: Nodes, i: u8) -> Node

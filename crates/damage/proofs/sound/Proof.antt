@@ -1,5 +1,6 @@
+use Rattle.negotiation.specs.Within.{within-few}
 use native.Mathlib.Omega.{arith}
-use Rattle.damage.specs.DamageLaws.{sound-header, sound-empty, sound-graph, within-counts}
+use Rattle.damage.specs.DamageLaws.{sound-header, sound-empty, sound-graph}
 use borrow.Author.Needs.{needs}
 use Rattle.damage.proofs.sound.Statement.{statement}
 use Rattle.damage.proofs.sound.Tie as tie
@@ -17,7 +18,7 @@ returns-2 : tie.Need-returns-2
 returns-2 c = sound-empty _ _ (c .before .before .before .before .header-sound .ensures) (c .before .before .before .if1 .left) (c .before .if2 .taken) (c .empty-sound .ensures)
 
 graph-sound-requires : tie.Need-graph-sound-requires
-graph-sound-requires c κs = ((c .before .before .before .before .before .before .before .before .before .before .before .before .pre .0 .names), (c .before .before .before .before .before .before .before .before .before .before .before .before .pre .0 .ascending), omega (arith, (c .if2 .left)), within-counts (c .before .before .before .before .before .before .before .before .before .before .before .before .args .house) (c .before .before .before .before .before .before .before .before .before .before .before .before .args .negotiation) (c .before .before .before .before .before .before .before .before .before .before .before .before .pre .1) .0, within-counts (c .before .before .before .before .before .before .before .before .before .before .before .before .args .house) (c .before .before .before .before .before .before .before .before .before .before .before .before .args .negotiation) (c .before .before .before .before .before .before .before .before .before .before .before .before .pre .1) .1, omega (arith, within-counts (c .before .before .before .before .before .before .before .before .before .before .before .before .args .house) (c .before .before .before .before .before .before .before .before .before .before .before .before .args .negotiation) (c .before .before .before .before .before .before .before .before .before .before .before .before .pre .1) .2))
+graph-sound-requires c κs = ((c .before .before .before .before .before .before .before .before .before .before .before .before .pre .0 .names), (c .before .before .before .before .before .before .before .before .before .before .before .before .pre .0 .ascending), omega (arith, (c .if2 .left)), within-few (c .before .before .before .before .before .before .before .before .before .before .before .before .args .negotiation) (c .before .before .before .before .before .before .before .before .before .before .before .before .pre .1) .0, within-few (c .before .before .before .before .before .before .before .before .before .before .before .before .args .negotiation) (c .before .before .before .before .before .before .before .before .before .before .before .before .pre .1) .1, omega (arith, within-few (c .before .before .before .before .before .before .before .before .before .before .before .before .args .negotiation) (c .before .before .before .before .before .before .before .before .before .before .before .before .pre .1) .2))
 
 returns-3 : tie.Need-returns-3
 returns-3 c = sound-graph _ _ (c .before .before .before .before .header-sound .ensures) (c .before .before .before .if1 .left) (c .before .if2 .left) (c .graph-sound .ensures)

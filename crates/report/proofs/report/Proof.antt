@@ -1,5 +1,6 @@
+use Rattle.negotiation.specs.Within.{within-few}
 use mathlib.Core.Path.{refl}
-use Rattle.damage.specs.DamageLaws.{within-counts, held-nodes, held-edges}
+use Rattle.damage.specs.DamageLaws.{held-nodes, held-edges}
 use native.Mathlib.Omega.{arith}
 use Rattle.report.specs.ReportLaws.{report-refused, report-absent, report-node}
 use borrow.Author.Needs.{needs}
@@ -17,7 +18,7 @@ returns-2 : tie.Need-returns-2
 returns-2 c = report-absent _ _ _ _ (c .before .before .before .before .before .before .restore .ensures .0) (c .before .before .before .before .if1 .left) refl (c .if2 .taken)
 
 report-on-requires : tie.Need-report-on-requires
-report-on-requires c κs = (omega (arith, (c .if2 .left)), within-counts (c .before .before .before .before .before .before .restore .result .house) (c .before .before .before .before .before .before .restore .result .negotiation) ((c .before .before .before .before .before .before .restore .ensures .1) .within-sizes (c .before .before .before .before .if1 .left)) .0, within-counts (c .before .before .before .before .before .before .restore .result .house) (c .before .before .before .before .before .before .restore .result .negotiation) ((c .before .before .before .before .before .before .restore .ensures .1) .within-sizes (c .before .before .before .before .if1 .left)) .1, within-counts (c .before .before .before .before .before .before .restore .result .house) (c .before .before .before .before .before .before .restore .result .negotiation) ((c .before .before .before .before .before .before .restore .ensures .1) .within-sizes (c .before .before .before .before .if1 .left)) .2, held-nodes (c .before .before .before .before .before .before .restore .result .house) (c .before .before .before .before .before .before .restore .result .negotiation) ((c .before .before .before .before .before .before .restore .ensures .1) .within-sizes (c .before .before .before .before .if1 .left)) ((c .before .before .before .before .before .before .restore .ensures .1) .is-sound (c .before .before .before .before .if1 .left)) (omega (arith, (c .if2 .left))), held-edges (c .before .before .before .before .before .before .restore .result .house) (c .before .before .before .before .before .before .restore .result .negotiation) ((c .before .before .before .before .before .before .restore .ensures .1) .within-sizes (c .before .before .before .before .if1 .left)) ((c .before .before .before .before .before .before .restore .ensures .1) .is-sound (c .before .before .before .before .if1 .left)) (omega (arith, (c .if2 .left))))
+report-on-requires c κs = (omega (arith, (c .if2 .left)), within-few (c .before .before .before .before .before .before .restore .result .negotiation) ((c .before .before .before .before .before .before .restore .ensures .1) .within-sizes (c .before .before .before .before .if1 .left)) .0, within-few (c .before .before .before .before .before .before .restore .result .negotiation) ((c .before .before .before .before .before .before .restore .ensures .1) .within-sizes (c .before .before .before .before .if1 .left)) .1, within-few (c .before .before .before .before .before .before .restore .result .negotiation) ((c .before .before .before .before .before .before .restore .ensures .1) .within-sizes (c .before .before .before .before .if1 .left)) .2, held-nodes (c .before .before .before .before .before .before .restore .result .house) (c .before .before .before .before .before .before .restore .result .negotiation) ((c .before .before .before .before .before .before .restore .ensures .1) .within-sizes (c .before .before .before .before .if1 .left)) ((c .before .before .before .before .before .before .restore .ensures .1) .is-sound (c .before .before .before .before .if1 .left)) (omega (arith, (c .if2 .left))), held-edges (c .before .before .before .before .before .before .restore .result .house) (c .before .before .before .before .before .before .restore .result .negotiation) ((c .before .before .before .before .before .before .restore .ensures .1) .within-sizes (c .before .before .before .before .if1 .left)) ((c .before .before .before .before .before .before .restore .ensures .1) .is-sound (c .before .before .before .before .if1 .left)) (omega (arith, (c .if2 .left))))
 
 mul-result : tie.Need-mul-result
 mul-result c = search needs

@@ -1,5 +1,6 @@
+use Rattle.negotiation.specs.Within.{within-few}
 use Rattle.update.specs.Legal.{legalBy}
-use Rattle.update.specs.LegalLaws.{within-few, legal-for}
+use Rattle.update.specs.LegalLaws.{legal-for}
 use borrow.Author.Needs.{needs}
 use Rattle.update.proofs.legal.Statement.{statement}
 use Rattle.update.proofs.legal.Tie as tie

@@ -5,7 +5,7 @@ use borrow.Author.Needs.{needs}
 use Rattle.tables.specs.Tables.{tablesOf}
 use Rattle.graph.specs.Columns.{nodes-length}
 use Rattle.negotiation.specs.State.{stateOf}
-use Rattle.update.specs.LegalLaws.{within-few}
+use Rattle.negotiation.specs.Within.{within-few}
 use Rattle.moves.specs.Rules.{endIn}
 use Rattle.choice.specs.Ready.{ready-of}
 use Rattle.choice.specs.Next.{Passed, passed-start, passed-next, passed-skip, found-here, found-nothing}

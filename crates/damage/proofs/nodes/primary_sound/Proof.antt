@@ -15,13 +15,13 @@ same-requires c κs = search needs
 returns-2 : tie.Need-returns-2
 returns-2 c = primary-wanted _ _ (c .before .before .before .before .before .before .requester .ensures) (c .before .before .before .before .if1 .left) (c .before .if2 .taken) (c .same .ensures)
 
-is-role-target-requires : tie.Need-is-role-target-requires
-is-role-target-requires c κs = search needs
+is-role-expression-requires : tie.Need-is-role-expression-requires
+is-role-expression-requires c κs = search needs
 
 returns-3 : tie.Need-returns-3
-returns-3 c = primary-role _ _ (c .before .before .before .before .before .before .requester .ensures) (c .before .before .before .before .if1 .left) (c .before .if2 .left) (c .is-role-target .ensures)
+returns-3 c = primary-role _ _ (c .before .before .before .before .before .before .requester .ensures) (c .before .before .before .before .if1 .left) (c .before .if2 .left) (c .is-role-expression .ensures)
 
 pub primary-sound-spec : {M : Type 1} → statement M
 primary-sound-spec =
     tie.close
-    (tie.spec requester-requires returns same-requires returns-2 is-role-target-requires returns-3)
+    (tie.spec requester-requires returns same-requires returns-2 is-role-expression-requires returns-3)

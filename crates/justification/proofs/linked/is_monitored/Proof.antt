@@ -5,7 +5,7 @@ use Rattle.justification.proofs.linked.is_monitored.Tie as tie
 use Rattle.justification.proofs.linked.is_monitored.Lts as lts
 use Rattle.graph.proofs.node_at.Reads as node-at-reads
 use Rattle.justification.proofs.linked.is_monitored_for.Reads as is-monitored-for-reads
-use Rattle.justification.proofs.wide.Reads as wide-reads
+use Rattle.word.proofs.wide.Reads as wide-reads
 
 wide-requires : tie.Need-wide-requires
 wide-requires c κs = search needs

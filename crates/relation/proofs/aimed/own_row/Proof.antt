@@ -1,8 +1,9 @@
+use Rattle.expression.specs.Kinds.{isRoleExpression}
 use mathlib.Core.Path.{ap}
 use borrow.Author.Needs.{needs}
 use Rattle.rt0.specs.declared.Pool.{Pool}
 use Rattle.rt0.specs.Pool.{poolOf}
-use Rattle.relation.specs.QuestionLaws.{isRole, own-none, own-role}
+use Rattle.relation.specs.QuestionLaws.{own-none, own-role}
 use Rattle.relation.proofs.aimed.own_row.Statement.{statement}
 use Rattle.relation.proofs.aimed.own_row.Tie as tie
 
@@ -31,19 +32,19 @@ enum-told-4 : tie.Need-enum-told-4
 enum-told-4 c = search needs
 
 returns : tie.Need-returns
-returns c = own-none (pool (c .before .before)) (c .before .before .args .e) (ap isRole (c .enum-told .given .1))
+returns c = own-none (pool (c .before .before)) (c .before .before .args .e) (ap isRoleExpression (c .enum-told .given .1))
 
 returns-2 : tie.Need-returns-2
 returns-2 c = own-role (pool (c .before .before .before .before .before)) (c .before .before .before .before .before .pre) (c .before .before .before .before .before .args .e) _ (c .aim .result) (c .before .before .before .e .given .1) (rw (c .before .before .before .e .given .1) (c .aim .ensures))
 
 returns-3 : tie.Need-returns-3
-returns-3 c = own-none (pool (c .before .before)) (c .before .before .args .e) (ap isRole (c .enum-told2 .given .1))
+returns-3 c = own-none (pool (c .before .before)) (c .before .before .args .e) (ap isRoleExpression (c .enum-told2 .given .1))
 
 returns-4 : tie.Need-returns-4
-returns-4 c = own-none (pool (c .before .before)) (c .before .before .args .e) (ap isRole (c .enum-told3 .given .1))
+returns-4 c = own-none (pool (c .before .before)) (c .before .before .args .e) (ap isRoleExpression (c .enum-told3 .given .1))
 
 returns-5 : tie.Need-returns-5
-returns-5 c = own-none (pool (c .before .before)) (c .before .before .args .e) (ap isRole (c .enum-told4 .given .1))
+returns-5 c = own-none (pool (c .before .before)) (c .before .before .args .e) (ap isRoleExpression (c .enum-told4 .given .1))
 
 pub own-row-spec : {M : Type 1} → statement M
 own-row-spec =

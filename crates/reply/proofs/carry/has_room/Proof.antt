@@ -5,7 +5,7 @@ use Rattle.reply.proofs.carry.has_room.Statement.{statement}
 use Rattle.reply.proofs.carry.has_room.Tie as tie
 use Rattle.reply.proofs.carry.has_room.Reads as reads
 use Rattle.reply.proofs.carry.has_room.Lts as lts
-use Rattle.reply.proofs.carry.wide.Reads as wide-reads
+use Rattle.word.proofs.wide.Reads as wide-reads
 
 enum-told : tie.Need-enum-told
 enum-told c = search needs

@@ -1,5 +1,5 @@
+use Rattle.negotiation.specs.Within.{within-few}
 use native.Mathlib.Omega.{arith}
-use Rattle.update.specs.LegalLaws.{within-few}
 use Rattle.reply.specs.Outgoing.{room-none, room-left}
 use borrow.Author.Needs.{needs}
 use Rattle.reply.proofs.carry.room_for.Statement.{statement}

@@ -1,7 +1,7 @@
 use Rattle.tables.specs.Tables.{tablesOf}
 use Rattle.tables.specs.Public.{publicOf}
 use Rattle.negotiation.specs.State.{stateOf}
-use Rattle.damage.specs.DamageLaws.{within-counts}
+use Rattle.negotiation.specs.Within.{within-few}
 use Rattle.moves.specs.Rules.{endIn}
 use Rattle.sending.specs.Edge.{edge-other, edge-direct, edge-needed}
 use borrow.Author.Needs.{needs}
@@ -9,7 +9,7 @@ use Rattle.sending.proofs.send.edge.Statement.{statement}
 use Rattle.sending.proofs.send.edge.Tie as tie
 
 edge-command-requires : tie.Need-edge-command-requires
-edge-command-requires c κs = (c .before .before .before .before .before .pre .0 .housed .names, c .before .before .before .before .before .pre .0 .housed .ascending, within-counts (c .before .before .before .before .before .args .own .house) (c .before .before .before .before .before .args .n) (c .before .before .before .before .before .pre .1) .0)
+edge-command-requires c κs = (c .before .before .before .before .before .pre .0 .housed .names, c .before .before .before .before .before .pre .0 .housed .ascending, within-few (c .before .before .before .before .before .args .n) (c .before .before .before .before .before .pre .1) .0)
 
 alone-requires : tie.Need-alone-requires
 alone-requires c κs = search needs
@@ -19,17 +19,17 @@ unfolding endIn publicOf tablesOf stateOf
 returns c = edge-other _ _ _ (c .before .before .before .edge-command .ensures) (c .before .if1 .taken) (c .alone .ensures)
 
 node-of-requires : tie.Need-node-of-requires
-node-of-requires c κs = (c .before .before .before .before .before .before .before .before .pre .2, within-counts (c .before .before .before .before .before .before .before .before .args .own .house) (c .before .before .before .before .before .before .before .before .args .n) (c .before .before .before .before .before .before .before .before .pre .1) .0)
+node-of-requires c κs = (c .before .before .before .before .before .before .before .before .pre .2, within-few (c .before .before .before .before .before .before .before .before .args .n) (c .before .before .before .before .before .before .before .before .pre .1) .0)
 
 direct-for-requires : tie.Need-direct-for-requires
-direct-for-requires c κs = within-counts (c .before .before .before .before .before .before .before .before .before .before .args .own .house) (c .before .before .before .before .before .before .before .before .before .before .args .n) (c .before .before .before .before .before .before .before .before .before .before .pre .1) .2
+direct-for-requires c κs = within-few (c .before .before .before .before .before .before .before .before .before .before .args .n) (c .before .before .before .before .before .before .before .before .before .before .pre .1) .2
 
 returns-2 : tie.Need-returns-2
 unfolding endIn publicOf tablesOf stateOf
 returns-2 c = edge-direct _ _ _ (c .before .before .before .before .before .edge-command .ensures) (c .before .before .node-of .ensures) (c .before .before .before .if1 .left) (c .before .if2 .taken) (c .direct-for .ensures)
 
 needed-for-requires : tie.Need-needed-for-requires
-needed-for-requires c κs = (c .before .before .before .before .before .before .before .before .before .before .pre .0, within-counts (c .before .before .before .before .before .before .before .before .before .before .args .own .house) (c .before .before .before .before .before .before .before .before .before .before .args .n) (c .before .before .before .before .before .before .before .before .before .before .pre .1) .2)
+needed-for-requires c κs = (c .before .before .before .before .before .before .before .before .before .before .pre .0, within-few (c .before .before .before .before .before .before .before .before .before .before .args .n) (c .before .before .before .before .before .before .before .before .before .before .pre .1) .2)
 
 returns-3 : tie.Need-returns-3
 unfolding endIn publicOf tablesOf stateOf

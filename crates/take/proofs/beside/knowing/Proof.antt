@@ -1,5 +1,5 @@
+use Rattle.negotiation.specs.Within.{within-few}
 use native.Mathlib.Omega.{arith}
-use Rattle.update.specs.LegalLaws.{within-few}
 use Rattle.take.specs.KeptLaws.{knowing-left, knowing-made}
 use borrow.Author.Needs.{needs}
 use Rattle.take.proofs.beside.knowing.Statement.{statement}

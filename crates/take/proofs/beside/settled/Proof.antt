@@ -1,4 +1,4 @@
-use Rattle.update.specs.LegalLaws.{within-few}
+use Rattle.negotiation.specs.Within.{within-few}
 use Rattle.take.specs.KeptLaws.{ready-left, ready-made}
 use borrow.Author.Needs.{needs}
 use Rattle.take.proofs.beside.settled.Statement.{statement}

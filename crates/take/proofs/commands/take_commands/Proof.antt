@@ -1,4 +1,3 @@
-use Rattle.update.specs.LegalLaws.{within-few}
 use Rattle.update.specs.RoomLaws.{legal-room}
 use Rattle.update.specs.Judged.{legal-judged}
 use Rattle.take.specs.KeptLaws.{judged-edge, judged-none, judged-by, Keeps, keeps-start, asked-left, asked-made, asked-by, held-made, held-left, held-by, carried-is, keeps-next}
@@ -10,6 +9,7 @@ use native.Mathlib.Omega.{arith}
 use Rattle.class.specs.Names.{namesOf}
 use Rattle.graph.specs.Graph.{nodesOf}
 use Rattle.negotiation.specs.State.{stateOf}
+use Rattle.negotiation.specs.Within.{within-few}
 use borrow.Author.Needs.{needs}
 use Rattle.take.proofs.commands.take_commands.Statement.{statement}
 use Rattle.take.proofs.commands.take_commands.Tie as tie

@@ -1,5 +1,5 @@
+use Rattle.negotiation.specs.Within.{within-few}
 use Rattle.update.specs.AfterLaws.{after-is}
-use Rattle.update.specs.LegalLaws.{within-few}
 use borrow.Author.Needs.{needs}
 use Rattle.update.proofs.after.after_message.Statement.{statement}
 use Rattle.update.proofs.after.after_message.Tie as tie

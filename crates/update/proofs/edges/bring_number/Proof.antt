@@ -11,7 +11,7 @@ use Rattle.update.proofs.edges.bring_number.Lts as lts
 use Rattle.class.proofs.type_of.Reads as type-of-reads
 use Rattle.update.proofs.edges.bring_wrong.Reads as bring-wrong-reads
 use Rattle.update.proofs.edges.type_number.Reads as type-number-reads
-use Rattle.update.proofs.edges.wide.Reads as wide-reads
+use Rattle.word.proofs.wide.Reads as wide-reads
 use Rattle.update.proofs.sides.is_processed.Reads as is-processed-reads
 use Rattle.update.proofs.steps.node_of.Reads as node-of-reads
 

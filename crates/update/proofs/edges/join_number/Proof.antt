@@ -9,7 +9,7 @@ use Rattle.update.proofs.edges.join_number.Statement.{statement}
 use Rattle.update.proofs.edges.join_number.Tie as tie
 use Rattle.update.proofs.edges.join_number.Lts as lts
 use Rattle.update.proofs.edges.join_wrong.Reads as join-wrong-reads
-use Rattle.update.proofs.edges.wide.Reads as wide-reads
+use Rattle.word.proofs.wide.Reads as wide-reads
 use Rattle.update.proofs.sides.is_processed.Reads as is-processed-reads
 use Rattle.update.proofs.steps.node_of.Reads as node-of-reads
 

@@ -5,7 +5,7 @@ use Rattle.update.proofs.justify.is_join_justified.Statement.{statement
 use Rattle.update.proofs.justify.is_join_justified.Tie as tie
 use Rattle.update.proofs.justify.is_join_justified.Lts as lts
 use Rattle.update.proofs.justify.is_justified_for.Reads as is-justified-for-reads
-use Rattle.update.proofs.justify.wide.Reads as wide-reads
+use Rattle.word.proofs.wide.Reads as wide-reads
 use Rattle.update.proofs.steps.node_of.Reads as node-of-reads
 
 wide-requires : tie.Need-wide-requires

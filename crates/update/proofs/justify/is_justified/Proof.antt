@@ -1,4 +1,4 @@
-use Rattle.update.specs.LegalLaws.{within-few}
+use Rattle.negotiation.specs.Within.{within-few}
 use Rattle.update.specs.JudgedLaws.{judges-for, known-for, says-for, show-judged, open-judged, mark-judged, end-judged}
 use borrow.Author.Needs.{needs}
 use Rattle.update.proofs.justify.is_justified.Statement.{statement}

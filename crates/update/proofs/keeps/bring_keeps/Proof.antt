@@ -4,8 +4,8 @@ use borrow.Author.Needs.{needs}
 use Rattle.update.proofs.keeps.bring_keeps.Statement.{statement}
 use Rattle.update.proofs.keeps.bring_keeps.Tie as tie
 use Rattle.update.proofs.keeps.bring_keeps.Lts as lts
-use Rattle.update.proofs.keeps.is_trivial.Reads as is-trivial-reads
-use Rattle.update.proofs.keeps.wide.Reads as wide-reads
+use Rattle.expression.proofs.is_entity.Reads as is-entity-reads
+use Rattle.word.proofs.wide.Reads as wide-reads
 
 wide-requires : tie.Need-wide-requires
 wide-requires c κs = search needs
@@ -13,11 +13,11 @@ wide-requires c κs = search needs
 returns : tie.Need-returns
 returns c = bring-absent _ _ _ (omega (arith, (c .before .before .wide .ensures), (c .if1 .taken)))
 
-is-trivial-requires : tie.Need-is-trivial-requires
-is-trivial-requires c κs = search needs
+is-entity-requires : tie.Need-is-entity-requires
+is-entity-requires c κs = search needs
 
 returns-2 : tie.Need-returns-2
-returns-2 c = bring-keeps _ _ _ (omega (arith, (c .before .before .before .wide .ensures), (c .before .if1 .left))) (c .is-trivial .ensures)
+returns-2 c = bring-keeps _ _ _ (omega (arith, (c .before .before .before .wide .ensures), (c .before .if1 .left))) (c .is-entity .ensures)
 
 pub bring-keeps-spec : {M : Type 1} → statement M
-bring-keeps-spec = tie.close (tie.spec wide-requires returns is-trivial-requires returns-2)
+bring-keeps-spec = tie.close (tie.spec wide-requires returns is-entity-requires returns-2)

@@ -8,7 +8,7 @@ use borrow.Author.Needs.{needs}
 use Rattle.update.proofs.keeps.is_flagged.Statement.{statement}
 use Rattle.update.proofs.keeps.is_flagged.Tie as tie
 use Rattle.update.proofs.keeps.is_flagged.Lts as lts
-use Rattle.update.proofs.keeps.wide.Reads as wide-reads
+use Rattle.word.proofs.wide.Reads as wide-reads
 
 sized : (c : tie.Start) → length (c .args .t1) ≡ 128
 sized c = search needs

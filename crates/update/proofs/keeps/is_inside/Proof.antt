@@ -6,7 +6,7 @@ use Rattle.update.specs.KeepsStates.{InsideTo, inside-start, inside-add,
 use Rattle.update.proofs.keeps.is_inside.Statement.{statement}
 use Rattle.update.proofs.keeps.is_inside.Tie as tie
 use Rattle.update.proofs.keeps.is_inside.Lts as lts
-use Rattle.update.proofs.keeps.wide.Reads as wide-reads
+use Rattle.word.proofs.wide.Reads as wide-reads
 
 abbrev Inv-loop : tie.InvT-loop
 Inv-loop nodes edges j₀ j = InsideTo (nodes .count) (edges .parent) j × (j ≤ edges .count)

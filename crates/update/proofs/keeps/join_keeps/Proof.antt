@@ -6,7 +6,7 @@ use Rattle.update.proofs.keeps.join_keeps.Tie as tie
 use Rattle.update.proofs.keeps.join_keeps.Lts as lts
 use Rattle.update.proofs.keeps.brings_nothing.Reads as brings-nothing-reads
 use Rattle.update.proofs.keeps.is_flagged.Reads as is-flagged-reads
-use Rattle.update.proofs.keeps.wide.Reads as wide-reads
+use Rattle.word.proofs.wide.Reads as wide-reads
 use Rattle.update.proofs.steps.node_of.Reads as node-of-reads
 
 wide-requires : tie.Need-wide-requires

@@ -5,7 +5,7 @@ use Rattle.update.proofs.keeps.mark_keeps.Statement.{statement}
 use Rattle.update.proofs.keeps.mark_keeps.Tie as tie
 use Rattle.update.proofs.keeps.mark_keeps.Lts as lts
 use Rattle.update.proofs.keeps.is_parts.Reads as is-parts-reads
-use Rattle.update.proofs.keeps.wide.Reads as wide-reads
+use Rattle.word.proofs.wide.Reads as wide-reads
 use Rattle.update.proofs.steps.node_of.Reads as node-of-reads
 
 wide-requires : tie.Need-wide-requires

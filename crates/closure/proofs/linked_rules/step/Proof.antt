@@ -1,0 +1,44 @@
+use native.Mathlib.Omega.{arith}
+use Rattle.closure.proofs.linked_rules.step.Statement.{statement}
+use Rattle.closure.proofs.linked_rules.step.Tie as tie
+
+bit-requires : tie.Need-bit-requires
+bit-requires c κs = (omega arith, omega (arith, c .pre .0))
+
+rule-requires : tie.Need-rule-requires
+rule-requires c κs = (c .before .before .before .pre .0, c .before .before .before .pre .1, c .before .before .before .pre .3)
+
+returns : tie.Need-returns
+returns c = (c .before .before .before .before .pre .2, c .rule .ensures .grown)
+
+mul-fresh : tie.Need-mul-fresh
+mul-fresh c = omega arith
+
+element-copy-out-fresh : tie.Need-element-copy-out-fresh
+element-copy-out-fresh c = omega arith
+
+fresh-requires : tie.Need-fresh-requires
+fresh-requires c κs = (c .before .before .before .before .before .pre .1 .first .under _, c .before .before .before .before .before .pre .0, c .before .before .before .before .before .pre .2)
+
+owned-requires : tie.Need-owned-requires
+owned-requires c κs = omega arith
+
+follow-requires : tie.Need-follow-requires
+follow-requires c κs = (c .before .before .before .before .before .before .before .before .before .before .pre .0, c .before .before .before .before .before .before .before .before .before .before .pre .1, c .before .before .before .before .before .before .before .before .before .before .pre .3)
+
+returns-2 : tie.Need-returns-2
+returns-2 c = (c .before .before .before .before .before .fresh .ensures, c .follow .ensures)
+
+pub step-spec : {M : Type 1} → statement M
+step-spec =
+    tie.close
+    (tie.spec
+    bit-requires
+    rule-requires
+    returns
+    mul-fresh
+    element-copy-out-fresh
+    fresh-requires
+    owned-requires
+    follow-requires
+    returns-2)

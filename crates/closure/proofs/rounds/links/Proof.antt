@@ -1,0 +1,79 @@
+use mathlib.Core.Path.{_≡_, sym, _∙_, ap}
+use Rattle.word.specs.Bit.{without, without-less}
+use Rattle.closure.specs.Laws.{LinksTo, links-start, links-next, links-all}
+use native.Mathlib.Omega.{arith}
+use Rattle.closure.proofs.rounds.links.Statement.{statement}
+use Rattle.closure.proofs.rounds.links.Tie as tie
+
+abbrev Inv-loop : tie.InvT-loop
+Inv-loop named base h first src vals mem w₀ m₀ w m = LinksTo named base h first src vals mem m w
+
+abbrev μ-loop : tie.MeasureT-loop
+μ-loop named base h first src vals mem w₀ m₀ w m = m
+
+loop-holds : tie.Need-loop-holds Inv-loop μ-loop
+loop-holds c = links-start _ _ _ _ _ _ _
+
+lowest-requires : tie.Need-lowest-requires Inv-loop μ-loop
+lowest-requires c κs = omega arith
+
+add-q : tie.Need-add-q Inv-loop μ-loop
+add-q c = omega arith
+
+mul-with : tie.Need-mul-with Inv-loop μ-loop
+mul-with c = omega arith
+
+add-with : tie.Need-add-with Inv-loop μ-loop
+add-with c = omega arith
+
+mul-with-2 : tie.Need-mul-with-2 Inv-loop μ-loop
+mul-with-2 c = omega arith
+
+element-copy-out-with : tie.Need-element-copy-out-with Inv-loop μ-loop
+element-copy-out-with c = omega arith
+
+mul-bit : tie.Need-mul-bit Inv-loop μ-loop
+mul-bit c = omega arith
+
+element-copy-out-bit : tie.Need-element-copy-out-bit Inv-loop μ-loop
+element-copy-out-bit c = omega arith
+
+bit-requires : tie.Need-bit-requires Inv-loop μ-loop
+bit-requires c κs = (c .before .before .before .before .before .pre .2, c .before .before .before .before .before .pre .3 .under _)
+
+with-requires : tie.Need-with-requires Inv-loop μ-loop
+with-requires c κs = omega arith
+
+others-requires : tie.Need-others-requires Inv-loop μ-loop
+others-requires c κs = omega arith
+
+loop-less : tie.Need-loop-less Inv-loop μ-loop
+loop-less c = rw (c .others .ensures ∙ ap (without _) (sym (c .before .before .before .before .before .lowest .ensures .2))) (without-less _ _ (c .before .before .before .before .before .lowest .ensures .1))
+
+loop-again : tie.Need-loop-again Inv-loop μ-loop
+loop-again c = links-next _ _ _ _ _ _ _ _ _ _ (c .before .before .before .before .before .lowest .ensures .0) (c .before .before .before .before .before .lowest .ensures .1) _ (c .before .before .bit .ensures) _ _ (c .others .ensures ∙ ap (without _) (sym (c .before .before .before .before .before .lowest .ensures .2))) (c .before .with .ensures) (c .before .before .before .before .before .before .before .loop .inv)
+
+returns : tie.Need-returns Inv-loop μ-loop
+returns c = links-all _ _ _ _ _ _ _ _ _ (c .loop-test .left) (c .before .loop .inv)
+
+pub links-spec : {M : Type 1} → statement M
+links-spec =
+    tie.close
+    (tie.spec
+    Inv-loop
+    μ-loop
+    loop-holds
+    lowest-requires
+    add-q
+    mul-with
+    add-with
+    mul-with-2
+    element-copy-out-with
+    mul-bit
+    element-copy-out-bit
+    bit-requires
+    with-requires
+    others-requires
+    loop-less
+    loop-again
+    returns)

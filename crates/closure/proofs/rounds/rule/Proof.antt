@@ -1,0 +1,55 @@
+use Prim.Native.Nat.{_-_}
+use native.Mathlib.Omega.{arith}
+use Rattle.closure.specs.Rules.{rulesOf}
+use Rattle.closure.specs.Laws.{RuleTo, rule-start, rule-turn, rule-all, rule-off}
+use Rattle.closure.proofs.rounds.rule.Statement.{statement}
+use Rattle.closure.proofs.rounds.rule.Tie as tie
+
+abbrev Inv-loop : tie.InvT-loop
+Inv-loop n words head part first named src on mem own i rows₀ grew₀ h₀ rows grew h = RuleTo (rulesOf n words head part first named src) on own mem i rows₀ rows grew h
+
+abbrev μ-loop : tie.MeasureT-loop
+μ-loop n words head part first named src on mem own i rows₀ grew₀ h₀ rows grew h = words - h
+
+returns : tie.Need-returns Inv-loop μ-loop
+returns c = rule-off (rulesOf _ _ _ _ _ _ _) _ _ _ _ _ (c .before .pre .2) (λ l o. omega (arith, c .if1 .taken))
+
+element-copy-out-if2 : tie.Need-element-copy-out-if2 Inv-loop μ-loop
+element-copy-out-if2 c = omega arith
+
+returns-2 : tie.Need-returns-2 Inv-loop μ-loop
+returns-2 c = rule-off (rulesOf _ _ _ _ _ _ _) _ _ _ _ _ (c .before .before .before .pre .2) (λ l o. c .if2 .taken o)
+
+loop-holds : tie.Need-loop-holds Inv-loop μ-loop
+loop-holds c = rule-start (rulesOf _ _ _ _ _ _ _) _ _ _ _ _ (c .before .before .before .pre .2)
+
+turn-requires : tie.Need-turn-requires Inv-loop μ-loop
+turn-requires c κs = (c .before .before .before .before .before .before .pre .0, c .before .loop-test .taken, c .before .before .before .before .before .before .pre .1, c .before .before .loop .inv .grown .sized)
+
+add-h : tie.Need-add-h Inv-loop μ-loop
+add-h c = omega arith
+
+loop-less : tie.Need-loop-less Inv-loop μ-loop
+loop-less c = omega arith
+
+loop-again : tie.Need-loop-again Inv-loop μ-loop
+loop-again c = rule-turn (rulesOf _ _ _ _ _ _ _) _ _ _ (c .before .before .before .before .before .before .if1 .left) (c .before .before .before .before .if2 .left) (c .before .before .loop-test .taken) (c .turn .ensures) (c .before .before .before .loop .inv)
+
+returns-3 : tie.Need-returns-3 Inv-loop μ-loop
+returns-3 c = rule-all (rulesOf _ _ _ _ _ _ _) _ _ _ (c .loop-test .left) (c .before .loop .inv)
+
+pub rule-spec : {M : Type 1} → statement M
+rule-spec =
+    tie.close
+    (tie.spec
+    Inv-loop
+    μ-loop
+    returns
+    element-copy-out-if2
+    returns-2
+    loop-holds
+    turn-requires
+    add-h
+    loop-less
+    loop-again
+    returns-3)
