@@ -12,6 +12,7 @@ use Rattle.expression.specs.declared.Role.{Role}
 use Rattle.expression.specs.declared.Credential.{Credential}
 use Rattle.expression.specs.declared.Expression.{Expression}
 use Rattle.expression.specs.declared.Expression.the-variants as E
+use Rattle.expression.specs.Kinds.{isEntity}
 use Rattle.rt0.specs.declared.Pool.{Pool}
 use Rattle.rt0.specs.From.{roleOf}
 use Rattle.rt0.specs.Decide.{from? as fromOf}
@@ -37,7 +38,7 @@ use Rattle.moves.specs.FrontiersExact.{gather-mem, gather-find, frontier-find, 
 use Rattle.moves.specs.Stops.{predicateOf, Told}
 use Rattle.moves.specs.Own.{Prepared}
 use Rattle.moves.specs.Wanted.{firstNot}
-use Rattle.moves.specs.Rules.{isEntity, entitiesIn, childFor, implications}
+use Rattle.moves.specs.Rules.{entitiesIn, childFor, implications}
 use Rattle.choice.specs.Least.{better, Best, best-start, best-same, best-next, best-first}
 use Rattle.choice.specs.Offers.{folded, offer, Among, among-best}
 use Rattle.choice.specs.Collected.{entity-eq, other-entity, MemberTo, Collected}

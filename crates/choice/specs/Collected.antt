@@ -11,6 +11,7 @@ use lib.ListN.{length, set, replicate, length-set, length-replicate}
 use lib.Seq.{getD-set-same, getD-set-other}
 use Rattle.expression.specs.declared.Expression.{Expression}
 use Rattle.expression.specs.declared.Expression.the-variants as E
+use Rattle.expression.specs.Kinds.{isEntity}
 use Rattle.rt0.specs.declared.Pool.{Pool}
 use Rattle.rt0.specs.From.{roleOf}
 use Rattle.rt0.specs.Pool.{bodyAt}
@@ -18,7 +19,6 @@ use Rattle.rt0.specs.Lists.{false-true, or-cases, or-left, or-right}
 use Rattle.propagation.specs.Flags.{flag, flag-zeros, decided}
 use Rattle.frontier.specs.Frontier.{Chain, Reaches}
 use Rattle.frontier.specs.FrontierLaws.{chain-below}
-use Rattle.moves.specs.Rules.{isEntity}
 use Rattle.choice.specs.Skipped.{Skipped}
 
 pub entity-eq : {a b : ℕ} → E.Entity a ≡ E.Entity b → a ≡ b

@@ -9,6 +9,7 @@ use Rattle.expression.specs.declared.Credential.{Credential}
 use Rattle.expression.specs.declared.Expression.{Expression}
 use Rattle.expression.specs.declared.Expression.the-variants as E
 use Rattle.expression.specs.Same.{same, same-eq, eq-same}
+use Rattle.expression.specs.Kinds.{isEntity}
 use Rattle.rt0.specs.declared.Pool.{Pool}
 use Rattle.rt0.specs.Pool.{bodyAt}
 use Rattle.rt0.specs.Lists.{false-true, and-parts, and-both, map-find, map-mem}
@@ -25,7 +26,7 @@ use Rattle.moves.specs.declared.Choice.the-variants as C
 use Rattle.moves.specs.Frontiers.{bodiesOf, frontierOf}
 use Rattle.moves.specs.FrontiersExact.{frontier-find, frontier-mem}
 use Rattle.moves.specs.Wanted.{ordered, firstNot}
-use Rattle.moves.specs.Rules.{isEntity, childFor, suitsNode, implications}
+use Rattle.moves.specs.Rules.{childFor, suitsNode, implications}
 use Rattle.choice.specs.Least.{Uniform}
 use Rattle.choice.specs.Offers.{folded, offer, Among, Is, offers-first}
 

@@ -9,6 +9,7 @@ use lib.ListN.{getD}
 use Rattle.expression.specs.declared.Expression.{Expression}
 use Rattle.expression.specs.declared.Expression.the-variants as E
 use Rattle.expression.specs.Same.{same}
+use Rattle.expression.specs.Kinds.{isEntity}
 use Rattle.rt0.specs.declared.Pool.{Pool}
 use Rattle.rt0.specs.Pool.{bodyAt}
 use Rattle.rt0.specs.Lists.{false-true}
@@ -16,7 +17,7 @@ use Rattle.propagation.specs.Flags.{flag}
 use Rattle.graph.specs.declared.Node.{Node}
 use Rattle.moves.specs.declared.Wanted.{Wanted}
 use Rattle.moves.specs.declared.Choice.{Choice}
-use Rattle.moves.specs.Rules.{isEntity, childFor}
+use Rattle.moves.specs.Rules.{childFor}
 use Rattle.choice.specs.Least.{better}
 use Rattle.choice.specs.Offers.{offer, offer-taken, offer-left}
 use Rattle.choice.specs.Members.{admits, isStopped, isMember, memberEdge}

@@ -6,6 +6,7 @@ use mathlib.Core.List.{List, [], _∷_}
 use Rattle.expression.specs.declared.Role.{Role}
 use Rattle.expression.specs.declared.Expression.the-variants as E
 use Rattle.expression.specs.Same.{sameRole, sameRole-eq}
+use Rattle.expression.specs.Kinds.{isEntity}
 use Rattle.rt0.specs.Lists.{false-true}
 use Rattle.record.specs.declared.Pair.{Pair}
 use Rattle.tables.specs.declared.RoleAnswer.{RoleAnswer}
@@ -18,7 +19,7 @@ use Rattle.moves.specs.declared.Known.the-variants.{Waiting, Seen}
 use Rattle.moves.specs.Frontiers.{bodiesOf}
 use Rattle.moves.specs.Known.{isAcknowledged, holdingOf, knownOf}
 use Rattle.moves.specs.Wanted.{Plan}
-use Rattle.moves.specs.Rules.{End, isEntity, implications, toSubject, thenMark, controlEdge, sensitiveRules, sensFrontier, ownRules}
+use Rattle.moves.specs.Rules.{End, implications, toSubject, thenMark, controlEdge, sensitiveRules, sensFrontier, ownRules}
 use Rattle.choice.specs.Known.{knownAs}
 
 isFound : RoleAnswer → Bool

@@ -9,6 +9,7 @@ use Rattle.expression.specs.declared.Role.{Role}
 use Rattle.expression.specs.declared.Credential.{Credential}
 use Rattle.expression.specs.declared.Expression.{Expression}
 use Rattle.expression.specs.declared.Expression.the-variants as E
+use Rattle.expression.specs.Kinds.{isEntity}
 use Rattle.rt0.specs.declared.Pool.{Pool}
 use Rattle.rt0.specs.Pool.{credentials}
 use Rattle.rules.specs.Table.{chosen}
@@ -37,7 +38,7 @@ use Rattle.moves.specs.Frontiers.{bodiesOf, frontierOf, oppo, simp, sens}
 use Rattle.moves.specs.Stops.{predicateOf}
 use Rattle.moves.specs.Own.{Prepared}
 use Rattle.moves.specs.Wanted.{ordered, firstNot}
-use Rattle.moves.specs.Rules.{isEntity, implications, toSubject}
+use Rattle.moves.specs.Rules.{implications, toSubject}
 use Rattle.choice.specs.Members.{Extended, edgesTo, all-implications, no-entities, reads-bodies, reads-role, members-first}
 use Rattle.choice.specs.Goals.{solutionEdge, namedRoles}
 use Rattle.choice.specs.Subject.{Aimed, aimed-first}

@@ -10,6 +10,7 @@ use Rattle.expression.specs.declared.Parts.{Parts}
 use Rattle.expression.specs.declared.Credential.{Credential}
 use Rattle.expression.specs.declared.Expression.{Expression}
 use Rattle.expression.specs.declared.Expression.the-variants as E
+use Rattle.expression.specs.Kinds.{isEntity}
 use Rattle.rt0.specs.From.{rolesOf}
 use Rattle.class.specs.Names.{classOf}
 use Rattle.tables.specs.declared.RoleAnswer.{RoleAnswer}
@@ -27,7 +28,7 @@ use Rattle.moves.specs.declared.Known.{Known}
 use Rattle.moves.specs.Frontiers.{bodiesOf, frontierOf, oppo, simp, sens}
 use Rattle.moves.specs.Known.{knownOf}
 use Rattle.moves.specs.Wanted.{Plan, ordered, firstNot, markIf, chosenIn, isDone}
-use Rattle.moves.specs.Rules.{End, endIn, isEntity, implications, toSubject, partEdges, thenMark, linkRules, byClass, verifierRules, controlEdge, sensitiveRules, ownRules, opponentRules}
+use Rattle.moves.specs.Rules.{End, endIn, implications, toSubject, partEdges, thenMark, linkRules, byClass, verifierRules, controlEdge, sensitiveRules, ownRules, opponentRules}
 use Rattle.moves.specs.Move.{planAt, choiceAt}
 use Rattle.choice.specs.Least.{orElse, first-rest}
 use Rattle.choice.specs.Goals.{solutionEdge, namedRoles}

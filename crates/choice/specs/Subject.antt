@@ -9,6 +9,7 @@ use Rattle.expression.specs.declared.Role.{Role}
 use Rattle.expression.specs.declared.Expression.{Expression}
 use Rattle.expression.specs.declared.Expression.the-variants as E
 use Rattle.expression.specs.Same.{same, same-eq, eq-same}
+use Rattle.expression.specs.Kinds.{isEntity}
 use Rattle.rt0.specs.declared.Pool.{Pool}
 use Rattle.rt0.specs.Pool.{upTo, bodyAt}
 use Rattle.rt0.specs.Lists.{any, any-find, any-here, and-parts, and-both}
@@ -21,7 +22,7 @@ use Rattle.moves.specs.declared.Wanted.{Wanted}
 use Rattle.moves.specs.declared.Choice.{Choice}
 use Rattle.moves.specs.declared.Choice.the-variants as C
 use Rattle.moves.specs.Wanted.{ordered, firstNot}
-use Rattle.moves.specs.Rules.{isEntity, childFor, implications, toSubject}
+use Rattle.moves.specs.Rules.{childFor, implications, toSubject}
 use Rattle.choice.specs.Least.{better}
 use Rattle.choice.specs.Offers.{folded, offer}
 use Rattle.choice.specs.Members.{edgesTo, no-entities, isMember, memberEdge, Reads, members-first}

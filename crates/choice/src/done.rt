@@ -8,17 +8,12 @@ use graph::find_node;
 use graph::has_edge;
 use moves::Choice;
 use moves::Wanted;
+use word::wide;
 ghost use mathlib.Core.Path.{_≡_};
 ghost use Prim.Native.Nat.{_≤_};
 ghost use Rattle.graph.specs.Graph.{nodesOf, edgesOf};
 ghost use Rattle.moves.specs.Wanted.{precedes as precedesOf, isDone};
 ghost use Rattle.choice.specs.Least.{improves as improvesOf, better as betterOf, orElse};
-
-fn wide(x: u8) -> usize
-    ensures { λ r. ⌜ r ≡ x ⌝ }
-{
-    x as usize
-}
 
 // Whether an edge into node i stands already, or would join it to itself.
 pub fn is_done(nodes: Nodes, edges: Edges, i: u8, w: Wanted) -> bool

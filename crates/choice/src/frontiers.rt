@@ -11,6 +11,7 @@ ghost use mathlib.Core.Bool.{false, not};
 ghost use mathlib.Core.List.{[], _∷_};
 ghost use Prim.Native.Nat.{_≤_};
 ghost use Rattle.expression.specs.declared.Expression.the-variants as E;
+ghost use Rattle.expression.specs.Kinds.{isEntity};
 ghost use Rattle.tables.specs.Tables.{tablesOf};
 ghost use Rattle.tables.specs.Lookup.{isSensitive};
 ghost use Rattle.tables.specs.Public.{publicOf, keep};
@@ -18,7 +19,7 @@ ghost use Rattle.graph.specs.Graph.{nodesOf, edgesOf};
 ghost use Rattle.moves.specs.declared.Choice.the-variants as C;
 ghost use Rattle.moves.specs.Frontiers.{bodiesOf, frontierOf, oppo, simp, sens};
 ghost use Rattle.moves.specs.Wanted.{isDone, firstNot};
-ghost use Rattle.moves.specs.Rules.{isEntity, implications, toSubject};
+ghost use Rattle.moves.specs.Rules.{implications, toSubject};
 ghost use Rattle.moves.specs.Own.{Prepared};
 
 // The verifier's: the oppo frontier of the bodies of 0x12.

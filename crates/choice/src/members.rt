@@ -2,6 +2,7 @@
 use crate::done::better;
 use expression::Expression;
 use expression::Role;
+use expression::is_entity;
 use expression::same;
 use frontier::reached;
 use graph::Edges;
@@ -13,10 +14,11 @@ use rt0::Pool;
 use rt0::body_at;
 ghost use mathlib.Core.Path.{_≡_};
 ghost use Prim.Native.Nat.{_≤_, _<_};
+ghost use Rattle.expression.specs.Kinds.{isEntity};
 ghost use Rattle.rt0.specs.Pool.{poolOf};
 ghost use Rattle.graph.specs.Graph.{nodesOf, edgesOf};
 ghost use Rattle.moves.specs.Wanted.{isDone};
-ghost use Rattle.moves.specs.Rules.{isEntity, childFor};
+ghost use Rattle.moves.specs.Rules.{childFor};
 ghost use Rattle.choice.specs.Offers.{folded, offer};
 ghost use Rattle.choice.specs.Members.{admits as admitsOf, isMember, isStopped, memberEdge, Extended};
 ghost use Rattle.choice.specs.Skipped.{Skipped};
@@ -33,18 +35,6 @@ pub fn child_for(kind: u8, n: Node, x: Expression, b: u16) -> Wanted
         expression: x,
         subject: b,
         direct: false,
-    }
-}
-
-fn is_entity(x: Expression) -> bool
-    ensures { λ r. ⌜ r ≡ isEntity x ⌝ }
-{
-    match x {
-        Expression::Entity(_) => true,
-        Expression::Role(_) => false,
-        Expression::Linked(_, _) => false,
-        Expression::Intersection(_) => false,
-        Expression::Goal(_) => false,
     }
 }
 

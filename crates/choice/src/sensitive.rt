@@ -11,6 +11,7 @@ use moves::Holding;
 use moves::Known;
 use moves::Wanted;
 use negotiation::Negotiation;
+use word::wide;
 ghost use mathlib.Core.Path.{_≡_};
 ghost use mathlib.Core.Bool.{true};
 ghost use Prim.Native.Nat.{_≤_, _<_};
@@ -24,12 +25,6 @@ ghost use Rattle.choice.specs.Sensitive.{alone as aloneOf, controlFor, o
 const IMPLICATION: u8 = 1;
 
 const CONTROL: u8 = 6;
-
-fn wide(x: u8) -> usize
-    ensures { λ r. ⌜ r ≡ x ⌝ }
-{
-    x as usize
-}
 
 // An edge into node i, unless it is done.
 fn alone(n: Negotiation, i: u8, w: Wanted) -> Choice

@@ -16,6 +16,7 @@ use Rattle.expression.specs.declared.Expression.the-variants as E
 use Rattle.expression.specs.Form.{isRole, wellFormed}
 use Rattle.expression.specs.Credential.{isBody}
 use Rattle.expression.specs.Same.{same, same-eq, eq-same, sameRole, sameRole-eq}
+use Rattle.expression.specs.Kinds.{isEntity}
 use Rattle.rt0.specs.From.{From, reflexive, credential, linking, roleOf, rolesOf}
 use Rattle.rt0.specs.Decide.{from? as fromOf}
 use Rattle.rt0.specs.Laws.{sound}
@@ -48,7 +49,7 @@ use Rattle.moves.specs.Known.{policyOf, holdingOf, isAcknowledged, KnownRole, k
 use Rattle.moves.specs.Frontiers.{gather, bodiesOf, oppo, simp, sens}
 use Rattle.moves.specs.Wanted.{ordered, Plan}
 use Rattle.moves.specs.WantedLaws.{ordered-find}
-use Rattle.moves.specs.Rules.{End, endIn, isEntity, entitiesIn, ownersIn, childFor, suitsNode, implications, toSubject, partEdges, thenMark, childrenBy, isSatisfied, solutionsOf, linkRules, membersOf, oppoFrontier, verifierRules, controlEdge, ownEdge, sensitiveRules, sensFrontier, simpFrontier, ownRules, isNamed, solutionRoles, opponentRules}
+use Rattle.moves.specs.Rules.{End, endIn, entitiesIn, ownersIn, childFor, suitsNode, implications, toSubject, partEdges, thenMark, childrenBy, isSatisfied, solutionsOf, linkRules, membersOf, oppoFrontier, verifierRules, controlEdge, ownEdge, sensitiveRules, sensFrontier, simpFrontier, ownRules, isNamed, solutionRoles, opponentRules}
 use Rattle.moves.specs.Move.{ownSet, directFor, credentialsFor, planAt}
 use Rattle.legality.specs.Proper.{Proper, role-proper, proper-goal, entity-proper, linked-first, linked-goal, linked-second, part-proper, ProperCredential, head-formed, body-proper}
 use Rattle.legality.specs.Stored.{Stored, issuer-stored, subject-stored, less-stored, sensitive-role, ack-proper, access-proper}

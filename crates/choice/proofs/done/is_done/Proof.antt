@@ -5,7 +5,7 @@ use Rattle.choice.proofs.done.is_done.Statement.{statement}
 use Rattle.choice.proofs.done.is_done.Tie as tie
 use Rattle.choice.proofs.done.is_done.Reads as reads
 use Rattle.choice.proofs.done.is_done.Lts as lts
-use Rattle.choice.proofs.done.wide.Reads as wide-reads
+use Rattle.word.proofs.wide.Reads as wide-reads
 use Rattle.graph.proofs.find_node.Reads as find-node-reads
 use Rattle.graph.proofs.has_edge.Reads as has-edge-reads
 

@@ -4,7 +4,7 @@ use Rattle.choice.proofs.members.admits.Statement.{statement}
 use Rattle.choice.proofs.members.admits.Tie as tie
 use Rattle.choice.proofs.members.admits.Reads as reads
 use Rattle.choice.proofs.members.admits.Lts as lts
-use Rattle.choice.proofs.members.is_entity.Reads as is-entity-reads
+use Rattle.expression.proofs.is_entity.Reads as is-entity-reads
 use Rattle.expression.proofs.same.Reads as same-reads
 
 is-entity-requires : tie.Need-is-entity-requires

@@ -8,7 +8,7 @@ use Rattle.choice.proofs.sensitive.by_known.Lts as lts
 use Rattle.choice.proofs.done.or_else.Reads as or-else-reads
 use Rattle.choice.proofs.links.mark_if.Reads as mark-if-reads
 use Rattle.choice.proofs.sensitive.by_holding.Reads as by-holding-reads
-use Rattle.choice.proofs.sensitive.wide.Reads as wide-reads
+use Rattle.word.proofs.wide.Reads as wide-reads
 
 enum-told : tie.Need-enum-told
 enum-told c = search needs

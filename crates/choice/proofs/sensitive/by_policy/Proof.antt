@@ -13,7 +13,7 @@ use Rattle.choice.proofs.links.mark_if.Reads as mark-if-reads
 use Rattle.choice.proofs.sensitive.alone.Reads as alone-reads
 use Rattle.choice.proofs.sensitive.control_edge.Reads as control-edge-reads
 use Rattle.choice.proofs.sensitive.own_edge.Reads as own-edge-reads
-use Rattle.choice.proofs.sensitive.wide.Reads as wide-reads
+use Rattle.word.proofs.wide.Reads as wide-reads
 
 control-edge-requires : tie.Need-control-edge-requires
 control-edge-requires c κs = search needs
