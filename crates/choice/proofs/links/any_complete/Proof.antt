@@ -1,11 +1,11 @@
-use borrow.Author.Needs.{needs}
-use Rattle.choice.specs.Links.{isMonitor, isCompleteAt, complete-skip, complete-goal, child-inside}
-use Rattle.choice.specs.Skipped.{missed-skip}
-use Rattle.class.specs.Find.{Missed, missed-start, missed-more, any-at, any-none}
+use Prim.Native.Nat.{_-_, _≤_, _<_}
+use native.Mathlib.Omega.{arith}
 use mathlib.Core.Bool.{true}
 use mathlib.Core.Path.{_≡_}
-use native.Mathlib.Omega.{arith}
-use Prim.Native.Nat.{_-_, _≤_, _<_}
+use borrow.Author.Needs.{needs}
+use Rattle.class.specs.Find.{Missed, missed-start, missed-more, any-at, any-none}
+use Rattle.choice.specs.Skipped.{missed-skip}
+use Rattle.choice.specs.Links.{isMonitor, isCompleteAt, complete-skip, complete-goal, child-inside}
 use Rattle.choice.proofs.links.any_complete.Statement.{statement}
 use Rattle.choice.proofs.links.any_complete.Tie as tie
 use Rattle.choice.proofs.links.any_complete.Reads as reads

@@ -1,6 +1,6 @@
-use Rattle.choice.specs.Links.{isMonitor}
 use mathlib.Core.Path.{refl}
 use borrow.Author.Needs.{needs}
+use Rattle.choice.specs.Links.{isMonitor}
 use Rattle.choice.proofs.links.is_monitor.Statement.{statement}
 use Rattle.choice.proofs.links.is_monitor.Tie as tie
 use Rattle.choice.proofs.links.is_monitor.Reads as reads

@@ -1,7 +1,7 @@
 use native.Mathlib.Omega.{arith}
 use mathlib.Core.Path.{refl}
-use Rattle.choice.specs.Links.{solution-kind, solution-outside, solution-flags, outside-not}
 use borrow.Author.Needs.{needs}
+use Rattle.choice.specs.Links.{solution-kind, solution-outside, solution-flags, outside-not}
 use Rattle.choice.proofs.links.is_solution.Statement.{statement}
 use Rattle.choice.proofs.links.is_solution.Tie as tie
 use Rattle.choice.proofs.links.is_solution.Reads as reads

@@ -1,7 +1,7 @@
 use Prim.Native.Nat.{_-_}
 use native.Mathlib.Omega.{arith}
-use Rattle.choice.specs.Links.{isSolution}
 use Rattle.choice.specs.Skipped.{Skipped, skipped-start, skipped-next, first-here, first-end}
+use Rattle.choice.specs.Links.{isSolution}
 use Rattle.choice.proofs.links.next_solution.Statement.{statement}
 use Rattle.choice.proofs.links.next_solution.Tie as tie
 use Rattle.choice.proofs.links.next_solution.Reads as reads

@@ -1,5 +1,5 @@
-use Rattle.choice.specs.Links.{named-other, named-edge}
 use borrow.Author.Needs.{needs}
+use Rattle.choice.specs.Links.{named-other, named-edge}
 use Rattle.choice.proofs.links.with_solution.Statement.{statement}
 use Rattle.choice.proofs.links.with_solution.Tie as tie
 use Rattle.choice.proofs.links.with_solution.Reads as reads

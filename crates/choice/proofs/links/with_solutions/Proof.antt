@@ -1,13 +1,13 @@
-use borrow.Author.Needs.{needs}
-use Rattle.choice.specs.Links.{isSolution, isSolved, solvedEdge, solution-room, solved-here, solved-skip}
-use Rattle.choice.specs.Skipped.{folded-skip}
-use Rattle.choice.specs.Offers.{folded, offer, folded-start, folded-next, folded-all}
-use Rattle.moves.specs.Wanted.{isDone}
-use Rattle.graph.specs.Graph.{nodesOf, edgesOf}
+use Prim.Native.Nat.{_-_, _≤_, _<_}
+use native.Mathlib.Omega.{arith}
 use mathlib.Core.Bool.{true}
 use mathlib.Core.Path.{_≡_}
-use native.Mathlib.Omega.{arith}
-use Prim.Native.Nat.{_-_, _≤_, _<_}
+use borrow.Author.Needs.{needs}
+use Rattle.graph.specs.Graph.{nodesOf, edgesOf}
+use Rattle.moves.specs.Wanted.{isDone}
+use Rattle.choice.specs.Offers.{folded, offer, folded-start, folded-next, folded-all}
+use Rattle.choice.specs.Skipped.{folded-skip}
+use Rattle.choice.specs.Links.{isSolution, isSolved, solvedEdge, solution-room, solved-here, solved-skip}
 use Rattle.choice.proofs.links.with_solutions.Statement.{statement}
 use Rattle.choice.proofs.links.with_solutions.Tie as tie
 use Rattle.choice.proofs.links.with_solutions.Reads as reads
