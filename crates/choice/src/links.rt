@@ -191,12 +191,10 @@ fn with_solutions<'a>(
     requires { ⌜ (nodes .count ≤ 128) × (edges .count ≤ 256) ⌝ }
     ensures { λ c. ⌜ c ≡ folded (edges .count) (offer (isDone (nodesOf nodes) (edgesOf edges) i) (isSolved nodes edges (now (monitors .entry)) (now (sat .entry)) r) (solvedEdge nodes edges n a)) C.Nothing ⌝ }
 {
-    let count = nodes.count;
-    let m = edges.count;
     let mut best = Choice::Nothing;
     let mut j = next_solution(
-        count,
-        m,
+        nodes.count,
+        edges.count,
         &edges.kind,
         &edges.parent,
         &edges.child,
@@ -204,11 +202,11 @@ fn with_solutions<'a>(
         sat,
         0,
     );
-    while j < m {
+    while j < edges.count {
         best = with_solution(nodes, edges, i, n, a, r, best, wide(edges.child[j]));
         j = next_solution(
-            count,
-            m,
+            nodes.count,
+            edges.count,
             &edges.kind,
             &edges.parent,
             &edges.child,

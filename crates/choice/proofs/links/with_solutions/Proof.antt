@@ -17,10 +17,10 @@ use Rattle.choice.proofs.links.wide.Reads as wide-reads
 use Rattle.choice.proofs.links.with_solution.Reads as with-solution-reads
 
 abbrev Inv-loop : tie.InvT-loop
-Inv-loop nodes monitors sat i n a r edges count m best₀ j₀ best j = (best ≡ folded j (offer (isDone (nodesOf nodes) (edgesOf edges) i) (isSolved nodes edges monitors sat r) (solvedEdge nodes edges n a)) best₀) × (j ≤ m) × (j < m → isSolution (nodes .count) (edges .kind) (edges .parent) (edges .child) monitors sat j ≡ true)
+Inv-loop nodes monitors sat i n a r edges best₀ j₀ best j = (best ≡ folded j (offer (isDone (nodesOf nodes) (edgesOf edges) i) (isSolved nodes edges monitors sat r) (solvedEdge nodes edges n a)) best₀) × (j ≤ edges .count) × (j < edges .count → isSolution (nodes .count) (edges .kind) (edges .parent) (edges .child) monitors sat j ≡ true)
 
 abbrev μ-loop : tie.MeasureT-loop
-μ-loop nodes monitors sat i n a r edges count m best₀ j₀ best j = m - j
+μ-loop nodes monitors sat i n a r edges best₀ j₀ best j = edges .count - j
 
 next-solution-requires : tie.Need-next-solution-requires Inv-loop μ-loop
 next-solution-requires c κs = (c .before .before .before .before .pre .0, c .before .before .before .before .pre .1, omega arith)
