@@ -125,22 +125,63 @@ owners-mem r (E.Linked a s) h = absurd (false-true h)
 owners-mem r (E.Intersection p) h = absurd (false-true h)
 owners-mem r (E.Goal s) h = absurd (false-true h)
 
--- with three tests before it
-abbrev behind : Bool → Bool → Bool → Bool → Bool
-behind kind outside unflagged named = cond kind (cond outside false (cond unflagged false named)) false
-
-behind-parts : (a b c d : Bool) → behind a b c d ≡ true → (a ≡ true) × (b ≡ false) × (c ≡ false) × (d ≡ true)
-behind-parts true true c d h = absurd (false-true h)
-behind-parts true false true d h = absurd (false-true h)
-behind-parts true false false d h = (refl, refl, refl, h)
-behind-parts false b c d h = absurd (false-true h)
-
 or-neither : (a b : Bool) → (a || b) ≡ false → (a ≡ false) × (b ≡ false)
 or-neither true b h = absurd (false-true (sym h))
 or-neither false b h = (refl, h)
 
 pub outside-not : (n g c : ℕ) → (leb n g || leb n c) ≡ false → (g < n) × (c < n)
 outside-not n g c h = let o = or-neither (leb n g) (leb n c) h in (leb-false n g (o .0), leb-false n c (o .1))
+
+-- with two tests before it
+abbrev behind : Bool → Bool → Bool → Bool
+behind kind outside flagged = cond kind (cond outside false flagged) false
+
+behind-parts : (a b c : Bool) → behind a b c ≡ true → (a ≡ true) × (b ≡ false) × (c ≡ true)
+behind-parts true true c h = absurd (false-true h)
+behind-parts true false c h = (refl, refl, h)
+behind-parts false b c h = absurd (false-true h)
+
+module _ (n : ℕ) (K P C mon sat : List ℕ) (j : ℕ) where
+  -- edge j brings a goal that is monitored a satisfied solution; both are below n
+  unfoldable pub isSolution : Bool
+  isSolution = behind (eqb (getD K j 0) 3) (leb n (getD P j 0) || leb n (getD C j 0)) (flag mon (getD P j 0) && flag sat (getD C j 0))
+
+  pub solution-kind : (getD K j 0 ≡ 3 → ⊥) → false ≡ isSolution
+  unfolding isSolution
+  solution-kind h = sym (ap (λ (b : Bool). behind b (leb n (getD P j 0) || leb n (getD C j 0)) (flag mon (getD P j 0) && flag sat (getD C j 0))) (ne-eqb (getD K j 0) 3 h))
+
+  module _ (k : getD K j 0 ≡ 3) {g c : ℕ} (p : g ≡ getD P j 0) (q : c ≡ getD C j 0) where
+    by-room : (b : Bool) → (leb n g || leb n c) ≡ b → cond b false (flag mon g && flag sat c) ≡ isSolution
+    unfolding isSolution
+    by-room b h =
+        let o : (leb n (getD P j 0) || leb n (getD C j 0)) ≡ b = sym (λ i. leb n (p i) || leb n (q i)) ∙ h in
+        sym (ap (λ (x : Bool). behind x (leb n (getD P j 0) || leb n (getD C j 0)) (flag mon (getD P j 0) && flag sat (getD C j 0))) (eq-eqb (getD K j 0) 3 k) ∙ (λ i. cond (o i) false (sym (λ t. flag mon (p t) && flag sat (q t)) i)))
+
+    pub solution-outside : (leb n g || leb n c) ≡ true → false ≡ isSolution
+    solution-outside h = by-room true h
+
+    pub solution-flags : (leb n g || leb n c) ≡ false → {b : Bool} → b ≡ (flag mon g && flag sat c) → b ≡ isSolution
+    solution-flags h e = e ∙ by-room false h
+
+  -- what it says
+  pub solution-parts : isSolution ≡ true → (getD K j 0 ≡ 3) × (getD P j 0 < n) × (getD C j 0 < n) × (flag mon (getD P j 0) ≡ true) × (flag sat (getD C j 0) ≡ true)
+  unfolding isSolution
+  solution-parts h =
+      let w = behind-parts (eqb (getD K j 0) 3) (leb n (getD P j 0) || leb n (getD C j 0)) (flag mon (getD P j 0) && flag sat (getD C j 0)) h in
+      let o = outside-not n (getD P j 0) (getD C j 0) (w .1) in
+      let f = and-parts (flag mon (getD P j 0)) (flag sat (getD C j 0)) (w .2) in
+      (eqb-true (getD K j 0) 3 (w .0), o .0, o .1, f .0, f .1)
+
+  pub solution-room : isSolution ≡ true → {c : ℕ} → c ≡ getD C j 0 → c < n
+  solution-room h e = omega (arith, solution-parts h .2)
+
+  solution-of : getD K j 0 ≡ 3 → getD P j 0 < n → getD C j 0 < n → flag mon (getD P j 0) ≡ true → flag sat (getD C j 0) ≡ true → isSolution ≡ true
+  unfolding isSolution
+  solution-of k a b m s = λ i. behind (eq-eqb (getD K j 0) 3 k i) (lt-leb n (getD P j 0) a i || lt-leb n (getD C j 0) b i) (m i && s i)
+
+-- node c is a role of name r
+unfoldable pub isNamedAt : Nodes → ℕ → ℕ → Bool
+isNamedAt N r c = isNamed r (nodeAt N c .expression)
 
 module _ (N : Nodes) (E : Edges) (mon sat : List ℕ) (r : ℕ) (j : ℕ) where
   abbrev pub goalAt : ℕ
@@ -151,66 +192,55 @@ module _ (N : Nodes) (E : Edges) (mon sat : List ℕ) (r : ℕ) (j : ℕ) where
 
   -- edge j brings a goal that is monitored a satisfied solution of name r
   unfoldable pub isSolved : Bool
-  isSolved = behind (eqb (getD (E .kind) j 0) 3) (leb (N .count) goalAt || leb (N .count) solutionAt) (not (flag mon goalAt) || not (flag sat solutionAt)) (isNamed r (nodeAt N solutionAt .expression))
-
-  pub solved-kind : (getD (E .kind) j 0 ≡ 3 → ⊥) → false ≡ isSolved
-  unfolding isSolved
-  solved-kind h = sym (ap (λ (b : Bool). behind b (leb (N .count) goalAt || leb (N .count) solutionAt) (not (flag mon goalAt) || not (flag sat solutionAt)) (isNamed r (nodeAt N solutionAt .expression))) (ne-eqb (getD (E .kind) j 0) 3 h))
-
-  module _ (k : getD (E .kind) j 0 ≡ 3) {g c : ℕ} (p : g ≡ goalAt) (q : c ≡ solutionAt) where
-    pub solved-outside : (leb (N .count) g || leb (N .count) c) ≡ true → false ≡ isSolved
-    unfolding isSolved
-    solved-outside h =
-        let o : (leb (N .count) goalAt || leb (N .count) solutionAt) ≡ true = sym (λ i. leb (N .count) (p i) || leb (N .count) (q i)) ∙ h in
-        sym (λ i. behind (eq-eqb (getD (E .kind) j 0) 3 k i) (o i) (not (flag mon goalAt) || not (flag sat solutionAt)) (isNamed r (nodeAt N solutionAt .expression)))
-
-    module _ (h : (leb (N .count) g || leb (N .count) c) ≡ false) where
-      by-flags : (b : Bool) → (not (eqb (getD mon g 0) 1) || not (eqb (getD sat c 0) 1)) ≡ b → cond b false (isNamed r (nodeAt N solutionAt .expression)) ≡ isSolved
-      unfolding isSolved
-      by-flags b f =
-          let o : (leb (N .count) goalAt || leb (N .count) solutionAt) ≡ false = sym (λ i. leb (N .count) (p i) || leb (N .count) (q i)) ∙ h in
-          let t : (not (flag mon goalAt) || not (flag sat solutionAt)) ≡ b = sym (λ i. not (flag mon (p i)) || not (flag sat (q i))) ∙ f in
-          sym (λ i. behind (eq-eqb (getD (E .kind) j 0) 3 k i) (o i) (t i) (isNamed r (nodeAt N solutionAt .expression)))
-
-      pub solved-flags : (not (eqb (getD mon g 0) 1) || not (eqb (getD sat c 0) 1)) ≡ true → false ≡ isSolved
-      solved-flags f = by-flags true f
-
-      pub solved-named : (not (eqb (getD mon g 0) 1) || not (eqb (getD sat c 0) 1)) ≡ false → {b : Bool} {x : Expression} → x ≡ nodeAt N c .expression → b ≡ isNamed r x → b ≡ isSolved
-      solved-named f e t = t ∙ (ap (isNamed r) (e ∙ ap (λ (m : ℕ). nodeAt N m .expression) q) ∙ by-flags false f)
+  isSolved = isSolution (N .count) (E .kind) (E .parent) (E .child) mon sat j && isNamedAt N r solutionAt
 
   -- what it says
   pub solved-parts : isSolved ≡ true
       → (getD (E .kind) j 0 ≡ 3) × (goalAt < N .count) × (solutionAt < N .count) × (flag mon goalAt ≡ true) × (flag sat solutionAt ≡ true) × (isNamed r (nodeAt N solutionAt .expression) ≡ true)
-  unfolding isSolved
+  unfolding isSolved isNamedAt
   solved-parts h =
-      let w = behind-parts (eqb (getD (E .kind) j 0) 3) (leb (N .count) goalAt || leb (N .count) solutionAt) (not (flag mon goalAt) || not (flag sat solutionAt)) (isNamed r (nodeAt N solutionAt .expression)) h in
-      let o = outside-not (N .count) goalAt solutionAt (w .1) in
-      let f = or-neither (not (flag mon goalAt)) (not (flag sat solutionAt)) (w .2) in
-      (eqb-true (getD (E .kind) j 0) 3 (w .0), o .0, o .1, not-false (flag mon goalAt) (f .0), not-false (flag sat solutionAt) (f .1), w .3)
+      let w = and-parts (isSolution (N .count) (E .kind) (E .parent) (E .child) mon sat j) (isNamedAt N r solutionAt) h in
+      let s = solution-parts (N .count) (E .kind) (E .parent) (E .child) mon sat j (w .0) in
+      (s .0, s .1, s .2, s .3, s .4, w .1)
 
   pub solved-of : getD (E .kind) j 0 ≡ 3 → goalAt < N .count → solutionAt < N .count → flag mon goalAt ≡ true → flag sat solutionAt ≡ true → isNamed r (nodeAt N solutionAt .expression) ≡ true → isSolved ≡ true
-  unfolding isSolved
-  solved-of k a b m s x =
-      λ i. behind (eq-eqb (getD (E .kind) j 0) 3 k i) (lt-leb (N .count) goalAt a i || lt-leb (N .count) solutionAt b i) (not (m i) || not (s i)) (x i)
+  unfolding isSolved isNamedAt
+  solved-of k a b m s x = and-both (isSolution (N .count) (E .kind) (E .parent) (E .child) mon sat j) (isNamedAt N r solutionAt) (solution-of (N .count) (E .kind) (E .parent) (E .child) mon sat j k a b m s) x
 
 abbrev pub linkEdge : Node → Role → ℕ → Wanted
 linkEdge n a b = childFor 4 n (E.Role a) b
 
-pub was-solved : {t b : Bool} → t ≡ b → not t ≡ false → b ≡ true
-was-solved {t} p h = sym p ∙ not-false t h
+-- the linking implication for solution c
+unfoldable pub solutionEdge : Nodes → Node → Role → ℕ → Wanted
+solutionEdge N n a c = linkEdge n a (entityIn (nodeAt N c .expression))
 
 unfoldable pub solvedEdge : Nodes → Edges → Node → Role → ℕ → Wanted
-solvedEdge N X n a j = linkEdge n a (entityIn (nodeAt N (getD (X .child) j 0) .expression))
+solvedEdge N X n a j = solutionEdge N n a (getD (X .child) j 0)
 
-pub solved-left : (d : Wanted → Bool) (N : Nodes) (E : Edges) (mon sat : List ℕ) (r : ℕ) (n : Node) (a : Role) (b : Choice) (j : ℕ) {t : Bool} → t ≡ isSolved N E mon sat r j → not t ≡ true → b ≡ offer d (isSolved N E mon sat r) (solvedEdge N E n a) b j
-solved-left d N E mon sat r n a b j {t} p h = offer-left d (isSolved N E mon sat r) (solvedEdge N E n a) b j (sym p ∙ not-true t h)
+module _ (d : Wanted → Bool) (N : Nodes) (n : Node) (a : Role) (r c : ℕ) (b : Choice) {x : Expression} (e : x ≡ nodeAt N c .expression) {t : Bool} (p : t ≡ isNamed r x) where
+  named : t ≡ isNamedAt N r c
+  unfolding isNamedAt
+  named = p ∙ ap (isNamed r) e
 
-pub solved-taken : (d : Wanted → Bool) (N : Nodes) (E : Edges) (mon sat : List ℕ) (r : ℕ) (n : Node) (a : Role) (b : Choice) (j : ℕ) {t : Bool} → t ≡ isSolved N E mon sat r j → not t ≡ false
-    → {x : Expression} {e g : ℕ} {w : Wanted} {c : Choice} → g ≡ getD (E .child) j 0 → x ≡ nodeAt N g .expression → e ≡ entityIn x → w ≡ linkEdge n a e → c ≡ better d b w
-    → c ≡ offer d (isSolved N E mon sat r) (solvedEdge N E n a) b j
-unfolding solvedEdge
-solved-taken d N E mon sat r n a b j {t} p h l f g u v =
-    offer-taken d (isSolved N E mon sat r) (solvedEdge N E n a) b j (sym p ∙ not-false t h) (v ∙ ap (better d b) (u ∙ ap (linkEdge n a) (g ∙ ap entityIn (f ∙ ap (λ (m : ℕ). nodeAt N m .expression) l))))
+  pub named-other : not t ≡ true → b ≡ offer d (isNamedAt N r) (solutionEdge N n a) b c
+  named-other h = offer-left d (isNamedAt N r) (solutionEdge N n a) b c (sym named ∙ not-true t h)
+
+  pub named-edge : not t ≡ false → {o : ℕ} {w : Wanted} {z : Choice} → o ≡ entityIn x → w ≡ linkEdge n a o → z ≡ better d b w → z ≡ offer d (isNamedAt N r) (solutionEdge N n a) b c
+  unfolding solutionEdge
+  named-edge h u v q = offer-taken d (isNamedAt N r) (solutionEdge N n a) b c (sym named ∙ not-false t h) (q ∙ ap (better d b) (v ∙ ap (linkEdge n a) (u ∙ ap entityIn e)))
+
+module _ (d : Wanted → Bool) (N : Nodes) (E : Edges) (mon sat : List ℕ) (r : ℕ) (n : Node) (a : Role) (j : ℕ) where
+  -- an edge that brings a solution offers what the solution does
+  pub solved-here : isSolution (N .count) (E .kind) (E .parent) (E .child) mon sat j ≡ true → (b : Choice) {z : Choice} {c : ℕ} → c ≡ getD (E .child) j 0 → z ≡ offer d (isNamedAt N r) (solutionEdge N n a) b c
+      → z ≡ offer d (isSolved N E mon sat r) (solvedEdge N E n a) b j
+  unfolding offer isSolved solvedEdge
+  solved-here h b e q =
+      q ∙ (ap (offer d (isNamedAt N r) (solutionEdge N n a) b) e ∙ sym (ap (λ (x : Bool). cond (x && isNamedAt N r (getD (E .child) j 0)) (better d b (solvedEdge N E n a j)) b) h))
+
+  -- any other is passed over
+  pub solved-skip : isSolution (N .count) (E .kind) (E .parent) (E .child) mon sat j ≡ false → (b : Choice) → offer d (isSolved N E mon sat r) (solvedEdge N E n a) b j ≡ b
+  unfolding isSolved
+  solved-skip h b = sym (offer-left d (isSolved N E mon sat r) (solvedEdge N E n a) b j (ap (λ (x : Bool). x && isNamedAt N r (getD (E .child) j 0)) h))
 
 -- All of them
 
@@ -257,7 +287,7 @@ module _ (o : End) (N : Nodes) (E : Edges) (ne : o .state .nodes ≡ nodesOf N) 
     satisfied c = (λ t. at (satisfiedB (ne t) (ee t)) c) ∙ sym (S .is-sat c)
 
     to : (w : Wanted) → List·Memᴰ w edges → Among (E .count) (isSolved N E mon sat r) (Is (solvedEdge N E n a)) w
-    unfolding solvedEdge
+    unfolding solvedEdge solutionEdge
     to w m =
         let f = map-find (linkEdge n a) (solutionsOf o r i) m in
         let g = gather-find (λ g. gather (λ c. ownersIn r (nodeIn (o .state .nodes) c .expression)) (keep (isSatisfied o) (childrenBy o 3 g))) (childrenBy o 2 i) (f .1) in
@@ -281,7 +311,7 @@ module _ (o : End) (N : Nodes) (E : Edges) (ne : o .state .nodes ≡ nodesOf N) 
         }
 
     fro : (w : Wanted) → Among (E .count) (isSolved N E mon sat r) (Is (solvedEdge N E n a)) w → List·Memᴰ w edges
-    unfolding solvedEdge
+    unfolding solvedEdge solutionEdge
     fro w h =
         let j : ℕ = h .at in
         let p = solved-parts N E mon sat r j (h .passes) in
@@ -305,40 +335,40 @@ module _ (o : End) (N : Nodes) (E : Edges) (ne : o .state .nodes ≡ nodesOf N) 
 
 -- Whether a goal is complete
 
--- edge j leads node i to a complete goal
+-- edge j leads node i to a goal
+unfoldable pub isMonitor : List ℕ → List ℕ → ℕ → ℕ → Bool
+isMonitor K P i j = eqb (getD K j 0) 2 && eqb (getD P j 0) i
+
+-- and the goal is complete
 unfoldable pub isCompleteAt : Nodes → Edges → ℕ → ℕ → Bool
-isCompleteAt N E i j = cond (not (eqb (getD (E .kind) j 0) 2) || not (eqb (getD (E .parent) j 0) i)) false (completeB (nodesOf N) (edgesOf E) (getD (E .child) j 0))
+isCompleteAt N E i j = isMonitor (E .kind) (E .parent) i j && completeB (nodesOf N) (edgesOf E) (getD (E .child) j 0)
 
 module _ (N : Nodes) (E : Edges) (i j : ℕ) where
-  pub complete-other : (not (eqb (getD (E .kind) j 0) 2) || not (eqb (getD (E .parent) j 0) i)) ≡ true → false ≡ isCompleteAt N E i j
+  pub complete-skip : isMonitor (E .kind) (E .parent) i j ≡ false → isCompleteAt N E i j ≡ false
   unfolding isCompleteAt
-  complete-other h = sym (ap (λ (b : Bool). cond b false (completeB (nodesOf N) (edgesOf E) (getD (E .child) j 0))) h)
+  complete-skip h = ap (λ (b : Bool). b && completeB (nodesOf N) (edgesOf E) (getD (E .child) j 0)) h
 
-  pub complete-goal : (not (eqb (getD (E .kind) j 0) 2) || not (eqb (getD (E .parent) j 0) i)) ≡ false → {b : Bool} {g : ℕ} → g ≡ getD (E .child) j 0 → b ≡ completeB (nodesOf N) (edgesOf E) g → b ≡ isCompleteAt N E i j
+  pub complete-goal : isMonitor (E .kind) (E .parent) i j ≡ true → {b : Bool} {g : ℕ} → g ≡ getD (E .child) j 0 → b ≡ completeB (nodesOf N) (edgesOf E) g → b ≡ isCompleteAt N E i j
   unfolding isCompleteAt
-  complete-goal h p q = q ∙ (ap (completeB (nodesOf N) (edgesOf E)) p ∙ sym (ap (λ (b : Bool). cond b false (completeB (nodesOf N) (edgesOf E) (getD (E .child) j 0))) h))
+  complete-goal h p q = q ∙ (ap (completeB (nodesOf N) (edgesOf E)) p ∙ sym (ap (λ (b : Bool). b && completeB (nodesOf N) (edgesOf E) (getD (E .child) j 0)) h))
 
 pub any-complete : (o : End) (N : Nodes) (E : Edges) → o .state .nodes ≡ nodesOf N → o .state .edges ≡ edgesOf E → (i : ℕ) → any (isCompleteAt N E i) (upTo (E .count) (λ j. j)) ≡ any (completeB (o .state .nodes) (o .state .edges)) (childrenBy o 2 i)
-unfolding isCompleteAt
+unfolding isCompleteAt isMonitor
 any-complete o N E ne ee i = bool-iff (any (isCompleteAt N E i) (upTo (E .count) (λ j. j))) (any (completeB (o .state .nodes) (o .state .edges)) (childrenBy o 2 i)) to fro
   where
     both : (g : ℕ) → completeB (o .state .nodes) (o .state .edges) g ≡ completeB (nodesOf N) (edgesOf E) g
     both g = λ t. completeB (ne t) (ee t) g
-
-    parts : (x y z : Bool) → cond (not x || not y) false z ≡ true → (x ≡ true) × (y ≡ true) × (z ≡ true)
-    parts true true z h = (refl, refl, h)
-    parts true false z h = absurd (false-true h)
-    parts false y z h = absurd (false-true h)
 
     to : any (isCompleteAt N E i) (upTo (E .count) (λ j. j)) ≡ true → any (completeB (o .state .nodes) (o .state .edges)) (childrenBy o 2 i) ≡ true
     to h =
         let w = any-find (isCompleteAt N E i) (upTo (E .count) (λ j. j)) h in
         let u = upTo-find (E .count) (λ j. j) (w .0) (w .1) in
         let j : ℕ = w .0 in
-        let p = parts (eqb (getD (E .kind) j 0) 2) (eqb (getD (E .parent) j 0) i) (completeB (nodesOf N) (edgesOf E) (getD (E .child) j 0)) (w .2) in
+        let q = and-parts (eqb (getD (E .kind) j 0) 2 && eqb (getD (E .parent) j 0) i) (completeB (nodesOf N) (edgesOf E) (getD (E .child) j 0)) (w .2) in
+        let p = and-parts (eqb (getD (E .kind) j 0) 2) (eqb (getD (E .parent) j 0) i) (q .0) in
         let z : j ≡ u .0 = u .2 in
         let l : u .0 < E .count = u .1 in
-        any-here (completeB (o .state .nodes) (o .state .edges)) (child-mem o N E ne ee 2 i j (omega (arith, z, l)) (eqb-true (getD (E .kind) j 0) 2 (p .0)) (eqb-true (getD (E .parent) j 0) i (p .1))) (both (getD (E .child) j 0) ∙ p .2)
+        any-here (completeB (o .state .nodes) (o .state .edges)) (child-mem o N E ne ee 2 i j (omega (arith, z, l)) (eqb-true (getD (E .kind) j 0) 2 (p .0)) (eqb-true (getD (E .parent) j 0) i (p .1))) (both (getD (E .child) j 0) ∙ q .1)
 
     fro : any (completeB (o .state .nodes) (o .state .edges)) (childrenBy o 2 i) ≡ true → any (isCompleteAt N E i) (upTo (E .count) (λ j. j)) ≡ true
     fro h =
@@ -347,7 +377,7 @@ any-complete o N E ne ee i = bool-iff (any (isCompleteAt N E i) (upTo (E .count)
         let j : ℕ = x .0 in
         let z : completeB (nodesOf N) (edgesOf E) (getD (E .child) j 0) ≡ true = sym (both (getD (E .child) j 0)) ∙ (ap (completeB (o .state .nodes) (o .state .edges)) (sym (x .4)) ∙ w .2) in
         any-here (isCompleteAt N E i) (upTo-mem (E .count) (λ j. j) j (x .1))
-        (λ t. cond (not (eq-eqb (getD (E .kind) j 0) 2 (x .2) t) || not (eq-eqb (getD (E .parent) j 0) i (x .3) t)) false (z t))
+        (λ t. (eq-eqb (getD (E .kind) j 0) 2 (x .2) t && eq-eqb (getD (E .parent) j 0) i (x .3) t) && z t)
 
 -- What the rules come to
 

@@ -4,9 +4,10 @@ use native.Mathlib.Omega.{arith}
 use mathlib.Core.Path.{_≡_, refl, sym, _∙_, ap}
 use mathlib.Core.Logic.{⊎-elim}
 use mathlib.Core.Bool.{Bool, true, false}
-use borrow.Author.Tests.{eqb-true, eqb-false}
-use lib.Dec.{eqb}
+use borrow.Author.Tests.{eqb-true, eqb-false, ltb-true, ltb-false}
+use lib.Dec.{eqb, ltb}
 use Rattle.propagation.specs.Flags.{decided}
+use Rattle.class.specs.Find.{Missed}
 use Rattle.moves.specs.declared.Choice.{Choice}
 use Rattle.choice.specs.Offers.{turned, folded}
 
@@ -15,6 +16,11 @@ pub record Skipped (test : ℕ → Bool) (a m r : ℕ) : Type 0 where
   pub from : a ≤ r
   pub within : r ≤ m
   pub none : (j : ℕ) → a ≤ j → j < r → test j ≡ false
+
+-- r is the first number from a on that passes the test, or m
+pub record First (test : ℕ → Bool) (a m r : ℕ) : Type 0 where
+  pub skipped : Skipped test a m r
+  pub passes : r < m → test r ≡ true
 
 module _ (test : ℕ → Bool) where
   pub skipped-start : {a m : ℕ} → a ≤ m → Skipped test a m a
@@ -29,6 +35,16 @@ module _ (test : ℕ → Bool) where
         none = λ j h k.
             ⊎-elim (λ y. ap test (eqb-true j r y) ∙ (sym e ∙ z)) (λ y. S .none j h (omega (arith, eqb-false j r y))) (decided (eqb j r));
       }
+
+  pub first-here : {a m r : ℕ} {b : Bool} → Skipped test a m r → b ≡ test r → b ≡ true → First test a m r
+  first-here S e z = record { skipped = S; passes = λ l. sym e ∙ z }
+
+  pub first-end : {a m r : ℕ} → Skipped test a m r → m ≤ r → First test a m r
+  first-end S h = record { skipped = S; passes = λ l. absurd (omega arith) }
+
+  -- a search may pass over numbers whose element fails its test
+  pub missed-skip : {a r : ℕ} → Missed test (λ j. j) a → ((j : ℕ) → a ≤ j → j < r → test j ≡ false) → Missed test (λ j. j) r
+  missed-skip {a} {r} M h = record { none = λ j l. ⊎-elim (λ z. M .none j (ltb-true j a z)) (λ z. h j (ltb-false j a z) l) (decided (ltb j a)) }
 
 -- a fold that leaves what is chosen at each number from a to r comes to the same
 module _ (f : Choice → ℕ → Choice) (b : Choice) where

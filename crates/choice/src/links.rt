@@ -24,7 +24,8 @@ ghost use Rattle.states.specs.Complete.{Settled};
 ghost use Rattle.moves.specs.declared.Choice.the-variants as C;
 ghost use Rattle.moves.specs.Wanted.{isDone, markIf};
 ghost use Rattle.choice.specs.Offers.{folded, offer};
-ghost use Rattle.choice.specs.Links.{Monitoring, entityIn, isSolved, solvedEdge, isCompleteAt, Linked};
+ghost use Rattle.choice.specs.Skipped.{First};
+ghost use Rattle.choice.specs.Links.{Monitoring, entityIn, isNamedAt, isSolution, isSolved, solutionEdge, solvedEdge, isMonitor, isCompleteAt, Linked};
 
 const MONITOR: u8 = 2;
 
@@ -106,57 +107,73 @@ fn expression_of(nodes: Nodes, c: usize) -> Expression
     )
 }
 
-// Whether edge j brings a goal that is monitored a satisfied solution of name r.
-fn is_solved<'a>(
-    nodes: Nodes,
-    edges: Edges,
+// Whether edge j brings a goal that is monitored a satisfied solution.
+fn is_solution<'a>(
+    count: usize,
+    kind: &'a [u8; 256],
+    parent: &'a [u8; 256],
+    child: &'a [u8; 256],
     monitors: &'a [u8; 128],
     sat: &'a [u8; 128],
-    r: u16,
     j: usize,
 ) -> bool
-    requires { ⌜ (j < 256) × (nodes .count ≤ 128) ⌝ }
-    ensures { λ b. ⌜ b ≡ isSolved nodes edges (now (monitors .entry)) (now (sat .entry)) r j ⌝ }
+    requires { ⌜ (j < 256) × (count ≤ 128) ⌝ }
+    ensures { λ b. ⌜ b ≡ isSolution count (now (kind .entry)) (now (parent .entry)) (now (child .entry)) (now (monitors .entry)) (now (sat .entry)) j ⌝ }
 {
-    if edges.kind[j] != SOLUTION {
+    if kind[j] != SOLUTION {
         return false;
     }
-    let g = wide(edges.parent[j]);
-    let c = wide(edges.child[j]);
-    if (nodes.count <= g) | (nodes.count <= c) {
+    let g = wide(parent[j]);
+    let c = wide(child[j]);
+    if (count <= g) | (count <= c) {
         return false;
     }
-    if (monitors[g] != 1) | (sat[c] != 1) {
-        return false;
-    }
-    is_named(r, expression_of(nodes, c))
+    (monitors[g] == 1) & (sat[c] == 1)
 }
 
-// The best of what is chosen and the linking implication for edge j, if that brings a satisfied solution.
-fn with_solution<'a>(
-    nodes: Nodes,
-    edges: Edges,
+// The next such edge from an index on, or m.
+fn next_solution<'a>(
+    count: usize,
+    m: usize,
+    kind: &'a [u8; 256],
+    parent: &'a [u8; 256],
+    child: &'a [u8; 256],
     monitors: &'a [u8; 128],
     sat: &'a [u8; 128],
+    from: usize,
+) -> usize
+    requires { ⌜ (count ≤ 128) × (m ≤ 256) × (from ≤ m) ⌝ }
+    ensures { λ r. ⌜ First (isSolution count (now (kind .entry)) (now (parent .entry)) (now (child .entry)) (now (monitors .entry)) (now (sat .entry))) from m r ⌝ }
+{
+    let mut j = from;
+    while j < m {
+        if is_solution(count, kind, parent, child, monitors, sat, j) {
+            return j;
+        }
+        j += 1;
+    }
+    j
+}
+
+// The best of what is chosen and the linking implication for node c, if that is a role of name r.
+fn with_solution(
+    nodes: Nodes,
+    edges: Edges,
     i: u8,
     n: Node,
     a: Role,
     r: u16,
     best: Choice,
-    j: usize,
+    c: usize,
 ) -> Choice
-    requires { ⌜ (j < 256) × (nodes .count ≤ 128) × (edges .count ≤ 256) ⌝ }
-    ensures { λ c. ⌜ c ≡ offer (isDone (nodesOf nodes) (edgesOf edges) i) (isSolved nodes edges (now (monitors .entry)) (now (sat .entry)) r) (solvedEdge nodes edges n a) best j ⌝ }
+    requires { ⌜ (c < 128) × (nodes .count ≤ 128) × (edges .count ≤ 256) ⌝ }
+    ensures { λ z. ⌜ z ≡ offer (isDone (nodesOf nodes) (edgesOf edges) i) (isNamedAt nodes r) (solutionEdge nodes n a) best c ⌝ }
 {
-    if !is_solved(nodes, edges, monitors, sat, r, j) {
+    let x = expression_of(nodes, c);
+    if !is_named(r, x) {
         return best;
     }
-    let c = wide(edges.child[j]);
-    if nodes.count <= c {
-        return best;
-    }
-    let b = entity_in(expression_of(nodes, c));
-    let w = child_for(LINKING_IMPLICATION, n, Expression::Role(a), b);
+    let w = child_for(LINKING_IMPLICATION, n, Expression::Role(a), entity_in(x));
     better(nodes, edges, i, best, w)
 }
 
@@ -174,33 +191,60 @@ fn with_solutions<'a>(
     requires { ⌜ (nodes .count ≤ 128) × (edges .count ≤ 256) ⌝ }
     ensures { λ c. ⌜ c ≡ folded (edges .count) (offer (isDone (nodesOf nodes) (edgesOf edges) i) (isSolved nodes edges (now (monitors .entry)) (now (sat .entry)) r) (solvedEdge nodes edges n a)) C.Nothing ⌝ }
 {
-    let m = edges.count;
     let mut best = Choice::Nothing;
-    let mut j = 0;
-    while j < m {
-        best = with_solution(nodes, edges, monitors, sat, i, n, a, r, best, j);
-        j += 1;
+    let mut j = next_solution(
+        nodes.count,
+        edges.count,
+        &edges.kind,
+        &edges.parent,
+        &edges.child,
+        monitors,
+        sat,
+        0,
+    );
+    while j < edges.count {
+        best = with_solution(nodes, edges, i, n, a, r, best, wide(edges.child[j]));
+        j = next_solution(
+            nodes.count,
+            edges.count,
+            &edges.kind,
+            &edges.parent,
+            &edges.child,
+            monitors,
+            sat,
+            j + 1,
+        );
     }
     best
 }
 
-// Whether edge j leads node i to a complete goal.
-fn is_complete_at<'a>(
-    nodes: Nodes,
-    edges: Edges,
-    sat: &'a [u8; 128],
-    failed: &'a [u8; 128],
-    i: u8,
-    j: usize,
-) -> bool
-    requires { ⌜ (j < edges .count) × (nodes .count ≤ 128) × (edges .count ≤ 256) × EdgesFormed (nodesOf nodes) (edgesOf edges) × Settled (nodesOf nodes) (edgesOf edges) (now sat) (now failed) ⌝ }
-    ensures { λ b. ⌜ b ≡ isCompleteAt nodes edges i j ⌝ }
+// Whether edge j leads node i to a goal.
+fn is_monitor<'a>(kind: &'a [u8; 256], parent: &'a [u8; 256], i: u8, j: usize) -> bool
+    requires { ⌜ j < 256 ⌝ }
+    ensures { λ b. ⌜ b ≡ isMonitor (now (kind .entry)) (now (parent .entry)) i j ⌝ }
 {
-    if (edges.kind[j] != MONITOR) | (edges.parent[j] != i) {
-        return false;
+    (kind[j] == MONITOR) & (parent[j] == i)
+}
+
+// The next such edge from an index on, or m.
+fn next_monitor<'a>(
+    m: usize,
+    kind: &'a [u8; 256],
+    parent: &'a [u8; 256],
+    i: u8,
+    from: usize,
+) -> usize
+    requires { ⌜ (m ≤ 256) × (from ≤ m) ⌝ }
+    ensures { λ r. ⌜ First (isMonitor (now (kind .entry)) (now (parent .entry)) i) from m r ⌝ }
+{
+    let mut j = from;
+    while j < m {
+        if is_monitor(kind, parent, i, j) {
+            return j;
+        }
+        j += 1;
     }
-    let g = wide(edges.child[j]);
-    is_complete(nodes, edges, sat, failed, g)
+    j
 }
 
 // Whether a goal that node i monitors is complete.
@@ -215,12 +259,12 @@ fn any_complete<'a>(
     ensures { λ b. ⌜ b ≡ any (isCompleteAt nodes edges i) (upTo (edges .count) (λ j. j)) ⌝ }
 {
     let m = edges.count;
-    let mut j = 0;
+    let mut j = next_monitor(m, &edges.kind, &edges.parent, i, 0);
     while j < m {
-        if is_complete_at(nodes, edges, sat, failed, i, j) {
+        if is_complete(nodes, edges, sat, failed, wide(edges.child[j])) {
             return true;
         }
-        j += 1;
+        j = next_monitor(m, &edges.kind, &edges.parent, i, j + 1);
     }
     false
 }
