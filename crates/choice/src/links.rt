@@ -12,6 +12,7 @@ use graph::expression_at;
 use moves::Choice;
 use states::NodeStates;
 use states::is_complete;
+use word::wide;
 ghost use mathlib.Core.Path.{_≡_};
 ghost use mathlib.Core.List.{map};
 ghost use Prim.Native.Nat.{_≤_, _<_};
@@ -32,12 +33,6 @@ const MONITOR: u8 = 2;
 const SOLUTION: u8 = 3;
 
 const LINKING_IMPLICATION: u8 = 4;
-
-fn wide(x: u8) -> usize
-    ensures { λ r. ⌜ r ≡ x ⌝ }
-{
-    x as usize
-}
 
 // The children of node i by linking-monitor edges, 1 for each.
 fn monitored<'a>(

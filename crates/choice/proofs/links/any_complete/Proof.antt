@@ -11,7 +11,7 @@ use Rattle.choice.proofs.links.any_complete.Tie as tie
 use Rattle.choice.proofs.links.any_complete.Reads as reads
 use Rattle.choice.proofs.links.any_complete.Lts as lts
 use Rattle.choice.proofs.links.next_monitor.Reads as next-monitor-reads
-use Rattle.choice.proofs.links.wide.Reads as wide-reads
+use Rattle.word.proofs.wide.Reads as wide-reads
 use Rattle.states.proofs.is_complete.Reads as is-complete-reads
 
 abbrev Inv-loop : tie.InvT-loop

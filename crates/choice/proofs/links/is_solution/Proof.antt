@@ -6,7 +6,7 @@ use Rattle.choice.proofs.links.is_solution.Statement.{statement}
 use Rattle.choice.proofs.links.is_solution.Tie as tie
 use Rattle.choice.proofs.links.is_solution.Reads as reads
 use Rattle.choice.proofs.links.is_solution.Lts as lts
-use Rattle.choice.proofs.links.wide.Reads as wide-reads
+use Rattle.word.proofs.wide.Reads as wide-reads
 
 element-copy-out-if1 : tie.Need-element-copy-out-if1
 element-copy-out-if1 c = search needs

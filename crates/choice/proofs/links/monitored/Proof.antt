@@ -9,7 +9,7 @@ use Rattle.choice.proofs.links.monitored.Statement.{statement}
 use Rattle.choice.proofs.links.monitored.Tie as tie
 use Rattle.choice.proofs.links.monitored.Reads as reads
 use Rattle.choice.proofs.links.monitored.Lts as lts
-use Rattle.choice.proofs.links.wide.Reads as wide-reads
+use Rattle.word.proofs.wide.Reads as wide-reads
 
 abbrev Inv-loop : tie.InvT-loop
 Inv-loop m kind parent child i r₀ j₀ r j = Monitoring (edgesFrom m kind parent child) i j r × (j ≤ m)

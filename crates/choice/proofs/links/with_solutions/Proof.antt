@@ -13,7 +13,7 @@ use Rattle.choice.proofs.links.with_solutions.Tie as tie
 use Rattle.choice.proofs.links.with_solutions.Reads as reads
 use Rattle.choice.proofs.links.with_solutions.Lts as lts
 use Rattle.choice.proofs.links.next_solution.Reads as next-solution-reads
-use Rattle.choice.proofs.links.wide.Reads as wide-reads
+use Rattle.word.proofs.wide.Reads as wide-reads
 use Rattle.choice.proofs.links.with_solution.Reads as with-solution-reads
 
 abbrev Inv-loop : tie.InvT-loop
