@@ -13,7 +13,7 @@ use Rattle.expression.specs.declared.Role.{Role}
 use Rattle.expression.specs.declared.Expression.{Expression}
 use Rattle.expression.specs.declared.Expression.the-variants as E
 use Rattle.rt0.specs.Pool.{upTo}
-use Rattle.rt0.specs.Lists.{false-true, and-parts, and-both, any, any-find, any-here, map-find, map-mem}
+use Rattle.rt0.specs.Lists.{false-true, and-parts, and-both, any, any-find, any-here, map-find, map-mem, or-neither}
 use Rattle.tables.specs.Public.{keep}
 use Rattle.tables.specs.PublicLaws.{keep-find, keep-mem}
 use Rattle.propagation.specs.Flags.{at, flag, decided, bool-iff, flag-zeros, flag-same, flag-grows, flag-cases}
@@ -124,10 +124,6 @@ owners-mem r (E.Role a) h = subst (λ (t : Bool). List·Memᴰ (a .entity) (cond
 owners-mem r (E.Linked a s) h = absurd (false-true h)
 owners-mem r (E.Intersection p) h = absurd (false-true h)
 owners-mem r (E.Goal s) h = absurd (false-true h)
-
-or-neither : (a b : Bool) → (a || b) ≡ false → (a ≡ false) × (b ≡ false)
-or-neither true b h = absurd (false-true (sym h))
-or-neither false b h = (refl, h)
 
 pub outside-not : (n g c : ℕ) → (leb n g || leb n c) ≡ false → (g < n) × (c < n)
 outside-not n g c h = let o = or-neither (leb n g) (leb n c) h in (leb-false n g (o .0), leb-false n c (o .1))
