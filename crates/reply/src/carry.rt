@@ -24,7 +24,7 @@ ghost use Rattle.reply.specs.Outgoing.{oneIf, roomBy, onAt, shows};
 // How many bytes a credential takes.
 const SHOW: usize = 23;
 
-fn wide(x: u8) -> usize
+pub fn wide(x: u8) -> usize
     ensures { λ r. ⌜ r ≡ x ⌝ }
 {
     x as usize
