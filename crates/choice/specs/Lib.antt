@@ -16,3 +16,4 @@ pub mod Ready
 pub mod OwnRules
 pub mod RuleChoice
 pub mod Next
+pub mod Exhausted

@@ -17,7 +17,8 @@ ghost use Rattle.negotiation.specs.State.{stateOf, within};
 ghost use Rattle.moves.specs.Rules.{endIn};
 ghost use Rattle.moves.specs.Move.{nextMove};
 ghost use Rattle.moves.specs.Own.{Prepared, foundMove};
-ghost use Rattle.choice.specs.Next.{isNothing, isOpen, openAt};
+ghost use Rattle.choice.specs.Next.{isNothing, isOpen, openAt, Passed};
+ghost use Rattle.choice.specs.Exhausted.{Exhausted};
 ghost use Rattle.choice.specs.Skipped.{Skipped};
 
 // Whether there is nothing to do.
@@ -62,11 +63,12 @@ fn next_open<'a>(
     i
 }
 
-// "Nodes are tried by rising number": the first at which there is something to do.
-pub fn next_choice(own: Own, n: Negotiation, states: NodeStates) -> Found
-    requires { ⌜ Prepared own × (within (stateOf n) ≡ true) × (0 < n .nodes .count) × NodesFormed (nodesOf (n .nodes)) × EdgesFormed (nodesOf (n .nodes)) (edgesOf (n .edges)) × Settled (nodesOf (n .nodes)) (edgesOf (n .edges)) (states .satisfied) (states .failed) ⌝ }
+// "Nodes are tried by rising number": the first at which there is something to do. The edges of rule (4) of sensitive roles are done below `passed`.
+pub fn next_choice(own: Own, n: Negotiation, states: NodeStates, passed: usize) -> Found
+    requires { ⌜ Prepared own × (within (stateOf n) ≡ true) × (0 < n .nodes .count) × NodesFormed (nodesOf (n .nodes)) × EdgesFormed (nodesOf (n .nodes)) (edgesOf (n .edges)) × Settled (nodesOf (n .nodes)) (edgesOf (n .edges)) (states .satisfied) (states .failed) × Exhausted (tablesOf (own .house)) (stateOf n) passed ⌝ }
     ensures found { λ r. ⌜ nextMove (endIn (tablesOf (own .house)) (stateOf n)) ≡ foundMove (endIn (tablesOf (own .house)) (stateOf n)) r ⌝ }
     ensures standing { λ r. ⌜ r .node < n .nodes .count ⌝ }
+    ensures idle { λ r. ⌜ Passed (endIn (tablesOf (own .house)) (stateOf n)) (r .node) ⌝ }
 {
     let h = n.header;
     let nodes = n.nodes;
@@ -75,7 +77,7 @@ pub fn next_choice(own: Own, n: Negotiation, states: NodeStates) -> Found
     while i < count {
         let node = i as u8;
         let x = node_of(nodes, node);
-        let choice = choice_at(own, n, states, node, x);
+        let choice = choice_at(own, n, states, node, x, passed);
         if !is_nothing(choice) {
             return Found { node, choice };
         }

@@ -26,12 +26,15 @@ ghost use mathlib.Core.Path.{_≡_};
 ghost use Prim.Native.Nat.{_≤_, _<_};
 ghost use Rattle.tables.specs.Tables.{tablesOf};
 ghost use Rattle.negotiation.specs.State.{stateOf};
-ghost use Rattle.graph.specs.Graph.{nodesOf, edgesOf};
+ghost use Rattle.graph.specs.Graph.{nodesOf, edgesOf, nodeIn};
 ghost use Rattle.expression.specs.declared.Expression.the-variants as E;
-ghost use Rattle.moves.specs.Wanted.{chosenIn, isDone};
+ghost use Rattle.moves.specs.declared.Choice.the-variants as C;
+ghost use Rattle.moves.specs.Wanted.{firstNot, chosenIn, isDone};
 ghost use Rattle.moves.specs.Rules.{endIn, linkRules, verifierRules, ownRules, opponentRules};
 ghost use Rattle.moves.specs.Move.{choiceAt};
+ghost use Rattle.moves.specs.Own.{Prepared};
 ghost use Rattle.choice.specs.Ready.{Ready};
+ghost use Rattle.choice.specs.Exhausted.{restEdges, Asked, Exhausted};
 
 const ISSUER_DEF: u8 = 1;
 
@@ -97,9 +100,28 @@ fn verifier_rules(
     }
 }
 
+// The edges of rule (4) at node i, unless they are known to be done.
+fn rest_of(own: Own, n: Negotiation, i: u8, x: Node, a: Role, passed: usize) -> Choice
+    requires { ⌜ Prepared own × (n .nodes .count ≤ 128) × (n .edges .count ≤ 256) × (i < passed → firstNot (isDone (nodesOf (n .nodes)) (edgesOf (n .edges)) i) C.Nothing (restEdges (tablesOf (own .house)) x a) ≡ C.Nothing) ⌝ }
+    ensures { λ c. ⌜ c ≡ firstNot (isDone (nodesOf (n .nodes)) (edgesOf (n .edges)) i) C.Nothing (restEdges (tablesOf (own .house)) x a) ⌝ }
+{
+    if (i as usize) < passed {
+        return Choice::Nothing;
+    }
+    rest_edges(own, n, i, x, a)
+}
+
 // A role about us: by whether it is sensitive, and what is known of it.
-fn own_rules(own: Own, n: Negotiation, states: NodeStates, i: u8, x: Node, a: Role) -> Choice
-    requires { ⌜ Ready own n states × (i < n .nodes .count) ⌝ }
+fn own_rules(
+    own: Own,
+    n: Negotiation,
+    states: NodeStates,
+    i: u8,
+    x: Node,
+    a: Role,
+    passed: usize,
+) -> Choice
+    requires { ⌜ Ready own n states × (i < n .nodes .count) × Exhausted (tablesOf (own .house)) (stateOf n) passed × Asked (stateOf n) i x (E.Role a) × (x .subject ≡ own .house .own) ⌝ }
     ensures { λ c. ⌜ c ≡ chosenIn (isDone (nodesOf (n .nodes)) (edgesOf (n .edges)) i) (ownRules (endIn (tablesOf (own .house)) (stateOf n)) i x a (endIn (tablesOf (own .house)) (stateOf n) .known)) ⌝ }
 {
     let house = own.house;
@@ -108,7 +130,7 @@ fn own_rules(own: Own, n: Negotiation, states: NodeStates, i: u8, x: Node, a: Ro
     let RoleAnswer::Found(ack) = answer else {
         return or_else(plain_edges(own, n, i, x, a), Choice::Mark);
     };
-    let rest = rest_edges(own, n, i, x, a);
+    let rest = rest_of(own, n, i, x, a, passed);
     let known = known_of(house, n, &states.satisfied, a, ack);
     behind_ack(
         n,
@@ -120,13 +142,21 @@ fn own_rules(own: Own, n: Negotiation, states: NodeStates, i: u8, x: Node, a: Ro
 }
 
 // A role target, by whether it is about us.
-fn opponent_role(own: Own, n: Negotiation, states: NodeStates, i: u8, x: Node, a: Role) -> Choice
-    requires { ⌜ Ready own n states × (i < n .nodes .count) ⌝ }
+fn opponent_role(
+    own: Own,
+    n: Negotiation,
+    states: NodeStates,
+    i: u8,
+    x: Node,
+    a: Role,
+    passed: usize,
+) -> Choice
+    requires { ⌜ Ready own n states × (i < n .nodes .count) × Exhausted (tablesOf (own .house)) (stateOf n) passed × Asked (stateOf n) i x (E.Role a) ⌝ }
     ensures { λ c. ⌜ c ≡ chosenIn (isDone (nodesOf (n .nodes)) (edgesOf (n .edges)) i) (opponentRules (endIn (tablesOf (own .house)) (stateOf n)) i x (E.Role a)) ⌝ }
 {
     let house = own.house;
     if x.subject == house.own {
-        return own_rules(own, n, states, i, x, a);
+        return own_rules(own, n, states, i, x, a, passed);
     }
     or_else(other_edges(own, n, i, x, a), Choice::Mark)
 }
@@ -139,24 +169,32 @@ fn opponent_rules(
     i: u8,
     x: Node,
     e: Expression,
+    passed: usize,
 ) -> Choice
-    requires { ⌜ Ready own n states × (i < n .nodes .count) ⌝ }
+    requires { ⌜ Ready own n states × (i < n .nodes .count) × Exhausted (tablesOf (own .house)) (stateOf n) passed × Asked (stateOf n) i x e ⌝ }
     ensures { λ c. ⌜ c ≡ chosenIn (isDone (nodesOf (n .nodes)) (edgesOf (n .edges)) i) (opponentRules (endIn (tablesOf (own .house)) (stateOf n)) i x e) ⌝ }
 {
     let nodes = n.nodes;
     let edges = n.edges;
     match e {
         Expression::Entity(_) => Choice::Mark,
-        Expression::Role(a) => opponent_role(own, n, states, i, x, a),
+        Expression::Role(a) => opponent_role(own, n, states, i, x, a, passed),
         Expression::Linked(a, r) => linked(own, n, states, i, x, a, r),
         Expression::Intersection(p) => or_else(part_edges(nodes, edges, i, x, p), Choice::Mark),
         Expression::Goal(r) => or_else(solutions(own, nodes, edges, i, x, r), Choice::Mark),
     }
 }
 
-// What is to be done at node i: nothing where our side has processed it.
-pub fn choice_at(own: Own, n: Negotiation, states: NodeStates, i: u8, x: Node) -> Choice
-    requires { ⌜ Ready own n states × (i < n .nodes .count) ⌝ }
+// What is to be done at node i: nothing where our side has processed it. The edges of rule (4) of sensitive roles are done below `passed`.
+pub fn choice_at(
+    own: Own,
+    n: Negotiation,
+    states: NodeStates,
+    i: u8,
+    x: Node,
+    passed: usize,
+) -> Choice
+    requires { ⌜ Ready own n states × (i < n .nodes .count) × Exhausted (tablesOf (own .house)) (stateOf n) passed × (x ≡ nodeIn (nodesOf (n .nodes)) i) ⌝ }
     ensures { λ c. ⌜ c ≡ choiceAt (endIn (tablesOf (own .house)) (stateOf n)) i x ⌝ }
 {
     let h = n.header;
@@ -167,5 +205,5 @@ pub fn choice_at(own: Own, n: Negotiation, states: NodeStates, i: u8, x: Node) -
     if x.verifier == h.side {
         return verifier_rules(own, n, states, i, x, e);
     }
-    opponent_rules(own, n, states, i, x, e)
+    opponent_rules(own, n, states, i, x, e, passed)
 }

@@ -77,10 +77,10 @@ module _ {ns ns′ : List Node} {es es′ : List Edge} (g : More ns es ns′ es�
 alike-eq : {m n : Node} → m ≡ n → Alike m n
 alike-eq e = record { expression = ap (λ (x : Node). x .expression) e; subject = ap (λ (x : Node). x .subject) e; verifier = ap (λ (x : Node). x .verifier) e }
 
-more-same : (ns : List Node) (es : List Edge) → More ns es ns es
+pub more-same : (ns : List Node) (es : List Edge) → More ns es ns es
 more-same ns es = record { more = omega arith; alike = λ i l. alike-eq refl; processed = λ i p. p; edges = λ e m. m }
 
-more-both : {ns ns′ ns″ : List Node} {es es′ es″ : List Edge} → More ns es ns′ es′ → More ns′ es′ ns″ es″ → More ns es ns″ es″
+pub more-both : {ns ns′ ns″ : List Node} {es es′ es″ : List Edge} → More ns es ns′ es′ → More ns′ es′ ns″ es″ → More ns es ns″ es″
 more-both {ns} {ns′} g h =
     let inner : (i : ℕ) → i < length ns → i < length ns′ = λ i l. omega (arith, g .more, l) in
     record {
@@ -140,10 +140,10 @@ unfolding markedState
 marked-full s x p = ap (λ (n : ℕ). cond (eqb (x .verifier) s) (bitOr n 1) (bitOr n 2)) p ∙ with-bit (eqb (x .verifier) s)
 
 -- the graph of a state grows
-abbrev Onward : State → State → Type 0
+abbrev pub Onward : State → State → Type 0
 Onward S R = More (S .nodes) (S .edges) (R .nodes) (R .edges)
 
-step-onward : (S : State) (s : ℕ) (c : Command) → Onward S (stepped S s c)
+pub step-onward : (S : State) (s : ℕ) (c : Command) → Onward S (stepped S s c)
 unfolding stepped withNode withEdge withShown withMark
 step-onward S s (Show c) = more-same (S .nodes) (S .edges)
 step-onward S s (Open o) = more-node (S .nodes) (S .edges) (primaryOf (S .header) o)
@@ -152,7 +152,7 @@ step-onward S s (Join e) = more-edge (S .nodes) (S .edges) e
 step-onward S s (Mark i) = more-mark (S .nodes) (S .edges) i (markedState s (nodeIn (S .nodes) i)) (λ p. marked-full s (nodeIn (S .nodes) i) p)
 step-onward S s End = more-same (S .nodes) (S .edges)
 
-step-header : (S : State) (s : ℕ) (c : Command) → stepped S s c .header ≡ S .header
+pub step-header : (S : State) (s : ℕ) (c : Command) → stepped S s c .header ≡ S .header
 unfolding stepped withNode withEdge withShown withMark
 step-header S s (Show c) = refl
 step-header S s (Open o) = refl

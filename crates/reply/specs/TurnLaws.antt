@@ -1,7 +1,8 @@
 -- What comes next in a reply, test by test. Assumes nothing.
 use Prim.Native.Nat.{ℕ, _+_, _≤_, _<_}
 use native.Mathlib.Omega.{arith}
-use mathlib.Core.Path.{_≡_, refl, sym, _∙_, ap}
+use mathlib.Core.Path.{_≡_, refl, sym, _∙_, ap, subst}
+use mathlib.Core.Logic.{_⊎_, ⊎-elim}
 use mathlib.Core.Bool.{Bool, true, false, not, cond, _&&_, _||_}
 use mathlib.Core.List.{List, [], _∷_, _++_}
 use borrow.Author.Tests.{ne-eqb, lt-leb, le-leb, not-true, not-false}
@@ -39,10 +40,10 @@ use Rattle.moves.specs.declared.Choice.the-variants as K
 use Rattle.moves.specs.declared.Found.{Found}
 use Rattle.moves.specs.declared.Outgoing.{Outgoing}
 use Rattle.moves.specs.Own.{commandsOf, foundMove}
-use Rattle.moves.specs.Rules.{endIn}
+use Rattle.moves.specs.Rules.{End, endIn}
 use Rattle.moves.specs.Move.{Move, moveFor, nextMove}
 use Rattle.moves.specs.Carried.{hasRoomFor}
-use Rattle.choice.specs.Next.{isNothing, nothing-is}
+use Rattle.choice.specs.Next.{isNothing, nothing-is, Passed, passed-start}
 use Rattle.reply.specs.declared.Turn.{Turn}
 use Rattle.legality.specs.Going.{Going, going-nodes, going-edges}
 use Rattle.reply.specs.Outgoing.{shows}
@@ -125,6 +126,17 @@ going-ready T n g =
   where
     positive : (k : ℕ) → (k ≡ 0 → ⊥) → 0 < k
     positive k h = omega (arith, h)
+
+-- The node of a move, or none
+
+pub idle-none : (o : End) {m : ℕ} → m ≡ 0 → Passed o m
+idle-none o e = subst (Passed o) (sym e) (passed-start o)
+
+pub idle-there : (o : End) {k m : ℕ} → (m ≡ 0) ⊎ (m ≡ k) → Passed o k → Passed o m
+idle-there o h P = ⊎-elim (idle-none o) (λ e. subst (Passed o) (sym e) P) h
+
+pub node-stands : {k m n : ℕ} → (m ≡ 0) ⊎ (m ≡ k) → k < n → m ≤ n
+node-stands h l = ⊎-elim (λ e. omega (arith, e)) (λ e. omega (arith, e, l)) h
 
 -- no credentials are few
 pub empty-few : (P : Pool) → credentials P ≡ [] → P .count ≤ 128

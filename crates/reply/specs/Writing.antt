@@ -5,12 +5,13 @@ use mathlib.Core.Path.{_≡_, refl, sym, _∙_, ap, subst}
 use mathlib.Core.Bool.{Bool, true, false, cond}
 use mathlib.Core.List.{List, [], _∷_, _++_, append-nil}
 use borrow.Author.Tests.{leb-true}
-use lib.Dec.{eqb}
+use lib.Dec.{eqb, ltb}
 use lib.ListN.{length}
 use lib.Seq.{paste-zero}
 use Rattle.expression.specs.Bytes.{pasted}
 use Rattle.rt0.specs.Lists.{false-true}
 use Rattle.tables.specs.Tables.{Tables}
+use Rattle.graph.specs.Columns.{nodes-length}
 use Rattle.graph.specs.Propagated.{stateOf as propagated}
 use Rattle.message.specs.declared.Command.{Command}
 use Rattle.negotiation.specs.declared.Negotiation.{Negotiation}
@@ -20,10 +21,12 @@ use Rattle.moves.specs.Own.{commandsOf}
 use Rattle.moves.specs.Rules.{endIn}
 use Rattle.moves.specs.Move.{Move, nextMove}
 use Rattle.moves.specs.Carried.{carried, hasRoomFor}
+use Rattle.choice.specs.Next.{Passed}
+use Rattle.choice.specs.Exhausted.{Exhausted, exhausted-both, idle-exhausted, exhausted-carried}
 use Rattle.reply.specs.declared.Turn.{Turn}
 use Rattle.reply.specs.declared.Replying.{Replying}
 use Rattle.reply.specs.Reply.{Replied, stopped}
-use Rattle.legality.specs.Going.{Going}
+use Rattle.legality.specs.Going.{Going, going-few}
 use Rattle.legality.specs.Kept.{move-going}
 use Rattle.reply.specs.Carry.{paste-length, pasted-behind}
 use Rattle.reply.specs.Turns.{Next, stops, goes, byRoom, fitsBehind, behindMove, nextIn, nextOf, behind, goOn, restFrom, behind-behind, bytes-behind}
@@ -159,3 +162,15 @@ module _ (T : Tables) (S₀ : State) (from : ℕ) (d₀ : List ℕ) where
                   subst (Going T) (sym (ne ∙ ap (carried (n .header .side) (stateOf n)) (f .next)))
                   (move-going T (stateOf n) (w .going) (ap (hasRoomFor (n .header .side) (stateOf n)) (sym (f .next)) ∙ f .room));
             }
+
+-- Rule (4) of sensitive roles
+
+-- below the node of a move nothing was left to do, and what is done stays done
+pub exhausted-next : (T : Tables) (n n′ : Negotiation) (cs : List Command) → Going T (stateOf n) → stateOf n′ ≡ carried (n .header .side) (stateOf n) cs
+    → {p m k r : ℕ} → Exhausted T (stateOf n) p → m ≤ n .nodes .count → Passed (endIn T (stateOf n)) m → k ≡ m → r ≡ cond (ltb p k) k p → Exhausted T (stateOf n′) r
+unfolding stateOf
+exhausted-next T n n′ cs g e {p} {m} {k} {r} f l i ke re =
+    let q : ℕ = cond (ltb p m) m p in
+    let both : Exhausted T (stateOf n) q = exhausted-both T (stateOf n) p m f (idle-exhausted T (stateOf n) m (omega (arith, l, nodes-length (n .nodes))) i) in
+    subst (Exhausted T (stateOf n′)) (sym (re ∙ ap (λ (j : ℕ). cond (ltb p j) j p) ke))
+    (subst (λ (U : State). Exhausted T U q) (sym e) (exhausted-carried T (stateOf n) q (going-few T (stateOf n) g) both cs))

@@ -8,9 +8,10 @@ mod turns;
 
 pub use call::reply;
 
-// What comes next: 0 this move, 1 the reply stops, 2 it stops as the move would pass a size.
+// What comes next: 0 this move, 1 the reply stops, 2 it stops as the move would pass a size; and the node at which the move is made, 0 where none is.
 pub struct Turn {
     pub stop: u8,
+    pub node: u8,
     pub outgoing: Outgoing,
 }
 

@@ -19,10 +19,10 @@ use Rattle.choice.proofs.processing.choice_at.Reads as choice-at-reads
 use Rattle.update.proofs.node_of.Reads as node-of-reads
 
 abbrev Inv-loop : tie.InvT-loop
-Inv-loop own n states h nodes count i₀ i = Passed (endIn (tablesOf (own .house)) (stateOf n)) i × (i ≤ nodes .count)
+Inv-loop own n states passed h nodes count i₀ i = Passed (endIn (tablesOf (own .house)) (stateOf n)) i × (i ≤ nodes .count)
 
 abbrev μ-loop : tie.MeasureT-loop
-μ-loop own n states h nodes count i₀ i = nodes .count - i
+μ-loop own n states passed h nodes count i₀ i = nodes .count - i
 
 next-open-requires : tie.Need-next-open-requires Inv-loop μ-loop
 next-open-requires c κs = (within-few _ (c .before .before .before .before .before .pre .1) .0, omega arith)
@@ -37,14 +37,14 @@ node-of-requires : tie.Need-node-of-requires Inv-loop μ-loop
 node-of-requires c κs = (c .loop-test .taken, within-few _ (c .before .before .before .before .before .before .before .before .pre .1) .0)
 
 choice-at-requires : tie.Need-choice-at-requires Inv-loop μ-loop
-choice-at-requires c κs = let s = c .before .before .before .before .before .before .before .before .before in (ready-of (s .pre .0) (s .pre .1) (s .pre .4) (s .pre .5), c .before .loop-test .taken)
+choice-at-requires c κs = let s = c .before .before .before .before .before .before .before .before .before in (ready-of (s .pre .0) (s .pre .1) (s .pre .4) (s .pre .5), c .before .loop-test .taken, s .pre .6, c .node-of .ensures)
 
 is-nothing-requires : tie.Need-is-nothing-requires Inv-loop μ-loop
 is-nothing-requires c κs = search needs
 
 returns : tie.Need-returns Inv-loop μ-loop
 unfolding endIn stateOf
-returns c = let s = c .before .before .before .before .before .before .before .before .before .before .before .before in (found-here (endIn (tablesOf (s .args .own .house)) (stateOf (s .args .n))) (c .before .before .before .before .before .loop .inv .0) (c .before .before .before .node-of .ensures) (c .before .before .choice-at .ensures) (c .before .is-nothing .ensures) (c .if1 .taken) (omega (arith, nodes-length (s .args .n .nodes), c .before .before .before .before .loop-test .taken)) refl, c .before .before .before .before .loop-test .taken)
+returns c = let s = c .before .before .before .before .before .before .before .before .before .before .before .before in (found-here (endIn (tablesOf (s .args .own .house)) (stateOf (s .args .n))) (c .before .before .before .before .before .loop .inv .0) (c .before .before .before .node-of .ensures) (c .before .before .choice-at .ensures) (c .before .is-nothing .ensures) (c .if1 .taken) (omega (arith, nodes-length (s .args .n .nodes), c .before .before .before .before .loop-test .taken)) refl, (c .before .before .before .before .loop-test .taken, c .before .before .before .before .before .loop .inv .0))
 
 add-next-open : tie.Need-add-next-open Inv-loop μ-loop
 add-next-open c = omega (arith, c .before .before .before .before .before .before .before .loop-test .taken, within-few _ (c .before .before .before .before .before .before .before .before .before .before .before .before .before .before .before .pre .1) .0)
@@ -61,7 +61,7 @@ loop-again c = let s = c .before .before .before .before .before .before .before
 
 returns-2 : tie.Need-returns-2 Inv-loop μ-loop
 unfolding endIn stateOf
-returns-2 c = let s = c .before .before .before .before .before .before .before .before in (found-nothing (endIn (tablesOf (s .args .own .house)) (stateOf (s .args .n))) (c .before .loop .inv .0) (omega (arith, nodes-length (s .args .n .nodes), c .loop-test .left)), s .pre .2)
+returns-2 c = let s = c .before .before .before .before .before .before .before .before in (found-nothing (endIn (tablesOf (s .args .own .house)) (stateOf (s .args .n))) (c .before .loop .inv .0) (omega (arith, nodes-length (s .args .n .nodes), c .loop-test .left)), (s .pre .2, passed-start (endIn (tablesOf (s .args .own .house)) (stateOf (s .args .n)))))
 
 pub next-choice-spec : {M : Type 1} → statement M
 next-choice-spec =

@@ -1,4 +1,4 @@
-use mathlib.Core.Path.{refl}
+use mathlib.Core.Path.{refl, sym, _∙_}
 use Rattle.tables.specs.Tables.{tablesOf}
 use Rattle.negotiation.specs.State.{stateOf}
 use Rattle.choice.specs.RuleChoice.{at-processed, at-verifier, at-opponent}
@@ -26,7 +26,8 @@ unfolding stateOf
 returns-2 c = let s = c .before .before .before .before .before .before .before in at-verifier (tablesOf (s .args .own .house)) (stateOf (s .args .n)) (s .args .i) (s .args .x) (c .before .before .before .before .before .is-processed .ensures) (c .before .before .before .before .if1 .left) (c .before .if2 .taken) (c .verifier-rules .ensures)
 
 opponent-rules-requires : tie.Need-opponent-rules-requires
-opponent-rules-requires c κs = search needs
+unfolding stateOf
+opponent-rules-requires c κs = let s = c .before .before .before .before .before .before in (s .pre .0, s .pre .1, s .pre .2, record { number = s .pre .3; expression = refl; unprocessed = sym (c .before .before .before .before .is-processed .ensures) ∙ c .before .before .before .if1 .left; opponent = c .if2 .left })
 
 returns-3 : tie.Need-returns-3
 unfolding stateOf

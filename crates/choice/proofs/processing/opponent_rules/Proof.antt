@@ -2,6 +2,7 @@ use mathlib.Core.Path.{refl, _∙_, ap}
 use Rattle.tables.specs.Tables.{tablesOf}
 use Rattle.negotiation.specs.State.{stateOf}
 use Rattle.choice.specs.Ready.{public-solutions}
+use Rattle.choice.specs.Exhausted.{asked-as}
 use Rattle.choice.specs.RuleChoice.{opponent-as, opponent-entity, opponent-link, opponent-parts, opponent-goal}
 use borrow.Author.Needs.{needs}
 use Rattle.choice.proofs.processing.opponent_rules.Statement.{statement}
@@ -21,7 +22,7 @@ enum-known-e : tie.Need-enum-known-e
 enum-known-e c = search needs
 
 opponent-role-requires : tie.Need-opponent-role-requires
-opponent-role-requires c κs = search needs
+opponent-role-requires c κs = let s = c .before .before .before .before .before in (s .pre .0, s .pre .1, s .pre .2, asked-as (s .pre .3) (c .before .e .given .1))
 
 enum-known-e-2 : tie.Need-enum-known-e-2
 enum-known-e-2 c = search needs

@@ -12,7 +12,7 @@ use Rattle.choice.proofs.processing.own_rules.Reads as reads
 use Rattle.choice.proofs.processing.own_rules.Lts as lts
 use Rattle.choice.proofs.done.or_else.Reads as or-else-reads
 use Rattle.choice.proofs.frontiers.plain_edges.Reads as plain-edges-reads
-use Rattle.choice.proofs.frontiers.rest_edges.Reads as rest-edges-reads
+use Rattle.choice.proofs.processing.rest_of.Reads as rest-of-reads
 use Rattle.choice.proofs.known.known_of.Reads as known-of-reads
 use Rattle.choice.proofs.sensitive.behind_ack.Reads as behind-ack-reads
 use Rattle.choice.proofs.sensitive.by_known.Reads as by-known-reads
@@ -38,8 +38,9 @@ returns : tie.Need-returns
 unfolding tablesOf
 returns c = let s = c .before .before .before .before .before .before .before .before .before .before in plain-choice (tablesOf (s .args .own .house)) (stateOf (s .args .n)) _ (s .args .i) (s .args .x) (s .args .a) (c .before .before .before .before .other-of .ensures) (c .before .before .enum-told .given .1) (c .before .plain-edges .ensures) (c .or-else .ensures)
 
-rest-edges-requires : tie.Need-rest-edges-requires
-rest-edges-requires c κs = search needs
+rest-of-requires : tie.Need-rest-of-requires
+unfolding tablesOf stateOf
+rest-of-requires c κs = let s = c .before .before .before .before .before .before .before .before .before in (s .pre .0 .prepared, s .pre .0 .nodes, s .pre .0 .edges, λ l. s .pre .2 .done (s .args .i) l (s .args .x) (s .args .a) _ (s .pre .3) (s .pre .4) (sym (c .before .before .before .other-of .ensures) ∙ c .before .answer .given .1))
 
 known-of-requires : tie.Need-known-of-requires
 unfolding tablesOf
@@ -53,7 +54,7 @@ behind-ack-requires c κs = search needs
 
 returns-2 : tie.Need-returns-2
 unfolding tablesOf
-returns-2 c = let s = c .before .before .before .before .before .before .before .before .before .before .before .before .before .before .before .before .before in sensitive-choice (tablesOf (s .args .own .house)) (stateOf (s .args .n)) _ (s .args .i) (s .args .x) (s .args .a) (c .before .before .before .before .before .before .before .before .before .before .before .other-of .ensures) (c .before .before .before .before .before .before .before .before .before .answer .given .1) (c .before .before .before .before .before .before .before .rest-edges .ensures) (c .before .before .before .before .known-of .ensures) (c .before .by-known .ensures) (c .behind-ack .ensures)
+returns-2 c = let s = c .before .before .before .before .before .before .before .before .before .before .before .before .before .before .before .before .before in sensitive-choice (tablesOf (s .args .own .house)) (stateOf (s .args .n)) _ (s .args .i) (s .args .x) (s .args .a) (c .before .before .before .before .before .before .before .before .before .before .before .other-of .ensures) (c .before .before .before .before .before .before .before .before .before .answer .given .1) (c .before .before .before .before .before .before .before .rest-of .ensures) (c .before .before .before .before .known-of .ensures) (c .before .by-known .ensures) (c .behind-ack .ensures)
 
 pub own-rules-spec : {M : Type 1} → statement M
 own-rules-spec =
@@ -65,7 +66,7 @@ own-rules-spec =
     plain-edges-requires
     or-else-requires
     returns
-    rest-edges-requires
+    rest-of-requires
     known-of-requires
     by-known-requires
     behind-ack-requires

@@ -11,7 +11,7 @@ empty-requires : tie.Need-empty-requires
 empty-requires c κs = search needs
 
 returns : tie.Need-returns
-returns c = (refl, empty-few _ (c .empty .ensures))
+returns c = (refl, (empty-few _ (c .empty .ensures), refl))
 
 pub stop-spec : {M : Type 1} → statement M
 stop-spec = tie.close (tie.spec empty-requires returns)
