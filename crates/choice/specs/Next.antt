@@ -79,27 +79,27 @@ module _ (o : End) where
   from-zero ns t h = let u : 0 + t ≡ t = omega arith in ap (λ (m : ℕ). choiceAt o m (nodeIn ns t)) u ∙ h
 
 -- our side has not processed a node of this verifier and state
-unfoldable pub isOpen : ℕ → ℕ → ℕ → Bool
-isOpen s v t = cond (eqb v s) (not (eqb (t % 2) 1)) (not (eqb (t / 2 % 2) 1))
+unfoldable pub isUnprocessed : ℕ → ℕ → ℕ → Bool
+isUnprocessed s v t = cond (eqb v s) (not (eqb (t % 2) 1)) (not (eqb (t / 2 % 2) 1))
 
-unfoldable pub openAt : List ℕ → List ℕ → ℕ → ℕ → Bool
-openAt W S s i = isOpen s (getD W i 0) (getD S i 0)
+unfoldable pub unprocessedAt : List ℕ → List ℕ → ℕ → ℕ → Bool
+unprocessedAt W S s i = isUnprocessed s (getD W i 0) (getD S i 0)
 
 -- it is open or processed
-open-not : (s : ℕ) (n : Node) → isOpen s (n .verifier) (n .state) ≡ false → processedBy s n ≡ true
-unfolding isOpen processedBy
+open-not : (s : ℕ) (n : Node) → isUnprocessed s (n .verifier) (n .state) ≡ false → processedBy s n ≡ true
+unfolding isUnprocessed processedBy
 open-not s n h = go (eqb (n .verifier) s) (eqb (n .state % 2) 1) (eqb (n .state / 2 % 2) 1) h
   where
     go : (a b c : Bool) → cond a (not b) (not c) ≡ false → cond a b c ≡ true
     go true b c k = not-false b k
     go false b c k = not-false c k
 
-pub open-own : (s v t : ℕ) → v ≡ s → not (eqb (t % 2) 1) ≡ isOpen s v t
-unfolding isOpen
+pub open-own : (s v t : ℕ) → v ≡ s → not (eqb (t % 2) 1) ≡ isUnprocessed s v t
+unfolding isUnprocessed
 open-own s v t h = sym (ap (λ (b : Bool). cond b (not (eqb (t % 2) 1)) (not (eqb (t / 2 % 2) 1))) (eq-eqb v s h))
 
-pub open-other : (s v t : ℕ) → (v ≡ s → ⊥) → not (eqb (t / 2 % 2) 1) ≡ isOpen s v t
-unfolding isOpen
+pub open-other : (s v t : ℕ) → (v ≡ s → ⊥) → not (eqb (t / 2 % 2) 1) ≡ isUnprocessed s v t
+unfolding isUnprocessed
 open-other s v t h = sym (ap (λ (b : Bool). cond b (not (eqb (t % 2) 1)) (not (eqb (t / 2 % 2) 1))) (ne-eqb v s h))
 
 -- nothing is to be done at the nodes below i
@@ -135,8 +135,8 @@ unfolding nextMove foundMove
 found-nothing o {i} P l = none-from o 0 (o .state .nodes) (λ t q. from-zero o (o .state .nodes) t (P .none t (omega arith)))
 
 -- nodes that our side has processed are passed over
-pub passed-skip : (T : Tables) (n : Negotiation) {i r : ℕ} → Passed (endIn T (stateOf n)) i → Skipped (openAt (n .nodes .verifier) (n .nodes .state) (n .header .side)) i (n .nodes .count) r → Passed (endIn T (stateOf n)) r
-unfolding endIn stateOf openAt
+pub passed-skip : (T : Tables) (n : Negotiation) {i r : ℕ} → Passed (endIn T (stateOf n)) i → Skipped (unprocessedAt (n .nodes .verifier) (n .nodes .state) (n .header .side)) i (n .nodes .count) r → Passed (endIn T (stateOf n)) r
+unfolding endIn stateOf unprocessedAt
 passed-skip T n {i} {r} P S =
     record { none = λ j l. ⊎-elim (λ y. P .none j (ltb-true j i y)) (λ y. skipped j (ltb-false j i y) l) (decided (ltb j i)) }
   where

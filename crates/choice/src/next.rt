@@ -17,7 +17,7 @@ ghost use Rattle.negotiation.specs.State.{stateOf, within};
 ghost use Rattle.moves.specs.Rules.{endIn};
 ghost use Rattle.moves.specs.Move.{nextMove};
 ghost use Rattle.moves.specs.Own.{Prepared, foundMove};
-ghost use Rattle.choice.specs.Next.{isNothing, isOpen, openAt, Passed};
+ghost use Rattle.choice.specs.Next.{isNothing, isUnprocessed, unprocessedAt, Passed};
 ghost use Rattle.choice.specs.Exhausted.{Exhausted};
 ghost use Rattle.choice.specs.Skipped.{Skipped};
 
@@ -33,8 +33,8 @@ pub fn is_nothing(c: Choice) -> bool
 }
 
 // Whether our side has not processed a node of this verifier and state.
-fn is_open(side: u8, verifier: u8, state: u8) -> bool
-    ensures { λ r. ⌜ r ≡ isOpen side verifier state ⌝ }
+fn is_unprocessed(side: u8, verifier: u8, state: u8) -> bool
+    ensures { λ r. ⌜ r ≡ isUnprocessed side verifier state ⌝ }
 {
     if verifier == side {
         return state % 2 != 1;
@@ -43,7 +43,7 @@ fn is_open(side: u8, verifier: u8, state: u8) -> bool
 }
 
 // The next node from an index on that our side has not processed, or n.
-fn next_open<'a>(
+fn next_unprocessed<'a>(
     n: usize,
     verifier: &'a [u8; 128],
     state: &'a [u8; 128],
@@ -51,11 +51,11 @@ fn next_open<'a>(
     from: usize,
 ) -> usize
     requires { ⌜ (n ≤ 128) × (from ≤ n) ⌝ }
-    ensures { λ r. ⌜ Skipped (openAt (now (verifier .entry)) (now (state .entry)) side) from n r ⌝ }
+    ensures { λ r. ⌜ Skipped (unprocessedAt (now (verifier .entry)) (now (state .entry)) side) from n r ⌝ }
 {
     let mut i = from;
     while i < n {
-        if is_open(side, verifier[i], state[i]) {
+        if is_unprocessed(side, verifier[i], state[i]) {
             return i;
         }
         i += 1;
@@ -73,7 +73,7 @@ pub fn next_choice(own: Own, n: Negotiation, states: NodeStates, passed: usize) 
     let h = n.header;
     let nodes = n.nodes;
     let count = nodes.count;
-    let mut i = next_open(count, &nodes.verifier, &nodes.state, h.side, 0);
+    let mut i = next_unprocessed(count, &nodes.verifier, &nodes.state, h.side, 0);
     while i < count {
         let node = i as u8;
         let x = node_of(nodes, node);
@@ -81,7 +81,7 @@ pub fn next_choice(own: Own, n: Negotiation, states: NodeStates, passed: usize) 
         if !is_nothing(choice) {
             return Found { node, choice };
         }
-        i = next_open(count, &nodes.verifier, &nodes.state, h.side, i + 1);
+        i = next_unprocessed(count, &nodes.verifier, &nodes.state, h.side, i + 1);
     }
     Found {
         node: 0,

@@ -14,7 +14,7 @@ use Rattle.choice.proofs.next.next_choice.Tie as tie
 use Rattle.choice.proofs.next.next_choice.Reads as reads
 use Rattle.choice.proofs.next.next_choice.Lts as lts
 use Rattle.choice.proofs.next.is_nothing.Reads as is-nothing-reads
-use Rattle.choice.proofs.next.next_open.Reads as next-open-reads
+use Rattle.choice.proofs.next.next_unprocessed.Reads as next-unprocessed-reads
 use Rattle.choice.proofs.processing.choice_at.Reads as choice-at-reads
 use Rattle.update.proofs.node_of.Reads as node-of-reads
 
@@ -24,11 +24,11 @@ Inv-loop own n states passed h nodes count i₀ i = Passed (endIn (tablesOf (own
 abbrev μ-loop : tie.MeasureT-loop
 μ-loop own n states passed h nodes count i₀ i = nodes .count - i
 
-next-open-requires : tie.Need-next-open-requires Inv-loop μ-loop
-next-open-requires c κs = (within-few _ (c .before .before .before .before .before .pre .1) .0, omega arith)
+next-unprocessed-requires : tie.Need-next-unprocessed-requires Inv-loop μ-loop
+next-unprocessed-requires c κs = (within-few _ (c .before .before .before .before .before .pre .1) .0, omega arith)
 
 loop-holds : tie.Need-loop-holds Inv-loop μ-loop
-loop-holds c = let s = c .before .before .before .before .before .before in (passed-skip (tablesOf (s .args .own .house)) (s .args .n) (passed-start _) (c .next-open .ensures), c .next-open .ensures .within)
+loop-holds c = let s = c .before .before .before .before .before .before in (passed-skip (tablesOf (s .args .own .house)) (s .args .n) (passed-start _) (c .next-unprocessed .ensures), c .next-unprocessed .ensures .within)
 
 cast-node : tie.Need-cast-node Inv-loop μ-loop
 cast-node c = omega (arith, c .loop-test .taken, within-few _ (c .before .before .before .before .before .before .before .before .pre .1) .0)
@@ -46,18 +46,18 @@ returns : tie.Need-returns Inv-loop μ-loop
 unfolding endIn stateOf
 returns c = let s = c .before .before .before .before .before .before .before .before .before .before .before .before in (found-here (endIn (tablesOf (s .args .own .house)) (stateOf (s .args .n))) (c .before .before .before .before .before .loop .inv .0) (c .before .before .before .node-of .ensures) (c .before .before .choice-at .ensures) (c .before .is-nothing .ensures) (c .if1 .taken) (omega (arith, nodes-length (s .args .n .nodes), c .before .before .before .before .loop-test .taken)) refl, (c .before .before .before .before .loop-test .taken, c .before .before .before .before .before .loop .inv .0))
 
-add-next-open : tie.Need-add-next-open Inv-loop μ-loop
-add-next-open c = omega (arith, c .before .before .before .before .before .before .before .loop-test .taken, within-few _ (c .before .before .before .before .before .before .before .before .before .before .before .before .before .before .before .pre .1) .0)
+add-next-unprocessed : tie.Need-add-next-unprocessed Inv-loop μ-loop
+add-next-unprocessed c = omega (arith, c .before .before .before .before .before .before .before .loop-test .taken, within-few _ (c .before .before .before .before .before .before .before .before .before .before .before .before .before .before .before .pre .1) .0)
 
-next-open-requires-2 : tie.Need-next-open-requires-2 Inv-loop μ-loop
-next-open-requires-2 c κs = (within-few _ (c .before .before .before .before .before .before .before .before .before .before .before .before .before .before .before .pre .1) .0, omega (arith, c .before .before .before .before .before .before .before .loop-test .taken))
+next-unprocessed-requires-2 : tie.Need-next-unprocessed-requires-2 Inv-loop μ-loop
+next-unprocessed-requires-2 c κs = (within-few _ (c .before .before .before .before .before .before .before .before .before .before .before .before .before .before .before .pre .1) .0, omega (arith, c .before .before .before .before .before .before .before .loop-test .taken))
 
 loop-less : tie.Need-loop-less Inv-loop μ-loop
-loop-less c = let s = c .next-open2 .ensures in omega (arith, s .from, s .within, c .before .before .before .before .before .before .before .before .loop-test .taken)
+loop-less c = let s = c .next-unprocessed2 .ensures in omega (arith, s .from, s .within, c .before .before .before .before .before .before .before .before .loop-test .taken)
 
 loop-again : tie.Need-loop-again Inv-loop μ-loop
 unfolding endIn stateOf
-loop-again c = let s = c .before .before .before .before .before .before .before .before .before .before .before .before .before .before .before .before in (passed-skip (tablesOf (s .args .own .house)) (s .args .n) (passed-next (endIn (tablesOf (s .args .own .house)) (stateOf (s .args .n))) (c .before .before .before .before .before .before .before .before .before .loop .inv .0) (c .before .before .before .before .before .before .before .node-of .ensures) (c .before .before .before .before .before .before .choice-at .ensures) (c .before .before .before .before .before .is-nothing .ensures) (c .before .before .before .before .if1 .left)) (c .next-open2 .ensures), c .next-open2 .ensures .within)
+loop-again c = let s = c .before .before .before .before .before .before .before .before .before .before .before .before .before .before .before .before in (passed-skip (tablesOf (s .args .own .house)) (s .args .n) (passed-next (endIn (tablesOf (s .args .own .house)) (stateOf (s .args .n))) (c .before .before .before .before .before .before .before .before .before .loop .inv .0) (c .before .before .before .before .before .before .before .node-of .ensures) (c .before .before .before .before .before .before .choice-at .ensures) (c .before .before .before .before .before .is-nothing .ensures) (c .before .before .before .before .if1 .left)) (c .next-unprocessed2 .ensures), c .next-unprocessed2 .ensures .within)
 
 returns-2 : tie.Need-returns-2 Inv-loop μ-loop
 unfolding endIn stateOf
@@ -69,15 +69,15 @@ next-choice-spec =
     (tie.spec
     Inv-loop
     μ-loop
-    next-open-requires
+    next-unprocessed-requires
     loop-holds
     cast-node
     node-of-requires
     choice-at-requires
     is-nothing-requires
     returns
-    add-next-open
-    next-open-requires-2
+    add-next-unprocessed
+    next-unprocessed-requires-2
     loop-less
     loop-again
     returns-2)
