@@ -44,7 +44,7 @@ use Rattle.moves.specs.Wanted.{firstNot, markIf, chosenIn, childNumber, childSt
 use Rattle.moves.specs.Rules.{endIn, implications, ownRules, opponentRules}
 use Rattle.moves.specs.Move.{choiceAt}
 use Rattle.moves.specs.Carried.{carried}
-use Rattle.choice.specs.Least.{orElse}
+use Rattle.candidates.specs.Least.{orElse}
 use Rattle.choice.specs.Known.{knownAs}
 use Rattle.choice.specs.Sensitive.{alone, controlFor, ownFor, satisfiedIn, policyChoice, holdingChoice, knownChoice}
 use Rattle.choice.specs.RuleChoice.{opponent-as, about-us, sensitive-choice, at-opponent}

@@ -25,7 +25,7 @@ use Rattle.moves.specs.declared.Choice.the-variants as C
 use Rattle.moves.specs.Rules.{End, endIn}
 use Rattle.moves.specs.Move.{Move, credentialsFor, edgeCommand, moveFor, choiceAt, orNext, movesFrom, nextMove}
 use Rattle.moves.specs.Own.{foundMove}
-use Rattle.choice.specs.Skipped.{Skipped}
+use Rattle.candidates.specs.Skipped.{Skipped}
 use Rattle.choice.specs.RuleChoice.{at-processed}
 
 abbrev pub isNothing : Choice → Bool

@@ -30,12 +30,12 @@ use Rattle.moves.specs.Known.{knownOf}
 use Rattle.moves.specs.Wanted.{Plan, ordered, firstNot, markIf, chosenIn, isDone}
 use Rattle.moves.specs.Rules.{End, endIn, implications, toSubject, partEdges, thenMark, linkRules, byClass, verifierRules, controlEdge, sensitiveRules, ownRules, opponentRules}
 use Rattle.moves.specs.Move.{planAt, choiceAt}
-use Rattle.choice.specs.Least.{orElse, first-rest}
-use Rattle.choice.specs.Goals.{solutionEdge, namedRoles}
+use Rattle.candidates.specs.Least.{orElse, first-rest}
+use Rattle.candidates.specs.Goals.{solutionEdge, namedRoles}
 use Rattle.choice.specs.Known.{knownAs}
 use Rattle.choice.specs.Sensitive.{alone, controlFor, knownChoice, sensitive-rules}
 use Rattle.choice.specs.OwnRules.{own-plain, own-sensitive}
-use Rattle.choice.specs.All.{allEdges}
+use Rattle.candidates.specs.All.{allEdges}
 
 -- all that stands, and a mark
 pub then-mark : (d : Wanted → Bool) (ws : List Wanted) {b c : Choice} → b ≡ firstNot d C.Nothing ws → c ≡ orElse b C.Mark → c ≡ chosenIn d (thenMark ws)

@@ -28,7 +28,7 @@ use Rattle.moves.specs.declared.Known.the-variants.{Waiting, Seen}
 use Rattle.moves.specs.Known.{isAcknowledged, holdingOf, knownOf}
 use Rattle.moves.specs.Wanted.{Plan, firstNot, markIf, chosenIn}
 use Rattle.moves.specs.Rules.{End, isSatisfied, controlEdge, ownEdge, sensitiveRules}
-use Rattle.choice.specs.Least.{better, orElse, first-rest, first-append}
+use Rattle.candidates.specs.Least.{better, orElse, first-rest, first-append}
 use Rattle.choice.specs.Known.{knownAs}
 
 -- one edge, unless it is done

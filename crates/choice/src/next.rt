@@ -19,7 +19,7 @@ ghost use Rattle.moves.specs.Move.{nextMove};
 ghost use Rattle.moves.specs.Own.{Prepared, foundMove};
 ghost use Rattle.choice.specs.Next.{isNothing, isUnprocessed, unprocessedAt, Passed};
 ghost use Rattle.choice.specs.Exhausted.{Exhausted};
-ghost use Rattle.choice.specs.Skipped.{Skipped};
+ghost use Rattle.candidates.specs.Skipped.{Skipped};
 
 // Whether there is nothing to do.
 pub fn is_nothing(c: Choice) -> bool

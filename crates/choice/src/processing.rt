@@ -1,16 +1,16 @@
 // The processing rules: what is to be done at a node.
-use crate::all::all_edges;
-use crate::done::or_else;
-use crate::frontiers::issuer_edges;
-use crate::frontiers::other_edges;
-use crate::frontiers::plain_edges;
-use crate::frontiers::rest_edges;
-use crate::goals::solutions;
 use crate::known::known_of;
-use crate::links::link_rules;
-use crate::parts::part_edges;
 use crate::sensitive::behind_ack;
 use crate::sensitive::by_known;
+use candidates::all_edges;
+use candidates::issuer_edges;
+use candidates::link_rules;
+use candidates::or_else;
+use candidates::other_edges;
+use candidates::part_edges;
+use candidates::plain_edges;
+use candidates::rest_edges;
+use candidates::solutions;
 use class::class_of;
 use expression::Expression;
 use expression::Role;

@@ -1,8 +1,8 @@
 // The choice for a sensitive role: (1) the Ack target, (2) and (3) by what is known, (4) the rest, (5) a mark.
-use crate::done::better;
-use crate::done::or_else;
 use crate::known::is_acknowledged;
-use crate::links::mark_if;
+use candidates::better;
+use candidates::mark_if;
+use candidates::or_else;
 use expression::Expression;
 use expression::Role;
 use graph::Node;
@@ -19,7 +19,7 @@ ghost use Rattle.graph.specs.Graph.{nodesOf, edgesOf};
 ghost use Rattle.justification.specs.Justified.{Says};
 ghost use Rattle.negotiation.specs.State.{stateOf};
 ghost use Rattle.moves.specs.Wanted.{isDone};
-ghost use Rattle.choice.specs.Least.{orElse};
+ghost use Rattle.candidates.specs.Least.{orElse};
 ghost use Rattle.choice.specs.Sensitive.{alone as aloneOf, controlFor, ownFor, policyChoice, holdingChoice, knownChoice};
 
 const IMPLICATION: u8 = 1;

@@ -2,7 +2,7 @@ use Prim.Native.Nat.{_-_}
 use native.Mathlib.Omega.{arith}
 use borrow.Author.Needs.{needs}
 use Rattle.choice.specs.Next.{unprocessedAt}
-use Rattle.choice.specs.Skipped.{Skipped, skipped-start, skipped-next}
+use Rattle.candidates.specs.Skipped.{Skipped, skipped-start, skipped-next}
 use Rattle.choice.proofs.next.next_unprocessed.Statement.{statement}
 use Rattle.choice.proofs.next.next_unprocessed.Tie as tie
 use Rattle.choice.proofs.next.next_unprocessed.Reads as reads

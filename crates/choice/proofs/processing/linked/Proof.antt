@@ -2,13 +2,13 @@ use mathlib.Core.Path.{refl}
 use Rattle.tables.specs.Tables.{tablesOf}
 use Rattle.negotiation.specs.State.{stateOf}
 use Rattle.moves.specs.Rules.{endIn}
-use Rattle.choice.specs.Links.{linked-rules}
+use Rattle.candidates.specs.Links.{linked-rules}
 use borrow.Author.Needs.{needs}
 use Rattle.choice.proofs.processing.linked.Statement.{statement}
 use Rattle.choice.proofs.processing.linked.Tie as tie
 use Rattle.choice.proofs.processing.linked.Reads as reads
 use Rattle.choice.proofs.processing.linked.Lts as lts
-use Rattle.choice.proofs.links.link_rules.Reads as link-rules-reads
+use Rattle.candidates.proofs.link_rules.Reads as link-rules-reads
 
 link-rules-requires : tie.Need-link-rules-requires
 link-rules-requires c κs = search needs

@@ -6,8 +6,8 @@ use Rattle.choice.proofs.processing.opponent_role.Statement.{statement}
 use Rattle.choice.proofs.processing.opponent_role.Tie as tie
 use Rattle.choice.proofs.processing.opponent_role.Reads as reads
 use Rattle.choice.proofs.processing.opponent_role.Lts as lts
-use Rattle.choice.proofs.done.or_else.Reads as or-else-reads
-use Rattle.choice.proofs.frontiers.other_edges.Reads as other-edges-reads
+use Rattle.candidates.proofs.or_else.Reads as or-else-reads
+use Rattle.candidates.proofs.other_edges.Reads as other-edges-reads
 use Rattle.choice.proofs.processing.own_rules.Reads as own-rules-reads
 
 own-rules-requires : tie.Need-own-rules-requires

@@ -1,7 +1,7 @@
 use mathlib.Core.Path.{refl, _∙_, ap}
 use Rattle.tables.specs.Tables.{tablesOf}
 use Rattle.negotiation.specs.State.{stateOf}
-use Rattle.choice.specs.Ready.{public-solutions}
+use Rattle.candidates.specs.Frontiers.{public-solutions}
 use Rattle.choice.specs.Exhausted.{asked-as}
 use Rattle.choice.specs.RuleChoice.{opponent-as, opponent-entity, opponent-link, opponent-parts, opponent-goal}
 use borrow.Author.Needs.{needs}
@@ -9,9 +9,9 @@ use Rattle.choice.proofs.processing.opponent_rules.Statement.{statement
 use Rattle.choice.proofs.processing.opponent_rules.Tie as tie
 use Rattle.choice.proofs.processing.opponent_rules.Reads as reads
 use Rattle.choice.proofs.processing.opponent_rules.Lts as lts
-use Rattle.choice.proofs.done.or_else.Reads as or-else-reads
-use Rattle.choice.proofs.goals.solutions.Reads as solutions-reads
-use Rattle.choice.proofs.parts.part_edges.Reads as part-edges-reads
+use Rattle.candidates.proofs.or_else.Reads as or-else-reads
+use Rattle.candidates.proofs.solutions.Reads as solutions-reads
+use Rattle.candidates.proofs.part_edges.Reads as part-edges-reads
 use Rattle.choice.proofs.processing.linked.Reads as linked-reads
 use Rattle.choice.proofs.processing.opponent_role.Reads as opponent-role-reads
 

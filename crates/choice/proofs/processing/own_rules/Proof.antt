@@ -10,8 +10,8 @@ use Rattle.choice.proofs.processing.own_rules.Statement.{statement}
 use Rattle.choice.proofs.processing.own_rules.Tie as tie
 use Rattle.choice.proofs.processing.own_rules.Reads as reads
 use Rattle.choice.proofs.processing.own_rules.Lts as lts
-use Rattle.choice.proofs.done.or_else.Reads as or-else-reads
-use Rattle.choice.proofs.frontiers.plain_edges.Reads as plain-edges-reads
+use Rattle.candidates.proofs.or_else.Reads as or-else-reads
+use Rattle.candidates.proofs.plain_edges.Reads as plain-edges-reads
 use Rattle.choice.proofs.processing.rest_of.Reads as rest-of-reads
 use Rattle.choice.proofs.known.known_of.Reads as known-of-reads
 use Rattle.choice.proofs.sensitive.behind_ack.Reads as behind-ack-reads

@@ -4,7 +4,7 @@ use Rattle.choice.proofs.processing.rest_of.Statement.{statement}
 use Rattle.choice.proofs.processing.rest_of.Tie as tie
 use Rattle.choice.proofs.processing.rest_of.Reads as reads
 use Rattle.choice.proofs.processing.rest_of.Lts as lts
-use Rattle.choice.proofs.frontiers.rest_edges.Reads as rest-edges-reads
+use Rattle.candidates.proofs.rest_edges.Reads as rest-edges-reads
 
 returns : tie.Need-returns
 returns c = sym (c .before .pre .3 (c .if1 .taken))

@@ -7,8 +7,8 @@ use Rattle.choice.proofs.processing.verifier_link.Statement.{statement}
 use Rattle.choice.proofs.processing.verifier_link.Tie as tie
 use Rattle.choice.proofs.processing.verifier_link.Reads as reads
 use Rattle.choice.proofs.processing.verifier_link.Lts as lts
-use Rattle.choice.proofs.all.all_edges.Reads as all-edges-reads
-use Rattle.choice.proofs.done.or_else.Reads as or-else-reads
+use Rattle.candidates.proofs.all_edges.Reads as all-edges-reads
+use Rattle.candidates.proofs.or_else.Reads as or-else-reads
 use Rattle.choice.proofs.processing.linked.Reads as linked-reads
 use Rattle.class.proofs.class_of.Reads as class-of-reads
 

@@ -7,9 +7,9 @@ use Rattle.choice.proofs.processing.verifier_rules.Statement.{statement
 use Rattle.choice.proofs.processing.verifier_rules.Tie as tie
 use Rattle.choice.proofs.processing.verifier_rules.Reads as reads
 use Rattle.choice.proofs.processing.verifier_rules.Lts as lts
-use Rattle.choice.proofs.done.or_else.Reads as or-else-reads
-use Rattle.choice.proofs.frontiers.issuer_edges.Reads as issuer-edges-reads
-use Rattle.choice.proofs.parts.part_edges.Reads as part-edges-reads
+use Rattle.candidates.proofs.or_else.Reads as or-else-reads
+use Rattle.candidates.proofs.issuer_edges.Reads as issuer-edges-reads
+use Rattle.candidates.proofs.part_edges.Reads as part-edges-reads
 use Rattle.choice.proofs.processing.verifier_link.Reads as verifier-link-reads
 
 enum-told : tie.Need-enum-told

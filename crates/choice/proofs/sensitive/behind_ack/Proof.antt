@@ -2,14 +2,14 @@ use mathlib.Core.Path.{_∙_, ap}
 use Rattle.graph.specs.Graph.{nodesOf, edgesOf}
 use Rattle.moves.specs.declared.Choice.{Choice}
 use Rattle.moves.specs.Wanted.{isDone}
-use Rattle.choice.specs.Least.{orElse}
+use Rattle.candidates.specs.Least.{orElse}
 use Rattle.choice.specs.Sensitive.{alone}
 use borrow.Author.Needs.{needs}
 use Rattle.choice.proofs.sensitive.behind_ack.Statement.{statement}
 use Rattle.choice.proofs.sensitive.behind_ack.Tie as tie
 use Rattle.choice.proofs.sensitive.behind_ack.Reads as reads
 use Rattle.choice.proofs.sensitive.behind_ack.Lts as lts
-use Rattle.choice.proofs.done.or_else.Reads as or-else-reads
+use Rattle.candidates.proofs.or_else.Reads as or-else-reads
 use Rattle.choice.proofs.sensitive.alone.Reads as alone-reads
 use Rattle.choice.proofs.sensitive.control_edge.Reads as control-edge-reads
 

@@ -4,7 +4,7 @@ use Rattle.choice.proofs.sensitive.by_holding.Statement.{statement}
 use Rattle.choice.proofs.sensitive.by_holding.Tie as tie
 use Rattle.choice.proofs.sensitive.by_holding.Reads as reads
 use Rattle.choice.proofs.sensitive.by_holding.Lts as lts
-use Rattle.choice.proofs.done.or_else.Reads as or-else-reads
+use Rattle.candidates.proofs.or_else.Reads as or-else-reads
 use Rattle.choice.proofs.sensitive.alone.Reads as alone-reads
 use Rattle.choice.proofs.sensitive.by_policy.Reads as by-policy-reads
 use Rattle.choice.proofs.sensitive.own_edge.Reads as own-edge-reads

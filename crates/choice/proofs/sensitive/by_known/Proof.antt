@@ -5,8 +5,8 @@ use Rattle.choice.proofs.sensitive.by_known.Statement.{statement}
 use Rattle.choice.proofs.sensitive.by_known.Tie as tie
 use Rattle.choice.proofs.sensitive.by_known.Reads as reads
 use Rattle.choice.proofs.sensitive.by_known.Lts as lts
-use Rattle.choice.proofs.done.or_else.Reads as or-else-reads
-use Rattle.choice.proofs.links.mark_if.Reads as mark-if-reads
+use Rattle.candidates.proofs.or_else.Reads as or-else-reads
+use Rattle.candidates.proofs.mark_if.Reads as mark-if-reads
 use Rattle.choice.proofs.sensitive.by_holding.Reads as by-holding-reads
 use Rattle.word.proofs.wide.Reads as wide-reads
 

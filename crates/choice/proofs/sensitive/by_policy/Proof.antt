@@ -7,9 +7,9 @@ use Rattle.choice.proofs.sensitive.by_policy.Statement.{statement}
 use Rattle.choice.proofs.sensitive.by_policy.Tie as tie
 use Rattle.choice.proofs.sensitive.by_policy.Reads as reads
 use Rattle.choice.proofs.sensitive.by_policy.Lts as lts
-use Rattle.choice.proofs.done.or_else.Reads as or-else-reads
+use Rattle.candidates.proofs.or_else.Reads as or-else-reads
 use Rattle.choice.proofs.known.is_acknowledged.Reads as is-acknowledged-reads
-use Rattle.choice.proofs.links.mark_if.Reads as mark-if-reads
+use Rattle.candidates.proofs.mark_if.Reads as mark-if-reads
 use Rattle.choice.proofs.sensitive.alone.Reads as alone-reads
 use Rattle.choice.proofs.sensitive.control_edge.Reads as control-edge-reads
 use Rattle.choice.proofs.sensitive.own_edge.Reads as own-edge-reads

@@ -1,0 +1,70 @@
+use Prim.Native.Nat.{_-_, _≤_, _<_}
+use native.Mathlib.Omega.{arith}
+use mathlib.Core.Bool.{true}
+use mathlib.Core.Path.{_≡_}
+use borrow.Author.Needs.{needs}
+use Rattle.graph.specs.Graph.{nodesOf, edgesOf}
+use Rattle.moves.specs.Wanted.{isDone}
+use Rattle.candidates.specs.Offers.{folded, offer, folded-start, folded-next, folded-all}
+use Rattle.candidates.specs.Skipped.{folded-skip}
+use Rattle.candidates.specs.Links.{isSolution, isSolved, solvedEdge, solution-room, solved-here, solved-skip}
+use Rattle.candidates.proofs.links.with_solutions.Statement.{statement}
+use Rattle.candidates.proofs.links.with_solutions.Tie as tie
+use Rattle.candidates.proofs.links.with_solutions.Reads as reads
+use Rattle.candidates.proofs.links.with_solutions.Lts as lts
+use Rattle.candidates.proofs.links.next_solution.Reads as next-solution-reads
+use Rattle.word.proofs.wide.Reads as wide-reads
+use Rattle.candidates.proofs.links.with_solution.Reads as with-solution-reads
+
+abbrev Inv-loop : tie.InvT-loop
+Inv-loop nodes monitors sat i n a r edges best₀ j₀ best j = (best ≡ folded j (offer (isDone (nodesOf nodes) (edgesOf edges) i) (isSolved nodes edges monitors sat r) (solvedEdge nodes edges n a)) best₀) × (j ≤ edges .count) × (j < edges .count → isSolution (nodes .count) (edges .kind) (edges .parent) (edges .child) monitors sat j ≡ true)
+
+abbrev μ-loop : tie.MeasureT-loop
+μ-loop nodes monitors sat i n a r edges best₀ j₀ best j = edges .count - j
+
+next-solution-requires : tie.Need-next-solution-requires Inv-loop μ-loop
+next-solution-requires c κs = (c .before .before .before .before .pre .0, c .before .before .before .before .pre .1, omega arith)
+
+loop-holds : tie.Need-loop-holds Inv-loop μ-loop
+loop-holds c = let s = c .next-solution .ensures in (folded-skip _ _ (folded-start _ _) (s .skipped .from) (λ j l h x. solved-skip _ _ _ _ _ _ _ _ j (s .skipped .none j l h) x), s .skipped .within, s .passes)
+
+element-copy-out-wide : tie.Need-element-copy-out-wide Inv-loop μ-loop
+element-copy-out-wide c = omega (arith, c .before .before .before .before .before .before .before .pre .1, c .loop-test .taken)
+
+wide-requires : tie.Need-wide-requires Inv-loop μ-loop
+wide-requires c κs = search needs
+
+with-solution-requires : tie.Need-with-solution-requires Inv-loop μ-loop
+with-solution-requires c κs = let s = c .before .before .before .before .before .before .before .before .before in (omega (arith, s .pre .0, solution-room _ _ _ _ _ _ _ (c .before .before .before .loop .inv .2 (c .before .before .loop-test .taken)) (c .wide .ensures)), s .pre .0, s .pre .1)
+
+add-next-solution : tie.Need-add-next-solution Inv-loop μ-loop
+add-next-solution c = omega (arith, c .before .before .before .before .before .before .before .loop-test .taken, c .before .before .before .before .before .before .before .before .before .before .before .before .before .before .pre .1)
+
+next-solution-requires-2 : tie.Need-next-solution-requires-2 Inv-loop μ-loop
+next-solution-requires-2 c κs = (c .before .before .before .before .before .before .before .before .before .before .before .before .before .before .pre .0, c .before .before .before .before .before .before .before .before .before .before .before .before .before .before .pre .1, omega (arith, c .before .before .before .before .before .before .before .loop-test .taken))
+
+loop-less : tie.Need-loop-less Inv-loop μ-loop
+loop-less c = let s = c .next-solution2 .ensures .skipped in omega (arith, s .from, s .within, c .before .before .before .before .before .before .before .before .loop-test .taken)
+
+loop-again : tie.Need-loop-again Inv-loop μ-loop
+loop-again c = let s = c .next-solution2 .ensures in (folded-skip _ _ (folded-next _ _ (c .before .before .before .before .before .before .before .before .before .loop .inv .0) (solved-here _ _ _ _ _ _ _ _ _ (c .before .before .before .before .before .before .before .before .before .loop .inv .2 (c .before .before .before .before .before .before .before .before .loop-test .taken)) _ (c .before .before .before .before .before .before .wide .ensures) (c .before .before .before .before .before .with-solution .ensures))) (s .skipped .from) (λ j l h x. solved-skip _ _ _ _ _ _ _ _ j (s .skipped .none j l h) x), s .skipped .within, s .passes)
+
+returns : tie.Need-returns Inv-loop μ-loop
+returns c = folded-all _ _ (c .before .loop .inv .0) (c .loop-test .left) (c .before .loop .inv .1)
+
+pub with-solutions-spec : {M : Type 1} → statement M
+with-solutions-spec =
+    tie.close
+    (tie.spec
+    Inv-loop
+    μ-loop
+    next-solution-requires
+    loop-holds
+    element-copy-out-wide
+    wide-requires
+    with-solution-requires
+    add-next-solution
+    next-solution-requires-2
+    loop-less
+    loop-again
+    returns)

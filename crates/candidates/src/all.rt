@@ -1,0 +1,394 @@
+// The edges of a linked target A.r1.r2 whose first name is issuer-traces-all: to the frontiers of the roles B.r2, for "each entity B such that
+// A.r1 ← B".
+use crate::done::better;
+use crate::members::child_for;
+use crate::members::with_members;
+use class::class_of;
+use closure::readers;
+use expression::Expression;
+use expression::Role;
+use frontier::reached;
+use graph::Edges;
+use graph::Node;
+use graph::Nodes;
+use moves::Choice;
+use moves::Own;
+use relation::ask;
+use relation::relation;
+use rt0::Pool;
+use rt0::body_at;
+use rules::rules_of;
+ghost use mathlib.Core.Path.{_≡_};
+ghost use mathlib.Core.Bool.{true, cond};
+ghost use Prim.Native.Nat.{_≤_, _<_};
+ghost use lib.ListN.{length, replicate};
+ghost use Rattle.rt0.specs.Pool.{poolOf, credentials};
+ghost use Rattle.closure.specs.Rules.{rulesOf};
+ghost use Rattle.rules.specs.Table.{chosen};
+ghost use Rattle.rules.specs.Ruled.{Ruled};
+ghost use Rattle.relation.specs.Relation.{Relation};
+ghost use Rattle.tables.specs.Tables.{tablesOf};
+ghost use Rattle.propagation.specs.Flags.{flag};
+ghost use Rattle.graph.specs.Graph.{nodesOf, edgesOf};
+ghost use Rattle.moves.specs.declared.Choice.the-variants as C;
+ghost use Rattle.moves.specs.Own.{Prepared};
+ghost use Rattle.moves.specs.Stops.{Told};
+ghost use Rattle.moves.specs.Wanted.{isDone, firstNot};
+ghost use Rattle.candidates.specs.Offers.{folded};
+ghost use Rattle.candidates.specs.Skipped.{Skipped};
+ghost use Rattle.candidates.specs.Collected.{Added, Grown, Collected};
+ghost use Rattle.candidates.specs.All.{isFrom, offerRole, offerRoles, Together, allEdges};
+
+const IMPLICATION: u8 = 1;
+
+const SUBJECT_ALL: u8 = 3;
+
+fn flag_of(b: bool) -> u8
+    ensures { λ r. ⌜ r ≡ cond b 1 0 ⌝ }
+{
+    if b { 1 } else { 0 }
+}
+
+// Whether x is an entity, and a is from it.
+fn is_from<'a>(
+    m: usize,
+    heads: &'a [u16; 256],
+    kinds: &'a [u8; 256],
+    numbers: &'a [u16; 1024],
+    words: usize,
+    head: &'a [usize; 128],
+    part: &'a [usize; 512],
+    first: &'a [usize; 128],
+    named: &'a [u64; 260],
+    src: &'a [usize; 128],
+    deps: &'a [u64; 260],
+    on: &'a [u8; 128],
+    rows: &'a [u64; 260],
+    a: Role,
+    x: Expression,
+) -> bool
+    requires { ⌜ (m ≤ 128) × Ruled (poolOf m (now heads) (now kinds) (now numbers)) (rulesOf m words (now head) (now part) (now first) (now named) (now src)) × Relation (poolOf m (now heads) (now kinds) (now numbers)) (now on) (now rows) ⌝ }
+    ensures { λ r. ⌜ r ≡ isFrom (chosen (poolOf m (now (heads .entry)) (now (kinds .entry)) (now (numbers .entry))) (now (on .entry))) a x ⌝ }
+{
+    let e = Expression::Role(a);
+    match x {
+        Expression::Entity(_) => ask(
+            m,
+            heads,
+            kinds,
+            numbers,
+            words,
+            head,
+            part,
+            first,
+            named,
+            src,
+            deps,
+            on,
+            rows,
+            e,
+            x,
+        ),
+        Expression::Role(_) => false,
+        Expression::Linked(_, _) => false,
+        Expression::Intersection(_) => false,
+        Expression::Goal(_) => false,
+    }
+}
+
+// Of the credentials of a pool, those whose body is an entity that a is from.
+fn flagged<'a>(
+    m: usize,
+    heads: &'a [u16; 256],
+    kinds: &'a [u8; 256],
+    numbers: &'a [u16; 1024],
+    words: usize,
+    head: &'a [usize; 128],
+    part: &'a [usize; 512],
+    first: &'a [usize; 128],
+    named: &'a [u64; 260],
+    src: &'a [usize; 128],
+    deps: &'a [u64; 260],
+    on: &'a [u8; 128],
+    rows: &'a [u64; 260],
+    a: Role,
+) -> [u8; 128]
+    requires { ⌜ (m ≤ 128) × Ruled (poolOf m (now heads) (now kinds) (now numbers)) (rulesOf m words (now head) (now part) (now first) (now named) (now src)) × Relation (poolOf m (now heads) (now kinds) (now numbers)) (now on) (now rows) ⌝ }
+    ensures { λ r. ⌜ Told (isFrom (chosen (poolOf m (now (heads .entry)) (now (kinds .entry)) (now (numbers .entry))) (now (on .entry))) a) (poolOf m (now (heads .entry)) (now (kinds .entry)) (now (numbers .entry))) m r ⌝ }
+{
+    let mut r = [0u8; 128];
+    let mut k = 0;
+    while k < m {
+        let x = body_at(m, heads, kinds, numbers, k);
+        r[k] = flag_of(is_from(
+            m,
+            heads,
+            kinds,
+            numbers,
+            words,
+            head,
+            part,
+            first,
+            named,
+            src,
+            deps,
+            on,
+            rows,
+            a,
+            x,
+        ));
+        k += 1;
+    }
+    r
+}
+
+// "each entity B such that A.r1 ← B", by the credentials of which B is the body.
+fn members(pool: Pool, a: Role) -> [u8; 128]
+    requires { ⌜ pool .count ≤ 128 ⌝ }
+    ensures { λ r. ⌜ Told (isFrom (credentials pool) a) pool (pool .count) r ⌝ }
+{
+    let m = pool.count;
+    let rules = rules_of(m, &pool.heads, &pool.kinds, &pool.numbers);
+    let deps = readers(m, &rules.part, &rules.first, &rules.named);
+    let on = [1u8; 128];
+    let rows = relation(
+        m,
+        &pool.heads,
+        &pool.kinds,
+        &pool.numbers,
+        rules.words,
+        &rules.head,
+        &rules.part,
+        &rules.first,
+        &rules.named,
+        &rules.src,
+        &deps,
+        &on,
+    );
+    flagged(
+        m,
+        &pool.heads,
+        &pool.kinds,
+        &pool.numbers,
+        rules.words,
+        &rules.head,
+        &rules.part,
+        &rules.first,
+        &rules.named,
+        &rules.src,
+        &deps,
+        &on,
+        &rows,
+        a,
+    )
+}
+
+// The next flagged credential from an index on, or m.
+fn next_flagged(m: usize, flags: &[u8; 128], from: usize) -> usize
+    requires { ⌜ (m ≤ 128) × (from ≤ m) ⌝ }
+    ensures { λ r. ⌜ Skipped (flag (now (flags .entry))) from m r × (r < m → flag (now (flags .entry)) r ≡ true) ⌝ }
+{
+    let mut k = from;
+    while k < m {
+        if flags[k] == 1 {
+            return k;
+        }
+        k += 1;
+    }
+    k
+}
+
+// The best of what is chosen and the edge to the role B.r, if x is an entity B.
+fn with_role(
+    nodes: Nodes,
+    edges: Edges,
+    i: u8,
+    n: Node,
+    r: u16,
+    best: Choice,
+    x: Expression,
+) -> Choice
+    requires { ⌜ (nodes .count ≤ 128) × (edges .count ≤ 256) ⌝ }
+    ensures { λ c. ⌜ c ≡ offerRole (isDone (nodesOf nodes) (edgesOf edges) i) n r best x ⌝ }
+{
+    match x {
+        Expression::Entity(b) => {
+            let e = Expression::Role(Role { entity: b, name: r });
+            better(
+                nodes,
+                edges,
+                i,
+                best,
+                child_for(IMPLICATION, n, e, n.subject),
+            )
+        }
+        Expression::Role(_) => best,
+        Expression::Linked(_, _) => best,
+        Expression::Intersection(_) => best,
+        Expression::Goal(_) => best,
+    }
+}
+
+// The best of the edges to the roles B.r of all members.
+fn with_roles<'a>(
+    m: usize,
+    heads: &'a [u16; 256],
+    kinds: &'a [u8; 256],
+    numbers: &'a [u16; 1024],
+    flags: &'a [u8; 128],
+    nodes: Nodes,
+    edges: Edges,
+    i: u8,
+    n: Node,
+    r: u16,
+) -> Choice
+    requires { ⌜ (m ≤ 128) × (nodes .count ≤ 128) × (edges .count ≤ 256) ⌝ }
+    ensures { λ c. ⌜ c ≡ folded m (offerRoles (isDone (nodesOf nodes) (edgesOf edges) i) (poolOf m (now (heads .entry)) (now (kinds .entry)) (now (numbers .entry))) (now (flags .entry)) n r) C.Nothing ⌝ }
+{
+    let mut best = Choice::Nothing;
+    let mut k = next_flagged(m, flags, 0);
+    while k < m {
+        let x = body_at(m, heads, kinds, numbers, k);
+        best = with_role(nodes, edges, i, n, r, best, x);
+        k = next_flagged(m, flags, k + 1);
+    }
+    best
+}
+
+// The first m flags of one column are set in another too.
+fn add_flags<'a>(m: usize, all: &'a mut [u8; 128], found: &'a [u8; 128])
+    requires { ⌜ (m ≤ 128) × (length (now all) ≡ 128) ⌝ }
+    ensures { λ _. ⌜ Added m (now (all .entry)) (now (found .entry)) (now (all .exit)) ⌝ }
+{
+    let mut i = 0;
+    while i < m {
+        all[i] = flag_of((all[i] == 1) | (found[i] == 1));
+        i += 1;
+    }
+}
+
+// The credentials that are found from the role B.r are flagged, if x is an entity B.
+fn add_found<'a>(
+    m: usize,
+    heads: &'a [u16; 256],
+    kinds: &'a [u8; 256],
+    numbers: &'a [u16; 1024],
+    on: &'a [u8; 128],
+    stop: &'a [u8; 128],
+    all: &'a mut [u8; 128],
+    r: u16,
+    x: Expression,
+)
+    requires { ⌜ (m ≤ 128) × (length (now all) ≡ 128) ⌝ }
+    ensures { λ _. ⌜ Grown (poolOf m (now (heads .entry)) (now (kinds .entry)) (now (numbers .entry))) (now (on .entry)) (now (stop .entry)) r x (now (all .entry)) (now (all .exit)) ⌝ }
+{
+    match x {
+        Expression::Entity(b) => {
+            let e = Role { entity: b, name: r };
+            let found = reached(m, heads, kinds, numbers, on, stop, e);
+            add_flags(m, all, &found);
+        }
+        Expression::Role(_) => {}
+        Expression::Linked(_, _) => {}
+        Expression::Intersection(_) => {}
+        Expression::Goal(_) => {}
+    }
+}
+
+// The credentials that are found from the role B.r of any member.
+fn found_from_all<'a>(
+    m: usize,
+    heads: &'a [u16; 256],
+    kinds: &'a [u8; 256],
+    numbers: &'a [u16; 1024],
+    on: &'a [u8; 128],
+    stop: &'a [u8; 128],
+    flags: &'a [u8; 128],
+    r: u16,
+) -> [u8; 128]
+    requires { ⌜ m ≤ 128 ⌝ }
+    ensures { λ all. ⌜ Collected (poolOf m (now (heads .entry)) (now (kinds .entry)) (now (numbers .entry))) (now (on .entry)) (now (stop .entry)) (now (flags .entry)) r m all ⌝ }
+{
+    let mut all = [0u8; 128];
+    let mut k = next_flagged(m, flags, 0);
+    while k < m {
+        let x = body_at(m, heads, kinds, numbers, k);
+        add_found(m, heads, kinds, numbers, on, stop, &mut all, r, x);
+        k = next_flagged(m, flags, k + 1);
+    }
+    all
+}
+
+// The best of the edges to the frontiers of the roles B.r of all members.
+fn with_frontiers<'a>(
+    m: usize,
+    heads: &'a [u16; 256],
+    kinds: &'a [u8; 256],
+    numbers: &'a [u16; 1024],
+    stop: &'a [u8; 128],
+    flags: &'a [u8; 128],
+    nodes: Nodes,
+    edges: Edges,
+    i: u8,
+    n: Node,
+    r: u16,
+) -> Choice
+    requires { ⌜ (m ≤ 128) × (nodes .count ≤ 128) × (edges .count ≤ 256) ⌝ }
+    ensures { λ c. ⌜ Together (isDone (nodesOf nodes) (edgesOf edges) i) (poolOf m (now (heads .entry)) (now (kinds .entry)) (now (numbers .entry))) (replicate 128 1) (now (stop .entry)) (now (flags .entry)) n r c ⌝ }
+{
+    let on = [1u8; 128];
+    let all = found_from_all(m, heads, kinds, numbers, &on, stop, flags, r);
+    with_members(
+        m,
+        heads,
+        kinds,
+        numbers,
+        stop,
+        &all,
+        nodes,
+        edges,
+        i,
+        n,
+        true,
+        Choice::Nothing,
+    )
+}
+
+// The first edge in order that is not done.
+pub fn all_edges(own: Own, nodes: Nodes, edges: Edges, i: u8, n: Node, a: Role, r: u16) -> Choice
+    requires { ⌜ Prepared own × (nodes .count ≤ 128) × (edges .count ≤ 256) ⌝ }
+    ensures { λ c. ⌜ c ≡ firstNot (isDone (nodesOf nodes) (edgesOf edges) i) C.Nothing (allEdges (tablesOf (own .house)) n a r) ⌝ }
+{
+    let house = own.house;
+    let names = house.names;
+    let pool = house.issuer;
+    let m = pool.count;
+    let flags = members(pool, a);
+    if class_of(names.count, &names.name, &names.class, r) == SUBJECT_ALL {
+        return with_roles(
+            m,
+            &pool.heads,
+            &pool.kinds,
+            &pool.numbers,
+            &flags,
+            nodes,
+            edges,
+            i,
+            n,
+            r,
+        );
+    }
+    with_frontiers(
+        m,
+        &pool.heads,
+        &pool.kinds,
+        &pool.numbers,
+        &own.oppo,
+        &flags,
+        nodes,
+        edges,
+        i,
+        n,
+        r,
+    )
+}

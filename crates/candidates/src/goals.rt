@@ -1,0 +1,163 @@
+// The edges to the solutions of a goal.
+use crate::done::better;
+use crate::members::child_for;
+use expression::Expression;
+use expression::Role;
+use graph::Edges;
+use graph::Node;
+use graph::Nodes;
+use moves::Choice;
+use moves::Own;
+use rt0::head_at;
+ghost use mathlib.Core.Path.{_≡_};
+ghost use Prim.Native.Nat.{_≤_, _<_};
+ghost use Rattle.rt0.specs.Pool.{poolOf};
+ghost use Rattle.rules.specs.Table.{chosen};
+ghost use Rattle.tables.specs.Tables.{pairsFrom, pairsOf};
+ghost use Rattle.tables.specs.Decoding.{Housed};
+ghost use Rattle.graph.specs.Graph.{nodesOf, edgesOf};
+ghost use Rattle.moves.specs.declared.Choice.the-variants as C;
+ghost use Rattle.moves.specs.Wanted.{isDone, ordered, firstNot};
+ghost use Rattle.candidates.specs.Offers.{folded, offer};
+ghost use Rattle.candidates.specs.Goals.{isNamedPair, pairEdge, isNamedHead, headEdge, solutionEdge, namedRoles};
+ghost use mathlib.Core.List.{map};
+
+const SOLUTION: u8 = 3;
+
+// The best of what is chosen and the edge to sensitive role k, if it has the name r.
+fn with_pair<'a>(
+    q: usize,
+    roles: &'a [u16; 64],
+    others: &'a [u16; 64],
+    nodes: Nodes,
+    edges: Edges,
+    i: u8,
+    n: Node,
+    r: u16,
+    best: Choice,
+    k: usize,
+) -> Choice
+    requires { ⌜ (k < 32) × (nodes .count ≤ 128) × (edges .count ≤ 256) ⌝ }
+    ensures { λ c. ⌜ c ≡ offer (isDone (nodesOf nodes) (edgesOf edges) i) (isNamedPair (pairsFrom q (now (roles .entry)) (now (others .entry))) r) (pairEdge (pairsFrom q (now (roles .entry)) (now (others .entry))) n) best k ⌝ }
+{
+    let a = Role {
+        entity: roles[k * 2],
+        name: roles[k * 2 + 1],
+    };
+    if a.name != r {
+        return best;
+    }
+    let w = child_for(SOLUTION, n, Expression::Role(a), n.subject);
+    better(nodes, edges, i, best, w)
+}
+
+// The best of the edges to sensitive roles of the name r.
+fn with_pairs<'a>(
+    q: usize,
+    roles: &'a [u16; 64],
+    others: &'a [u16; 64],
+    nodes: Nodes,
+    edges: Edges,
+    i: u8,
+    n: Node,
+    r: u16,
+) -> Choice
+    requires { ⌜ (q ≤ 32) × (nodes .count ≤ 128) × (edges .count ≤ 256) ⌝ }
+    ensures { λ c. ⌜ c ≡ folded q (offer (isDone (nodesOf nodes) (edgesOf edges) i) (isNamedPair (pairsFrom q (now (roles .entry)) (now (others .entry))) r) (pairEdge (pairsFrom q (now (roles .entry)) (now (others .entry))) n)) C.Nothing ⌝ }
+{
+    let mut best = Choice::Nothing;
+    let mut k = 0;
+    while k < q {
+        best = with_pair(q, roles, others, nodes, edges, i, n, r, best, k);
+        k += 1;
+    }
+    best
+}
+
+// The best of what is chosen and the edge to the head of credential k, if it is on and has the name r.
+fn with_head<'a>(
+    m: usize,
+    heads: &'a [u16; 256],
+    kinds: &'a [u8; 256],
+    numbers: &'a [u16; 1024],
+    on: &'a [u8; 128],
+    nodes: Nodes,
+    edges: Edges,
+    i: u8,
+    n: Node,
+    r: u16,
+    best: Choice,
+    k: usize,
+) -> Choice
+    requires { ⌜ (k < 128) × (nodes .count ≤ 128) × (edges .count ≤ 256) ⌝ }
+    ensures { λ c. ⌜ c ≡ offer (isDone (nodesOf nodes) (edgesOf edges) i) (isNamedHead (poolOf m (now (heads .entry)) (now (kinds .entry)) (now (numbers .entry))) (now (on .entry)) r) (headEdge (poolOf m (now (heads .entry)) (now (kinds .entry)) (now (numbers .entry))) n) best k ⌝ }
+{
+    if on[k] != 1 {
+        return best;
+    }
+    let a = head_at(m, heads, kinds, numbers, k);
+    if a.name != r {
+        return best;
+    }
+    let w = child_for(SOLUTION, n, Expression::Role(a), n.subject);
+    better(nodes, edges, i, best, w)
+}
+
+// The best of what is chosen and the edges to the heads of the name r.
+fn with_heads<'a>(
+    m: usize,
+    heads: &'a [u16; 256],
+    kinds: &'a [u8; 256],
+    numbers: &'a [u16; 1024],
+    on: &'a [u8; 128],
+    nodes: Nodes,
+    edges: Edges,
+    i: u8,
+    n: Node,
+    r: u16,
+    start: Choice,
+) -> Choice
+    requires { ⌜ (m ≤ 128) × (nodes .count ≤ 128) × (edges .count ≤ 256) ⌝ }
+    ensures { λ c. ⌜ c ≡ folded m (offer (isDone (nodesOf nodes) (edgesOf edges) i) (isNamedHead (poolOf m (now (heads .entry)) (now (kinds .entry)) (now (numbers .entry))) (now (on .entry)) r) (headEdge (poolOf m (now (heads .entry)) (now (kinds .entry)) (now (numbers .entry))) n)) start ⌝ }
+{
+    let mut best = start;
+    let mut k = 0;
+    while k < m {
+        best = with_head(m, heads, kinds, numbers, on, nodes, edges, i, n, r, best, k);
+        k += 1;
+    }
+    best
+}
+
+// "any A.r2 ∈ sensitiveRoles or A.r2 defined by a credential".
+pub fn solutions(own: Own, nodes: Nodes, edges: Edges, i: u8, n: Node, r: u16) -> Choice
+    requires { ⌜ Housed (own .house) × (nodes .count ≤ 128) × (edges .count ≤ 256) ⌝ }
+    ensures { λ c. ⌜ c ≡ firstNot (isDone (nodesOf nodes) (edgesOf edges) i) C.Nothing (ordered (map (solutionEdge n) (namedRoles r (pairsOf (own .house .sensitive)) (chosen (own .house .subject) (own .visible))))) ⌝ }
+{
+    let house = own.house;
+    let pairs = house.sensitive;
+    let pool = house.subject;
+    let first = with_pairs(
+        pairs.count,
+        &pairs.roles,
+        &pairs.others,
+        nodes,
+        edges,
+        i,
+        n,
+        r,
+    );
+    with_heads(
+        pool.count,
+        &pool.heads,
+        &pool.kinds,
+        &pool.numbers,
+        &own.visible,
+        nodes,
+        edges,
+        i,
+        n,
+        r,
+        first,
+    )
+}

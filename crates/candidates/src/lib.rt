@@ -1,0 +1,21 @@
+// The edges that a rule may add to a node: the first in order that is not done.
+mod all;
+mod done;
+mod frontiers;
+mod goals;
+mod links;
+mod members;
+mod parts;
+mod subject;
+
+pub use all::all_edges;
+pub use done::better;
+pub use done::or_else;
+pub use frontiers::issuer_edges;
+pub use frontiers::other_edges;
+pub use frontiers::plain_edges;
+pub use frontiers::rest_edges;
+pub use goals::solutions;
+pub use links::link_rules;
+pub use links::mark_if;
+pub use parts::part_edges;

@@ -1,0 +1,185 @@
+// The implication edges to the members of a frontier.
+use crate::done::better;
+use expression::Expression;
+use expression::Role;
+use expression::is_entity;
+use expression::same;
+use frontier::reached;
+use graph::Edges;
+use graph::Node;
+use graph::Nodes;
+use moves::Choice;
+use moves::Wanted;
+use rt0::Pool;
+use rt0::body_at;
+ghost use mathlib.Core.Path.{_≡_};
+ghost use Prim.Native.Nat.{_≤_, _<_};
+ghost use Rattle.expression.specs.Kinds.{isEntity};
+ghost use Rattle.rt0.specs.Pool.{poolOf};
+ghost use Rattle.graph.specs.Graph.{nodesOf, edgesOf};
+ghost use Rattle.moves.specs.Wanted.{isDone};
+ghost use Rattle.moves.specs.Rules.{childFor};
+ghost use Rattle.candidates.specs.Offers.{folded, offer};
+ghost use Rattle.candidates.specs.Members.{admits as admitsOf, isMember, isStopped, memberEdge, Extended};
+ghost use Rattle.candidates.specs.Skipped.{Skipped};
+
+const IMPLICATION: u8 = 1;
+
+// An edge into node n, to a child of its verifier.
+pub fn child_for(kind: u8, n: Node, x: Expression, b: u16) -> Wanted
+    ensures { λ r. ⌜ r ≡ childFor kind n x b ⌝ }
+{
+    Wanted {
+        kind,
+        verifier: n.verifier,
+        expression: x,
+        subject: b,
+        direct: false,
+    }
+}
+
+// No entity but the node's subject, and that only where entities are wanted.
+fn admits(entities: bool, n: Node, x: Expression) -> bool
+    ensures { λ r. ⌜ r ≡ admitsOf entities n x ⌝ }
+{
+    if !is_entity(x) {
+        return true;
+    }
+    if !entities {
+        return false;
+    }
+    same(x, Expression::Entity(n.subject))
+}
+
+// The best of what is chosen and the edge to the body of credential k, if it is a member.
+fn with_member<'a>(
+    m: usize,
+    heads: &'a [u16; 256],
+    kinds: &'a [u8; 256],
+    numbers: &'a [u16; 1024],
+    stop: &'a [u8; 128],
+    found: &'a [u8; 128],
+    nodes: Nodes,
+    edges: Edges,
+    i: u8,
+    n: Node,
+    entities: bool,
+    best: Choice,
+    k: usize,
+) -> Choice
+    requires { ⌜ (k < 128) × (nodes .count ≤ 128) × (edges .count ≤ 256) ⌝ }
+    ensures { λ r. ⌜ r ≡ offer (isDone (nodesOf nodes) (edgesOf edges) i) (isMember (poolOf m (now (heads .entry)) (now (kinds .entry)) (now (numbers .entry))) (now (stop .entry)) (now (found .entry)) entities n) (memberEdge (poolOf m (now (heads .entry)) (now (kinds .entry)) (now (numbers .entry))) n) best k ⌝ }
+{
+    if (found[k] != 1) | (stop[k] != 1) {
+        return best;
+    }
+    let x = body_at(m, heads, kinds, numbers, k);
+    if !admits(entities, n, x) {
+        return best;
+    }
+    better(
+        nodes,
+        edges,
+        i,
+        best,
+        child_for(IMPLICATION, n, x, n.subject),
+    )
+}
+
+// Whether credential k was found and its body is a stop.
+fn is_stopped<'a>(stop: &'a [u8; 128], found: &'a [u8; 128], k: usize) -> bool
+    requires { ⌜ k < 128 ⌝ }
+    ensures { λ r. ⌜ r ≡ isStopped (now (stop .entry)) (now (found .entry)) k ⌝ }
+{
+    (found[k] == 1) & (stop[k] == 1)
+}
+
+// The next such credential from an index on, or m.
+fn next_stopped<'a>(m: usize, stop: &'a [u8; 128], found: &'a [u8; 128], from: usize) -> usize
+    requires { ⌜ (m ≤ 128) × (from ≤ m) ⌝ }
+    ensures { λ r. ⌜ Skipped (isStopped (now (stop .entry)) (now (found .entry))) from m r ⌝ }
+{
+    let mut k = from;
+    while k < m {
+        if is_stopped(stop, found, k) {
+            return k;
+        }
+        k += 1;
+    }
+    k
+}
+
+// The best of what is chosen and the edges to all members.
+pub fn with_members<'a>(
+    m: usize,
+    heads: &'a [u16; 256],
+    kinds: &'a [u8; 256],
+    numbers: &'a [u16; 1024],
+    stop: &'a [u8; 128],
+    found: &'a [u8; 128],
+    nodes: Nodes,
+    edges: Edges,
+    i: u8,
+    n: Node,
+    entities: bool,
+    start: Choice,
+) -> Choice
+    requires { ⌜ (m ≤ 128) × (nodes .count ≤ 128) × (edges .count ≤ 256) ⌝ }
+    ensures { λ r. ⌜ r ≡ folded m (offer (isDone (nodesOf nodes) (edgesOf edges) i) (isMember (poolOf m (now (heads .entry)) (now (kinds .entry)) (now (numbers .entry))) (now (stop .entry)) (now (found .entry)) entities n) (memberEdge (poolOf m (now (heads .entry)) (now (kinds .entry)) (now (numbers .entry))) n)) start ⌝ }
+{
+    let mut best = start;
+    let mut k = next_stopped(m, stop, found, 0);
+    while k < m {
+        best = with_member(
+            m,
+            heads,
+            kinds,
+            numbers,
+            stop,
+            found,
+            nodes,
+            edges,
+            i,
+            n,
+            entities,
+            best,
+            k,
+        );
+        k = next_stopped(m, stop, found, k + 1);
+    }
+    best
+}
+
+// The best of what is chosen and the edges to the members of the frontier of a role's credentials.
+pub fn with_frontier<'a>(
+    pool: Pool,
+    on: &'a [u8; 128],
+    stop: &'a [u8; 128],
+    nodes: Nodes,
+    edges: Edges,
+    i: u8,
+    n: Node,
+    entities: bool,
+    e: Role,
+    start: Choice,
+) -> Choice
+    requires { ⌜ (pool .count ≤ 128) × (nodes .count ≤ 128) × (edges .count ≤ 256) ⌝ }
+    ensures { λ r. ⌜ Extended (isDone (nodesOf nodes) (edgesOf edges) i) pool (now (on .entry)) (now (stop .entry)) entities n e start r ⌝ }
+{
+    let m = pool.count;
+    let found = reached(m, &pool.heads, &pool.kinds, &pool.numbers, on, stop, e);
+    with_members(
+        m,
+        &pool.heads,
+        &pool.kinds,
+        &pool.numbers,
+        stop,
+        &found,
+        nodes,
+        edges,
+        i,
+        n,
+        entities,
+        start,
+    )
+}

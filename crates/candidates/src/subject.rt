@@ -1,0 +1,110 @@
+// The edge to the subject where a frontier has it, else those to what is no entity.
+use crate::done::better;
+use crate::members::child_for;
+use crate::members::with_members;
+use expression::Expression;
+use expression::Role;
+use expression::same;
+use frontier::reached;
+use graph::Edges;
+use graph::Node;
+use graph::Nodes;
+use moves::Choice;
+use rt0::Pool;
+use rt0::body_at;
+ghost use mathlib.Core.Path.{_≡_};
+ghost use Prim.Native.Nat.{_≤_, _<_};
+ghost use Rattle.rt0.specs.Pool.{poolOf};
+ghost use Rattle.graph.specs.Graph.{nodesOf, edgesOf};
+ghost use Rattle.moves.specs.Wanted.{isDone};
+ghost use Rattle.candidates.specs.Subject.{isSubjectAt, hasSubject, Aimed};
+
+const IMPLICATION: u8 = 1;
+
+// Whether credential k was found, and its body is a stop and the entity s.
+fn is_subject_at<'a>(
+    m: usize,
+    heads: &'a [u16; 256],
+    kinds: &'a [u8; 256],
+    numbers: &'a [u16; 1024],
+    stop: &'a [u8; 128],
+    found: &'a [u8; 128],
+    s: u16,
+    k: usize,
+) -> bool
+    requires { ⌜ k < 128 ⌝ }
+    ensures { λ r. ⌜ r ≡ isSubjectAt (poolOf m (now (heads .entry)) (now (kinds .entry)) (now (numbers .entry))) (now (stop .entry)) (now (found .entry)) s k ⌝ }
+{
+    if (found[k] != 1) | (stop[k] != 1) {
+        return false;
+    }
+    let x = body_at(m, heads, kinds, numbers, k);
+    same(x, Expression::Entity(s))
+}
+
+// Whether the entity s is a member of the frontier.
+fn has_subject<'a>(
+    m: usize,
+    heads: &'a [u16; 256],
+    kinds: &'a [u8; 256],
+    numbers: &'a [u16; 1024],
+    stop: &'a [u8; 128],
+    found: &'a [u8; 128],
+    s: u16,
+) -> bool
+    requires { ⌜ m ≤ 128 ⌝ }
+    ensures { λ r. ⌜ r ≡ hasSubject (poolOf m (now (heads .entry)) (now (kinds .entry)) (now (numbers .entry))) (now (stop .entry)) (now (found .entry)) s ⌝ }
+{
+    let mut k = 0;
+    while k < m {
+        if is_subject_at(m, heads, kinds, numbers, stop, found, s, k) {
+            return true;
+        }
+        k += 1;
+    }
+    false
+}
+
+// The choice among the edges of the frontier of a role's credentials.
+pub fn to_subject<'a>(
+    pool: Pool,
+    on: &'a [u8; 128],
+    stop: &'a [u8; 128],
+    nodes: Nodes,
+    edges: Edges,
+    i: u8,
+    n: Node,
+    e: Role,
+) -> Choice
+    requires { ⌜ (pool .count ≤ 128) × (nodes .count ≤ 128) × (edges .count ≤ 256) ⌝ }
+    ensures { λ r. ⌜ Aimed (isDone (nodesOf nodes) (edgesOf edges) i) pool (now (on .entry)) (now (stop .entry)) n e r ⌝ }
+{
+    let m = pool.count;
+    let found = reached(m, &pool.heads, &pool.kinds, &pool.numbers, on, stop, e);
+    if has_subject(
+        m,
+        &pool.heads,
+        &pool.kinds,
+        &pool.numbers,
+        stop,
+        &found,
+        n.subject,
+    ) {
+        let w = child_for(IMPLICATION, n, Expression::Entity(n.subject), n.subject);
+        return better(nodes, edges, i, Choice::Nothing, w);
+    }
+    with_members(
+        m,
+        &pool.heads,
+        &pool.kinds,
+        &pool.numbers,
+        stop,
+        &found,
+        nodes,
+        edges,
+        i,
+        n,
+        false,
+        Choice::Nothing,
+    )
+}
