@@ -2,7 +2,8 @@
 
 mod implied;
 mod linked;
+mod monitors;
 
 pub use implied::edges_implied;
-pub use linked::is_monitored_for;
 pub use linked::links_justified;
+pub use monitors::is_monitored_for;

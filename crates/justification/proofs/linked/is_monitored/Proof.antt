@@ -4,7 +4,7 @@ use Rattle.justification.proofs.linked.is_monitored.Statement.{statemen
 use Rattle.justification.proofs.linked.is_monitored.Tie as tie
 use Rattle.justification.proofs.linked.is_monitored.Lts as lts
 use Rattle.graph.proofs.node_at.Reads as node-at-reads
-use Rattle.justification.proofs.linked.is_monitored_for.Reads as is-monitored-for-reads
+use Rattle.justification.proofs.monitors.is_monitored_for.Reads as is-monitored-for-reads
 use Rattle.word.proofs.wide.Reads as wide-reads
 
 wide-requires : tie.Need-wide-requires

@@ -1,6 +1,6 @@
 use borrow.Author.Needs.{needs}
-use Rattle.justification.proofs.linked.is_solution_for.Statement.{statement}
-use Rattle.justification.proofs.linked.is_solution_for.Tie as tie
+use Rattle.justification.proofs.monitors.is_solution_for.Statement.{statement}
+use Rattle.justification.proofs.monitors.is_solution_for.Tie as tie
 
 enum-told : tie.Need-enum-told
 enum-told c = search needs

@@ -3,8 +3,8 @@ use Rattle.expression.specs.declared.Expression.{Expression}
 use mathlib.Core.Path.{_∙_, ap}
 use Rattle.justification.specs.JustifiedLaws.{solves-other, solves-past, solves-not, solves-is}
 use borrow.Author.Needs.{needs}
-use Rattle.justification.proofs.linked.solves_at.Statement.{statement}
-use Rattle.justification.proofs.linked.solves_at.Tie as tie
+use Rattle.justification.proofs.monitors.solves_at.Statement.{statement}
+use Rattle.justification.proofs.monitors.solves_at.Tie as tie
 
 element-copy-out-if1 : tie.Need-element-copy-out-if1
 element-copy-out-if1 c = search needs

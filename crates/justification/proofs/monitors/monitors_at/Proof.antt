@@ -1,7 +1,7 @@
 use Rattle.justification.specs.JustifiedLaws.{monitors-other, monitors-past, monitors-is}
 use borrow.Author.Needs.{needs}
-use Rattle.justification.proofs.linked.monitors_at.Statement.{statement}
-use Rattle.justification.proofs.linked.monitors_at.Tie as tie
+use Rattle.justification.proofs.monitors.monitors_at.Statement.{statement}
+use Rattle.justification.proofs.monitors.monitors_at.Tie as tie
 
 element-copy-out-if1 : tie.Need-element-copy-out-if1
 element-copy-out-if1 c = search needs

@@ -5,9 +5,9 @@ use Rattle.graph.specs.Graph.{nodesFrom, edgesFrom, nodesOf, edgesOf, edgeAt}
 use Prim.Native.Nat.{_-_}
 use native.Mathlib.Omega.{arith}
 use Rattle.justification.specs.JustifiedLaws.{linked-at, linked-none}
-use Rattle.justification.proofs.linked.is_monitored_for.Statement.{statement}
-use Rattle.justification.proofs.linked.is_monitored_for.Tie as tie
-use Rattle.justification.proofs.linked.is_monitored_for.Reads as reads
+use Rattle.justification.proofs.monitors.is_monitored_for.Statement.{statement}
+use Rattle.justification.proofs.monitors.is_monitored_for.Tie as tie
+use Rattle.justification.proofs.monitors.is_monitored_for.Reads as reads
 
 abbrev Inv-loop : tie.InvT-loop
 Inv-loop n kind parts n0 n1 n2 n3 n4 n5 n6 n7 subject verifier state m edge parent child sat x b p j₀ j = Missed (monitors (nodesOf (nodesFrom n kind parts n0 n1 n2 n3 n4 n5 n6 n7 subject verifier state)) (edgesOf (edgesFrom m edge parent child)) x b p) (edgeAt (edgesFrom m edge parent child)) j
