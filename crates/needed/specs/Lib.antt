@@ -3,3 +3,7 @@ pub mod NeededLaws
 pub mod Columns
 pub mod ColumnLaws
 pub mod KeepingLaws
+pub mod Relevant
+pub mod RelevantLaws
+pub mod Flags
+pub mod FlagLaws

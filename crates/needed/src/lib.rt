@@ -16,8 +16,10 @@ ghost use Rattle.relation.specs.Relation.{Relation};
 ghost use Rattle.needed.specs.Needed.{needed as neededOf, firstOf, restOf};
 ghost use Rattle.needed.specs.Columns.{FirstOn, WithRest, Needed};
 
+mod asked;
 mod next;
 
+pub use asked::relevant;
 use next::next_kept;
 
 // The column where the first s credentials are on.

@@ -31,6 +31,14 @@ module _ {b : Bool} {c : Credential} {P : Pool} where
   pub not-stored : not b ≡ true → Sized P → StoredIf b c P P
   not-stored h z = record { sized = z; all = sym (append-nil (credentials P)) ∙ ap (λ (x : Bool). credentials P ++ cond x (c ∷ []) []) (sym (not-true b h)) }
 
+-- one more is stored at most
+pub stored-few : (b : Bool) (c : Credential) (P Q : Pool) → StoredIf b c P Q → Q .count ≤ P .count + 1
+stored-few b c P Q s = omega (arith, count-length P, count-length Q, ap length (s .all), length-append (credentials P) (cond b (c ∷ []) []), at-most-one b)
+  where
+    at-most-one : (x : Bool) → length (cond x (c ∷ []) []) ≤ 1
+    at-most-one true = omega arith
+    at-most-one false = omega arith
+
 -- the pool Q has the credentials of S and, behind them, those of the first i of P that are on and pass the test
 pub record Behind (f : Credential → Bool) (S P : Pool) (on : List ℕ) (i : ℕ) (Q : Pool) : Type 0 where
   pub within : i ≤ P .count
@@ -46,16 +54,12 @@ module _ (f : Credential → Bool) (S P : Pool) (on : List ℕ) where
   one-more C c true b h = ap (λ (x : Bool). keep f C ++ cond x (c ∷ []) []) h ∙ sym (keep-append f C (c ∷ []))
   one-more C c false b h = ap (λ (x : Bool). keep f C ++ cond x (c ∷ []) []) h ∙ sym (keep-append f C [])
 
-  at-most-one : (b : Bool) (c : Credential) → length (cond b (c ∷ []) []) ≤ 1
-  at-most-one true c = omega arith
-  at-most-one false c = omega arith
-
   pub behind-next : {i : ℕ} {Q R : Pool} {b : Bool} {c : Credential} → Behind f S P on i Q → i < P .count → c ≡ credentialAt P i → b ≡ (eqb (el on i) 1 && f c) → StoredIf b c Q R → Behind f S P on (i + 1) R
   behind-next {i} {Q} {R} {b} {c} h l ce be s =
       record {
         within = omega arith;
         sized = s .sized;
-        few = omega (arith, h .few, count-length Q, count-length R, ap length (s .all), length-append (credentials Q) (cond b (c ∷ []) []), at-most-one b c);
+        few = omega (arith, h .few, stored-few b c Q R s);
         all = s .all
             ∙ ap (λ (l : List Credential). l ++ cond b (c ∷ []) []) (h .all)
             ∙ append-assoc (credentials S) (keep f (chosenTo P on i)) (cond b (c ∷ []) [])

@@ -1,7 +1,7 @@
 -- The credentials and the command of a move, found part by part. Assumes nothing.
 use Prim.Native.Nat.{ℕ, _≤_, _<_}
 use native.Mathlib.Omega.{arith}
-use mathlib.Core.Path.{_≡_, refl, sym, _∙_, ap, ap₂}
+use mathlib.Core.Path.{_≡_, refl, sym, _∙_, ap}
 use mathlib.Core.Bool.{Bool, true, false, not, cond}
 use mathlib.Core.List.{List, [], _∷_, _++_}
 use borrow.Author.Tests.{eq-eqb, ne-eqb, lt-ltb, le-ltb}
@@ -29,7 +29,7 @@ use Rattle.graph.specs.Columns.{nodes-length}
 use Rattle.message.specs.declared.Command.{Command}
 use Rattle.message.specs.declared.Command.the-variants.{Bring, Join}
 use Rattle.damage.specs.Records.{isShown}
-use Rattle.needed.specs.Needed.{needed, firstOf, restOf}
+use Rattle.needed.specs.Needed.{needed}
 use Rattle.needed.specs.ColumnLaws.{none-on}
 use Rattle.moves.specs.declared.Own.{Own}
 use Rattle.moves.specs.declared.Wanted.{Wanted}
@@ -39,10 +39,9 @@ use Rattle.moves.specs.Wanted.{childNumber}
 use Rattle.moves.specs.Own.{Prepared}
 use Rattle.sending.specs.Unshown.{unshownOf}
 use Rattle.sending.specs.Picked.{all-on}
-use Rattle.sending.specs.Behind.{behind-parts}
 use Rattle.sending.specs.Sent.{Sends, commandFor, directIn, ownSetOf}
 
-sends-as : {cs ds : List Credential} {k : Command} {r : Outgoing} → cs ≡ ds → Sends cs k r → Sends ds k r
+pub sends-as : {cs ds : List Credential} {k : Command} {r : Outgoing} → cs ≡ ds → Sends cs k r → Sends ds k r
 sends-as h s = record { shows = s .shows ∙ h; command = s .command; few = s .few }
 
 -- No credential, or one
@@ -89,11 +88,6 @@ module _ (shown : List Credential) (own : ℕ) (f : Expression) {k : Command} {r
   direct-role {a} h s = sends-as (ap (directIn shown own) (sym h)) s
 
 -- The needed ones
-
-pub sends-needed : (S Q : Pool) (L : List Credential) (f e : Expression) (on : List ℕ) (k : Command) → credentials Q ≡ credentials S ++ L → Q .count ≤ 128 → chosen Q on ≡ needed (firstOf Q (S .count)) f e (restOf Q (S .count)) → Sends (needed (credentials S) f e L) k (record { pool = Q; on = on; command = k })
-sends-needed S Q L f e on k h few all =
-    let p = behind-parts S Q L h in
-    record { shows = all ∙ ap₂ (λ (a b : List Credential). needed a f e b) (p .0) (p .1); command = refl; few = few }
 
 set-issuer : (H : House) (side : ℕ) (x : Node) → x .verifier ≡ side → credentials (H .issuer) ≡ ownSetOf (publicOf (tablesOf H)) side x
 unfolding publicOf tablesOf ownSetOf

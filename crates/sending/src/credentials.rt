@@ -1,5 +1,6 @@
 // The credentials that go before a command.
 use crate::pool::own_pool;
+use crate::pool::part_of;
 use damage::is_shown;
 use expression::Credential;
 use expression::Expression;
@@ -8,12 +9,14 @@ use message::Command;
 use moves::Outgoing;
 use moves::Own;
 use needed::needed;
+use needed::relevant;
+use relation::from;
 use rt0::Pool;
 ghost use mathlib.Core.List.{[], _∷_};
 ghost use Prim.Native.Nat.{_≤_};
 ghost use Rattle.rt0.specs.Pool.{credentials};
 ghost use Rattle.rules.specs.Table.{chosen};
-ghost use Rattle.needed.specs.Needed.{needed as neededOf};
+ghost use Rattle.needed.specs.Needed.{needed as neededOf, firstOf, restOf};
 ghost use Rattle.tables.specs.Tables.{tablesOf};
 ghost use Rattle.tables.specs.Public.{publicOf};
 ghost use Rattle.moves.specs.Own.{Prepared};
@@ -68,7 +71,29 @@ pub fn direct_for(own: u16, shown: Pool, f: Expression, command: Command) -> Out
     }
 }
 
-// Those of a set of own credentials that are on, not shown, and needed for f from e.
+// Those needed for f from e beside the first `shown` of a pool.
+fn needed_in(pool: Pool, shown: usize, f: Expression, e: Expression, command: Command) -> Outgoing
+    requires { ⌜ (pool .count ≤ 128) × (shown ≤ pool .count) ⌝ }
+    ensures { λ r. ⌜ Sends (neededOf (firstOf pool shown) f e (restOf pool shown)) command r ⌝ }
+{
+    let kept = needed(
+        pool.count,
+        &pool.heads,
+        &pool.kinds,
+        &pool.numbers,
+        shown,
+        f,
+        e,
+    );
+    Outgoing {
+        pool,
+        on: kept,
+        command,
+    }
+}
+
+// Those of a set of own credentials that are on, not shown, and needed for f from e. They are looked for among those that can matter for f,
+// where these are enough.
 fn needed_of(
     shown: Pool,
     set: Pool,
@@ -81,20 +106,13 @@ fn needed_of(
     ensures { λ r. ⌜ Sends (neededOf (credentials shown) f e (unshownOf (credentials shown) (chosen set on))) command r ⌝ }
 {
     let pool = own_pool(shown, set.count, &set.heads, &set.kinds, &set.numbers, &on);
-    let kept = needed(
-        pool.count,
-        &pool.heads,
-        &pool.kinds,
-        &pool.numbers,
-        shown.count,
-        f,
-        e,
-    );
-    Outgoing {
-        pool,
-        on: kept,
-        command,
+    let flags = relevant(pool.count, &pool.heads, &pool.kinds, &pool.numbers, f);
+    let part = part_of(pool, shown.count, flags);
+    let few = part.pool;
+    if from(few, f, e) {
+        return needed_in(few, part.shown, f, e, command);
     }
+    needed_in(pool, shown.count, f, e, command)
 }
 
 // Those needed for node x from e, of our set for our side of it: 0x12 where we verify it, else 0x13 less direct credentials of sensitive

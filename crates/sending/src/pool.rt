@@ -1,4 +1,4 @@
-// The credentials shown and, behind them, own ones that are not.
+// The credentials shown and, behind them, own ones that are not; and what of such a pool can matter for an edge.
 use damage::is_shown;
 use expression::Credential;
 use rt0::Pool;
@@ -7,12 +7,20 @@ use rt0::head_at;
 use rt0::store;
 ghost use mathlib.Core.Path.{_≡_};
 ghost use mathlib.Core.List.{_++_};
-ghost use Prim.Native.Nat.{_≤_, _<_};
+ghost use Prim.Native.Nat.{_-_, _≤_, _<_};
+ghost use lib.Dec.{eqb};
 ghost use Rattle.rt0.specs.Pool.{poolOf, credentialAt, credentials};
 ghost use Rattle.rt0.specs.Added.{Sized};
 ghost use Rattle.rules.specs.Table.{chosen};
 ghost use Rattle.sending.specs.Unshown.{unshownOf, isNew};
 ghost use Rattle.sending.specs.Behind.{StoredIf};
+ghost use Rattle.sending.specs.Part.{Selected, PartOf};
+
+// A pool, the first credentials of which are shown.
+pub struct Part {
+    pub pool: Pool,
+    pub shown: usize,
+}
 
 // Credential i.
 pub fn credential_at<'a>(
@@ -104,5 +112,100 @@ pub fn own_pool<'a>(
         heads: h,
         kinds: k,
         numbers: u,
+    }
+}
+
+// Credential i, where it is flagged, goes behind the m others; how many there are then.
+fn store_flagged<'a>(
+    n: usize,
+    heads: &'a [u16; 256],
+    kinds: &'a [u8; 256],
+    numbers: &'a [u16; 1024],
+    flag: u8,
+    i: usize,
+    h: &'a mut [u16; 256],
+    k: &'a mut [u8; 256],
+    u: &'a mut [u16; 1024],
+    m: usize,
+) -> usize
+    requires { ⌜ (i < 128) × (m < 128) × Sized (poolOf m (now h) (now k) (now u)) ⌝ }
+    ensures { λ r. ⌜ StoredIf (eqb flag 1) (credentialAt (poolOf n (now (heads .entry)) (now (kinds .entry)) (now (numbers .entry))) i) (poolOf m (now (h .entry)) (now (k .entry)) (now (u .entry))) (poolOf r (now (h .exit)) (now (k .exit)) (now (u .exit))) ⌝ }
+{
+    if flag != 1 {
+        return m;
+    }
+    let c = credential_at(n, heads, kinds, numbers, i);
+    store(h, k, u, m, c);
+    m + 1
+}
+
+// The flagged ones of the credentials from a to b go behind the m others; how many there are then.
+fn store_range<'a>(
+    n: usize,
+    heads: &'a [u16; 256],
+    kinds: &'a [u8; 256],
+    numbers: &'a [u16; 1024],
+    flags: &'a [u8; 128],
+    a: usize,
+    b: usize,
+    h: &'a mut [u16; 256],
+    k: &'a mut [u8; 256],
+    u: &'a mut [u16; 1024],
+    m: usize,
+) -> usize
+    requires { ⌜ (n ≤ 128) × (a ≤ b) × (b ≤ n) × (m ≤ a) × Sized (poolOf m (now h) (now k) (now u)) ⌝ }
+    ensures { λ r. ⌜ Selected (poolOf n (now (heads .entry)) (now (kinds .entry)) (now (numbers .entry))) (now (flags .entry)) a (b - a) (poolOf m (now (h .entry)) (now (k .entry)) (now (u .entry))) (poolOf r (now (h .exit)) (now (k .exit)) (now (u .exit))) ⌝ }
+{
+    let mut count = m;
+    let mut i = a;
+    while i < b {
+        count = store_flagged(n, heads, kinds, numbers, flags[i], i, h, k, u, count);
+        i += 1;
+    }
+    count
+}
+
+// The flagged credentials of a pool, the first of which are shown.
+pub fn part_of(pool: Pool, shown: usize, flags: [u8; 128]) -> Part
+    requires { ⌜ (pool .count ≤ 128) × (shown ≤ pool .count) ⌝ }
+    ensures { λ r. ⌜ PartOf pool shown flags (r .pool) (r .shown) ⌝ }
+{
+    let mut h = [0u16; 256];
+    let mut k = [0u8; 256];
+    let mut u = [0u16; 1024];
+    let s = store_range(
+        pool.count,
+        &pool.heads,
+        &pool.kinds,
+        &pool.numbers,
+        &flags,
+        0,
+        shown,
+        &mut h,
+        &mut k,
+        &mut u,
+        0,
+    );
+    let count = store_range(
+        pool.count,
+        &pool.heads,
+        &pool.kinds,
+        &pool.numbers,
+        &flags,
+        shown,
+        pool.count,
+        &mut h,
+        &mut k,
+        &mut u,
+        s,
+    );
+    Part {
+        pool: Pool {
+            count,
+            heads: h,
+            kinds: k,
+            numbers: u,
+        },
+        shown: s,
     }
 }
