@@ -1,21 +1,22 @@
 // The commands of a message, one after another.
 use crate::Taking;
-use crate::beside::is_asked;
-use crate::beside::is_credential;
-use crate::beside::is_edge;
+use crate::beside::carried;
 use crate::beside::nothing_kept;
-use crate::beside::ready;
+use crate::beside::settled;
 use class::Names;
 use message::Command;
 use message::CommandAnswer;
 use message::size_of;
 use negotiation::Negotiation;
 use reader::command_at;
+use update::is_implication;
 use update::is_justified;
 use update::is_move;
-use update::keeps_states;
+use update::is_proved;
+use update::known_of;
 use update::legal;
 use update::step;
+use update::unknown;
 ghost use mathlib.Core.Path.{_≡_};
 ghost use mathlib.Core.Bool.{true, false};
 ghost use Prim.Native.Nat.{_≤_};
@@ -62,7 +63,8 @@ pub fn taking(refusal: u64, moved: bool, negotiation: Negotiation) -> Taking
     }
 }
 
-// Each command is judged and carried out before the next is read. What the credentials shown prove and which nodes are satisfied is kept beside.
+// Each command is judged and carried out before the next is read. What the credentials shown prove and which nodes are satisfied is kept beside; what
+// they prove is only lent from here.
 pub fn take_commands(names: Names, sender: u8, start: Negotiation, message: &[u8]) -> Taking
     requires { ⌜ (names .count ≤ 64) × Ascending (names .count) (names .name) × (within (stateOf start) ≡ true) × NodesFormed (nodesOf (start .nodes)) × (length (now message) ≤ 4096) ⌝ }
     ensures taken { λ r. ⌜ takenOf r ≡ commandsFrom (length (now (message .entry))) (namesOf names) sender (now (message .entry)) 0 (stateOf start) false ⌝ }
@@ -70,6 +72,7 @@ pub fn take_commands(names: Names, sender: u8, start: Negotiation, message: &[u8
 {
     let mut n = start;
     let mut moved = false;
+    let mut known = unknown();
     let mut kept = nothing_kept();
     let mut at = 0;
     while at < message.len() {
@@ -77,24 +80,35 @@ pub fn take_commands(names: Names, sender: u8, start: Negotiation, message: &[u8
         let CommandAnswer::Read(c) = a else {
             return taking(refusal_of(a), moved, n);
         };
-        if is_asked(kept.stale, kept.unsettled, c) {
-            let fresh = ready(kept, n, c);
-            kept = fresh;
+        if kept.stale & is_implication(c) {
+            let shown = n.shown;
+            let fresh = known_of(shown);
+            known = fresh;
+            kept.stale = false;
         }
-        let sat = kept.sat;
-        let mut justified = true;
-        if is_edge(c) {
-            justified = is_justified(n, kept.known, sat, c);
-        }
+        let ready = settled(kept, n, c);
+        let proved = is_proved(
+            n,
+            known.pool.count,
+            &known.pool.heads,
+            &known.pool.kinds,
+            &known.pool.numbers,
+            known.rules.words,
+            &known.rules.head,
+            &known.rules.part,
+            &known.rules.first,
+            &known.rules.named,
+            &known.rules.src,
+            &known.deps,
+            &known.rows,
+            c,
+        );
+        let justified = is_justified(n, proved, &ready.sat, c);
         let k = legal(names, sender, n, c, justified);
         if (k != 0) | is_end(c) {
             return taking(k, moved, n);
         }
-        if !kept.unsettled {
-            let nodes = n.nodes;
-            kept.unsettled = !keeps_states(nodes, sat, c);
-        }
-        kept.stale = kept.stale | is_credential(c);
+        kept = carried(ready, n, c);
         let next = step(n, sender, c);
         n = next;
         moved = moved | is_move(c);

@@ -1,6 +1,5 @@
 // Take a message.
 use negotiation::Negotiation;
-use update::Known;
 
 mod beside;
 mod call;
@@ -18,10 +17,9 @@ pub struct Taking {
     pub negotiation: Negotiation,
 }
 
-// What is kept beside the negotiation while commands arrive: what the credentials shown prove, unless it is stale, and the column of the satisfied
-// nodes, unless it is unsettled.
+// What is kept beside the negotiation while commands arrive: whether what is known is stale, since it does not count all credentials shown, and the
+// column of the satisfied nodes, unless it is unsettled.
 struct Kept {
-    known: Known,
     stale: bool,
     sat: [u8; 128],
     unsettled: bool,

@@ -1,14 +1,12 @@
 -- Edges, by the tests made one after the other. Assumes nothing.
-use Prim.Native.Nat.{ℕ, _≤_, _<_}
+use Prim.Native.Nat.{ℕ, _≤_}
 use mathlib.Core.Path.{_≡_, refl, sym, _∙_, ap}
 use mathlib.Core.Bool.{Bool, true, false, not, _&&_, _||_}
 use mathlib.Core.List.{List}
 use borrow.Author.Tests.{eq-eqb, ne-eqb, not-true, not-false}
 use lib.Dec.{eqb}
-use Rattle.expression.specs.declared.Expression.{Expression}
 use Rattle.rt0.specs.Lists.{any}
 use Rattle.rt0.specs.Decide.{from? as fromOf}
-use Rattle.rt0.specs.Pool.{credentials}
 use Rattle.propagation.specs.Flags.{at, flag}
 use Rattle.propagation.specs.Satisfied.{graph, satisfiedOf}
 use Rattle.graph.specs.declared.Node.{Node}
@@ -29,7 +27,6 @@ use Rattle.damage.specs.Header.{entityOf}
 use Rattle.damage.specs.RecordsLaws.{found-none}
 use Rattle.update.specs.Step.{childOf}
 use Rattle.update.specs.Legal.{formedAs, joinWrong, bringWrong, justifiedBy, justifiedFor}
-use Rattle.update.specs.LegalLaws.{by-implied, by-monitored, by-kind}
 
 -- the satisfied nodes, by the columns of propagation
 pub says-is : (N : Nodes) (E : Edges) (F S : List ℕ) → NodesFormed (nodesOf N) → Joined (nodesOf N) (edgesOf E) F S → (M sat : List ℕ) → Needs (nodesOf N) M
@@ -37,19 +34,6 @@ pub says-is : (N : Nodes) (E : Edges) (F S : List ℕ) → NodesFormed (nodesOf 
 says-is N E F S nf jn M sat nd h = record { says = satisfied-read N E F S nf jn sat nd h }
 
 -- Justification
-
-module _ (n : Negotiation) (k p : ℕ) (y : Expression) (b : ℕ) (P : Node) (pe : P ≡ nodeIn (nodesOf (n .nodes)) p) where
-  pub for-implied : {r : Bool} → k ≡ 1 → r ≡ fromOf (credentials (n .shown)) (P .expression) y → r ≡ justifiedFor (stateOf n) k p y b
-  unfolding justifiedFor stateOf
-  for-implied h e = by-implied k _ _ h (e ∙ ap (λ (x : Node). fromOf (credentials (n .shown)) (x .expression) y) pe)
-
-  pub for-linked : {r : Bool} → k ≡ 4 → r ≡ any (monitors (nodesOf (n .nodes)) (edgesOf (n .edges)) (P .expression) b p) (edgesOf (n .edges)) → r ≡ justifiedFor (stateOf n) k p y b
-  unfolding justifiedFor stateOf
-  for-linked h e = by-monitored k _ _ h (e ∙ ap (λ (x : Node). any (monitors (nodesOf (n .nodes)) (edgesOf (n .edges)) (x .expression) b p) (edgesOf (n .edges))) pe)
-
-  pub for-other : (k ≡ 1 → ⊥) → (k ≡ 4 → ⊥) → true ≡ justifiedFor (stateOf n) k p y b
-  unfolding justifiedFor
-  for-other h g = by-kind k _ _ h g
 
 -- of an edge between old nodes
 pub join-justified : (S : State) (e : Edge) {C : Node} → C ≡ nodeIn (S .nodes) (e .child) → justifiedFor S (e .kind) (e .parent) (C .expression) (C .subject) ≡ justified (S .shown) (S .nodes) (S .edges) e

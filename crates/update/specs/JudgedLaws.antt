@@ -1,76 +1,85 @@
 -- The justification of a command, case by case. Assumes nothing.
-use Prim.Native.Nat.{ℕ, _≤_, _<_}
-use mathlib.Core.Path.{_≡_, refl, sym, _∙_, ap, subst}
+use Prim.Native.Nat.{ℕ, _≤_}
+use native.Mathlib.Omega.{arith}
+use mathlib.Core.Path.{_≡_, refl, sym, _∙_, ap}
 use mathlib.Core.Bool.{Bool, true, false, not, _||_}
 use mathlib.Core.List.{List}
-use Rattle.expression.specs.declared.Expression.{Expression}
-use Rattle.expression.specs.declared.Credential.{Credential}
+use borrow.Author.Tests.{eqb-true}
+use lib.ListN.{List·getD-eq-default}
 use Rattle.rt0.specs.declared.Pool.{Pool}
-use Rattle.rt0.specs.Lists.{false-true}
+use Rattle.rt0.specs.Lists.{any, false-true}
 use Rattle.rt0.specs.Pool.{credentials}
 use Rattle.rt0.specs.Decide.{from? as fromOf}
+use Rattle.closure.specs.declared.Rules.{Rules}
+use Rattle.class.specs.declared.Name.{Name}
 use Rattle.graph.specs.declared.Node.{Node}
 use Rattle.graph.specs.declared.Edge.{Edge}
-use Rattle.graph.specs.Graph.{nodesOf, nodeIn}
-use Rattle.message.specs.declared.Opening.{Opening}
+use Rattle.graph.specs.declared.Nodes.{Nodes}
+use Rattle.graph.specs.Graph.{nodesOf, edgesOf, nodeIn, blank}
+use Rattle.graph.specs.Columns.{nodes-length}
+use Rattle.justification.specs.Justified.{monitors}
 use Rattle.message.specs.declared.NewEdge.{NewEdge}
 use Rattle.message.specs.declared.Command.{Command}
 use Rattle.message.specs.declared.Command.the-variants.{Show, Open, Bring, Join, Mark, End}
 use Rattle.negotiation.specs.declared.Negotiation.{Negotiation}
 use Rattle.negotiation.specs.State.{State, stateOf}
-use Rattle.update.specs.declared.Known.{Known}
-use Rattle.update.specs.Legal.{isAbsent, justifiedFor, justifiedIn}
-use Rattle.update.specs.LegalLaws.{absent-yes, parent-absent, child-absent}
-use Rattle.update.specs.EdgeLaws.{for-implied, join-justified}
-use Rattle.update.specs.Judged.{kindOf, KnownFor, SaysFor, Judges}
+use Rattle.update.specs.declared.Question.{Question}
+use Rattle.update.specs.Legal.{justifiedFor, justifiedIn, legalBy, legalNumber}
+use Rattle.update.specs.LegalLaws.{by-proved, by-monitored}
+use Rattle.update.specs.EdgeLaws.{join-justified}
+use Rattle.update.specs.Judged.{isImplication, isLinking, questionIn, KnownFor, Proves}
 
--- what is known answers for the credentials shown
-pub for-known : (n : Negotiation) (k p : ℕ) (y : Expression) (b : ℕ) (P : Node) {r : Bool} (known : Known) → P ≡ nodeIn (nodesOf (n .nodes)) p → k ≡ 1 → KnownFor k known (n .shown)
-    → r ≡ fromOf (credentials (known .pool)) (P .expression) y → r ≡ justifiedFor (stateOf n) k p y b
-for-known n k p y b P known pe h f e = for-implied n k p y b P pe h (e ∙ ap (λ (C : List Credential). fromOf C (P .expression) y) (f .same h))
+-- past the nodes
+pub node-none : (N : Nodes) (i : ℕ) → N .count ≤ i → blank ≡ nodeIn (nodesOf N) i
+node-none N i l = sym (List·getD-eq-default (nodesOf N) blank (omega (arith, nodes-length N)))
 
-module _ (n : Negotiation) where
-  pub bring-absent : (b : NewEdge) → n .nodes .count ≤ b .parent → Judges (stateOf n) (Bring b) false
-  bring-absent b l = record { judges = λ h. absurd (false-true (sym (ap not (absent-yes n (b .parent) l)) ∙ h)) }
+-- its expression, read from the node
+pub monitored-at : (ns : List Node) (es : List Edge) (p b : ℕ) {P : Node} {r : Bool} → P ≡ nodeIn ns p → r ≡ any (monitors ns es (P .expression) b p) es → r ≡ any (monitors ns es (nodeIn ns p .expression) b p) es
+monitored-at ns es p b pe e = e ∙ ap (λ (x : Node). any (monitors ns es (x .expression) b p) es) pe
 
-  pub bring-judged : (b : NewEdge) {r : Bool} → r ≡ justifiedFor (stateOf n) (b .kind) (b .parent) (b .expression) (b .subject) → Judges (stateOf n) (Bring b) r
-  unfolding justifiedIn
-  bring-judged b e = record { judges = λ h. e }
+-- an implication
+module _ (n : Negotiation) (c : Command) where
+  pub proves-none : (r : Bool) {i : Bool} → i ≡ isImplication c → not i ≡ true → Proves (stateOf n) c r
+  proves-none r ie z = record { proves = λ y. absurd (false-true (ap not (sym (ie ∙ y)) ∙ z)) }
 
-  pub join-no-parent : (e : Edge) → n .nodes .count ≤ e .parent → Judges (stateOf n) (Join e) false
-  join-no-parent e l = record { judges = λ h. absurd (false-true (sym (ap not (parent-absent n (e .parent) (e .child) l)) ∙ h)) }
+  pub proves-asked : (P : Pool) (R : Rules) (rows : List ℕ) {q : Question} {r : Bool} → KnownFor c P R rows (n .shown) → q ≡ questionIn (nodesOf (n .nodes)) c → r ≡ fromOf (credentials P) (q .parent) (q .child) → Proves (stateOf n) c r
+  unfolding stateOf
+  proves-asked P R rows k qe e = record { proves = λ y. e ∙ (λ t. fromOf (k .same y t) (qe t .parent) (qe t .child)) }
 
-  pub join-no-child : (e : Edge) → e .parent < n .nodes .count → n .nodes .count ≤ e .child → Judges (stateOf n) (Join e) false
-  join-no-child e k l = record { judges = λ h. absurd (false-true (sym (ap not (child-absent n (e .parent) (e .child) k l)) ∙ h)) }
+-- a linking implication
+module _ (n : Negotiation) {r : Bool} where
+  pub bring-linked : (b : NewEdge) → isLinking (Bring b) ≡ true
+      → r ≡ any (monitors (nodesOf (n .nodes)) (edgesOf (n .edges)) (nodeIn (nodesOf (n .nodes)) (b .parent) .expression) (b .subject) (b .parent)) (edgesOf (n .edges)) → r ≡ justifiedIn (stateOf n) (Bring b)
+  unfolding justifiedIn justifiedFor stateOf
+  bring-linked b h e = by-monitored (b .kind) _ _ (eqb-true (b .kind) 4 h) e
 
-  pub join-judged : (e : Edge) {C : Node} {r : Bool} → C ≡ nodeIn (nodesOf (n .nodes)) (e .child) → r ≡ justifiedFor (stateOf n) (e .kind) (e .parent) (C .expression) (C .subject) → Judges (stateOf n) (Join e) r
-  unfolding justifiedIn stateOf
-  join-judged e ce h = record { judges = λ k. h ∙ join-justified (stateOf n) e ce }
+  pub join-linked : (e : Edge) {C : Node} → C ≡ nodeIn (nodesOf (n .nodes)) (e .child) → isLinking (Join e) ≡ true
+      → r ≡ any (monitors (nodesOf (n .nodes)) (edgesOf (n .edges)) (nodeIn (nodesOf (n .nodes)) (e .parent) .expression) (C .subject) (e .parent)) (edgesOf (n .edges)) → r ≡ justifiedIn (stateOf n) (Join e)
+  unfolding justifiedIn justifiedFor stateOf
+  join-linked e ce h q = by-monitored (e .kind) _ _ (eqb-true (e .kind) 4 h) q ∙ join-justified (stateOf n) e ce
+
+-- any other command
+plain : (S : State) (c : Command) (p : Bool) → Proves S c p → isLinking c ≡ false → (not (isImplication c) || p) ≡ justifiedIn S c
+unfolding justifiedIn justifiedFor
+plain S (Show c) p h z = refl
+plain S (Open o) p h z = refl
+plain S (Bring b) p h z = by-proved (b .kind) _ _ z (h .proves)
+plain S (Join e) p h z = by-proved (e .kind) _ _ z (h .proves) ∙ join-justified S e refl
+plain S (Mark i) p h z = refl
+plain S End p h z = refl
+
+pub plain-justified : (S : State) (c : Command) (p : Bool) {l i : Bool} → Proves S c p → l ≡ isLinking c → l ≡ false → i ≡ isImplication c → (not i || p) ≡ justifiedIn S c
+plain-justified S c p h le z ie = ap (λ (b : Bool). not b || p) ie ∙ plain S c p h (sym le ∙ z)
+
+-- a command that is judged with its justification
+pub legal-judged : (ns : List Name) (s : ℕ) (S : State) (c : Command) {j : Bool} {r : ℕ} → j ≡ justifiedIn S c → r ≡ legalBy ns s S c j → r ≡ legalNumber ns s S c
+unfolding legalNumber
+legal-judged ns s S c je e = e ∙ ap (legalBy ns s S c) je
 
 -- One of the commands
 
-pub judges-for : (S : State) (c k : Command) {r : Bool} → c ≡ k → Judges S k r → Judges S c r
-judges-for S c k {r} h j = subst (λ (d : Command). Judges S d r) (sym h) j
+pub justified-for : (S : State) (c k : Command) {r : Bool} → c ≡ k → r ≡ justifiedIn S k → r ≡ justifiedIn S c
+justified-for S c k h e = e ∙ ap (justifiedIn S) (sym h)
 
-pub known-for : (c k : Command) (known : Known) (pool : Pool) → c ≡ k → KnownFor (kindOf c) known pool → KnownFor (kindOf k) known pool
-known-for c k known pool h f = subst (λ (d : Command). KnownFor (kindOf d) known pool) h f
-
-pub says-for : (c k : Command) (ns : List Node) (es : List Edge) (sat : List ℕ) → c ≡ k → SaysFor (kindOf c) ns es sat → SaysFor (kindOf k) ns es sat
-says-for c k ns es sat h f = subst (λ (d : Command). SaysFor (kindOf d) ns es sat) h f
-
-module _ (S : State) where
-  pub show-judged : (c : Credential) → Judges S (Show c) true
-  unfolding justifiedIn
-  show-judged c = record { judges = λ h. refl }
-
-  pub open-judged : (o : Opening) → Judges S (Open o) true
-  unfolding justifiedIn
-  open-judged o = record { judges = λ h. refl }
-
-  pub mark-judged : (i : ℕ) → Judges S (Mark i) true
-  unfolding justifiedIn
-  mark-judged i = record { judges = λ h. refl }
-
-  pub end-judged : Judges S End true
-  unfolding justifiedIn
-  end-judged = record { judges = λ h. refl }
+pub question-for : (ns : List Node) (c k : Command) {r : Question} → c ≡ k → r ≡ questionIn ns k → r ≡ questionIn ns c
+question-for ns c k h e = e ∙ ap (questionIn ns) (sym h)

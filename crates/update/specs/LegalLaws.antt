@@ -101,19 +101,19 @@ and-true : (b : Bool) → b ≡ (b && true)
 and-true true = refl
 and-true false = refl
 
-module _ (k : ℕ) (i m : Bool) {r : Bool} where
-  pub by-implied : k ≡ 1 → r ≡ i → r ≡ justifiedBy k i m
-  unfolding justifiedBy
-  by-implied h e = e ∙ and-true i ∙ ap (λ (n : ℕ). (not (eqb n 1) || i) && (not (eqb n 4) || m)) (sym h)
+same-where : (x p i : Bool) → (x ≡ true → p ≡ i) → (not x || p) ≡ (not x || i)
+same-where true p i h = h refl
+same-where false p i h = refl
 
-  pub by-monitored : k ≡ 4 → r ≡ m → r ≡ justifiedBy k i m
+module _ (k : ℕ) (i m : Bool) where
+  -- a linking implication, and any other
+  pub by-monitored : {r : Bool} → k ≡ 4 → r ≡ m → r ≡ justifiedBy k i m
   unfolding justifiedBy
   by-monitored h e = e ∙ ap (λ (n : ℕ). (not (eqb n 1) || i) && (not (eqb n 4) || m)) (sym h)
 
-module _ (k : ℕ) (i m : Bool) where
-  pub by-kind : (k ≡ 1 → ⊥) → (k ≡ 4 → ⊥) → true ≡ justifiedBy k i m
+  pub by-proved : {p : Bool} → eqb k 4 ≡ false → (eqb k 1 ≡ true → p ≡ i) → (not (eqb k 1) || p) ≡ justifiedBy k i m
   unfolding justifiedBy
-  by-kind h g = sym (λ t. (not (ne-eqb k 1 h t) || i) && (not (ne-eqb k 4 g t) || m))
+  by-proved {p} h e = same-where (eqb k 1) p i e ∙ and-true (not (eqb k 1) || i) ∙ ap (λ (b : Bool). (not (eqb k 1) || i) && (not b || m)) (sym h)
 
 -- One of the commands
 

@@ -1,6 +1,7 @@
 // Which commands are legal, and what they lead to.
 use class::Names;
 use closure::Rules;
+use expression::Expression;
 use message::Command;
 use negotiation::Negotiation;
 use rt0::Pool;
@@ -21,6 +22,7 @@ mod sides;
 mod steps;
 
 pub use after::after_message;
+pub use asked::is_proved;
 pub use asked::known_of;
 pub use asked::unknown;
 use edges::bring_number;
@@ -60,6 +62,12 @@ pub struct Known {
     pub rules: Rules,
     pub deps: [u64; 260],
     pub rows: [u64; 260],
+}
+
+// What an implication edge asks: whether the parent is from the child.
+struct Question {
+    parent: Expression,
+    child: Expression,
 }
 
 // Why a command of the sender is refused: zero where it is legal. Whether the edge that it adds is justified is given.
