@@ -53,7 +53,7 @@ first-none k rest h = go (eqb k 0) refl h
     go true e g = (eqb-true k 0 e, g)
     go false e g = absurd (eqb-false k 0 e g)
 
-pub module _ (n : Negotiation) where
+module _ (n : Negotiation) where
   pub fresh-yes : n .nodes .count ≡ 0 → isFresh (stateOf n) ≡ true
   unfolding isFresh stateOf
   fresh-yes h = eq-eqb (length (nodesOf (n .nodes))) 0 (nodes-length (n .nodes) ∙ h)
