@@ -3,7 +3,7 @@ use Prim.Native.Nat.{ℕ, zero, suc, _+_, _≤_, _<_}
 use native.Mathlib.Omega.{arith}
 use mathlib.Core.Path.{_≡_, refl, sym, _∙_, ap, subst}
 use mathlib.Core.Bool.{Bool, true, false, not, cond, _||_, or-false, or-assoc}
-use mathlib.Core.List.{List, [], _∷_, _++_}
+use mathlib.Core.List.{List, [], _∷_, _++_, append-nil}
 use borrow.Author.Tests.{eq-eqb, eqb-true, ne-eqb}
 use lib.Dec.{eqb}
 use lib.ListN.{length, getD, drop, length-append, length-drop, take-append-drop}
@@ -109,7 +109,7 @@ module _ (ns : List Name) (s : ℕ) (m : List ℕ) where
     rest-end : (at : ℕ) (S : State) (v : Bool) → commandAt m at ≡ Read End → Legal ns s S End → Rest at S v S v
     rest-end at S v e l =
         let size : length (drop at m) ≤ 1 = omega (arith, length-drop at m, command-end m at e) in
-        record { commands = []; there = sym (take-all 1 (drop at m) size) ∙ command-only m at End bytes e; updates = none; end = l; moves = sym (or-false v) }
+        record { commands = []; there = sym (take-all 1 (drop at m) size) ∙ command-only m at End bytes e ∙ sym (append-nil (commandBytes End)); updates = none; end = l; moves = sym (or-false v) }
 
     -- another command, and those behind it
     rest-next : (at : ℕ) (S : State) (v : Bool) (T : State) (w : Bool) (c : Command) → C.isEnd c ≡ false → commandAt m at ≡ Read c → Legal ns s S c → Rest (at + sizeOf c) (stepped S s c) (v || isMove c) T w → Rest at S v T w
