@@ -3,7 +3,7 @@ use Prim.Native.Nat.{ℕ, _+_, _≤_, _<_}
 use native.Mathlib.Omega.{arith}
 use mathlib.Core.Path.{_≡_, refl, sym, _∙_, ap, subst}
 use mathlib.Core.Bool.{Bool, true, false, not, cond}
-use mathlib.Core.List.{List, [], _∷_, _++_, append-nil, append-assoc}
+use mathlib.Core.List.{List, [], _∷_, _++_, append-nil}
 use borrow.Author.Tests.{eq-eqb, ne-eqb, lt-ltb, not-false, eqb-true, eqb-false}
 use lib.Dec.{eqb}
 use lib.ListN.{length, drop, length-append}
@@ -158,8 +158,7 @@ unfolding afterMessage withHeader within
 after-within S m f e w = ap within e ∙ w
 
 message-end : (cs : List Command) → messageBytes cs ≡ bytesOf cs ++ commandBytes End
-message-end [] = refl
-message-end (c ∷ cs) = ap (λ (l : List ℕ). commandBytes c ++ l) (message-end cs) ∙ sym (append-assoc (commandBytes c) (bytesOf cs) (commandBytes End))
+message-end cs = bytes-append cs (End ∷ []) ∙ ap (λ (l : List ℕ). bytesOf cs ++ l) (append-nil (commandBytes End))
 
 -- written from the start
 pasted-front : (d xs : List ℕ) → pasted d 0 xs ≡ xs ++ drop (length xs) d

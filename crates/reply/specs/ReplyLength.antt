@@ -23,12 +23,11 @@ use Rattle.moves.specs.Rules.{endIn}
 use Rattle.moves.specs.Move.{Move, nextMove}
 use Rattle.moves.specs.Carried.{carried, hasRoomFor}
 use Rattle.reply.specs.Reply.{Replied, stopped, withMove, replyFrom, opening, replyIn, replyBytes}
-use Rattle.reply.specs.Outgoing.{bytes-append}
+use Rattle.reply.specs.Outgoing.{bytes-append, one-length}
 
 -- the commands' bytes, then one for the end
 message-length : (cs : List Command) → length (messageBytes cs) ≡ length (bytesOf cs) + 1
-message-length [] = command-length End
-message-length (c ∷ cs) = omega (arith, length-append (commandBytes c) (messageBytes cs), length-append (commandBytes c) (bytesOf cs), message-length cs)
+message-length cs = omega (arith, ap length (bytes-append cs (End ∷ [])), length-append (bytesOf cs) (bytesOf (End ∷ [])), one-length End)
 
 -- the commands fit before the end byte
 record Fits (cs : List Command) : Type 0 where
