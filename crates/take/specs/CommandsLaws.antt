@@ -58,8 +58,8 @@ pub record Reading (ns : List Name) (s : ℕ) (m : List ℕ) (S₀ : State) (n :
   pub formed : NodesFormed (nodesOf (n .nodes))
 
 module _ (ns : List Name) (s : ℕ) (m : List ℕ) where
-  pub reading-start : (n : Negotiation) → within (stateOf n) ≡ true → NodesFormed (nodesOf (n .nodes)) → Reading ns s m (stateOf n) n 0 false
-  reading-start n w f = record { fuel = length m; enough = omega arith; same = refl; sizes = w; formed = f }
+  pub reading-start : (n : Negotiation) {v : Bool} → v ≡ false → within (stateOf n) ≡ true → NodesFormed (nodesOf (n .nodes)) → Reading ns s m (stateOf n) n 0 v
+  reading-start n e w f = record { fuel = length m; enough = omega arith; same = ap (commandsFrom (length m) ns s m 0 (stateOf n)) (sym e); sizes = w; formed = f }
 
   -- one command
   one : (f at : ℕ) (S : State) (v : Bool) {a : CommandAnswer} → commandAt m at ≡ a → 0 < f → (g : ℕ) × (f ≡ suc g) × (commandsFrom f ns s m at S v ≡ onCommand (λ size T w. commandsFrom g ns s m (at + size) T w) ns s S v a)
@@ -124,16 +124,16 @@ module _ (ns : List Name) (s : ℕ) (m : List ℕ) where
           )
 
           -- the next command
-          pub reading-next : {n′ : Negotiation} {v′ w : Bool} {d : ℕ} → b ≡ false → stateOf n′ ≡ stepped (stateOf n) s c → w ≡ isMove c → v′ ≡ (v || w) → d ≡ sizeOf c → Reading ns s m S₀ n′ (at + d) v′
+          pub reading-next : {n′ : Negotiation} {v′ : Bool} {d : ℕ} → b ≡ false → stateOf n′ ≡ stepped (stateOf n) s c → v′ ≡ (v || isMove c) → d ≡ sizeOf c → Reading ns s m S₀ n′ (at + d) v′
           unfolding stateOf
-          reading-next {n′} {v′} {w} {d} q e we ve de =
+          reading-next {n′} {v′} {d} q e ve de =
               let room : hasRoom (stateOf n) c ≡ true = legal-room (stateOf n) ns s c (sym ke ∙ z) in
               let wide : within (stepped (stateOf n) s c) ≡ true = step-within (stateOf n) (r .sizes) s c room in
               record {
                 fuel = step-one .0;
                 enough = omega (arith, r .enough, step-one .1, size-some c, de);
                 same = by-end ∙ ap (λ (t : Bool). cond t (taken (stateOf n) v) (commandsFrom (step-one .0) ns s m (at + sizeOf c) (stepped (stateOf n) s c) (v || isMove c))) q
-                    ∙ (λ i. commandsFrom (step-one .0) ns s m (at + sym de i) (sym e i) (v || sym we i)) ∙ ap (commandsFrom (step-one .0) ns s m (at + d) (stateOf n′)) (sym ve);
+                    ∙ (λ i. commandsFrom (step-one .0) ns s m (at + sym de i) (sym e i) (sym ve i));
                 sizes = ap within e ∙ wide;
                 formed = subst (λ (S : State). NodesFormed (S .nodes)) (sym e) (step-formed (stateOf n) s c (r .formed) room (command-formed m at c (sym ae ∙ h)));
               }

@@ -3,17 +3,19 @@
 use crate::Kept;
 use message::Command;
 use negotiation::Negotiation;
+use update::is_implication;
 use update::is_inside;
 use update::is_linking;
+use update::is_move;
 use update::keeps_states;
 use update::satisfied_nodes;
 ghost use mathlib.Core.Path.{_≡_};
-ghost use mathlib.Core.Bool.{true};
+ghost use mathlib.Core.Bool.{true, false};
 ghost use Prim.Native.Nat.{_≤_};
 ghost use Rattle.graph.specs.Graph.{nodesOf, edgesOf};
 ghost use Rattle.states.specs.Brings.{NodesFormed};
 ghost use Rattle.negotiation.specs.State.{stateOf, within};
-ghost use Rattle.take.specs.KeptLaws.{isCredential, Settled, Saying, Carried};
+ghost use Rattle.take.specs.KeptLaws.{isCredential, Settled, Ready, Carried};
 
 // Whether a command shows a credential.
 pub fn is_credential(c: Command) -> bool
@@ -31,29 +33,39 @@ pub fn is_credential(c: Command) -> bool
 
 // Nothing as yet.
 pub fn nothing_kept() -> Kept
-    ensures { λ r. ⌜ (r .stale ≡ true) × (r .unsettled ≡ true) ⌝ }
+    ensures { λ r. ⌜ (r .moved ≡ false) × (r .stale ≡ true) × (r .unsettled ≡ true) ⌝ }
 {
     Kept {
+        moved: false,
         stale: true,
         sat: [0; 128],
         unsettled: true,
     }
 }
 
-// With the satisfied nodes, if the command asks them. Where an edge leads into no node they are found each time: a new node might be satisfied.
-pub fn settled(k: Kept, n: Negotiation, c: Command) -> Kept
+// When a command is judged: what it asks of the credentials shown is known, and the satisfied nodes are found if it asks them. Where an edge leads
+// into no node they are found each time: a new node might be satisfied.
+pub fn ready(k: Kept, n: Negotiation, c: Command) -> Kept
     requires { ⌜ (within (stateOf n) ≡ true) × NodesFormed (nodesOf (n .nodes)) × Settled (k .unsettled) (k .sat) (nodesOf (n .nodes)) (edgesOf (n .edges)) ⌝ }
-    ensures { λ r. ⌜ Saying k n c r ⌝ }
+    ensures { λ r. ⌜ Ready k n c r ⌝ }
 {
+    let stale = k.stale & !is_implication(c);
     if !(k.unsettled & is_linking(c)) {
-        return k;
+        let sat = k.sat;
+        return Kept {
+            moved: k.moved,
+            stale,
+            sat,
+            unsettled: k.unsettled,
+        };
     }
     let nodes = n.nodes;
     let edges = n.edges;
     let sat = satisfied_nodes(nodes, edges);
     let inside = is_inside(nodes, edges);
     Kept {
-        stale: k.stale,
+        moved: k.moved,
+        stale,
         sat,
         unsettled: !inside,
     }
@@ -65,9 +77,11 @@ pub fn carried(k: Kept, n: Negotiation, c: Command) -> Kept
     ensures { λ r. ⌜ Carried k (nodesOf (n .nodes)) c r ⌝ }
 {
     let sat = k.sat;
+    let moved = k.moved | is_move(c);
     let stale = k.stale | is_credential(c);
     if k.unsettled {
         return Kept {
+            moved,
             stale,
             sat,
             unsettled: true,
@@ -76,6 +90,7 @@ pub fn carried(k: Kept, n: Negotiation, c: Command) -> Kept
     let nodes = n.nodes;
     let keeps = keeps_states(nodes, sat, c);
     Kept {
+        moved,
         stale,
         sat,
         unsettled: !keeps,

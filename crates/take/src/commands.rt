@@ -2,7 +2,7 @@
 use crate::Taking;
 use crate::beside::carried;
 use crate::beside::nothing_kept;
-use crate::beside::settled;
+use crate::beside::ready;
 use class::Names;
 use message::Command;
 use message::CommandAnswer;
@@ -11,7 +11,6 @@ use negotiation::Negotiation;
 use reader::command_at;
 use update::is_implication;
 use update::is_justified;
-use update::is_move;
 use update::is_proved;
 use update::known_of;
 use update::legal;
@@ -22,9 +21,11 @@ ghost use mathlib.Core.Bool.{true, false};
 ghost use Prim.Native.Nat.{_≤_};
 ghost use lib.ListN.{length};
 ghost use Rattle.class.specs.Names.{namesOf, Ascending};
-ghost use Rattle.graph.specs.Graph.{nodesOf};
+ghost use Rattle.graph.specs.Graph.{nodesOf, edgesOf};
 ghost use Rattle.states.specs.Brings.{NodesFormed};
 ghost use Rattle.negotiation.specs.State.{stateOf, within};
+ghost use Rattle.update.specs.Legal.{legalNumber};
+ghost use Rattle.update.specs.Judged.{Proves, SaysFor};
 ghost use Rattle.take.specs.Commands.{isEnd, commandsFrom, takenOf};
 ghost use Rattle.take.specs.CommandsLaws.{refusalOf, Room};
 
@@ -63,30 +64,42 @@ pub fn taking(refusal: u64, moved: bool, negotiation: Negotiation) -> Taking
     }
 }
 
-// Each command is judged and carried out before the next is read. What the credentials shown prove and which nodes are satisfied is kept beside; what
-// they prove is only lent from here.
+// Why a command of the sender is refused: zero where it is legal.
+fn judge<'a>(
+    names: Names,
+    sender: u8,
+    n: Negotiation,
+    proved: bool,
+    sat: &'a [u8; 128],
+    c: Command,
+) -> u64
+    requires { ⌜ (names .count ≤ 64) × Ascending (names .count) (names .name) × (within (stateOf n) ≡ true) × Proves (stateOf n) c proved × SaysFor c (nodesOf (n .nodes)) (edgesOf (n .edges)) (now sat) ⌝ }
+    ensures { λ r. ⌜ r ≡ legalNumber (namesOf names) sender (stateOf n) c ⌝ }
+{
+    let justified = is_justified(n, proved, sat, c);
+    legal(names, sender, n, c, justified)
+}
+
+// Each command is judged and carried out before the next is read. What the credentials shown prove and which nodes are satisfied is kept beside: the
+// former stands here alone, and is lent.
 pub fn take_commands(names: Names, sender: u8, start: Negotiation, message: &[u8]) -> Taking
     requires { ⌜ (names .count ≤ 64) × Ascending (names .count) (names .name) × (within (stateOf start) ≡ true) × NodesFormed (nodesOf (start .nodes)) × (length (now message) ≤ 4096) ⌝ }
     ensures taken { λ r. ⌜ takenOf r ≡ commandsFrom (length (now (message .entry))) (namesOf names) sender (now (message .entry)) 0 (stateOf start) false ⌝ }
     ensures sized { λ r. ⌜ Room r ⌝ }
 {
     let mut n = start;
-    let mut moved = false;
     let mut known = unknown();
     let mut kept = nothing_kept();
     let mut at = 0;
     while at < message.len() {
         let a = command_at(message, at);
         let CommandAnswer::Read(c) = a else {
-            return taking(refusal_of(a), moved, n);
+            return taking(refusal_of(a), kept.moved, n);
         };
         if kept.stale & is_implication(c) {
-            let shown = n.shown;
-            let fresh = known_of(shown);
-            known = fresh;
-            kept.stale = false;
+            known = known_of(n);
         }
-        let ready = settled(kept, n, c);
+        let held = ready(kept, n, c);
         let proved = is_proved(
             n,
             known.pool.count,
@@ -103,16 +116,13 @@ pub fn take_commands(names: Names, sender: u8, start: Negotiation, message: &[u8
             &known.rows,
             c,
         );
-        let justified = is_justified(n, proved, &ready.sat, c);
-        let k = legal(names, sender, n, c, justified);
+        let k = judge(names, sender, n, proved, &held.sat, c);
         if (k != 0) | is_end(c) {
-            return taking(k, moved, n);
+            return taking(k, held.moved, n);
         }
-        kept = carried(ready, n, c);
-        let next = step(n, sender, c);
-        n = next;
-        moved = moved | is_move(c);
+        kept = carried(held, n, c);
+        n = step(n, sender, c);
         at += size_of(c);
     }
-    taking(COMMAND, moved, n)
+    taking(COMMAND, kept.moved, n)
 }

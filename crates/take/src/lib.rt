@@ -17,9 +17,10 @@ pub struct Taking {
     pub negotiation: Negotiation,
 }
 
-// What is kept beside the negotiation while commands arrive: whether what is known is stale, since it does not count all credentials shown, and the
-// column of the satisfied nodes, unless it is unsettled.
+// What is kept beside the negotiation while commands arrive: whether an open, an edge or a mark was among them; whether what is known is stale, since
+// it does not count all credentials shown; and the column of the satisfied nodes, unless it is unsettled.
 struct Kept {
+    moved: bool,
     stale: bool,
     sat: [u8; 128],
     unsettled: bool,

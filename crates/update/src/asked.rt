@@ -47,17 +47,19 @@ pub fn unknown() -> Known
     }
 }
 
-pub fn known_of(pool: Pool) -> Known
-    requires { ⌜ pool .count ≤ 128 ⌝ }
+// Of the credentials shown.
+pub fn known_of(n: Negotiation) -> Known
+    requires { ⌜ n .shown .count ≤ 128 ⌝ }
     ensures known { λ r. ⌜ Knows (r .pool) (r .rules) (r .rows) ⌝ }
-    ensures same { λ r. ⌜ r .pool ≡ pool ⌝ }
+    ensures same { λ r. ⌜ r .pool ≡ n .shown ⌝ }
 {
-    let n = pool.count;
-    let rules = rules_of(n, &pool.heads, &pool.kinds, &pool.numbers);
-    let deps = readers(n, &rules.part, &rules.first, &rules.named);
+    let pool = n.shown;
+    let count = pool.count;
+    let rules = rules_of(count, &pool.heads, &pool.kinds, &pool.numbers);
+    let deps = readers(count, &rules.part, &rules.first, &rules.named);
     let on = [1u8; 128];
     let rows = relation(
-        n,
+        count,
         &pool.heads,
         &pool.kinds,
         &pool.numbers,
