@@ -4,4 +4,7 @@ pub mod Ready
 pub mod OwnRules
 pub mod RuleChoice
 pub mod Next
+pub mod Asked
+pub mod Later
 pub mod Exhausted
+pub mod Waits

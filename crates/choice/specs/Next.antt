@@ -3,19 +3,23 @@ use Prim.Native.Nat.{ℕ, zero, suc, _+_, _/_, _%_, _≤_, _<_}
 use native.Mathlib.Omega.{arith}
 use mathlib.Core.Path.{_≡_, refl, sym, _∙_, ap, subst}
 use mathlib.Core.Logic.{⊎-elim}
-use mathlib.Core.Bool.{Bool, true, false, not, cond}
+use mathlib.Core.Bool.{Bool, true, false, not, cond, _&&_}
 use mathlib.Core.List.{List, [], _∷_, _++_, map}
 use borrow.Author.Tests.{eqb-true, eqb-false, eq-eqb, ne-eqb, ltb-true, ltb-false, not-true, not-false}
 use lib.Dec.{eqb, ltb}
 use lib.ListN.{length, getD}
-use Rattle.rt0.specs.Lists.{false-true}
+use Rattle.expression.specs.declared.Raw.{Raw}
+use Rattle.expression.specs.Form.{expressionOf}
+use Rattle.expression.specs.Kinds.{isRoleExpression}
+use Rattle.rt0.specs.Lists.{false-true, and-parts}
 use Rattle.propagation.specs.Flags.{decided}
 use Rattle.graph.specs.declared.Node.{Node}
-use Rattle.graph.specs.Graph.{nodeAt, nodesOf, nodeIn}
+use Rattle.graph.specs.declared.Nodes.{Nodes}
+use Rattle.graph.specs.Graph.{expressionFrom, nodeAt, nodesOf, nodeIn}
 use Rattle.graph.specs.Columns.{node-in}
 use Rattle.tables.specs.Tables.{Tables}
 use Rattle.negotiation.specs.declared.Negotiation.{Negotiation}
-use Rattle.negotiation.specs.State.{stateOf}
+use Rattle.negotiation.specs.State.{State, stateOf}
 use Rattle.update.specs.Step.{processedBy}
 use Rattle.message.specs.declared.Command.{Command}
 use Rattle.message.specs.declared.Command.the-variants.{Show}
@@ -82,9 +86,6 @@ module _ (o : End) where
 unfoldable pub isUnprocessed : ℕ → ℕ → ℕ → Bool
 isUnprocessed s v t = cond (eqb v s) (not (eqb (t % 2) 1)) (not (eqb (t / 2 % 2) 1))
 
-unfoldable pub unprocessedAt : List ℕ → List ℕ → ℕ → ℕ → Bool
-unprocessedAt W S s i = isUnprocessed s (getD W i 0) (getD S i 0)
-
 -- it is open or processed
 open-not : (s : ℕ) (n : Node) → isUnprocessed s (n .verifier) (n .state) ≡ false → processedBy s n ≡ true
 unfolding isUnprocessed processedBy
@@ -134,15 +135,51 @@ pub found-nothing : (o : End) {i : ℕ} → Passed o i → length (o .state .nod
 unfolding nextMove foundMove
 found-nothing o {i} P l = none-from o 0 (o .state .nodes) (λ t q. from-zero o (o .state .nodes) t (P .none t (omega arith)))
 
--- nodes that our side has processed are passed over
-pub passed-skip : (T : Tables) (n : Negotiation) {i r : ℕ} → Passed (endIn T (stateOf n)) i → Skipped (unprocessedAt (n .nodes .verifier) (n .nodes .state) (n .header .side)) i (n .nodes .count) r → Passed (endIn T (stateOf n)) r
-unfolding endIn stateOf unprocessedAt
-passed-skip T n {i} {r} P S =
+-- below q there is nothing to do at role targets
+pub record Resting (T : Tables) (S : State) (q : ℕ) : Type 0 where
+  pub none : (i : ℕ) → i < q → isRoleExpression (nodeIn (S .nodes) i .expression) ≡ true → choiceAt (endIn T S) i (nodeIn (S .nodes) i) ≡ C.Nothing
+
+-- our side has not processed node i, and it is no role target below q
+unfoldable pub openAt : List ℕ → List ℕ → List ℕ → ℕ → ℕ → ℕ → Bool
+openAt K W S s q i = isUnprocessed s (getD W i 0) (getD S i 0) && not (ltb i q && eqb (getD K i 0) 2)
+
+pub open-test : (K W S : List ℕ) (s q i : ℕ) {b : Bool} → b ≡ isUnprocessed s (getD W i 0) (getD S i 0) → (b && not (ltb i q && eqb (getD K i 0) 2)) ≡ openAt K W S s q i
+unfolding openAt
+open-test K W S s q i e = ap (λ (b : Bool). b && not (ltb i q && eqb (getD K i 0) 2)) e
+
+-- an expression of kind 2 is a role
+role-kind : (r : Raw) → r .kind ≡ 2 → isRoleExpression (expressionOf r) ≡ true
+role-kind r h = ap (λ (k : ℕ). isRoleExpression (expressionOf (record { kind = k; count = r .count; n0 = r .n0; n1 = r .n1; n2 = r .n2; n3 = r .n3; n4 = r .n4; n5 = r .n5; n6 = r .n6; n7 = r .n7 }))) h
+
+-- nodes that our side has processed are passed over, and role targets at which there is nothing to do
+pub passed-skip : (T : Tables) (n : Negotiation) {q i r : ℕ} → Resting T (stateOf n) q → Passed (endIn T (stateOf n)) i → Skipped (openAt (n .nodes .kind) (n .nodes .verifier) (n .nodes .state) (n .header .side) q) i (n .nodes .count) r
+    → Passed (endIn T (stateOf n)) r
+unfolding endIn stateOf openAt expressionFrom
+passed-skip T n {q} {i} {r} R P S =
     record { none = λ j l. ⊎-elim (λ y. P .none j (ltb-true j i y)) (λ y. skipped j (ltb-false j i y) l) (decided (ltb j i)) }
   where
-    skipped : (j : ℕ) → i ≤ j → j < r → choiceAt (endIn T (stateOf n)) j (nodeIn (nodesOf (n .nodes)) j) ≡ C.Nothing
+    N : Nodes
+    N = n .nodes
+
+    Idle : ℕ → Type 0
+    Idle j = choiceAt (endIn T (stateOf n)) j (nodeIn (nodesOf N) j) ≡ C.Nothing
+
+    processed : (j : ℕ) → nodeIn (nodesOf N) j ≡ nodeAt N j → isUnprocessed (n .header .side) (getD (N .verifier) j 0) (getD (N .state) j 0) ≡ false → Idle j
+    processed j e h =
+        let p : processedBy (n .header .side) (nodeAt N j) ≡ true = open-not (n .header .side) (nodeAt N j) h in
+        ap (choiceAt (endIn T (stateOf n)) j) e ∙ sym (at-processed T (stateOf n) j (nodeAt N j) {p = true} (sym p) refl refl)
+
+    resting : (j : ℕ) → nodeIn (nodesOf N) j ≡ nodeAt N j → (ltb j q && eqb (getD (N .kind) j 0) 2) ≡ true → Idle j
+    resting j e h =
+        let p = and-parts (ltb j q) (eqb (getD (N .kind) j 0) 2) h in
+        R .none j (ltb-true j q (p .0)) (ap (λ (x : Node). isRoleExpression (x .expression)) e ∙ role-kind _ (eqb-true (getD (N .kind) j 0) 2 (p .1)))
+
+    by-test : (j : ℕ) → nodeIn (nodesOf N) j ≡ nodeAt N j → (a b : Bool) → isUnprocessed (n .header .side) (getD (N .verifier) j 0) (getD (N .state) j 0) ≡ a → (ltb j q && eqb (getD (N .kind) j 0) 2) ≡ b → (a && not b) ≡ false → Idle j
+    by-test j e false b x y h = processed j e x
+    by-test j e true true x y h = resting j e y
+    by-test j e true false x y h = absurd (false-true (sym h))
+
+    skipped : (j : ℕ) → i ≤ j → j < r → Idle j
     skipped j l h =
         let w = S .within in
-        let q : nodeIn (nodesOf (n .nodes)) j ≡ nodeAt (n .nodes) j = node-in (n .nodes) j (omega arith) in
-        let p : processedBy (n .header .side) (nodeAt (n .nodes) j) ≡ true = open-not (n .header .side) (nodeAt (n .nodes) j) (S .none j l h) in
-        ap (choiceAt (endIn T (stateOf n)) j) q ∙ sym (at-processed T (stateOf n) j (nodeAt (n .nodes) j) {p = true} (sym p) refl refl)
+        by-test j (node-in N j (omega arith)) _ _ refl refl (S .none j l h)

@@ -17,9 +17,12 @@ ghost use Rattle.negotiation.specs.State.{stateOf, within};
 ghost use Rattle.moves.specs.Rules.{endIn};
 ghost use Rattle.moves.specs.Move.{nextMove};
 ghost use Rattle.moves.specs.Own.{Prepared, foundMove};
-ghost use Rattle.choice.specs.Next.{isNothing, isUnprocessed, unprocessedAt, Passed};
+ghost use Rattle.choice.specs.Next.{isNothing, isUnprocessed, openAt, Passed, Resting};
 ghost use Rattle.choice.specs.Exhausted.{Exhausted};
 ghost use Rattle.candidates.specs.Skipped.{Skipped};
+
+// The kind of a role.
+const ROLE: u8 = 2;
 
 // Whether there is nothing to do.
 pub fn is_nothing(c: Choice) -> bool
@@ -42,20 +45,37 @@ fn is_unprocessed(side: u8, verifier: u8, state: u8) -> bool
     state / 2 % 2 != 1
 }
 
-// The next node from an index on that our side has not processed, or n.
-fn next_unprocessed<'a>(
-    n: usize,
+// Whether our side has not processed node i, and it is no role target below `rests`.
+fn is_open<'a>(
+    kind: &'a [u8; 128],
     verifier: &'a [u8; 128],
     state: &'a [u8; 128],
     side: u8,
+    rests: usize,
+    i: usize,
+) -> bool
+    requires { ⌜ i < 128 ⌝ }
+    ensures { λ r. ⌜ r ≡ openAt (now (kind .entry)) (now (verifier .entry)) (now (state .entry)) side rests i ⌝ }
+{
+    is_unprocessed(side, verifier[i], state[i]) & !((i < rests) & (kind[i] == ROLE))
+}
+
+// The next such node from an index on, or n.
+fn next_open<'a>(
+    n: usize,
+    kind: &'a [u8; 128],
+    verifier: &'a [u8; 128],
+    state: &'a [u8; 128],
+    side: u8,
+    rests: usize,
     from: usize,
 ) -> usize
     requires { ⌜ (n ≤ 128) × (from ≤ n) ⌝ }
-    ensures { λ r. ⌜ Skipped (unprocessedAt (now (verifier .entry)) (now (state .entry)) side) from n r ⌝ }
+    ensures { λ r. ⌜ Skipped (openAt (now (kind .entry)) (now (verifier .entry)) (now (state .entry)) side rests) from n r ⌝ }
 {
     let mut i = from;
     while i < n {
-        if is_unprocessed(side, verifier[i], state[i]) {
+        if is_open(kind, verifier, state, side, rests, i) {
             return i;
         }
         i += 1;
@@ -63,9 +83,16 @@ fn next_unprocessed<'a>(
     i
 }
 
-// "Nodes are tried by rising number": the first at which there is something to do. The edges of rule (4) of sensitive roles are done below `passed`.
-pub fn next_choice(own: Own, n: Negotiation, states: NodeStates, passed: usize) -> Found
-    requires { ⌜ Prepared own × (within (stateOf n) ≡ true) × (0 < n .nodes .count) × NodesFormed (nodesOf (n .nodes)) × EdgesFormed (nodesOf (n .nodes)) (edgesOf (n .edges)) × Settled (nodesOf (n .nodes)) (edgesOf (n .edges)) (states .satisfied) (states .failed) × Exhausted (tablesOf (own .house)) (stateOf n) passed ⌝ }
+// "Nodes are tried by rising number": the first at which there is something to do. The edges of rule (4) of sensitive roles are done below `passed`, and
+// there is nothing to do at role targets below `rests`.
+pub fn next_choice(
+    own: Own,
+    n: Negotiation,
+    states: NodeStates,
+    passed: usize,
+    rests: usize,
+) -> Found
+    requires { ⌜ Prepared own × (within (stateOf n) ≡ true) × (0 < n .nodes .count) × NodesFormed (nodesOf (n .nodes)) × EdgesFormed (nodesOf (n .nodes)) (edgesOf (n .edges)) × Settled (nodesOf (n .nodes)) (edgesOf (n .edges)) (states .satisfied) (states .failed) × Exhausted (tablesOf (own .house)) (stateOf n) passed × Resting (tablesOf (own .house)) (stateOf n) rests ⌝ }
     ensures found { λ r. ⌜ nextMove (endIn (tablesOf (own .house)) (stateOf n)) ≡ foundMove (endIn (tablesOf (own .house)) (stateOf n)) r ⌝ }
     ensures standing { λ r. ⌜ r .node < n .nodes .count ⌝ }
     ensures idle { λ r. ⌜ Passed (endIn (tablesOf (own .house)) (stateOf n)) (r .node) ⌝ }
@@ -73,7 +100,15 @@ pub fn next_choice(own: Own, n: Negotiation, states: NodeStates, passed: usize) 
     let h = n.header;
     let nodes = n.nodes;
     let count = nodes.count;
-    let mut i = next_unprocessed(count, &nodes.verifier, &nodes.state, h.side, 0);
+    let mut i = next_open(
+        count,
+        &nodes.kind,
+        &nodes.verifier,
+        &nodes.state,
+        h.side,
+        rests,
+        0,
+    );
     while i < count {
         let node = i as u8;
         let x = node_of(nodes, node);
@@ -81,7 +116,15 @@ pub fn next_choice(own: Own, n: Negotiation, states: NodeStates, passed: usize) 
         if !is_nothing(choice) {
             return Found { node, choice };
         }
-        i = next_unprocessed(count, &nodes.verifier, &nodes.state, h.side, i + 1);
+        i = next_open(
+            count,
+            &nodes.kind,
+            &nodes.verifier,
+            &nodes.state,
+            h.side,
+            rests,
+            i + 1,
+        );
     }
     Found {
         node: 0,

@@ -34,7 +34,8 @@ ghost use Rattle.moves.specs.Rules.{endIn, linkRules, verifierRules, ownRules, 
 ghost use Rattle.moves.specs.Move.{choiceAt};
 ghost use Rattle.moves.specs.Own.{Prepared};
 ghost use Rattle.choice.specs.Ready.{Ready};
-ghost use Rattle.choice.specs.Exhausted.{restEdges, Asked, Exhausted};
+ghost use Rattle.choice.specs.Asked.{restEdges, Asked};
+ghost use Rattle.choice.specs.Exhausted.{Exhausted};
 
 const ISSUER_DEF: u8 = 1;
 

@@ -14,54 +14,54 @@ use Rattle.choice.proofs.next.next_choice.Tie as tie
 use Rattle.choice.proofs.next.next_choice.Reads as reads
 use Rattle.choice.proofs.next.next_choice.Lts as lts
 use Rattle.choice.proofs.next.is_nothing.Reads as is-nothing-reads
-use Rattle.choice.proofs.next.next_unprocessed.Reads as next-unprocessed-reads
+use Rattle.choice.proofs.next.next_open.Reads as next-open-reads
 use Rattle.choice.proofs.processing.choice_at.Reads as choice-at-reads
 use Rattle.update.proofs.node_of.Reads as node-of-reads
 
 abbrev Inv-loop : tie.InvT-loop
-Inv-loop own n states passed h nodes count i₀ i = Passed (endIn (tablesOf (own .house)) (stateOf n)) i × (i ≤ nodes .count)
+Inv-loop own n states passed rests h nodes count i₀ i = Passed (endIn (tablesOf (own .house)) (stateOf n)) i × (i ≤ nodes .count)
 
 abbrev μ-loop : tie.MeasureT-loop
-μ-loop own n states passed h nodes count i₀ i = nodes .count - i
+μ-loop own n states passed rests h nodes count i₀ i = nodes .count - i
 
-next-unprocessed-requires : tie.Need-next-unprocessed-requires Inv-loop μ-loop
-next-unprocessed-requires c κs = (within-few _ (c .before .before .before .before .before .pre .1) .0, omega arith)
+next-open-requires : tie.Need-next-open-requires Inv-loop μ-loop
+next-open-requires c κs = (within-few _ (c .before .before .before .before .before .before .pre .1) .0, omega arith)
 
 loop-holds : tie.Need-loop-holds Inv-loop μ-loop
-loop-holds c = let s = c .before .before .before .before .before .before in (passed-skip (tablesOf (s .args .own .house)) (s .args .n) (passed-start _) (c .next-unprocessed .ensures), c .next-unprocessed .ensures .within)
+loop-holds c = let s = c .before .before .before .before .before .before .before in (passed-skip (tablesOf (s .args .own .house)) (s .args .n) (s .pre .7) (passed-start _) (c .next-open .ensures), c .next-open .ensures .within)
 
 cast-node : tie.Need-cast-node Inv-loop μ-loop
-cast-node c = omega (arith, c .loop-test .taken, within-few _ (c .before .before .before .before .before .before .before .before .pre .1) .0)
+cast-node c = omega (arith, c .loop-test .taken, within-few _ (c .before .before .before .before .before .before .before .before .before .pre .1) .0)
 
 node-of-requires : tie.Need-node-of-requires Inv-loop μ-loop
-node-of-requires c κs = (c .loop-test .taken, within-few _ (c .before .before .before .before .before .before .before .before .pre .1) .0)
+node-of-requires c κs = (c .loop-test .taken, within-few _ (c .before .before .before .before .before .before .before .before .before .pre .1) .0)
 
 choice-at-requires : tie.Need-choice-at-requires Inv-loop μ-loop
-choice-at-requires c κs = let s = c .before .before .before .before .before .before .before .before .before in (ready-of (s .pre .0) (s .pre .1) (s .pre .4) (s .pre .5), c .before .loop-test .taken, s .pre .6, c .node-of .ensures)
+choice-at-requires c κs = let s = c .before .before .before .before .before .before .before .before .before .before in (ready-of (s .pre .0) (s .pre .1) (s .pre .4) (s .pre .5), c .before .loop-test .taken, s .pre .6, c .node-of .ensures)
 
 is-nothing-requires : tie.Need-is-nothing-requires Inv-loop μ-loop
 is-nothing-requires c κs = search needs
 
 returns : tie.Need-returns Inv-loop μ-loop
 unfolding endIn stateOf
-returns c = let s = c .before .before .before .before .before .before .before .before .before .before .before .before in (found-here (endIn (tablesOf (s .args .own .house)) (stateOf (s .args .n))) (c .before .before .before .before .before .loop .inv .0) (c .before .before .before .node-of .ensures) (c .before .before .choice-at .ensures) (c .before .is-nothing .ensures) (c .if1 .taken) (omega (arith, nodes-length (s .args .n .nodes), c .before .before .before .before .loop-test .taken)) refl, (c .before .before .before .before .loop-test .taken, c .before .before .before .before .before .loop .inv .0))
+returns c = let s = c .before .before .before .before .before .before .before .before .before .before .before .before .before in (found-here (endIn (tablesOf (s .args .own .house)) (stateOf (s .args .n))) (c .before .before .before .before .before .loop .inv .0) (c .before .before .before .node-of .ensures) (c .before .before .choice-at .ensures) (c .before .is-nothing .ensures) (c .if1 .taken) (omega (arith, nodes-length (s .args .n .nodes), c .before .before .before .before .loop-test .taken)) refl, (c .before .before .before .before .loop-test .taken, c .before .before .before .before .before .loop .inv .0))
 
-add-next-unprocessed : tie.Need-add-next-unprocessed Inv-loop μ-loop
-add-next-unprocessed c = omega (arith, c .before .before .before .before .before .before .before .loop-test .taken, within-few _ (c .before .before .before .before .before .before .before .before .before .before .before .before .before .before .before .pre .1) .0)
+add-next-open : tie.Need-add-next-open Inv-loop μ-loop
+add-next-open c = omega (arith, c .before .before .before .before .before .before .before .before .loop-test .taken, within-few _ (c .before .before .before .before .before .before .before .before .before .before .before .before .before .before .before .before .before .pre .1) .0)
 
-next-unprocessed-requires-2 : tie.Need-next-unprocessed-requires-2 Inv-loop μ-loop
-next-unprocessed-requires-2 c κs = (within-few _ (c .before .before .before .before .before .before .before .before .before .before .before .before .before .before .before .pre .1) .0, omega (arith, c .before .before .before .before .before .before .before .loop-test .taken))
+next-open-requires-2 : tie.Need-next-open-requires-2 Inv-loop μ-loop
+next-open-requires-2 c κs = (within-few _ (c .before .before .before .before .before .before .before .before .before .before .before .before .before .before .before .before .before .pre .1) .0, omega (arith, c .before .before .before .before .before .before .before .before .loop-test .taken))
 
 loop-less : tie.Need-loop-less Inv-loop μ-loop
-loop-less c = let s = c .next-unprocessed2 .ensures in omega (arith, s .from, s .within, c .before .before .before .before .before .before .before .before .loop-test .taken)
+loop-less c = let s = c .next-open2 .ensures in omega (arith, s .from, s .within, c .before .before .before .before .before .before .before .before .before .loop-test .taken)
 
 loop-again : tie.Need-loop-again Inv-loop μ-loop
 unfolding endIn stateOf
-loop-again c = let s = c .before .before .before .before .before .before .before .before .before .before .before .before .before .before .before .before in (passed-skip (tablesOf (s .args .own .house)) (s .args .n) (passed-next (endIn (tablesOf (s .args .own .house)) (stateOf (s .args .n))) (c .before .before .before .before .before .before .before .before .before .loop .inv .0) (c .before .before .before .before .before .before .before .node-of .ensures) (c .before .before .before .before .before .before .choice-at .ensures) (c .before .before .before .before .before .is-nothing .ensures) (c .before .before .before .before .if1 .left)) (c .next-unprocessed2 .ensures), c .next-unprocessed2 .ensures .within)
+loop-again c = let s = c .before .before .before .before .before .before .before .before .before .before .before .before .before .before .before .before .before .before in (passed-skip (tablesOf (s .args .own .house)) (s .args .n) (s .pre .7) (passed-next (endIn (tablesOf (s .args .own .house)) (stateOf (s .args .n))) (c .before .before .before .before .before .before .before .before .before .before .loop .inv .0) (c .before .before .before .before .before .before .before .before .node-of .ensures) (c .before .before .before .before .before .before .before .choice-at .ensures) (c .before .before .before .before .before .before .is-nothing .ensures) (c .before .before .before .before .before .if1 .left)) (c .next-open2 .ensures), c .next-open2 .ensures .within)
 
 returns-2 : tie.Need-returns-2 Inv-loop μ-loop
 unfolding endIn stateOf
-returns-2 c = let s = c .before .before .before .before .before .before .before .before in (found-nothing (endIn (tablesOf (s .args .own .house)) (stateOf (s .args .n))) (c .before .loop .inv .0) (omega (arith, nodes-length (s .args .n .nodes), c .loop-test .left)), (s .pre .2, passed-start (endIn (tablesOf (s .args .own .house)) (stateOf (s .args .n)))))
+returns-2 c = let s = c .before .before .before .before .before .before .before .before .before in (found-nothing (endIn (tablesOf (s .args .own .house)) (stateOf (s .args .n))) (c .before .loop .inv .0) (omega (arith, nodes-length (s .args .n .nodes), c .loop-test .left)), (s .pre .2, passed-start (endIn (tablesOf (s .args .own .house)) (stateOf (s .args .n)))))
 
 pub next-choice-spec : {M : Type 1} → statement M
 next-choice-spec =
@@ -69,15 +69,15 @@ next-choice-spec =
     (tie.spec
     Inv-loop
     μ-loop
-    next-unprocessed-requires
+    next-open-requires
     loop-holds
     cast-node
     node-of-requires
     choice-at-requires
     is-nothing-requires
     returns
-    add-next-unprocessed
-    next-unprocessed-requires-2
+    add-next-open
+    next-open-requires-2
     loop-less
     loop-again
     returns-2)

@@ -2,7 +2,7 @@ use mathlib.Core.Path.{refl, _∙_, ap}
 use Rattle.tables.specs.Tables.{tablesOf}
 use Rattle.negotiation.specs.State.{stateOf}
 use Rattle.candidates.specs.Frontiers.{public-solutions}
-use Rattle.choice.specs.Exhausted.{asked-as}
+use Rattle.choice.specs.Asked.{asked-as}
 use Rattle.choice.specs.RuleChoice.{opponent-as, opponent-entity, opponent-link, opponent-parts, opponent-goal}
 use borrow.Author.Needs.{needs}
 use Rattle.choice.proofs.processing.opponent_rules.Statement.{statement}
