@@ -1,13 +1,13 @@
 -- A sensitive role about us that waits goes on waiting while the satisfied nodes are the same (section 5.4). Assumes nothing.
-use Prim.Native.Nat.{ℕ, _≤_, _<_}
+use Prim.Native.Nat.{ℕ, _+_, _≤_, _<_}
 use native.Mathlib.Omega.{arith}
 use mathlib.Core.Path.{_≡_, refl, sym, _∙_, ap, subst}
-use mathlib.Core.Logic.{_⊎_, ⊎-elim}
+use mathlib.Core.Logic.{_⊎_, inl, inr, ⊎-elim}
 use mathlib.Core.Bool.{Bool, true, false, not, cond, _&&_, _||_}
 use mathlib.Core.List.{List, [], _∷_}
 use borrow.Author.Tests.{eqb-true, eqb-false, lt-ltb, le-ltb, ltb-true}
 use lib.Dec.{eqb, ltb}
-use lib.ListN.{length}
+use lib.ListN.{length, getD}
 use Rattle.expression.specs.declared.Role.{Role}
 use Rattle.expression.specs.declared.Expression.{Expression}
 use Rattle.expression.specs.declared.Expression.the-variants as E
@@ -19,7 +19,7 @@ use Rattle.tables.specs.declared.RoleAnswer.the-variants as A
 use Rattle.tables.specs.Tables.{Tables}
 use Rattle.tables.specs.Lookup.{otherOf}
 use Rattle.tables.specs.Public.{publicOf, hiddenOf}
-use Rattle.propagation.specs.Flags.{at, flag}
+use Rattle.propagation.specs.Flags.{at, flag, decided}
 use Rattle.graph.specs.declared.Node.{Node}
 use Rattle.graph.specs.Graph.{nodeIn}
 use Rattle.graph.specs.Find.{isNode, findNode}
@@ -223,6 +223,33 @@ is-role (E.Role a) h = (a, refl)
 is-role (E.Linked a r) h = absurd (false-true h)
 is-role (E.Intersection p) h = absurd (false-true h)
 is-role (E.Goal r) h = absurd (false-true h)
+
+-- the first n flags of two columns are alike
+pub record SameFlags (sat last : List ℕ) (n : ℕ) : Type 0 where
+  pub same : (j : ℕ) → j < n → getD sat j 0 ≡ getD last j 0
+
+pub flags-start : (sat last : List ℕ) → SameFlags sat last 0
+flags-start sat last = record { same = λ j l. absurd (omega (arith, l)) }
+
+pub flags-next : {sat last : List ℕ} {n : ℕ} → SameFlags sat last n → getD sat n 0 ≡ getD last n 0 → SameFlags sat last (n + 1)
+flags-next {sat} {last} {n} f e = record { same = λ j l. ⊎-elim (λ z. ap (λ (k : ℕ). getD sat k 0) (eqb-true j n z) ∙ (e ∙ sym (ap (λ (k : ℕ). getD last k 0) (eqb-true j n z)))) (λ z. f .same j (omega (arith, l, eqb-false j n z))) (decided (eqb j n)) }
+
+-- q where the columns are alike, or none
+pub record Unchanged (sat last : List ℕ) (n q r : ℕ) : Type 0 where
+  pub rests : (r ≡ 0) ⊎ ((r ≡ q) × SameFlags sat last n)
+
+pub unchanged-none : {sat last : List ℕ} {n q : ℕ} → Unchanged sat last n q 0
+unchanged-none = record { rests = inl refl }
+
+pub unchanged-all : {sat last : List ℕ} {n q m : ℕ} → SameFlags sat last m → n ≤ m → Unchanged sat last n q q
+unchanged-all f l = record { rests = inr (refl, record { same = λ j k. f .same j (omega (arith, k, l)) }) }
+
+pub waits-rests : (T : Tables) (S : State) {sat last : List ℕ} {n q r : ℕ} → n ≡ length (S .nodes) → Waits T S last q → ((j : ℕ) → flag sat j ≡ satisfiedIn S j) → Unchanged sat last n q r → Resting T S r
+waits-rests T S {sat} {last} {n} {q} {r} ne w s c =
+    ⊎-elim
+    (λ e. record { none = λ i l x. absurd (omega (arith, l, e)) })
+    (λ e. subst (Resting T S) (sym (e .0)) (w .rests (λ j l. sym (ap (λ (k : ℕ). eqb k 1) (e .1 .same j (omega (arith, l, ne)))) ∙ s j)))
+    (c .rests)
 
 -- below the node of a move there was nothing to do
 pub waits-carried : (T : Tables) (S : State) (sat : List ℕ) (m : ℕ) → length (S .nodes) ≤ 128 → m ≤ length (S .nodes) → Passed (endIn T S) m → ((j : ℕ) → flag sat j ≡ satisfiedIn S j) → (cs : List Command) → Waits T (carried (S .header .side) S cs) sat m

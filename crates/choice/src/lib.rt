@@ -3,6 +3,8 @@ mod known;
 mod next;
 mod processing;
 mod sensitive;
+mod waiting;
 
 pub use next::is_nothing;
 pub use next::next_choice;
+pub use waiting::resting;
