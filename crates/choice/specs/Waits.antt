@@ -110,7 +110,7 @@ module _ (S R : State) (u : Later S R) (few : length (S .nodes) ≤ 128) (alike 
                   let k : j < length (S .nodes) = omega (arith, moved, l) in
                   let x = u .more .alike j k in
                   let test : isNode (E.Role r) (S .header .side) (S .header .other) (nodeIn (R .nodes) j) ≡ isNode (E.Role r) (S .header .side) (S .header .other) (nodeIn (S .nodes) j) =
-                    λ t. eqb (x .verifier t) (S .header .side) && eqb (x .subject t) (S .header .other) && same (x .expression t) (E.Role r) in
+                  λ t. eqb (x .verifier t) (S .header .side) && eqb (x .subject t) (S .header .other) && same (x .expression t) (E.Role r) in
                   false-true (sym (a .none j k) ∙ (sym test ∙ f .here))
 
           go : (b c : Bool) → ltb (target R r) (length (R .nodes)) ≡ b → satisfiedIn R (target R r) ≡ c → (b && c) ≡ false

@@ -43,46 +43,13 @@ use Rattle.moves.specs.Own.{commandsOf, foundMove}
 use Rattle.moves.specs.Rules.{End, endIn}
 use Rattle.moves.specs.Move.{Move, moveFor, nextMove}
 use Rattle.moves.specs.Carried.{hasRoomFor}
-use Rattle.choice.specs.Next.{isNothing, nothing-is, Passed, passed-start}
-use Rattle.reply.specs.declared.Turn.{Turn}
+use Rattle.choice.specs.Next.{isNothing, nothing-is}
 use Rattle.legality.specs.Going.{Going, going-nodes, going-edges}
 use Rattle.reply.specs.Outgoing.{shows}
-use Rattle.reply.specs.Turns.{stops, goes, byRoom, fitsBehind, behindMove, nextIn, nextOf}
+use Rattle.reply.specs.Turns.{stops, goes, byRoom, fitsBehind, behindMove, nextIn}
 
 pub something : (k : Choice) {b : Bool} → b ≡ isNothing k → b ≡ false → k ≡ K.Nothing → ⊥
 something k e z h = false-true (sym z ∙ e ∙ ap isNothing h)
-
--- What the code answers
-
-module _ (r : Turn) where
-  by-stop : {k : ℕ} → r .stop ≡ k → nextOf r ≡ cond (eqb k 0) (goes (commandsOf (r .outgoing))) (stops (eqb k 2))
-  unfolding nextOf
-  by-stop e = ap (λ (k : ℕ). cond (eqb k 0) (goes (commandsOf (r .outgoing))) (stops (eqb k 2))) e
-
-  pub answer-stops : (r .stop ≡ 0 → ⊥) → nextOf r ≡ stops (eqb (r .stop) 2)
-  unfolding nextOf
-  answer-stops h = ap (λ (b : Bool). cond b (goes (commandsOf (r .outgoing))) (stops (eqb (r .stop) 2))) (ne-eqb (r .stop) 0 h)
-
-  pub answer-goes : r .stop ≡ 0 → nextOf r ≡ goes (commandsOf (r .outgoing))
-  answer-goes e = by-stop e
-
-  -- A move
-
-  module _ (s : ℕ) (S : State) (bytes : ℕ) (m : List Command) {b : Bool} (be : b ≡ hasRoomFor s S m) where
-    -- it would pass a size
-    pub turn-full : not b ≡ true → r .stop ≡ 2 → nextOf r ≡ byRoom m (hasRoomFor s S m) (fitsBehind bytes m)
-    turn-full h e = by-stop e ∙ ap (λ (x : Bool). byRoom m x (fitsBehind bytes m)) (sym (not-true b h) ∙ be)
-
-    module _ (h : not b ≡ false) {k : ℕ} (ke : k ≡ length (bytesOf m)) where
-      by-fit : (f : Bool) → f ≡ fitsBehind bytes m → byRoom m true f ≡ byRoom m (hasRoomFor s S m) (fitsBehind bytes m)
-      by-fit f fe = λ i. byRoom m ((sym (not-false b h) ∙ be) i) (fe i)
-
-      -- it does not fit
-      pub turn-long : 4096 < bytes + k + 1 → r .stop ≡ 1 → nextOf r ≡ byRoom m (hasRoomFor s S m) (fitsBehind bytes m)
-      turn-long l e = by-stop e ∙ by-fit false (sym (lt-leb (bytes + length (bytesOf m) + 1) 4096 (omega (arith, l, ke))))
-
-      pub turn-goes : bytes + k + 1 ≤ 4096 → r .stop ≡ 0 → commandsOf (r .outgoing) ≡ m → nextOf r ≡ byRoom m (hasRoomFor s S m) (fitsBehind bytes m)
-      turn-goes l e q = by-stop e ∙ ap goes q ∙ by-fit true (sym (le-leb (bytes + length (bytesOf m) + 1) 4096 (omega (arith, l, ke))))
 
 -- The primary
 
@@ -127,21 +94,6 @@ going-ready T n g =
     positive : (k : ℕ) → (k ≡ 0 → ⊥) → 0 < k
     positive k h = omega (arith, h)
 
--- The node of a move, or none
-
-pub idle-none : (o : End) {m : ℕ} → m ≡ 0 → Passed o m
-idle-none o e = subst (Passed o) (sym e) (passed-start o)
-
-pub idle-there : (o : End) {k m : ℕ} → (m ≡ 0) ⊎ (m ≡ k) → Passed o k → Passed o m
-idle-there o h P = ⊎-elim (idle-none o) (λ e. subst (Passed o) (sym e) P) h
-
-pub node-stands : {k m n : ℕ} → (m ≡ 0) ⊎ (m ≡ k) → k < n → m ≤ n
-node-stands h l = ⊎-elim (λ e. omega (arith, e)) (λ e. omega (arith, e, l)) h
-
--- no credentials are few
-pub empty-few : (P : Pool) → credentials P ≡ [] → P .count ≤ 128
-empty-few P e = omega (arith, count-length P, ap length e)
-
 -- The next move
 
 -- a move that is one
@@ -158,9 +110,9 @@ commands-some out h = last-some (shows (chosen (out .pool) (out .on))) (out .com
 
 module _ (T : Tables) (n : Negotiation) (bytes : ℕ) {sat failed : List ℕ} (z : Settled (nodesOf (n .nodes)) (edgesOf (n .edges)) sat failed) where
   -- the primary is satisfied
-  pub next-satisfied : (r : Turn) → getD sat 0 0 ≡ 1 → r .stop ≡ 1 → nextOf r ≡ nextIn T (stateOf n) bytes
+  pub next-satisfied : getD sat 0 0 ≡ 1 → nextIn T (stateOf n) bytes ≡ stops false
   unfolding nextIn stateOf
-  next-satisfied r h e = by-stop r e ∙ ap (λ (k : ℕ). cond (eqb k 1) (stops false) (behindMove (stateOf n) bytes (nextMove (endIn T (stateOf n))))) (state-satisfied (nodesOf (n .nodes)) (edgesOf (n .edges)) 0 sat (z .is-sat) h)
+  next-satisfied h = sym (ap (λ (k : ℕ). cond (eqb k 1) (stops false) (behindMove (stateOf n) bytes (nextMove (endIn T (stateOf n))))) (state-satisfied (nodesOf (n .nodes)) (edgesOf (n .edges)) 0 sat (z .is-sat) h))
 
   module _ (g : Going T (stateOf n)) (h : getD sat 0 0 ≡ 1 → ⊥) (f : Found) (fe : nextMove (endIn T (stateOf n)) ≡ foundMove (endIn T (stateOf n)) f) where
     by-move : nextIn T (stateOf n) bytes ≡ behindMove (stateOf n) bytes (foundMove (endIn T (stateOf n)) f)
@@ -168,11 +120,25 @@ module _ (T : Tables) (n : Negotiation) (bytes : ℕ) {sat failed : List ℕ} (z
     by-move = λ i. cond (primary-open T (stateOf n) g sat failed z h i) (stops false) (behindMove (stateOf n) bytes (fe i))
 
     -- no move is left
-    pub next-none : (r : Turn) {b : Bool} → b ≡ isNothing (f .choice) → b ≡ true → r .stop ≡ 1 → nextOf r ≡ nextIn T (stateOf n) bytes
+    pub next-none : {b : Bool} → b ≡ isNothing (f .choice) → b ≡ true → nextIn T (stateOf n) bytes ≡ stops false
     unfolding foundMove
-    next-none r be k e = by-stop r e ∙ sym (by-move ∙ ap (λ (x : Choice). behindMove (stateOf n) bytes (moveFor (endIn T (stateOf n)) (f .node) (nodeIn (endIn T (stateOf n) .state .nodes) (f .node)) x)) (nothing-is (f .choice) (sym be ∙ k)))
+    next-none be k = by-move ∙ ap (λ (x : Choice). behindMove (stateOf n) bytes (moveFor (endIn T (stateOf n)) (f .node) (nodeIn (endIn T (stateOf n) .state .nodes) (f .node)) x)) (nothing-is (f .choice) (sym be ∙ k))
 
-    pub next-move : (r : Turn) (out : Outgoing) → commandsOf out ≡ foundMove (endIn T (stateOf n)) f
-        → nextOf r ≡ byRoom (commandsOf out) (hasRoomFor (n .header .side) (stateOf n) (commandsOf out)) (fitsBehind bytes (commandsOf out)) → nextOf r ≡ nextIn T (stateOf n) bytes
-    unfolding stateOf
-    next-move r out oe e = e ∙ sym (by-move ∙ ap (behindMove (stateOf n) bytes) (sym oe) ∙ some-move (stateOf n) bytes (commandsOf out) (commands-some out))
+    -- a move
+    module _ (out : Outgoing) (oe : commandsOf out ≡ foundMove (endIn T (stateOf n)) f) {b : Bool} (be : b ≡ hasRoomFor (n .header .side) (stateOf n) (commandsOf out)) where
+      by-room : (x y : Bool) → x ≡ hasRoomFor (n .header .side) (stateOf n) (commandsOf out) → y ≡ fitsBehind bytes (commandsOf out) → nextIn T (stateOf n) bytes ≡ byRoom (commandsOf out) x y
+      unfolding stateOf
+      by-room x y xe ye =
+          by-move ∙ (ap (behindMove (stateOf n) bytes) (sym oe) ∙ (some-move (stateOf n) bytes (commandsOf out) (commands-some out) ∙ sym (λ i. byRoom (commandsOf out) (xe i) (ye i))))
+
+      -- it would pass a size
+      pub next-full : not b ≡ true → nextIn T (stateOf n) bytes ≡ stops true
+      next-full k = by-room false (fitsBehind bytes (commandsOf out)) (sym (not-true b k) ∙ be) refl
+
+      module _ (k : not b ≡ false) {m : ℕ} (me : m ≡ length (bytesOf (commandsOf out))) where
+        -- it does not fit
+        pub next-long : 4096 < bytes + m + 1 → nextIn T (stateOf n) bytes ≡ stops false
+        next-long l = by-room true false (sym (not-false b k) ∙ be) (sym (lt-leb (bytes + length (bytesOf (commandsOf out)) + 1) 4096 (omega (arith, l, me))))
+
+        pub next-goes : bytes + m + 1 ≤ 4096 → nextIn T (stateOf n) bytes ≡ goes (commandsOf out)
+        next-goes l = by-room true true (sym (not-false b k) ∙ be) (sym (le-leb (bytes + length (bytesOf (commandsOf out)) + 1) 4096 (omega (arith, l, me))))

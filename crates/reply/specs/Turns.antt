@@ -10,11 +10,9 @@ use Rattle.graph.specs.Propagated.{stateOf as propagated}
 use Rattle.message.specs.declared.Command.{Command}
 use Rattle.negotiation.specs.State.{State}
 use Rattle.take.specs.Message.{bytesOf}
-use Rattle.moves.specs.Own.{commandsOf}
 use Rattle.moves.specs.Rules.{endIn}
 use Rattle.moves.specs.Move.{Move, nextMove}
 use Rattle.moves.specs.Carried.{carried, hasRoomFor}
-use Rattle.reply.specs.declared.Turn.{Turn}
 use Rattle.reply.specs.Reply.{Replied, stopped, withMove, replyFrom}
 use Rattle.reply.specs.Outgoing.{bytes-append}
 
@@ -37,10 +35,6 @@ behindMove S at (c ∷ ms) = byRoom (c ∷ ms) (hasRoomFor (S .header .side) S (
 -- "The reply stops when no move remains, the primary is satisfied, .."
 unfoldable pub nextIn : Tables → State → ℕ → Next
 nextIn T S at = cond (eqb (propagated (S .nodes) (S .edges) 0) 1) (stops false) (behindMove S at (nextMove (endIn T S)))
-
--- what the code's answer is
-unfoldable pub nextOf : Turn → Next
-nextOf r = cond (eqb (r .stop) 0) (goes (commandsOf (r .outgoing))) (stops (eqb (r .stop) 2))
 
 -- a reply behind other commands
 abbrev pub behind : List Command → Replied → Replied

@@ -11,26 +11,26 @@ use lib.Seq.{paste-zero}
 use Rattle.expression.specs.Bytes.{pasted}
 use Rattle.rt0.specs.Lists.{false-true}
 use Rattle.tables.specs.Tables.{Tables}
+use Rattle.graph.specs.Graph.{nodesOf, edgesOf}
 use Rattle.graph.specs.Columns.{nodes-length}
+use Rattle.states.specs.Complete.{Settled}
 use Rattle.graph.specs.Propagated.{stateOf as propagated}
 use Rattle.message.specs.declared.Command.{Command}
 use Rattle.negotiation.specs.declared.Negotiation.{Negotiation}
 use Rattle.negotiation.specs.State.{State, stateOf}
 use Rattle.take.specs.Message.{bytesOf}
-use Rattle.moves.specs.Own.{commandsOf}
 use Rattle.moves.specs.Rules.{endIn}
 use Rattle.moves.specs.Move.{Move, nextMove}
 use Rattle.moves.specs.Carried.{carried, hasRoomFor}
-use Rattle.choice.specs.Next.{Passed}
+use Rattle.choice.specs.Next.{Passed, Resting}
 use Rattle.choice.specs.Exhausted.{Exhausted, exhausted-both, idle-exhausted, exhausted-carried}
-use Rattle.reply.specs.declared.Turn.{Turn}
+use Rattle.choice.specs.Waits.{Waits, Unchanged, waits-rests, waits-carried}
 use Rattle.reply.specs.declared.Replying.{Replying}
 use Rattle.reply.specs.Reply.{Replied, stopped}
 use Rattle.legality.specs.Going.{Going, going-few}
 use Rattle.legality.specs.Kept.{move-going}
 use Rattle.reply.specs.Carry.{paste-length, pasted-behind}
-use Rattle.reply.specs.Turns.{Next, stops, goes, byRoom, fitsBehind, behindMove, nextIn, nextOf, behind, goOn, restFrom, behind-behind, bytes-behind}
-use Rattle.reply.specs.TurnLaws.{answer-stops, answer-goes}
+use Rattle.reply.specs.Turns.{Next, stops, goes, byRoom, fitsBehind, behindMove, nextIn, behind, goOn, restFrom, behind-behind, bytes-behind}
 
 -- the code's answer is this reply, its bytes written from an index on
 pub record Gives (T : Tables) (R : Replied) (from : ℕ) (d₀ : List ℕ) (r : Replying) (d : List ℕ) : Type 0 where
@@ -120,57 +120,69 @@ module _ (T : Tables) (S₀ : State) (from : ℕ) (d₀ : List ℕ) where
     unfolding restFrom
     writing-past l r ne ae fe = ended (let z : left ≡ 0 = omega (arith, l) in ap (λ (k : ℕ). restFrom k T (stateOf n) at) z) r ne ae fe
 
-    module _ (t : Turn) (te : nextOf t ≡ nextIn T (stateOf n) at) (l : 0 < left) where
-      step-one : restFrom left T (stateOf n) at ≡ goOn (λ m. behind m (restFrom (left - 1) T (carried (stateOf n .header .side) (stateOf n) m) (at + length (bytesOf m)))) (stateOf n) (nextOf t)
+    module _ (l : 0 < left) {x : Next} (te : nextIn T (stateOf n) at ≡ x) where
+      step-one : restFrom left T (stateOf n) at ≡ goOn (λ m. behind m (restFrom (left - 1) T (carried (stateOf n .header .side) (stateOf n) m) (at + length (bytesOf m)))) (stateOf n) x
       unfolding restFrom
       step-one =
           let z : left ≡ suc (left - 1) = omega (arith, l) in
           ap (λ (k : ℕ). restFrom k T (stateOf n) at) z
-          ∙ ap (goOn (λ m. behind m (restFrom (left - 1) T (carried (stateOf n .header .side) (stateOf n) m) (at + length (bytesOf m)))) (stateOf n)) (sym te)
+          ∙ ap (goOn (λ m. behind m (restFrom (left - 1) T (carried (stateOf n .header .side) (stateOf n) m) (at + length (bytesOf m)))) (stateOf n)) te
 
-      pub writing-stops : (t .stop ≡ 0 → ⊥) → (r : Replying) → (r .negotiation ≡ n) → (r .at ≡ at) → (r .full ≡ eqb (t .stop) 2) → Gives T (restFrom 4096 T S₀ from) from d₀ r d
-      writing-stops h r ne ae fe =
-          ended (step-one ∙ ap (goOn (λ m. behind m (restFrom (left - 1) T (carried (stateOf n .header .side) (stateOf n) m) (at + length (bytesOf m)))) (stateOf n)) (answer-stops t h)) r ne ae fe
+    pub writing-stops : 0 < left → {b : Bool} → nextIn T (stateOf n) at ≡ stops b → (r : Replying) → (r .negotiation ≡ n) → (r .at ≡ at) → (r .full ≡ b) → Gives T (restFrom 4096 T S₀ from) from d₀ r d
+    writing-stops l te r ne ae fe = ended (step-one l te) r ne ae fe
 
-      module _ (h : t .stop ≡ 0) where
-        pub writing-fits : Fits T (stateOf n) at (commandsOf (t .outgoing))
-        writing-fits = next-fits T (stateOf n) at (commandsOf (t .outgoing)) (sym te ∙ answer-goes t h)
+    module _ (l : 0 < left) {m : List Command} (te : nextIn T (stateOf n) at ≡ goes m) where
+      pub writing-fits : Fits T (stateOf n) at m
+      writing-fits = next-fits T (stateOf n) at m te
 
-        -- what carrying the move asks
-        pub writing-room : (hasRoomFor (n .header .side) (stateOf n) (commandsOf (t .outgoing)) ≡ true) × (at + length (bytesOf (commandsOf (t .outgoing))) ≤ 4096) × (4096 ≤ length d)
-        unfolding stateOf
-        writing-room = (writing-fits .room, omega (arith, writing-fits .most), omega (arith, writing-length, w .long))
+      -- what carrying the move asks
+      pub writing-room : (hasRoomFor (n .header .side) (stateOf n) m ≡ true) × (at + length (bytesOf m) ≤ 4096) × (4096 ≤ length d)
+      unfolding stateOf
+      writing-room = (writing-fits .room, omega (arith, writing-fits .most), omega (arith, writing-length, w .long))
 
-        -- one more move
-        pub writing-next : (n′ : Negotiation) {d′ : List ℕ} {k : ℕ} → stateOf n′ ≡ carried (n .header .side) (stateOf n) (commandsOf (t .outgoing)) → d′ ≡ pasted d at (bytesOf (commandsOf (t .outgoing))) → k ≡ length (bytesOf (commandsOf (t .outgoing)))
-            → Writing T S₀ from d₀ (stateOf n′) (at + k) (left - 1) d′
-        unfolding stateOf
-        writing-next n′ {d′} {k} ne de ke =
-            let m : List Command = commandsOf (t .outgoing) in
-            let f = writing-fits in
-            record {
-              out = w .out ++ m;
-              same =
-                  w .same ∙ ap (behind (w .out)) (step-one ∙ ap (goOn (λ m. behind m (restFrom (left - 1) T (carried (stateOf n .header .side) (stateOf n) m) (at + length (bytesOf m)))) (stateOf n)) (answer-goes t h))
-                  ∙ sym (behind-behind (w .out) m (restFrom (left - 1) T (carried (n .header .side) (stateOf n) m) (at + length (bytesOf m))))
-                  ∙ (λ i. behind (w .out ++ m) (restFrom (left - 1) T (sym ne i) (at + sym ke i)));
-              bytes = de ∙ pasted-behind d₀ d from at (w .out) m (w .bytes) (w .end) (omega (arith, w .end, f .most, w .long));
-              end = omega (arith, w .end, ke, bytes-behind (w .out) m);
-              most = omega (arith, f .most, ke);
-              long = w .long;
-              going =
-                  subst (Going T) (sym (ne ∙ ap (carried (n .header .side) (stateOf n)) (f .next)))
-                  (move-going T (stateOf n) (w .going) (ap (hasRoomFor (n .header .side) (stateOf n)) (sym (f .next)) ∙ f .room));
-            }
+      -- one more move
+      pub writing-next : (n′ : Negotiation) {d′ : List ℕ} {k : ℕ} → stateOf n′ ≡ carried (n .header .side) (stateOf n) m → d′ ≡ pasted d at (bytesOf m) → k ≡ length (bytesOf m)
+          → Writing T S₀ from d₀ (stateOf n′) (at + k) (left - 1) d′
+      unfolding stateOf
+      writing-next n′ {d′} {k} ne de ke =
+          let f = writing-fits in
+          record {
+            out = w .out ++ m;
+            same =
+                w .same ∙ ap (behind (w .out)) (step-one l te)
+                ∙ sym (behind-behind (w .out) m (restFrom (left - 1) T (carried (n .header .side) (stateOf n) m) (at + length (bytesOf m))))
+                ∙ (λ i. behind (w .out ++ m) (restFrom (left - 1) T (sym ne i) (at + sym ke i)));
+            bytes = de ∙ pasted-behind d₀ d from at (w .out) m (w .bytes) (w .end) (omega (arith, w .end, f .most, w .long));
+            end = omega (arith, w .end, ke, bytes-behind (w .out) m);
+            most = omega (arith, f .most, ke);
+            long = w .long;
+            going =
+                subst (Going T) (sym (ne ∙ ap (carried (n .header .side) (stateOf n)) (f .next)))
+                (move-going T (stateOf n) (w .going) (ap (hasRoomFor (n .header .side) (stateOf n)) (sym (f .next)) ∙ f .room));
+          }
 
 -- Rule (4) of sensitive roles
 
 -- below the node of a move nothing was left to do, and what is done stays done
 pub exhausted-next : (T : Tables) (n n′ : Negotiation) (cs : List Command) → Going T (stateOf n) → stateOf n′ ≡ carried (n .header .side) (stateOf n) cs
-    → {p m k r : ℕ} → Exhausted T (stateOf n) p → m ≤ n .nodes .count → Passed (endIn T (stateOf n)) m → k ≡ m → r ≡ cond (ltb p k) k p → Exhausted T (stateOf n′) r
+    → {p m k r : ℕ} → Exhausted T (stateOf n) p → m < n .nodes .count → Passed (endIn T (stateOf n)) m → k ≡ m → r ≡ cond (ltb p k) k p → Exhausted T (stateOf n′) r
 unfolding stateOf
 exhausted-next T n n′ cs g e {p} {m} {k} {r} f l i ke re =
     let q : ℕ = cond (ltb p m) m p in
     let both : Exhausted T (stateOf n) q = exhausted-both T (stateOf n) p m f (idle-exhausted T (stateOf n) m (omega (arith, l, nodes-length (n .nodes))) i) in
     subst (Exhausted T (stateOf n′)) (sym (re ∙ ap (λ (j : ℕ). cond (ltb p j) j p) ke))
     (subst (λ (U : State). Exhausted T U q) (sym e) (exhausted-carried T (stateOf n) q (going-few T (stateOf n) g) both cs))
+
+-- Role targets that wait
+
+-- below the node of a move there was nothing left to do
+pub waits-next : (T : Tables) (n n′ : Negotiation) (cs : List Command) → Going T (stateOf n) → stateOf n′ ≡ carried (n .header .side) (stateOf n) cs
+    → {sat failed : List ℕ} → Settled (nodesOf (n .nodes)) (edgesOf (n .edges)) sat failed → {m k : ℕ} → m < n .nodes .count → Passed (endIn T (stateOf n)) m → k ≡ m → Waits T (stateOf n′) sat k
+unfolding stateOf
+waits-next T n n′ cs g e {sat} z {m} {k} l i ke =
+    subst (Waits T (stateOf n′) sat) (sym ke)
+    (subst (λ (U : State). Waits T U sat m) (sym e) (waits-carried T (stateOf n) sat m (going-few T (stateOf n) g) (omega (arith, l, nodes-length (n .nodes))) i (z .is-sat) cs))
+
+pub waits-now : (T : Tables) (n : Negotiation) {sat failed last : List ℕ} → Settled (nodesOf (n .nodes)) (edgesOf (n .edges)) sat failed → {q r : ℕ} → Waits T (stateOf n) last q → Unchanged sat last (n .nodes .count) q r → Resting T (stateOf n) r
+unfolding stateOf
+waits-now T n z w c = waits-rests T (stateOf n) (sym (nodes-length (n .nodes))) w (z .is-sat) c

@@ -1,50 +1,108 @@
 use native.Mathlib.Omega.{arith}
 use borrow.Author.Needs.{needs}
-use Rattle.reply.specs.Writing.{Writing, writing-start, writing-length, writing-past, writing-stops, writing-room, writing-next, exhausted-next}
-use Rattle.negotiation.specs.State.{stateOf}
 use Rattle.tables.specs.Tables.{tablesOf}
+use Rattle.negotiation.specs.State.{stateOf}
 use Rattle.moves.specs.Own.{commandsOf}
 use Rattle.choice.specs.Exhausted.{Exhausted, exhausted-none}
+use Rattle.choice.specs.Waits.{Waits, waits-none}
+use Rattle.reply.specs.TurnLaws.{going-ready, something, next-satisfied, next-none, next-full, next-long, next-goes}
+use Rattle.reply.specs.Writing.{Writing, writing-start, writing-length, writing-past, writing-stops, writing-room, writing-next, exhausted-next, waits-next, waits-now}
 use Rattle.reply.proofs.turns.reply_from.Statement.{statement}
 use Rattle.reply.proofs.turns.reply_from.Tie as tie
 use Rattle.reply.proofs.turns.reply_from.Reads as reads
 use Rattle.reply.proofs.turns.reply_from.Lts as lts
+use Rattle.choice.proofs.is_nothing.Reads as is-nothing-reads
+use Rattle.choice.proofs.next_choice.Reads as next-choice-reads
+use Rattle.choice.proofs.resting.Reads as resting-reads
 use Rattle.reply.proofs.carry.carry.Reads as carry-reads
+use Rattle.reply.proofs.carry.room_for.Reads as room-for-reads
 use Rattle.reply.proofs.carry.size_of_outgoing.Reads as size-of-outgoing-reads
-use Rattle.word.proofs.wide.Reads as wide-reads
 use Rattle.reply.proofs.turns.larger.Reads as larger-reads
-use Rattle.reply.proofs.turns.next_turn.Reads as next-turn-reads
 use Rattle.reply.proofs.turns.replying.Reads as replying-reads
+use Rattle.sending.proofs.outgoing.Reads as outgoing-reads
+use Rattle.states.proofs.node_states.Reads as node-states-reads
+use Rattle.word.proofs.wide.Reads as wide-reads
 
 abbrev Inv-loop : tie.InvT-loop
-Inv-loop own from s₀ n₀ at₀ left₀ passed₀ s n at left passed = Writing (tablesOf (own .house)) (stateOf n₀) at₀ s₀ (stateOf n) at left s × Exhausted (tablesOf (own .house)) (stateOf n) passed
+Inv-loop own from s₀ n₀ at₀ left₀ passed₀ waiting₀ last₀ s n at left passed waiting last = Writing (tablesOf (own .house)) (stateOf n₀) at₀ s₀ (stateOf n) at left s × Exhausted (tablesOf (own .house)) (stateOf n) passed × Waits (tablesOf (own .house)) (stateOf n) last waiting
 
 abbrev μ-loop : tie.MeasureT-loop
-μ-loop own from s₀ n₀ at₀ left₀ passed₀ s n at left passed = left
+μ-loop own from s₀ n₀ at₀ left₀ passed₀ waiting₀ last₀ s n at left passed waiting last = left
 
 loop-holds : tie.Need-loop-holds Inv-loop μ-loop
-loop-holds c = (writing-start _ _ _ _ (c .before .pre .1) (c .before .pre .2) (c .before .pre .3), exhausted-none _ _)
+loop-holds c = (writing-start _ _ _ _ (c .before .pre .1) (c .before .pre .2) (c .before .pre .3), exhausted-none _ _, waits-none _ _ _)
 
-next-turn-requires : tie.Need-next-turn-requires Inv-loop μ-loop
-next-turn-requires c κs = ((c .before .before .before .pre .0), (c .before .loop .inv .0 .going), omega (arith, (c .before .loop .inv .0 .most)), c .before .loop .inv .1)
+node-states-requires : tie.Need-node-states-requires Inv-loop μ-loop
+node-states-requires c κs = let g = going-ready (tablesOf (c .before .before .before .args .own .house)) (c .before .loop .n) (c .before .loop .inv .0 .going) in (g .1, g .2, g .3, g .4)
+
+array-read-if1 : tie.Need-array-read-if1 Inv-loop μ-loop
+array-read-if1 c = search needs
 
 replying-requires : tie.Need-replying-requires Inv-loop μ-loop
 replying-requires c κs = search needs
 
 same-length : tie.Need-same-length Inv-loop μ-loop
-same-length c = writing-length _ _ _ _ (c .before .before .before .before .before .before .before .loop .n) (c .before .before .before .before .before .before .before .loop .inv .0)
+same-length c = writing-length _ _ _ _ (c .before .before .before .before .before .loop .n) (c .before .before .before .before .before .loop .inv .0)
 
 returns : tie.Need-returns Inv-loop μ-loop
-returns c = writing-stops _ _ _ _ (c .before .before .before .before .before .before .before .loop .n) (c .before .before .before .before .before .before .before .loop .inv .0) (c .before .before .before .before .before .next-turn .result) (c .before .before .before .before .before .next-turn .ensures .0) (c .before .before .before .before .before .before .loop-test .taken) (c .before .before .if1 .taken) (c .replying .result) (c .replying .ensures .1) (c .replying .ensures .2) (c .replying .ensures .3)
+returns c = writing-stops _ _ _ _ (c .before .before .before .before .before .loop .n) (c .before .before .before .before .before .loop .inv .0) (c .before .before .before .before .loop-test .taken) (next-satisfied (tablesOf (c .before .before .before .before .before .before .before .args .own .house)) (c .before .before .before .before .before .loop .n) (c .before .before .before .before .before .loop .at) (c .before .before .before .node-states .ensures) (c .before .if1 .taken)) (c .replying .result) (c .replying .ensures .1) (c .replying .ensures .2) (c .replying .ensures .3)
 
-carry-requires : tie.Need-carry-requires Inv-loop μ-loop
-carry-requires c κs = let w = writing-room _ _ _ _ (c .before .before .before .before .before .before .loop .n) (c .before .before .before .before .before .before .loop .inv .0) (c .before .before .before .before .next-turn .result) (c .before .before .before .before .next-turn .ensures .0) (c .before .before .before .before .before .loop-test .taken) (c .before .if1 .left) in ((c .before .before .before .before .before .before .loop .inv .0 .going .sizes), (c .before .before .before .before .next-turn .ensures .1 .0), w .0, w .1, w .2)
+resting-requires : tie.Need-resting-requires Inv-loop μ-loop
+resting-requires c κs = going-ready (tablesOf (c .before .before .before .before .before .before .before .before .args .own .house)) (c .before .before .before .before .before .before .loop .n) (c .before .before .before .before .before .before .loop .inv .0 .going) .1
+
+next-choice-requires : tie.Need-next-choice-requires Inv-loop μ-loop
+next-choice-requires c κs = let g = going-ready (tablesOf (c .before .before .before .before .before .before .before .before .before .args .own .house)) (c .before .before .before .before .before .before .before .loop .n) (c .before .before .before .before .before .before .before .loop .inv .0 .going) in (c .before .before .before .before .before .before .before .before .before .pre .0, c .before .before .before .before .before .before .before .loop .inv .0 .going .sizes, g .0, g .3, g .4, (c .before .before .before .before .before .node-states .ensures), c .before .before .before .before .before .before .before .loop .inv .1, waits-now (tablesOf (c .before .before .before .before .before .before .before .before .before .args .own .house)) (c .before .before .before .before .before .before .before .loop .n) (c .before .before .before .before .before .node-states .ensures) (c .before .before .before .before .before .before .before .loop .inv .2) (c .resting .ensures))
+
+is-nothing-requires : tie.Need-is-nothing-requires Inv-loop μ-loop
+is-nothing-requires c κs = search needs
+
+replying-requires-2 : tie.Need-replying-requires-2 Inv-loop μ-loop
+replying-requires-2 c κs = search needs
+
+same-length-2 : tie.Need-same-length-2 Inv-loop μ-loop
+same-length-2 c = writing-length _ _ _ _ (c .before .before .before .before .before .before .before .before .before .before .before .loop .n) (c .before .before .before .before .before .before .before .before .before .before .before .loop .inv .0)
+
+returns-2 : tie.Need-returns-2 Inv-loop μ-loop
+returns-2 c = writing-stops _ _ _ _ (c .before .before .before .before .before .before .before .before .before .before .before .loop .n) (c .before .before .before .before .before .before .before .before .before .before .before .loop .inv .0) (c .before .before .before .before .before .before .before .before .before .before .loop-test .taken) (next-none (tablesOf (c .before .before .before .before .before .before .before .before .before .before .before .before .before .args .own .house)) (c .before .before .before .before .before .before .before .before .before .before .before .loop .n) (c .before .before .before .before .before .before .before .before .before .before .before .loop .at) (c .before .before .before .before .before .before .before .before .before .node-states .ensures) (c .before .before .before .before .before .before .before .before .before .before .before .loop .inv .0 .going) (c .before .before .before .before .before .before .before .if1 .left) (c .before .before .before .next-choice .result) (c .before .before .before .next-choice .ensures .0) (c .before .before .is-nothing .ensures) (c .before .if2 .taken)) (c .replying2 .result) (c .replying2 .ensures .1) (c .replying2 .ensures .2) (c .replying2 .ensures .3)
+
+outgoing-requires : tie.Need-outgoing-requires Inv-loop μ-loop
+outgoing-requires c κs = (c .before .before .before .before .before .before .before .before .before .before .before .before .pre .0, c .before .before .before .before .before .before .before .before .before .before .loop .inv .0 .going .sizes, (c .before .before .next-choice .ensures .1 .0), something (c .before .before .next-choice .result .choice) (c .before .is-nothing .ensures) (c .if2 .left))
+
+room-for-requires : tie.Need-room-for-requires Inv-loop μ-loop
+room-for-requires c κs = (c .before .before .before .before .before .before .before .before .before .before .before .loop .inv .0 .going .sizes, (c .outgoing .ensures .1))
+
+replying-requires-3 : tie.Need-replying-requires-3 Inv-loop μ-loop
+replying-requires-3 c κs = search needs
+
+same-length-3 : tie.Need-same-length-3 Inv-loop μ-loop
+same-length-3 c = writing-length _ _ _ _ (c .before .before .before .before .before .before .before .before .before .before .before .before .before .before .loop .n) (c .before .before .before .before .before .before .before .before .before .before .before .before .before .before .loop .inv .0)
+
+returns-3 : tie.Need-returns-3 Inv-loop μ-loop
+returns-3 c = writing-stops _ _ _ _ (c .before .before .before .before .before .before .before .before .before .before .before .before .before .before .loop .n) (c .before .before .before .before .before .before .before .before .before .before .before .before .before .before .loop .inv .0) (c .before .before .before .before .before .before .before .before .before .before .before .before .before .loop-test .taken) (next-full (tablesOf (c .before .before .before .before .before .before .before .before .before .before .before .before .before .before .before .before .args .own .house)) (c .before .before .before .before .before .before .before .before .before .before .before .before .before .before .loop .n) (c .before .before .before .before .before .before .before .before .before .before .before .before .before .before .loop .at) (c .before .before .before .before .before .before .before .before .before .before .before .before .node-states .ensures) (c .before .before .before .before .before .before .before .before .before .before .before .before .before .before .loop .inv .0 .going) (c .before .before .before .before .before .before .before .before .before .before .if1 .left) (c .before .before .before .before .before .before .next-choice .result) (c .before .before .before .before .before .before .next-choice .ensures .0) (c .before .before .before .outgoing .result) (c .before .before .before .outgoing .ensures .0) (c .before .before .room-for .ensures) (c .before .if3 .taken)) (c .replying3 .result) (c .replying3 .ensures .1) (c .replying3 .ensures .2) (c .replying3 .ensures .3)
 
 size-of-outgoing-requires : tie.Need-size-of-outgoing-requires Inv-loop μ-loop
-size-of-outgoing-requires c κs = (c .before .before .before .before .before .before .before .next-turn .ensures .1 .0)
+size-of-outgoing-requires c κs = (c .before .before .outgoing .ensures .1)
+
+add-if4 : tie.Need-add-if4 Inv-loop μ-loop
+add-if4 c = omega (arith, c .size-of-outgoing .ensures .1, c .before .before .before .before .before .before .before .before .before .before .before .before .before .before .loop .inv .0 .most)
+
+add-if4-2 : tie.Need-add-if4-2 Inv-loop μ-loop
+add-if4-2 c = omega (arith, c .size-of-outgoing .ensures .1, c .before .before .before .before .before .before .before .before .before .before .before .before .before .before .loop .inv .0 .most)
+
+replying-requires-4 : tie.Need-replying-requires-4 Inv-loop μ-loop
+replying-requires-4 c κs = search needs
+
+same-length-4 : tie.Need-same-length-4 Inv-loop μ-loop
+same-length-4 c = writing-length _ _ _ _ (c .before .before .before .before .before .before .before .before .before .before .before .before .before .before .before .before .loop .n) (c .before .before .before .before .before .before .before .before .before .before .before .before .before .before .before .before .loop .inv .0)
+
+returns-4 : tie.Need-returns-4 Inv-loop μ-loop
+returns-4 c = writing-stops _ _ _ _ (c .before .before .before .before .before .before .before .before .before .before .before .before .before .before .before .before .loop .n) (c .before .before .before .before .before .before .before .before .before .before .before .before .before .before .before .before .loop .inv .0) (c .before .before .before .before .before .before .before .before .before .before .before .before .before .before .before .loop-test .taken) (next-long (tablesOf (c .before .before .before .before .before .before .before .before .before .before .before .before .before .before .before .before .before .before .args .own .house)) (c .before .before .before .before .before .before .before .before .before .before .before .before .before .before .before .before .loop .n) (c .before .before .before .before .before .before .before .before .before .before .before .before .before .before .before .before .loop .at) (c .before .before .before .before .before .before .before .before .before .before .before .before .before .before .node-states .ensures) (c .before .before .before .before .before .before .before .before .before .before .before .before .before .before .before .before .loop .inv .0 .going) (c .before .before .before .before .before .before .before .before .before .before .before .before .if1 .left) (c .before .before .before .before .before .before .before .before .next-choice .result) (c .before .before .before .before .before .before .before .before .next-choice .ensures .0) (c .before .before .before .before .before .outgoing .result) (c .before .before .before .before .before .outgoing .ensures .0) (c .before .before .before .before .room-for .ensures) (c .before .before .before .if3 .left) (c .before .before .size-of-outgoing .ensures .0) (c .before .if4 .taken)) (c .replying4 .result) (c .replying4 .ensures .1) (c .replying4 .ensures .2) (c .replying4 .ensures .3)
+
+carry-requires : tie.Need-carry-requires Inv-loop μ-loop
+carry-requires c κs = let w = writing-room _ _ _ _ (c .before .before .before .before .before .before .before .before .before .before .before .before .before .before .before .before .loop .n) (c .before .before .before .before .before .before .before .before .before .before .before .before .before .before .before .before .loop .inv .0) (c .before .before .before .before .before .before .before .before .before .before .before .before .before .before .before .loop-test .taken) (next-goes (tablesOf (c .before .before .before .before .before .before .before .before .before .before .before .before .before .before .before .before .before .before .args .own .house)) (c .before .before .before .before .before .before .before .before .before .before .before .before .before .before .before .before .loop .n) (c .before .before .before .before .before .before .before .before .before .before .before .before .before .before .before .before .loop .at) (c .before .before .before .before .before .before .before .before .before .before .before .before .before .before .node-states .ensures) (c .before .before .before .before .before .before .before .before .before .before .before .before .before .before .before .before .loop .inv .0 .going) (c .before .before .before .before .before .before .before .before .before .before .before .before .if1 .left) (c .before .before .before .before .before .before .before .before .next-choice .result) (c .before .before .before .before .before .before .before .before .next-choice .ensures .0) (c .before .before .before .before .before .outgoing .result) (c .before .before .before .before .before .outgoing .ensures .0) (c .before .before .before .before .room-for .ensures) (c .before .before .before .if3 .left) (c .before .before .size-of-outgoing .ensures .0) (c .before .if4 .left)) in (c .before .before .before .before .before .before .before .before .before .before .before .before .before .before .before .before .loop .inv .0 .going .sizes, (c .before .before .before .before .before .outgoing .ensures .1), w .0, w .1, w .2)
 
 add-at : tie.Need-add-at Inv-loop μ-loop
-add-at c = omega (arith, (c .size-of-outgoing .ensures .1), (c .before .before .before .before .before .before .before .before .before .before .loop .inv .0 .most))
+add-at c = omega (arith, c .before .before .before .before .before .size-of-outgoing .ensures .1, c .before .before .before .before .before .before .before .before .before .before .before .before .before .before .before .before .before .before .before .loop .inv .0 .most)
 
 wide-requires : tie.Need-wide-requires Inv-loop μ-loop
 wide-requires c κs = search needs
@@ -53,22 +111,22 @@ larger-requires : tie.Need-larger-requires Inv-loop μ-loop
 larger-requires c κs = search needs
 
 sub-left : tie.Need-sub-left Inv-loop μ-loop
-sub-left c = omega (arith, (c .before .before .before .before .before .before .before .before .before .before .before .loop-test .taken))
+sub-left c = omega (arith, (c .before .before .before .before .before .before .before .before .before .before .before .before .before .before .before .before .before .before .before .before .loop-test .taken))
 
 loop-less : tie.Need-loop-less Inv-loop μ-loop
-loop-less c = omega (arith, (c .before .before .before .before .before .before .before .before .before .before .before .loop-test .taken))
+loop-less c = omega (arith, (c .before .before .before .before .before .before .before .before .before .before .before .before .before .before .before .before .before .before .before .before .loop-test .taken))
 
 loop-again : tie.Need-loop-again Inv-loop μ-loop
-loop-again c = (writing-next _ _ _ _ (c .before .before .before .before .before .before .before .before .before .before .before .before .loop .n) (c .before .before .before .before .before .before .before .before .before .before .before .before .loop .inv .0) (c .before .before .before .before .before .before .before .before .before .before .next-turn .result) (c .before .before .before .before .before .before .before .before .before .before .next-turn .ensures .0) (c .before .before .before .before .before .before .before .before .before .before .before .loop-test .taken) (c .before .before .before .before .before .before .before .if1 .left) (c .before .before .before .before .before .carry .result) (c .before .before .before .before .before .carry .ensures .0) (c .before .before .before .before .before .carry .ensures .1) (c .before .before .size-of-outgoing .ensures .0), exhausted-next (tablesOf (c .before .before .before .before .before .before .before .before .before .before .before .before .before .before .args .own .house)) (c .before .before .before .before .before .before .before .before .before .before .before .before .loop .n) (c .before .before .before .before .before .carry .result) (commandsOf (c .before .before .before .before .before .before .before .before .before .before .next-turn .result .outgoing)) (c .before .before .before .before .before .before .before .before .before .before .before .before .loop .inv .0 .going) (c .before .before .before .before .before .carry .ensures .0) (c .before .before .before .before .before .before .before .before .before .before .before .before .loop .inv .1) (c .before .before .before .before .before .before .before .before .before .before .next-turn .ensures .1 .1 .0) (c .before .before .before .before .before .before .before .before .before .before .next-turn .ensures .1 .1 .1) (c .before .wide .ensures) (c .larger .ensures))
+loop-again c = (writing-next _ _ _ _ (c .before .before .before .before .before .before .before .before .before .before .before .before .before .before .before .before .before .before .before .before .before .loop .n) (c .before .before .before .before .before .before .before .before .before .before .before .before .before .before .before .before .before .before .before .before .before .loop .inv .0) (c .before .before .before .before .before .before .before .before .before .before .before .before .before .before .before .before .before .before .before .before .loop-test .taken) (next-goes (tablesOf (c .before .before .before .before .before .before .before .before .before .before .before .before .before .before .before .before .before .before .before .before .before .before .before .args .own .house)) (c .before .before .before .before .before .before .before .before .before .before .before .before .before .before .before .before .before .before .before .before .before .loop .n) (c .before .before .before .before .before .before .before .before .before .before .before .before .before .before .before .before .before .before .before .before .before .loop .at) (c .before .before .before .before .before .before .before .before .before .before .before .before .before .before .before .before .before .before .before .node-states .ensures) (c .before .before .before .before .before .before .before .before .before .before .before .before .before .before .before .before .before .before .before .before .before .loop .inv .0 .going) (c .before .before .before .before .before .before .before .before .before .before .before .before .before .before .before .before .before .if1 .left) (c .before .before .before .before .before .before .before .before .before .before .before .before .before .next-choice .result) (c .before .before .before .before .before .before .before .before .before .before .before .before .before .next-choice .ensures .0) (c .before .before .before .before .before .before .before .before .before .before .outgoing .result) (c .before .before .before .before .before .before .before .before .before .before .outgoing .ensures .0) (c .before .before .before .before .before .before .before .before .before .room-for .ensures) (c .before .before .before .before .before .before .before .before .if3 .left) (c .before .before .before .before .before .before .before .size-of-outgoing .ensures .0) (c .before .before .before .before .before .before .if4 .left)) (c .before .before .before .before .carry .result) (c .before .before .before .before .carry .ensures .0) (c .before .before .before .before .carry .ensures .1) (c .before .before .before .before .before .before .before .size-of-outgoing .ensures .0), exhausted-next (tablesOf (c .before .before .before .before .before .before .before .before .before .before .before .before .before .before .before .before .before .before .before .before .before .before .before .args .own .house)) (c .before .before .before .before .before .before .before .before .before .before .before .before .before .before .before .before .before .before .before .before .before .loop .n) (c .before .before .before .before .carry .result) (commandsOf (c .before .before .before .before .before .before .before .before .before .before .outgoing .result)) (c .before .before .before .before .before .before .before .before .before .before .before .before .before .before .before .before .before .before .before .before .before .loop .inv .0 .going) (c .before .before .before .before .carry .ensures .0) (c .before .before .before .before .before .before .before .before .before .before .before .before .before .before .before .before .before .before .before .before .before .loop .inv .1) (c .before .before .before .before .before .before .before .before .before .before .before .before .before .next-choice .ensures .1 .0) (c .before .before .before .before .before .before .before .before .before .before .before .before .before .next-choice .ensures .1 .1) (c .before .wide .ensures) (c .larger .ensures), waits-next (tablesOf (c .before .before .before .before .before .before .before .before .before .before .before .before .before .before .before .before .before .before .before .before .before .before .before .args .own .house)) (c .before .before .before .before .before .before .before .before .before .before .before .before .before .before .before .before .before .before .before .before .before .loop .n) (c .before .before .before .before .carry .result) (commandsOf (c .before .before .before .before .before .before .before .before .before .before .outgoing .result)) (c .before .before .before .before .before .before .before .before .before .before .before .before .before .before .before .before .before .before .before .before .before .loop .inv .0 .going) (c .before .before .before .before .carry .ensures .0) (c .before .before .before .before .before .before .before .before .before .before .before .before .before .before .before .before .before .before .before .node-states .ensures) (c .before .before .before .before .before .before .before .before .before .before .before .before .before .next-choice .ensures .1 .0) (c .before .before .before .before .before .before .before .before .before .before .before .before .before .next-choice .ensures .1 .1) (c .before .wide .ensures))
 
-replying-requires-2 : tie.Need-replying-requires-2 Inv-loop μ-loop
-replying-requires-2 c κs = search needs
+replying-requires-5 : tie.Need-replying-requires-5 Inv-loop μ-loop
+replying-requires-5 c κs = search needs
 
-same-length-2 : tie.Need-same-length-2 Inv-loop μ-loop
-same-length-2 c = writing-length _ _ _ _ (c .before .before .loop .n) (c .before .before .loop .inv .0)
+same-length-5 : tie.Need-same-length-5 Inv-loop μ-loop
+same-length-5 c = writing-length _ _ _ _ (c .before .before .loop .n) (c .before .before .loop .inv .0)
 
-returns-2 : tie.Need-returns-2 Inv-loop μ-loop
-returns-2 c = writing-past _ _ _ _ (c .before .before .loop .n) (c .before .before .loop .inv .0) (c .before .loop-test .left) (c .replying2 .result) (c .replying2 .ensures .1) (c .replying2 .ensures .2) (c .replying2 .ensures .3)
+returns-5 : tie.Need-returns-5 Inv-loop μ-loop
+returns-5 c = writing-past _ _ _ _ (c .before .before .loop .n) (c .before .before .loop .inv .0) (c .before .loop-test .left) (c .replying5 .result) (c .replying5 .ensures .1) (c .replying5 .ensures .2) (c .replying5 .ensures .3)
 
 pub reply-from-spec : {M : Type 1} → statement M
 reply-from-spec =
@@ -77,18 +135,35 @@ reply-from-spec =
     Inv-loop
     μ-loop
     loop-holds
-    next-turn-requires
+    node-states-requires
+    array-read-if1
     replying-requires
     same-length
     returns
-    carry-requires
+    resting-requires
+    next-choice-requires
+    is-nothing-requires
+    replying-requires-2
+    same-length-2
+    returns-2
+    outgoing-requires
+    room-for-requires
+    replying-requires-3
+    same-length-3
+    returns-3
     size-of-outgoing-requires
+    add-if4
+    add-if4-2
+    replying-requires-4
+    same-length-4
+    returns-4
+    carry-requires
     add-at
     wide-requires
     larger-requires
     sub-left
     loop-less
     loop-again
-    replying-requires-2
-    same-length-2
-    returns-2)
+    replying-requires-5
+    same-length-5
+    returns-5)
