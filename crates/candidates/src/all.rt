@@ -184,7 +184,7 @@ fn members(pool: Pool, a: Role) -> [u8; 128]
 }
 
 // The next flagged credential from an index on, or m.
-fn next_flagged(m: usize, flags: &[u8; 128], from: usize) -> usize
+pub fn next_flagged(m: usize, flags: &[u8; 128], from: usize) -> usize
     requires { ⌜ (m ≤ 128) × (from ≤ m) ⌝ }
     ensures { λ r. ⌜ Skipped (flag (now (flags .entry))) from m r × (r < m → flag (now (flags .entry)) r ≡ true) ⌝ }
 {

@@ -9,6 +9,7 @@ mod parts;
 mod subject;
 
 pub use all::all_edges;
+pub use all::next_flagged;
 pub use done::better;
 pub use done::or_else;
 pub use frontiers::issuer_edges;

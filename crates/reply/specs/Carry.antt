@@ -1,9 +1,9 @@
 -- A move is written and carried out: first its credentials one by one, then its command. Assumes nothing.
-use Prim.Native.Nat.{ℕ, suc, _+_, _-_, _*_, _≤_, _<_}
+use Prim.Native.Nat.{ℕ, zero, suc, _+_, _-_, _*_, _≤_, _<_}
 use native.Mathlib.Omega.{arith}
 use native.Mathlib.Numerals.{add-one}
 use mathlib.Core.Path.{_≡_, refl, sym, _∙_, ap}
-use mathlib.Core.Bool.{true}
+use mathlib.Core.Bool.{Bool, true, false, cond}
 use mathlib.Core.List.{List, [], _∷_, _++_, append-nil}
 use lib.ListN.{length, length-append}
 use lib.Seq.{paste-zero, length-paste}
@@ -11,8 +11,11 @@ use Rattle.expression.specs.declared.Credential.{Credential}
 use Rattle.expression.specs.Bytes.{pasted}
 use Rattle.expression.specs.Codec.{paste-paste}
 use Rattle.rt0.specs.declared.Pool.{Pool}
+use Rattle.rt0.specs.Pool.{credentialAt}
 use Rattle.rules.specs.Table.{chosenTo, chosen}
 use Rattle.closure.specs.Rules.{el}
+use Rattle.propagation.specs.Flags.{flag}
+use Rattle.candidates.specs.Skipped.{Skipped}
 use Rattle.message.specs.declared.Command.{Command}
 use Rattle.message.specs.Command.{commandBytes, sizeOf}
 use Rattle.negotiation.specs.State.{State, within}
@@ -30,6 +33,15 @@ paste-length d at xs h = length-paste d at xs (length xs) h (omega arith)
 pub pasted-behind : (d e : List ℕ) (at n : ℕ) (a b : List Command) → e ≡ pasted d at (bytesOf a) → n ≡ at + length (bytesOf a) → at + length (bytesOf a) + length (bytesOf b) ≤ length d
     → pasted e n (bytesOf b) ≡ pasted d at (bytesOf (a ++ b))
 pasted-behind d e at n a b ee ne room = (λ i. pasted (ee i) (ne i) (bytesOf b)) ∙ paste-paste d at (bytesOf a) (bytesOf b) room ∙ ap (pasted d at) (sym (bytes-append a b))
+
+-- none from k on is on
+chosen-skip : (P : Pool) (on : List ℕ) (k d : ℕ) → ((j : ℕ) → k ≤ j → j < k + d → flag on j ≡ false) → chosenTo P on (k + d) ≡ chosenTo P on k
+chosen-skip P on k zero h = let z : k + zero ≡ k = omega arith in ap (chosenTo P on) z
+chosen-skip P on k (suc d) h =
+    let z : k + suc d ≡ suc (k + d) = omega arith in
+    ap (chosenTo P on) z
+    ∙ (ap (λ (b : Bool). chosenTo P on (k + d) ++ cond b (credentialAt P (k + d) ∷ []) []) (h (k + d) (omega arith) (omega arith))
+    ∙ (append-nil (chosenTo P on (k + d)) ∙ chosen-skip P on k d (λ j a b. h j a (omega (arith, b)))))
 
 -- the credentials below k are written and shown
 pub record Showing (P : Pool) (on : List ℕ) (S₀ : State) (d₀ : List ℕ) (from : ℕ) (S : State) (d : List ℕ) (at k : ℕ) : Type 0 where
@@ -60,6 +72,21 @@ module _ (P : Pool) (on : List ℕ) (S₀ : State) (d₀ : List ℕ) (from : ℕ
         let z : P .count ≡ k + (P .count - k) = omega (arith, s .inside) in
         let all : length (chosen P on) ≡ length (chosenTo P on k) + length (p .0) = ap (λ (m : ℕ). length (chosenTo P on m)) z ∙ ap length (p .1) ∙ length-append (chosenTo P on k) (p .0) in
         ap length (s .bytes) ∙ paste-length d₀ from (bytesOf (shows (chosenTo P on k))) (omega (arith, s .fits, s .long, all, shows-length (chosen P on), shows-length (chosenTo P on k)))
+
+    -- credentials that are off are passed over
+    pub showing-skip : {r : ℕ} → Skipped (flag on) k (P .count) r → Showing P on S₀ d₀ from S d at r
+    showing-skip {r} q =
+        let z : r ≡ k + (r - k) = omega (arith, q .from) in
+        let same : chosenTo P on k ≡ chosenTo P on r = sym (chosen-skip P on k (r - k) (λ j a b. q .none j a (omega (arith, b, z)))) ∙ sym (ap (chosenTo P on) z) in
+        record {
+          room = s .room;
+          fits = s .fits;
+          long = s .long;
+          inside = q .within;
+          state = s .state ∙ ap (λ (l : List Credential). carried 0 S₀ (shows l)) same;
+          bytes = s .bytes ∙ ap (λ (l : List Credential). pasted d₀ from (bytesOf (shows l))) same;
+          behind = s .behind ∙ ap (λ (l : List Credential). from + length (bytesOf (shows l))) same;
+        }
 
     module _ (l : k < P .count) where
       abbrev before : List Credential

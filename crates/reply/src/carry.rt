@@ -1,4 +1,5 @@
 // A move is written and carried out: first its credentials, then its command.
+use candidates::next_flagged;
 use expression::Credential;
 use message::Command;
 use message::size_of;
@@ -118,13 +119,13 @@ fn show_all(s: &mut [u8], from: usize, start: Negotiation, pool: Pool, on: [u8; 
 {
     let mut n = start;
     let mut at = from;
-    let mut k = 0;
+    let mut k = next_flagged(pool.count, &on, 0);
     while k < pool.count {
         let flag = on[k];
         let next = show_at(s, at, n, pool, flag, k);
         n = next;
         at += SHOW * one_if(flag);
-        k += 1;
+        k = next_flagged(pool.count, &on, k + 1);
     }
     n
 }

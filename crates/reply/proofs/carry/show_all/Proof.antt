@@ -1,12 +1,13 @@
-use Rattle.reply.specs.Carry.{showing-length, Showing, showing-start, showing-end, showing-room, showing-fits, showing-next, showing-inside}
 use Prim.Native.Nat.{_-_}
 use native.Mathlib.Omega.{arith}
 use borrow.Author.Needs.{needs}
 use Rattle.negotiation.specs.State.{stateOf}
+use Rattle.reply.specs.Carry.{showing-length, Showing, showing-start, showing-end, showing-skip, showing-room, showing-fits, showing-next, showing-inside}
 use Rattle.reply.proofs.carry.show_all.Statement.{statement}
 use Rattle.reply.proofs.carry.show_all.Tie as tie
 use Rattle.reply.proofs.carry.show_all.Reads as reads
 use Rattle.reply.proofs.carry.show_all.Lts as lts
+use Rattle.candidates.proofs.next_flagged.Reads as next-flagged-reads
 use Rattle.reply.proofs.carry.one_if.Reads as one-if-reads
 use Rattle.reply.proofs.carry.show_at.Reads as show-at-reads
 
@@ -16,32 +17,38 @@ Inv-loop s₀ from pool on n₀ at₀ k₀ s n at k = Showing pool on (stateOf n
 abbrev μ-loop : tie.MeasureT-loop
 μ-loop s₀ from pool on n₀ at₀ k₀ s n at k = pool .count - k
 
+next-flagged-requires : tie.Need-next-flagged-requires Inv-loop μ-loop
+next-flagged-requires c κs = (c .before .before .pre .0, omega arith)
+
 loop-holds : tie.Need-loop-holds Inv-loop μ-loop
-loop-holds c = showing-start _ _ _ _ _ (c .before .pre .1) (c .before .pre .2) (c .before .pre .3)
+loop-holds c = showing-skip _ _ _ _ _ (showing-start _ _ _ _ _ (c .before .before .before .pre .1) (c .before .before .before .pre .2) (c .before .before .before .pre .3)) (c .next-flagged .ensures .0)
 
 array-read-flag : tie.Need-array-read-flag Inv-loop μ-loop
-array-read-flag c = omega (arith, (c .if1 .taken), (c .before .before .before .before .pre .0))
+array-read-flag c = omega (arith, c .if1 .taken, c .before .before .before .before .before .before .pre .0)
 
 show-at-requires : tie.Need-show-at-requires Inv-loop μ-loop
-show-at-requires c κs = (omega (arith, (c .before .if1 .taken), (c .before .before .before .before .before .pre .0)), showing-room _ _ _ _ _ (c .before .before .before .loop .inv) (c .before .if1 .taken), showing-fits _ _ _ _ _ (c .before .before .before .loop .inv) (c .before .if1 .taken))
+show-at-requires c κs = (omega (arith, c .before .if1 .taken, c .before .before .before .before .before .before .before .pre .0), showing-room _ _ _ _ _ (c .before .before .before .loop .inv) (c .before .if1 .taken), showing-fits _ _ _ _ _ (c .before .before .before .loop .inv) (c .before .if1 .taken))
 
 one-if-requires : tie.Need-one-if-requires Inv-loop μ-loop
 one-if-requires c κs = search needs
 
 mul-at : tie.Need-mul-at Inv-loop μ-loop
-mul-at c = omega (arith, (c .one-if .ensures .1))
+mul-at c = omega (arith, c .one-if .ensures .1)
 
 add-at : tie.Need-add-at Inv-loop μ-loop
 add-at c = omega (arith, showing-inside _ _ _ _ _ (c .before .before .before .before .before .before .before .loop .inv) (c .before .before .before .before .before .if1 .taken) (c .one-if .ensures .0))
 
-add-k : tie.Need-add-k Inv-loop μ-loop
-add-k c = omega (arith, (c .before .before .before .before .before .if1 .taken), (c .before .before .before .before .before .before .before .before .before .pre .0))
+add-next-flagged : tie.Need-add-next-flagged Inv-loop μ-loop
+add-next-flagged c = omega (arith, c .before .before .before .before .before .before .if1 .taken, c .before .before .before .before .before .before .before .before .before .before .before .before .pre .0)
+
+next-flagged-requires-2 : tie.Need-next-flagged-requires-2 Inv-loop μ-loop
+next-flagged-requires-2 c κs = (c .before .before .before .before .before .before .before .before .before .before .before .before .pre .0, omega (arith, c .before .before .before .before .before .before .if1 .taken))
 
 loop-less : tie.Need-loop-less Inv-loop μ-loop
-loop-less c = omega (arith, (c .before .before .before .before .before .if1 .taken))
+loop-less c = let q = c .next-flagged2 .ensures .0 in omega (arith, q .from, q .within, c .before .before .before .before .before .before .before .if1 .taken)
 
 loop-again : tie.Need-loop-again Inv-loop μ-loop
-loop-again c = showing-next _ _ _ _ _ (c .before .before .before .before .before .before .before .loop .inv) (c .before .before .before .before .before .if1 .taken) (c .before .before .before .show-at .ensures .0) (c .before .before .before .show-at .ensures .1) (c .one-if .ensures .0)
+loop-again c = showing-skip _ _ _ _ _ (showing-next _ _ _ _ _ (c .before .before .before .before .before .before .before .before .before .loop .inv) (c .before .before .before .before .before .before .before .if1 .taken) (c .before .before .before .before .before .show-at .ensures .0) (c .before .before .before .before .before .show-at .ensures .1) (c .before .before .one-if .ensures .0)) (c .next-flagged2 .ensures .0)
 
 same-length : tie.Need-same-length Inv-loop μ-loop
 same-length c = showing-length _ _ _ _ _ (c .before .before .loop .inv)
@@ -55,13 +62,15 @@ show-all-spec =
     (tie.spec
     Inv-loop
     μ-loop
+    next-flagged-requires
     loop-holds
     array-read-flag
     show-at-requires
     one-if-requires
     mul-at
     add-at
-    add-k
+    add-next-flagged
+    next-flagged-requires-2
     loop-less
     loop-again
     same-length
