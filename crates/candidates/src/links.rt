@@ -256,7 +256,30 @@ fn any_complete<'a>(
     let m = edges.count;
     let mut j = next_monitor(m, &edges.kind, &edges.parent, i, 0);
     while j < m {
-        if is_complete(nodes, edges, sat, failed, wide(edges.child[j])) {
+        let goal = wide(edges.child[j]);
+        if is_complete(
+            nodes.count,
+            &nodes.kind,
+            &nodes.parts,
+            &nodes.n0,
+            &nodes.n1,
+            &nodes.n2,
+            &nodes.n3,
+            &nodes.n4,
+            &nodes.n5,
+            &nodes.n6,
+            &nodes.n7,
+            &nodes.subject,
+            &nodes.verifier,
+            &nodes.state,
+            m,
+            &edges.kind,
+            &edges.parent,
+            &edges.child,
+            sat,
+            failed,
+            goal,
+        ) {
             return true;
         }
         j = next_monitor(m, &edges.kind, &edges.parent, i, j + 1);

@@ -237,8 +237,24 @@ pub fn links_justified(nodes: Nodes, edges: Edges) -> bool
     requires { ⌜ (nodes .count ≤ 128) × (edges .count ≤ 256) × NodesFormed (nodesOf nodes) × Inside (nodes .count) edges ⌝ }
     ensures { λ r. ⌜ r ≡ inTurn (monitoredIf (nodesOf nodes)) [] (edgesOf edges) ⌝ }
 {
-    let need = needs(nodes);
-    let x = links(nodes, edges);
+    let need = needs(nodes.count, &nodes.kind, &nodes.parts, &nodes.state);
+    let x = links(
+        nodes.count,
+        &nodes.kind,
+        &nodes.parts,
+        &nodes.n0,
+        &nodes.n1,
+        &nodes.n2,
+        &nodes.n3,
+        &nodes.n4,
+        &nodes.n5,
+        &nodes.n6,
+        &nodes.n7,
+        edges.count,
+        &edges.kind,
+        &edges.parent,
+        &edges.child,
+    );
     let mut head = [0u16; 256];
     let mut next = [0u16; 256];
     let mut got = [0u8; 512];

@@ -3,13 +3,12 @@ use crate::EdgeColumns;
 use expression::Parts;
 use expression::Role;
 use expression::same_role;
-use graph::Edges;
-use graph::Nodes;
 use word::wide;
 ghost use mathlib.Core.Path.{_≡_};
 ghost use Prim.Native.Nat.{_≤_, _<_};
 ghost use Rattle.expression.specs.declared.Expression.the-variants as E;
-ghost use Rattle.graph.specs.Graph.{expressionFrom, nodesOf, edgesOf};
+ghost use Rattle.graph.specs.declared.Nodes.{Nodes};
+ghost use Rattle.graph.specs.Graph.{nodesFrom, edgesFrom, expressionFrom, nodesOf, edgesOf};
 ghost use Rattle.states.specs.Brings.{slotIn, slotAs, slotBy, Joined, Needs, Ways};
 ghost use Rattle.states.specs.Fields.{needBy, wayBy};
 
@@ -52,31 +51,34 @@ fn way_of(kind: u8, state: u8) -> u8
     NO_WAY
 }
 
-// What the nodes need.
-pub fn needs(nodes: Nodes) -> [u8; 128]
-    requires { ⌜ nodes .count ≤ 128 ⌝ }
-    ensures { λ r. ⌜ Needs (nodesOf nodes) r ⌝ }
+// What the nodes need, whatever their other columns.
+pub fn needs<'a>(
+    n: usize,
+    kind: &'a [u8; 128],
+    parts: &'a [u8; 128],
+    state: &'a [u8; 128],
+) -> [u8; 128]
+    requires { ⌜ n ≤ 128 ⌝ }
+    ensures { λ r. ⌜ ((o : Nodes) → Needs (nodesOf (nodesFrom n (now (kind .entry)) (now (parts .entry)) (o .n0) (o .n1) (o .n2) (o .n3) (o .n4) (o .n5) (o .n6) (o .n7) (o .subject) (o .verifier) (now (state .entry)))) r) ⌝ }
 {
-    let count = nodes.count;
     let mut r = [NEVER; 128];
     let mut i = 0;
-    while i < count {
-        r[i] = need_of(nodes.kind[i], nodes.parts[i], nodes.state[i]);
+    while i < n {
+        r[i] = need_of(kind[i], parts[i], state[i]);
         i += 1;
     }
     r
 }
 
-// How the nodes fail.
-pub fn ways(nodes: Nodes) -> [u8; 128]
-    requires { ⌜ nodes .count ≤ 128 ⌝ }
-    ensures { λ r. ⌜ Ways (nodesOf nodes) r ⌝ }
+// How the nodes fail, whatever their other columns.
+pub fn ways<'a>(n: usize, kind: &'a [u8; 128], state: &'a [u8; 128]) -> [u8; 128]
+    requires { ⌜ n ≤ 128 ⌝ }
+    ensures { λ r. ⌜ ((o : Nodes) → Ways (nodesOf (nodesFrom n (now (kind .entry)) (o .parts) (o .n0) (o .n1) (o .n2) (o .n3) (o .n4) (o .n5) (o .n6) (o .n7) (o .subject) (o .verifier) (now (state .entry)))) r) ⌝ }
 {
-    let count = nodes.count;
     let mut r = [NO_WAY; 128];
     let mut i = 0;
-    while i < count {
-        r[i] = way_of(nodes.kind[i], nodes.state[i]);
+    while i < n {
+        r[i] = way_of(kind[i], state[i]);
         i += 1;
     }
     r
@@ -199,32 +201,46 @@ fn slot_by<'a>(
     (p as u16) * 4 + s
 }
 
-// The edges as links.
-pub fn links(nodes: Nodes, edges: Edges) -> EdgeColumns
-    requires { ⌜ (nodes .count ≤ 128) × (edges .count ≤ 256) ⌝ }
-    ensures { λ r. ⌜ Joined (nodesOf nodes) (edgesOf edges) (r .from) (r .slot) ⌝ }
+// The edges as links, whatever the nodes' other columns.
+pub fn links<'a>(
+    n: usize,
+    kind: &'a [u8; 128],
+    parts: &'a [u8; 128],
+    n0: &'a [u16; 128],
+    n1: &'a [u16; 128],
+    n2: &'a [u16; 128],
+    n3: &'a [u16; 128],
+    n4: &'a [u16; 128],
+    n5: &'a [u16; 128],
+    n6: &'a [u16; 128],
+    n7: &'a [u16; 128],
+    m: usize,
+    edge: &'a [u8; 256],
+    parent: &'a [u8; 256],
+    child: &'a [u8; 256],
+) -> EdgeColumns
+    requires { ⌜ (n ≤ 128) × (m ≤ 256) ⌝ }
+    ensures { λ r. ⌜ ((o : Nodes) → Joined (nodesOf (nodesFrom n (now (kind .entry)) (now (parts .entry)) (now (n0 .entry)) (now (n1 .entry)) (now (n2 .entry)) (now (n3 .entry)) (now (n4 .entry)) (now (n5 .entry)) (now (n6 .entry)) (now (n7 .entry)) (o .subject) (o .verifier) (o .state))) (edgesOf (edgesFrom m (now (edge .entry)) (now (parent .entry)) (now (child .entry)))) (r .from) (r .slot)) ⌝ }
 {
-    let n = nodes.count;
-    let count = edges.count;
     let mut from = [NODES_MOST; 256];
     let mut slot = [0u16; 256];
     let mut j = 0;
-    while j < count {
-        let c = edges.child[j];
+    while j < m {
+        let c = child[j];
         let s = slot_by(
             n,
-            &nodes.kind,
-            &nodes.parts,
-            &nodes.n0,
-            &nodes.n1,
-            &nodes.n2,
-            &nodes.n3,
-            &nodes.n4,
-            &nodes.n5,
-            &nodes.n6,
-            &nodes.n7,
-            edges.kind[j],
-            edges.parent[j],
+            kind,
+            parts,
+            n0,
+            n1,
+            n2,
+            n3,
+            n4,
+            n5,
+            n6,
+            n7,
+            edge[j],
+            parent[j],
             c,
         );
         if s < NO_SLOT {

@@ -7,7 +7,7 @@ use word::wide;
 ghost use mathlib.Core.Path.{_≡_};
 ghost use Prim.Native.Nat.{_≤_, _<_};
 ghost use Rattle.rt0.specs.Lists.{any};
-ghost use Rattle.graph.specs.Graph.{edgesFrom, edgeAt, nodesOf, edgesOf};
+ghost use Rattle.graph.specs.Graph.{nodesFrom, edgesFrom, edgeAt, nodesOf, edgesOf};
 ghost use Rattle.graph.specs.Propagated.{completeB, stateOf};
 ghost use Rattle.states.specs.Brings.{NodesFormed, EdgesFormed};
 ghost use Rattle.states.specs.Complete.{isOpen, completeBy, Settled};
@@ -89,26 +89,33 @@ fn complete_by(kind: u8, state: u8, any_open: bool) -> bool
 
 // Whether node i is a complete goal.
 pub fn is_complete<'a>(
-    nodes: Nodes,
-    edges: Edges,
+    n: usize,
+    kind: &'a [u8; 128],
+    parts: &'a [u8; 128],
+    n0: &'a [u16; 128],
+    n1: &'a [u16; 128],
+    n2: &'a [u16; 128],
+    n3: &'a [u16; 128],
+    n4: &'a [u16; 128],
+    n5: &'a [u16; 128],
+    n6: &'a [u16; 128],
+    n7: &'a [u16; 128],
+    subject: &'a [u16; 128],
+    verifier: &'a [u8; 128],
+    state: &'a [u8; 128],
+    m: usize,
+    edge: &'a [u8; 256],
+    parent: &'a [u8; 256],
+    child: &'a [u8; 256],
     sat: &'a [u8; 128],
     failed: &'a [u8; 128],
     i: usize,
 ) -> bool
-    requires { ⌜ (i < nodes .count) × (nodes .count ≤ 128) × (edges .count ≤ 256) × Settled (nodesOf nodes) (edgesOf edges) (now sat) (now failed) ⌝ }
-    ensures { λ r. ⌜ r ≡ completeB (nodesOf nodes) (edgesOf edges) i ⌝ }
+    requires { ⌜ (i < n) × (n ≤ 128) × (m ≤ 256) × Settled (nodesOf (nodesFrom n (now kind) (now parts) (now n0) (now n1) (now n2) (now n3) (now n4) (now n5) (now n6) (now n7) (now subject) (now verifier) (now state))) (edgesOf (edgesFrom m (now edge) (now parent) (now child))) (now sat) (now failed) ⌝ }
+    ensures { λ r. ⌜ r ≡ completeB (nodesOf (nodesFrom n (now (kind .entry)) (now (parts .entry)) (now (n0 .entry)) (now (n1 .entry)) (now (n2 .entry)) (now (n3 .entry)) (now (n4 .entry)) (now (n5 .entry)) (now (n6 .entry)) (now (n7 .entry)) (now (subject .entry)) (now (verifier .entry)) (now (state .entry)))) (edgesOf (edgesFrom m (now (edge .entry)) (now (parent .entry)) (now (child .entry)))) i ⌝ }
 {
-    let any_open = has_open(
-        nodes.count,
-        edges.count,
-        &edges.kind,
-        &edges.parent,
-        &edges.child,
-        sat,
-        failed,
-        i,
-    );
-    complete_by(nodes.kind[i], nodes.state[i], any_open)
+    let any_open = has_open(n, m, edge, parent, child, sat, failed, i);
+    complete_by(kind[i], state[i], any_open)
 }
 
 // Which nodes are satisfied, and which have failed.
@@ -117,10 +124,26 @@ pub fn node_states(nodes: Nodes, edges: Edges) -> NodeStates
     ensures { λ r. ⌜ Settled (nodesOf nodes) (edgesOf edges) (r .satisfied) (r .failed) ⌝ }
 {
     let m = edges.count;
-    let need = needs(nodes);
-    let e = links(nodes, edges);
+    let need = needs(nodes.count, &nodes.kind, &nodes.parts, &nodes.state);
+    let e = links(
+        nodes.count,
+        &nodes.kind,
+        &nodes.parts,
+        &nodes.n0,
+        &nodes.n1,
+        &nodes.n2,
+        &nodes.n3,
+        &nodes.n4,
+        &nodes.n5,
+        &nodes.n6,
+        &nodes.n7,
+        m,
+        &edges.kind,
+        &edges.parent,
+        &edges.child,
+    );
     let sat = satisfied(nodes.count, m, &e.from, &e.slot, &need);
-    let way = ways(nodes);
+    let way = ways(nodes.count, &nodes.kind, &nodes.state);
     let fail = failed(nodes.count, m, &e.from, &e.slot, &way);
     NodeStates {
         satisfied: sat,
@@ -134,15 +157,53 @@ pub fn state_of(nodes: Nodes, edges: Edges, i: usize) -> u8
     ensures { λ r. ⌜ r ≡ stateOf (nodesOf nodes) (edgesOf edges) i ⌝ }
 {
     let m = edges.count;
-    let need = needs(nodes);
-    let e = links(nodes, edges);
+    let need = needs(nodes.count, &nodes.kind, &nodes.parts, &nodes.state);
+    let e = links(
+        nodes.count,
+        &nodes.kind,
+        &nodes.parts,
+        &nodes.n0,
+        &nodes.n1,
+        &nodes.n2,
+        &nodes.n3,
+        &nodes.n4,
+        &nodes.n5,
+        &nodes.n6,
+        &nodes.n7,
+        m,
+        &edges.kind,
+        &edges.parent,
+        &edges.child,
+    );
     let sat = satisfied(nodes.count, m, &e.from, &e.slot, &need);
     if sat[i] == 1 {
         return 1;
     }
-    let way = ways(nodes);
+    let way = ways(nodes.count, &nodes.kind, &nodes.state);
     let fail = failed(nodes.count, m, &e.from, &e.slot, &way);
-    if is_complete(nodes, edges, &sat, &fail, i) {
+    if is_complete(
+        nodes.count,
+        &nodes.kind,
+        &nodes.parts,
+        &nodes.n0,
+        &nodes.n1,
+        &nodes.n2,
+        &nodes.n3,
+        &nodes.n4,
+        &nodes.n5,
+        &nodes.n6,
+        &nodes.n7,
+        &nodes.subject,
+        &nodes.verifier,
+        &nodes.state,
+        m,
+        &edges.kind,
+        &edges.parent,
+        &edges.child,
+        &sat,
+        &fail,
+        i,
+    ) {
         return 1;
     }
     if fail[i] == 1 {

@@ -33,8 +33,24 @@ pub fn satisfied_nodes(nodes: Nodes, edges: Edges) -> [u8; 128]
     requires { ⌜ (nodes .count ≤ 128) × (edges .count ≤ 256) × NodesFormed (nodesOf nodes) ⌝ }
     ensures { λ r. ⌜ Says (nodesOf nodes) (edgesOf edges) r ⌝ }
 {
-    let need = needs(nodes);
-    let x = links(nodes, edges);
+    let need = needs(nodes.count, &nodes.kind, &nodes.parts, &nodes.state);
+    let x = links(
+        nodes.count,
+        &nodes.kind,
+        &nodes.parts,
+        &nodes.n0,
+        &nodes.n1,
+        &nodes.n2,
+        &nodes.n3,
+        &nodes.n4,
+        &nodes.n5,
+        &nodes.n6,
+        &nodes.n7,
+        edges.count,
+        &edges.kind,
+        &edges.parent,
+        &edges.child,
+    );
     satisfied(nodes.count, edges.count, &x.from, &x.slot, &need)
 }
 

@@ -18,18 +18,18 @@ links-requires : tie.Need-links-requires
 links-requires c κs = search needs
 
 satisfied-requires : tie.Need-satisfied-requires
-satisfied-requires c κs = let s = c .before .before .before .before .before .before in (s .pre .0, s .pre .1, c .before .before .before .before .links .ensures .slots, needs-beyond (s .args .nodes) _ (c .before .before .before .before .before .needs .ensures))
+satisfied-requires c κs = let s = c .before .before .before .before .before .before .before .before .before .before .before .before .before .before .before .before .before .before .before .before .before .before .before .before .before in (s .pre .0, s .pre .1, c .before .before .before .before .links .ensures (s .args .t1) .slots, needs-beyond (s .args .t1) _ (c .before .before .before .before .before .before .before .before .before .before .before .before .before .before .before .before .before .before .before .before .needs .ensures (s .args .t1)))
 
 ways-requires : tie.Need-ways-requires
-ways-requires c κs = search needs
+ways-requires c κs = c .before .before .before .before .before .before .before .before .before .before .before .before .before .before .before .before .before .before .before .before .before .before .before .before .before .before .before .before .before .pre .0
 
 failed-requires : tie.Need-failed-requires
-failed-requires c κs = let s = c .before .before .before .before .before .before .before .before .before .before .before .before in (s .pre .0, s .pre .1, c .before .before .before .before .before .before .before .before .before .before .links .ensures .slots, ways-beyond (s .args .nodes) _ (c .before .before .before .before .ways .ensures))
+failed-requires c κs = let s = c .before .before .before .before .before .before .before .before .before .before .before .before .before .before .before .before .before .before .before .before .before .before .before .before .before .before .before .before .before .before .before .before .before .before in (s .pre .0, s .pre .1, c .before .before .before .before .before .before .before .before .before .before .before .before .before .links .ensures (s .args .t1) .slots, ways-beyond (s .args .t1) _ (c .before .before .before .before .ways .ensures (s .args .t1)))
 
 returns : tie.Need-returns
 returns c =
-    let s = c .before .before .before .before .before .before .before .before .before .before .before .before .before in
-    settled-read (s .args .nodes) (s .args .edges) _ _ (s .pre .2) (c .before .before .before .before .before .before .before .before .before .before .before .links .ensures) _ _ (s .pre .3) (c .before .before .before .before .before .before .before .before .before .before .before .before .needs .ensures) (c .before .before .before .before .before .ways .ensures) (c .before .before .before .before .before .before .satisfied .ensures) (c .failed .ensures)
+    let s = c .before .before .before .before .before .before .before .before .before .before .before .before .before .before .before .before .before .before .before .before .before .before .before .before .before .before .before .before .before .before .before .before .before .before .before in
+    settled-read (s .args .t1) (s .args .t2) _ _ (s .pre .2) (c .before .before .before .before .before .before .before .before .before .before .before .before .before .before .links .ensures (s .args .t1)) _ _ (s .pre .3) (c .before .before .before .before .before .before .before .before .before .before .before .before .before .before .before .before .before .before .before .before .before .before .before .before .before .before .before .before .before .before .needs .ensures (s .args .t1)) (c .before .before .before .before .before .ways .ensures (s .args .t1)) (c .before .before .before .before .before .before .before .before .before .satisfied .ensures) (c .failed .ensures)
 
 pub node-states-spec : {M : Type 1} → statement M
 node-states-spec =

@@ -1,3 +1,4 @@
+use native.Mathlib.Omega.{arith}
 use Rattle.graph.specs.Graph.{nodesOf, edgesOf}
 use Rattle.states.specs.Filled.{needs-beyond, ways-beyond}
 use Rattle.states.specs.Complete.{Settled, satisfied-read, settled-read, state-satisfied, state-complete, state-failed, state-none}
@@ -14,10 +15,10 @@ use Rattle.states.proofs.fill.ways.Reads as ways-reads
 use Rattle.states.proofs.is_complete.Reads as is-complete-reads
 
 -- the columns of satisfied and failed nodes
-settled : (c : tie.After-fail) → Settled (nodesOf (c .before .before .before .before .before .before .before .before .before .before .before .before .before .before .before .before .args .nodes)) (edgesOf (c .before .before .before .before .before .before .before .before .before .before .before .before .before .before .before .before .args .edges)) (c .before .before .before .before .before .before .before .before .before .satisfied .result) (c .before .before .failed .result)
+settled : (c : tie.After-fail) → Settled (nodesOf (c .before .before .before .before .before .before .before .before .before .before .before .before .before .before .before .before .before .before .before .before .before .before .before .before .before .before .before .before .before .before .before .before .before .before .before .before .before .before .before .before .before .before .before .before .before .before .before .before .before .before .before .before .before .before .before .before .args .t1)) (edgesOf (c .before .before .before .before .before .before .before .before .before .before .before .before .before .before .before .before .before .before .before .before .before .before .before .before .before .before .before .before .before .before .before .before .before .before .before .before .before .before .before .before .before .before .before .before .before .before .before .before .before .before .before .before .before .before .before .before .args .t2)) (c .before .before .before .before .before .before .before .before .before .before .before .before .before .before .before .before .before .before .before .before .before .before .before .before .before .before .before .before .before .before .satisfied .result) (c .before .before .before .before .before .before .before .before .before .before .before .before .before .before .before .before .before .before .before .before .failed .result)
 settled c =
-    let s = c .before .before .before .before .before .before .before .before .before .before .before .before .before .before .before .before in
-    settled-read (s .args .nodes) (s .args .edges) _ _ (s .pre .3) (c .before .before .before .before .before .before .before .before .before .before .before .before .before .before .links .ensures) _ _ (s .pre .4) (c .before .before .before .before .before .before .before .before .before .before .before .before .before .before .before .needs .ensures) (c .before .before .before .before .before .before .before .ways .ensures) (c .before .before .before .before .before .before .before .before .before .satisfied .ensures) (c .before .before .failed .ensures)
+    let s = c .before .before .before .before .before .before .before .before .before .before .before .before .before .before .before .before .before .before .before .before .before .before .before .before .before .before .before .before .before .before .before .before .before .before .before .before .before .before .before .before .before .before .before .before .before .before .before .before .before .before .before .before .before .before .before .before in
+    settled-read (s .args .t1) (s .args .t2) _ _ (s .pre .3) (c .before .before .before .before .before .before .before .before .before .before .before .before .before .before .before .before .before .before .before .before .before .before .before .before .before .before .before .before .before .before .before .before .before .before .before .links .ensures (s .args .t1)) _ _ (s .pre .4) (c .before .before .before .before .before .before .before .before .before .before .before .before .before .before .before .before .before .before .before .before .before .before .before .before .before .before .before .before .before .before .before .before .before .before .before .before .before .before .before .before .before .before .before .before .before .before .before .before .before .before .before .needs .ensures (s .args .t1)) (c .before .before .before .before .before .before .before .before .before .before .before .before .before .before .before .before .before .before .before .before .before .before .before .before .before .ways .ensures (s .args .t1)) (c .before .before .before .before .before .before .before .before .before .before .before .before .before .before .before .before .before .before .before .before .before .before .before .before .before .before .before .before .before .before .satisfied .ensures) (c .before .before .before .before .before .before .before .before .before .before .before .before .before .before .before .before .before .before .before .before .failed .ensures)
 
 needs-requires : tie.Need-needs-requires
 needs-requires c κs = search needs
@@ -26,36 +27,36 @@ links-requires : tie.Need-links-requires
 links-requires c κs = search needs
 
 satisfied-requires : tie.Need-satisfied-requires
-satisfied-requires c κs = let s = c .before .before .before .before .before .before in (s .pre .1, s .pre .2, c .before .before .before .before .links .ensures .slots, needs-beyond (s .args .nodes) _ (c .before .before .before .before .before .needs .ensures))
+satisfied-requires c κs = let s = c .before .before .before .before .before .before .before .before .before .before .before .before .before .before .before .before .before .before .before .before .before .before .before .before .before in (s .pre .1, s .pre .2, c .before .before .before .before .links .ensures (s .args .t1) .slots, needs-beyond (s .args .t1) _ (c .before .before .before .before .before .before .before .before .before .before .before .before .before .before .before .before .before .before .before .before .needs .ensures (s .args .t1)))
 
 array-read-if1 : tie.Need-array-read-if1
-array-read-if1 c = search needs
+array-read-if1 c = omega (arith, c .before .before .before .before .before .before .before .before .before .before .before .before .before .before .before .before .before .before .before .before .before .before .before .before .before .before .pre .0, c .before .before .before .before .before .before .before .before .before .before .before .before .before .before .before .before .before .before .before .before .before .before .before .before .before .before .pre .1)
 
 returns : tie.Need-returns
 returns c =
-    let s = c .before .before .before .before .before .before .before .before in
-    state-satisfied (nodesOf (s .args .nodes)) (edgesOf (s .args .edges)) (s .args .i) (c .before .satisfied .result) (satisfied-read (s .args .nodes) (s .args .edges) _ _ (s .pre .3) (c .before .before .before .before .before .before .links .ensures) (c .before .satisfied .result) (c .before .before .before .before .before .before .before .needs .ensures) (c .before .satisfied .ensures)) (c .if1 .taken)
+    let s = c .before .before .before .before .before .before .before .before .before .before .before .before .before .before .before .before .before .before .before .before .before .before .before .before .before .before .before in
+    state-satisfied (nodesOf (s .args .t1)) (edgesOf (s .args .t2)) (s .args .i) (c .before .satisfied .result) (satisfied-read (s .args .t1) (s .args .t2) _ _ (s .pre .3) (c .before .before .before .before .before .before .links .ensures (s .args .t1)) (c .before .satisfied .result) (c .before .before .before .before .before .before .before .before .before .before .before .before .before .before .before .before .before .before .before .before .before .before .needs .ensures (s .args .t1)) (c .before .satisfied .ensures)) (c .if1 .taken)
 
 ways-requires : tie.Need-ways-requires
-ways-requires c κs = search needs
+ways-requires c κs = c .before .before .before .before .before .before .before .before .before .before .before .before .before .before .before .before .before .before .before .before .before .before .before .before .before .before .before .before .before .before .pre .1
 
 failed-requires : tie.Need-failed-requires
-failed-requires c κs = let s = c .before .before .before .before .before .before .before .before .before .before .before .before .before in (s .pre .1, s .pre .2, c .before .before .before .before .before .before .before .before .before .before .before .links .ensures .slots, ways-beyond (s .args .nodes) _ (c .before .before .before .before .ways .ensures))
+failed-requires c κs = let s = c .before .before .before .before .before .before .before .before .before .before .before .before .before .before .before .before .before .before .before .before .before .before .before .before .before .before .before .before .before .before .before .before .before .before .before in (s .pre .1, s .pre .2, c .before .before .before .before .before .before .before .before .before .before .before .before .before .before .links .ensures (s .args .t1) .slots, ways-beyond (s .args .t1) _ (c .before .before .before .before .ways .ensures (s .args .t1)))
 
 is-complete-requires : tie.Need-is-complete-requires
-is-complete-requires c κs = let s = c .before .before .before .before .before .before .before .before .before .before .before .before .before .before .before .before in (s .pre .0, s .pre .1, s .pre .2, settled c)
+is-complete-requires c κs = let s = c .before .before .before .before .before .before .before .before .before .before .before .before .before .before .before .before .before .before .before .before .before .before .before .before .before .before .before .before .before .before .before .before .before .before .before .before .before .before .before .before .before .before .before .before .before .before .before .before .before .before .before .before .before .before .before .before in (s .pre .0, s .pre .1, s .pre .2, settled c)
 
 returns-2 : tie.Need-returns-2
-returns-2 c = state-complete (settled (c .before .before)) (c .before .before .before .before .before .before .before .before .before .before .before .before .before .before .before .before .before .before .args .i) (c .before .is-complete .ensures) (c .if2 .taken)
+returns-2 c = state-complete (settled (c .before .before)) (c .before .before .before .before .before .before .before .before .before .before .before .before .before .before .before .before .before .before .before .before .before .before .before .before .before .before .before .before .before .before .before .before .before .before .before .before .before .before .before .before .before .before .before .before .before .before .before .before .before .before .before .before .before .before .before .before .before .before .args .i) (c .before .is-complete .ensures) (c .if2 .taken)
 
 array-read-if3 : tie.Need-array-read-if3
-array-read-if3 c = search needs
+array-read-if3 c = omega (arith, c .before .before .before .before .before .before .before .before .before .before .before .before .before .before .before .before .before .before .before .before .before .before .before .before .before .before .before .before .before .before .before .before .before .before .before .before .before .before .before .before .before .before .before .before .before .before .before .before .before .before .before .before .before .before .before .before .before .before .pre .0, c .before .before .before .before .before .before .before .before .before .before .before .before .before .before .before .before .before .before .before .before .before .before .before .before .before .before .before .before .before .before .before .before .before .before .before .before .before .before .before .before .before .before .before .before .before .before .before .before .before .before .before .before .before .before .before .before .before .before .pre .1)
 
 returns-3 : tie.Need-returns-3
-returns-3 c = state-failed (settled (c .before .before .before)) (c .before .before .before .before .before .before .before .before .before .before .before .before .before .before .before .before .before .before .before .args .i) (c .before .before .is-complete .ensures) (c .before .before .before .before .before .before .before .before .before .before .before .if1 .left) (c .before .if2 .left) (c .if3 .taken)
+returns-3 c = state-failed (settled (c .before .before .before)) (c .before .before .before .before .before .before .before .before .before .before .before .before .before .before .before .before .before .before .before .before .before .before .before .before .before .before .before .before .before .before .before .before .before .before .before .before .before .before .before .before .before .before .before .before .before .before .before .before .before .before .before .before .before .before .before .before .before .before .before .args .i) (c .before .before .is-complete .ensures) (c .before .before .before .before .before .before .before .before .before .before .before .before .before .before .before .before .before .before .before .before .before .before .before .before .before .before .before .before .before .before .before .before .if1 .left) (c .before .if2 .left) (c .if3 .taken)
 
 returns-4 : tie.Need-returns-4
-returns-4 c = state-none (settled (c .before .before .before)) (c .before .before .before .before .before .before .before .before .before .before .before .before .before .before .before .before .before .before .before .args .i) (c .before .before .is-complete .ensures) (c .before .before .before .before .before .before .before .before .before .before .before .if1 .left) (c .before .if2 .left) (c .if3 .left)
+returns-4 c = state-none (settled (c .before .before .before)) (c .before .before .before .before .before .before .before .before .before .before .before .before .before .before .before .before .before .before .before .before .before .before .before .before .before .before .before .before .before .before .before .before .before .before .before .before .before .before .before .before .before .before .before .before .before .before .before .before .before .before .before .before .before .before .before .before .before .before .before .args .i) (c .before .before .is-complete .ensures) (c .before .before .before .before .before .before .before .before .before .before .before .before .before .before .before .before .before .before .before .before .before .before .before .before .before .before .before .before .before .before .before .before .if1 .left) (c .before .if2 .left) (c .if3 .left)
 
 pub state-of-spec : {M : Type 1} → statement M
 state-of-spec =

@@ -15,10 +15,10 @@ use Rattle.word.proofs.wide.Reads as wide-reads
 use Rattle.states.proofs.is_complete.Reads as is-complete-reads
 
 abbrev Inv-loop : tie.InvT-loop
-Inv-loop nodes sat failed i edges m j₀ j = Missed (isCompleteAt nodes edges i) (λ k. k) j × (j ≤ m) × (j < m → isMonitor (edges .kind) (edges .parent) i j ≡ true)
+Inv-loop sat failed i nodes edges m j₀ j = Missed (isCompleteAt nodes edges i) (λ k. k) j × (j ≤ m) × (j < m → isMonitor (edges .kind) (edges .parent) i j ≡ true)
 
 abbrev μ-loop : tie.MeasureT-loop
-μ-loop nodes sat failed i edges m j₀ j = m - j
+μ-loop sat failed i nodes edges m j₀ j = m - j
 
 next-monitor-requires : tie.Need-next-monitor-requires Inv-loop μ-loop
 next-monitor-requires c κs = (c .before .before .before .pre .1, omega arith)
@@ -33,22 +33,22 @@ wide-requires : tie.Need-wide-requires Inv-loop μ-loop
 wide-requires c κs = search needs
 
 is-complete-requires : tie.Need-is-complete-requires Inv-loop μ-loop
-is-complete-requires c κs = let s = c .before .before .before .before .before .before .before .before in (child-inside (s .args .nodes) (s .args .t2) (s .pre .2) (c .before .before .before .loop .j) (c .before .before .loop-test .taken) (c .wide .ensures), s .pre .0, s .pre .1, s .pre .3)
+is-complete-requires c κs = let s = c .before .before .before .before .before .before .before .before .before .before .before .before .before .before .before .before .before .before .before .before .before .before .before .before .before .before in (child-inside (s .args .t1) (s .args .t2) (s .pre .2) (c .before .before .before .before .before .before .before .before .before .before .before .before .before .before .before .before .before .before .before .before .before .loop .j) (c .before .before .before .before .before .before .before .before .before .before .before .before .before .before .before .before .before .before .before .before .loop-test .taken) (c .before .before .before .before .before .before .before .before .before .before .before .before .before .before .before .before .before .before .wide .ensures), s .pre .0, s .pre .1, s .pre .3)
 
 returns : tie.Need-returns Inv-loop μ-loop
-returns c = any-at (c .before .before .before .before .before .before .before .before .before .before .args .t2 .count) (c .before .before .before .before .before .loop .inv .0) (c .before .before .before .before .loop-test .taken) (complete-goal _ _ _ _ (c .before .before .before .before .before .loop .inv .2 (c .before .before .before .before .loop-test .taken)) (c .before .before .wide .ensures) (c .before .is-complete .ensures)) (c .if1 .taken)
+returns c = any-at (c .before .before .before .before .before .before .before .before .before .before .before .before .before .before .before .before .before .before .before .before .before .before .before .before .before .before .before .before .args .t2 .count) (c .before .before .before .before .before .before .before .before .before .before .before .before .before .before .before .before .before .before .before .before .before .before .before .loop .inv .0) (c .before .before .before .before .before .before .before .before .before .before .before .before .before .before .before .before .before .before .before .before .before .before .loop-test .taken) (complete-goal _ _ _ _ (c .before .before .before .before .before .before .before .before .before .before .before .before .before .before .before .before .before .before .before .before .before .before .before .loop .inv .2 (c .before .before .before .before .before .before .before .before .before .before .before .before .before .before .before .before .before .before .before .before .before .before .loop-test .taken)) (c .before .before .before .before .before .before .before .before .before .before .before .before .before .before .before .before .before .before .before .before .wide .ensures) (c .before .is-complete .ensures)) (c .if1 .taken)
 
 add-next-monitor : tie.Need-add-next-monitor Inv-loop μ-loop
-add-next-monitor c = omega (arith, c .before .before .before .before .before .before .before .loop-test .taken, c .before .before .before .before .before .before .before .before .before .before .before .before .before .pre .1)
+add-next-monitor c = omega (arith, c .before .before .before .before .before .before .before .before .before .before .before .before .before .before .before .before .before .before .before .before .before .before .before .before .before .loop-test .taken, c .before .before .before .before .before .before .before .before .before .before .before .before .before .before .before .before .before .before .before .before .before .before .before .before .before .before .before .before .before .before .before .pre .1)
 
 next-monitor-requires-2 : tie.Need-next-monitor-requires-2 Inv-loop μ-loop
-next-monitor-requires-2 c κs = (c .before .before .before .before .before .before .before .before .before .before .before .before .before .pre .1, omega (arith, c .before .before .before .before .before .before .before .loop-test .taken))
+next-monitor-requires-2 c κs = (c .before .before .before .before .before .before .before .before .before .before .before .before .before .before .before .before .before .before .before .before .before .before .before .before .before .before .before .before .before .before .before .pre .1, omega (arith, c .before .before .before .before .before .before .before .before .before .before .before .before .before .before .before .before .before .before .before .before .before .before .before .before .before .loop-test .taken))
 
 loop-less : tie.Need-loop-less Inv-loop μ-loop
-loop-less c = let s = c .next-monitor2 .ensures .skipped in omega (arith, s .from, s .within, c .before .before .before .before .before .before .before .before .loop-test .taken)
+loop-less c = let s = c .next-monitor2 .ensures .skipped in omega (arith, s .from, s .within, c .before .before .before .before .before .before .before .before .before .before .before .before .before .before .before .before .before .before .before .before .before .before .before .before .before .before .loop-test .taken)
 
 loop-again : tie.Need-loop-again Inv-loop μ-loop
-loop-again c = let s = c .next-monitor2 .ensures in (missed-skip _ (missed-more (c .before .before .before .before .before .before .before .before .before .loop .inv .0) (complete-goal _ _ _ _ (c .before .before .before .before .before .before .before .before .before .loop .inv .2 (c .before .before .before .before .before .before .before .before .loop-test .taken)) (c .before .before .before .before .before .before .wide .ensures) (c .before .before .before .before .before .is-complete .ensures)) (c .before .before .before .before .if1 .left)) (λ j l h. complete-skip _ _ _ j (s .skipped .none j l h)), s .skipped .within, s .passes)
+loop-again c = let s = c .next-monitor2 .ensures in (missed-skip _ (missed-more (c .before .before .before .before .before .before .before .before .before .before .before .before .before .before .before .before .before .before .before .before .before .before .before .before .before .before .before .loop .inv .0) (complete-goal _ _ _ _ (c .before .before .before .before .before .before .before .before .before .before .before .before .before .before .before .before .before .before .before .before .before .before .before .before .before .before .before .loop .inv .2 (c .before .before .before .before .before .before .before .before .before .before .before .before .before .before .before .before .before .before .before .before .before .before .before .before .before .before .loop-test .taken)) (c .before .before .before .before .before .before .before .before .before .before .before .before .before .before .before .before .before .before .before .before .before .before .before .before .wide .ensures) (c .before .before .before .before .before .is-complete .ensures)) (c .before .before .before .before .if1 .left)) (λ j l h. complete-skip _ _ _ j (s .skipped .none j l h)), s .skipped .within, s .passes)
 
 returns-2 : tie.Need-returns-2 Inv-loop μ-loop
 returns-2 c = any-none (c .before .before .before .before .before .before .args .t2 .count) (c .before .loop .inv .0) (c .loop-test .left)

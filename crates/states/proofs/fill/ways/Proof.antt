@@ -1,6 +1,8 @@
 use Prim.Native.Nat.{_-_, _≤_}
 use native.Mathlib.Omega.{arith}
 use mathlib.Core.Path.{refl}
+use Rattle.graph.specs.declared.Nodes.{Nodes}
+use Rattle.graph.specs.Graph.{nodesFrom}
 use Rattle.states.specs.Brings.{wayOf}
 use Rattle.states.specs.Filled.{NodeColumn, ways-start, ways-add, ways-all}
 use borrow.Author.Needs.{needs}
@@ -8,13 +10,13 @@ use Rattle.states.proofs.fill.ways.Statement.{statement}
 use Rattle.states.proofs.fill.ways.Tie as tie
 
 abbrev Inv-loop : tie.InvT-loop
-Inv-loop nodes count r₀ i₀ r i = (i ≤ count) × NodeColumn nodes wayOf i r
+Inv-loop n kind state r₀ i₀ r i = (i ≤ n) × ((o : Nodes) → NodeColumn (nodesFrom n kind (o .parts) (o .n0) (o .n1) (o .n2) (o .n3) (o .n4) (o .n5) (o .n6) (o .n7) (o .subject) (o .verifier) state) wayOf i r)
 
 abbrev μ-loop : tie.MeasureT-loop
-μ-loop nodes count r₀ i₀ r i = count - i
+μ-loop n kind state r₀ i₀ r i = n - i
 
 loop-holds : tie.Need-loop-holds Inv-loop μ-loop
-loop-holds c = (omega arith, ways-start _)
+loop-holds c = (omega arith, λ o. ways-start _)
 
 element-copy-out-way-of : tie.Need-element-copy-out-way-of Inv-loop μ-loop
 element-copy-out-way-of c = search needs
@@ -35,10 +37,10 @@ loop-less : tie.Need-loop-less Inv-loop μ-loop
 loop-less c = omega arith
 
 loop-again : tie.Need-loop-again Inv-loop μ-loop
-loop-again c = (omega arith, ways-add _ (omega arith) refl (c .way-of .ensures) (c .before .before .before .before .loop .inv .1))
+loop-again c = (omega arith, λ o. ways-add _ (omega arith) refl (c .way-of .ensures) (c .before .before .before .before .loop .inv .1 o))
 
 returns : tie.Need-returns Inv-loop μ-loop
-returns c = ways-all _ (c .before .loop .inv .0) (c .loop-test .left) (c .before .loop .inv .1)
+returns c = λ o. ways-all _ (c .before .loop .inv .0) (c .loop-test .left) (c .before .loop .inv .1 o)
 
 pub ways-spec : {M : Type 1} → statement M
 ways-spec =

@@ -11,10 +11,10 @@ links-requires : tie.Need-links-requires
 links-requires c κs = search needs
 
 satisfied-requires : tie.Need-satisfied-requires
-satisfied-requires c κs = let s = c .before .before .before .before .before .before in (s .pre .0, s .pre .1, c .before .before .before .before .links .ensures .slots, needs-beyond (s .args .nodes) _ (c .before .before .before .before .before .needs .ensures))
+satisfied-requires c κs = let s = c .before .before .before .before .before .before .before .before .before .before .before .before .before .before .before .before .before .before .before .before .before .before .before .before .before in (s .pre .0, s .pre .1, c .before .before .before .before .links .ensures (s .args .t1) .slots, needs-beyond (s .args .t1) _ (c .before .before .before .before .before .before .before .before .before .before .before .before .before .before .before .before .before .before .before .before .needs .ensures (s .args .t1)))
 
 returns : tie.Need-returns
-returns c = says-is _ _ _ _ (c .before .before .before .before .before .before .before .pre .2) (c .before .before .before .before .before .links .ensures) _ _ (c .before .before .before .before .before .before .needs .ensures) (c .satisfied .ensures)
+returns c = let s = c .before .before .before .before .before .before .before .before .before .before .before .before .before .before .before .before .before .before .before .before .before .before .before .before .before .before in says-is (s .args .t1) (s .args .t2) _ _ (s .pre .2) (c .before .before .before .before .before .links .ensures (s .args .t1)) _ _ (c .before .before .before .before .before .before .before .before .before .before .before .before .before .before .before .before .before .before .before .before .before .needs .ensures (s .args .t1)) (c .satisfied .ensures)
 
 pub satisfied-nodes-spec : {M : Type 1} → statement M
 satisfied-nodes-spec =
