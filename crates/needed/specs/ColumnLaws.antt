@@ -151,6 +151,12 @@ module _ (P : Pool) where
       ∙ (all-chosen q a (P .count - a) (λ i k m. w .rest i k (omega arith))
       ∙ ap (λ (l : List Credential). l ++ restOf P a) (same-chosen q r a (w .before) ∙ sym (chosen-below r a l h)))
 
+  -- those from a on, and no others
+  pub rest-alone : (q : List ℕ) (a : ℕ) → a ≤ P .count → WithRest (P .count) a (replicate 128 0) q → chosen P q ≡ restOf P a
+  rest-alone q a l w =
+      rest-chosen (replicate 128 0) q a l (λ i o. absurd (let z : _≡_ {A = ℕ} (el (replicate 128 0) i) 0 = zeros-at 128 i in omega arith)) w
+      ∙ ap (λ (l : List Credential). l ++ restOf P a) (none-on 128)
+
   -- with one more, after all others
   pub one-chosen : (r : List ℕ) (k : ℕ) → length r ≡ 128 → P .count ≤ 128 → k < P .count → ((i : ℕ) → el r i ≡ 1 → i < k) → chosen P (set r k 1) ≡ chosen P r ++ (credentialAt P k ∷ [])
   one-chosen r k sized small l h =

@@ -2,13 +2,14 @@
 use Prim.Native.Nat.{ℕ, _+_, _≤_, _<_}
 use mathlib.Core.Path.{_≡_}
 use mathlib.Core.Logic.{_⊎_}
-use mathlib.Core.Bool.{true, false, cond}
+use mathlib.Core.Bool.{Bool, true, false, cond}
 use mathlib.Core.List.{List, _++_}
 use lib.Dec.{ltb}
 use lib.ListN.{length, set}
 use Rattle.expression.specs.declared.Expression.{Expression}
 use Rattle.rt0.specs.declared.Pool.{Pool}
 use Rattle.rt0.specs.Decide.{from?}
+use Rattle.rt0.specs.Pool.{credentials}
 use Rattle.closure.specs.Rules.{el}
 use Rattle.rules.specs.Table.{chosen}
 use Rattle.needed.specs.Needed.{kept, enough, needed, firstOf, restOf}
@@ -56,7 +57,8 @@ pub record Keeping (P : Pool) (s : ℕ) (f e : Expression) (r on : List ℕ) (a 
   pub kept-on : (i : ℕ) → el r i ≡ 1 → el on i ≡ 1
   pub so-far : needed (firstOf P s) f e (restOf P s) ≡ kept (enough (firstOf P s) f e) (chosen P r) (restOf P a)
 
--- the credentials in the column r are the needed ones, the first s being shown
-pub record Needed (P : Pool) (s : ℕ) (f e : Expression) (r : List ℕ) : Type 0 where
+-- b says whether the edge holds over the whole pool, and the credentials in the column r are the needed ones, the first s being shown
+pub record Needed (P : Pool) (s : ℕ) (f e : Expression) (b : Bool) (r : List ℕ) : Type 0 where
+  pub holds : b ≡ from? (credentials P) f e
   pub own : (i : ℕ) → el r i ≡ 1 → (s ≤ i) × (i < P .count)
   pub all : chosen P r ≡ needed (firstOf P s) f e (restOf P s)

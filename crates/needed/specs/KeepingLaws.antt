@@ -4,7 +4,7 @@ use native.Mathlib.Omega.{arith}
 use mathlib.Core.Path.{_≡_, refl, sym, _∙_, ap, subst}
 use mathlib.Core.Logic.{_⊎_, inl, inr, ⊎-elim}
 use mathlib.Core.Bool.{Bool, true, false, cond}
-use mathlib.Core.List.{List, [], _++_, append-nil, List·Memᴰ, List·Memᴰ·append-cases, Memᴰ·append-left, Memᴰ·append-right}
+use mathlib.Core.List.{List, [], _∷_, _++_, append-nil, List·Memᴰ, List·Memᴰ·append-cases, Memᴰ·append-left, Memᴰ·append-right}
 use borrow.Author.Tests.{ltb-true, ltb-false, lt-ltb, le-ltb}
 use lib.Dec.{ltb}
 use lib.ListN.{length, length-set, length-replicate, set, replicate}
@@ -14,15 +14,15 @@ use Rattle.expression.specs.declared.Expression.{Expression}
 use Rattle.rt0.specs.declared.Pool.{Pool}
 use Rattle.rt0.specs.Decide.{from?}
 use Rattle.rt0.specs.Laws.{same-set}
-use Rattle.rt0.specs.Pool.{upTo, credentialAt}
+use Rattle.rt0.specs.Pool.{upTo, credentialAt, credentials}
 use Rattle.closure.specs.Rules.{el}
 use Rattle.rules.specs.Table.{chosen}
 use Rattle.rules.specs.Exact.{chosen-mem, chosen-find}
 use Rattle.relation.specs.Relation.{Relation}
 use Rattle.needed.specs.Needed.{kept, enough, needed, firstOf, restOf}
-use Rattle.needed.specs.NeededLaws.{enough-gains, kept-nil, kept-done, kept-jump, kept-all}
+use Rattle.needed.specs.NeededLaws.{enough-gains, kept-nil, kept-done, kept-jump, kept-all, needed-same}
 use Rattle.needed.specs.Columns.{FirstOn, withOne, Grown, LastNeeded, WithRest, Keeping, Needed}
-use Rattle.needed.specs.ColumnLaws.{upTo-mem, upTo-find, rest-split, rest-next, rest-none, rest-mem, rest-find, lt-or, none-on, rest-chosen, one-chosen, zeros-at, set-at, stays, came}
+use Rattle.needed.specs.ColumnLaws.{upTo-mem, upTo-find, rest-split, rest-next, rest-none, rest-mem, rest-find, first-rest, lt-or, none-on, rest-chosen, one-chosen, zeros-at, set-at, stays, came}
 
 -- One switched on
 
@@ -154,13 +154,16 @@ module _ (P : Pool) (small : P .count ≤ 128) (s : ℕ) (f e : Expression) wher
     in-pool : (i : ℕ) → el r i ≡ 1 → (s ≤ i) × (i < P .count)
     in-pool i o = let h = k .own i o in let l : i < a = h .1 in (h .0, omega (arith, k .within))
 
+    -- the edge holds over the pool where the needed ones are enough
+    over-pool : (q : List ℕ) {b : Bool} → chosen P q ≡ needed (firstOf P s) f e (restOf P s) → enough (firstOf P s) f e (chosen P q) ≡ b → b ≡ from? (credentials P) f e
+    over-pool q h w =
+        sym w
+        ∙ (ap (enough (firstOf P s) f e) h
+        ∙ (sym (needed-same (firstOf P s) f e (restOf P s)) ∙ ap (λ (l : List Credential). from? l f e) (sym (first-rest P s (omega (arith, k .from, k .within))))))
+
     -- those kept are enough
-    pub keep-done : (z : ℕ) → LastNeeded P on f e a z → z ≡ P .count → Needed P s f e r
-    keep-done z last q =
-        record {
-          own = in-pool;
-          all = sym (k .so-far ∙ kept-done (enough (firstOf P s) f e) (enough-gains (firstOf P s) f e) (chosen P r) (restOf P a) alone);
-        }
+    pub keep-done : (z : ℕ) → LastNeeded P on f e a z → z ≡ P .count → Needed P s f e true r
+    keep-done z last q = record { holds = over-pool r all alone; own = in-pool; all = all }
       where
         alone : enough (firstOf P s) f e (chosen P r) ≡ true
         alone =
@@ -168,22 +171,33 @@ module _ (P : Pool) (small : P .count ≤ 128) (s : ℕ) (f e : Expression) wher
             ∙ (sym (beside [])
             ∙ (ap (λ (l : List Credential). from? (chosen P on ++ l) f e) (sym (rest-none P z (omega arith))) ∙ last .found (omega arith) .1))
 
-    -- none is left to be tried
-    pub keep-end : P .count ≤ a → Needed P s f e r
-    keep-end l =
-        record {
-          own = in-pool;
-          all = sym (k .so-far ∙ (ap (kept (enough (firstOf P s) f e) (chosen P r)) (rest-none P a l) ∙ kept-nil (enough (firstOf P s) f e) (chosen P r)));
-        }
+        all : chosen P r ≡ needed (firstOf P s) f e (restOf P s)
+        all = sym (k .so-far ∙ kept-done (enough (firstOf P s) f e) (enough-gains (firstOf P s) f e) (chosen P r) (restOf P a) alone)
 
-    -- all are kept
-    pub keep-all : (z : ℕ) (q : List ℕ) → LastNeeded P on f e a z → P .count < z → WithRest (P .count) a r q → Needed P s f e q
+    -- none is left to be tried, and those kept are enough
+    keep-end : P .count ≤ a → enough (firstOf P s) f e (chosen P r) ≡ true → Needed P s f e true r
+    keep-end l alone = record { holds = over-pool r all alone; own = in-pool; all = all }
+      where
+        all : chosen P r ≡ needed (firstOf P s) f e (restOf P s)
+        all = sym (k .so-far ∙ (ap (kept (enough (firstOf P s) f e) (chosen P r)) (rest-none P a l) ∙ kept-nil (enough (firstOf P s) f e) (chosen P r)))
+
+    -- all are kept, and are not enough
+    pub keep-all : (z : ℕ) (q : List ℕ) → LastNeeded P on f e a z → P .count < z → WithRest (P .count) a r q → Needed P s f e false q
     keep-all z q last l w =
         record {
+          holds = over-pool q all (ap (enough (firstOf P s) f e) with-rest ∙ few);
           own = λ i o. ⊎-elim (λ m. in-pool i (sym (w .before i m) ∙ o)) (λ m. ⊎-elim (λ y. (omega (arith, k .from), y)) (λ y. in-pool i (sym (w .after i y) ∙ o)) (lt-or i (P .count))) (lt-or i a);
-          all = rest-chosen P r q a (k .within) (λ i o. k .own i o .1) w
-              ∙ sym (k .so-far ∙ kept-all (enough (firstOf P s) f e) (enough-gains (firstOf P s) f e) (chosen P r) (restOf P a) (sym (beside (restOf P a)) ∙ last .none l));
+          all = all;
         }
+      where
+        with-rest : chosen P q ≡ chosen P r ++ restOf P a
+        with-rest = rest-chosen P r q a (k .within) (λ i o. k .own i o .1) w
+
+        few : enough (firstOf P s) f e (chosen P r ++ restOf P a) ≡ false
+        few = sym (beside (restOf P a)) ∙ last .none l
+
+        all : chosen P q ≡ needed (firstOf P s) f e (restOf P s)
+        all = with-rest ∙ sym (k .so-far ∙ kept-all (enough (firstOf P s) f e) (enough-gains (firstOf P s) f e) (chosen P r) (restOf P a) few)
 
     -- one more is kept
     pub keep-next : (z : ℕ) (now : List ℕ) → LastNeeded P on f e a z → z < P .count → now ≡ set on z 1 → Keeping P s f e (set r z 1) now (z + 1)
@@ -216,3 +230,14 @@ module _ (P : Pool) (small : P .count ≤ 128) (s : ℕ) (f e : Expression) wher
             (ap (λ (l : List Credential). G (chosen P r ++ l)) (sym (rest-next P z l)) ∙ (sym (beside (restOf P z)) ∙ found .1))
             (sym (beside (restOf P (z + 1))) ∙ found .2)
             ∙ ap (λ (ks : List Credential). kept G ks (restOf P (z + 1))) (sym (one-chosen P r z (k .sized) small l (λ i o. let m : i < a = k .own i o .1 in omega (arith, found .0)))))
+
+  -- the last one of the pool is kept
+  pub keep-last : (r on : List ℕ) (a : ℕ) → Keeping P s f e r on a → (z : ℕ) → LastNeeded P on f e a z → z + 1 ≡ P .count → Needed P s f e true (set r z 1)
+  keep-last r on a k z last q =
+      keep-end (set r z 1) (set on z 1) (z + 1) (keep-next r on a k z (set on z 1) last (omega arith) refl) (omega arith)
+      (ap (enough (firstOf P s) f e) with-one ∙ (sym (beside r on a k (restOf P z)) ∙ last .found (omega arith) .1))
+    where
+      with-one : chosen P (set r z 1) ≡ chosen P r ++ restOf P z
+      with-one =
+          one-chosen P r z (k .sized) small (omega arith) (λ i o. let m : i < a = k .own i o .1 in let y : a ≤ z = last .found (omega arith) .0 in omega arith)
+          ∙ ap (λ (l : List Credential). chosen P r ++ l) (sym (rest-next P z (omega arith) ∙ ap (λ (l : List Credential). credentialAt P z ∷ l) (rest-none P (z + 1) (omega arith))))

@@ -7,7 +7,7 @@ use mathlib.Core.List.{List, [], _∷_, _++_, append-assoc, append-nil, List·Me
 use Rattle.expression.specs.declared.Credential.{Credential}
 use Rattle.expression.specs.declared.Expression.{Expression}
 use Rattle.rt0.specs.Decide.{from?}
-use Rattle.rt0.specs.Laws.{more, sound, complete}
+use Rattle.rt0.specs.Laws.{more, sound, complete, bool-iff}
 use Rattle.rt0.specs.Lists.{false-true}
 use Rattle.needed.specs.Needed.{kept, enough, needed}
 
@@ -142,3 +142,7 @@ module _ (shown : List Credential) (f e : Expression) (own : List Credential) wh
   needed-some =
       let r = kept-each (enough shown f e) (enough-gains shown f e) [] own in
       subst (λ (zs : List Credential). Sublist zs own) (sym (r .1)) (r .2)
+
+  -- the needed ones are enough exactly where all own ones are
+  pub needed-same : from? (shown ++ own) f e ≡ from? (shown ++ needed shown f e own) f e
+  needed-same = bool-iff _ _ needed-enough (λ h. enough-gains shown f e .gains (sub-mem needed-some) h)

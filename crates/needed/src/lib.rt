@@ -8,7 +8,8 @@ use rules::rules_of;
 ghost use mathlib.Core.Path.{_≡_};
 ghost use Prim.Native.Nat.{ℕ, _<_, _≤_};
 ghost use lib.ListN.{length};
-ghost use Rattle.rt0.specs.Pool.{poolOf};
+ghost use Rattle.rt0.specs.Decide.{from? as fromOf};
+ghost use Rattle.rt0.specs.Pool.{poolOf, credentials};
 ghost use Rattle.closure.specs.Rules.{rulesOf, el};
 ghost use Rattle.rules.specs.Table.{chosen};
 ghost use Rattle.rules.specs.Ruled.{Ruled};
@@ -21,6 +22,12 @@ mod next;
 
 pub use asked::relevant;
 use next::next_kept;
+
+// Whether an edge holds over a pool, and the own credentials of the pool that it needs, 1 for each.
+pub struct Kept {
+    pub holds: bool,
+    pub own: [u8; 128],
+}
 
 // The column where the first s credentials are on.
 fn first_on(s: usize) -> [u8; 128]
@@ -37,7 +44,7 @@ fn first_on(s: usize) -> [u8; 128]
 }
 
 // The column with the credentials from a to n.
-fn with_rest(n: usize, a: usize, kept: [u8; 128]) -> [u8; 128]
+pub fn with_rest(n: usize, a: usize, kept: [u8; 128]) -> [u8; 128]
     requires { ⌜ (n ≤ 128) × (a ≤ n) × (length kept ≡ 128) ⌝ }
     ensures { λ r. ⌜ WithRest n a kept r ⌝ }
 {
@@ -68,13 +75,13 @@ fn keep<'a>(
     rows: &'a mut [u64; 260],
     f: Expression,
     e: Expression,
-) -> [u8; 128]
+) -> Kept
     requires { ⌜ (n ≤ 128) × (s ≤ n) × Ruled (poolOf n (now heads) (now kinds) (now numbers)) (rulesOf n words (now head) (now part) (now first) (now named) (now src)) × FirstOn s (now on) × Relation (poolOf n (now heads) (now kinds) (now numbers)) (now on) (now rows) ⌝ }
-    ensures { λ r. ⌜ Needed (poolOf n (now (heads .entry)) (now (kinds .entry)) (now (numbers .entry))) s f e r ⌝ }
+    ensures { λ r. ⌜ Needed (poolOf n (now (heads .entry)) (now (kinds .entry)) (now (numbers .entry))) s f e (r .holds) (r .own) ⌝ }
 {
     let mut r = [0u8; 128];
     let mut a = s;
-    while a < n {
+    loop {
         let k = next_kept(
             n,
             heads,
@@ -94,18 +101,29 @@ fn keep<'a>(
             e,
         );
         if k > n {
-            return with_rest(n, a, r);
+            return Kept {
+                holds: false,
+                own: with_rest(n, a, r),
+            };
         }
         if k == n {
-            return r;
+            return Kept {
+                holds: true,
+                own: r,
+            };
         }
         r[k] = 1;
+        if k + 1 == n {
+            return Kept {
+                holds: true,
+                own: r,
+            };
+        }
         a = k + 1;
     }
-    r
 }
 
-// The credentials needed for f from e, 1 for each, beside the first `shown` of n.
+// Whether f from e holds over the n credentials, and those needed for it beside the first `shown`.
 pub fn needed<'a>(
     n: usize,
     heads: &'a [u16; 256],
@@ -114,10 +132,11 @@ pub fn needed<'a>(
     shown: usize,
     f: Expression,
     e: Expression,
-) -> [u8; 128]
+) -> Kept
     requires { ⌜ (n ≤ 128) × (shown ≤ n) ⌝ }
-    ensures own { λ r. ⌜ ((i : ℕ) → el r i ≡ 1 → (shown ≤ i) × (i < n)) ⌝ }
-    ensures all { λ r. ⌜ chosen (poolOf n (now (heads .entry)) (now (kinds .entry)) (now (numbers .entry))) r ≡ neededOf (firstOf (poolOf n (now (heads .entry)) (now (kinds .entry)) (now (numbers .entry))) shown) f e (restOf (poolOf n (now (heads .entry)) (now (kinds .entry)) (now (numbers .entry))) shown) ⌝ }
+    ensures holds { λ r. ⌜ r .holds ≡ fromOf (credentials (poolOf n (now (heads .entry)) (now (kinds .entry)) (now (numbers .entry)))) f e ⌝ }
+    ensures own { λ r. ⌜ ((i : ℕ) → el (r .own) i ≡ 1 → (shown ≤ i) × (i < n)) ⌝ }
+    ensures all { λ r. ⌜ chosen (poolOf n (now (heads .entry)) (now (kinds .entry)) (now (numbers .entry))) (r .own) ≡ neededOf (firstOf (poolOf n (now (heads .entry)) (now (kinds .entry)) (now (numbers .entry))) shown) f e (restOf (poolOf n (now (heads .entry)) (now (kinds .entry)) (now (numbers .entry))) shown) ⌝ }
 {
     let x = rules_of(n, heads, kinds, numbers);
     let deps = readers(n, &x.part, &x.first, &x.named);

@@ -6,6 +6,7 @@ use mathlib.Core.Bool.{Bool, true, false, not, cond}
 use mathlib.Core.List.{List, [], _∷_, _++_, append-nil, append-assoc}
 use borrow.Author.Tests.{eqb-false, eq-eqb, ne-eqb}
 use lib.Dec.{eqb}
+use lib.ListN.{replicate}
 use Rattle.expression.specs.declared.Credential.{Credential}
 use Rattle.expression.specs.declared.Expression.{Expression}
 use Rattle.rt0.specs.declared.Pool.{Pool}
@@ -13,8 +14,11 @@ use Rattle.rt0.specs.Decide.{from?}
 use Rattle.rt0.specs.Pool.{credentialAt, upTo, credentials}
 use Rattle.rt0.specs.Added.{Sized, Stored, upTo-same}
 use Rattle.closure.specs.Rules.{el}
+use Rattle.rules.specs.Table.{chosen}
 use Rattle.needed.specs.Needed.{needed, firstOf, restOf}
-use Rattle.needed.specs.ColumnLaws.{first-rest}
+use Rattle.needed.specs.NeededLaws.{needed-all}
+use Rattle.needed.specs.Columns.{WithRest}
+use Rattle.needed.specs.ColumnLaws.{first-rest, rest-alone}
 use Rattle.needed.specs.Relevant.{Closed, Reduced, nothing, dropped, taken, Flagged, ClosedFor}
 use Rattle.needed.specs.RelevantLaws.{reduced-append, from-relevant, needed-relevant, closed-column}
 use Rattle.message.specs.declared.Command.{Command}
@@ -92,17 +96,23 @@ part-is P s d flags S Q R small l q none h k =
 
 -- What is needed
 
-module _ (S Q : Pool) (L : List Credential) (f e : Expression) {k : Command} {r : Outgoing} (h : credentials Q ≡ credentials S ++ L) where
+module _ (S Q : Pool) (L : List Credential) (f e : Expression) (h : credentials Q ≡ credentials S ++ L) where
   -- of the whole pool
-  pub sends-whole : Sends (needed (firstOf Q (S .count)) f e (restOf Q (S .count))) k r → Sends (needed (credentials S) f e L) k r
+  sends-whole : {k : Command} {r : Outgoing} → Sends (needed (firstOf Q (S .count)) f e (restOf Q (S .count))) k r → Sends (needed (credentials S) f e L) k r
   sends-whole s = let p = behind-parts S Q L h in sends-as (ap₂ (λ (a b : List Credential). needed a f e b) (p .0) (p .1)) s
 
-  -- of the part that can matter, where it is enough
-  pub sends-part : {R : Pool} {t : ℕ} {flags : List ℕ} {b : Bool} → ClosedFor Q f flags → PartOf Q (S .count) flags R t → b ≡ from? (credentials R) f e → b ≡ true → Sends (needed (firstOf R t) f e (restOf R t)) k r → Sends (needed (credentials S) f e L) k r
-  sends-part {R} {t} {flags} closed part be is s = sends-whole (sends-as (needed-relevant (firstOf Q (S .count)) (firstOf R t) f e (part .first) (restOf Q (S .count)) (restOf R t) heads enough (part .rest)) s)
-    where
-      heads : Closed f (firstOf Q (S .count) ++ restOf Q (S .count)) (Flagged Q flags)
-      heads = subst (λ (l : List Credential). Closed f l (Flagged Q flags)) (first-rest Q (S .count) (behind-count S Q L h)) (closed-column Q f flags closed)
+  module _ {R : Pool} {t : ℕ} {flags : List ℕ} {b : Bool} (closed : ClosedFor Q f flags) (part : PartOf Q (S .count) flags R t) (be : b ≡ from? (credentials R) f e) where
+    heads : Closed f (firstOf Q (S .count) ++ restOf Q (S .count)) (Flagged Q flags)
+    heads = subst (λ (l : List Credential). Closed f l (Flagged Q flags)) (first-rest Q (S .count) (behind-count S Q L h)) (closed-column Q f flags closed)
 
-      enough : from? (firstOf Q (S .count) ++ restOf Q (S .count)) f e ≡ true
-      enough = from-relevant f e heads (reduced-append (part .first) (part .rest)) ∙ ap (λ (l : List Credential). from? l f e) (sym (first-rest R t (part .within))) ∙ sym be ∙ is
+    -- the edge holds over the whole pool as over the part
+    as-part : from? (firstOf Q (S .count) ++ restOf Q (S .count)) f e ≡ b
+    as-part = from-relevant f e heads (reduced-append (part .first) (part .rest)) ∙ ap (λ (l : List Credential). from? l f e) (sym (first-rest R t (part .within))) ∙ sym be
+
+    -- of the part that can matter, where it is enough
+    pub sends-part : {q : List ℕ} (k : Command) → b ≡ true → chosen R q ≡ needed (firstOf R t) f e (restOf R t) → Sends (needed (credentials S) f e L) k (record { pool = R; on = q; command = k })
+    sends-part k is z = sends-whole (sends-as (needed-relevant (firstOf Q (S .count)) (firstOf R t) f e (part .first) (restOf Q (S .count)) (restOf R t) heads (as-part ∙ is) (part .rest)) (record { shows = z; command = refl; few = part .few }))
+
+    -- where it is not, all are needed
+    pub sends-all : {q : List ℕ} (k : Command) → b ≡ false → Q .count ≤ 128 → WithRest (Q .count) (S .count) (replicate 128 0) q → Sends (needed (credentials S) f e L) k (record { pool = Q; on = q; command = k })
+    sends-all {q} k is small w = sends-whole (record { shows = rest-alone Q q (S .count) (behind-count S Q L h) w ∙ sym (needed-all (firstOf Q (S .count)) f e (restOf Q (S .count)) (as-part ∙ is)); command = refl; few = small })

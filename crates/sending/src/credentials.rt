@@ -10,13 +10,13 @@ use moves::Outgoing;
 use moves::Own;
 use needed::needed;
 use needed::relevant;
-use relation::from;
+use needed::with_rest;
 use rt0::Pool;
 ghost use mathlib.Core.List.{[], _∷_};
 ghost use Prim.Native.Nat.{_≤_};
 ghost use Rattle.rt0.specs.Pool.{credentials};
 ghost use Rattle.rules.specs.Table.{chosen};
-ghost use Rattle.needed.specs.Needed.{needed as neededOf, firstOf, restOf};
+ghost use Rattle.needed.specs.Needed.{needed as neededOf};
 ghost use Rattle.tables.specs.Tables.{tablesOf};
 ghost use Rattle.tables.specs.Public.{publicOf};
 ghost use Rattle.moves.specs.Own.{Prepared};
@@ -71,29 +71,8 @@ pub fn direct_for(own: u16, shown: Pool, f: Expression, command: Command) -> Out
     }
 }
 
-// Those needed for f from e beside the first `shown` of a pool.
-fn needed_in(pool: Pool, shown: usize, f: Expression, e: Expression, command: Command) -> Outgoing
-    requires { ⌜ (pool .count ≤ 128) × (shown ≤ pool .count) ⌝ }
-    ensures { λ r. ⌜ Sends (neededOf (firstOf pool shown) f e (restOf pool shown)) command r ⌝ }
-{
-    let kept = needed(
-        pool.count,
-        &pool.heads,
-        &pool.kinds,
-        &pool.numbers,
-        shown,
-        f,
-        e,
-    );
-    Outgoing {
-        pool,
-        on: kept,
-        command,
-    }
-}
-
-// Those of a set of own credentials that are on, not shown, and needed for f from e. They are looked for among those that can matter for f,
-// where these are enough.
+// Those of a set of own credentials that are on, not shown, and needed for f from e. They are looked for among those that can matter for f:
+// where these are not enough, neither are all, and all are needed.
 fn needed_of(
     shown: Pool,
     set: Pool,
@@ -107,12 +86,38 @@ fn needed_of(
 {
     let pool = own_pool(shown, set.count, &set.heads, &set.kinds, &set.numbers, &on);
     let flags = relevant(pool.count, &pool.heads, &pool.kinds, &pool.numbers, f);
-    let part = part_of(pool, shown.count, flags);
-    let few = part.pool;
-    if from(few, f, e) {
-        return needed_in(few, part.shown, f, e, command);
+    let part = part_of(
+        pool.count,
+        &pool.heads,
+        &pool.kinds,
+        &pool.numbers,
+        shown.count,
+        &flags,
+    );
+    let kept = needed(
+        part.pool.count,
+        &part.pool.heads,
+        &part.pool.kinds,
+        &part.pool.numbers,
+        part.shown,
+        f,
+        e,
+    );
+    if kept.holds {
+        let few = part.pool;
+        let some = kept.own;
+        return Outgoing {
+            pool: few,
+            on: some,
+            command,
+        };
     }
-    needed_in(pool, shown.count, f, e, command)
+    let all = with_rest(pool.count, shown.count, [0u8; 128]);
+    Outgoing {
+        pool,
+        on: all,
+        command,
+    }
 }
 
 // Those needed for node x from e, of our set for our side of it: 0x12 where we verify it, else 0x13 less direct credentials of sensitive
@@ -128,13 +133,10 @@ pub fn needed_for(
     requires { ⌜ Prepared own × (shown .count ≤ 64) ⌝ }
     ensures { λ r. ⌜ Sends (neededOf (credentials shown) (x .expression) e (unshownOf (credentials shown) (ownSetOf (publicOf (tablesOf (own .house))) side x))) command r ⌝ }
 {
-    let house = own.house;
     let f = x.expression;
     if x.verifier == side {
-        let issuer = house.issuer;
-        return needed_of(shown, issuer, [1u8; 128], f, e, command);
+        return needed_of(shown, own.house.issuer, [1u8; 128], f, e, command);
     }
-    let subject = house.subject;
     let visible = own.visible;
-    needed_of(shown, subject, visible, f, e, command)
+    needed_of(shown, own.house.subject, visible, f, e, command)
 }

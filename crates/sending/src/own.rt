@@ -4,7 +4,6 @@ use expression::Credential;
 use moves::Own;
 use moves::Predicate;
 use moves::stops;
-use rt0::Pool;
 use tables::House;
 use tables::is_direct;
 ghost use mathlib.Core.Path.{_≡_};
@@ -12,11 +11,11 @@ ghost use mathlib.Core.Bool.{not, cond};
 ghost use Prim.Native.Nat.{_≤_};
 ghost use Rattle.rt0.specs.Pool.{poolOf, credentials};
 ghost use Rattle.rules.specs.Table.{chosen};
-ghost use Rattle.tables.specs.Tables.{pairsFrom, pairsOf, tablesOf};
+ghost use Rattle.tables.specs.Tables.{pairsFrom, pairsOf};
 ghost use Rattle.tables.specs.Decoding.{Housed};
 ghost use Rattle.tables.specs.Lookup.{isDirect};
-ghost use Rattle.tables.specs.Public.{lessDirect, publicOf};
-ghost use Rattle.moves.specs.Own.{StopsFor, Prepared};
+ghost use Rattle.tables.specs.Public.{lessDirect};
+ghost use Rattle.moves.specs.Own.{Prepared};
 
 // 1 for a credential that may show, 0 for the direct one of a sensitive role.
 fn visible_flag<'a>(
@@ -60,60 +59,66 @@ fn visible_of<'a>(
     on
 }
 
-// Where the frontier of a predicate stops in a pool.
-fn stops_in(p: Predicate, house: House, pool: Pool) -> [u8; 128]
-    requires { ⌜ Housed house × (pool .count ≤ 128) ⌝ }
-    ensures { λ r. ⌜ StopsFor p house pool r ⌝ }
-{
-    let names = house.names;
-    let pairs = house.sensitive;
-    stops(
-        p,
-        names.count,
-        &names.name,
-        &names.class,
-        pairs.count,
-        &pairs.roles,
-        &pairs.others,
-        pool.count,
-        &pool.heads,
-        &pool.kinds,
-        &pool.numbers,
-    )
-}
-
-// Of 0x13, what may show.
-fn visible_in(house: House) -> [u8; 128]
-    requires { ⌜ Housed house ⌝ }
-    ensures { λ r. ⌜ chosen (house .subject) r ≡ publicOf (tablesOf house) .subjectStored ⌝ }
-{
-    let pairs = house.sensitive;
-    let pool = house.subject;
-    visible_of(
-        house.own,
-        pairs.count,
-        &pairs.roles,
-        &pairs.others,
-        pool.count,
-        &pool.heads,
-        &pool.kinds,
-        &pool.numbers,
-    )
-}
-
-// The columns of a house.
+// The columns of a house: what of 0x13 may show, and where the frontiers of the predicates stop.
 pub fn own_of(house: House) -> Own
     requires { ⌜ Housed house ⌝ }
     ensures prepared { λ r. ⌜ Prepared r ⌝ }
     ensures same { λ r. ⌜ r .house ≡ house ⌝ }
 {
-    let issuer = house.issuer;
-    let subject = house.subject;
+    let visible = visible_of(
+        house.own,
+        house.sensitive.count,
+        &house.sensitive.roles,
+        &house.sensitive.others,
+        house.subject.count,
+        &house.subject.heads,
+        &house.subject.kinds,
+        &house.subject.numbers,
+    );
+    let oppo = stops(
+        Predicate::Oppo,
+        house.names.count,
+        &house.names.name,
+        &house.names.class,
+        house.sensitive.count,
+        &house.sensitive.roles,
+        &house.sensitive.others,
+        house.issuer.count,
+        &house.issuer.heads,
+        &house.issuer.kinds,
+        &house.issuer.numbers,
+    );
+    let simp = stops(
+        Predicate::Simp,
+        house.names.count,
+        &house.names.name,
+        &house.names.class,
+        house.sensitive.count,
+        &house.sensitive.roles,
+        &house.sensitive.others,
+        house.subject.count,
+        &house.subject.heads,
+        &house.subject.kinds,
+        &house.subject.numbers,
+    );
+    let sens = stops(
+        Predicate::Sens,
+        house.names.count,
+        &house.names.name,
+        &house.names.class,
+        house.sensitive.count,
+        &house.sensitive.roles,
+        &house.sensitive.others,
+        house.subject.count,
+        &house.subject.heads,
+        &house.subject.kinds,
+        &house.subject.numbers,
+    );
     Own {
         house,
-        visible: visible_in(house),
-        oppo: stops_in(Predicate::Oppo, house, issuer),
-        simp: stops_in(Predicate::Simp, house, subject),
-        sens: stops_in(Predicate::Sens, house, subject),
+        visible,
+        oppo,
+        simp,
+        sens,
     }
 }

@@ -165,20 +165,27 @@ fn store_range<'a>(
     count
 }
 
-// The flagged credentials of a pool, the first of which are shown.
-pub fn part_of(pool: Pool, shown: usize, flags: [u8; 128]) -> Part
-    requires { ⌜ (pool .count ≤ 128) × (shown ≤ pool .count) ⌝ }
-    ensures { λ r. ⌜ PartOf pool shown flags (r .pool) (r .shown) ⌝ }
+// The flagged ones of n credentials, the first of which are shown.
+pub fn part_of<'a>(
+    n: usize,
+    heads: &'a [u16; 256],
+    kinds: &'a [u8; 256],
+    numbers: &'a [u16; 1024],
+    shown: usize,
+    flags: &'a [u8; 128],
+) -> Part
+    requires { ⌜ (n ≤ 128) × (shown ≤ n) ⌝ }
+    ensures { λ r. ⌜ PartOf (poolOf n (now (heads .entry)) (now (kinds .entry)) (now (numbers .entry))) shown (now (flags .entry)) (r .pool) (r .shown) ⌝ }
 {
     let mut h = [0u16; 256];
     let mut k = [0u8; 256];
     let mut u = [0u16; 1024];
     let s = store_range(
-        pool.count,
-        &pool.heads,
-        &pool.kinds,
-        &pool.numbers,
-        &flags,
+        n,
+        heads,
+        kinds,
+        numbers,
+        flags,
         0,
         shown,
         &mut h,
@@ -187,13 +194,13 @@ pub fn part_of(pool: Pool, shown: usize, flags: [u8; 128]) -> Part
         0,
     );
     let count = store_range(
-        pool.count,
-        &pool.heads,
-        &pool.kinds,
-        &pool.numbers,
-        &flags,
+        n,
+        heads,
+        kinds,
+        numbers,
+        flags,
         shown,
-        pool.count,
+        n,
         &mut h,
         &mut k,
         &mut u,

@@ -4,7 +4,7 @@ use Rattle.rt0.specs.declared.Pool.{Pool}
 use Rattle.rt0.specs.Pool.{poolOf}
 use Rattle.relation.specs.Relation.{Relation}
 use Rattle.needed.specs.Columns.{Keeping}
-use Rattle.needed.specs.KeepingLaws.{keep-start, keep-done, keep-end, keep-all, keep-next}
+use Rattle.needed.specs.KeepingLaws.{keep-start, keep-done, keep-all, keep-next, keep-last}
 use Rattle.needed.proofs.keep.Statement.{statement}
 use Rattle.needed.proofs.keep.Tie as tie
 
@@ -22,34 +22,37 @@ loop-holds : tie.Need-loop-holds Inv-loop μ-loop
 loop-holds c = (keep-start (pool c) (c .pre .0) (c .args .s) (c .args .f) (c .args .e) _ (c .pre .1) (c .pre .3), c .pre .4)
 
 next-kept-requires : tie.Need-next-kept-requires Inv-loop μ-loop
-next-kept-requires c κs = (c .before .before .before .before .pre .0, c .before .before .before .loop .inv .0 .within, c .before .before .before .before .pre .2, c .before .before .before .loop .inv .0 .on-sized, c .before .before .before .loop .inv .1)
+next-kept-requires c κs = (c .before .before .before .pre .0, c .before .before .loop .inv .0 .within, c .before .before .before .pre .2, c .before .before .loop .inv .0 .on-sized, c .before .before .loop .inv .1)
 
 with-rest-requires : tie.Need-with-rest-requires Inv-loop μ-loop
-with-rest-requires c κs = (c .before .before .before .before .before .before .pre .0, c .before .before .before .before .before .loop .inv .0 .within, c .before .before .before .before .before .loop .inv .0 .sized)
+with-rest-requires c κs = (c .before .before .before .before .before .pre .0, c .before .before .before .before .loop .inv .0 .within, c .before .before .before .before .loop .inv .0 .sized)
 
 returns : tie.Need-returns Inv-loop μ-loop
-returns c = keep-all (pool (c .before .before .before .before .before .before .before)) (c .before .before .before .before .before .before .before .pre .0) (c .before .before .before .before .before .before .before .args .s) (c .before .before .before .before .before .before .before .args .f) (c .before .before .before .before .before .before .before .args .e) _ _ _ (c .before .before .before .before .before .before .loop .inv .0) _ _ (c .before .before .next-kept .ensures .0) (c .before .if1 .taken) (c .with-rest .ensures)
+returns c = keep-all (pool (c .before .before .before .before .before .before)) (c .before .before .before .before .before .before .pre .0) (c .before .before .before .before .before .before .args .s) (c .before .before .before .before .before .before .args .f) (c .before .before .before .before .before .before .args .e) _ _ _ (c .before .before .before .before .before .loop .inv .0) _ _ (c .before .before .next-kept .ensures .0) (c .before .if1 .taken) (c .with-rest .ensures)
 
 returns-2 : tie.Need-returns-2 Inv-loop μ-loop
-returns-2 c = keep-done (pool (c .before .before .before .before .before .before .before)) (c .before .before .before .before .before .before .before .pre .0) (c .before .before .before .before .before .before .before .args .s) (c .before .before .before .before .before .before .before .args .f) (c .before .before .before .before .before .before .before .args .e) _ _ _ (c .before .before .before .before .before .before .loop .inv .0) _ (c .before .before .next-kept .ensures .0) (c .if2 .taken)
+returns-2 c = keep-done (pool (c .before .before .before .before .before .before)) (c .before .before .before .before .before .before .pre .0) (c .before .before .before .before .before .before .args .s) (c .before .before .before .before .before .before .args .f) (c .before .before .before .before .before .before .args .e) _ _ _ (c .before .before .before .before .before .loop .inv .0) _ (c .before .before .next-kept .ensures .0) (c .if2 .taken)
 
-below : (c : tie.Else2 Inv-loop μ-loop) → c .before .before .next-kept .result < c .before .before .before .before .before .before .before .args .n
+below : (c : tie.Else2 Inv-loop μ-loop) → c .before .before .next-kept .result < c .before .before .before .before .before .before .args .n
 below c = omega (arith, c .before .if1 .left, c .if2 .left)
 
 array-write-r : tie.Need-array-write-r Inv-loop μ-loop
-array-write-r c = omega (arith, below c, c .before .before .before .before .before .before .before .pre .0)
+array-write-r c = omega (arith, below c, c .before .before .before .before .before .before .pre .0)
 
-add-a : tie.Need-add-a Inv-loop μ-loop
-add-a c = omega (arith, below c, c .before .before .before .before .before .before .before .pre .0)
-
-loop-less : tie.Need-loop-less Inv-loop μ-loop
-loop-less c = omega (arith, below c, c .before .before .next-kept .ensures .0 .found (c .before .if1 .left) .0)
-
-loop-again : tie.Need-loop-again Inv-loop μ-loop
-loop-again c = (keep-next (pool (c .before .before .before .before .before .before .before)) (c .before .before .before .before .before .before .before .pre .0) (c .before .before .before .before .before .before .before .args .s) (c .before .before .before .before .before .before .before .args .f) (c .before .before .before .before .before .before .before .args .e) _ _ _ (c .before .before .before .before .before .before .loop .inv .0) _ _ (c .before .before .next-kept .ensures .0) (below c) (c .before .before .next-kept .ensures .1 .0 (below c)), c .before .before .next-kept .ensures .1 .1 (below c))
+add-if3 : tie.Need-add-if3 Inv-loop μ-loop
+add-if3 c = omega (arith, below c, c .before .before .before .before .before .before .pre .0)
 
 returns-3 : tie.Need-returns-3 Inv-loop μ-loop
-returns-3 c = keep-end (pool (c .before .before)) (c .before .before .pre .0) (c .before .before .args .s) (c .before .before .args .f) (c .before .before .args .e) _ _ _ (c .before .loop .inv .0) (c .loop-test .left)
+returns-3 c = keep-last (pool (c .before .before .before .before .before .before .before)) (c .before .before .before .before .before .before .before .pre .0) (c .before .before .before .before .before .before .before .args .s) (c .before .before .before .before .before .before .before .args .f) (c .before .before .before .before .before .before .before .args .e) _ _ _ (c .before .before .before .before .before .before .loop .inv .0) _ (c .before .before .before .next-kept .ensures .0) (c .if3 .taken)
+
+add-a : tie.Need-add-a Inv-loop μ-loop
+add-a c = omega (arith, below (c .before), c .before .before .before .before .before .before .before .pre .0)
+
+loop-less : tie.Need-loop-less Inv-loop μ-loop
+loop-less c = omega (arith, below (c .before), c .before .before .before .next-kept .ensures .0 .found (c .before .before .if1 .left) .0)
+
+loop-again : tie.Need-loop-again Inv-loop μ-loop
+loop-again c = (keep-next (pool (c .before .before .before .before .before .before .before)) (c .before .before .before .before .before .before .before .pre .0) (c .before .before .before .before .before .before .before .args .s) (c .before .before .before .before .before .before .before .args .f) (c .before .before .before .before .before .before .before .args .e) _ _ _ (c .before .before .before .before .before .before .loop .inv .0) _ _ (c .before .before .before .next-kept .ensures .0) (below (c .before)) (c .before .before .before .next-kept .ensures .1 .0 (below (c .before))), c .before .before .before .next-kept .ensures .1 .1 (below (c .before)))
 
 pub keep-spec : {M : Type 1} → statement M
 keep-spec =
@@ -63,7 +66,8 @@ keep-spec =
     returns
     returns-2
     array-write-r
+    add-if3
+    returns-3
     add-a
     loop-less
-    loop-again
-    returns-3)
+    loop-again)

@@ -24,7 +24,7 @@ keep-requires : tie.Need-keep-requires
 keep-requires c κs = (c .before .before .before .before .before .before .before .before .before .before .before .before .before .before .before .before .before .before .before .before .before .before .before .before .before .pre .0, c .before .before .before .before .before .before .before .before .before .before .before .before .before .before .before .before .before .before .before .before .before .before .before .before .before .pre .1, by-columns (pool (c .before .before .before .before .before .before .before .before .before .before .before .before .before .before .before .before .before .before .before .before .before .before .before .before .before)) (c .before .before .before .before .before .before .before .before .before .before .before .before .before .before .before .before .before .before .before .before .before .before .before .before .rules-of .result) (c .before .before .before .before .before .before .before .before .before .before .before .before .before .before .before .before .before .before .before .before .before .before .before .before .rules-of .ensures), c .before .before .before .before .before .before .before .before .before .before .before .before .before .before .before .before .before .before .first-on .ensures, c .before .before .before .before .before .before .before .before .before .relation .ensures)
 
 returns : tie.Need-returns
-returns c = (c .keep .ensures .own, c .keep .ensures .all)
+returns c = (c .keep .ensures .holds, (c .keep .ensures .own, c .keep .ensures .all))
 
 pub needed-spec : {M : Type 1} → statement M
 needed-spec =

@@ -1,5 +1,7 @@
+use Prim.Native.Nat.{ℕ}
+use lib.ListN.{length-replicate}
 use borrow.Author.Needs.{needs}
-use Rattle.sending.specs.Part.{sends-whole, sends-part}
+use Rattle.sending.specs.Part.{sends-part, sends-all}
 use Rattle.sending.specs.Behind.{behind-count}
 use Rattle.sending.proofs.credentials.needed_of.Statement.{statement}
 use Rattle.sending.proofs.credentials.needed_of.Tie as tie
@@ -11,22 +13,19 @@ relevant-requires : tie.Need-relevant-requires
 relevant-requires c κs = search needs
 
 part-of-requires : tie.Need-part-of-requires
-part-of-requires c κs = (c .before .before .before .before .before .own-pool .ensures .0, behind-count _ _ _ (c .before .before .before .before .before .own-pool .ensures .1))
+part-of-requires c κs = (c .before .before .before .before .before .before .before .before .before .before .own-pool .ensures .0, behind-count _ _ _ (c .before .before .before .before .before .before .before .before .before .before .own-pool .ensures .1))
 
-from-requires : tie.Need-from-requires
-from-requires c κs = search needs
-
-needed-in-requires : tie.Need-needed-in-requires
-needed-in-requires c κs = search needs
+needed-requires : tie.Need-needed-requires
+needed-requires c κs = (c .before .before .before .before .part-of .ensures .few, c .before .before .before .before .part-of .ensures .within)
 
 returns : tie.Need-returns
-returns c = sends-part _ _ _ _ _ (c .before .before .before .before .before .before .before .before .before .before .own-pool .ensures .1) (c .before .before .before .before .before .relevant .ensures) (c .before .before .before .before .part-of .ensures) (c .before .before .from .ensures) (c .before .if1 .taken) (c .needed-in .ensures)
+returns c = sends-part _ _ _ _ _ (c .before .before .before .before .before .before .before .before .before .before .before .before .before .before .before .before .before .before .before .own-pool .ensures .1) (c .before .before .before .before .before .before .before .before .before .before .before .before .before .before .relevant .ensures) (c .before .before .before .before .before .before .before .before .part-of .ensures) (c .before .before .before .needed .ensures .0) _ (c .before .before .if1 .taken) (c .before .before .before .needed .ensures .1 .1)
 
-needed-in-requires-2 : tie.Need-needed-in-requires-2
-needed-in-requires-2 c κs = (c .before .before .before .before .before .before .before .before .before .own-pool .ensures .0, behind-count _ _ _ (c .before .before .before .before .before .before .before .before .before .own-pool .ensures .1))
+with-rest-requires : tie.Need-with-rest-requires
+with-rest-requires c κs = (c .before .before .before .before .before .before .before .before .before .before .before .before .before .before .before .before .before .own-pool .ensures .0, behind-count _ _ _ (c .before .before .before .before .before .before .before .before .before .before .before .before .before .before .before .before .before .own-pool .ensures .1), length-replicate {A = ℕ} 128 0)
 
 returns-2 : tie.Need-returns-2
-returns-2 c = sends-whole _ _ _ _ _ (c .before .before .before .before .before .before .before .before .before .before .own-pool .ensures .1) (c .needed-in2 .ensures)
+returns-2 c = sends-all _ _ _ _ _ (c .before .before .before .before .before .before .before .before .before .before .before .before .before .before .before .before .before .before .own-pool .ensures .1) (c .before .before .before .before .before .before .before .before .before .before .before .before .before .relevant .ensures) (c .before .before .before .before .before .before .before .part-of .ensures) (c .before .before .needed .ensures .0) _ (c .before .if1 .left) (c .before .before .before .before .before .before .before .before .before .before .before .before .before .before .before .before .before .before .own-pool .ensures .0) (c .with-rest .ensures)
 
 pub needed-of-spec : {M : Type 1} → statement M
 needed-of-spec =
@@ -35,8 +34,7 @@ needed-of-spec =
     own-pool-requires
     relevant-requires
     part-of-requires
-    from-requires
-    needed-in-requires
+    needed-requires
     returns
-    needed-in-requires-2
+    with-rest-requires
     returns-2)

@@ -12,7 +12,7 @@ store-range-requires-2 : tie.Need-store-range-requires-2
 store-range-requires-2 c κs = search needs
 
 returns : tie.Need-returns
-returns c = part-is _ _ _ _ _ _ _ (c .before .before .before .before .before .before .before .before .before .before .before .before .before .before .before .before .before .before .pre .0) (c .before .before .before .before .before .before .before .before .before .before .before .before .before .before .before .before .before .before .pre .1) (omega arith) refl (c .before .before .before .before .before .before .before .before .before .store-range .ensures) (c .store-range2 .ensures)
+returns c = part-is _ _ _ _ _ _ _ (c .before .before .before .before .before .before .before .before .pre .0) (c .before .before .before .before .before .before .before .before .pre .1) (omega arith) refl (c .before .before .before .before .store-range .ensures) (c .store-range2 .ensures)
 
 pub part-of-spec : {M : Type 1} → statement M
 part-of-spec = tie.close (tie.spec store-range-requires store-range-requires-2 returns)
