@@ -34,18 +34,18 @@ pub fn restore(tables: &[u8], negotiation: &[u8]) -> Restored
         return refused(LENGTH);
     }
     let d = decode(tables);
-    let house = d.house;
     if d.refusal != 0 {
         return refused(d.refusal);
     }
     let r = read(negotiation);
-    let held = r.negotiation;
     if !r.ok {
         return refused(DAMAGED);
     }
-    if !sound(house, held) {
+    if !sound(d.house, r.negotiation) {
         return refused(DAMAGED);
     }
+    let house = d.house;
+    let held = r.negotiation;
     Restored {
         refusal: 0,
         house,

@@ -21,6 +21,9 @@ use Rattle.propagation.specs.Flags.{at, flag}
 abbrev pub monitorKind : ℕ → Bool
 monitorKind k = eqb k 2
 
+abbrev pub linkingKind : ℕ → Bool
+linkingKind k = eqb k 4
+
 -- B.r2, for A.r1.r2 and B
 abbrev pub isSolutionFor : Expression → ℕ → Expression → Bool
 isSolutionFor (E.Entity a) b x = false

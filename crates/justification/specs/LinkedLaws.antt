@@ -1,6 +1,7 @@
 -- Linking implication edges, judged as the satisfied nodes grow with the edges. Assumes nothing.
 use Prim.Native.Nat.{ℕ, zero, suc, _+_, _≤_, _<_}
 use native.Mathlib.Omega.{arith}
+use native.Mathlib.Numerals.{add-one}
 use mathlib.Core.Path.{_≡_, refl, sym, _∙_, ap, subst}
 use mathlib.Core.Bool.{Bool, true, false, not, _||_}
 use mathlib.Core.List.{List, [], _∷_, _++_}
@@ -9,6 +10,7 @@ use lib.Dec.{eqb}
 use lib.ListN.{getD, length, take}
 use lib.Seq.{take-all, take-append-le}
 use Rattle.rt0.specs.Pool.{upTo}
+use Rattle.class.specs.Find.{Missed, missed-fewer}
 use Rattle.rt0.specs.Added.{length-upTo}
 use Rattle.propagation.specs.Flags.{at, flag}
 use Rattle.propagation.specs.Satisfied.{graph, satisfiedOf}
@@ -26,7 +28,7 @@ use Rattle.states.specs.Brings.{NodesFormed, Joined, Needs}
 use Rattle.states.specs.SatisfiedColumns.{satisfied-columns}
 use Rattle.justification.specs.InTurn.{inTurn, turn-start, turn-next, turn-stop, turn-done}
 use Rattle.justification.specs.Inside.{Inside}
-use Rattle.justification.specs.Justified.{monitored, monitoredIf, Says}
+use Rattle.justification.specs.Justified.{linkingKind, monitored, monitoredIf, Says}
 
 module _ (ns : List Node) (es : List Edge) (e : Edge) where
   by-kind : (a b : Bool) → a ≡ eqb (e .kind) 4 → b ≡ monitored ns es e → (not a || b) ≡ monitoredIf ns es e
@@ -38,6 +40,17 @@ module _ (ns : List Node) (es : List Edge) (e : Edge) where
 
   pub linking-kind : {b : Bool} → e .kind ≡ 4 → b ≡ monitored ns es e → b ≡ monitoredIf ns es e
   linking-kind h q = by-kind true _ (sym (eq-eqb (e .kind) 4 h)) q
+
+-- where none is of kind 4, all are justified
+none-to : (ns : List Node) (E : Edges) (j : ℕ) → Missed linkingKind (λ i. getD (E .kind) i 0) j → inTurn (monitoredIf ns) [] (upTo j (edgeAt E)) ≡ true
+none-to ns E zero h = turn-start (monitoredIf ns) (edgeAt E)
+none-to ns E (suc j) h =
+    ap (λ (k : ℕ). inTurn (monitoredIf ns) [] (upTo k (edgeAt E))) (sym (add-one j))
+    ∙ turn-next (monitoredIf ns) (edgeAt E) {j = j} (none-to ns E j (missed-fewer h (omega arith))) (other-kind ns (upTo j (edgeAt E)) (edgeAt E j) (eqb-false (getD (E .kind) j 0) 4 (h .none j (omega arith)))) refl
+
+pub none-linking : (ns : List Node) (E : Edges) {b : Bool} → (b ≡ false → Missed linkingKind (λ i. getD (E .kind) i 0) (E .count)) → not b ≡ true → true ≡ inTurn (monitoredIf ns) [] (edgesOf E)
+unfolding edgesOf
+none-linking ns E {b} h e = sym (none-to ns E (E .count) (h (not-true b e)))
 
 -- the first j of the edges
 take-upTo : {A : Type 0} (f : ℕ → A) (j n : ℕ) → j ≤ n → take j (upTo n f) ≡ upTo j f

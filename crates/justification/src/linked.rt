@@ -11,10 +11,13 @@ use states::links;
 use states::needs;
 use word::wide;
 ghost use mathlib.Core.Path.{_≡_};
+ghost use mathlib.Core.Bool.{false};
 ghost use mathlib.Core.List.{[]};
 ghost use Prim.Native.Nat.{_≤_, _<_};
+ghost use lib.ListN.{getD};
+ghost use Rattle.class.specs.Find.{Missed};
 ghost use Rattle.graph.specs.Graph.{nodesFrom, edgesFrom, nodesOf, edgesOf};
-ghost use Rattle.justification.specs.Justified.{monitored, monitoredIf, Says};
+ghost use Rattle.justification.specs.Justified.{linkingKind, monitored, monitoredIf, Says};
 ghost use Rattle.justification.specs.InTurn.{inTurn};
 ghost use Rattle.justification.specs.Inside.{Inside};
 ghost use Rattle.propagation.specs.Chains.{Chained};
@@ -232,11 +235,29 @@ fn linked_in_turn<'a>(
     true
 }
 
+// Whether any edge is a linking implication edge.
+fn has_linking<'a>(m: usize, edge: &'a [u8; 256]) -> bool
+    requires { ⌜ m ≤ 256 ⌝ }
+    ensures { λ r. ⌜ (r ≡ false → Missed linkingKind (λ j. getD (now (edge .entry)) j 0) m) ⌝ }
+{
+    let mut j = 0;
+    while j < m {
+        if edge[j] == LINKING_IMPLICATION {
+            return true;
+        }
+        j += 1;
+    }
+    false
+}
+
 // Whether every linking implication edge is justified.
 pub fn links_justified(nodes: Nodes, edges: Edges) -> bool
     requires { ⌜ (nodes .count ≤ 128) × (edges .count ≤ 256) × NodesFormed (nodesOf nodes) × Inside (nodes .count) edges ⌝ }
     ensures { λ r. ⌜ r ≡ inTurn (monitoredIf (nodesOf nodes)) [] (edgesOf edges) ⌝ }
 {
+    if !has_linking(edges.count, &edges.kind) {
+        return true;
+    }
     let need = needs(nodes.count, &nodes.kind, &nodes.parts, &nodes.state);
     let x = links(
         nodes.count,

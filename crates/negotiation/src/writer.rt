@@ -11,10 +11,7 @@ use expression::expression_of;
 use expression::write_credential;
 use expression::write_expression;
 use graph::Edge;
-use graph::Edges;
 use graph::Node;
-use graph::Nodes;
-use rt0::Pool;
 use rt0::body_at;
 use rt0::head_at;
 ghost use mathlib.Core.Path.{_≡_};
@@ -23,8 +20,8 @@ ghost use Prim.Native.Nat.{_+_, _-_, _≤_};
 ghost use lib.ListN.{length};
 ghost use Rattle.expression.specs.Bytes.{pasted};
 ghost use Rattle.expression.specs.Credential.{credentialBytes};
-ghost use Rattle.graph.specs.Graph.{nodesOf, edgesOf};
-ghost use Rattle.rt0.specs.Pool.{credentials};
+ghost use Rattle.graph.specs.Graph.{nodesFrom, edgesFrom, nodesOf, edgesOf};
+ghost use Rattle.rt0.specs.Pool.{poolOf, credentials};
 ghost use Rattle.negotiation.specs.State.{stateOf, within};
 ghost use Rattle.negotiation.specs.Layout.{headerBytes, nodeBytes, edgeBytes, zeros, part, stateBytes};
 
@@ -91,65 +88,90 @@ fn write_edge(buf: &mut [u8], at: usize, e: Edge)
     copy_in(buf, at, &b);
 }
 
-fn write_nodes(buf: &mut [u8], nodes: Nodes)
-    requires { ⌜ (nodes .count ≤ 128) × (2944 ≤ length (now buf)) ⌝ }
-    ensures { λ _. ⌜ now (buf .exit) ≡ pasted (now (buf .entry)) 128 (part 2816 nodeBytes (nodesOf nodes)) ⌝ }
+fn write_nodes<'a>(
+    buf: &'a mut [u8],
+    n: usize,
+    kind: &'a [u8; 128],
+    parts: &'a [u8; 128],
+    n0: &'a [u16; 128],
+    n1: &'a [u16; 128],
+    n2: &'a [u16; 128],
+    n3: &'a [u16; 128],
+    n4: &'a [u16; 128],
+    n5: &'a [u16; 128],
+    n6: &'a [u16; 128],
+    n7: &'a [u16; 128],
+    subject: &'a [u16; 128],
+    verifier: &'a [u8; 128],
+    state: &'a [u8; 128],
+)
+    requires { ⌜ (n ≤ 128) × (2944 ≤ length (now buf)) ⌝ }
+    ensures { λ _. ⌜ now (buf .exit) ≡ pasted (now (buf .entry)) 128 (part 2816 nodeBytes (nodesOf (nodesFrom n (now (kind .entry)) (now (parts .entry)) (now (n0 .entry)) (now (n1 .entry)) (now (n2 .entry)) (now (n3 .entry)) (now (n4 .entry)) (now (n5 .entry)) (now (n6 .entry)) (now (n7 .entry)) (now (subject .entry)) (now (verifier .entry)) (now (state .entry))))) ⌝ }
 {
-    let count = nodes.count;
     let mut i = 0;
-    while i < count {
+    while i < n {
         let expression = expression_of(Raw {
-            kind: nodes.kind[i],
-            count: nodes.parts[i],
-            n0: nodes.n0[i],
-            n1: nodes.n1[i],
-            n2: nodes.n2[i],
-            n3: nodes.n3[i],
-            n4: nodes.n4[i],
-            n5: nodes.n5[i],
-            n6: nodes.n6[i],
-            n7: nodes.n7[i],
+            kind: kind[i],
+            count: parts[i],
+            n0: n0[i],
+            n1: n1[i],
+            n2: n2[i],
+            n3: n3[i],
+            n4: n4[i],
+            n5: n5[i],
+            n6: n6[i],
+            n7: n7[i],
         });
         let x = Node {
             expression,
-            subject: nodes.subject[i],
-            verifier: nodes.verifier[i],
-            state: nodes.state[i],
+            subject: subject[i],
+            verifier: verifier[i],
+            state: state[i],
         };
         write_node(buf, NODES_AT + i * 22, x);
         i += 1;
     }
-    write_zeros(buf, NODES_AT + count * 22, EDGES_AT);
+    write_zeros(buf, NODES_AT + n * 22, EDGES_AT);
 }
 
-fn write_edges(buf: &mut [u8], edges: Edges)
-    requires { ⌜ (edges .count ≤ 256) × (3712 ≤ length (now buf)) ⌝ }
-    ensures { λ _. ⌜ now (buf .exit) ≡ pasted (now (buf .entry)) 2944 (part 768 edgeBytes (edgesOf edges)) ⌝ }
+fn write_edges<'a>(
+    buf: &'a mut [u8],
+    m: usize,
+    kind: &'a [u8; 256],
+    parent: &'a [u8; 256],
+    child: &'a [u8; 256],
+)
+    requires { ⌜ (m ≤ 256) × (3712 ≤ length (now buf)) ⌝ }
+    ensures { λ _. ⌜ now (buf .exit) ≡ pasted (now (buf .entry)) 2944 (part 768 edgeBytes (edgesOf (edgesFrom m (now (kind .entry)) (now (parent .entry)) (now (child .entry))))) ⌝ }
 {
-    let count = edges.count;
     let mut j = 0;
-    while j < count {
+    while j < m {
         let e = Edge {
-            kind: edges.kind[j],
-            parent: edges.parent[j],
-            child: edges.child[j],
+            kind: kind[j],
+            parent: parent[j],
+            child: child[j],
         };
         write_edge(buf, EDGES_AT + j * 3, e);
         j += 1;
     }
-    write_zeros(buf, EDGES_AT + count * 3, SHOWN_AT);
+    write_zeros(buf, EDGES_AT + m * 3, SHOWN_AT);
 }
 
-fn write_shown(buf: &mut [u8], shown: Pool)
-    requires { ⌜ (shown .count ≤ 64) × (5120 ≤ length (now buf)) ⌝ }
-    ensures { λ _. ⌜ now (buf .exit) ≡ pasted (now (buf .entry)) 3712 (part 1408 credentialBytes (credentials shown)) ⌝ }
+fn write_shown<'a>(
+    buf: &'a mut [u8],
+    count: usize,
+    heads: &'a [u16; 256],
+    kinds: &'a [u8; 256],
+    numbers: &'a [u16; 1024],
+)
+    requires { ⌜ (count ≤ 64) × (5120 ≤ length (now buf)) ⌝ }
+    ensures { λ _. ⌜ now (buf .exit) ≡ pasted (now (buf .entry)) 3712 (part 1408 credentialBytes (credentials (poolOf count (now (heads .entry)) (now (kinds .entry)) (now (numbers .entry))))) ⌝ }
 {
-    let count = shown.count;
     let mut k = 0;
     while k < count {
         let c = Credential {
-            head: head_at(count, &shown.heads, &shown.kinds, &shown.numbers, k),
-            body: body_at(count, &shown.heads, &shown.kinds, &shown.numbers, k),
+            head: head_at(count, heads, kinds, numbers, k),
+            body: body_at(count, heads, kinds, numbers, k),
         };
         write_credential(buf, SHOWN_AT + k * 22, c);
         k += 1;
@@ -162,14 +184,38 @@ pub fn write(n: Negotiation, buf: &mut [u8])
     requires { ⌜ (within (stateOf n) ≡ true) × (length (now buf) ≡ 5120) ⌝ }
     ensures { λ _. ⌜ now (buf .exit) ≡ stateBytes (stateOf n) ⌝ }
 {
-    let header = n.header;
-    let nodes = n.nodes;
-    let edges = n.edges;
-    let shown = n.shown;
-    let b = header_bytes(header, nodes.count, edges.count, shown.count);
+    let b = header_bytes(n.header, n.nodes.count, n.edges.count, n.shown.count);
     copy_in(buf, 0, &b);
     write_zeros(buf, 18, NODES_AT);
-    write_nodes(buf, nodes);
-    write_edges(buf, edges);
-    write_shown(buf, shown);
+    write_nodes(
+        buf,
+        n.nodes.count,
+        &n.nodes.kind,
+        &n.nodes.parts,
+        &n.nodes.n0,
+        &n.nodes.n1,
+        &n.nodes.n2,
+        &n.nodes.n3,
+        &n.nodes.n4,
+        &n.nodes.n5,
+        &n.nodes.n6,
+        &n.nodes.n7,
+        &n.nodes.subject,
+        &n.nodes.verifier,
+        &n.nodes.state,
+    );
+    write_edges(
+        buf,
+        n.edges.count,
+        &n.edges.kind,
+        &n.edges.parent,
+        &n.edges.child,
+    );
+    write_shown(
+        buf,
+        n.shown.count,
+        &n.shown.heads,
+        &n.shown.kinds,
+        &n.shown.numbers,
+    );
 }

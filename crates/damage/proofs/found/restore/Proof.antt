@@ -20,7 +20,7 @@ refused-requires-2 : tie.Need-refused-requires-2
 refused-requires-2 c κs = search needs
 
 returns-2 : tie.Need-returns-2
-returns-2 c = restore-tables _ _ (c .before .before .before .before .before .if1 .left) _ (c .before .before .before .before .decode .ensures .0) _ (c .before .if2 .taken) (c .refused2 .ensures)
+returns-2 c = restore-tables _ _ (c .before .before .before .before .if1 .left) _ (c .before .before .before .decode .ensures .0) _ (c .before .if2 .taken) (c .refused2 .ensures)
 
 read-requires : tie.Need-read-requires
 read-requires c κs = search needs
@@ -29,19 +29,19 @@ refused-requires-3 : tie.Need-refused-requires-3
 refused-requires-3 c κs = search needs
 
 returns-3 : tie.Need-returns-3
-returns-3 c = restore-unread _ _ (c .before .before .before .before .before .before .before .before .before .if1 .left) _ (c .before .before .before .before .before .before .before .before .decode .ensures .0) (c .before .before .before .before .before .if2 .left) _ (c .before .before .before .before .read .ensures) _ (c .before .if3 .taken) (c .refused3 .ensures)
+returns-3 c = restore-unread _ _ (c .before .before .before .before .before .before .before .if1 .left) _ (c .before .before .before .before .before .before .decode .ensures .0) (c .before .before .before .before .if2 .left) _ (c .before .before .before .read .ensures) _ (c .before .if3 .taken) (c .refused3 .ensures)
 
 sound-requires : tie.Need-sound-requires
-sound-requires c κs = ((c .before .before .before .before .before .before .before .decode .ensures .1), state-within _ _ (c .before .before .before .read .ensures) (c .if3 .left))
+sound-requires c κs = ((c .before .before .before .before .before .decode .ensures .1), state-within _ _ (c .before .before .read .ensures) (c .if3 .left))
 
 refused-requires-4 : tie.Need-refused-requires-4
 refused-requires-4 c κs = search needs
 
 returns-4 : tie.Need-returns-4
-returns-4 c = restore-damaged _ _ (c .before .before .before .before .before .before .before .before .before .before .before .if1 .left) _ (c .before .before .before .before .before .before .before .before .before .before .decode .ensures .0) (c .before .before .before .before .before .before .before .if2 .left) _ (c .before .before .before .before .before .before .read .ensures) (c .before .before .before .if3 .left) (c .before .before .sound .ensures) _ (c .before .if4 .taken) (c .refused4 .ensures)
+returns-4 c = restore-damaged _ _ (c .before .before .before .before .before .before .before .before .before .if1 .left) _ (c .before .before .before .before .before .before .before .before .decode .ensures .0) (c .before .before .before .before .before .before .if2 .left) _ (c .before .before .before .before .before .read .ensures) (c .before .before .before .if3 .left) (c .before .before .sound .ensures) _ (c .before .if4 .taken) (c .refused4 .ensures)
 
 returns-5 : tie.Need-returns-5
-returns-5 c = restore-sound _ _ (c .before .before .before .before .before .before .before .before .before .before .if1 .left) _ (c .before .before .before .before .before .before .before .before .before .decode .ensures .0) (c .before .before .before .before .before .before .if2 .left) _ (c .before .before .before .before .before .read .ensures) (c .before .before .if3 .left) (c .before .sound .ensures) (c .if4 .left) (c .before .before .before .before .before .before .before .before .before .decode .ensures .1)
+returns-5 c = restore-sound _ _ (c .before .before .before .before .before .before .before .before .before .before .if1 .left) _ (c .before .before .before .before .before .before .before .before .before .decode .ensures .0) (c .before .before .before .before .before .before .before .if2 .left) _ (c .before .before .before .before .before .before .read .ensures) (c .before .before .before .before .if3 .left) (c .before .before .before .sound .ensures) (c .before .before .if4 .left) (c .before .before .before .before .before .before .before .before .before .decode .ensures .1)
 
 pub restore-spec : {M : Type 1} → statement M
 restore-spec =

@@ -8,29 +8,30 @@ use lib.ListN.{length}
 use lib.Seq.{paste-zero}
 use Rattle.expression.specs.Bytes.{pasted}
 use Rattle.rt0.specs.Pool.{upTo}
-use Rattle.graph.specs.Graph.{edgeAt, edgesOf}
+use Rattle.graph.specs.declared.Edges.{Edges}
+use Rattle.graph.specs.Graph.{edgesFrom, edgeAt, edgesOf}
 use Rattle.negotiation.specs.Layout.{edgeBytes, records, zeros}
 use Rattle.negotiation.specs.LayoutLaws.{record-next, part-written, edge-size}
 use Rattle.negotiation.proofs.writer.write_edges.Statement.{statement}
 use Rattle.negotiation.proofs.writer.write_edges.Tie as tie
 
 abbrev Inv-loop : tie.InvT-loop
-Inv-loop buf₀ edges count j₀ buf j = (j ≤ count) × (length buf ≡ length buf₀) × (buf ≡ pasted buf₀ 2944 (records edgeBytes (upTo j (edgeAt edges))))
+Inv-loop buf₀ m kind parent child j₀ buf j = (j ≤ m) × (length buf ≡ length buf₀) × (buf ≡ pasted buf₀ 2944 (records edgeBytes (upTo j (edgeAt (edgesFrom m kind parent child)))))
 
 abbrev μ-loop : tie.MeasureT-loop
-μ-loop buf₀ edges count j₀ buf j = count - j
+μ-loop buf₀ m kind parent child j₀ buf j = m - j
 
 loop-holds : tie.Need-loop-holds Inv-loop μ-loop
 loop-holds c = (omega arith, refl, paste-zero (c .before .args .buf .now) 2944 [])
 
-element-copy-out-t10 : tie.Need-element-copy-out-t10 Inv-loop μ-loop
-element-copy-out-t10 c = search needs
+element-copy-out-t11 : tie.Need-element-copy-out-t11 Inv-loop μ-loop
+element-copy-out-t11 c = search needs
 
-element-copy-out-t13 : tie.Need-element-copy-out-t13 Inv-loop μ-loop
-element-copy-out-t13 c = search needs
+element-copy-out-t14 : tie.Need-element-copy-out-t14 Inv-loop μ-loop
+element-copy-out-t14 c = search needs
 
-element-copy-out-t16 : tie.Need-element-copy-out-t16 Inv-loop μ-loop
-element-copy-out-t16 c = search needs
+element-copy-out-t17 : tie.Need-element-copy-out-t17 Inv-loop μ-loop
+element-copy-out-t17 c = search needs
 
 mul-write-edge : tie.Need-mul-write-edge Inv-loop μ-loop
 mul-write-edge c = omega arith
@@ -52,12 +53,13 @@ loop-again c =
     let w = c .before .before in
     let s = w .before .before .before .before .before .before in
     let a = s .before .before .args in
+    let E : Edges = edgesFrom (a .m) (a .kind .now) (a .parent .now) (a .child .now) in
     let j : ℕ = s .loop .j in (
       omega arith,
       w .write-edge .kept .0 ∙ s .loop .inv .1,
       w .write-edge .ensures
-          ∙ ap (λ (l : List ℕ). pasted l (2944 + j * 3) (edgeBytes (edgeAt (a .t2) j))) (s .loop .inv .2)
-          ∙ record-next edgeBytes 3 edge-size (a .buf .now) 2944 j (edgeAt (a .t2)) (omega arith),
+          ∙ ap (λ (l : List ℕ). pasted l (2944 + j * 3) (edgeBytes (edgeAt E j))) (s .loop .inv .2)
+          ∙ record-next edgeBytes 3 edge-size (a .buf .now) 2944 j (edgeAt E) (omega arith),
     )
 
 mul-write-zeros : tie.Need-mul-write-zeros Inv-loop μ-loop
@@ -78,11 +80,12 @@ returns c =
     let w = c .before .before in
     let s = w .before .before .before in
     let a = s .before .before .args in
-    let n : ℕ = a .t2 .count in
+    let E : Edges = edgesFrom (a .m) (a .kind .now) (a .parent .now) (a .child .now) in
+    let n : ℕ = a .m in
     let all : s .loop .j ≡ n = le-antisymm (s .loop .inv .0) (w .before .before .loop-test .left) in
     w .write-zeros .ensures
-    ∙ ap (λ (l : List ℕ). pasted l (2944 + n * 3) (zeros (3712 - (2944 + n * 3)))) (s .loop .inv .2 ∙ ap (λ (m : ℕ). pasted (a .buf .now) 2944 (records edgeBytes (upTo m (edgeAt (a .t2))))) all)
-    ∙ part-written edgeBytes 3 edge-size (a .buf .now) 2944 (2944 + n * 3) 3712 n (edgeAt (a .t2)) refl (omega arith) (omega arith)
+    ∙ ap (λ (l : List ℕ). pasted l (2944 + n * 3) (zeros (3712 - (2944 + n * 3)))) (s .loop .inv .2 ∙ ap (λ (m : ℕ). pasted (a .buf .now) 2944 (records edgeBytes (upTo m (edgeAt E)))) all)
+    ∙ part-written edgeBytes 3 edge-size (a .buf .now) 2944 (2944 + n * 3) 3712 n (edgeAt E) refl (omega arith) (omega arith)
 
 pub write-edges-spec : {M : Type 1} → statement M
 write-edges-spec =
@@ -91,9 +94,9 @@ write-edges-spec =
     Inv-loop
     μ-loop
     loop-holds
-    element-copy-out-t10
-    element-copy-out-t13
-    element-copy-out-t16
+    element-copy-out-t11
+    element-copy-out-t14
+    element-copy-out-t17
     mul-write-edge
     add-write-edge
     write-edge-requires

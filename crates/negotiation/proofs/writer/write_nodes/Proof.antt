@@ -10,89 +10,90 @@ use Rattle.expression.specs.Bytes.{pasted}
 use Rattle.rt0.specs.Pool.{upTo}
 use Rattle.expression.specs.declared.Expression.{Expression}
 use Rattle.graph.specs.declared.Node.{Node}
-use Rattle.graph.specs.Graph.{nodeAt, nodesOf, expressionFrom}
+use Rattle.graph.specs.declared.Nodes.{Nodes}
+use Rattle.graph.specs.Graph.{nodesFrom, nodeAt, nodesOf, expressionFrom}
 use Rattle.negotiation.specs.Layout.{nodeBytes, records, zeros}
 use Rattle.negotiation.specs.LayoutLaws.{record-next, part-written, node-size}
 use Rattle.negotiation.proofs.writer.write_nodes.Statement.{statement}
 use Rattle.negotiation.proofs.writer.write_nodes.Tie as tie
 
 abbrev Inv-loop : tie.InvT-loop
-Inv-loop buf₀ nodes count i₀ buf i = (i ≤ count) × (length buf ≡ length buf₀) × (buf ≡ pasted buf₀ 128 (records nodeBytes (upTo i (nodeAt nodes))))
+Inv-loop buf₀ n kind parts n0 n1 n2 n3 n4 n5 n6 n7 subject verifier state i₀ buf i = (i ≤ n) × (length buf ≡ length buf₀) × (buf ≡ pasted buf₀ 128 (records nodeBytes (upTo i (nodeAt (nodesFrom n kind parts n0 n1 n2 n3 n4 n5 n6 n7 subject verifier state)))))
 
 abbrev μ-loop : tie.MeasureT-loop
-μ-loop buf₀ nodes count i₀ buf i = count - i
+μ-loop buf₀ n kind parts n0 n1 n2 n3 n4 n5 n6 n7 subject verifier state i₀ buf i = n - i
 
 loop-holds : tie.Need-loop-holds Inv-loop μ-loop
 loop-holds c = (omega arith, refl, paste-zero (c .before .args .buf .now) 128 [])
 
-element-copy-out-t11 : tie.Need-element-copy-out-t11 Inv-loop μ-loop
-element-copy-out-t11 c = search needs
-
-element-copy-out-t14 : tie.Need-element-copy-out-t14 Inv-loop μ-loop
-element-copy-out-t14 c = search needs
-
-mul-t15 : tie.Need-mul-t15 Inv-loop μ-loop
-mul-t15 c = omega arith
-
-element-copy-out-t18 : tie.Need-element-copy-out-t18 Inv-loop μ-loop
-element-copy-out-t18 c = search needs
-
-mul-t19 : tie.Need-mul-t19 Inv-loop μ-loop
-mul-t19 c = omega arith
-
 element-copy-out-t22 : tie.Need-element-copy-out-t22 Inv-loop μ-loop
 element-copy-out-t22 c = search needs
 
-mul-t23 : tie.Need-mul-t23 Inv-loop μ-loop
-mul-t23 c = omega arith
+element-copy-out-t25 : tie.Need-element-copy-out-t25 Inv-loop μ-loop
+element-copy-out-t25 c = search needs
 
-element-copy-out-t26 : tie.Need-element-copy-out-t26 Inv-loop μ-loop
-element-copy-out-t26 c = search needs
+mul-t26 : tie.Need-mul-t26 Inv-loop μ-loop
+mul-t26 c = omega arith
 
-mul-t27 : tie.Need-mul-t27 Inv-loop μ-loop
-mul-t27 c = omega arith
+element-copy-out-t29 : tie.Need-element-copy-out-t29 Inv-loop μ-loop
+element-copy-out-t29 c = search needs
 
-element-copy-out-t30 : tie.Need-element-copy-out-t30 Inv-loop μ-loop
-element-copy-out-t30 c = search needs
+mul-t30 : tie.Need-mul-t30 Inv-loop μ-loop
+mul-t30 c = omega arith
 
-mul-t31 : tie.Need-mul-t31 Inv-loop μ-loop
-mul-t31 c = omega arith
+element-copy-out-t33 : tie.Need-element-copy-out-t33 Inv-loop μ-loop
+element-copy-out-t33 c = search needs
 
-element-copy-out-t34 : tie.Need-element-copy-out-t34 Inv-loop μ-loop
-element-copy-out-t34 c = search needs
+mul-t34 : tie.Need-mul-t34 Inv-loop μ-loop
+mul-t34 c = omega arith
 
-mul-t35 : tie.Need-mul-t35 Inv-loop μ-loop
-mul-t35 c = omega arith
+element-copy-out-t37 : tie.Need-element-copy-out-t37 Inv-loop μ-loop
+element-copy-out-t37 c = search needs
 
-element-copy-out-t38 : tie.Need-element-copy-out-t38 Inv-loop μ-loop
-element-copy-out-t38 c = search needs
+mul-t38 : tie.Need-mul-t38 Inv-loop μ-loop
+mul-t38 c = omega arith
 
-mul-t39 : tie.Need-mul-t39 Inv-loop μ-loop
-mul-t39 c = omega arith
+element-copy-out-t41 : tie.Need-element-copy-out-t41 Inv-loop μ-loop
+element-copy-out-t41 c = search needs
 
-element-copy-out-t42 : tie.Need-element-copy-out-t42 Inv-loop μ-loop
-element-copy-out-t42 c = search needs
+mul-t42 : tie.Need-mul-t42 Inv-loop μ-loop
+mul-t42 c = omega arith
 
-mul-t43 : tie.Need-mul-t43 Inv-loop μ-loop
-mul-t43 c = omega arith
+element-copy-out-t45 : tie.Need-element-copy-out-t45 Inv-loop μ-loop
+element-copy-out-t45 c = search needs
 
-element-copy-out-t46 : tie.Need-element-copy-out-t46 Inv-loop μ-loop
-element-copy-out-t46 c = search needs
+mul-t46 : tie.Need-mul-t46 Inv-loop μ-loop
+mul-t46 c = omega arith
+
+element-copy-out-t49 : tie.Need-element-copy-out-t49 Inv-loop μ-loop
+element-copy-out-t49 c = search needs
+
+mul-t50 : tie.Need-mul-t50 Inv-loop μ-loop
+mul-t50 c = omega arith
+
+element-copy-out-t53 : tie.Need-element-copy-out-t53 Inv-loop μ-loop
+element-copy-out-t53 c = search needs
+
+mul-t54 : tie.Need-mul-t54 Inv-loop μ-loop
+mul-t54 c = omega arith
+
+element-copy-out-t57 : tie.Need-element-copy-out-t57 Inv-loop μ-loop
+element-copy-out-t57 c = search needs
 
 expression-of-requires : tie.Need-expression-of-requires Inv-loop μ-loop
 expression-of-requires c κs = search needs
 
-mul-t15-2 : tie.Need-mul-t15-2 Inv-loop μ-loop
-mul-t15-2 c = omega arith
+mul-t26-2 : tie.Need-mul-t26-2 Inv-loop μ-loop
+mul-t26-2 c = omega arith
 
-element-copy-out-t18-2 : tie.Need-element-copy-out-t18-2 Inv-loop μ-loop
-element-copy-out-t18-2 c = search needs
+element-copy-out-t29-2 : tie.Need-element-copy-out-t29-2 Inv-loop μ-loop
+element-copy-out-t29-2 c = search needs
 
-element-copy-out-t11-2 : tie.Need-element-copy-out-t11-2 Inv-loop μ-loop
-element-copy-out-t11-2 c = search needs
+element-copy-out-t22-2 : tie.Need-element-copy-out-t22-2 Inv-loop μ-loop
+element-copy-out-t22-2 c = search needs
 
-element-copy-out-t14-2 : tie.Need-element-copy-out-t14-2 Inv-loop μ-loop
-element-copy-out-t14-2 c = search needs
+element-copy-out-t25-2 : tie.Need-element-copy-out-t25-2 Inv-loop μ-loop
+element-copy-out-t25-2 c = search needs
 
 mul-write-node : tie.Need-mul-write-node Inv-loop μ-loop
 mul-write-node c = omega arith
@@ -117,15 +118,16 @@ loop-again c =
     let t = e .before .before .before .before .before .before .before .before .before .before .before in
     let s = t .before in
     let a = s .before .before .args in
+    let N : Nodes = nodesFrom (a .n) (a .kind .now) (a .parts .now) (a .n0 .now) (a .n1 .now) (a .n2 .now) (a .n3 .now) (a .n4 .now) (a .n5 .now) (a .n6 .now) (a .n7 .now) (a .subject .now) (a .verifier .now) (a .state .now) in
     let i : ℕ = s .loop .i in
-    let next : i + 1 ≤ a .t2 .count = omega (arith, t .loop-test .taken) in
+    let next : i + 1 ≤ a .n = omega (arith, t .loop-test .taken) in
     let room : 128 + i * 22 + 22 ≤ length (a .buf .now) = omega (arith, next, s .before .before .pre .0, s .before .before .pre .1) in
-    let x : Expression → Node = λ (y : Expression). record { expression = y; subject = nodeAt (a .t2) i .subject; verifier = nodeAt (a .t2) i .verifier; state = nodeAt (a .t2) i .state } in (
+    let x : Expression → Node = λ (y : Expression). record { expression = y; subject = nodeAt N i .subject; verifier = nodeAt N i .verifier; state = nodeAt N i .state } in (
       next,
       w .write-node .kept .0 ∙ s .loop .inv .1,
       w .write-node .ensures
           ∙ (λ t. pasted (s .loop .inv .2 t) (128 + i * 22) (nodeBytes (x (e .expression-of .ensures t))))
-          ∙ record-next nodeBytes 22 node-size (a .buf .now) 128 i (nodeAt (a .t2)) room,
+          ∙ record-next nodeBytes 22 node-size (a .buf .now) 128 i (nodeAt N) room,
     )
 
 mul-write-zeros : tie.Need-mul-write-zeros Inv-loop μ-loop
@@ -146,11 +148,12 @@ returns c =
     let w = c .before .before in
     let s = w .before .before .before in
     let a = s .before .before .args in
-    let n : ℕ = a .t2 .count in
+    let N : Nodes = nodesFrom (a .n) (a .kind .now) (a .parts .now) (a .n0 .now) (a .n1 .now) (a .n2 .now) (a .n3 .now) (a .n4 .now) (a .n5 .now) (a .n6 .now) (a .n7 .now) (a .subject .now) (a .verifier .now) (a .state .now) in
+    let n : ℕ = a .n in
     let all : s .loop .i ≡ n = le-antisymm (s .loop .inv .0) (w .before .before .loop-test .left) in
     w .write-zeros .ensures
-    ∙ ap (λ (l : List ℕ). pasted l (128 + n * 22) (zeros (2944 - (128 + n * 22)))) (s .loop .inv .2 ∙ ap (λ (m : ℕ). pasted (a .buf .now) 128 (records nodeBytes (upTo m (nodeAt (a .t2))))) all)
-    ∙ part-written nodeBytes 22 node-size (a .buf .now) 128 (128 + n * 22) 2944 n (nodeAt (a .t2)) refl (omega arith) (omega arith)
+    ∙ ap (λ (l : List ℕ). pasted l (128 + n * 22) (zeros (2944 - (128 + n * 22)))) (s .loop .inv .2 ∙ ap (λ (m : ℕ). pasted (a .buf .now) 128 (records nodeBytes (upTo m (nodeAt N)))) all)
+    ∙ part-written nodeBytes 22 node-size (a .buf .now) 128 (128 + n * 22) 2944 n (nodeAt N) refl (omega arith) (omega arith)
 
 pub write-nodes-spec : {M : Type 1} → statement M
 write-nodes-spec =
@@ -159,29 +162,29 @@ write-nodes-spec =
     Inv-loop
     μ-loop
     loop-holds
-    element-copy-out-t11
-    element-copy-out-t14
-    mul-t15
-    element-copy-out-t18
-    mul-t19
     element-copy-out-t22
-    mul-t23
-    element-copy-out-t26
-    mul-t27
-    element-copy-out-t30
-    mul-t31
-    element-copy-out-t34
-    mul-t35
-    element-copy-out-t38
-    mul-t39
-    element-copy-out-t42
-    mul-t43
-    element-copy-out-t46
+    element-copy-out-t25
+    mul-t26
+    element-copy-out-t29
+    mul-t30
+    element-copy-out-t33
+    mul-t34
+    element-copy-out-t37
+    mul-t38
+    element-copy-out-t41
+    mul-t42
+    element-copy-out-t45
+    mul-t46
+    element-copy-out-t49
+    mul-t50
+    element-copy-out-t53
+    mul-t54
+    element-copy-out-t57
     expression-of-requires
-    mul-t15-2
-    element-copy-out-t18-2
-    element-copy-out-t11-2
-    element-copy-out-t14-2
+    mul-t26-2
+    element-copy-out-t29-2
+    element-copy-out-t22-2
+    element-copy-out-t25-2
     mul-write-node
     add-write-node
     write-node-requires
