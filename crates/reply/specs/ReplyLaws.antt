@@ -109,14 +109,11 @@ turn-of n h = h
 
 -- by the same tables
 module _ {K H : House} (e : K ≡ H) where
-  pub own-sound : Sound (tablesOf H) → Sound (tablesOf K)
-  own-sound t = subst (λ (X : House). Sound (tablesOf X)) (sym e) t
+  pub own-going : (S : State) → Going (tablesOf H) S → Going (tablesOf K) S
+  own-going S g = subst (λ (X : House). Going (tablesOf X) S) (sym e) g
 
-  pub own-undamaged : (S : State) → sound (tablesOf H) S ≡ true → sound (tablesOf K) S ≡ true
-  own-undamaged S h = ap (λ (X : House). sound (tablesOf X) S) e ∙ h
-
-  pub own-gives : (S : State) {d₀ d : List ℕ} (r : Replying) → Gives (tablesOf K) (replyIn (tablesOf K) S) 0 d₀ r d → Gives (tablesOf H) (replyIn (tablesOf H) S) 0 d₀ r d
-  own-gives S {d₀} {d} r g = subst (λ (X : House). Gives (tablesOf X) (replyIn (tablesOf X) S) 0 d₀ r d) e g
+  pub own-gives : (S : State) (at : ℕ) {d₀ d : List ℕ} (r : Replying) → Gives (tablesOf K) (restFrom 4096 (tablesOf K) S at) at d₀ r d → Gives (tablesOf H) (restFrom 4096 (tablesOf H) S at) at d₀ r d
+  own-gives S at {d₀} {d} r g = subst (λ (X : House). Gives (tablesOf X) (restFrom 4096 (tablesOf X) S at) at d₀ r d) e g
 
 module _ (T : Tables) (t : Sound T) (S : State) (h : sound T S ≡ true) (w : within S ≡ true) (turn : sends (S .header .side) (S .header .messages) ≡ true) where
   begun-going : Going T (carried (S .header .side) S (opening T S))
@@ -221,6 +218,10 @@ module _ (T : Tables) (n : Negotiation) where
 
           pub end-fits : q .at + 1 ≤ length d₁
           end-fits = omega (arith, same-length, g .most, long)
+
+          -- as long as before
+          pub end-length : {d : List ℕ} → d ≡ pasted d₁ (q .at) (commandBytes End) → length d ≡ length d₀
+          end-length de = ap length de ∙ paste-length d₁ (q .at) (commandBytes End) (omega (arith, end-fits, command-length End)) ∙ same-length
 
           pub replied-given : {d : List ℕ} (a : Negotiation) (r : Replying) → stateOf a ≡ afterMessage (stateOf (q .negotiation)) (not (eqb (q .at) 0)) (q .full) → d ≡ pasted d₁ (q .at) (commandBytes End) → r .refusal ≡ 0 → r .negotiation ≡ a → r .at ≡ q .at + 1
               → Replies T (stateOf n) d₀ r d

@@ -10,7 +10,6 @@ use message::Command;
 use message::Opening;
 use message::size_of;
 use message::write_command;
-use moves::Own;
 use moves::initial_state;
 use negotiation::Negotiation;
 use negotiation::write;
@@ -29,10 +28,7 @@ ghost use Rattle.tables.specs.Accepted.{Sound};
 ghost use Rattle.tables.specs.Decoding.{Housed};
 ghost use Rattle.negotiation.specs.State.{stateOf, within};
 ghost use Rattle.damage.specs.Damage.{sound};
-ghost use Rattle.take.specs.Take.{sends as sendsAt};
-ghost use Rattle.moves.specs.Own.{Prepared};
-ghost use Rattle.reply.specs.Reply.{replyIn, replySize, replyOf, answerOf, negotiationLeft, replyLeft, scratchLeft};
-ghost use Rattle.reply.specs.Writing.{Gives};
+ghost use Rattle.reply.specs.Reply.{replySize, replyOf, answerOf, negotiationLeft, replyLeft, scratchLeft};
 ghost use Rattle.reply.specs.ReplyLaws.{firstOpen, Begins, Replies};
 
 // Why a call is refused: a lent length, not that side's turn, already ended.
@@ -85,18 +81,7 @@ fn begun(house: House, n: Negotiation, s: &mut [u8]) -> Replying
     replying(0, next, size_of(c), false)
 }
 
-// The commands of a reply, and where they lead.
-fn reply_in(own: Own, n: Negotiation, s: &mut [u8]) -> Replying
-    requires { ⌜ Prepared own × Sound (tablesOf (own .house)) × (sound (tablesOf (own .house)) (stateOf n) ≡ true) × (within (stateOf n) ≡ true) × (sendsAt (n .header .side) (n .header .messages) ≡ true) × (4096 ≤ length (now s)) ⌝ }
-    ensures { λ r. ⌜ Gives (tablesOf (own .house)) (replyIn (tablesOf (own .house)) (stateOf n)) 0 (now (s .entry)) r (now (s .exit)) ⌝ }
-{
-    let house = own.house;
-    let b = begun(house, n, s);
-    let start = b.negotiation;
-    reply_from(own, start, b.at, s)
-}
-
-// The end is judged, and the end byte is written.
+// The moves of a reply; then the end is judged, and the end byte is written.
 fn replied_in(house: House, n: Negotiation, s: &mut [u8]) -> Replying
     requires { ⌜ Housed house × Sound (tablesOf house) × (sound (tablesOf house) (stateOf n) ≡ true) × (within (stateOf n) ≡ true) × (4096 ≤ length (now s)) ⌝ }
     ensures { λ r. ⌜ Replies (tablesOf house) (stateOf n) (now (s .entry)) r (now (s .exit)) ⌝ }
@@ -108,8 +93,9 @@ fn replied_in(house: House, n: Negotiation, s: &mut [u8]) -> Replying
     if !sends(h.side, h.messages) {
         return replying(TURN, n, 0, false);
     }
+    let b = begun(house, n, s);
     let own = own_of(house);
-    let r = reply_in(own, n, s);
+    let r = reply_from(own, b.negotiation, b.at, s);
     let after = after_message(r.negotiation, r.at != 0, r.full);
     write_command(s, r.at, Command::End);
     replying(0, after, r.at + 1, r.full)

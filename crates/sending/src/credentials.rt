@@ -103,7 +103,8 @@ fn needed_of(
         f,
         e,
     );
-    if kept.holds {
+    let enough = kept.holds;
+    if enough {
         let few = part.pool;
         let some = kept.own;
         return Outgoing {
