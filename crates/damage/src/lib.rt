@@ -12,16 +12,17 @@ use states::state_of;
 use tables::House;
 ghost use mathlib.Core.Path.{_≡_};
 ghost use mathlib.Core.Bool.{true};
+ghost use mathlib.Core.List.{List};
 ghost use Prim.Native.Nat.{_≤_, _<_};
-ghost use Rattle.rt0.specs.Pool.{credentials};
-ghost use Rattle.class.specs.Names.{namesOf, Ascending};
-ghost use Rattle.graph.specs.Graph.{nodesOf, edgesOf};
+ghost use Rattle.rt0.specs.Pool.{poolOf, credentials};
+ghost use Rattle.class.specs.Names.{namesFrom, namesOf, Ascending};
+ghost use Rattle.graph.specs.declared.Edge.{Edge};
+ghost use Rattle.graph.specs.Graph.{nodesFrom, edgesFrom, nodesOf, edgesOf};
 ghost use Rattle.states.specs.Brings.{NodesFormed};
 ghost use Rattle.justification.specs.Inside.{Inside};
 ghost use Rattle.tables.specs.Tables.{tablesOf};
 ghost use Rattle.tables.specs.Decoding.{Housed};
 ghost use Rattle.negotiation.specs.State.{stateOf, within};
-ghost use Rattle.damage.specs.Edges.{allBrought};
 ghost use Rattle.damage.specs.Damage.{stateWith, recordsSound, edgesJustified, graphSound, sound as soundOf};
 
 mod edges;
@@ -51,69 +52,187 @@ use nodes::nodes_fit;
 use nodes::primary_sound;
 use shown::shown_fit;
 
-// Nodes, primary and credentials.
-fn records_sound(names: Names, h: Header, nodes: Nodes, edges: Edges, shown: Pool) -> bool
-    requires { ⌜ (names .count ≤ 64) × Ascending (names .count) (names .name) × (0 < nodes .count) × (nodes .count ≤ 128) × (shown .count ≤ 128) ⌝ }
-    ensures { λ b. ⌜ b ≡ recordsSound (namesOf names) (stateWith h (nodesOf nodes) (edgesOf edges) (credentials shown)) ⌝ }
+// Nodes, primary and credentials, whatever the edges.
+fn records_sound<'a>(
+    k: usize,
+    name: &'a [u16; 64],
+    class: &'a [u8; 64],
+    h: Header,
+    n: usize,
+    kind: &'a [u8; 128],
+    parts: &'a [u8; 128],
+    n0: &'a [u16; 128],
+    n1: &'a [u16; 128],
+    n2: &'a [u16; 128],
+    n3: &'a [u16; 128],
+    n4: &'a [u16; 128],
+    n5: &'a [u16; 128],
+    n6: &'a [u16; 128],
+    n7: &'a [u16; 128],
+    subject: &'a [u16; 128],
+    verifier: &'a [u8; 128],
+    state: &'a [u8; 128],
+    q: usize,
+    heads: &'a [u16; 256],
+    kinds: &'a [u8; 256],
+    numbers: &'a [u16; 1024],
+) -> bool
+    requires { ⌜ (k ≤ 64) × Ascending k (now name) × (0 < n) × (n ≤ 128) × (q ≤ 128) ⌝ }
+    ensures { λ b. ⌜ ((es : List Edge) → b ≡ recordsSound (namesOf (namesFrom k (now (name .entry)) (now (class .entry)))) (stateWith h (nodesOf (nodesFrom n (now (kind .entry)) (now (parts .entry)) (now (n0 .entry)) (now (n1 .entry)) (now (n2 .entry)) (now (n3 .entry)) (now (n4 .entry)) (now (n5 .entry)) (now (n6 .entry)) (now (n7 .entry)) (now (subject .entry)) (now (verifier .entry)) (now (state .entry)))) es (credentials (poolOf q (now (heads .entry)) (now (kinds .entry)) (now (numbers .entry)))))) ⌝ }
 {
     if !nodes_fit(
-        names.count,
-        &names.name,
-        &names.class,
-        nodes.count,
-        &nodes.kind,
-        &nodes.parts,
-        &nodes.n0,
-        &nodes.n1,
-        &nodes.n2,
-        &nodes.n3,
-        &nodes.n4,
-        &nodes.n5,
-        &nodes.n6,
-        &nodes.n7,
-        &nodes.subject,
-        &nodes.verifier,
-        &nodes.state,
+        k,
+        name,
+        class,
+        n,
+        kind,
+        parts,
+        n0,
+        n1,
+        n2,
+        n3,
+        n4,
+        n5,
+        n6,
+        n7,
+        subject,
+        verifier,
+        state,
     ) {
         return false;
     }
     let primary = node_at(
-        nodes.count,
-        &nodes.kind,
-        &nodes.parts,
-        &nodes.n0,
-        &nodes.n1,
-        &nodes.n2,
-        &nodes.n3,
-        &nodes.n4,
-        &nodes.n5,
-        &nodes.n6,
-        &nodes.n7,
-        &nodes.subject,
-        &nodes.verifier,
-        &nodes.state,
+        n,
+        kind,
+        parts,
+        n0,
+        n1,
+        n2,
+        n3,
+        n4,
+        n5,
+        n6,
+        n7,
+        subject,
+        verifier,
+        state,
         0,
     );
     if !primary_sound(h, primary) {
         return false;
     }
-    shown_fit(
+    shown_fit(k, name, class, q, heads, kinds, numbers)
+}
+
+// Every edge is justified.
+fn edges_justified<'a>(
+    h: Header,
+    n: usize,
+    kind: &'a [u8; 128],
+    parts: &'a [u8; 128],
+    n0: &'a [u16; 128],
+    n1: &'a [u16; 128],
+    n2: &'a [u16; 128],
+    n3: &'a [u16; 128],
+    n4: &'a [u16; 128],
+    n5: &'a [u16; 128],
+    n6: &'a [u16; 128],
+    n7: &'a [u16; 128],
+    subject: &'a [u16; 128],
+    verifier: &'a [u8; 128],
+    state: &'a [u8; 128],
+    m: usize,
+    edge: &'a [u8; 256],
+    parent: &'a [u8; 256],
+    child: &'a [u8; 256],
+    q: usize,
+    heads: &'a [u16; 256],
+    kinds: &'a [u8; 256],
+    numbers: &'a [u16; 1024],
+) -> bool
+    requires { ⌜ (n ≤ 128) × (m ≤ 256) × (q ≤ 128) × NodesFormed (nodesOf (nodesFrom n (now kind) (now parts) (now n0) (now n1) (now n2) (now n3) (now n4) (now n5) (now n6) (now n7) (now subject) (now verifier) (now state))) × Inside n (edgesFrom m (now edge) (now parent) (now child)) ⌝ }
+    ensures { λ b. ⌜ b ≡ edgesJustified (stateWith h (nodesOf (nodesFrom n (now (kind .entry)) (now (parts .entry)) (now (n0 .entry)) (now (n1 .entry)) (now (n2 .entry)) (now (n3 .entry)) (now (n4 .entry)) (now (n5 .entry)) (now (n6 .entry)) (now (n7 .entry)) (now (subject .entry)) (now (verifier .entry)) (now (state .entry)))) (edgesOf (edgesFrom m (now (edge .entry)) (now (parent .entry)) (now (child .entry)))) (credentials (poolOf q (now (heads .entry)) (now (kinds .entry)) (now (numbers .entry))))) ⌝ }
+{
+    if !edges_implied(
+        n,
+        kind,
+        parts,
+        n0,
+        n1,
+        n2,
+        n3,
+        n4,
+        n5,
+        n6,
+        n7,
+        m,
+        edge,
+        parent,
+        child,
+        q,
+        heads,
+        kinds,
+        numbers,
+    ) {
+        return false;
+    }
+    links_justified(
+        n,
+        kind,
+        parts,
+        n0,
+        n1,
+        n2,
+        n3,
+        n4,
+        n5,
+        n6,
+        n7,
+        subject,
+        verifier,
+        state,
+        m,
+        edge,
+        parent,
+        child,
+    )
+}
+
+// Where a node stands.
+fn graph_sound(names: Names, h: Header, nodes: Nodes, edges: Edges, shown: Pool) -> bool
+    requires { ⌜ (names .count ≤ 64) × Ascending (names .count) (names .name) × (0 < nodes .count) × (nodes .count ≤ 128) × (edges .count ≤ 256) × (shown .count ≤ 128) ⌝ }
+    ensures { λ b. ⌜ b ≡ graphSound (namesOf names) (stateWith h (nodesOf nodes) (edgesOf edges) (credentials shown)) ⌝ }
+{
+    if !count_sound(h.messages) {
+        return false;
+    }
+    if !records_sound(
         names.count,
         &names.name,
         &names.class,
+        h,
+        nodes.count,
+        &nodes.kind,
+        &nodes.parts,
+        &nodes.n0,
+        &nodes.n1,
+        &nodes.n2,
+        &nodes.n3,
+        &nodes.n4,
+        &nodes.n5,
+        &nodes.n6,
+        &nodes.n7,
+        &nodes.subject,
+        &nodes.verifier,
+        &nodes.state,
         shown.count,
         &shown.heads,
         &shown.kinds,
         &shown.numbers,
-    )
-}
-
-// The edges fit, and brought every node.
-fn edges_sound(h: Header, nodes: Nodes, edges: Edges) -> bool
-    requires { ⌜ (0 < nodes .count) × (nodes .count ≤ 128) × (edges .count ≤ 256) ⌝ }
-    ensures { λ b. ⌜ b ≡ allBrought h (nodesOf nodes) (edgesOf edges) ⌝ }
-{
-    edges_fit(
+    ) {
+        return false;
+    }
+    if !edges_fit(
         h,
         nodes.count,
         &nodes.kind,
@@ -133,35 +252,34 @@ fn edges_sound(h: Header, nodes: Nodes, edges: Edges) -> bool
         &edges.kind,
         &edges.parent,
         &edges.child,
-    )
-}
-
-// Every edge is justified.
-fn edges_justified(h: Header, nodes: Nodes, edges: Edges, shown: Pool) -> bool
-    requires { ⌜ (nodes .count ≤ 128) × (edges .count ≤ 256) × (shown .count ≤ 128) × NodesFormed (nodesOf nodes) × Inside (nodes .count) edges ⌝ }
-    ensures { λ b. ⌜ b ≡ edgesJustified (stateWith h (nodesOf nodes) (edgesOf edges) (credentials shown)) ⌝ }
-{
-    if !edges_implied(nodes, edges, shown) {
+    ) {
         return false;
     }
-    links_justified(nodes, edges)
-}
-
-// Where a node stands.
-fn graph_sound(names: Names, h: Header, nodes: Nodes, edges: Edges, shown: Pool) -> bool
-    requires { ⌜ (names .count ≤ 64) × Ascending (names .count) (names .name) × (0 < nodes .count) × (nodes .count ≤ 128) × (edges .count ≤ 256) × (shown .count ≤ 128) ⌝ }
-    ensures { λ b. ⌜ b ≡ graphSound (namesOf names) (stateWith h (nodesOf nodes) (edgesOf edges) (credentials shown)) ⌝ }
-{
-    if !count_sound(h.messages) {
-        return false;
-    }
-    if !records_sound(names, h, nodes, edges, shown) {
-        return false;
-    }
-    if !edges_sound(h, nodes, edges) {
-        return false;
-    }
-    if !edges_justified(h, nodes, edges, shown) {
+    if !edges_justified(
+        h,
+        nodes.count,
+        &nodes.kind,
+        &nodes.parts,
+        &nodes.n0,
+        &nodes.n1,
+        &nodes.n2,
+        &nodes.n3,
+        &nodes.n4,
+        &nodes.n5,
+        &nodes.n6,
+        &nodes.n7,
+        &nodes.subject,
+        &nodes.verifier,
+        &nodes.state,
+        edges.count,
+        &edges.kind,
+        &edges.parent,
+        &edges.child,
+        shown.count,
+        &shown.heads,
+        &shown.kinds,
+        &shown.numbers,
+    ) {
         return false;
     }
     end_sound(state_of(nodes, edges, 0), h.end, h.idle)
@@ -172,16 +290,24 @@ pub fn sound(house: House, negotiation: Negotiation) -> bool
     requires { ⌜ Housed house × (within (stateOf negotiation) ≡ true) ⌝ }
     ensures { λ b. ⌜ b ≡ soundOf (tablesOf house) (stateOf negotiation) ⌝ }
 {
-    let names = house.names;
     let h = negotiation.header;
-    let nodes = negotiation.nodes;
-    let edges = negotiation.edges;
-    let shown = negotiation.shown;
-    if !header_sound(house.own, names.count, &names.name, &names.class, h) {
+    if !header_sound(
+        house.own,
+        house.names.count,
+        &house.names.name,
+        &house.names.class,
+        h,
+    ) {
         return false;
     }
-    if nodes.count == 0 {
-        return empty_sound(h, edges.count, shown.count);
+    if negotiation.nodes.count == 0 {
+        return empty_sound(h, negotiation.edges.count, negotiation.shown.count);
     }
-    graph_sound(names, h, nodes, edges, shown)
+    graph_sound(
+        house.names,
+        h,
+        negotiation.nodes,
+        negotiation.edges,
+        negotiation.shown,
+    )
 }

@@ -1,20 +1,18 @@
 // Implication edges of kind 1.
 use closure::readers;
 use expression::Expression;
-use graph::Edges;
-use graph::Nodes;
 use graph::expression_at;
 use relation::column;
 use relation::in_column;
 use relation::relation;
-use rt0::Pool;
 use rules::rules_of;
 use word::wide;
 ghost use mathlib.Core.Path.{_≡_};
 ghost use Prim.Native.Nat.{_≤_, _<_};
 ghost use Rattle.rt0.specs.Lists.{all};
 ghost use Rattle.rt0.specs.Pool.{poolOf, credentials};
-ghost use Rattle.graph.specs.Graph.{expressionFrom, edgesFrom, edgeAt, nodesOf, edgesOf};
+ghost use Rattle.graph.specs.declared.Nodes.{Nodes};
+ghost use Rattle.graph.specs.Graph.{expressionFrom, nodesFrom, edgesFrom, edgeAt, nodesOf, edgesOf};
 ghost use Rattle.rules.specs.Table.{chosen};
 ghost use Rattle.rules.specs.Ruled.{Ruled};
 ghost use Rattle.closure.specs.Rules.{rulesOf};
@@ -304,20 +302,40 @@ fn nodes_implied<'a>(
     true
 }
 
-// Whether every edge of kind 1 is implied by the credentials: one relation for all, and one column for each child.
-pub fn edges_implied(nodes: Nodes, edges: Edges, shown: Pool) -> bool
-    requires { ⌜ (nodes .count ≤ 128) × (edges .count ≤ 256) × (shown .count ≤ 128) × Inside (nodes .count) edges ⌝ }
-    ensures { λ r. ⌜ r ≡ all (impliedIf (credentials shown) (nodesOf nodes)) (edgesOf edges) ⌝ }
+// Whether every edge of kind 1 is implied by the credentials, whatever the nodes' other columns: one relation for all, and one column for each child.
+pub fn edges_implied<'a>(
+    n: usize,
+    kind: &'a [u8; 128],
+    parts: &'a [u8; 128],
+    n0: &'a [u16; 128],
+    n1: &'a [u16; 128],
+    n2: &'a [u16; 128],
+    n3: &'a [u16; 128],
+    n4: &'a [u16; 128],
+    n5: &'a [u16; 128],
+    n6: &'a [u16; 128],
+    n7: &'a [u16; 128],
+    m: usize,
+    edge: &'a [u8; 256],
+    parent: &'a [u8; 256],
+    child: &'a [u8; 256],
+    q: usize,
+    heads: &'a [u16; 256],
+    kinds: &'a [u8; 256],
+    numbers: &'a [u16; 1024],
+) -> bool
+    requires { ⌜ (n ≤ 128) × (m ≤ 256) × (q ≤ 128) × Inside n (edgesFrom m (now edge) (now parent) (now child)) ⌝ }
+    ensures { λ r. ⌜ ((o : Nodes) → r ≡ all (impliedIf (credentials (poolOf q (now (heads .entry)) (now (kinds .entry)) (now (numbers .entry)))) (nodesOf (nodesFrom n (now (kind .entry)) (now (parts .entry)) (now (n0 .entry)) (now (n1 .entry)) (now (n2 .entry)) (now (n3 .entry)) (now (n4 .entry)) (now (n5 .entry)) (now (n6 .entry)) (now (n7 .entry)) (o .subject) (o .verifier) (o .state)))) (edgesOf (edgesFrom m (now (edge .entry)) (now (parent .entry)) (now (child .entry))))) ⌝ }
 {
-    let used = children(edges.count, &edges.kind, &edges.parent, &edges.child);
-    let x = rules_of(shown.count, &shown.heads, &shown.kinds, &shown.numbers);
-    let deps = readers(shown.count, &x.part, &x.first, &x.named);
+    let used = children(m, edge, parent, child);
+    let x = rules_of(q, heads, kinds, numbers);
+    let deps = readers(q, &x.part, &x.first, &x.named);
     let on = [1u8; 128];
     let mem = relation(
-        shown.count,
-        &shown.heads,
-        &shown.kinds,
-        &shown.numbers,
+        q,
+        heads,
+        kinds,
+        numbers,
         x.words,
         &x.head,
         &x.part,
@@ -328,25 +346,25 @@ pub fn edges_implied(nodes: Nodes, edges: Edges, shown: Pool) -> bool
         &on,
     );
     nodes_implied(
-        nodes.count,
-        &nodes.kind,
-        &nodes.parts,
-        &nodes.n0,
-        &nodes.n1,
-        &nodes.n2,
-        &nodes.n3,
-        &nodes.n4,
-        &nodes.n5,
-        &nodes.n6,
-        &nodes.n7,
-        edges.count,
-        &edges.kind,
-        &edges.parent,
-        &edges.child,
-        shown.count,
-        &shown.heads,
-        &shown.kinds,
-        &shown.numbers,
+        n,
+        kind,
+        parts,
+        n0,
+        n1,
+        n2,
+        n3,
+        n4,
+        n5,
+        n6,
+        n7,
+        m,
+        edge,
+        parent,
+        child,
+        q,
+        heads,
+        kinds,
+        numbers,
         x.words,
         &x.head,
         &x.part,

@@ -1,8 +1,6 @@
 // Linking implication edges.
 use crate::monitors::is_monitored_for;
 use graph::Edge;
-use graph::Edges;
-use graph::Nodes;
 use graph::edge_at;
 use graph::node_at;
 use propagation::insert;
@@ -251,64 +249,75 @@ fn has_linking<'a>(m: usize, edge: &'a [u8; 256]) -> bool
 }
 
 // Whether every linking implication edge is justified.
-pub fn links_justified(nodes: Nodes, edges: Edges) -> bool
-    requires { ⌜ (nodes .count ≤ 128) × (edges .count ≤ 256) × NodesFormed (nodesOf nodes) × Inside (nodes .count) edges ⌝ }
-    ensures { λ r. ⌜ r ≡ inTurn (monitoredIf (nodesOf nodes)) [] (edgesOf edges) ⌝ }
+pub fn links_justified<'a>(
+    n: usize,
+    kind: &'a [u8; 128],
+    parts: &'a [u8; 128],
+    n0: &'a [u16; 128],
+    n1: &'a [u16; 128],
+    n2: &'a [u16; 128],
+    n3: &'a [u16; 128],
+    n4: &'a [u16; 128],
+    n5: &'a [u16; 128],
+    n6: &'a [u16; 128],
+    n7: &'a [u16; 128],
+    subject: &'a [u16; 128],
+    verifier: &'a [u8; 128],
+    state: &'a [u8; 128],
+    m: usize,
+    edge: &'a [u8; 256],
+    parent: &'a [u8; 256],
+    child: &'a [u8; 256],
+) -> bool
+    requires { ⌜ (n ≤ 128) × (m ≤ 256) × NodesFormed (nodesOf (nodesFrom n (now kind) (now parts) (now n0) (now n1) (now n2) (now n3) (now n4) (now n5) (now n6) (now n7) (now subject) (now verifier) (now state))) × Inside n (edgesFrom m (now edge) (now parent) (now child)) ⌝ }
+    ensures { λ r. ⌜ r ≡ inTurn (monitoredIf (nodesOf (nodesFrom n (now (kind .entry)) (now (parts .entry)) (now (n0 .entry)) (now (n1 .entry)) (now (n2 .entry)) (now (n3 .entry)) (now (n4 .entry)) (now (n5 .entry)) (now (n6 .entry)) (now (n7 .entry)) (now (subject .entry)) (now (verifier .entry)) (now (state .entry))))) [] (edgesOf (edgesFrom m (now (edge .entry)) (now (parent .entry)) (now (child .entry)))) ⌝ }
 {
-    if !has_linking(edges.count, &edges.kind) {
+    if !has_linking(m, edge) {
         return true;
     }
-    let need = needs(nodes.count, &nodes.kind, &nodes.parts, &nodes.state);
+    let need = needs(n, kind, parts, state);
     let x = links(
-        nodes.count,
-        &nodes.kind,
-        &nodes.parts,
-        &nodes.n0,
-        &nodes.n1,
-        &nodes.n2,
-        &nodes.n3,
-        &nodes.n4,
-        &nodes.n5,
-        &nodes.n6,
-        &nodes.n7,
-        edges.count,
-        &edges.kind,
-        &edges.parent,
-        &edges.child,
+        n,
+        kind,
+        parts,
+        n0,
+        n1,
+        n2,
+        n3,
+        n4,
+        n5,
+        n6,
+        n7,
+        m,
+        edge,
+        parent,
+        child,
     );
     let mut head = [0u16; 256];
     let mut next = [0u16; 256];
     let mut got = [0u8; 512];
     let mut sat = [0u8; 128];
     let mut queue = [0u8; 128];
-    let t = seed(
-        nodes.count,
-        &x.from,
-        &x.slot,
-        &need,
-        &got,
-        &mut sat,
-        &mut queue,
-    );
+    let t = seed(n, &x.from, &x.slot, &need, &got, &mut sat, &mut queue);
     linked_in_turn(
-        nodes.count,
-        &nodes.kind,
-        &nodes.parts,
-        &nodes.n0,
-        &nodes.n1,
-        &nodes.n2,
-        &nodes.n3,
-        &nodes.n4,
-        &nodes.n5,
-        &nodes.n6,
-        &nodes.n7,
-        &nodes.subject,
-        &nodes.verifier,
-        &nodes.state,
-        edges.count,
-        &edges.kind,
-        &edges.parent,
-        &edges.child,
+        n,
+        kind,
+        parts,
+        n0,
+        n1,
+        n2,
+        n3,
+        n4,
+        n5,
+        n6,
+        n7,
+        subject,
+        verifier,
+        state,
+        m,
+        edge,
+        parent,
+        child,
         &x.from,
         &x.slot,
         &need,

@@ -1,19 +1,25 @@
+use Rattle.graph.specs.declared.Nodes.{Nodes}
+use Rattle.graph.specs.Graph.{nodesFrom}
 use Rattle.damage.specs.DamageLaws.{not-implied, both-justified}
 use borrow.Author.Needs.{needs}
 use Rattle.damage.proofs.edges_justified.Statement.{statement}
 use Rattle.damage.proofs.edges_justified.Tie as tie
 
+-- the nodes of the columns
+abbrev N : tie.Start → Nodes
+N s = nodesFrom (s .args .n) (s .args .kind .now) (s .args .parts .now) (s .args .n0 .now) (s .args .n1 .now) (s .args .n2 .now) (s .args .n3 .now) (s .args .n4 .now) (s .args .n5 .now) (s .args .n6 .now) (s .args .n7 .now) (s .args .subject .now) (s .args .verifier .now) (s .args .state .now)
+
 edges-implied-requires : tie.Need-edges-implied-requires
-edges-implied-requires c κs = search needs
+edges-implied-requires c κs = (c .pre .0, c .pre .1, c .pre .2, c .pre .4)
 
 returns : tie.Need-returns
-returns c = not-implied _ (c .before .edges-implied .ensures) (c .if1 .taken)
+returns c = let s = c .before .before in not-implied _ (c .before .edges-implied .ensures (N s)) (c .if1 .taken)
 
 links-justified-requires : tie.Need-links-justified-requires
-links-justified-requires c κs = search needs
+links-justified-requires c κs = (c .before .before .pre .0, c .before .before .pre .1, c .before .before .pre .3, c .before .before .pre .4)
 
 returns-2 : tie.Need-returns-2
-returns-2 c = both-justified _ (c .before .before .edges-implied .ensures) (c .before .if1 .left) (c .links-justified .ensures)
+returns-2 c = let s = c .before .before .before in both-justified _ (c .before .before .edges-implied .ensures (N s)) (c .before .if1 .left) (c .links-justified .ensures)
 
 pub edges-justified-spec : {M : Type 1} → statement M
 edges-justified-spec =

@@ -7,22 +7,22 @@ nodes-fit-requires : tie.Need-nodes-fit-requires
 nodes-fit-requires c κs = search needs
 
 returns : tie.Need-returns
-returns c = records-nodes _ _ (c .before .nodes-fit .ensures) (c .if1 .taken)
+returns c = λ es. records-nodes _ _ (c .before .nodes-fit .ensures) (c .if1 .taken)
 
 node-at-requires : tie.Need-node-at-requires
-node-at-requires c κs = ((c .before .before .before .before .before .before .before .before .before .before .before .before .before .before .before .before .before .before .before .before .before .before .before .before .before .before .before .before .before .before .before .before .before .pre .2), (c .before .before .before .before .before .before .before .before .before .before .before .before .before .before .before .before .before .before .before .before .before .before .before .before .before .before .before .before .before .before .before .before .before .pre .3))
+node-at-requires c κs = ((c .before .before .pre .2), (c .before .before .pre .3))
 
 primary-sound-requires : tie.Need-primary-sound-requires
 primary-sound-requires c κs = search needs
 
 returns-2 : tie.Need-returns-2
-returns-2 c = records-primary _ _ (c .before .before .before .before .before .before .before .before .before .before .before .before .before .before .before .before .before .before .nodes-fit .ensures) (c .before .before .before .before .before .before .before .before .before .before .before .before .before .before .before .before .before .if1 .left) (c .before .before .node-at .ensures) (c .before .primary-sound .ensures) (c .if2 .taken)
+returns-2 c = λ es. records-primary _ _ (c .before .before .before .before .nodes-fit .ensures) (c .before .before .before .if1 .left) (c .before .before .node-at .ensures) (c .before .primary-sound .ensures) (c .if2 .taken)
 
 shown-fit-requires : tie.Need-shown-fit-requires
-shown-fit-requires c κs = ((c .before .before .before .before .before .before .before .before .before .before .before .before .before .before .before .before .before .before .before .before .before .before .before .before .before .before .before .before .before .before .before .before .before .before .before .before .before .before .before .before .before .before .before .pre .0), (c .before .before .before .before .before .before .before .before .before .before .before .before .before .before .before .before .before .before .before .before .before .before .before .before .before .before .before .before .before .before .before .before .before .before .before .before .before .before .before .before .before .before .before .pre .1), (c .before .before .before .before .before .before .before .before .before .before .before .before .before .before .before .before .before .before .before .before .before .before .before .before .before .before .before .before .before .before .before .before .before .before .before .before .before .before .before .before .before .before .before .pre .4))
+shown-fit-requires c κs = ((c .before .before .before .before .before .pre .0), (c .before .before .before .before .before .pre .1), (c .before .before .before .before .before .pre .4))
 
 returns-3 : tie.Need-returns-3
-returns-3 c = records-shown _ _ (c .before .before .before .before .before .before .before .before .before .before .before .before .before .before .before .before .before .before .before .before .before .before .before .before .before .before .nodes-fit .ensures) (c .before .before .before .before .before .before .before .before .before .before .before .before .before .before .before .before .before .before .before .before .before .before .before .before .before .if1 .left) (c .before .before .before .before .before .before .before .before .before .before .node-at .ensures) (c .before .before .before .before .before .before .before .before .before .primary-sound .ensures) (c .before .before .before .before .before .before .before .before .if2 .left) (c .shown-fit .ensures)
+returns-3 c = λ es. records-shown _ _ (c .before .before .before .before .before .nodes-fit .ensures) (c .before .before .before .before .if1 .left) (c .before .before .before .node-at .ensures) (c .before .before .primary-sound .ensures) (c .before .if2 .left) (c .shown-fit .ensures)
 
 pub records-sound-spec : {M : Type 1} → statement M
 records-sound-spec =

@@ -1,3 +1,6 @@
+use Rattle.graph.specs.declared.Nodes.{Nodes}
+use Rattle.graph.specs.declared.Edges.{Edges}
+use Rattle.graph.specs.Graph.{nodesFrom, edgesFrom}
 use Rattle.states.specs.Filled.{needs-beyond}
 use Rattle.justification.specs.LinkedLaws.{none-linking}
 use Rattle.propagation.specs.Chains.{chain-start}
@@ -7,26 +10,33 @@ use Rattle.justification.proofs.linked.links_justified.Statement.{state
 use Rattle.justification.proofs.linked.links_justified.Tie as tie
 use Rattle.justification.proofs.linked.links_justified.Reads as reads
 
+-- the nodes and the edges of the columns
+abbrev N : tie.Start → Nodes
+N s = nodesFrom (s .args .n) (s .args .kind .now) (s .args .parts .now) (s .args .n0 .now) (s .args .n1 .now) (s .args .n2 .now) (s .args .n3 .now) (s .args .n4 .now) (s .args .n5 .now) (s .args .n6 .now) (s .args .n7 .now) (s .args .subject .now) (s .args .verifier .now) (s .args .state .now)
+
+abbrev E : tie.Start → Edges
+E s = edgesFrom (s .args .m) (s .args .edge .now) (s .args .parent .now) (s .args .child .now)
+
 has-linking-requires : tie.Need-has-linking-requires
-has-linking-requires c κs = c .before .before .pre .1
+has-linking-requires c κs = c .pre .1
 
 returns : tie.Need-returns
-returns c = none-linking _ (c .before .before .before .before .args .t2) (c .before .has-linking .ensures) (c .if1 .taken)
+returns c = let s = c .before .before in none-linking _ (E s) (c .before .has-linking .ensures) (c .if1 .taken)
 
 needs-requires : tie.Need-needs-requires
-needs-requires c κs = c .before .before .before .before .before .before .before .before .pre .0
+needs-requires c κs = c .before .before .pre .0
 
 links-requires : tie.Need-links-requires
-links-requires c κs = (c .before .before .before .before .before .before .before .before .before .before .before .before .before .before .before .before .before .before .before .before .before .before .before .before .pre .0, c .before .before .before .before .before .before .before .before .before .before .before .before .before .before .before .before .before .before .before .before .before .before .before .before .pre .1)
+links-requires c κs = (c .before .before .before .pre .0, c .before .before .before .pre .1)
 
 seed-requires : tie.Need-seed-requires
-seed-requires c κs = let s = c .before .before .before .before .before .before .before .before .before .before .before .before .before .before .before .before .before .before .before .before .before .before .before .before .before .before .before .before .before .before .before .before in (s .pre .0, needs-beyond (s .args .t1) _ (c .before .before .before .before .before .before .before .before .before .before .before .before .before .before .before .before .before .before .before .before .before .before .before .needs .ensures (c .before .before .before .before .before .before .before .before .before .before .before .before .before .before .before .before .before .before .before .before .before .before .before .before .before .before .before .before .before .before .before .before .args .t1)), start _ (c .before .before .before .before .before .before .before .links .ensures (s .args .t1) .slots))
+seed-requires c κs = let s = c .before .before .before .before .before .before .before .before .before .before .before in (s .pre .0, needs-beyond (N s) _ (c .before .before .before .before .before .before .before .before .needs .ensures (N s)), start _ (c .before .before .before .before .before .before .before .links .ensures (N s) .slots))
 
 linked-in-turn-requires : tie.Need-linked-in-turn-requires
-linked-in-turn-requires c κs = ((c .before .before .before .before .before .before .before .before .before .before .before .before .before .before .before .before .before .before .before .before .before .before .before .before .before .before .before .before .before .before .before .before .before .before .before .before .before .before .before .before .before .before .before .before .before .before .before .before .before .before .before .before .before .before .before .before .before .before .before .before .pre .0), (c .before .before .before .before .before .before .before .before .before .before .before .before .before .before .before .before .before .before .before .before .before .before .before .before .before .before .before .before .before .before .before .before .before .before .before .before .before .before .before .before .before .before .before .before .before .before .before .before .before .before .before .before .before .before .before .before .before .before .before .before .pre .1), (c .before .before .before .before .before .before .before .before .before .before .before .before .before .before .before .before .before .before .before .before .before .before .before .before .before .before .before .before .before .before .before .before .before .before .before .before .before .before .before .before .before .before .before .before .before .before .before .before .before .before .before .before .before .before .before .before .before .before .before .before .pre .2), (c .before .before .before .before .before .before .before .before .before .before .before .before .before .before .before .before .before .before .before .before .before .before .before .before .before .before .before .before .before .before .before .before .before .before .before .before .before .before .before .before .before .before .before .before .before .before .before .before .before .before .before .before .before .before .before .before .before .before .before .before .pre .3), (c .before .before .before .before .before .before .before .before .before .before .before .before .before .before .before .before .before .before .before .before .before .before .before .before .before .before .before .before .before .before .before .before .before .before .before .links .ensures (c .before .before .before .before .before .before .before .before .before .before .before .before .before .before .before .before .before .before .before .before .before .before .before .before .before .before .before .before .before .before .before .before .before .before .before .before .before .before .before .before .before .before .before .before .before .before .before .before .before .before .before .before .before .before .before .before .before .before .before .before .args .t1)), (c .before .before .before .before .before .before .before .before .before .before .before .before .before .before .before .before .before .before .before .before .before .before .before .before .before .before .before .before .before .before .before .before .before .before .before .before .before .before .before .before .before .before .before .before .before .before .before .before .before .before .before .needs .ensures (c .before .before .before .before .before .before .before .before .before .before .before .before .before .before .before .before .before .before .before .before .before .before .before .before .before .before .before .before .before .before .before .before .before .before .before .before .before .before .before .before .before .before .before .before .before .before .before .before .before .before .before .before .before .before .before .before .before .before .before .before .args .t1)), chain-start _, (c .before .before .before .before .before .before .before .before .before .before .before .before .before .before .before .before .before .before .before .before .before .before .before .before .before .before .before .seed .ensures))
+linked-in-turn-requires c κs = let s = c .before .before .before .before .before .before .before .before .before .before .before .before .before .before .before .before .before .before .before .before .before in (s .pre .0, s .pre .1, s .pre .2, s .pre .3, c .before .before .before .before .before .before .before .before .before .before .before .before .before .before .before .before .before .links .ensures (N s), c .before .before .before .before .before .before .before .before .before .before .before .before .before .before .before .before .before .before .needs .ensures (N s), chain-start _, c .before .before .before .before .before .before .before .before .before .seed .ensures)
 
 returns-2 : tie.Need-returns-2
-returns-2 c = search needs
+returns-2 c = c .linked-in-turn .ensures
 
 pub links-justified-spec : {M : Type 1} → statement M
 links-justified-spec =
