@@ -1,6 +1,8 @@
 // Begin: a fresh negotiation for the tables of a house.
 use class::NAME;
 use class::class_of;
+use expression::LENGTH;
+use expression::OPERAND;
 use expression::Role;
 use negotiation::Negotiation;
 use negotiation::write;
@@ -11,11 +13,7 @@ ghost use lib.ListN.{length};
 ghost use Rattle.class.specs.Names.{namesFrom, namesOf, Ascending};
 ghost use Rattle.begin.specs.Begin.{isRequester, roleNumber, otherNumber, sideOf, beginOf, answerOf, leftOf};
 
-// Why a call is refused: a lent length, just one zero in the role, or the other end zero or self.
-const LENGTH: u64 = 1;
-
-const OPERAND: u64 = 3;
-
+// Why a call is refused: the other end is zero or self.
 const OTHER: u64 = 7;
 
 // Whether no role is wanted: we are the requester.

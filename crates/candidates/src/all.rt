@@ -9,6 +9,7 @@ use expression::Expression;
 use expression::Role;
 use frontier::reached;
 use graph::Edges;
+use graph::IMPLICATION;
 use graph::Node;
 use graph::Nodes;
 use moves::Choice;
@@ -38,8 +39,6 @@ ghost use Rattle.candidates.specs.Offers.{folded};
 ghost use Rattle.candidates.specs.Skipped.{Skipped};
 ghost use Rattle.candidates.specs.Collected.{Added, Grown, Collected};
 ghost use Rattle.candidates.specs.All.{isFrom, offerRole, offerRoles, Together, allEdges};
-
-const IMPLICATION: u8 = 1;
 
 const SUBJECT_ALL: u8 = 3;
 

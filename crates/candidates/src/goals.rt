@@ -6,6 +6,7 @@ use expression::Role;
 use graph::Edges;
 use graph::Node;
 use graph::Nodes;
+use graph::SOLUTION;
 use moves::Choice;
 use moves::Own;
 use rt0::head_at;
@@ -21,8 +22,6 @@ ghost use Rattle.moves.specs.Wanted.{isDone, ordered, firstNot};
 ghost use Rattle.candidates.specs.Offers.{folded, offer};
 ghost use Rattle.candidates.specs.Goals.{isNamedPair, pairEdge, isNamedHead, headEdge, solutionEdge, namedRoles};
 ghost use mathlib.Core.List.{map};
-
-const SOLUTION: u8 = 3;
 
 // The best of what is chosen and the edge to sensitive role k, if it has the name r.
 fn with_pair<'a>(

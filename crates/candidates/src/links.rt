@@ -6,9 +6,13 @@ use crate::members::child_for;
 use expression::Expression;
 use expression::Role;
 use graph::Edges;
+use graph::LINKING_IMPLICATION;
+use graph::MONITOR;
 use graph::Node;
 use graph::Nodes;
+use graph::SOLUTION;
 use graph::expression_at;
+use graph::is_named;
 use moves::Choice;
 use states::NodeStates;
 use states::is_complete;
@@ -19,7 +23,6 @@ ghost use Prim.Native.Nat.{_≤_, _<_};
 ghost use Rattle.rt0.specs.Lists.{any};
 ghost use Rattle.rt0.specs.Pool.{upTo};
 ghost use Rattle.graph.specs.Graph.{nodesOf, edgesOf, edgesFrom, nodeAt};
-ghost use Rattle.graph.specs.Form.{isNamed};
 ghost use Rattle.states.specs.Brings.{EdgesFormed};
 ghost use Rattle.states.specs.Complete.{Settled};
 ghost use Rattle.moves.specs.declared.Choice.the-variants as C;
@@ -27,12 +30,6 @@ ghost use Rattle.moves.specs.Wanted.{isDone, markIf};
 ghost use Rattle.candidates.specs.Offers.{folded, offer};
 ghost use Rattle.candidates.specs.Skipped.{First};
 ghost use Rattle.candidates.specs.Links.{Monitoring, entityIn, isNamedAt, isSolution, isSolved, solutionEdge, solvedEdge, isMonitor, isCompleteAt, Linked};
-
-const MONITOR: u8 = 2;
-
-const SOLUTION: u8 = 3;
-
-const LINKING_IMPLICATION: u8 = 4;
 
 // The children of node i by linking-monitor edges, 1 for each.
 fn monitored<'a>(
@@ -55,19 +52,6 @@ fn monitored<'a>(
         j += 1;
     }
     r
-}
-
-// Whether an expression is a role of the name r.
-fn is_named(r: u16, x: Expression) -> bool
-    ensures { λ b. ⌜ b ≡ isNamed r x ⌝ }
-{
-    match x {
-        Expression::Entity(_) => false,
-        Expression::Role(a) => a.name == r,
-        Expression::Linked(_, _) => false,
-        Expression::Intersection(_) => false,
-        Expression::Goal(_) => false,
-    }
 }
 
 // The entity of a role.

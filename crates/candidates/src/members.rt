@@ -6,6 +6,7 @@ use expression::is_entity;
 use expression::same;
 use frontier::reached;
 use graph::Edges;
+use graph::IMPLICATION;
 use graph::Node;
 use graph::Nodes;
 use moves::Choice;
@@ -22,8 +23,6 @@ ghost use Rattle.moves.specs.Rules.{childFor};
 ghost use Rattle.candidates.specs.Offers.{folded, offer};
 ghost use Rattle.candidates.specs.Members.{admits as admitsOf, isMember, isStopped, memberEdge, Extended};
 ghost use Rattle.candidates.specs.Skipped.{Skipped};
-
-const IMPLICATION: u8 = 1;
 
 // An edge into node n, to a child of its verifier.
 pub fn child_for(kind: u8, n: Node, x: Expression, b: u16) -> Wanted

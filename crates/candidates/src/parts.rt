@@ -5,6 +5,7 @@ use expression::Expression;
 use expression::Parts;
 use expression::Role;
 use graph::Edges;
+use graph::INTERSECTION;
 use graph::Node;
 use graph::Nodes;
 use moves::Choice;
@@ -17,8 +18,6 @@ ghost use Rattle.moves.specs.Wanted.{isDone, firstNot};
 ghost use Rattle.moves.specs.Rules.{partEdges};
 ghost use Rattle.candidates.specs.Least.{better as betterOf};
 ghost use Rattle.candidates.specs.Parts.{partEdge};
-
-const INTERSECTION: u8 = 5;
 
 fn with_part(nodes: Nodes, edges: Edges, i: u8, n: Node, best: Choice, a: Role) -> Choice
     requires { ⌜ (nodes .count ≤ 128) × (edges .count ≤ 256) ⌝ }

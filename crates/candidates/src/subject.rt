@@ -7,6 +7,7 @@ use expression::Role;
 use expression::same;
 use frontier::reached;
 use graph::Edges;
+use graph::IMPLICATION;
 use graph::Node;
 use graph::Nodes;
 use moves::Choice;
@@ -18,8 +19,6 @@ ghost use Rattle.rt0.specs.Pool.{poolOf};
 ghost use Rattle.graph.specs.Graph.{nodesOf, edgesOf};
 ghost use Rattle.moves.specs.Wanted.{isDone};
 ghost use Rattle.candidates.specs.Subject.{isSubjectAt, hasSubject, Aimed};
-
-const IMPLICATION: u8 = 1;
 
 // Whether credential k was found, and its body is a stop and the entity s.
 fn is_subject_at<'a>(

@@ -5,6 +5,8 @@ use candidates::mark_if;
 use candidates::or_else;
 use expression::Expression;
 use expression::Role;
+use graph::CONTROL;
+use graph::IMPLICATION;
 use graph::Node;
 use moves::Choice;
 use moves::Holding;
@@ -21,10 +23,6 @@ ghost use Rattle.negotiation.specs.State.{stateOf};
 ghost use Rattle.moves.specs.Wanted.{isDone};
 ghost use Rattle.candidates.specs.Least.{orElse};
 ghost use Rattle.choice.specs.Sensitive.{alone as aloneOf, controlFor, ownFor, policyChoice, holdingChoice, knownChoice};
-
-const IMPLICATION: u8 = 1;
-
-const CONTROL: u8 = 6;
 
 // An edge into node i, unless it is done.
 fn alone(n: Negotiation, i: u8, w: Wanted) -> Choice

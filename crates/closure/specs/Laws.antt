@@ -12,7 +12,7 @@ use lib.Bits.{bitAnd, bitOr}
 use lib.ListN.{length, set, length-set, List·getD-eq-default}
 use lib.Seq.{getD-set-same, getD-set-other}
 use Rattle.word.specs.Bit.{bitAt, only, bit-or, bit-and, bit-zero, bit-only, without, without-sub, without-gone, or-more}
-use Rattle.word.specs.Bools.{false-true, or-neither}
+use Rattle.word.specs.Bools.{false-true, or-neither, and-parts}
 use Rattle.closure.specs.declared.Rules.{Rules}
 use Rattle.closure.specs.Rules.{el, bits, Fits, Takes, memOf, memRows, Used, Model, Within, Grown, Closed, Marked}
 use Rattle.closure.specs.Words.{InWord, LinksOf, meetOf, WordOf, room, Quiet, TurnOf, RuleOf, PassOf, Poured, HeldOf, FullOf, level, FilledOf, RestsOf, StillOf}
@@ -34,12 +34,8 @@ or-right a b s h = bit-or a b s ∙ go (bitAt a s) (bitAt b s) h
     go true u q = refl
     go false u q = q
 
-both : (t u : Bool) → (t && u) ≡ true → (t ≡ true) × (u ≡ true)
-both true u q = (refl, q)
-both false u q = absurd (false-true q)
-
 and-cases : (a b s : ℕ) → bitAt (bitAnd a b) s ≡ true → (bitAt a s ≡ true) × (bitAt b s ≡ true)
-and-cases a b s h = both (bitAt a s) (bitAt b s) (sym (bit-and a b s) ∙ h)
+and-cases a b s h = and-parts (bitAt a s) (bitAt b s) (sym (bit-and a b s) ∙ h)
 
 and-both : (a b s : ℕ) → bitAt a s ≡ true → bitAt b s ≡ true → bitAt (bitAnd a b) s ≡ true
 and-both a b s h k = bit-and a b s ∙ rw (h, k)
@@ -48,11 +44,11 @@ and-both a b s h k = bit-and a b s ∙ rw (h, k)
 
 bits-low : (K : List ℕ) (r s : ℕ) → bits K r s ≡ true → s < 128
 unfolding bits
-bits-low K r s q = ltb-true s 128 (both (ltb s 128) (bitAt (el K (r * 2 + s / 64)) (s % 64)) q .0)
+bits-low K r s q = ltb-true s 128 (and-parts (ltb s 128) (bitAt (el K (r * 2 + s / 64)) (s % 64)) q .0)
 
 bits-word : (K : List ℕ) (r s h : ℕ) → s / 64 ≡ h → bits K r s ≡ true → bitAt (el K (r * 2 + h)) (s % 64) ≡ true
 unfolding bits
-bits-word K r s h e q = subst (λ (x : ℕ). bitAt (el K (r * 2 + x)) (s % 64) ≡ true) e (both (ltb s 128) (bitAt (el K (r * 2 + s / 64)) (s % 64)) q .1)
+bits-word K r s h e q = subst (λ (x : ℕ). bitAt (el K (r * 2 + x)) (s % 64) ≡ true) e (and-parts (ltb s 128) (bitAt (el K (r * 2 + s / 64)) (s % 64)) q .1)
 
 word-bits : (K : List ℕ) (r s h : ℕ) → h < 2 → s / 64 ≡ h → bitAt (el K (r * 2 + h)) (s % 64) ≡ true → bits K r s ≡ true
 unfolding bits

@@ -1,6 +1,7 @@
 // What a call finds in its tables and its negotiation.
 use crate::Restored;
 use crate::sound;
+use expression::LENGTH;
 use expression::Role;
 use negotiation::Negotiation;
 use negotiation::read;
@@ -9,8 +10,6 @@ use tables::decode;
 ghost use mathlib.Core.Path.{_≡_};
 ghost use Rattle.damage.specs.Restored.{standingOf, restoreOf};
 ghost use Rattle.damage.specs.RestoredLaws.{Kept};
-
-const LENGTH: u64 = 1;
 
 const DAMAGED: u64 = 20;
 

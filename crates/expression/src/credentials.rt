@@ -11,10 +11,10 @@ use crate::read_expression;
 use crate::well_formed;
 use crate::write_expression;
 ghost use mathlib.Core.Path.{_≡_};
-ghost use Prim.Native.Nat.{_+_, _≤_};
+ghost use Prim.Native.Nat.{_+_, _≤_, _<_};
 ghost use lib.ListN.{length};
 ghost use Rattle.expression.specs.Bytes.{pasted};
-ghost use Rattle.expression.specs.Credential.{isBody, beginsWith, wellFormedCredential, checkedCredential, readCredential, roleBytes, credentialBytes};
+ghost use Rattle.expression.specs.Credential.{isBody, beginsWith, wellFormedCredential, checkedCredential, readCredential, roleAt, roleBytes, credentialBytes};
 
 pub fn is_body(e: Expression) -> bool
     ensures { λ r. ⌜ r ≡ isBody e ⌝ }
@@ -70,6 +70,17 @@ pub fn read_credential(s: &[u8], at: usize) -> CredentialAnswer
         return CredentialAnswer::Wrong;
     };
     checked(Credential { head, body })
+}
+
+// A role: entity and name.
+pub fn role_at(s: &[u8], at: usize) -> Role
+    requires { ⌜ at + 3 < length (now s) ⌝ }
+    ensures { λ r. ⌜ r ≡ roleAt (now (s .entry)) at ⌝ }
+{
+    Role {
+        entity: number_at(s, at),
+        name: number_at(s, at + 2),
+    }
 }
 
 pub fn role_bytes(r: Role) -> [u8; 4]

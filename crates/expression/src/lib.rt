@@ -12,6 +12,7 @@ mod order;
 
 pub use credentials::is_body;
 pub use credentials::read_credential;
+pub use credentials::role_at;
 pub use credentials::role_bytes;
 pub use credentials::well_formed_credential;
 pub use credentials::write_credential;
@@ -19,6 +20,13 @@ pub use kinds::is_entity;
 pub use kinds::is_role_expression;
 pub use order::before;
 pub use order::before_credential;
+
+// Why a call is refused by its bytes: a lent length outside the sizes; an unknown, cut or missing command; an operand of wrong form.
+pub const LENGTH: u64 = 1;
+
+pub const COMMAND: u64 = 2;
+
+pub const OPERAND: u64 = 3;
 
 // A role's entity and name; both zero where a field is unused.
 pub struct Role {

@@ -10,3 +10,4 @@ pub mod Columns
 pub mod Find
 pub mod FindLaws
 pub mod FindExact
+pub mod FormLaws

@@ -6,17 +6,18 @@ use expression::same;
 ghost use mathlib.Core.Path.{_≡_};
 ghost use Rattle.graph.specs.Form.{isStandard, isTarget, isNamed, isMonitor, isSolution, isFirst, hasRole, isPart, sameVerifier, sameEnds, isControl, form as formOf, legalState};
 
-const IMPLICATION: u8 = 1;
+// The kinds of edges.
+pub const IMPLICATION: u8 = 1;
 
-const MONITOR: u8 = 2;
+pub const MONITOR: u8 = 2;
 
-const SOLUTION: u8 = 3;
+pub const SOLUTION: u8 = 3;
 
-const LINKING_IMPLICATION: u8 = 4;
+pub const LINKING_IMPLICATION: u8 = 4;
 
-const INTERSECTION: u8 = 5;
+pub const INTERSECTION: u8 = 5;
 
-const CONTROL: u8 = 6;
+pub const CONTROL: u8 = 6;
 
 // A role or a linked role.
 fn is_standard(e: Expression) -> bool
@@ -45,7 +46,7 @@ fn is_target(e: Expression, s: u16) -> bool
 }
 
 // A role B.r.
-fn is_named(name: u16, e: Expression) -> bool
+pub fn is_named(name: u16, e: Expression) -> bool
     ensures { λ r. ⌜ r ≡ isNamed name e ⌝ }
 {
     match e {

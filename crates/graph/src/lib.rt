@@ -16,7 +16,14 @@ pub use find::expression_at;
 pub use find::find_node;
 pub use find::has_edge;
 pub use find::node_at;
+pub use forms::CONTROL;
+pub use forms::IMPLICATION;
+pub use forms::INTERSECTION;
+pub use forms::LINKING_IMPLICATION;
+pub use forms::MONITOR;
+pub use forms::SOLUTION;
 pub use forms::form;
+pub use forms::is_named;
 pub use forms::legal_state;
 
 // A target, or a linking goal: what its verifier (0 mediator, 1 requester) wants to see proved of its subject. Bit 0 of its

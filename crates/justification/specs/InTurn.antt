@@ -4,7 +4,7 @@ use native.Mathlib.Omega.{arith}
 use native.Mathlib.Numerals.{add-one}
 use mathlib.Core.Path.{_≡_, refl, sym, _∙_, ap, subst}
 use mathlib.Core.Logic.{⊎-elim}
-use mathlib.Core.Bool.{Bool, true, false, _&&_, and-false}
+use mathlib.Core.Bool.{Bool, true, false, _&&_, and-true, and-false, and-assoc}
 use mathlib.Core.List.{List, [], _∷_, _++_, append-assoc, append-nil}
 use lib.Dec.{eqb}
 use borrow.Author.Tests.{eqb-true, eqb-false}
@@ -23,14 +23,6 @@ swap true false true d = refl
 swap true false false d = refl
 swap false b c d = refl
 
-and-assoc : (a b c : Bool) → (a && (b && c)) ≡ ((a && b) && c)
-and-assoc true b c = refl
-and-assoc false b c = refl
-
-and-all : (a : Bool) → (a && true) ≡ a
-and-all true = refl
-and-all false = refl
-
 module _ {A : Type 0} where
   -- two tests in one
   pub turn-and : (t u : List A → A → Bool) (before xs : List A) → inTurn (λ b x. t b x && u b x) before xs ≡ (inTurn t before xs && inTurn u before xs)
@@ -47,10 +39,10 @@ module _ {A : Type 0} where
   -- one element more at the end
   turn-snoc : (t : List A → A → Bool) (before xs : List A) (x : A) → inTurn t before (xs ++ (x ∷ [])) ≡ (inTurn t before xs && t (before ++ xs) x)
   unfolding inTurn
-  turn-snoc t before [] x = and-all (t before x) ∙ ap (λ (l : List A). t l x) (sym (append-nil before))
+  turn-snoc t before [] x = and-true (t before x) ∙ ap (λ (l : List A). t l x) (sym (append-nil before))
   turn-snoc t before (y ∷ ys) x =
       ap (λ (r : Bool). t before y && r) (turn-snoc t (before ++ (y ∷ [])) ys x ∙ ap (λ (l : List A). inTurn t (before ++ (y ∷ [])) ys && t l x) (append-assoc before (y ∷ []) ys))
-      ∙ and-assoc (t before y) (inTurn t (before ++ (y ∷ [])) ys) (t (before ++ (y ∷ ys)) x)
+      ∙ sym (and-assoc (t before y) (inTurn t (before ++ (y ∷ [])) ys) (t (before ++ (y ∷ ys)) x))
 
   module _ (t : List A → A → Bool) (f : ℕ → A) where
     -- nothing is judged yet

@@ -2,7 +2,7 @@
 use Prim.Native.Nat.{ℕ, _≤_, _<_}
 use native.Mathlib.Omega.{arith}
 use mathlib.Core.Path.{_≡_, refl, sym, _∙_, ap}
-use mathlib.Core.Bool.{Bool, true, false, not, _&&_, _||_, and-false}
+use mathlib.Core.Bool.{Bool, true, false, not, _&&_, _||_, and-true, and-false}
 use mathlib.Core.List.{List}
 use borrow.Author.Tests.{eq-eqb, ne-eqb, lt-ltb, le-ltb}
 use lib.Dec.{eqb, ltb}
@@ -82,10 +82,6 @@ module _ (N : Nodes) (es : List Edge) (x : Expression) (b p : ℕ) (d : Edge) wh
       sym (and-true r) ∙ by-solves true true r true (sym (same-both (eqb (d .kind) 3) (eqb (d .parent) p) h)) (sym (inside e l))
       (q ∙ ap (λ (n : Node). isSolutionFor x b (n .expression)) (sym (node-in N c l) ∙ ap (nodeIn (nodesOf N)) e))
       (sym (eq-eqb (getD sat c 0) 1 o) ∙ s .says c ∙ ap (at (satisfiedB (nodesOf N) es)) e)
-    where
-      and-true : (a : Bool) → (a && true) ≡ a
-      and-true true = refl
-      and-true false = refl
 
   by-monitors : (u v w : Bool) → u ≡ (eqb (d .kind) 2 && eqb (d .parent) p) → v ≡ ltb (d .child) (length (nodesOf N)) → w ≡ solved (nodesOf N) es x b (d .child) → (u && v && w) ≡ monitors (nodesOf N) es x b p d
   unfolding monitors

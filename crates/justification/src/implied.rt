@@ -1,6 +1,7 @@
 // Implication edges of kind 1.
 use closure::readers;
 use expression::Expression;
+use graph::IMPLICATION;
 use graph::expression_at;
 use relation::column;
 use relation::in_column;
@@ -20,8 +21,6 @@ ghost use Rattle.relation.specs.Relation.{Relation, Answers};
 ghost use Rattle.justification.specs.Inside.{Inside};
 ghost use Rattle.justification.specs.Justified.{impliedIf};
 ghost use Rattle.justification.specs.Implied.{impliedFrom, allFrom, allImplied, Children};
-
-const IMPLICATION: u8 = 1;
 
 // The children of edges of kind 1.
 fn children<'a>(

@@ -1,6 +1,7 @@
 // Linking implication edges.
 use crate::monitors::is_monitored_for;
 use graph::Edge;
+use graph::LINKING_IMPLICATION;
 use graph::edge_at;
 use graph::node_at;
 use propagation::insert;
@@ -22,8 +23,6 @@ ghost use Rattle.propagation.specs.Chains.{Chained};
 ghost use Rattle.propagation.specs.Satisfied.{graph};
 ghost use Rattle.propagation.specs.Work.{work, Done};
 ghost use Rattle.states.specs.Brings.{NodesFormed, Joined, Needs};
-
-const LINKING_IMPLICATION: u8 = 4;
 
 // Whether a linking implication edge is justified behind the first m edges, which satisfy the nodes of sat.
 fn is_monitored<'a>(

@@ -2,6 +2,8 @@
 use expression::Expression;
 use expression::Role;
 use expression::same;
+use graph::MONITOR;
+use graph::SOLUTION;
 use graph::expression_at;
 use word::wide;
 ghost use mathlib.Core.Path.{_≡_};
@@ -9,10 +11,6 @@ ghost use Prim.Native.Nat.{_≤_, _<_};
 ghost use Rattle.rt0.specs.Lists.{any};
 ghost use Rattle.graph.specs.Graph.{nodesFrom, edgesFrom, edgeAt, nodesOf, edgesOf};
 ghost use Rattle.justification.specs.Justified.{isSolutionFor, solves, solved, monitors, Says};
-
-const MONITOR: u8 = 2;
-
-const SOLUTION: u8 = 3;
 
 // Whether y is B.r2, where x is A.r1.r2.
 fn is_solution_for(x: Expression, b: u16, y: Expression) -> bool

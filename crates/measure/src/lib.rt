@@ -2,8 +2,8 @@
 use closure::readers;
 use expression::Expression;
 use expression::ExpressionAnswer;
-use question::LENGTH;
-use question::OPERAND;
+use expression::LENGTH;
+use expression::OPERAND;
 use question::list;
 use question::operand;
 use question::sized;

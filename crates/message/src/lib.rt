@@ -42,11 +42,6 @@ pub enum CommandAnswer {
     Refused(u64),
 }
 
-// Why a command is refused: it is missing, unknown or cut, or an end that bytes follow; or an operand has wrong form.
-pub const COMMAND: u64 = 2;
-
-pub const OPERAND: u64 = 3;
-
 // The first bytes of commands.
 const SHOW: u8 = 1;
 

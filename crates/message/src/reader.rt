@@ -1,7 +1,6 @@
 // A command is read from lent bytes.
 use crate::BRING;
 use crate::BRING_SIZE;
-use crate::COMMAND;
 use crate::Command;
 use crate::CommandAnswer;
 use crate::END;
@@ -13,24 +12,25 @@ use crate::MARK_SIZE;
 use crate::NewEdge;
 use crate::OPEN;
 use crate::OPEN_SIZE;
-use crate::OPERAND;
 use crate::Opening;
 use crate::SHOW;
 use crate::SHOW_SIZE;
+use expression::COMMAND;
 use expression::CredentialAnswer;
 use expression::Expression;
 use expression::ExpressionAnswer;
+use expression::OPERAND;
 use expression::Role;
 use expression::is_role;
 use expression::number_at;
 use expression::read_credential;
 use expression::read_expression;
+use expression::role_at;
 use graph::Edge;
 use graph::legal_state;
 ghost use mathlib.Core.Path.{_≡_};
 ghost use Prim.Native.Nat.{_<_, _+_};
 ghost use lib.ListN.{length};
-ghost use Rattle.expression.specs.Credential.{roleAt};
 ghost use Rattle.message.specs.Command.{edgeKind, formedOpening, formedNew, showAt, openAt, bringAt, joinAt, markAt, endAt, commandAt};
 
 // A credential.
@@ -45,17 +45,6 @@ fn show_at(s: &[u8], at: usize) -> CommandAnswer
         return CommandAnswer::Refused(OPERAND);
     };
     CommandAnswer::Read(Command::Show(c))
-}
-
-// A role: entity and name.
-fn role_at(s: &[u8], at: usize) -> Role
-    requires { ⌜ at + 3 < length (now s) ⌝ }
-    ensures { λ r. ⌜ r ≡ roleAt (now (s .entry)) at ⌝ }
-{
-    Role {
-        entity: number_at(s, at),
-        name: number_at(s, at + 2),
-    }
 }
 
 // Whether the role has an entity and a name, and the state is legal for it.

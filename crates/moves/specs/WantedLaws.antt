@@ -20,6 +20,7 @@ use Rattle.tables.specs.Chain.{before-chain}
 use Rattle.tables.specs.Sorted.{Strict, Rising, rising-none, rising-cons, rising-parts}
 use Rattle.tables.specs.Public.{keep}
 use Rattle.tables.specs.PublicLaws.{before-self}
+use Rattle.propagation.specs.Flags.{bool-iff}
 use Rattle.moves.specs.declared.Wanted.{Wanted}
 use Rattle.moves.specs.Wanted.{precedes, equals, inserted, ordered}
 
@@ -28,12 +29,6 @@ use Rattle.moves.specs.Wanted.{precedes, equals, inserted, ordered}
 second : (a b : Bool) → (a && b) ≡ false → a ≡ true → b ≡ false
 second true b h k = h
 second false b h k = absurd (false-true k)
-
--- two tests are equal where each passes with the other
-both : (a b : Bool) → (a ≡ true → b ≡ true) → (b ≡ true → a ≡ true) → a ≡ b
-both true b h k = sym (h refl)
-both false true h k = k refl
-both false false h k = refl
 
 not-both : {A : Type 0} {a : Bool} → a ≡ true → a ≡ false → A
 not-both h k = absurd (false-true (sym k ∙ h))
@@ -246,7 +241,7 @@ ordered-mem (u ∷ vs) {v} m =
 
 -- an edge is among those in order exactly where it is among those given
 pub ordered-same : (vs : List Wanted) (v : Wanted) → any (equals v) (ordered vs) ≡ any (equals v) vs
-ordered-same vs v = both (any (equals v) (ordered vs)) (any (equals v) vs) to fro
+ordered-same vs v = bool-iff (any (equals v) (ordered vs)) (any (equals v) vs) to fro
   where
     to : any (equals v) (ordered vs) ≡ true → any (equals v) vs ≡ true
     to h = let w = any-find (equals v) (ordered vs) h in any-here (equals v) (ordered-find vs (w .1)) (w .2)
@@ -348,7 +343,7 @@ module _ {d : Wanted → Bool} where
 
     -- none fails in order exactly where none fails
     pub ordered-all : all d (ordered vs) ≡ all d vs
-    ordered-all = both (all d (ordered vs)) (all d vs) to fro
+    ordered-all = bool-iff (all d (ordered vs)) (all d vs) to fro
       where
         to : all d (ordered vs) ≡ true → all d vs ≡ true
         to h = all-of d vs (λ v m. let o = ordered-mem vs m in A .alike v (o .0) m (ordered-find vs (o .1)) (o .2) ∙ all-each d (o .1) h)

@@ -3,7 +3,7 @@ use Prim.Native.Nat.{ℕ, zero, suc, _+_, _*_, _≤_, _<_}
 use native.Mathlib.Omega.{arith}
 use native.Mathlib.Numerals.{add-one}
 use mathlib.Core.Path.{_≡_, refl, sym, _∙_, ap}
-use mathlib.Core.Bool.{Bool, true, false, cond, _&&_}
+use mathlib.Core.Bool.{Bool, true, false, cond, _&&_, and-true, and-assoc}
 use mathlib.Core.List.{List, [], _∷_, _++_}
 use mathlib.Core.Option.{Option, none, some}
 use borrow.Author.Tests.{eqb-true, eq-eqb, leb-true, le-leb}
@@ -110,14 +110,6 @@ candidate-read s n a b c h ea nodes eb edges ec shown = λ i. record {
 
 -- Comparison
 
-and-true : (b : Bool) → b && true ≡ b
-and-true true = refl
-and-true false = refl
-
-and-assoc : (a b c : Bool) → a && (b && c) ≡ (a && b) && c
-and-assoc true b c = refl
-and-assoc false b c = refl
-
 -- one byte more
 pub same-next : (i : ℕ) (a b : List ℕ) → i < length a → i < length b
     → sameBytes (take (suc i) a) (take (suc i) b) ≡ sameBytes (take i a) (take i b) && eqb (getD a i 0) (getD b i 0)
@@ -126,7 +118,7 @@ same-next i [] b h k = absurd (omega arith)
 same-next i (x ∷ xs) [] h k = absurd (omega arith)
 same-next zero (x ∷ xs) (y ∷ ys) h k = and-true (eqb x y)
 same-next (suc i) (x ∷ xs) (y ∷ ys) h k =
-    ap (λ (c : Bool). eqb x y && c) (same-next i xs ys (omega arith) (omega arith)) ∙ and-assoc (eqb x y) (sameBytes (take i xs) (take i ys)) (eqb (getD xs i 0) (getD ys i 0))
+    ap (λ (c : Bool). eqb x y && c) (same-next i xs ys (omega arith) (omega arith)) ∙ sym (and-assoc (eqb x y) (sameBytes (take i xs) (take i ys)) (eqb (getD xs i 0) (getD ys i 0)))
 
 pub same-step : (i : ℕ) (a b : List ℕ) (same : Bool) → i < length a → length a ≡ length b → same ≡ sameBytes (take i a) (take i b)
     → same && eqb (getD a i 0) (getD b i 0) ≡ sameBytes (take (i + 1) a) (take (i + 1) b)

@@ -11,6 +11,7 @@ use expression::Role;
 use expression::expression_of;
 use expression::number_at;
 use expression::raw_at;
+use expression::role_at;
 use graph::Edges;
 use graph::Nodes;
 use rt0::Pool;
@@ -18,21 +19,10 @@ use rt0::store;
 ghost use mathlib.Core.Path.{_≡_};
 ghost use Prim.Native.Nat.{ℕ, _+_, _*_, _≤_};
 ghost use lib.ListN.{length};
-ghost use Rattle.expression.specs.Credential.{roleAt};
 ghost use Rattle.rt0.specs.Pool.{upTo, credentials};
 ghost use Rattle.graph.specs.Graph.{nodesOf, edgesOf};
 ghost use Rattle.negotiation.specs.State.{stateOf};
 ghost use Rattle.negotiation.specs.Layout.{headerFrom, nodeFrom, edgeFrom, credentialFrom, few, candidateOf, sameBytes, readState, readingOf};
-
-fn role_from(s: &[u8], at: usize) -> Role
-    requires { ⌜ at + 4 ≤ length (now s) ⌝ }
-    ensures { λ r. ⌜ r ≡ roleAt (now (s .entry)) at ⌝ }
-{
-    Role {
-        entity: number_at(s, at),
-        name: number_at(s, at + 2),
-    }
-}
 
 fn header_from(s: &[u8]) -> Header
     requires { ⌜ 18 ≤ length (now s) ⌝ }
@@ -42,7 +32,7 @@ fn header_from(s: &[u8]) -> Header
         side: s[1],
         own: number_at(s, 2),
         other: number_at(s, 4),
-        wanted: role_from(s, 6),
+        wanted: role_at(s, 6),
         end: s[10],
         idle: s[11],
         messages: number_at(s, 12),
@@ -54,7 +44,7 @@ fn credential_from(s: &[u8], at: usize) -> Credential
     ensures { λ c. ⌜ c ≡ credentialFrom (now (s .entry)) at ⌝ }
 {
     Credential {
-        head: role_from(s, at),
+        head: role_at(s, at),
         body: expression_of(raw_at(s, at + 4)),
     }
 }

@@ -1,9 +1,9 @@
 // The credential list of an RT0 question.
-use crate::COMMAND;
 use crate::Listing;
-use crate::OPERAND;
 use crate::Step;
+use expression::COMMAND;
 use expression::CredentialAnswer;
+use expression::OPERAND;
 use expression::read_credential;
 use rt0::Pool;
 use rt0::store;

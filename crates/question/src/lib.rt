@@ -2,6 +2,8 @@
 pub use credentials::list;
 use expression::Credential;
 use expression::ExpressionAnswer;
+use expression::LENGTH;
+use expression::OPERAND;
 use expression::is_body;
 use expression::read_expression;
 use relation::from;
@@ -25,13 +27,6 @@ pub struct Listing {
     pub refusal: u64,
     pub pool: Pool,
 }
-
-// Why a call is refused: a lent length, a command, or the form of an operand.
-pub const LENGTH: u64 = 1;
-
-const COMMAND: u64 = 2;
-
-pub const OPERAND: u64 = 3;
 
 // 64 credential commands and an end.
 const LIST_SIZE: usize = 1473;

@@ -1,15 +1,17 @@
 // The records of the house tables and their bytes.
 use class::Name;
+use expression::COMMAND;
 use expression::Credential;
 use expression::CredentialAnswer;
+use expression::OPERAND;
 use expression::Role;
 use expression::is_role;
 use expression::number_at;
 use expression::read_credential;
+use expression::role_at;
 ghost use mathlib.Core.Path.{_≡_};
 ghost use Prim.Native.Nat.{_<_, _+_, _≤_};
 ghost use lib.ListN.{length};
-ghost use Rattle.expression.specs.Credential.{roleAt};
 ghost use Rattle.record.specs.Record.{formedName, formedPair, stored as storedIn, paired as pairedIn, ownAt, nameAt, storedAt, pairAt, recordAt};
 
 // A sensitive role with its Ack role, or with its AC role.
@@ -32,11 +34,6 @@ pub enum RecordAnswer {
     Read(Record),
     Refused(u64),
 }
-
-// Why a record is refused: it is unknown or cut, or an operand has wrong form.
-pub const COMMAND: u64 = 2;
-
-pub const OPERAND: u64 = 3;
 
 // The sizes of records, first byte included.
 const OWN_SIZE: usize = 3;
@@ -111,17 +108,6 @@ fn stored_at(s: &[u8], at: usize, subject: bool) -> RecordAnswer
         return RecordAnswer::Refused(OPERAND);
     };
     RecordAnswer::Read(stored(subject, c))
-}
-
-// A role: entity and name.
-fn role_at(s: &[u8], at: usize) -> Role
-    requires { ⌜ at + 3 < length (now s) ⌝ }
-    ensures { λ r. ⌜ r ≡ roleAt (now (s .entry)) at ⌝ }
-{
-    Role {
-        entity: number_at(s, at),
-        name: number_at(s, at + 2),
-    }
 }
 
 // Whether both roles have entities and names.

@@ -3,7 +3,7 @@ use Prim.Native.Nat.{ℕ, zero, suc, _+_, _-_, _*_, _≤_, _<_}
 use native.Mathlib.Omega.{arith}
 use native.Mathlib.Numerals.{add-one}
 use mathlib.Core.Path.{_≡_, refl, sym, _∙_, ap}
-use mathlib.Core.Bool.{Bool, true, false, cond}
+use mathlib.Core.Bool.{Bool, true, false, cond, and-true}
 use mathlib.Core.List.{List, [], _∷_, _++_, append-nil}
 use lib.ListN.{length, length-append}
 use lib.Seq.{paste-zero, length-paste}
@@ -24,7 +24,7 @@ use Rattle.take.specs.Message.{bytesOf}
 use Rattle.moves.specs.declared.Outgoing.{Outgoing}
 use Rattle.moves.specs.Own.{commandsOf}
 use Rattle.moves.specs.Carried.{carried, hasRoomFor}
-use Rattle.reply.specs.Outgoing.{oneIf, onAt, shows, bytes-append, carried-append, room-parts, carried-within, one-length, shows-append, shows-length, side-carried, side-room, on-length, and-true, chosen-front}
+use Rattle.reply.specs.Outgoing.{oneIf, onAt, shows, bytes-append, carried-append, room-parts, carried-within, one-length, shows-append, shows-length, side-carried, side-room, on-length, chosen-front}
 
 pub paste-length : (d : List ℕ) (at : ℕ) (xs : List ℕ) → at + length xs ≤ length d → length (pasted d at xs) ≡ length d
 paste-length d at xs h = length-paste d at xs (length xs) h (omega arith)

@@ -3,7 +3,7 @@ use Prim.Native.Nat.{ℕ, zero, suc, _+_, _*_, _≤_, _<_}
 use native.Mathlib.Omega.{arith}
 use native.Mathlib.Numerals.{add-one}
 use mathlib.Core.Path.{_≡_, refl, sym, _∙_, ap}
-use mathlib.Core.Bool.{Bool, true, false, cond, _&&_}
+use mathlib.Core.Bool.{Bool, true, false, cond, _&&_, and-true}
 use mathlib.Core.List.{List, [], _∷_, _++_, map, append-assoc, append-nil}
 use borrow.Author.Tests.{eq-eqb, ne-eqb, lt-ltb, ltb-true}
 use lib.Dec.{eqb, ltb}
@@ -190,10 +190,6 @@ room-of-bring nodes edges shown c b h e = ap (λ (p : ℕ). ltb p nodes && ltb n
 
 pub room-of-mark : (nodes edges shown : ℕ) (c : Command) (i : ℕ) {p : ℕ} → c ≡ Mark i → p ≡ i → ltb p nodes ≡ roomBy nodes edges shown c
 room-of-mark nodes edges shown c i h e = ap (λ (p : ℕ). ltb p nodes) e ∙ ap (roomBy nodes edges shown) (sym h)
-
-pub and-true : (b : Bool) → (b && true) ≡ b
-and-true true = refl
-and-true false = refl
 
 room-past : (s : ℕ) (S : State) (cs : List Credential) (c : Command) → length (S .shown) ≤ 64 → 64 < length (S .shown) + length cs → hasRoomFor s S (shows cs ++ (c ∷ [])) ≡ false
 unfolding hasRoom stepped withShown

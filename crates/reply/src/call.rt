@@ -1,10 +1,10 @@
 // The call: lengths, tables, negotiation, end and turn, then the reply.
 use crate::Replying;
-use crate::turns::MESSAGE;
 use crate::turns::reply_from;
 use crate::turns::replying;
 use damage::restore;
 use expression::Expression;
+use expression::LENGTH;
 use expression::Role;
 use message::Command;
 use message::Opening;
@@ -16,6 +16,10 @@ use negotiation::write;
 use negotiation::write_zeros;
 use sending::own_of;
 use tables::House;
+use take::ENDED;
+use take::MESSAGE;
+use take::SCRATCH;
+use take::TURN;
 use take::sends;
 use update::after_message;
 use update::step;
@@ -30,15 +34,6 @@ ghost use Rattle.negotiation.specs.State.{stateOf, within};
 ghost use Rattle.damage.specs.Damage.{sound};
 ghost use Rattle.reply.specs.Reply.{replySize, replyOf, answerOf, negotiationLeft, replyLeft, scratchLeft};
 ghost use Rattle.reply.specs.ReplyLaws.{firstOpen, Begins, Replies};
-
-// Why a call is refused: a lent length, not that side's turn, already ended.
-const LENGTH: u64 = 1;
-
-const TURN: u64 = 21;
-
-const ENDED: u64 = 22;
-
-const SCRATCH: usize = 4096;
 
 fn fits(reply: usize, scratch: usize) -> bool
     ensures { λ r. ⌜ r ≡ replySize reply scratch ⌝ }

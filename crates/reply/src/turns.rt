@@ -10,6 +10,7 @@ use moves::Own;
 use negotiation::Negotiation;
 use sending::outgoing;
 use states::node_states;
+use take::MESSAGE;
 use word::wide;
 ghost use mathlib.Core.Path.{_≡_};
 ghost use mathlib.Core.Bool.{cond};
@@ -22,9 +23,6 @@ ghost use Rattle.moves.specs.Own.{Prepared};
 ghost use Rattle.legality.specs.Going.{Going};
 ghost use Rattle.reply.specs.Turns.{restFrom};
 ghost use Rattle.reply.specs.Writing.{Gives};
-
-// A message has so many bytes at most, and no more moves.
-pub const MESSAGE: usize = 4096;
 
 pub fn replying(refusal: u64, negotiation: Negotiation, at: usize, full: bool) -> Replying
     ensures { λ r. ⌜ (r .refusal ≡ refusal) × (r .negotiation ≡ negotiation) × (r .at ≡ at) × (r .full ≡ full) ⌝ }

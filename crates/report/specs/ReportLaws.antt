@@ -21,6 +21,7 @@ use Rattle.graph.specs.declared.Edge.{Edge}
 use Rattle.graph.specs.Graph.{nodesOf, edgesOf, nodeAt, edgeAt, nodeIn}
 use Rattle.graph.specs.Columns.{nodes-length, edges-length, node-in}
 use Rattle.graph.specs.Form.{legalState}
+use Rattle.graph.specs.FormLaws.{legal-few}
 use Rattle.graph.specs.Propagated.{satisfiedB, failedB, completeB, stateOf}
 use Rattle.states.specs.Brings.{NodesFormed, EdgesFormed}
 use Rattle.tables.specs.declared.House.{House}
@@ -115,15 +116,6 @@ report-is G i l e q = q ∙ ap packed (λ t. record {
 })
 
 -- What a report's numbers are
-
--- a legal state has two bits
-legal-few : (x : Expression) (s : ℕ) → legalState x s ≡ true → s < 4
-unfolding legalState
-legal-few (E.Entity a) s h = let z : s ≡ 3 = eqb-true s 3 h in omega arith
-legal-few (E.Role a) s h = ltb-true s 4 h
-legal-few (E.Linked a r) s h = ltb-true s 4 h
-legal-few (E.Intersection p) s h = ltb-true s 4 (and-parts (ltb 0 s) (ltb s 4) h .1)
-legal-few (E.Goal r) s h = ⊎-elim (λ a. let z : s ≡ 1 = eqb-true s 1 a in omega arith) (λ b. let z : s ≡ 3 = eqb-true s 3 b in omega arith) (or-cases (eqb s 1) (eqb s 3) h)
 
 -- a propagated state is 0, 1 or 2
 state-few : (ns : List Node) (es : List Edge) (i : ℕ) → stateOf ns es i < 4

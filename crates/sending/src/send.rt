@@ -3,6 +3,7 @@ use crate::commands::edge_command;
 use crate::credentials::alone;
 use crate::credentials::direct_for;
 use crate::credentials::needed_for;
+use graph::IMPLICATION;
 use message::Command;
 use moves::Choice;
 use moves::Found;
@@ -20,8 +21,6 @@ ghost use Rattle.moves.specs.declared.Choice.the-variants as K;
 ghost use Rattle.moves.specs.Own.{Prepared, foundMove, commandsOf};
 ghost use Rattle.moves.specs.Rules.{endIn};
 ghost use Rattle.sending.specs.Edge.{EdgeSent};
-
-const IMPLICATION: u8 = 1;
 
 // An edge into node i behind the credentials it needs.
 fn edge(own: Own, n: Negotiation, i: u8, w: Wanted) -> Outgoing

@@ -13,6 +13,7 @@ use crate::stored::read_stored;
 use crate::stored::stored_number;
 use class::NAME;
 use class::Names;
+use expression::LENGTH;
 use record::Record;
 use record::RecordAnswer;
 use record::read_record;
@@ -29,9 +30,6 @@ ghost use Rattle.tables.specs.Check.{classNumber, sized as sizedOf, read
 ghost use Rattle.tables.specs.Reading.{tablesFor};
 ghost use Rattle.tables.specs.Passed.{Passed};
 ghost use Rattle.tables.specs.Decoding.{firstRecord, leftNumber, outOfOrder, withoutPairs, Housed, Decodes};
-
-// A lent length outside the sizes.
-const LENGTH: u64 = 1;
 
 // 0x10 and self.
 const OWN_SIZE: usize = 3;

@@ -3,6 +3,7 @@ use crate::Taking;
 use crate::commands::take_commands;
 use crate::commands::taking;
 use damage::restore;
+use expression::LENGTH;
 use negotiation::Negotiation;
 use negotiation::write;
 use negotiation::write_zeros;
@@ -20,16 +21,15 @@ ghost use Rattle.update.specs.Step.{otherSide};
 ghost use Rattle.take.specs.CommandsLaws.{Room};
 ghost use Rattle.take.specs.Take.{sends as sendsAt, messageSize, takenIn, takeOf, answerOf, negotiationLeft, scratchLeft, outcomeOf};
 
-// Why a call is refused: a lent length, not that side's turn, already ended.
-const LENGTH: u64 = 1;
+// Why a call is refused: not that side's turn, already ended.
+pub const TURN: u64 = 21;
 
-const TURN: u64 = 21;
+pub const ENDED: u64 = 22;
 
-const ENDED: u64 = 22;
+// How long the scratch is, and a message at the most.
+pub const SCRATCH: usize = 4096;
 
-const SCRATCH: usize = 4096;
-
-const MESSAGE: usize = 4096;
+pub const MESSAGE: usize = 4096;
 
 fn other_side(side: u8) -> u8
     ensures { λ r. ⌜ r ≡ otherSide side ⌝ }

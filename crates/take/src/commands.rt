@@ -4,6 +4,7 @@ use crate::beside::carried;
 use crate::beside::nothing_kept;
 use crate::beside::ready;
 use class::Names;
+use expression::COMMAND;
 use message::Command;
 use message::CommandAnswer;
 use message::size_of;
@@ -28,8 +29,6 @@ ghost use Rattle.update.specs.Legal.{legalNumber};
 ghost use Rattle.update.specs.Judged.{Proves, SaysFor};
 ghost use Rattle.take.specs.Commands.{isEnd, commandsFrom, takenOf};
 ghost use Rattle.take.specs.CommandsLaws.{refusalOf, Room};
-
-const COMMAND: u64 = 2;
 
 // The number of a command that was not read.
 fn refusal_of(a: CommandAnswer) -> u64

@@ -5,6 +5,10 @@ mod beside;
 mod call;
 mod commands;
 
+pub use call::ENDED;
+pub use call::MESSAGE;
+pub use call::SCRATCH;
+pub use call::TURN;
 pub use call::sends;
 pub use call::take;
 pub use commands::take_commands;

@@ -2,7 +2,7 @@
 use Prim.Native.Nat.{ℕ, _≤_, _<_}
 use native.Mathlib.Omega.{arith}
 use mathlib.Core.Path.{_≡_, refl, sym, _∙_, ap}
-use mathlib.Core.Bool.{Bool, true, false, not, cond, _&&_, _||_}
+use mathlib.Core.Bool.{Bool, true, false, not, cond, _&&_, _||_, and-true}
 use mathlib.Core.List.{List}
 use borrow.Author.Tests.{eq-eqb, ne-eqb, eqb-true, eqb-false, le-leb, lt-leb, leb-true}
 use lib.Dec.{eqb, leb}
@@ -97,10 +97,6 @@ module _ (n : Negotiation) where
 
 -- Justification, by kind
 
-and-true : (b : Bool) → b ≡ (b && true)
-and-true true = refl
-and-true false = refl
-
 same-where : (x p i : Bool) → (x ≡ true → p ≡ i) → (not x || p) ≡ (not x || i)
 same-where true p i h = h refl
 same-where false p i h = refl
@@ -113,7 +109,7 @@ module _ (k : ℕ) (i m : Bool) where
 
   pub by-proved : {p : Bool} → eqb k 4 ≡ false → (eqb k 1 ≡ true → p ≡ i) → (not (eqb k 1) || p) ≡ justifiedBy k i m
   unfolding justifiedBy
-  by-proved {p} h e = same-where (eqb k 1) p i e ∙ and-true (not (eqb k 1) || i) ∙ ap (λ (b : Bool). (not (eqb k 1) || i) && (not b || m)) (sym h)
+  by-proved {p} h e = same-where (eqb k 1) p i e ∙ sym (and-true (not (eqb k 1) || i)) ∙ ap (λ (b : Bool). (not (eqb k 1) || i) && (not b || m)) (sym h)
 
 -- One of the commands
 

@@ -18,6 +18,7 @@ use Rattle.class.specs.Typing.{typeOf}
 use Rattle.graph.specs.declared.Node.{Node}
 use Rattle.graph.specs.Graph.{nodeIn, inState}
 use Rattle.graph.specs.Form.{legalState}
+use Rattle.graph.specs.FormLaws.{legal-few}
 use Rattle.graph.specs.Find.{isNode}
 use Rattle.graph.specs.StatesLaws.{gains}
 use Rattle.justification.specs.InTurn.{inTurn}
@@ -53,15 +54,6 @@ goal-bit false = four (λ t. (eqb t 1 || eqb t 3) ≡ true → (eqb (bitOr t 2) 
 full-bit : (b : Bool) → eqb (withBit b 3) 3 ≡ true
 full-bit true = refl
 full-bit false = refl
-
--- a legal state is one of the four
-pub legal-few : (x : Expression) (t : ℕ) → legalState x t ≡ true → t < 4
-unfolding legalState
-legal-few (E.Entity a) t h = let z : t ≡ 3 = eqb-true t 3 h in omega arith
-legal-few (E.Role a) t h = ltb-true t 4 h
-legal-few (E.Linked a r) t h = ltb-true t 4 h
-legal-few (E.Intersection p) t h = ltb-true t 4 (and-parts (ltb 0 t) (ltb t 4) h .1)
-legal-few (E.Goal r) t h = ⊎-elim (λ a. let z : t ≡ 1 = eqb-true t 1 a in omega arith) (λ a. let z : t ≡ 3 = eqb-true t 3 a in omega arith) (or-cases (eqb t 1) (eqb t 3) h)
 
 legal-bit : (b : Bool) (x : Expression) (t : ℕ) → t < 4 → legalState x t ≡ true → legalState x (withBit b t) ≡ true
 unfolding legalState

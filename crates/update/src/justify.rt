@@ -3,6 +3,8 @@ use crate::steps::node_of;
 use expression::Expression;
 use graph::Edge;
 use graph::Edges;
+use graph::IMPLICATION;
+use graph::LINKING_IMPLICATION;
 use graph::Node;
 use graph::Nodes;
 use justification::is_monitored_for;
@@ -23,10 +25,6 @@ ghost use Rattle.message.specs.declared.Command.the-variants as C;
 ghost use Rattle.negotiation.specs.State.{stateOf, within};
 ghost use Rattle.update.specs.Legal.{justifiedIn};
 ghost use Rattle.update.specs.Judged.{isImplication, isLinking, Proves, SaysFor};
-
-const IMPLICATION: u8 = 1;
-
-const LINKING_IMPLICATION: u8 = 4;
 
 // Which nodes are satisfied.
 pub fn satisfied_nodes(nodes: Nodes, edges: Edges) -> [u8; 128]

@@ -4,6 +4,9 @@ use expression::Expression;
 use expression::is_entity;
 use graph::Edge;
 use graph::Edges;
+use graph::IMPLICATION;
+use graph::INTERSECTION;
+use graph::LINKING_IMPLICATION;
 use graph::Nodes;
 use message::Command;
 use message::NewEdge;
@@ -16,12 +19,6 @@ ghost use Rattle.propagation.specs.Flags.{flag};
 ghost use Rattle.message.specs.declared.Command.the-variants as C;
 ghost use Rattle.update.specs.SameStates.{isParts, Inside};
 ghost use Rattle.update.specs.KeepsStates.{bringsNothing, keepsStates};
-
-const IMPLICATION: u8 = 1;
-
-const LINKING_IMPLICATION: u8 = 4;
-
-const INTERSECTION: u8 = 5;
 
 const PROCESSED: u8 = 3;
 

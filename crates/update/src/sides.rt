@@ -1,14 +1,13 @@
 // What a side has processed, and the nodes that commands add.
 use damage::requester;
 use expression::Expression;
+use graph::CONTROL;
 use graph::Node;
 use message::NewEdge;
 use message::Opening;
 use negotiation::Header;
 ghost use mathlib.Core.Path.{_≡_};
 ghost use Rattle.update.specs.Step.{processedBy, markedState, primaryOf, verifierOf, childOf};
-
-const CONTROL: u8 = 6;
 
 const MEDIATOR: u8 = 0;
 

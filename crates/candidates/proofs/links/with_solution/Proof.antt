@@ -7,7 +7,7 @@ use Rattle.candidates.proofs.links.with_solution.Lts as lts
 use Rattle.candidates.proofs.done.better.Reads as better-reads
 use Rattle.candidates.proofs.links.entity_in.Reads as entity-in-reads
 use Rattle.candidates.proofs.links.expression_of.Reads as expression-of-reads
-use Rattle.candidates.proofs.links.is_named.Reads as is-named-reads
+use Rattle.graph.proofs.is_named.Reads as is-named-reads
 use Rattle.candidates.proofs.members.child_for.Reads as child-for-reads
 
 expression-of-requires : tie.Need-expression-of-requires

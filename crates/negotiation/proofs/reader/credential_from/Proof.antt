@@ -4,8 +4,8 @@ use borrow.Author.Needs.{needs}
 use Rattle.negotiation.proofs.reader.credential_from.Statement.{statement}
 use Rattle.negotiation.proofs.reader.credential_from.Tie as tie
 
-role-from-requires : tie.Need-role-from-requires
-role-from-requires c κs = search needs
+role-at-requires : tie.Need-role-at-requires
+role-at-requires c κs = search needs
 
 add-raw-at : tie.Need-add-raw-at
 add-raw-at c = search needs
@@ -17,9 +17,9 @@ expression-of-requires : tie.Need-expression-of-requires
 expression-of-requires c κs = search needs
 
 returns : tie.Need-returns
-returns c = λ i. record { head = c .before .before .role-from .ensures i; body = (c .expression-of .ensures ∙ ap expressionOf (c .before .raw-at .ensures)) i }
+returns c = λ i. record { head = c .before .before .role-at .ensures i; body = (c .expression-of .ensures ∙ ap expressionOf (c .before .raw-at .ensures)) i }
 
 pub credential-from-spec : {M : Type 1} → statement M
 credential-from-spec =
     tie.close
-    (tie.spec role-from-requires add-raw-at raw-at-requires expression-of-requires returns)
+    (tie.spec role-at-requires add-raw-at raw-at-requires expression-of-requires returns)

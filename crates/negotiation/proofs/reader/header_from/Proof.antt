@@ -11,8 +11,8 @@ number-at-requires c κs = search needs
 number-at-requires-2 : tie.Need-number-at-requires-2
 number-at-requires-2 c κs = search needs
 
-role-from-requires : tie.Need-role-from-requires
-role-from-requires c κs = search needs
+role-at-requires : tie.Need-role-at-requires
+role-at-requires c κs = search needs
 
 shared-slice-read-t8 : tie.Need-shared-slice-read-t8
 shared-slice-read-t8 c = search needs
@@ -33,7 +33,7 @@ header-from-spec =
     shared-slice-read-t3
     number-at-requires
     number-at-requires-2
-    role-from-requires
+    role-at-requires
     shared-slice-read-t8
     shared-slice-read-t10
     number-at-requires-3

@@ -1,6 +1,6 @@
 use borrow.Author.Needs.{needs}
-use Rattle.message.proofs.reader.role_at.Statement.{statement}
-use Rattle.message.proofs.reader.role_at.Tie as tie
+use Rattle.expression.proofs.credentials.role_at.Statement.{statement}
+use Rattle.expression.proofs.credentials.role_at.Tie as tie
 
 number-at-requires : tie.Need-number-at-requires
 number-at-requires c κs = search needs
