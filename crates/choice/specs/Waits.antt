@@ -13,7 +13,7 @@ use Rattle.expression.specs.declared.Expression.{Expression}
 use Rattle.expression.specs.declared.Expression.the-variants as E
 use Rattle.expression.specs.Kinds.{isRoleExpression}
 use Rattle.expression.specs.Same.{same}
-use Rattle.rt0.specs.Lists.{false-true, and-parts}
+use Rattle.rt0.specs.Lists.{false-true}
 use Rattle.tables.specs.declared.RoleAnswer.{RoleAnswer}
 use Rattle.tables.specs.declared.RoleAnswer.the-variants as A
 use Rattle.tables.specs.Tables.{Tables}
@@ -25,7 +25,6 @@ use Rattle.graph.specs.Graph.{nodeIn}
 use Rattle.graph.specs.Find.{isNode, findNode}
 use Rattle.graph.specs.FindExact as F
 use Rattle.graph.specs.StatesLaws.{satisfied-inside}
-use Rattle.graph.specs.Propagated.{satisfiedB}
 use Rattle.graph.specs.PropagatedLaws.{satisfied-exact}
 use Rattle.message.specs.declared.Command.{Command}
 use Rattle.negotiation.specs.declared.Header.{Header}
@@ -34,7 +33,6 @@ use Rattle.update.specs.Step.{processedBy, otherSide}
 use Rattle.moves.specs.declared.Wanted.{Wanted}
 use Rattle.moves.specs.declared.Choice.{Choice}
 use Rattle.moves.specs.declared.Choice.the-variants as C
-use Rattle.moves.specs.declared.Holding.{Holding}
 use Rattle.moves.specs.declared.Holding.the-variants.{Absent, Free, Guarded}
 use Rattle.moves.specs.declared.Known.{Known}
 use Rattle.moves.specs.declared.Known.the-variants.{Waiting, Seen}
@@ -49,7 +47,7 @@ use Rattle.candidates.specs.Least.{better, orElse}
 use Rattle.choice.specs.Known.{knownAs}
 use Rattle.choice.specs.Sensitive.{alone, controlFor, ownFor, satisfiedIn, policyChoice, holdingChoice, knownChoice}
 use Rattle.choice.specs.RuleChoice.{verifier-as, verifier-role, opponent-as, about-us, about-other, plain-choice, at-processed, at-verifier, at-opponent}
-use Rattle.choice.specs.Asked.{restEdges, Asked, restAt, sensitiveAt, sensitive-at}
+use Rattle.choice.specs.Asked.{Asked, restAt, sensitiveAt, sensitive-at}
 use Rattle.choice.specs.Later.{or-nothing, Later, done-stays, same-side, asked-back, rest-stays, carried-later}
 use Rattle.choice.specs.Next.{isNothing, Passed, Resting}
 
@@ -57,10 +55,6 @@ use Rattle.choice.specs.Next.{isNothing, Passed, Resting}
 
 mark-some : (b : Choice) → orElse b C.Mark ≡ C.Nothing → ⊥
 mark-some b h = false-true (ap isNothing (or-nothing b C.Mark h .1))
-
-unmarked : (b : Bool) → markIf b ≡ C.Nothing → b ≡ false
-unmarked true h = absurd (false-true (ap isNothing h))
-unmarked false h = refl
 
 -- one edge that is done stays done
 alone-stays : (d e : Wanted → Bool) → ((w : Wanted) → d w ≡ true → e w ≡ true) → (w : Wanted) → alone d w ≡ C.Nothing → alone e w ≡ C.Nothing

@@ -1,8 +1,7 @@
 -- What comes next in a reply, test by test. Assumes nothing.
 use Prim.Native.Nat.{ℕ, _+_, _≤_, _<_}
 use native.Mathlib.Omega.{arith}
-use mathlib.Core.Path.{_≡_, refl, sym, _∙_, ap, subst}
-use mathlib.Core.Logic.{_⊎_, ⊎-elim}
+use mathlib.Core.Path.{_≡_, refl, sym, _∙_, ap}
 use mathlib.Core.Bool.{Bool, true, false, not, cond, _&&_, _||_}
 use mathlib.Core.List.{List, [], _∷_, _++_}
 use borrow.Author.Tests.{ne-eqb, lt-leb, le-leb, not-true, not-false}
@@ -14,9 +13,6 @@ use Rattle.expression.specs.Same.{same, same-eq}
 use Rattle.expression.specs.Kinds.{isRoleExpression}
 use Rattle.rt0.specs.Lists.{and-parts, false-true}
 use Rattle.propagation.specs.Flags.{at}
-use Rattle.rt0.specs.declared.Pool.{Pool}
-use Rattle.rt0.specs.Pool.{credentials}
-use Rattle.rt0.specs.Added.{count-length}
 use Rattle.rules.specs.Table.{chosen}
 use Rattle.tables.specs.Tables.{Tables}
 use Rattle.graph.specs.declared.Node.{Node}
@@ -40,7 +36,7 @@ use Rattle.moves.specs.declared.Choice.the-variants as K
 use Rattle.moves.specs.declared.Found.{Found}
 use Rattle.moves.specs.declared.Outgoing.{Outgoing}
 use Rattle.moves.specs.Own.{commandsOf, foundMove}
-use Rattle.moves.specs.Rules.{End, endIn}
+use Rattle.moves.specs.Rules.{endIn}
 use Rattle.moves.specs.Move.{Move, moveFor, nextMove}
 use Rattle.moves.specs.Carried.{hasRoomFor}
 use Rattle.choice.specs.Next.{isNothing, nothing-is}
