@@ -1,3 +1,2 @@
 pub mod Begin
-pub mod BeginLaws
-pub mod Kept
+pub mod laws

@@ -9,8 +9,7 @@ use negotiation::write;
 use tables::decode;
 ghost use mathlib.Core.Path.{_≡_};
 ghost use Prim.Native.Nat.{_≤_};
-ghost use lib.ListN.{length};
-ghost use Rattle.class.specs.Names.{namesFrom, namesOf, Ascending};
+ghost use Rattle.class.specs.laws.Names.{namesFrom, namesOf, Ascending};
 ghost use Rattle.begin.specs.Begin.{isRequester, roleNumber, otherNumber, sideOf, beginOf, answerOf, leftOf};
 
 // Why a call is refused: the other end is zero or self.

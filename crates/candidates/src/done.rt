@@ -11,9 +11,9 @@ use moves::Wanted;
 use word::wide;
 ghost use mathlib.Core.Path.{_≡_};
 ghost use Prim.Native.Nat.{_≤_};
-ghost use Rattle.graph.specs.Graph.{nodesOf, edgesOf};
+ghost use Rattle.graph.specs.laws.Graph.{nodesOf, edgesOf};
 ghost use Rattle.moves.specs.Wanted.{precedes as precedesOf, isDone};
-ghost use Rattle.candidates.specs.Least.{improves as improvesOf, better as betterOf, orElse};
+ghost use Rattle.candidates.specs.laws.Least.{improves as improvesOf, better as betterOf, orElse};
 
 // Whether an edge into node i stands already, or would join it to itself.
 pub fn is_done(nodes: Nodes, edges: Edges, i: u8, w: Wanted) -> bool

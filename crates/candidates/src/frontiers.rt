@@ -12,15 +12,15 @@ ghost use mathlib.Core.List.{[], _∷_};
 ghost use Prim.Native.Nat.{_≤_};
 ghost use Rattle.expression.specs.declared.Expression.the-variants as E;
 ghost use Rattle.expression.specs.Kinds.{isEntity};
-ghost use Rattle.tables.specs.Tables.{tablesOf};
+ghost use Rattle.tables.specs.laws.Tables.{tablesOf};
 ghost use Rattle.tables.specs.Lookup.{isSensitive};
 ghost use Rattle.tables.specs.Public.{publicOf, keep};
-ghost use Rattle.graph.specs.Graph.{nodesOf, edgesOf};
+ghost use Rattle.graph.specs.laws.Graph.{nodesOf, edgesOf};
 ghost use Rattle.moves.specs.declared.Choice.the-variants as C;
 ghost use Rattle.moves.specs.Frontiers.{bodiesOf, frontierOf, oppo, simp, sens};
 ghost use Rattle.moves.specs.Wanted.{isDone, firstNot};
 ghost use Rattle.moves.specs.Rules.{implications, toSubject};
-ghost use Rattle.moves.specs.Own.{Prepared};
+ghost use Rattle.moves.specs.laws.Own.{Prepared};
 
 // The verifier's: the oppo frontier of the bodies of 0x12.
 pub fn issuer_edges(own: Own, n: Negotiation, i: u8, x: Node, a: Role) -> Choice

@@ -12,15 +12,15 @@ use moves::Own;
 use rt0::head_at;
 ghost use mathlib.Core.Path.{_≡_};
 ghost use Prim.Native.Nat.{_≤_, _<_};
-ghost use Rattle.rt0.specs.Pool.{poolOf};
-ghost use Rattle.rules.specs.Table.{chosen};
-ghost use Rattle.tables.specs.Tables.{pairsFrom, pairsOf};
-ghost use Rattle.tables.specs.Decoding.{Housed};
-ghost use Rattle.graph.specs.Graph.{nodesOf, edgesOf};
+ghost use Rattle.rt0.specs.laws.Pool.{poolOf};
+ghost use Rattle.rules.specs.laws.Table.{chosen};
+ghost use Rattle.tables.specs.laws.Tables.{pairsFrom, pairsOf};
+ghost use Rattle.tables.specs.laws.Decoding.{Housed};
+ghost use Rattle.graph.specs.laws.Graph.{nodesOf, edgesOf};
 ghost use Rattle.moves.specs.declared.Choice.the-variants as C;
 ghost use Rattle.moves.specs.Wanted.{isDone, ordered, firstNot};
-ghost use Rattle.candidates.specs.Offers.{folded, offer};
-ghost use Rattle.candidates.specs.Goals.{isNamedPair, pairEdge, isNamedHead, headEdge, solutionEdge, namedRoles};
+ghost use Rattle.candidates.specs.laws.Offers.{folded, offer};
+ghost use Rattle.candidates.specs.laws.Goals.{isNamedPair, pairEdge, isNamedHead, headEdge, solutionEdge, namedRoles};
 ghost use mathlib.Core.List.{map};
 
 // The best of what is chosen and the edge to sensitive role k, if it has the name r.

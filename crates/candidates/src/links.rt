@@ -18,18 +18,17 @@ use states::NodeStates;
 use states::is_complete;
 use word::wide;
 ghost use mathlib.Core.Path.{_≡_};
-ghost use mathlib.Core.List.{map};
 ghost use Prim.Native.Nat.{_≤_, _<_};
 ghost use Rattle.rt0.specs.Lists.{any};
 ghost use Rattle.rt0.specs.Pool.{upTo};
-ghost use Rattle.graph.specs.Graph.{nodesOf, edgesOf, edgesFrom, nodeAt};
-ghost use Rattle.states.specs.Brings.{EdgesFormed};
-ghost use Rattle.states.specs.Complete.{Settled};
+ghost use Rattle.graph.specs.laws.Graph.{nodesOf, edgesOf, edgesFrom, nodeAt};
+ghost use Rattle.states.specs.laws.Brings.{EdgesFormed};
+ghost use Rattle.states.specs.laws.Complete.{Settled};
 ghost use Rattle.moves.specs.declared.Choice.the-variants as C;
 ghost use Rattle.moves.specs.Wanted.{isDone, markIf};
-ghost use Rattle.candidates.specs.Offers.{folded, offer};
-ghost use Rattle.candidates.specs.Skipped.{First};
-ghost use Rattle.candidates.specs.Links.{Monitoring, entityIn, isNamedAt, isSolution, isSolved, solutionEdge, solvedEdge, isMonitor, isCompleteAt, Linked};
+ghost use Rattle.candidates.specs.laws.Offers.{folded, offer};
+ghost use Rattle.candidates.specs.laws.Skipped.{First};
+ghost use Rattle.candidates.specs.laws.Links.{Monitoring, entityIn, isNamedAt, isSolution, isSolved, solutionEdge, solvedEdge, isMonitor, isCompleteAt, Linked};
 
 // The children of node i by linking-monitor edges, 1 for each.
 fn monitored<'a>(

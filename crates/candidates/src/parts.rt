@@ -12,12 +12,12 @@ use moves::Choice;
 ghost use mathlib.Core.Path.{_≡_};
 ghost use Prim.Native.Nat.{_≤_};
 ghost use Rattle.rt0.specs.From.{rolesOf};
-ghost use Rattle.graph.specs.Graph.{nodesOf, edgesOf};
+ghost use Rattle.graph.specs.laws.Graph.{nodesOf, edgesOf};
 ghost use Rattle.moves.specs.declared.Choice.the-variants as C;
 ghost use Rattle.moves.specs.Wanted.{isDone, firstNot};
 ghost use Rattle.moves.specs.Rules.{partEdges};
-ghost use Rattle.candidates.specs.Least.{better as betterOf};
-ghost use Rattle.candidates.specs.Parts.{partEdge};
+ghost use Rattle.candidates.specs.laws.Least.{better as betterOf};
+ghost use Rattle.candidates.specs.laws.Parts.{partEdge};
 
 fn with_part(nodes: Nodes, edges: Edges, i: u8, n: Node, best: Choice, a: Role) -> Choice
     requires { ⌜ (nodes .count ≤ 128) × (edges .count ≤ 256) ⌝ }

@@ -15,10 +15,10 @@ use rt0::Pool;
 use rt0::body_at;
 ghost use mathlib.Core.Path.{_≡_};
 ghost use Prim.Native.Nat.{_≤_, _<_};
-ghost use Rattle.rt0.specs.Pool.{poolOf};
-ghost use Rattle.graph.specs.Graph.{nodesOf, edgesOf};
+ghost use Rattle.rt0.specs.laws.Pool.{poolOf};
+ghost use Rattle.graph.specs.laws.Graph.{nodesOf, edgesOf};
 ghost use Rattle.moves.specs.Wanted.{isDone};
-ghost use Rattle.candidates.specs.Subject.{isSubjectAt, hasSubject, Aimed};
+ghost use Rattle.candidates.specs.laws.Subject.{isSubjectAt, hasSubject, Aimed};
 
 // Whether credential k was found, and its body is a stop and the entity s.
 fn is_subject_at<'a>(

@@ -1,10 +1,1 @@
-pub mod Known
-pub mod Sensitive
-pub mod Ready
-pub mod OwnRules
-pub mod RuleChoice
-pub mod Next
-pub mod Asked
-pub mod Later
-pub mod Exhausted
-pub mod Waits
+pub mod laws

@@ -13,15 +13,15 @@ use tables::other_of;
 ghost use mathlib.Core.Path.{_≡_};
 ghost use mathlib.Core.Bool.{true};
 ghost use Prim.Native.Nat.{_≤_};
-ghost use Rattle.tables.specs.Tables.{tablesOf};
-ghost use Rattle.tables.specs.Decoding.{Housed};
+ghost use Rattle.tables.specs.laws.Tables.{tablesOf};
+ghost use Rattle.tables.specs.laws.Decoding.{Housed};
 ghost use Rattle.tables.specs.Lookup.{isSensitive};
 ghost use Rattle.tables.specs.Public.{hiddenOf};
-ghost use Rattle.justification.specs.Justified.{Says};
-ghost use Rattle.graph.specs.Graph.{nodesOf, edgesOf};
-ghost use Rattle.negotiation.specs.State.{stateOf};
+ghost use Rattle.justification.specs.laws.Justified.{Says};
+ghost use Rattle.graph.specs.laws.Graph.{nodesOf, edgesOf};
+ghost use Rattle.negotiation.specs.laws.State.{stateOf};
 ghost use Rattle.moves.specs.Known.{isAcknowledged, policyOf, holdingOf};
-ghost use Rattle.choice.specs.Known.{knownAs};
+ghost use Rattle.choice.specs.laws.Known.{knownAs};
 
 // Whether our target for a role of the other end stands and is satisfied.
 pub fn is_acknowledged(n: Negotiation, sat: &[u8; 128], r: Role) -> bool

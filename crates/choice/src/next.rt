@@ -9,17 +9,18 @@ use update::node_of;
 ghost use mathlib.Core.Path.{_≡_};
 ghost use mathlib.Core.Bool.{true};
 ghost use Prim.Native.Nat.{_≤_, _<_};
-ghost use Rattle.tables.specs.Tables.{tablesOf};
-ghost use Rattle.graph.specs.Graph.{nodesOf, edgesOf};
-ghost use Rattle.states.specs.Brings.{NodesFormed, EdgesFormed};
-ghost use Rattle.states.specs.Complete.{Settled};
-ghost use Rattle.negotiation.specs.State.{stateOf, within};
+ghost use Rattle.tables.specs.laws.Tables.{tablesOf};
+ghost use Rattle.graph.specs.laws.Graph.{nodesOf, edgesOf};
+ghost use Rattle.states.specs.laws.Brings.{NodesFormed, EdgesFormed};
+ghost use Rattle.states.specs.laws.Complete.{Settled};
+ghost use Rattle.negotiation.specs.laws.State.{stateOf};
+ghost use Rattle.negotiation.specs.State.{within};
 ghost use Rattle.moves.specs.Rules.{endIn};
 ghost use Rattle.moves.specs.Move.{nextMove};
-ghost use Rattle.moves.specs.Own.{Prepared, foundMove};
-ghost use Rattle.choice.specs.Next.{isNothing, isUnprocessed, openAt, Passed, Resting};
-ghost use Rattle.choice.specs.Exhausted.{Exhausted};
-ghost use Rattle.candidates.specs.Skipped.{Skipped};
+ghost use Rattle.moves.specs.laws.Own.{Prepared, foundMove};
+ghost use Rattle.choice.specs.laws.Next.{isNothing, isUnprocessed, openAt, Passed, Resting};
+ghost use Rattle.choice.specs.laws.Exhausted.{Exhausted};
+ghost use Rattle.candidates.specs.laws.Skipped.{Skipped};
 
 // The kind of a role.
 const ROLE: u8 = 2;

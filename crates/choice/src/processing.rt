@@ -24,18 +24,19 @@ use tables::other_of;
 use update::is_processed;
 ghost use mathlib.Core.Path.{_≡_};
 ghost use Prim.Native.Nat.{_≤_, _<_};
-ghost use Rattle.tables.specs.Tables.{tablesOf};
-ghost use Rattle.negotiation.specs.State.{stateOf};
-ghost use Rattle.graph.specs.Graph.{nodesOf, edgesOf, nodeIn};
+ghost use Rattle.tables.specs.laws.Tables.{tablesOf};
+ghost use Rattle.negotiation.specs.laws.State.{stateOf};
+ghost use Rattle.graph.specs.laws.Graph.{nodesOf, edgesOf};
+ghost use Rattle.graph.specs.Graph.{nodeIn};
 ghost use Rattle.expression.specs.declared.Expression.the-variants as E;
 ghost use Rattle.moves.specs.declared.Choice.the-variants as C;
 ghost use Rattle.moves.specs.Wanted.{firstNot, chosenIn, isDone};
 ghost use Rattle.moves.specs.Rules.{endIn, linkRules, verifierRules, ownRules, opponentRules};
 ghost use Rattle.moves.specs.Move.{choiceAt};
-ghost use Rattle.moves.specs.Own.{Prepared};
-ghost use Rattle.choice.specs.Ready.{Ready};
-ghost use Rattle.choice.specs.Asked.{restEdges, Asked};
-ghost use Rattle.choice.specs.Exhausted.{Exhausted};
+ghost use Rattle.moves.specs.laws.Own.{Prepared};
+ghost use Rattle.choice.specs.laws.Ready.{Ready};
+ghost use Rattle.choice.specs.laws.Asked.{restEdges, Asked};
+ghost use Rattle.choice.specs.laws.Exhausted.{Exhausted};
 
 const ISSUER_DEF: u8 = 1;
 

@@ -17,12 +17,12 @@ use word::wide;
 ghost use mathlib.Core.Path.{_≡_};
 ghost use mathlib.Core.Bool.{true};
 ghost use Prim.Native.Nat.{_≤_, _<_};
-ghost use Rattle.graph.specs.Graph.{nodesOf, edgesOf};
-ghost use Rattle.justification.specs.Justified.{Says};
-ghost use Rattle.negotiation.specs.State.{stateOf};
+ghost use Rattle.graph.specs.laws.Graph.{nodesOf, edgesOf};
+ghost use Rattle.justification.specs.laws.Justified.{Says};
+ghost use Rattle.negotiation.specs.laws.State.{stateOf};
 ghost use Rattle.moves.specs.Wanted.{isDone};
-ghost use Rattle.candidates.specs.Least.{orElse};
-ghost use Rattle.choice.specs.Sensitive.{alone as aloneOf, controlFor, ownFor, policyChoice, holdingChoice, knownChoice};
+ghost use Rattle.candidates.specs.laws.Least.{orElse};
+ghost use Rattle.choice.specs.laws.Sensitive.{alone as aloneOf, controlFor, ownFor, policyChoice, holdingChoice, knownChoice};
 
 // An edge into node i, unless it is done.
 fn alone(n: Negotiation, i: u8, w: Wanted) -> Choice

@@ -1,6 +1,6 @@
 // Role targets at which there was nothing to do.
 ghost use Prim.Native.Nat.{_≤_};
-ghost use Rattle.choice.specs.Waits.{Unchanged};
+ghost use Rattle.choice.specs.laws.Waits.{Unchanged};
 
 // Those below `waiting` still rest if the first n nodes are satisfied as before; else none is known to.
 pub fn resting<'a>(n: usize, sat: &'a [u8; 128], last: &'a [u8; 128], waiting: usize) -> usize

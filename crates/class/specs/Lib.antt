@@ -1,5 +1,3 @@
-pub mod Find
 pub mod Names
-pub mod NamesLaws
 pub mod Typing
-pub mod TypingLaws
+pub mod laws

@@ -1,26 +1,15 @@
 -- Role names and their classes (document 01, "Classes": "1 issuer-def, 2 issuer-all, 3 subject-all"). Assumes nothing.
-use Prim.Native.Nat.{ℕ, _<_}
-use mathlib.Core.List.{List}
+use Prim.Native.Nat.{ℕ}
+use mathlib.Core.Bool.{Bool, cond}
+use mathlib.Core.List.{List, [], _∷_}
 use lib.Dec.{eqb}
-use lib.ListN.{getD}
-use Rattle.rt0.specs.Pool.{upTo}
 use Rattle.class.specs.declared.Name.{Name}
-use Rattle.class.specs.declared.Names.{Names}
-use Rattle.class.specs.Find.{firstOr}
 
-abbrev pub namesFrom : ℕ → List ℕ → List ℕ → Names
-namesFrom n M C = record { count = n; name = M; class = C }
-
-abbrev pub nameAt : Names → ℕ → Name
-nameAt N i = record { name = getD (N .name) i 0; class = getD (N .class) i 0 }
-
--- the names of the columns, in their order
-unfoldable pub namesOf : Names → List Name
-namesOf N = upTo (N .count) (nameAt N)
-
--- the first n names ascend strictly
-pub record Ascending (n : ℕ) (M : List ℕ) : Type 0 where
-  pub less : (i j : ℕ) → i < j → j < n → getD M i 0 < getD M j 0
+module _ {A B : Type 0} where
+  -- the value of the first element that passes the test, or the other value where none does
+  abbrev pub firstOr : (A → Bool) → (A → B) → B → List A → B
+  firstOr t v d [] = d
+  firstOr t v d (x ∷ xs) = cond (t x) (v x) (firstOr t v d xs)
 
 -- the class of a name, or zero where it has none
 unfoldable pub classOf : List Name → ℕ → ℕ

@@ -6,7 +6,8 @@ ghost use mathlib.Core.Path.{_≡_};
 ghost use mathlib.Core.Bool.{cond};
 ghost use mathlib.Core.List.{[], _∷_};
 ghost use Prim.Native.Nat.{_≤_};
-ghost use Rattle.class.specs.Names.{namesFrom, namesOf, Ascending, classOf};
+ghost use Rattle.class.specs.laws.Names.{namesFrom, namesOf, Ascending};
+ghost use Rattle.class.specs.Names.{classOf};
 ghost use Rattle.class.specs.Typing.{named as namedOf, linked as linkedOf, together, typeOf, isUnnamed, suits as suitsOf, credentialNumber};
 
 // A role name and its class: 1 issuer-def, 2 issuer-all, 3 subject-all.

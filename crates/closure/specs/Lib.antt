@@ -1,3 +1,1 @@
-pub mod Rules
-pub mod Words
-pub mod Laws
+pub mod laws

@@ -7,15 +7,7 @@ use word::test;
 ghost use mathlib.Core.Path.{_≡_};
 ghost use Prim.Native.Nat.{_<_};
 ghost use lib.ListN.{length};
-ghost use Rattle.closure.specs.Rules.{rulesOf, bits, Fits, Grown, Closed, Marked};
-
-mod linked_rules;
-mod looks;
-mod narrow;
-mod plain_rules;
-mod rounds;
-mod single;
-
+ghost use Rattle.closure.specs.laws.Rules.{rulesOf, bits, Fits, Grown, Closed, Marked};
 use linked_rules::drain_links;
 pub use looks::awake;
 pub use looks::readers;
@@ -24,6 +16,13 @@ use narrow::drain_narrow;
 use plain_rules::drain_plain;
 use rounds::pass;
 use single::still;
+
+mod linked_rules;
+mod looks;
+mod narrow;
+mod plain_rules;
+mod rounds;
+mod single;
 
 pub struct Rules {
     pub count: usize,

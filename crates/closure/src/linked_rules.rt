@@ -11,8 +11,8 @@ use word::one;
 ghost use mathlib.Core.Path.{_≡_};
 ghost use Prim.Native.Nat.{_<_, _≤_};
 ghost use lib.ListN.{length};
-ghost use Rattle.closure.specs.Rules.{rulesOf, bits, memRows, Under, Fits, Grown};
-ghost use Rattle.closure.specs.Words.{Poured};
+ghost use Rattle.closure.specs.laws.Rules.{rulesOf, bits, memRows, Under, Fits, Grown};
+ghost use Rattle.closure.specs.laws.Words.{Poured};
 
 // Bit s of the membership row r.
 fn member<'a>(vals: &'a [u64; 260], mem: &'a [u64; 260], own: bool, r: usize, s: usize) -> bool

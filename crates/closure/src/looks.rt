@@ -7,7 +7,7 @@ use word::others;
 ghost use mathlib.Core.Path.{_≡_};
 ghost use Prim.Native.Nat.{_<_, _≤_};
 ghost use lib.ListN.{length};
-ghost use Rattle.closure.specs.Rules.{Under};
+ghost use Rattle.closure.specs.laws.Rules.{Under};
 
 // Rule i reads the rows base + j, for each j in the word `named`; where there are few rules, it is only noted that it names rows.
 fn read_word<'a>(named: u64, base: usize, i: usize, few: bool, rows: &'a mut [u64; 260])

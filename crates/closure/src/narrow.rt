@@ -8,9 +8,8 @@ use word::test;
 ghost use mathlib.Core.Path.{_≡_};
 ghost use Prim.Native.Nat.{_<_, _≤_};
 ghost use lib.ListN.{length};
-ghost use lib.Bits.{bitAnd};
-ghost use Rattle.closure.specs.Rules.{rulesOf, el, memRows, Under, Fits, Grown};
-ghost use Rattle.closure.specs.Words.{LinksOf, FilledOf};
+ghost use Rattle.closure.specs.laws.Rules.{rulesOf, memRows, Under, Fits, Grown};
+ghost use Rattle.closure.specs.laws.Words.{LinksOf, FilledOf};
 
 // Rules to be run in this round and in the next, rows that grew in the round before, and rows that grew in this one.
 struct Round {

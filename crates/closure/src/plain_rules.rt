@@ -1,6 +1,5 @@
 // A worklist for rules that name no rows.
 use crate::Dirty;
-use crate::Rules;
 use crate::looks::least;
 use crate::looks::rest;
 use crate::rounds::rule;
@@ -8,7 +7,7 @@ use crate::single::meets;
 ghost use mathlib.Core.Path.{_≡_};
 ghost use Prim.Native.Nat.{_<_};
 ghost use lib.ListN.{length};
-ghost use Rattle.closure.specs.Rules.{rulesOf, Fits, Grown};
+ghost use Rattle.closure.specs.laws.Rules.{rulesOf, Fits, Grown};
 
 // Rule i, which names no rows: whether its row grew.
 fn plain<'a>(

@@ -7,8 +7,8 @@ use word::with;
 ghost use mathlib.Core.Path.{_≡_};
 ghost use Prim.Native.Nat.{_<_, _≤_};
 ghost use lib.ListN.{length};
-ghost use Rattle.closure.specs.Rules.{rulesOf, bits, memRows, Under, Fits, Within};
-ghost use Rattle.closure.specs.Words.{LinksOf, meetOf, WordOf, TurnOf, RuleOf, PassOf, HeldOf, FullOf, level};
+ghost use Rattle.closure.specs.laws.Rules.{rulesOf, bits, memRows, Under, Fits, Within};
+ghost use Rattle.closure.specs.laws.Words.{LinksOf, meetOf, WordOf, TurnOf, RuleOf, PassOf, HeldOf, FullOf, level};
 
 // Word h of the rows base + j, for each j in the word `named` whose source is in the row `first` of mem.
 pub fn links<'a>(

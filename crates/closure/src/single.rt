@@ -4,10 +4,10 @@ use crate::narrow::gathered;
 use crate::rounds::held;
 use crate::rounds::meet;
 ghost use mathlib.Core.Path.{_≡_};
-ghost use Prim.Native.Nat.{_<_, _≤_};
+ghost use Prim.Native.Nat.{_<_};
 ghost use lib.ListN.{length};
-ghost use Rattle.closure.specs.Rules.{rulesOf, Fits, Grown};
-ghost use Rattle.closure.specs.Words.{FilledOf, HeldOf, RestsOf, StillOf};
+ghost use Rattle.closure.specs.laws.Rules.{rulesOf, Fits, Grown};
+ghost use Rattle.closure.specs.laws.Words.{FilledOf, HeldOf, RestsOf, StillOf};
 
 // Rule i, which names no rows: whether its row grew by what its parts share.
 pub fn meets<'a>(

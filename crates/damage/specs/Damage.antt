@@ -5,25 +5,17 @@ use mathlib.Core.List.{List, []}
 use mathlib.Core.Option.{Option, none, some}
 use lib.Dec.{eqb}
 use lib.ListN.{length}
-use Rattle.expression.specs.declared.Credential.{Credential}
-use Rattle.graph.specs.declared.Node.{Node}
-use Rattle.graph.specs.declared.Edge.{Edge}
 use Rattle.graph.specs.Graph.{nodeIn}
 use Rattle.graph.specs.Propagated.{stateOf}
 use Rattle.justification.specs.InTurn.{inTurn}
 use Rattle.justification.specs.Justified.{justified}
 use Rattle.class.specs.declared.Name.{Name}
 use Rattle.tables.specs.Tables.{Tables}
-use Rattle.negotiation.specs.declared.Header.{Header}
 use Rattle.negotiation.specs.State.{State}
 use Rattle.negotiation.specs.Layout.{readState}
 use Rattle.damage.specs.Header.{headerSound, emptySound, countSound, endSound}
 use Rattle.damage.specs.Records.{nodeFits, primarySound, credentialFits}
 use Rattle.damage.specs.Edges.{allBrought}
-
--- a state of these parts
-abbrev pub stateWith : Header → List Node → List Edge → List Credential → State
-stateWith h ns es cs = record { header = h; nodes = ns; edges = es; shown = cs }
 
 -- nodes, primary and credentials
 unfoldable pub recordsSound : List Name → State → Bool

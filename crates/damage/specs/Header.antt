@@ -3,13 +3,11 @@ use Prim.Native.Nat.{ℕ}
 use mathlib.Core.Bool.{Bool, not, cond, _&&_, _||_}
 use mathlib.Core.List.{List}
 use lib.Dec.{eqb, ltb, leb}
-use lib.ListN.{length}
 use Rattle.expression.specs.declared.Role.{Role}
 use Rattle.expression.specs.Form.{isRole, isEmpty}
 use Rattle.class.specs.declared.Name.{Name}
 use Rattle.class.specs.Names.{classOf}
 use Rattle.negotiation.specs.declared.Header.{Header}
-use Rattle.negotiation.specs.State.{State}
 
 -- the wanted role: of the mediator (side 0) a role whose name has a class, of the requester none
 unfoldable pub wantedSound : List Name → ℕ → Role → Bool

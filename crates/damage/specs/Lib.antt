@@ -1,13 +1,6 @@
 pub mod Header
-pub mod HeaderLaws
 pub mod Records
-pub mod RecordsLaws
 pub mod Edges
-pub mod EdgesLaws
-pub mod Turns
 pub mod Damage
-pub mod DamageLaws
 pub mod Restored
-pub mod RestoredLaws
-pub mod Proved
-pub mod RestoredPublic
+pub mod laws

@@ -1,11 +1,9 @@
 -- Nodes and credentials of a negotiation that is not damaged (document 01, "From the state", 20): "a record of wrong form or illegal state, a
 -- repeat, a primary other than begun", "a name without class or a class rule broken". Assumes nothing.
-use Prim.Native.Nat.{ℕ}
 use mathlib.Core.Bool.{Bool, true, false, not, cond, _&&_}
 use mathlib.Core.List.{List}
 use lib.Dec.{eqb, ltb}
 use Rattle.expression.specs.declared.Credential.{Credential}
-use Rattle.expression.specs.declared.Expression.{Expression}
 use Rattle.expression.specs.declared.Expression.the-variants as E
 use Rattle.expression.specs.Form.{wellFormed}
 use Rattle.expression.specs.Same.{same}

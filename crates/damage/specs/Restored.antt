@@ -6,10 +6,9 @@ use mathlib.Core.List.{List}
 use mathlib.Core.Option.{Option, none, some}
 use lib.Dec.{eqb}
 use lib.ListN.{length}
-use Rattle.tables.specs.Tables.{Tables, tablesOf}
+use Rattle.tables.specs.Tables.{Tables}
 use Rattle.tables.specs.Check.{Outcome, refused, accepted, readTables}
-use Rattle.negotiation.specs.State.{State, stateOf}
-use Rattle.damage.specs.declared.Restored.{Restored}
+use Rattle.negotiation.specs.State.{State}
 use Rattle.damage.specs.Damage.{readSound}
 
 -- a refusal number, or the tables and the negotiation's state
@@ -29,7 +28,3 @@ behindTables negotiation (accepted T) = behindDamage T (readSound T negotiation)
 -- "negotiation 5,120 exactly"
 unfoldable pub restoreOf : List ℕ → List ℕ → Standing
 restoreOf tables negotiation = cond (eqb (length negotiation) 5120) (behindTables negotiation (readTables tables)) (refusal 1)
-
--- what the code's answer is
-unfoldable pub standingOf : Restored → Standing
-standingOf r = cond (eqb (r .refusal) 0) (standing (tablesOf (r .house)) (stateOf (r .negotiation))) (refusal (r .refusal))

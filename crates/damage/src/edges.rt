@@ -9,7 +9,7 @@ use negotiation::Header;
 use word::wide;
 ghost use mathlib.Core.Path.{_≡_};
 ghost use Prim.Native.Nat.{_≤_, _<_};
-ghost use Rattle.graph.specs.Graph.{nodesFrom, edgesFrom, nodesOf, edgesOf, edgeAt};
+ghost use Rattle.graph.specs.laws.Graph.{nodesFrom, edgesFrom, nodesOf, edgesOf, edgeAt};
 ghost use Rattle.damage.specs.Edges.{brought, placed as placedOf, formed as formedOf, edgeFits, allBrought};
 
 // An edge behind which b of n nodes are brought.

@@ -8,8 +8,8 @@ use negotiation::read;
 use tables::House;
 use tables::decode;
 ghost use mathlib.Core.Path.{_≡_};
-ghost use Rattle.damage.specs.Restored.{standingOf, restoreOf};
-ghost use Rattle.damage.specs.RestoredLaws.{Kept};
+ghost use Rattle.damage.specs.laws.Restored.{standingOf, Kept};
+ghost use Rattle.damage.specs.Restored.{restoreOf};
 
 const DAMAGED: u64 = 20;
 

@@ -6,7 +6,7 @@ use expression::is_role;
 use negotiation::Header;
 ghost use mathlib.Core.Path.{_≡_};
 ghost use Prim.Native.Nat.{_≤_};
-ghost use Rattle.class.specs.Names.{namesFrom, namesOf, Ascending};
+ghost use Rattle.class.specs.laws.Names.{namesFrom, namesOf, Ascending};
 ghost use Rattle.damage.specs.Header.{wantedSound, headerSound, requester as requesterOf, entityOf, emptySound, countSound, endSound};
 
 pub const MEDIATOR: u8 = 0;

@@ -14,16 +14,30 @@ ghost use mathlib.Core.Path.{_≡_};
 ghost use mathlib.Core.Bool.{true};
 ghost use mathlib.Core.List.{List};
 ghost use Prim.Native.Nat.{_≤_, _<_};
-ghost use Rattle.rt0.specs.Pool.{poolOf, credentials};
-ghost use Rattle.class.specs.Names.{namesFrom, namesOf, Ascending};
+ghost use Rattle.rt0.specs.laws.Pool.{poolOf, credentials};
+ghost use Rattle.class.specs.laws.Names.{namesFrom, namesOf, Ascending};
 ghost use Rattle.graph.specs.declared.Edge.{Edge};
-ghost use Rattle.graph.specs.Graph.{nodesFrom, edgesFrom, nodesOf, edgesOf};
-ghost use Rattle.states.specs.Brings.{NodesFormed};
-ghost use Rattle.justification.specs.Inside.{Inside};
-ghost use Rattle.tables.specs.Tables.{tablesOf};
-ghost use Rattle.tables.specs.Decoding.{Housed};
-ghost use Rattle.negotiation.specs.State.{stateOf, within};
-ghost use Rattle.damage.specs.Damage.{stateWith, recordsSound, edgesJustified, graphSound, sound as soundOf};
+ghost use Rattle.graph.specs.laws.Graph.{nodesFrom, edgesFrom, nodesOf, edgesOf};
+ghost use Rattle.states.specs.laws.Brings.{NodesFormed};
+ghost use Rattle.justification.specs.laws.Inside.{Inside};
+ghost use Rattle.tables.specs.laws.Tables.{tablesOf};
+ghost use Rattle.tables.specs.laws.Decoding.{Housed};
+ghost use Rattle.negotiation.specs.laws.State.{stateOf};
+ghost use Rattle.negotiation.specs.State.{within};
+ghost use Rattle.damage.specs.laws.Damage.{stateWith};
+ghost use Rattle.damage.specs.Damage.{recordsSound, edgesJustified, graphSound, sound as soundOf};
+use edges::edges_fit;
+pub use found::restore;
+use header::count_sound;
+use header::empty_sound;
+use header::end_sound;
+pub use header::entity_of;
+use header::header_sound;
+pub use header::requester;
+use nodes::nodes_fit;
+use nodes::primary_sound;
+pub use shown::is_shown;
+use shown::shown_fit;
 
 mod edges;
 mod found;
@@ -31,26 +45,12 @@ mod header;
 mod nodes;
 mod shown;
 
-pub use found::restore;
-pub use header::entity_of;
-pub use header::requester;
-pub use shown::is_shown;
-
 // The tables and the negotiation of a call, where the refusal is 0; else they do not count.
 pub struct Restored {
     pub refusal: u64,
     pub house: House,
     pub negotiation: Negotiation,
 }
-
-use edges::edges_fit;
-use header::count_sound;
-use header::empty_sound;
-use header::end_sound;
-use header::header_sound;
-use nodes::nodes_fit;
-use nodes::primary_sound;
-use shown::shown_fit;
 
 // Nodes, primary and credentials, whatever the edges.
 fn records_sound<'a>(

@@ -15,8 +15,8 @@ use negotiation::Header;
 ghost use mathlib.Core.Path.{_≡_};
 ghost use mathlib.Core.List.{[]};
 ghost use Prim.Native.Nat.{_≤_, _<_};
-ghost use Rattle.class.specs.Names.{namesFrom, namesOf, Ascending};
-ghost use Rattle.graph.specs.Graph.{nodesFrom, nodesOf, nodeAt};
+ghost use Rattle.class.specs.laws.Names.{namesFrom, namesOf, Ascending};
+ghost use Rattle.graph.specs.laws.Graph.{nodesFrom, nodesOf, nodeAt};
 ghost use Rattle.justification.specs.InTurn.{inTurn};
 ghost use Rattle.damage.specs.Records.{isTyped, nodeSound, nodeFits, primarySound};
 

@@ -20,10 +20,6 @@ abbrev pub pick : Bool → ExpressionAnswer → ExpressionAnswer → ExpressionA
 pick true a b = a
 pick false a b = b
 
--- the numbers of an expression with no parts
-abbrev pub plainRaw : ℕ → ℕ → ℕ → ℕ → Raw
-plainRaw kind n0 n1 n2 = record { kind = kind; count = 0; n0 = n0; n1 = n1; n2 = n2; n3 = 0; n4 = 0; n5 = 0; n6 = 0; n7 = 0 }
-
 -- the numbers of an expression: kind, part count, eight numbers, unused ones zero
 abbrev pub rawOf : Expression → Raw
 rawOf (x.Entity n) = record { kind = 1; count = 0; n0 = n; n1 = 0; n2 = 0; n3 = 0; n4 = 0; n5 = 0; n6 = 0; n7 = 0 }

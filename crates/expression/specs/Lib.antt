@@ -1,11 +1,7 @@
 pub mod Bytes
 pub mod Form
 pub mod Kinds
-pub mod Laws
-pub mod Codec
 pub mod Same
 pub mod Credential
-pub mod CredentialLaws
 pub mod Order
-pub mod OrderLaws
-pub mod There
+pub mod laws

@@ -3,13 +3,9 @@ ghost use mathlib.Core.Path.{_≡_};
 ghost use Prim.Native.Nat.{_+_, _≤_, _<_};
 ghost use lib.ListN.{length};
 ghost use Rattle.expression.specs.Bytes.{numberAt, rawAt, rawBytes, pasted};
-ghost use Rattle.expression.specs.Form.{candidateOf, plainRaw, rawOf, wellFormed, sameRaw, formOf, readOf, ascends, isRole, isEmpty, tailFormed, partsFormed, expressionOf};
+ghost use Rattle.expression.specs.Form.{candidateOf, rawOf, wellFormed, sameRaw, formOf, readOf, ascends, isRole, isEmpty, tailFormed, partsFormed, expressionOf};
+ghost use Rattle.expression.specs.laws.Form.{plainRaw};
 ghost use Rattle.expression.specs.Same.{sameRole, same as sameExpression};
-
-mod credentials;
-mod kinds;
-mod order;
-
 pub use credentials::is_body;
 pub use credentials::read_credential;
 pub use credentials::role_at;
@@ -20,6 +16,10 @@ pub use kinds::is_entity;
 pub use kinds::is_role_expression;
 pub use order::before;
 pub use order::before_credential;
+
+mod credentials;
+mod kinds;
+mod order;
 
 // Why a call is refused by its bytes: a lent length outside the sizes; an unknown, cut or missing command; an operand of wrong form.
 pub const LENGTH: u64 = 1;

@@ -1,4 +1,2 @@
 pub mod Frontier
-pub mod FrontierLaws
-pub mod Queue
-pub mod QueueLaws
+pub mod laws

@@ -10,9 +10,9 @@ use word::wide;
 ghost use mathlib.Core.Path.{_≡_};
 ghost use Prim.Native.Nat.{_<_, _≤_};
 ghost use Rattle.expression.specs.declared.Expression.the-variants as E;
-ghost use Rattle.rt0.specs.Pool.{poolOf};
-ghost use Rattle.frontier.specs.Frontier.{Reaches};
-ghost use Rattle.frontier.specs.Queue.{isNext as isNextOf, work, Queue, Joined, Entered, Followed};
+ghost use Rattle.rt0.specs.laws.Pool.{poolOf};
+ghost use Rattle.frontier.specs.laws.Frontier.{Reaches};
+ghost use Rattle.frontier.specs.laws.Queue.{isNext as isNextOf, work, Queue, Joined, Entered, Followed};
 
 // Whether credential i is on and has the head p.
 fn is_next<'a>(

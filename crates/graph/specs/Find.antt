@@ -8,7 +8,7 @@ use Rattle.expression.specs.declared.Expression.{Expression}
 use Rattle.expression.specs.Same.{same}
 use Rattle.rt0.specs.Lists.{any}
 use Rattle.rt0.specs.Pool.{upTo}
-use Rattle.class.specs.Find.{firstOr}
+use Rattle.class.specs.Names.{firstOr}
 use Rattle.graph.specs.declared.Node.{Node}
 use Rattle.graph.specs.declared.Edge.{Edge}
 use Rattle.graph.specs.Graph.{nodeIn}

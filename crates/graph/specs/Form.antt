@@ -1,5 +1,5 @@
 -- The forms of nodes and edges (sections 4.1 and 4.2) and the legal states of nodes (document 01, "RT0 and states"). Assumes nothing.
-use Prim.Native.Nat.{ℕ}
+use Prim.Native.Nat.{ℕ, _<_}
 use mathlib.Core.Bool.{Bool, true, false, not, cond, _&&_, _||_}
 use lib.Dec.{eqb, ltb}
 use Rattle.expression.specs.declared.Parts.{Parts}
@@ -10,6 +10,11 @@ use Rattle.expression.specs.Same.{same}
 use Rattle.rt0.specs.Lists.{any}
 use Rattle.rt0.specs.From.{rolesOf}
 use Rattle.graph.specs.declared.Node.{Node}
+use mathlib.Core.Path.{_≡_}
+use mathlib.Core.List.{List, List·Memᴰ}
+use lib.ListN.{length}
+use Rattle.graph.specs.declared.Edge.{Edge}
+use Rattle.graph.specs.Graph.{nodeIn}
 
 -- a standard target's expression, "f is a role or a linked role"
 abbrev pub isStandard : Expression → Bool
@@ -99,3 +104,11 @@ legalState (E.Role a) s = ltb s 4
 legalState (E.Linked a r) s = ltb s 4
 legalState (E.Intersection p) s = ltb 0 s && ltb s 4
 legalState (E.Goal r) s = eqb s 1 || eqb s 3
+
+-- Exclusion
+
+-- edges have their forms, and "Nodes are unique" (section 4.1)
+pub record Formed (ns : List Node) (es : List Edge) : Type 0 where
+  pub formed : (e : Edge) → List·Memᴰ e es → (v : ℕ) × (form (e .kind) v (nodeIn ns (e .parent)) (nodeIn ns (e .child)) ≡ true)
+  pub unique : (i j : ℕ) → i < length ns → j < length ns → nodeIn ns i .expression ≡ nodeIn ns j .expression
+      → nodeIn ns i .verifier ≡ nodeIn ns j .verifier → nodeIn ns i .subject ≡ nodeIn ns j .subject → i ≡ j

@@ -1,13 +1,7 @@
 pub mod Graph
 pub mod Form
 pub mod States
-pub mod StatesLaws
-pub mod Steps
 pub mod Propagated
-pub mod PropagatedLaws
-pub mod Cases
-pub mod Columns
 pub mod Find
-pub mod FindLaws
-pub mod FindExact
-pub mod FormLaws
+pub mod Growth
+pub mod laws

@@ -7,7 +7,8 @@ use expression::expression_of;
 use expression::same;
 ghost use mathlib.Core.Path.{_≡_};
 ghost use Prim.Native.Nat.{_≤_, _<_};
-ghost use Rattle.graph.specs.Graph.{nodesFrom, edgesFrom, expressionFrom, nodeAt, edgeAt, nodesOf, edgesOf, nodeIn, edgeIn};
+ghost use Rattle.graph.specs.laws.Graph.{nodesFrom, edgesFrom, expressionFrom, nodeAt, edgeAt, nodesOf, edgesOf, edgeIn};
+ghost use Rattle.graph.specs.Graph.{nodeIn};
 ghost use Rattle.graph.specs.Find.{isNode, findNode, sameEdge, hasEdge};
 
 const NODES_MOST: usize = 128;

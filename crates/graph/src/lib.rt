@@ -5,12 +5,9 @@ ghost use mathlib.Core.Path.{_≡_};
 ghost use mathlib.Core.List.{[], _∷_, _++_};
 ghost use Prim.Native.Nat.{_≤_, _<_};
 ghost use lib.ListN.{set};
-ghost use Rattle.graph.specs.Columns.{NodesSized, EdgesSized};
-ghost use Rattle.graph.specs.Graph.{nodesOf, edgesOf, nodeIn, inState};
-
-mod find;
-mod forms;
-
+ghost use Rattle.graph.specs.laws.Columns.{NodesSized, EdgesSized};
+ghost use Rattle.graph.specs.laws.Graph.{nodesOf, edgesOf};
+ghost use Rattle.graph.specs.Graph.{nodeIn, inState};
 pub use find::edge_at;
 pub use find::expression_at;
 pub use find::find_node;
@@ -25,6 +22,9 @@ pub use forms::SOLUTION;
 pub use forms::form;
 pub use forms::is_named;
 pub use forms::legal_state;
+
+mod find;
+mod forms;
 
 // A target, or a linking goal: what its verifier (0 mediator, 1 requester) wants to see proved of its subject. Bit 0 of its
 // state says that the verifier has processed it, bit 1 that the opponent has.

@@ -1,7 +1,6 @@
 -- When an edge is justified (section 4.2; document 01, "RT0 and states"). Assumes nothing.
 use Prim.Native.Nat.{ℕ}
-use mathlib.Core.Path.{_≡_}
-use mathlib.Core.Bool.{Bool, true, false, not, cond, _&&_, _||_}
+use mathlib.Core.Bool.{Bool, false, not, _&&_, _||_}
 use mathlib.Core.List.{List}
 use lib.Dec.{eqb}
 use Rattle.expression.specs.declared.Credential.{Credential}
@@ -16,13 +15,10 @@ use Rattle.graph.specs.declared.Edge.{Edge}
 use Rattle.graph.specs.Graph.{nodeIn}
 use Rattle.graph.specs.States.{solutionKind}
 use Rattle.graph.specs.Propagated.{isChild, satisfiedB}
-use Rattle.propagation.specs.Flags.{at, flag}
+use Rattle.propagation.specs.Flags.{at}
 
 abbrev pub monitorKind : ℕ → Bool
 monitorKind k = eqb k 2
-
-abbrev pub linkingKind : ℕ → Bool
-linkingKind k = eqb k 4
 
 -- B.r2, for A.r1.r2 and B
 abbrev pub isSolutionFor : Expression → ℕ → Expression → Bool
@@ -64,9 +60,3 @@ monitoredIf ns es e = not (eqb (e .kind) 4) || monitored ns es e
 -- an edge behind those of es is justified; the kinds but 1 and 4 always
 unfoldable pub justified : List Credential → List Node → List Edge → Edge → Bool
 justified shown ns es e = impliedIf shown ns e && monitoredIf ns es e
-
--- What the code keeps
-
--- the column says which nodes the edges satisfy
-pub record Says (ns : List Node) (es : List Edge) (sat : List ℕ) : Type 0 where
-  pub says : (i : ℕ) → flag sat i ≡ at (satisfiedB ns es) i

@@ -1,7 +1,3 @@
 pub mod InTurn
 pub mod Justified
-pub mod JustifiedLaws
-pub mod Inside
-pub mod Implied
-pub mod LinkedLaws
-pub mod ImpliedLaws
+pub mod laws

@@ -11,16 +11,16 @@ use word::wide;
 ghost use mathlib.Core.Path.{_≡_};
 ghost use Prim.Native.Nat.{_≤_, _<_};
 ghost use Rattle.rt0.specs.Lists.{all};
-ghost use Rattle.rt0.specs.Pool.{poolOf, credentials};
+ghost use Rattle.rt0.specs.laws.Pool.{poolOf, credentials};
 ghost use Rattle.graph.specs.declared.Nodes.{Nodes};
-ghost use Rattle.graph.specs.Graph.{expressionFrom, nodesFrom, edgesFrom, edgeAt, nodesOf, edgesOf};
-ghost use Rattle.rules.specs.Table.{chosen};
-ghost use Rattle.rules.specs.Ruled.{Ruled};
-ghost use Rattle.closure.specs.Rules.{rulesOf};
-ghost use Rattle.relation.specs.Relation.{Relation, Answers};
-ghost use Rattle.justification.specs.Inside.{Inside};
+ghost use Rattle.graph.specs.laws.Graph.{expressionFrom, nodesFrom, edgesFrom, edgeAt, nodesOf, edgesOf};
+ghost use Rattle.rules.specs.laws.Table.{chosen};
+ghost use Rattle.rules.specs.laws.Ruled.{Ruled};
+ghost use Rattle.closure.specs.laws.Rules.{rulesOf};
+ghost use Rattle.relation.specs.laws.Relation.{Relation, Answers};
+ghost use Rattle.justification.specs.laws.Inside.{Inside};
 ghost use Rattle.justification.specs.Justified.{impliedIf};
-ghost use Rattle.justification.specs.Implied.{impliedFrom, allFrom, allImplied, Children};
+ghost use Rattle.justification.specs.laws.Implied.{impliedFrom, allFrom, allImplied, Children};
 
 // The children of edges of kind 1.
 fn children<'a>(

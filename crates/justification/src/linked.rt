@@ -14,15 +14,16 @@ ghost use mathlib.Core.Bool.{false};
 ghost use mathlib.Core.List.{[]};
 ghost use Prim.Native.Nat.{_≤_, _<_};
 ghost use lib.ListN.{getD};
-ghost use Rattle.class.specs.Find.{Missed};
-ghost use Rattle.graph.specs.Graph.{nodesFrom, edgesFrom, nodesOf, edgesOf};
-ghost use Rattle.justification.specs.Justified.{linkingKind, monitored, monitoredIf, Says};
+ghost use Rattle.class.specs.laws.Find.{Missed};
+ghost use Rattle.graph.specs.laws.Graph.{nodesFrom, edgesFrom, nodesOf, edgesOf};
+ghost use Rattle.justification.specs.laws.Justified.{linkingKind, Says};
+ghost use Rattle.justification.specs.Justified.{monitored, monitoredIf};
 ghost use Rattle.justification.specs.InTurn.{inTurn};
-ghost use Rattle.justification.specs.Inside.{Inside};
-ghost use Rattle.propagation.specs.Chains.{Chained};
-ghost use Rattle.propagation.specs.Satisfied.{graph};
-ghost use Rattle.propagation.specs.Work.{work, Done};
-ghost use Rattle.states.specs.Brings.{NodesFormed, Joined, Needs};
+ghost use Rattle.justification.specs.laws.Inside.{Inside};
+ghost use Rattle.propagation.specs.laws.Chains.{Chained};
+ghost use Rattle.propagation.specs.laws.Satisfied.{graph};
+ghost use Rattle.propagation.specs.laws.Work.{work, Done};
+ghost use Rattle.states.specs.laws.Brings.{NodesFormed, Joined, Needs};
 
 // Whether a linking implication edge is justified behind the first m edges, which satisfy the nodes of sat.
 fn is_monitored<'a>(

@@ -9,8 +9,9 @@ use word::wide;
 ghost use mathlib.Core.Path.{_≡_};
 ghost use Prim.Native.Nat.{_≤_, _<_};
 ghost use Rattle.rt0.specs.Lists.{any};
-ghost use Rattle.graph.specs.Graph.{nodesFrom, edgesFrom, edgeAt, nodesOf, edgesOf};
-ghost use Rattle.justification.specs.Justified.{isSolutionFor, solves, solved, monitors, Says};
+ghost use Rattle.graph.specs.laws.Graph.{nodesFrom, edgesFrom, edgeAt, nodesOf, edgesOf};
+ghost use Rattle.justification.specs.Justified.{isSolutionFor, solves, solved, monitors};
+ghost use Rattle.justification.specs.laws.Justified.{Says};
 
 // Whether y is B.r2, where x is A.r1.r2.
 fn is_solution_for(x: Expression, b: u16, y: Expression) -> bool

@@ -1,11 +1,2 @@
-pub mod Proper
-pub mod Stored
-pub mod Going
-pub mod Forms
-pub mod Shown
-pub mod Reached
-pub mod Fit
-pub mod Rules
-pub mod Legal
-pub mod Kept
 pub mod Mirror
+pub mod laws

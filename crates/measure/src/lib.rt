@@ -14,13 +14,13 @@ use rules::rules_of;
 ghost use mathlib.Core.Path.{_≡_};
 ghost use Prim.Native.Nat.{_*_, _≤_};
 ghost use Rattle.rt0.specs.Decide.{from? as fromOf};
-ghost use Rattle.rt0.specs.Pool.{poolOf, credentials as credentialsOf};
-ghost use Rattle.closure.specs.Rules.{rulesOf};
-ghost use Rattle.rules.specs.Table.{chosen};
-ghost use Rattle.relation.specs.Relation.{Relation};
-ghost use Rattle.rules.specs.Ruled.{Ruled};
+ghost use Rattle.rt0.specs.laws.Pool.{poolOf, credentials as credentialsOf};
+ghost use Rattle.closure.specs.laws.Rules.{rulesOf};
+ghost use Rattle.rules.specs.laws.Table.{chosen};
+ghost use Rattle.relation.specs.laws.Relation.{Relation};
+ghost use Rattle.rules.specs.laws.Ruled.{Ruled};
 ghost use Rattle.question.specs.Question.{questionOf};
-ghost use Rattle.measure.specs.Repeated.{countOf, repeatedOf};
+ghost use Rattle.measure.specs.laws.Repeated.{countOf, repeatedOf};
 
 // How many of so many askings whether f is from e answer yes.
 fn ask_times<'a>(

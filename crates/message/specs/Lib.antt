@@ -1,3 +1,2 @@
 pub mod Command
-pub mod CommandLaws
-pub mod CommandExact
+pub mod laws

@@ -5,12 +5,11 @@ use expression::Role;
 use graph::Edge;
 ghost use mathlib.Core.Path.{_≡_};
 ghost use Rattle.message.specs.Command.{sizeOf};
+pub use reader::read_command;
+pub use writer::write_command;
 
 mod reader;
 mod writer;
-
-pub use reader::read_command;
-pub use writer::write_command;
 
 // The primary target's role and state.
 pub struct Opening {

@@ -1,15 +1,8 @@
 pub mod Known
-pub mod KnownLaws
-pub mod KnownStays
 pub mod Initial
-pub mod InitialLaws
 pub mod Frontiers
-pub mod FrontiersExact
 pub mod Wanted
-pub mod WantedLaws
 pub mod Rules
 pub mod Move
 pub mod Carried
-pub mod Alike
-pub mod Stops
-pub mod Own
+pub mod laws

@@ -12,7 +12,6 @@ use Rattle.tables.specs.Public.{keep}
 use Rattle.graph.specs.declared.Node.{Node}
 use Rattle.message.specs.declared.Command.{Command}
 use Rattle.message.specs.declared.Command.the-variants.{Show, Bring, Join, Mark}
-use Rattle.negotiation.specs.State.{State}
 use Rattle.damage.specs.Records.{isShown}
 use Rattle.update.specs.Step.{processedBy}
 use Rattle.moves.specs.Initial.{initialState}

@@ -3,7 +3,7 @@ use class::class_of;
 use expression::Expression;
 ghost use mathlib.Core.Path.{_≡_};
 ghost use Prim.Native.Nat.{_≤_};
-ghost use Rattle.class.specs.Names.{namesFrom, namesOf, Ascending};
+ghost use Rattle.class.specs.laws.Names.{namesFrom, namesOf, Ascending};
 ghost use Rattle.moves.specs.Initial.{isSubjectAll, traced, initialState};
 
 const SUBJECT_ALL: u8 = 3;

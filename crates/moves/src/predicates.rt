@@ -9,11 +9,11 @@ ghost use mathlib.Core.Path.{_≡_};
 ghost use mathlib.Core.Bool.{cond};
 ghost use Prim.Native.Nat.{_≤_};
 ghost use Rattle.expression.specs.declared.Expression.the-variants as E;
-ghost use Rattle.rt0.specs.Pool.{poolOf};
-ghost use Rattle.class.specs.Names.{namesFrom, namesOf, Ascending};
-ghost use Rattle.tables.specs.Tables.{pairsFrom, pairsOf};
-ghost use Rattle.frontier.specs.Frontier.{Stops};
-ghost use Rattle.moves.specs.Stops.{predicateOf};
+ghost use Rattle.rt0.specs.laws.Pool.{poolOf};
+ghost use Rattle.class.specs.laws.Names.{namesFrom, namesOf, Ascending};
+ghost use Rattle.tables.specs.laws.Tables.{pairsFrom, pairsOf};
+ghost use Rattle.frontier.specs.laws.Frontier.{Stops};
+ghost use Rattle.moves.specs.laws.Stops.{predicateOf};
 
 fn flag_of(b: bool) -> u8
     ensures { λ r. ⌜ r ≡ cond b 1 0 ⌝ }

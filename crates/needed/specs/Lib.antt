@@ -1,9 +1,2 @@
 pub mod Needed
-pub mod NeededLaws
-pub mod Columns
-pub mod ColumnLaws
-pub mod KeepingLaws
-pub mod Relevant
-pub mod RelevantLaws
-pub mod Flags
-pub mod FlagLaws
+pub mod laws

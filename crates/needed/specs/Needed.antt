@@ -1,12 +1,16 @@
 -- The credentials that an edge needs (document 01, "The reply"). Assumes nothing.
-use Prim.Native.Nat.{ℕ, _+_, _-_}
-use mathlib.Core.Bool.{Bool, cond}
+use Prim.Native.Nat.{_+_}
+use mathlib.Core.Bool.{Bool, cond, false}
 use mathlib.Core.List.{List, [], _∷_, _++_}
 use Rattle.expression.specs.declared.Credential.{Credential}
 use Rattle.expression.specs.declared.Expression.{Expression}
-use Rattle.rt0.specs.declared.Pool.{Pool}
 use Rattle.rt0.specs.Decide.{from?}
-use Rattle.rt0.specs.Pool.{upTo, credentialAt}
+use mathlib.Core.Path.{_≡_}
+
+-- no element of the second list can be missed, those of the first and its other ones being there
+pub data Each {A : Type 0} (g : List A → Bool) : List A → List A → Type 0 where
+  last : {ks : List A} → Each g ks []
+  next : {ks : List A} {c : A} {zs : List A} → g (ks ++ zs) ≡ false → Each g (ks ++ (c ∷ [])) zs → Each g ks (c ∷ zs)
 
 -- "drop each, first to last, without which the edge is still justified": ks are kept so far, the others are still to be tried, and g says
 -- whether a list is enough
@@ -21,11 +25,3 @@ enough shown f e cs = from? (shown ++ cs) f e
 -- "the credentials it needs": those of the own ones that are kept, in table order
 unfoldable pub needed : List Credential → Expression → Expression → List Credential → List Credential
 needed shown f e own = kept (enough shown f e) [] own
-
--- the first s credentials of a pool
-unfoldable pub firstOf : Pool → ℕ → List Credential
-firstOf P s = upTo s (credentialAt P)
-
--- the credentials of a pool from number s on
-unfoldable pub restOf : Pool → ℕ → List Credential
-restOf P s = upTo (P .count - s) (λ (i : ℕ). credentialAt P (s + i))

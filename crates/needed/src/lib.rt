@@ -9,19 +9,19 @@ ghost use mathlib.Core.Path.{_≡_};
 ghost use Prim.Native.Nat.{ℕ, _<_, _≤_};
 ghost use lib.ListN.{length};
 ghost use Rattle.rt0.specs.Decide.{from? as fromOf};
-ghost use Rattle.rt0.specs.Pool.{poolOf, credentials};
-ghost use Rattle.closure.specs.Rules.{rulesOf, el};
-ghost use Rattle.rules.specs.Table.{chosen};
-ghost use Rattle.rules.specs.Ruled.{Ruled};
-ghost use Rattle.relation.specs.Relation.{Relation};
-ghost use Rattle.needed.specs.Needed.{needed as neededOf, firstOf, restOf};
-ghost use Rattle.needed.specs.Columns.{FirstOn, WithRest, Needed};
+ghost use Rattle.rt0.specs.laws.Pool.{poolOf, credentials};
+ghost use Rattle.closure.specs.laws.Rules.{rulesOf, el};
+ghost use Rattle.rules.specs.laws.Table.{chosen};
+ghost use Rattle.rules.specs.laws.Ruled.{Ruled};
+ghost use Rattle.relation.specs.laws.Relation.{Relation};
+ghost use Rattle.needed.specs.Needed.{needed as neededOf};
+ghost use Rattle.needed.specs.laws.Needed.{firstOf, restOf};
+ghost use Rattle.needed.specs.laws.Columns.{FirstOn, WithRest, Needed};
+pub use asked::relevant;
+use next::next_kept;
 
 mod asked;
 mod next;
-
-pub use asked::relevant;
-use next::next_kept;
 
 // Whether an edge holds over a pool, and the own credentials of the pool that it needs, 1 for each.
 pub struct Kept {

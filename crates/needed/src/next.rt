@@ -6,12 +6,12 @@ ghost use mathlib.Core.Path.{_≡_};
 ghost use Prim.Native.Nat.{_<_, _≤_};
 ghost use lib.ListN.{length, set};
 ghost use Rattle.rt0.specs.Decide.{from? as fromOf};
-ghost use Rattle.rt0.specs.Pool.{poolOf};
-ghost use Rattle.closure.specs.Rules.{rulesOf};
-ghost use Rattle.rules.specs.Table.{chosen};
-ghost use Rattle.rules.specs.Ruled.{Ruled};
-ghost use Rattle.relation.specs.Relation.{Relation};
-ghost use Rattle.needed.specs.Columns.{withOne, LastNeeded};
+ghost use Rattle.rt0.specs.laws.Pool.{poolOf};
+ghost use Rattle.closure.specs.laws.Rules.{rulesOf};
+ghost use Rattle.rules.specs.laws.Table.{chosen};
+ghost use Rattle.rules.specs.laws.Ruled.{Ruled};
+ghost use Rattle.relation.specs.laws.Relation.{Relation};
+ghost use Rattle.needed.specs.laws.Columns.{withOne, LastNeeded};
 
 // Whether f from e holds with credential i switched on, where there is one.
 fn holds_with<'a>(

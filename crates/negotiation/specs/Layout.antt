@@ -13,8 +13,7 @@ use Rattle.rt0.specs.Pool.{upTo}
 use Rattle.graph.specs.declared.Node.{Node}
 use Rattle.graph.specs.declared.Edge.{Edge}
 use Rattle.negotiation.specs.declared.Header.{Header}
-use Rattle.negotiation.specs.declared.Reading.{Reading}
-use Rattle.negotiation.specs.State.{State, stateOf}
+use Rattle.negotiation.specs.State.{State}
 
 -- Writing
 
@@ -102,7 +101,3 @@ sameBytes (x ∷ xs) (y ∷ ys) = eqb x y && sameBytes xs ys
 -- the state whose bytes these are, if there is one
 unfoldable pub readState : List ℕ → Option State
 readState s = cond (sameBytes s (stateBytes (candidateOf s))) (some (candidateOf s)) none
-
--- what a reading is
-unfoldable pub readingOf : Reading → Option State
-readingOf r = cond (r .ok) (some (stateOf (r .negotiation))) none

@@ -1,6 +1,3 @@
 pub mod State
-pub mod Within
 pub mod Layout
-pub mod LayoutLaws
-pub mod ReadLaws
-pub mod Codec
+pub mod laws

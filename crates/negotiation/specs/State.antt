@@ -6,21 +6,16 @@ use lib.Dec.{leb}
 use lib.ListN.{length, set}
 use Rattle.expression.specs.declared.Role.{Role}
 use Rattle.expression.specs.declared.Credential.{Credential}
-use Rattle.rt0.specs.Pool.{credentials}
 use Rattle.graph.specs.declared.Node.{Node}
 use Rattle.graph.specs.declared.Edge.{Edge}
-use Rattle.graph.specs.Graph.{nodesOf, edgesOf, nodeIn, inState}
+use Rattle.graph.specs.Graph.{nodeIn, inState}
 use Rattle.negotiation.specs.declared.Header.{Header}
-use Rattle.negotiation.specs.declared.Negotiation.{Negotiation}
 
 pub record State : Type 0 where
   pub header : Header
   pub nodes : List Node
   pub edges : List Edge
   pub shown : List Credential
-
-unfoldable pub stateOf : Negotiation → State
-stateOf n = record { header = n .header; nodes = nodesOf (n .nodes); edges = edgesOf (n .edges); shown = credentials (n .shown) }
 
 -- "A fresh negotiation holds no node, no edge and no credential"
 unfoldable pub freshState : ℕ → ℕ → ℕ → Role → State

@@ -8,15 +8,15 @@ use graph::Nodes;
 use rt0::Pool;
 ghost use mathlib.Core.Path.{_≡_};
 ghost use Prim.Native.Nat.{_≤_, _<_};
-ghost use Rattle.negotiation.specs.State.{stateOf, freshState, withNode, withEdge, withShown, withMark, withHeader};
-
-mod reader;
-mod writer;
-
+ghost use Rattle.negotiation.specs.laws.State.{stateOf};
+ghost use Rattle.negotiation.specs.State.{freshState, withNode, withEdge, withShown, withMark, withHeader};
 pub use reader::candidate;
 pub use reader::read;
 pub use writer::write;
 pub use writer::write_zeros;
+
+mod reader;
+mod writer;
 
 // Our side (0 mediator, 1 requester), self and the other end, the wanted role (zeros for the requester, who is not told it), the end,
 // whether the last message had no open, edge or mark, and how many messages were accepted and replies given.

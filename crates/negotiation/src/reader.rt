@@ -7,7 +7,6 @@ use crate::Reading;
 use crate::SHOWN_AT;
 use crate::write;
 use expression::Credential;
-use expression::Role;
 use expression::expression_of;
 use expression::number_at;
 use expression::raw_at;
@@ -19,10 +18,12 @@ use rt0::store;
 ghost use mathlib.Core.Path.{_≡_};
 ghost use Prim.Native.Nat.{ℕ, _+_, _*_, _≤_};
 ghost use lib.ListN.{length};
-ghost use Rattle.rt0.specs.Pool.{upTo, credentials};
-ghost use Rattle.graph.specs.Graph.{nodesOf, edgesOf};
-ghost use Rattle.negotiation.specs.State.{stateOf};
-ghost use Rattle.negotiation.specs.Layout.{headerFrom, nodeFrom, edgeFrom, credentialFrom, few, candidateOf, sameBytes, readState, readingOf};
+ghost use Rattle.rt0.specs.Pool.{upTo};
+ghost use Rattle.rt0.specs.laws.Pool.{credentials};
+ghost use Rattle.graph.specs.laws.Graph.{nodesOf, edgesOf};
+ghost use Rattle.negotiation.specs.laws.State.{stateOf};
+ghost use Rattle.negotiation.specs.Layout.{headerFrom, nodeFrom, edgeFrom, credentialFrom, few, candidateOf, sameBytes, readState};
+ghost use Rattle.negotiation.specs.laws.Layout.{readingOf};
 
 fn header_from(s: &[u8]) -> Header
     requires { ⌜ 18 ≤ length (now s) ⌝ }

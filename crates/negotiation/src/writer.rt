@@ -20,9 +20,10 @@ ghost use Prim.Native.Nat.{_+_, _-_, _≤_};
 ghost use lib.ListN.{length};
 ghost use Rattle.expression.specs.Bytes.{pasted};
 ghost use Rattle.expression.specs.Credential.{credentialBytes};
-ghost use Rattle.graph.specs.Graph.{nodesFrom, edgesFrom, nodesOf, edgesOf};
-ghost use Rattle.rt0.specs.Pool.{poolOf, credentials};
-ghost use Rattle.negotiation.specs.State.{stateOf, within};
+ghost use Rattle.graph.specs.laws.Graph.{nodesFrom, edgesFrom, nodesOf, edgesOf};
+ghost use Rattle.rt0.specs.laws.Pool.{poolOf, credentials};
+ghost use Rattle.negotiation.specs.laws.State.{stateOf};
+ghost use Rattle.negotiation.specs.State.{within};
 ghost use Rattle.negotiation.specs.Layout.{headerBytes, nodeBytes, edgeBytes, zeros, part, stateBytes};
 
 // Zeros from an index up to another.

@@ -1,11 +1,3 @@
 pub mod Flags
 pub mod Least
-pub mod Satisfied
-pub mod SatisfiedLaws
-pub mod Chains
-pub mod Work
-pub mod WorkLaws
-pub mod Failed
-pub mod FailedLaws
-pub mod Failing
-pub mod FailingLaws
+pub mod laws

@@ -1,7 +1,7 @@
 // Edges in chains, one for each node that they lead from.
 ghost use mathlib.Core.Path.{_≡_};
 ghost use Prim.Native.Nat.{_+_, _≤_, _<_};
-ghost use Rattle.propagation.specs.Chains.{Chained};
+ghost use Rattle.propagation.specs.laws.Chains.{Chained};
 
 pub fn wide(x: u8) -> usize
     ensures { λ r. ⌜ (r ≡ x) × (r < 256) ⌝ }

@@ -7,12 +7,13 @@ ghost use mathlib.Core.Bool.{true, not, _&&_};
 ghost use lib.Dec.{eqb, ltb};
 ghost use Prim.Native.Nat.{ℕ, _≤_, _<_};
 ghost use lib.ListN.{length, getD};
-ghost use Rattle.propagation.specs.Flags.{at, flag};
-ghost use Rattle.propagation.specs.Satisfied.{graph};
-ghost use Rattle.propagation.specs.Work.{Beyond};
-ghost use Rattle.propagation.specs.Chains.{Chained};
-ghost use Rattle.propagation.specs.Failed.{childOf, failsBy, failedOf, sameB, Sound, Touched, Swept};
-ghost use Rattle.propagation.specs.Failing.{Tallied, Failing};
+ghost use Rattle.propagation.specs.Flags.{at};
+ghost use Rattle.propagation.specs.laws.Flags.{flag};
+ghost use Rattle.propagation.specs.laws.Satisfied.{graph};
+ghost use Rattle.propagation.specs.laws.Work.{Beyond};
+ghost use Rattle.propagation.specs.laws.Chains.{Chained};
+ghost use Rattle.propagation.specs.laws.Failed.{childOf, failsBy, failedOf, sameB, Sound, Touched, Swept};
+ghost use Rattle.propagation.specs.laws.Failing.{Tallied, Failing};
 
 // Whether a node of this way fails.
 fn fails(way: u8, alive: bool, hit: bool) -> bool

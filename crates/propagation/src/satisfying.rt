@@ -6,10 +6,11 @@ ghost use mathlib.Core.Path.{_≡_};
 ghost use mathlib.Core.Bool.{true};
 ghost use Prim.Native.Nat.{ℕ, _+_, _≤_, _<_};
 ghost use lib.ListN.{getD};
-ghost use Rattle.propagation.specs.Flags.{at, flag};
-ghost use Rattle.propagation.specs.Satisfied.{graph, satisfiedOf};
-ghost use Rattle.propagation.specs.Chains.{Chained};
-ghost use Rattle.propagation.specs.Work.{work, readyAt, Beyond, Base, Full, Marked, Brought, Visited, Done};
+ghost use Rattle.propagation.specs.Flags.{at};
+ghost use Rattle.propagation.specs.laws.Flags.{flag};
+ghost use Rattle.propagation.specs.laws.Satisfied.{graph, satisfiedOf};
+ghost use Rattle.propagation.specs.laws.Chains.{Chained};
+ghost use Rattle.propagation.specs.laws.Work.{work, readyAt, Beyond, Base, Full, Marked, Brought, Visited, Done};
 
 // Whether the first `need` of the four slots from a on are filled.
 fn ready<'a>(need: u8, got: &'a [u8; 512], a: usize) -> bool

@@ -8,10 +8,8 @@ use Rattle.expression.specs.declared.Credential.{Credential}
 use Rattle.expression.specs.declared.CredentialAnswer.{CredentialAnswer}
 use Rattle.expression.specs.declared.CredentialAnswer.the-variants as a
 use Rattle.expression.specs.Credential.{readCredential}
-use Rattle.rt0.specs.Pool.{credentials}
 use Rattle.question.specs.declared.Step.{Step}
 use Rattle.question.specs.declared.Step.the-variants.{Taken, End, Refused}
-use Rattle.question.specs.declared.Listing.{Listing}
 use Rattle.question.specs.Sizes.{commandSize}
 
 -- "3 an operand of wrong form" ("From the input")
@@ -55,7 +53,3 @@ listFrom (suc n) s at C = after (listFrom n s (at + commandSize)) C (stepAt s at
 -- "credential commands and an end (.. repeats allowed, classes not consulted)" ("RT0 and states")
 unfoldable pub credentialsOf : List ℕ → Listed
 credentialsOf s = listFrom (length s) s 0 []
-
--- what a listing says: its refusal number, or its pool's credentials where that is zero
-unfoldable pub listedOf : Listing → Listed
-listedOf l = cond (eqb (l .refusal) 0) (listed (credentials (l .pool))) (refused (l .refusal))

@@ -1,7 +1,5 @@
 pub mod Sizes
 pub mod Credentials
-pub mod CredentialsLaws
-pub mod CredentialsExact
 pub mod Question
-pub mod QuestionLaws
-pub mod QuestionExact
+pub mod Asked
+pub mod laws

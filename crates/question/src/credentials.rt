@@ -11,7 +11,8 @@ ghost use mathlib.Core.Path.{_≡_};
 ghost use Prim.Native.Nat.{_≤_, _<_};
 ghost use lib.ListN.{length};
 ghost use Rattle.question.specs.Sizes.{credentialsMost, listSize};
-ghost use Rattle.question.specs.Credentials.{credentialStep, endStep, stepAt, credentialsOf, listedOf};
+ghost use Rattle.question.specs.Credentials.{credentialStep, endStep, stepAt, credentialsOf};
+ghost use Rattle.question.specs.laws.Credentials.{listedOf};
 
 // 0x01 and the 22 bytes of a credential.
 const COMMAND_SIZE: usize = 23;

@@ -1,3 +1,2 @@
 pub mod Record
-pub mod RecordLaws
-pub mod RecordExact
+pub mod laws

@@ -10,7 +10,7 @@ use expression::number_at;
 use expression::read_credential;
 use expression::role_at;
 ghost use mathlib.Core.Path.{_≡_};
-ghost use Prim.Native.Nat.{_<_, _+_, _≤_};
+ghost use Prim.Native.Nat.{_<_, _+_};
 ghost use lib.ListN.{length};
 ghost use Rattle.record.specs.Record.{formedName, formedPair, stored as storedIn, paired as pairedIn, ownAt, nameAt, storedAt, pairAt, recordAt};
 

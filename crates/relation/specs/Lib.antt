@@ -1,6 +1,1 @@
-pub mod Relation
-pub mod Answer
-pub mod Question
-pub mod Bodies
-pub mod QuestionLaws
-pub mod Reached
+pub mod laws

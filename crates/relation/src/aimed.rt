@@ -9,10 +9,10 @@ use rules::row;
 use rules::third_of;
 ghost use mathlib.Core.Path.{_≡_};
 ghost use Prim.Native.Nat.{_<_, _≤_};
-ghost use Rattle.rt0.specs.Pool.{poolOf, bodyAt};
-ghost use Rattle.rules.specs.Table.{rowOf, rowFor};
-ghost use Rattle.rules.specs.Columns.{fourRows, PartsTo};
-ghost use Rattle.relation.specs.Question.{OwnRow};
+ghost use Rattle.rt0.specs.laws.Pool.{poolOf, bodyAt};
+ghost use Rattle.rules.specs.laws.Table.{rowOf, rowFor};
+ghost use Rattle.rules.specs.laws.Columns.{fourRows, PartsTo};
+ghost use Rattle.relation.specs.laws.Question.{OwnRow};
 
 // The row of p where e is asked about; old is its row.
 fn aim<'a>(

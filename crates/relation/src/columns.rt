@@ -6,12 +6,11 @@ use closure::close;
 use closure::mark;
 use expression::Expression;
 use rules::source;
-ghost use mathlib.Core.Path.{_≡_};
 ghost use Prim.Native.Nat.{_≤_};
-ghost use Rattle.rt0.specs.Pool.{poolOf};
-ghost use Rattle.closure.specs.Rules.{rulesOf};
-ghost use Rattle.rules.specs.Ruled.{Ruled};
-ghost use Rattle.relation.specs.Relation.{Relation, Answers};
+ghost use Rattle.rt0.specs.laws.Pool.{poolOf};
+ghost use Rattle.closure.specs.laws.Rules.{rulesOf};
+ghost use Rattle.rules.specs.laws.Ruled.{Ruled};
+ghost use Rattle.relation.specs.laws.Relation.{Relation, Answers};
 
 // The rows of the entity b: its bit of the relation.
 fn entity_column<'a>(

@@ -13,11 +13,11 @@ use rules::third_of;
 ghost use mathlib.Core.Path.{_≡_};
 ghost use Prim.Native.Nat.{_<_, _≤_};
 ghost use Rattle.rt0.specs.Decide.{from? as fromOf};
-ghost use Rattle.rt0.specs.Pool.{poolOf};
-ghost use Rattle.rules.specs.Table.{anyTo, chosen};
-ghost use Rattle.rules.specs.Digits.{BodiesIn};
-ghost use Rattle.relation.specs.Relation.{Relation, Answers};
-ghost use Rattle.relation.specs.Question.{leadsAt};
+ghost use Rattle.rt0.specs.laws.Pool.{poolOf};
+ghost use Rattle.rules.specs.laws.Table.{anyTo, chosen};
+ghost use Rattle.rules.specs.laws.Digits.{BodiesIn};
+ghost use Rattle.relation.specs.laws.Relation.{Relation, Answers};
+ghost use Rattle.relation.specs.laws.Question.{leadsAt};
 
 // Whether the role p is from e.
 fn role_from<'a>(

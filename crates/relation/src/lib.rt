@@ -14,22 +14,21 @@ ghost use mathlib.Core.Path.{_≡_};
 ghost use Prim.Native.Nat.{_<_, _≤_};
 ghost use lib.ListN.{length, set};
 ghost use Rattle.rt0.specs.Decide.{from? as fromOf};
-ghost use Rattle.rt0.specs.Pool.{poolOf, credentials as credentialsOf};
-ghost use Rattle.closure.specs.Rules.{rulesOf};
-ghost use Rattle.rules.specs.Table.{chosen};
-ghost use Rattle.rules.specs.Ruled.{Ruled};
-ghost use Rattle.relation.specs.Relation.{Relation, Answers};
+ghost use Rattle.rt0.specs.laws.Pool.{poolOf, credentials as credentialsOf};
+ghost use Rattle.closure.specs.laws.Rules.{rulesOf};
+ghost use Rattle.rules.specs.laws.Table.{chosen};
+ghost use Rattle.rules.specs.laws.Ruled.{Ruled};
+ghost use Rattle.relation.specs.laws.Relation.{Relation, Answers};
+pub use columns::column;
+use forms::by_form;
+use said::seed;
+use said::seeds;
 
 mod aimed;
 mod columns;
 mod forms;
 mod said;
 mod start;
-
-pub use columns::column;
-use forms::by_form;
-use said::seed;
-use said::seeds;
 
 // The relation of roles and entities over the credentials that are on.
 pub fn relation<'a>(

@@ -5,11 +5,11 @@ use rules::note_bodies;
 ghost use mathlib.Core.Path.{_≡_};
 ghost use Prim.Native.Nat.{_<_, _≤_};
 ghost use lib.ListN.{length};
-ghost use Rattle.rt0.specs.Pool.{poolOf};
-ghost use Rattle.rules.specs.Columns.{Column, headRow};
-ghost use Rattle.rules.specs.Digits.{BodiesIn};
-ghost use Rattle.relation.specs.Relation.{Start};
-ghost use Rattle.relation.specs.Question.{Seeded};
+ghost use Rattle.rt0.specs.laws.Pool.{poolOf};
+ghost use Rattle.rules.specs.laws.Columns.{Column, headRow};
+ghost use Rattle.rules.specs.laws.Digits.{BodiesIn};
+ghost use Rattle.relation.specs.laws.Relation.{Start};
+ghost use Rattle.relation.specs.laws.Question.{Seeded};
 
 // Where credential i says that an entity is in a role, the role's row takes in the entity's bit.
 pub fn seed<'a>(

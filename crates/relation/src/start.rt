@@ -15,11 +15,11 @@ ghost use Prim.Native.Nat.{_<_, _≤_};
 ghost use lib.ListN.{replicate};
 ghost use Rattle.expression.specs.Form.{rawOf};
 ghost use Rattle.expression.specs.Same.{same as sameOf};
-ghost use Rattle.rt0.specs.Pool.{poolOf, bodyAt};
-ghost use Rattle.rules.specs.Table.{rowOf};
-ghost use Rattle.rules.specs.Columns.{Column, headRow, bodyFirst, firstRow};
-ghost use Rattle.relation.specs.Relation.{Relation, ownRole, ownLink, atOnce, Asked};
-ghost use Rattle.relation.specs.Question.{ownBit, startsAt};
+ghost use Rattle.rt0.specs.laws.Pool.{poolOf, bodyAt};
+ghost use Rattle.rules.specs.laws.Table.{rowOf};
+ghost use Rattle.rules.specs.laws.Columns.{Column, headRow, bodyFirst, firstRow};
+ghost use Rattle.relation.specs.laws.Relation.{Relation, ownRole, ownLink, atOnce, Asked};
+ghost use Rattle.relation.specs.laws.Question.{ownBit, startsAt};
 
 // Whether q is B.m, with B in the role a, whose row is r.
 fn own_role<'a>(

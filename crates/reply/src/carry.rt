@@ -15,13 +15,14 @@ ghost use mathlib.Core.Bool.{true};
 ghost use Prim.Native.Nat.{_+_, _≤_, _<_};
 ghost use lib.ListN.{length};
 ghost use Rattle.expression.specs.Bytes.{pasted};
-ghost use Rattle.rt0.specs.Pool.{credentialAt};
-ghost use Rattle.rules.specs.Table.{chosen};
-ghost use Rattle.negotiation.specs.State.{stateOf, within};
+ghost use Rattle.rt0.specs.laws.Pool.{credentialAt};
+ghost use Rattle.rules.specs.laws.Table.{chosen};
+ghost use Rattle.negotiation.specs.laws.State.{stateOf};
+ghost use Rattle.negotiation.specs.State.{within};
 ghost use Rattle.take.specs.Message.{bytesOf};
-ghost use Rattle.moves.specs.Own.{commandsOf};
+ghost use Rattle.moves.specs.laws.Own.{commandsOf};
 ghost use Rattle.moves.specs.Carried.{carried, hasRoomFor};
-ghost use Rattle.reply.specs.Outgoing.{oneIf, roomBy, onAt, shows};
+ghost use Rattle.reply.specs.laws.Outgoing.{oneIf, roomBy, onAt, shows};
 
 // How many bytes a credential takes.
 const SHOW: usize = 23;

@@ -1,11 +1,10 @@
 // The reply.
+pub use call::reply;
 use negotiation::Negotiation;
 
 mod call;
 mod carry;
 mod turns;
-
-pub use call::reply;
 
 // The negotiation that a reply has led to so far, how many bytes it has, and whether it stopped on a size, where the refusal is 0; else they do not
 // count.

@@ -17,12 +17,12 @@ ghost use mathlib.Core.Bool.{cond};
 ghost use Prim.Native.Nat.{_+_, _≤_};
 ghost use lib.Dec.{ltb};
 ghost use lib.ListN.{length};
-ghost use Rattle.tables.specs.Tables.{tablesOf};
-ghost use Rattle.negotiation.specs.State.{stateOf};
-ghost use Rattle.moves.specs.Own.{Prepared};
-ghost use Rattle.legality.specs.Going.{Going};
-ghost use Rattle.reply.specs.Turns.{restFrom};
-ghost use Rattle.reply.specs.Writing.{Gives};
+ghost use Rattle.tables.specs.laws.Tables.{tablesOf};
+ghost use Rattle.negotiation.specs.laws.State.{stateOf};
+ghost use Rattle.moves.specs.laws.Own.{Prepared};
+ghost use Rattle.legality.specs.laws.Going.{Going};
+ghost use Rattle.reply.specs.laws.Turns.{restFrom};
+ghost use Rattle.reply.specs.laws.Writing.{Gives};
 
 pub fn replying(refusal: u64, negotiation: Negotiation, at: usize, full: bool) -> Replying
     ensures { λ r. ⌜ (r .refusal ≡ refusal) × (r .negotiation ≡ negotiation) × (r .at ≡ at) × (r .full ≡ full) ⌝ }

@@ -1,3 +1,2 @@
 pub mod Report
-pub mod ReportLaws
-pub mod ReportPublic
+pub mod laws

@@ -1,6 +1,6 @@
 -- The report (document 01, "The reply"). Assumes nothing.
 use Prim.Native.Nat.{ℕ, _+_, _*_, _/_, _%_}
-use mathlib.Core.Bool.{Bool, cond}
+use mathlib.Core.Bool.{cond}
 use mathlib.Core.List.{List}
 use lib.Dec.{ltb}
 use lib.ListN.{length}
@@ -19,10 +19,6 @@ pub record Report : Type 0 where
   pub edges : ℕ
   pub shown : ℕ
   pub messages : ℕ
-
--- a report of these numbers
-abbrev pub numbered : ℕ → ℕ → ℕ → ℕ → ℕ → ℕ → ℕ → Report
-numbered s p e n m k c = record { state = s; propagated = p; end = e; nodes = n; edges = m; shown = k; messages = c }
 
 -- what stands in a negotiation, of node i
 unfoldable pub reportOn : State → ℕ → Report

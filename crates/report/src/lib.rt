@@ -3,12 +3,12 @@ use damage::restore;
 use negotiation::Negotiation;
 use states::state_of;
 ghost use mathlib.Core.Path.{_≡_};
-ghost use mathlib.Core.Bool.{true};
 ghost use Prim.Native.Nat.{_*_, _≤_, _<_};
-ghost use Rattle.graph.specs.Graph.{nodesOf, edgesOf};
-ghost use Rattle.states.specs.Brings.{NodesFormed, EdgesFormed};
-ghost use Rattle.negotiation.specs.State.{stateOf};
-ghost use Rattle.report.specs.Report.{numbered, reportOn, reportOf, packed, answerOf};
+ghost use Rattle.graph.specs.laws.Graph.{nodesOf, edgesOf};
+ghost use Rattle.states.specs.laws.Brings.{NodesFormed, EdgesFormed};
+ghost use Rattle.negotiation.specs.laws.State.{stateOf};
+ghost use Rattle.report.specs.laws.Report.{numbered};
+ghost use Rattle.report.specs.Report.{reportOn, reportOf, packed, answerOf};
 
 const ABSENT: u64 = 24;
 

@@ -1,7 +1,7 @@
 -- A decision of role containment: the facts "head of c from s" for each credential c and each source s, learnt pass by pass until a pass
 -- learns none. Sources are the expression asked about and the entities that stand as bodies. Assumes nothing.
 use Prim.Native.Nat.{ℕ, zero, suc}
-use mathlib.Core.Bool.{Bool, true, false, _&&_, _||_, cond}
+use mathlib.Core.Bool.{Bool, false, _&&_, _||_, cond}
 use mathlib.Core.List.{List, [], _∷_, _++_, map}
 use lib.Dec.{eqb}
 use lib.ListN.{length}

@@ -8,8 +8,8 @@ use expression::raw_of;
 ghost use mathlib.Core.Path.{_≡_};
 ghost use mathlib.Core.List.{[], _∷_, _++_};
 ghost use Prim.Native.Nat.{_<_, _+_};
-ghost use Rattle.rt0.specs.Pool.{poolOf, headAt, rawAtColumns, bodyAt, credentials as credentialsOf};
-ghost use Rattle.rt0.specs.Added.{Sized, Stored};
+ghost use Rattle.rt0.specs.laws.Pool.{poolOf, headAt, rawAtColumns, bodyAt, credentials as credentialsOf};
+ghost use Rattle.rt0.specs.laws.Added.{Sized, Stored};
 
 // Credentials one after the other: head i at 2 i, the body's kind and part count at 2 i, its eight numbers at 8 i.
 pub struct Pool {

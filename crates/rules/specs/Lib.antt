@@ -1,8 +1,1 @@
-pub mod Table
-pub mod Search
-pub mod Exact
-pub mod Columns
-pub mod ColumnLaws
-pub mod Ruled
-pub mod Digits
-pub mod DigitLaws
+pub mod laws

@@ -13,9 +13,9 @@ use word::lowest;
 ghost use mathlib.Core.Path.{_≡_};
 ghost use Prim.Native.Nat.{_<_, _≤_};
 ghost use lib.ListN.{length};
-ghost use Rattle.rt0.specs.Pool.{poolOf};
-ghost use Rattle.rules.specs.Table.{rowOf, bitOf};
-ghost use Rattle.rules.specs.Digits.{shared, Noted, NoneBelow, HeadsIn, BodiesIn, Open};
+ghost use Rattle.rt0.specs.laws.Pool.{poolOf};
+ghost use Rattle.rules.specs.laws.Table.{rowOf, bitOf};
+ghost use Rattle.rules.specs.laws.Digits.{shared, Noted, NoneBelow, HeadsIn, BodiesIn, Open};
 
 // The table takes in that credential j has the number x.
 fn note<'a>(table: &'a mut [u64; 260], x: u16, j: usize)

@@ -10,16 +10,11 @@ use rt0::body_at;
 use rt0::head_at;
 ghost use mathlib.Core.Path.{_≡_};
 ghost use Prim.Native.Nat.{_<_, _≤_, _*_};
-ghost use Rattle.rt0.specs.Pool.{poolOf};
-ghost use Rattle.rules.specs.Table.{rowOf, third, fourth};
-ghost use Rattle.rules.specs.Columns.{fourRows, firstRow, isLinked, Column, headRow, bodyFirst, PartsTo};
-ghost use Rattle.rules.specs.Digits.{HeadsIn};
-ghost use Rattle.rules.specs.Ruled.{Ruled};
-
-mod digits;
-mod linking;
-mod rows;
-
+ghost use Rattle.rt0.specs.laws.Pool.{poolOf};
+ghost use Rattle.rules.specs.laws.Table.{rowOf, third, fourth};
+ghost use Rattle.rules.specs.laws.Columns.{fourRows, firstRow, isLinked, Column, headRow, bodyFirst, PartsTo};
+ghost use Rattle.rules.specs.laws.Digits.{HeadsIn};
+ghost use Rattle.rules.specs.laws.Ruled.{Ruled};
 use digits::find_row;
 pub use digits::find_source;
 pub use digits::note_bodies;
@@ -32,6 +27,10 @@ pub use linking::name_link;
 use linking::names;
 pub use rows::row;
 pub use rows::source;
+
+mod digits;
+mod linking;
+mod rows;
 
 // The four rows whose shared bits a rule takes in.
 pub struct Four {

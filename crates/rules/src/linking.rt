@@ -9,10 +9,10 @@ ghost use mathlib.Core.Path.{_≡_};
 ghost use mathlib.Core.Bool.{true};
 ghost use Prim.Native.Nat.{_<_, _≤_, _+_};
 ghost use lib.ListN.{length};
-ghost use Rattle.rt0.specs.Pool.{poolOf};
-ghost use Rattle.rules.specs.Table.{anyTo};
-ghost use Rattle.rules.specs.Columns.{Column, headRow, Able, NamedRow, NamedLink, NamesTo, isNamed, hasLink, linkSource, SameLink, copied};
-ghost use Rattle.rules.specs.Digits.{BodiesIn};
+ghost use Rattle.rt0.specs.laws.Pool.{poolOf};
+ghost use Rattle.rules.specs.laws.Table.{anyTo};
+ghost use Rattle.rules.specs.laws.Columns.{Column, headRow, Able, NamedRow, NamedLink, NamesTo, isNamed, hasLink, linkSource, SameLink, copied};
+ghost use Rattle.rules.specs.laws.Digits.{BodiesIn};
 
 // Whether body i is a link.
 pub fn has_link<'a>(

@@ -2,8 +2,8 @@
 use expression::Role;
 ghost use mathlib.Core.Path.{_≡_};
 ghost use Prim.Native.Nat.{_<_, _≤_};
-ghost use Rattle.rt0.specs.Pool.{poolOf};
-ghost use Rattle.rules.specs.Table.{isHead, rowOf, isBody, bitOf};
+ghost use Rattle.rt0.specs.laws.Pool.{poolOf};
+ghost use Rattle.rules.specs.laws.Table.{isHead, rowOf, isBody, bitOf};
 
 // Whether credential j has p as its head.
 pub fn is_head<'a>(

@@ -1,4 +1,2 @@
 pub mod Runs
-pub mod RunsLaws
-pub mod RunsKept
-pub mod TwoRuns
+pub mod laws

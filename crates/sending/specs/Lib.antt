@@ -1,7 +1,1 @@
-pub mod Picked
-pub mod Behind
-pub mod Unshown
-pub mod Sent
-pub mod SentLaws
-pub mod Part
-pub mod Edge
+pub mod laws

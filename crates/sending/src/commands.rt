@@ -9,10 +9,10 @@ use moves::Wanted;
 use moves::initial_state;
 ghost use mathlib.Core.Path.{_≡_};
 ghost use Prim.Native.Nat.{_≤_, _<_};
-ghost use Rattle.class.specs.Names.{namesOf, Ascending};
-ghost use Rattle.graph.specs.Graph.{nodesOf};
+ghost use Rattle.class.specs.laws.Names.{namesOf, Ascending};
+ghost use Rattle.graph.specs.laws.Graph.{nodesOf};
 ghost use Rattle.moves.specs.Wanted.{childNumber};
-ghost use Rattle.sending.specs.Sent.{commandFor};
+ghost use Rattle.sending.specs.laws.Sent.{commandFor};
 
 // The number of the wanted child, or 128.
 fn child_number(nodes: Nodes, w: Wanted) -> usize

@@ -14,14 +14,14 @@ use needed::with_rest;
 use rt0::Pool;
 ghost use mathlib.Core.List.{[], _∷_};
 ghost use Prim.Native.Nat.{_≤_};
-ghost use Rattle.rt0.specs.Pool.{credentials};
-ghost use Rattle.rules.specs.Table.{chosen};
+ghost use Rattle.rt0.specs.laws.Pool.{credentials};
+ghost use Rattle.rules.specs.laws.Table.{chosen};
 ghost use Rattle.needed.specs.Needed.{needed as neededOf};
-ghost use Rattle.tables.specs.Tables.{tablesOf};
+ghost use Rattle.tables.specs.laws.Tables.{tablesOf};
 ghost use Rattle.tables.specs.Public.{publicOf};
-ghost use Rattle.moves.specs.Own.{Prepared};
-ghost use Rattle.sending.specs.Unshown.{unshownOf};
-ghost use Rattle.sending.specs.Sent.{Sends, directIn, ownSetOf};
+ghost use Rattle.moves.specs.laws.Own.{Prepared};
+ghost use Rattle.sending.specs.laws.Unshown.{unshownOf};
+ghost use Rattle.sending.specs.laws.Sent.{Sends, directIn, ownSetOf};
 
 // A command alone.
 pub fn alone(command: Command) -> Outgoing

@@ -9,13 +9,13 @@ use tables::is_direct;
 ghost use mathlib.Core.Path.{_≡_};
 ghost use mathlib.Core.Bool.{not, cond};
 ghost use Prim.Native.Nat.{_≤_};
-ghost use Rattle.rt0.specs.Pool.{poolOf, credentials};
-ghost use Rattle.rules.specs.Table.{chosen};
-ghost use Rattle.tables.specs.Tables.{pairsFrom, pairsOf};
-ghost use Rattle.tables.specs.Decoding.{Housed};
+ghost use Rattle.rt0.specs.laws.Pool.{poolOf, credentials};
+ghost use Rattle.rules.specs.laws.Table.{chosen};
+ghost use Rattle.tables.specs.laws.Tables.{pairsFrom, pairsOf};
+ghost use Rattle.tables.specs.laws.Decoding.{Housed};
 ghost use Rattle.tables.specs.Lookup.{isDirect};
 ghost use Rattle.tables.specs.Public.{lessDirect};
-ghost use Rattle.moves.specs.Own.{Prepared};
+ghost use Rattle.moves.specs.laws.Own.{Prepared};
 
 // 1 for a credential that may show, 0 for the direct one of a sensitive role.
 fn visible_flag<'a>(

@@ -9,12 +9,12 @@ ghost use mathlib.Core.Path.{_≡_};
 ghost use mathlib.Core.List.{_++_};
 ghost use Prim.Native.Nat.{_-_, _≤_, _<_};
 ghost use lib.Dec.{eqb};
-ghost use Rattle.rt0.specs.Pool.{poolOf, credentialAt, credentials};
-ghost use Rattle.rt0.specs.Added.{Sized};
-ghost use Rattle.rules.specs.Table.{chosen};
-ghost use Rattle.sending.specs.Unshown.{unshownOf, isNew};
-ghost use Rattle.sending.specs.Behind.{StoredIf};
-ghost use Rattle.sending.specs.Part.{Selected, PartOf};
+ghost use Rattle.rt0.specs.laws.Pool.{poolOf, credentialAt, credentials};
+ghost use Rattle.rt0.specs.laws.Added.{Sized};
+ghost use Rattle.rules.specs.laws.Table.{chosen};
+ghost use Rattle.sending.specs.laws.Unshown.{unshownOf, isNew};
+ghost use Rattle.sending.specs.laws.Behind.{StoredIf};
+ghost use Rattle.sending.specs.laws.Part.{Selected, PartOf};
 
 // A pool, the first credentials of which are shown.
 pub struct Part {

@@ -15,12 +15,13 @@ use update::node_of;
 ghost use mathlib.Core.Path.{_≡_};
 ghost use mathlib.Core.Bool.{true};
 ghost use Prim.Native.Nat.{_≤_, _<_};
-ghost use Rattle.tables.specs.Tables.{tablesOf};
-ghost use Rattle.negotiation.specs.State.{stateOf, within};
+ghost use Rattle.tables.specs.laws.Tables.{tablesOf};
+ghost use Rattle.negotiation.specs.laws.State.{stateOf};
+ghost use Rattle.negotiation.specs.State.{within};
 ghost use Rattle.moves.specs.declared.Choice.the-variants as K;
-ghost use Rattle.moves.specs.Own.{Prepared, foundMove, commandsOf};
+ghost use Rattle.moves.specs.laws.Own.{Prepared, foundMove, commandsOf};
 ghost use Rattle.moves.specs.Rules.{endIn};
-ghost use Rattle.sending.specs.Edge.{EdgeSent};
+ghost use Rattle.sending.specs.laws.Edge.{EdgeSent};
 
 // An edge into node i behind the credentials it needs.
 fn edge(own: Own, n: Negotiation, i: u8, w: Wanted) -> Outgoing

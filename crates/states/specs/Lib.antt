@@ -1,9 +1,1 @@
-pub mod Brings
-pub mod BringsLaws
-pub mod Fields
-pub mod Filled
-pub mod Places
-pub mod Brought
-pub mod SatisfiedColumns
-pub mod FailedColumns
-pub mod Complete
+pub mod laws

@@ -8,9 +8,9 @@ ghost use mathlib.Core.Path.{_≡_};
 ghost use Prim.Native.Nat.{_≤_, _<_};
 ghost use Rattle.expression.specs.declared.Expression.the-variants as E;
 ghost use Rattle.graph.specs.declared.Nodes.{Nodes};
-ghost use Rattle.graph.specs.Graph.{nodesFrom, edgesFrom, expressionFrom, nodesOf, edgesOf};
-ghost use Rattle.states.specs.Brings.{slotIn, slotAs, slotBy, Joined, Needs, Ways};
-ghost use Rattle.states.specs.Fields.{needBy, wayBy};
+ghost use Rattle.graph.specs.laws.Graph.{nodesFrom, edgesFrom, expressionFrom, nodesOf, edgesOf};
+ghost use Rattle.states.specs.laws.Brings.{slotIn, slotAs, slotBy, Joined, Needs, Ways};
+ghost use Rattle.states.specs.laws.Fields.{needBy, wayBy};
 
 const NODES_MOST: u8 = 128;
 

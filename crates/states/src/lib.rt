@@ -7,16 +7,15 @@ use word::wide;
 ghost use mathlib.Core.Path.{_≡_};
 ghost use Prim.Native.Nat.{_≤_, _<_};
 ghost use Rattle.rt0.specs.Lists.{any};
-ghost use Rattle.graph.specs.Graph.{nodesFrom, edgesFrom, edgeAt, nodesOf, edgesOf};
+ghost use Rattle.graph.specs.laws.Graph.{nodesFrom, edgesFrom, edgeAt, nodesOf, edgesOf};
 ghost use Rattle.graph.specs.Propagated.{completeB, stateOf};
-ghost use Rattle.states.specs.Brings.{NodesFormed, EdgesFormed};
-ghost use Rattle.states.specs.Complete.{isOpen, completeBy, Settled};
-
-mod fill;
-
+ghost use Rattle.states.specs.laws.Brings.{NodesFormed, EdgesFormed};
+ghost use Rattle.states.specs.laws.Complete.{isOpen, completeBy, Settled};
 pub use fill::links;
 pub use fill::needs;
 pub use fill::ways;
+
+mod fill;
 
 // Edge j leads from node from[j] into slot slot[j]; with from[j] = 128 it brings no child.
 pub struct EdgeColumns {

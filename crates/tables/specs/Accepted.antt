@@ -2,7 +2,7 @@
 use Prim.Native.Nat.{ℕ, _<_, _≤_}
 use mathlib.Core.Path.{_≡_}
 use mathlib.Core.Bool.{Bool, true, false}
-use mathlib.Core.List.{List, List·Memᴰ}
+use mathlib.Core.List.{List, List·Memᴰ, [], _∷_}
 use lib.Dec.{ltb}
 use lib.ListN.{length}
 use Rattle.expression.specs.Form.{ascends}
@@ -13,7 +13,12 @@ use Rattle.record.specs.Record.{formed}
 use Rattle.tables.specs.Sizes.{namesMost, storedMost, sensitiveMost, accessMost}
 use Rattle.tables.specs.Tables.{Tables}
 use Rattle.tables.specs.Check.{storedNumber, pairNumber}
-use Rattle.tables.specs.Sorted.{Rising}
+use Rattle.rt0.specs.Lists.{all}
+
+-- a list that ascends strictly: each element comes before all later ones
+pub data Rising {A : Type 0} (before : A → A → Bool) : List A → Type 0 where
+  rising-none : Rising before []
+  rising-cons : {x : A} {L : List A} → all (λ y. before x y) L ≡ true → Rising before L → Rising before (x ∷ L)
 
 -- what holds of all records of one command
 pub record Records {A : Type 0} (wrap : A → Record) (before : A → A → Bool) (most : ℕ) (number : A → ℕ) (L : List A) : Type 0 where

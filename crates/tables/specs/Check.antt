@@ -19,9 +19,8 @@ use Rattle.record.specs.declared.Record.the-variants.{Own, Named, IssuerStored,
 use Rattle.record.specs.declared.RecordAnswer.{RecordAnswer}
 use Rattle.record.specs.declared.RecordAnswer.the-variants as a
 use Rattle.record.specs.Record.{recordAt, sizeOf}
-use Rattle.tables.specs.declared.Decoded.{Decoded}
 use Rattle.tables.specs.Sizes.{namesMost, storedMost, sensitiveMost, accessMost, tablesMost}
-use Rattle.tables.specs.Tables.{Tables, unread, added, tablesOf}
+use Rattle.tables.specs.Tables.{Tables, unread, added}
 use Rattle.tables.specs.Lookup.{holds, isSensitive}
 
 -- the first number that is not zero
@@ -130,7 +129,3 @@ numberOf (accepted T) = 0
 -- the answer of the check: zero, or the refusal number
 unfoldable pub checkOf : List ℕ → ℕ
 checkOf s = numberOf (readTables s)
-
--- what decoded tables say
-unfoldable pub outcomeOf : Decoded → Outcome
-outcomeOf d = cond (eqb (d .refusal) 0) (accepted (tablesOf (d .house))) (refused (d .refusal))

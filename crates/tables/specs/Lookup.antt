@@ -7,11 +7,10 @@ use Rattle.expression.specs.declared.Credential.{Credential}
 use Rattle.expression.specs.declared.Expression.the-variants as E
 use Rattle.expression.specs.Same.{sameRole, same}
 use Rattle.rt0.specs.Lists.{any}
-use Rattle.class.specs.Find.{firstOr}
+use Rattle.class.specs.Names.{firstOr}
 use Rattle.record.specs.declared.Pair.{Pair}
 use Rattle.tables.specs.declared.RoleAnswer.{RoleAnswer}
 use Rattle.tables.specs.declared.RoleAnswer.the-variants.{Found, Absent}
-use Rattle.tables.specs.Tables.{Tables}
 
 -- "the direct credential, role from self"
 abbrev pub directOf : ℕ → Role → Credential

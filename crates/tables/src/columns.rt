@@ -4,10 +4,9 @@ use expression::Role;
 use record::Pair;
 ghost use mathlib.Core.Path.{_≡_};
 ghost use Prim.Native.Nat.{_<_, _+_};
-ghost use lib.ListN.{length};
-ghost use Rattle.class.specs.Names.{namesFrom};
-ghost use Rattle.tables.specs.Tables.{pairsFrom, pairAt};
-ghost use Rattle.tables.specs.Columns.{NamesSized, NamesStored, PairsSized, PairsStored};
+ghost use Rattle.class.specs.laws.Names.{namesFrom};
+ghost use Rattle.tables.specs.laws.Tables.{pairsFrom, pairAt};
+ghost use Rattle.tables.specs.laws.Columns.{NamesSized, NamesStored, PairsSized, PairsStored};
 
 // The name x goes into the columns as number i.
 pub fn store_name<'a>(name: &'a mut [u16; 64], class: &'a mut [u8; 64], i: usize, x: Name)

@@ -7,11 +7,15 @@ use record::Pair;
 use record::RecordAnswer;
 use rt0::Pool;
 ghost use mathlib.Core.Path.{_≡_};
-ghost use mathlib.Core.Bool.{cond};
-ghost use Prim.Native.Nat.{ℕ};
 ghost use Rattle.tables.specs.Check.{orElse};
-ghost use Rattle.tables.specs.Decoding.{Housed};
-ghost use Rattle.tables.specs.Group.{rising as risingOf, refusalOf};
+ghost use Rattle.tables.specs.laws.Decoding.{Housed};
+ghost use Rattle.tables.specs.laws.Group.{rising as risingOf, refusalOf};
+pub use lookup::holds;
+pub use lookup::is_direct;
+pub use lookup::is_sensitive;
+pub use lookup::other_of;
+pub use whole::check;
+pub use whole::decode;
 
 mod columns;
 mod lookup;
@@ -19,13 +23,6 @@ mod names;
 mod sensitive;
 mod stored;
 mod whole;
-
-pub use lookup::holds;
-pub use lookup::is_direct;
-pub use lookup::is_sensitive;
-pub use lookup::other_of;
-pub use whole::check;
-pub use whole::decode;
 
 // How many records of a command there may be, and how many bytes.
 const NAMES_MOST: usize = 64;

@@ -10,8 +10,8 @@ use rt0::body_at;
 use rt0::head_at;
 ghost use mathlib.Core.Path.{_≡_};
 ghost use Prim.Native.Nat.{_<_, _≤_};
-ghost use Rattle.rt0.specs.Pool.{poolOf, credentialAt, credentials as credentialsOf};
-ghost use Rattle.tables.specs.Tables.{pairsFrom, pairsOf};
+ghost use Rattle.rt0.specs.laws.Pool.{poolOf, credentialAt, credentials as credentialsOf};
+ghost use Rattle.tables.specs.laws.Tables.{pairsFrom, pairsOf};
 ghost use Rattle.tables.specs.Lookup.{directOf, sameCredential, holds as holdsOf, isSensitive, otherOf, isDirect};
 
 // Whether credential i is role r from self.

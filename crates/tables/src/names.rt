@@ -14,9 +14,9 @@ ghost use mathlib.Core.Path.{_≡_};
 ghost use Prim.Native.Nat.{_<_};
 ghost use lib.ListN.{length};
 ghost use Rattle.record.specs.Record.{recordAt};
-ghost use Rattle.tables.specs.Group.{numberBehind, judgedStep, pickedStep, stepOf};
-ghost use Rattle.tables.specs.Groups.{names as namesGroup, pickName};
-ghost use Rattle.tables.specs.Reading.{nameStep, noNumber, NamesGone};
+ghost use Rattle.tables.specs.laws.Group.{numberBehind, judgedStep, pickedStep, stepOf};
+ghost use Rattle.tables.specs.laws.Groups.{names as namesGroup, pickName};
+ghost use Rattle.tables.specs.laws.Reading.{nameStep, noNumber, NamesGone};
 
 // 0x11, the name and its class.
 const NAME_SIZE: usize = 4;

@@ -25,15 +25,15 @@ ghost use mathlib.Core.Bool.{cond, _&&_};
 ghost use lib.Dec.{eqb};
 ghost use Prim.Native.Nat.{_<_, _≤_};
 ghost use lib.ListN.{length};
-ghost use Rattle.rt0.specs.Pool.{poolOf, credentials};
-ghost use Rattle.class.specs.Names.{namesFrom, namesOf, Ascending};
+ghost use Rattle.rt0.specs.laws.Pool.{poolOf, credentials};
+ghost use Rattle.class.specs.laws.Names.{namesFrom, namesOf, Ascending};
 ghost use Rattle.record.specs.Record.{recordAt};
-ghost use Rattle.tables.specs.Tables.{pairsFrom, pairsOf};
+ghost use Rattle.tables.specs.laws.Tables.{pairsFrom, pairsOf};
 ghost use Rattle.tables.specs.Lookup.{holds as holdsOf, isSensitive};
 ghost use Rattle.tables.specs.Check.{pairNumber};
-ghost use Rattle.tables.specs.Group.{behind, numberBehind, judgedStep, pickedStep, stepOf};
-ghost use Rattle.tables.specs.Groups.{pairs as pairsGroup, pairsMost, pickPair};
-ghost use Rattle.tables.specs.Reading.{pairStep, tablesFor, PairsGone};
+ghost use Rattle.tables.specs.laws.Group.{behind, numberBehind, judgedStep, pickedStep, stepOf};
+ghost use Rattle.tables.specs.laws.Groups.{pairs as pairsGroup, pairsMost, pickPair};
+ghost use Rattle.tables.specs.laws.Reading.{pairStep, tablesFor, PairsGone};
 
 // 0x14 or 0x15 and two roles.
 const PAIR_SIZE: usize = 9;

@@ -23,12 +23,12 @@ use rt0::store;
 ghost use mathlib.Core.Path.{_≡_};
 ghost use Prim.Native.Nat.{_<_, _≤_};
 ghost use lib.ListN.{length};
-ghost use Rattle.class.specs.Names.{namesFrom, namesOf, Ascending};
+ghost use Rattle.class.specs.laws.Names.{namesFrom, namesOf, Ascending};
 ghost use Rattle.record.specs.Record.{recordAt};
 ghost use Rattle.tables.specs.Check.{suitsStorage, storedNumber};
-ghost use Rattle.tables.specs.Group.{numberBehind, judgedStep, pickedStep, stepOf};
-ghost use Rattle.tables.specs.Groups.{credentialsOf, pickStored};
-ghost use Rattle.tables.specs.Reading.{storedStep, StoredGone};
+ghost use Rattle.tables.specs.laws.Group.{numberBehind, judgedStep, pickedStep, stepOf};
+ghost use Rattle.tables.specs.laws.Groups.{credentialsOf, pickStored};
+ghost use Rattle.tables.specs.laws.Reading.{storedStep, StoredGone};
 
 // 0x12 or 0x13 and the 22 bytes of a credential.
 const STORED_SIZE: usize = 23;

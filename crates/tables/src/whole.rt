@@ -22,14 +22,15 @@ ghost use mathlib.Core.Path.{_≡_};
 ghost use mathlib.Core.List.{[]};
 ghost use Prim.Native.Nat.{_<_, _≤_};
 ghost use lib.ListN.{length};
-ghost use Rattle.rt0.specs.Pool.{poolOf, credentials};
-ghost use Rattle.class.specs.Names.{namesFrom, namesOf, Ascending};
+ghost use Rattle.rt0.specs.laws.Pool.{poolOf, credentials};
+ghost use Rattle.class.specs.laws.Names.{namesFrom, namesOf, Ascending};
 ghost use Rattle.record.specs.Record.{recordAt};
-ghost use Rattle.tables.specs.Tables.{pairsFrom, pairsOf};
-ghost use Rattle.tables.specs.Check.{classNumber, sized as sizedOf, readTables, checkOf, outcomeOf};
-ghost use Rattle.tables.specs.Reading.{tablesFor};
-ghost use Rattle.tables.specs.Passed.{Passed};
-ghost use Rattle.tables.specs.Decoding.{firstRecord, leftNumber, outOfOrder, withoutPairs, Housed, Decodes};
+ghost use Rattle.tables.specs.laws.Tables.{pairsFrom, pairsOf};
+ghost use Rattle.tables.specs.Check.{classNumber, sized as sizedOf, readTables, checkOf};
+ghost use Rattle.tables.specs.laws.Check.{outcomeOf};
+ghost use Rattle.tables.specs.laws.Reading.{tablesFor};
+ghost use Rattle.tables.specs.laws.Passed.{Passed};
+ghost use Rattle.tables.specs.laws.Decoding.{firstRecord, leftNumber, withoutPairs, Housed, Decodes};
 
 // 0x10 and self.
 const OWN_SIZE: usize = 3;

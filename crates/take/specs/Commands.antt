@@ -3,15 +3,13 @@
 use Prim.Native.Nat.{ℕ, zero, suc, _+_}
 use mathlib.Core.Bool.{Bool, true, false, cond, _||_}
 use mathlib.Core.List.{List}
-use lib.Dec.{eqb}
 use Rattle.class.specs.declared.Name.{Name}
 use Rattle.message.specs.declared.Command.{Command}
 use Rattle.message.specs.declared.Command.the-variants.{Show, Open, Bring, Join, Mark, End}
 use Rattle.message.specs.declared.CommandAnswer.{CommandAnswer}
 use Rattle.message.specs.declared.CommandAnswer.the-variants.{Read, Refused}
 use Rattle.message.specs.Command.{commandAt, sizeOf}
-use Rattle.negotiation.specs.State.{State, stateOf}
-use Rattle.take.specs.declared.Taking.{Taking}
+use Rattle.negotiation.specs.State.{State}
 use Rattle.update.specs.Step.{stepped, isMove}
 use Rattle.update.specs.Legal.{legalNumber}
 
@@ -42,7 +40,3 @@ onCommand next ns s S moved (Read c) = judged (legalNumber ns s S c) (cond (isEn
 unfoldable pub commandsFrom : ℕ → List Name → ℕ → List ℕ → ℕ → State → Bool → Taken
 commandsFrom zero ns s m at S moved = refused 2
 commandsFrom (suc f) ns s m at S moved = onCommand (λ size T v. commandsFrom f ns s m (at + size) T v) ns s S moved (commandAt m at)
-
--- what the code's answer is
-unfoldable pub takenOf : Taking → Taken
-takenOf r = cond (eqb (r .refusal) 0) (taken (stateOf (r .negotiation)) (r .moved)) (refused (r .refusal))

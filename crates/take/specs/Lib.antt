@@ -1,12 +1,5 @@
 pub mod Commands
-pub mod KeptLaws
-pub mod CommandsLaws
-pub mod CommandsKept
 pub mod Take
-pub mod TakeKept
-pub mod TakeLaws
 pub mod Message
 pub mod Call
-pub mod TakenExactly
-pub mod RefusedExactly
-pub mod TakePublic
+pub mod laws

@@ -5,12 +5,11 @@ use mathlib.Core.List.{List}
 use lib.Dec.{eqb, leb}
 use lib.ListN.{length}
 use Rattle.tables.specs.Tables.{Tables}
-use Rattle.negotiation.specs.State.{State, stateOf}
+use Rattle.negotiation.specs.State.{State}
 use Rattle.negotiation.specs.Layout.{stateBytes, zeros}
 use Rattle.damage.specs.Restored as R
 use Rattle.update.specs.Step.{otherSide}
 use Rattle.update.specs.After.{afterMessage}
-use Rattle.take.specs.declared.Taking.{Taking}
 use Rattle.take.specs.Commands as C
 
 -- "the mediator sends when it is even": whether side s sends once n messages are counted
@@ -64,7 +63,3 @@ negotiationLeft before (accepted S) = stateBytes S
 abbrev pub scratchLeft : List ℕ → Outcome → List ℕ
 scratchLeft before (refused k) = before
 scratchLeft before (accepted S) = zeros (length before)
-
--- what the code's answer is
-unfoldable pub outcomeOf : Taking → Outcome
-outcomeOf r = cond (eqb (r .refusal) 0) (accepted (stateOf (r .negotiation))) (refused (r .refusal))

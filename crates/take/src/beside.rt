@@ -12,10 +12,11 @@ use update::satisfied_nodes;
 ghost use mathlib.Core.Path.{_≡_};
 ghost use mathlib.Core.Bool.{true, false};
 ghost use Prim.Native.Nat.{_≤_};
-ghost use Rattle.graph.specs.Graph.{nodesOf, edgesOf};
-ghost use Rattle.states.specs.Brings.{NodesFormed};
-ghost use Rattle.negotiation.specs.State.{stateOf, within};
-ghost use Rattle.take.specs.KeptLaws.{isCredential, Settled, Ready, Carried};
+ghost use Rattle.graph.specs.laws.Graph.{nodesOf, edgesOf};
+ghost use Rattle.states.specs.laws.Brings.{NodesFormed};
+ghost use Rattle.negotiation.specs.laws.State.{stateOf};
+ghost use Rattle.negotiation.specs.State.{within};
+ghost use Rattle.take.specs.laws.Kept.{isCredential, Settled, Ready, Carried};
 
 // Whether a command shows a credential.
 pub fn is_credential(c: Command) -> bool

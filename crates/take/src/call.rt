@@ -13,13 +13,15 @@ ghost use mathlib.Core.Path.{_≡_};
 ghost use mathlib.Core.Bool.{true};
 ghost use Prim.Native.Nat.{_≤_, _<_};
 ghost use lib.ListN.{length};
-ghost use Rattle.tables.specs.Tables.{tablesOf};
-ghost use Rattle.tables.specs.Decoding.{Housed};
-ghost use Rattle.negotiation.specs.State.{stateOf, within};
+ghost use Rattle.tables.specs.laws.Tables.{tablesOf};
+ghost use Rattle.tables.specs.laws.Decoding.{Housed};
+ghost use Rattle.negotiation.specs.laws.State.{stateOf};
+ghost use Rattle.negotiation.specs.State.{within};
 ghost use Rattle.damage.specs.Damage.{sound};
 ghost use Rattle.update.specs.Step.{otherSide};
-ghost use Rattle.take.specs.CommandsLaws.{Room};
-ghost use Rattle.take.specs.Take.{sends as sendsAt, messageSize, takenIn, takeOf, answerOf, negotiationLeft, scratchLeft, outcomeOf};
+ghost use Rattle.take.specs.laws.Commands.{Room};
+ghost use Rattle.take.specs.Take.{sends as sendsAt, messageSize, takenIn, takeOf, answerOf, negotiationLeft, scratchLeft};
+ghost use Rattle.take.specs.laws.Take.{outcomeOf};
 
 // Why a call is refused: not that side's turn, already ended.
 pub const TURN: u64 = 21;

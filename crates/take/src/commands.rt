@@ -21,14 +21,15 @@ ghost use mathlib.Core.Path.{_≡_};
 ghost use mathlib.Core.Bool.{true, false};
 ghost use Prim.Native.Nat.{_≤_};
 ghost use lib.ListN.{length};
-ghost use Rattle.class.specs.Names.{namesOf, Ascending};
-ghost use Rattle.graph.specs.Graph.{nodesOf, edgesOf};
-ghost use Rattle.states.specs.Brings.{NodesFormed};
-ghost use Rattle.negotiation.specs.State.{stateOf, within};
+ghost use Rattle.class.specs.laws.Names.{namesOf, Ascending};
+ghost use Rattle.graph.specs.laws.Graph.{nodesOf, edgesOf};
+ghost use Rattle.states.specs.laws.Brings.{NodesFormed};
+ghost use Rattle.negotiation.specs.laws.State.{stateOf};
+ghost use Rattle.negotiation.specs.State.{within};
 ghost use Rattle.update.specs.Legal.{legalNumber};
-ghost use Rattle.update.specs.Judged.{Proves, SaysFor};
-ghost use Rattle.take.specs.Commands.{isEnd, commandsFrom, takenOf};
-ghost use Rattle.take.specs.CommandsLaws.{refusalOf, Room};
+ghost use Rattle.update.specs.laws.Judged.{Proves, SaysFor};
+ghost use Rattle.take.specs.Commands.{isEnd, commandsFrom};
+ghost use Rattle.take.specs.laws.Commands.{takenOf, refusalOf, Room};
 
 // The number of a command that was not read.
 fn refusal_of(a: CommandAnswer) -> u64

@@ -1,10 +1,4 @@
 // Take a message.
-use negotiation::Negotiation;
-
-mod beside;
-mod call;
-mod commands;
-
 pub use call::ENDED;
 pub use call::MESSAGE;
 pub use call::SCRATCH;
@@ -12,6 +6,11 @@ pub use call::TURN;
 pub use call::sends;
 pub use call::take;
 pub use commands::take_commands;
+use negotiation::Negotiation;
+
+mod beside;
+mod call;
+mod commands;
 
 // The negotiation that the commands of a message lead to, and whether an open, an edge or a mark was among them, where the refusal is 0; else
 // they do not count.

@@ -4,10 +4,11 @@ use negotiation::Negotiation;
 use states::state_of;
 ghost use mathlib.Core.Path.{_≡_};
 ghost use mathlib.Core.Bool.{true};
-ghost use Prim.Native.Nat.{_≤_, _<_};
-ghost use Rattle.graph.specs.Graph.{nodesOf, edgesOf};
-ghost use Rattle.states.specs.Brings.{NodesFormed, EdgesFormed};
-ghost use Rattle.negotiation.specs.State.{stateOf, within};
+ghost use Prim.Native.Nat.{_<_};
+ghost use Rattle.graph.specs.laws.Graph.{nodesOf, edgesOf};
+ghost use Rattle.states.specs.laws.Brings.{NodesFormed, EdgesFormed};
+ghost use Rattle.negotiation.specs.laws.State.{stateOf};
+ghost use Rattle.negotiation.specs.State.{within};
 ghost use Rattle.update.specs.After.{endOf, isStalled, idleOf, headerAfter, afterMessage};
 
 // Success, failed, stalled, full, in this order; else none.

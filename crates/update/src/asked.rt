@@ -19,13 +19,13 @@ ghost use mathlib.Core.Path.{_≡_};
 ghost use mathlib.Core.List.{[]};
 ghost use Prim.Native.Nat.{_≤_};
 ghost use Rattle.rt0.specs.Decide.{from? as fromOf};
-ghost use Rattle.rt0.specs.Pool.{poolOf, credentials as credentialsOf};
-ghost use Rattle.closure.specs.Rules.{rulesOf};
-ghost use Rattle.graph.specs.Graph.{nodesOf};
+ghost use Rattle.rt0.specs.laws.Pool.{poolOf, credentials as credentialsOf};
+ghost use Rattle.closure.specs.laws.Rules.{rulesOf};
+ghost use Rattle.graph.specs.laws.Graph.{nodesOf};
 ghost use Rattle.message.specs.declared.Command.the-variants as C;
-ghost use Rattle.negotiation.specs.State.{stateOf};
-ghost use Rattle.update.specs.Known.{Knows};
-ghost use Rattle.update.specs.Judged.{noQuestion, questionIn, KnownFor, Proves};
+ghost use Rattle.negotiation.specs.laws.State.{stateOf};
+ghost use Rattle.update.specs.laws.Known.{Knows};
+ghost use Rattle.update.specs.laws.Judged.{noQuestion, questionIn, KnownFor, Proves};
 
 // Of no credential, and not to be asked.
 pub fn unknown() -> Known

@@ -18,13 +18,16 @@ ghost use mathlib.Core.Path.{_≡_};
 ghost use mathlib.Core.Bool.{true};
 ghost use Prim.Native.Nat.{_≤_};
 ghost use Rattle.rt0.specs.Lists.{any};
-ghost use Rattle.graph.specs.Graph.{nodesOf, edgesOf, nodeIn};
-ghost use Rattle.states.specs.Brings.{NodesFormed};
-ghost use Rattle.justification.specs.Justified.{monitors, Says};
+ghost use Rattle.graph.specs.laws.Graph.{nodesOf, edgesOf};
+ghost use Rattle.graph.specs.Graph.{nodeIn};
+ghost use Rattle.states.specs.laws.Brings.{NodesFormed};
+ghost use Rattle.justification.specs.Justified.{monitors};
+ghost use Rattle.justification.specs.laws.Justified.{Says};
 ghost use Rattle.message.specs.declared.Command.the-variants as C;
-ghost use Rattle.negotiation.specs.State.{stateOf, within};
+ghost use Rattle.negotiation.specs.laws.State.{stateOf};
+ghost use Rattle.negotiation.specs.State.{within};
 ghost use Rattle.update.specs.Legal.{justifiedIn};
-ghost use Rattle.update.specs.Judged.{isImplication, isLinking, Proves, SaysFor};
+ghost use Rattle.update.specs.laws.Judged.{isImplication, isLinking, Proves, SaysFor};
 
 // Which nodes are satisfied.
 pub fn satisfied_nodes(nodes: Nodes, edges: Edges) -> [u8; 128]

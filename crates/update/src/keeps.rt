@@ -14,11 +14,11 @@ use word::wide;
 ghost use mathlib.Core.Path.{_≡_};
 ghost use mathlib.Core.Bool.{true};
 ghost use Prim.Native.Nat.{_≤_};
-ghost use Rattle.graph.specs.Graph.{nodesOf, edgesOf};
-ghost use Rattle.propagation.specs.Flags.{flag};
+ghost use Rattle.graph.specs.laws.Graph.{nodesOf, edgesOf};
+ghost use Rattle.propagation.specs.laws.Flags.{flag};
 ghost use Rattle.message.specs.declared.Command.the-variants as C;
-ghost use Rattle.update.specs.SameStates.{isParts, Inside};
-ghost use Rattle.update.specs.KeepsStates.{bringsNothing, keepsStates};
+ghost use Rattle.update.specs.laws.SameStates.{isParts, Inside};
+ghost use Rattle.update.specs.laws.KeepsStates.{bringsNothing, keepsStates};
 
 const PROCESSED: u8 = 3;
 

@@ -8,19 +8,10 @@ use rt0::Pool;
 ghost use mathlib.Core.Path.{_≡_};
 ghost use mathlib.Core.Bool.{true};
 ghost use Prim.Native.Nat.{_≤_};
-ghost use Rattle.class.specs.Names.{namesOf, Ascending};
-ghost use Rattle.negotiation.specs.State.{stateOf, within};
+ghost use Rattle.class.specs.laws.Names.{namesOf, Ascending};
+ghost use Rattle.negotiation.specs.laws.State.{stateOf};
+ghost use Rattle.negotiation.specs.State.{within};
 ghost use Rattle.update.specs.Legal.{legalBy};
-
-mod after;
-mod asked;
-mod edges;
-mod justify;
-mod keeps;
-mod numbers;
-mod sides;
-mod steps;
-
 pub use after::after_message;
 pub use asked::is_proved;
 pub use asked::known_of;
@@ -41,6 +32,15 @@ pub use sides::is_processed;
 pub use steps::is_move;
 pub use steps::node_of;
 pub use steps::step;
+
+mod after;
+mod asked;
+mod edges;
+mod justify;
+mod keeps;
+mod numbers;
+mod sides;
+mod steps;
 
 // Why a command is refused: any but open while no node stands, or open later; no such node; wrong form or already present; not justified;
 // processed by the sender; a size passed.

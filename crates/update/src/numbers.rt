@@ -17,8 +17,8 @@ use negotiation::Negotiation;
 use word::wide;
 ghost use mathlib.Core.Path.{_≡_};
 ghost use Prim.Native.Nat.{_≤_};
-ghost use Rattle.class.specs.Names.{namesOf, Ascending};
-ghost use Rattle.negotiation.specs.State.{stateOf};
+ghost use Rattle.class.specs.laws.Names.{namesOf, Ascending};
+ghost use Rattle.negotiation.specs.laws.State.{stateOf};
 ghost use Rattle.update.specs.Legal.{showNumber, openNumber, markNumber, endNumber};
 
 pub fn show_number(names: Names, n: Negotiation, c: Credential) -> u64

@@ -14,9 +14,11 @@ use word::wide;
 ghost use mathlib.Core.Path.{_≡_};
 ghost use mathlib.Core.Bool.{true};
 ghost use Prim.Native.Nat.{_≤_, _<_};
-ghost use Rattle.graph.specs.Graph.{nodesOf, nodeIn};
+ghost use Rattle.graph.specs.laws.Graph.{nodesOf};
+ghost use Rattle.graph.specs.Graph.{nodeIn};
 ghost use Rattle.message.specs.declared.Command.the-variants as C;
-ghost use Rattle.negotiation.specs.State.{stateOf, within};
+ghost use Rattle.negotiation.specs.laws.State.{stateOf};
+ghost use Rattle.negotiation.specs.State.{within};
 ghost use Rattle.update.specs.Step.{stepped, isMove, hasRoom};
 
 // Node i.

@@ -1,11 +1,8 @@
 use borrow.Author.Needs.{needs}
 use mathlib.Core.Bool.{true, false}
-use Rattle.begin.specs.BeginLaws.{side-by}
+use Rattle.begin.specs.laws.Begin.{side-by}
 use Rattle.begin.proofs.side_of.Statement.{statement}
 use Rattle.begin.proofs.side_of.Tie as tie
-
-is-requester-requires : tie.Need-is-requester-requires
-is-requester-requires c κs = search needs
 
 returns : tie.Need-returns
 returns c = side-by (c .before .before .args .entity) (c .before .before .args .name) (c .before .is-requester .ensures) true (c .if1 .taken)
@@ -14,4 +11,4 @@ returns-2 : tie.Need-returns-2
 returns-2 c = side-by (c .before .before .args .entity) (c .before .before .args .name) (c .before .is-requester .ensures) false (c .if1 .left)
 
 pub side-of-spec : {M : Type 1} → statement M
-side-of-spec = tie.close (tie.spec is-requester-requires returns returns-2)
+side-of-spec = tie.close (tie.spec (λ c κs. search needs) returns returns-2)

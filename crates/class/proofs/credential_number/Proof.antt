@@ -6,18 +6,9 @@ use Rattle.class.specs.Typing.{isUnnamed, suits, credentialNumber}
 use Rattle.class.proofs.credential_number.Statement.{statement}
 use Rattle.class.proofs.credential_number.Tie as tie
 
-class-of-requires : tie.Need-class-of-requires
-class-of-requires c κs = search needs
-
 returns : tie.Need-returns
 unfolding credentialNumber
 returns c = rw (eq-eqb _ _ (sym (c .before .class-of .ensures) ∙ c .if1 .taken))
-
-type-of-requires : tie.Need-type-of-requires
-type-of-requires c κs = search needs
-
-suits-requires : tie.Need-suits-requires
-suits-requires c κs = search needs
 
 returns-2 : tie.Need-returns-2
 unfolding credentialNumber
@@ -25,4 +16,4 @@ returns-2 c = rw (ne-eqb _ _ (λ q. c .before .before .if1 .left (c .before .bef
 
 pub credential-number-spec : {M : Type 1} → statement M
 credential-number-spec =
-    tie.close (tie.spec class-of-requires returns type-of-requires suits-requires returns-2)
+    tie.close (tie.spec (λ c κs. search needs) returns (λ c κs. search needs) (λ c κs. search needs) returns-2)

@@ -1,4 +1,4 @@
-use Rattle.class.specs.TypingLaws.{together-four}
+use Rattle.class.specs.laws.Typing.{together-four}
 use Rattle.class.proofs.meet.Statement.{statement}
 use Rattle.class.proofs.meet.Tie as tie
 

@@ -4,45 +4,6 @@ use Rattle.class.specs.Typing.{named as namedOf, linked as linkedOf, typ
 use Rattle.class.proofs.type_of.Statement.{statement}
 use Rattle.class.proofs.type_of.Tie as tie
 
-enum-told : tie.Need-enum-told
-enum-told c = search needs
-
-enum-known-x : tie.Need-enum-known-x
-enum-known-x c = search needs
-
-class-of-requires : tie.Need-class-of-requires
-class-of-requires c κs = search needs
-
-named-requires : tie.Need-named-requires
-named-requires c κs = search needs
-
-enum-known-x-2 : tie.Need-enum-known-x-2
-enum-known-x-2 c = search needs
-
-class-of-requires-2 : tie.Need-class-of-requires-2
-class-of-requires-2 c κs = search needs
-
-class-of-requires-3 : tie.Need-class-of-requires-3
-class-of-requires-3 c κs = search needs
-
-linked-requires : tie.Need-linked-requires
-linked-requires c κs = search needs
-
-enum-known-x-3 : tie.Need-enum-known-x-3
-enum-known-x-3 c = search needs
-
-type-of-parts-requires : tie.Need-type-of-parts-requires
-type-of-parts-requires c κs = search needs
-
-enum-known-x-4 : tie.Need-enum-known-x-4
-enum-known-x-4 c = search needs
-
-class-of-requires-4 : tie.Need-class-of-requires-4
-class-of-requires-4 c κs = search needs
-
-named-requires-2 : tie.Need-named-requires-2
-named-requires-2 c κs = search needs
-
 returns : tie.Need-returns
 unfolding typeOf
 returns c = rw (c .enum-told .given .1)
@@ -66,19 +27,19 @@ pub type-of-spec : {M : Type 1} → statement M
 type-of-spec =
     tie.close
     (tie.spec
-    enum-told
-    enum-known-x
-    class-of-requires
-    named-requires
-    enum-known-x-2
-    class-of-requires-2
-    class-of-requires-3
-    linked-requires
-    enum-known-x-3
-    type-of-parts-requires
-    enum-known-x-4
-    class-of-requires-4
-    named-requires-2
+    (λ c. search needs)
+    (λ c. search needs)
+    (λ c κs. search needs)
+    (λ c κs. search needs)
+    (λ c. search needs)
+    (λ c κs. search needs)
+    (λ c κs. search needs)
+    (λ c κs. search needs)
+    (λ c. search needs)
+    (λ c κs. search needs)
+    (λ c. search needs)
+    (λ c κs. search needs)
+    (λ c κs. search needs)
     returns
     returns-2
     returns-3

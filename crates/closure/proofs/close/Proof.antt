@@ -1,7 +1,7 @@
 use native.Mathlib.Omega.{arith}
 use borrow.Author.Tests.{ltb-true, ltb-false}
-use Rattle.closure.specs.Rules.{rulesOf}
-use Rattle.closure.specs.Laws.{CloseTo, left, close-start, close-pass, close-less, close-all}
+use Rattle.closure.specs.laws.Rules.{rulesOf}
+use Rattle.closure.specs.laws.Laws.{CloseTo, left, close-start, close-pass, close-less, close-all}
 use Rattle.closure.proofs.close.Statement.{statement}
 use Rattle.closure.proofs.close.Tie as tie
 

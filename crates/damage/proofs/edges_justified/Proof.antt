@@ -1,7 +1,6 @@
 use Rattle.graph.specs.declared.Nodes.{Nodes}
-use Rattle.graph.specs.Graph.{nodesFrom}
-use Rattle.damage.specs.DamageLaws.{not-implied, both-justified}
-use borrow.Author.Needs.{needs}
+use Rattle.graph.specs.laws.Graph.{nodesFrom}
+use Rattle.damage.specs.laws.Damage.{not-implied, both-justified}
 use Rattle.damage.proofs.edges_justified.Statement.{statement}
 use Rattle.damage.proofs.edges_justified.Tie as tie
 

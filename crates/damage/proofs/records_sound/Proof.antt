@@ -1,19 +1,13 @@
-use Rattle.damage.specs.DamageLaws.{records-nodes, records-primary, records-shown}
+use Rattle.damage.specs.laws.Damage.{records-nodes, records-primary, records-shown}
 use borrow.Author.Needs.{needs}
 use Rattle.damage.proofs.records_sound.Statement.{statement}
 use Rattle.damage.proofs.records_sound.Tie as tie
-
-nodes-fit-requires : tie.Need-nodes-fit-requires
-nodes-fit-requires c κs = search needs
 
 returns : tie.Need-returns
 returns c = λ es. records-nodes _ _ (c .before .nodes-fit .ensures) (c .if1 .taken)
 
 node-at-requires : tie.Need-node-at-requires
 node-at-requires c κs = ((c .before .before .pre .2), (c .before .before .pre .3))
-
-primary-sound-requires : tie.Need-primary-sound-requires
-primary-sound-requires c κs = search needs
 
 returns-2 : tie.Need-returns-2
 returns-2 c = λ es. records-primary _ _ (c .before .before .before .before .nodes-fit .ensures) (c .before .before .before .if1 .left) (c .before .before .node-at .ensures) (c .before .primary-sound .ensures) (c .if2 .taken)
@@ -28,10 +22,10 @@ pub records-sound-spec : {M : Type 1} → statement M
 records-sound-spec =
     tie.close
     (tie.spec
-    nodes-fit-requires
+    (λ c κs. search needs)
     returns
     node-at-requires
-    primary-sound-requires
+    (λ c κs. search needs)
     returns-2
     shown-fit-requires
     returns-3)

@@ -1,18 +1,12 @@
-use Rattle.negotiation.specs.Within.{within-few}
+use Rattle.negotiation.specs.laws.Within.{within-few}
 use native.Mathlib.Omega.{arith}
-use Rattle.damage.specs.DamageLaws.{sound-header, sound-empty, sound-graph}
+use Rattle.damage.specs.laws.Damage.{sound-header, sound-empty, sound-graph}
 use borrow.Author.Needs.{needs}
 use Rattle.damage.proofs.sound.Statement.{statement}
 use Rattle.damage.proofs.sound.Tie as tie
 
-header-sound-requires : tie.Need-header-sound-requires
-header-sound-requires c κs = search needs
-
 returns : tie.Need-returns
 returns c = sound-header _ _ (c .before .header-sound .ensures) (c .if1 .taken)
-
-empty-sound-requires : tie.Need-empty-sound-requires
-empty-sound-requires c κs = search needs
 
 returns-2 : tie.Need-returns-2
 returns-2 c = sound-empty _ _ (c .before .before .before .before .header-sound .ensures) (c .before .before .before .if1 .left) (c .before .if2 .taken) (c .empty-sound .ensures)
@@ -27,9 +21,9 @@ pub sound-spec : {M : Type 1} → statement M
 sound-spec =
     tie.close
     (tie.spec
-    header-sound-requires
+    (λ c κs. search needs)
     returns
-    empty-sound-requires
+    (λ c κs. search needs)
     returns-2
     graph-sound-requires
     returns-3)

@@ -6,26 +6,8 @@ use borrow.Author.Needs.{needs}
 use Rattle.expression.proofs.form.Statement.{statement}
 use Rattle.expression.proofs.form.Tie as tie
 
-candidate-requires : tie.Need-candidate-requires
-candidate-requires c κs = search needs
-
-enum-known-e : tie.Need-enum-known-e
-enum-known-e c = search needs
-
-enum-told : tie.Need-enum-told
-enum-told c = search needs
-
 returns : tie.Need-returns
 returns c = sym (ap (checked _) (sym (c .before .before .candidate .ensures) ∙ c .enum-told .given .1))
-
-raw-of-requires : tie.Need-raw-of-requires
-raw-of-requires c κs = search needs
-
-same-raw-requires : tie.Need-same-raw-requires
-same-raw-requires c κs = search needs
-
-well-formed-requires : tie.Need-well-formed-requires
-well-formed-requires c κs = search needs
 
 returns-2 : tie.Need-returns-2
 returns-2 c =
@@ -47,12 +29,12 @@ pub form-spec : {M : Type 1} → statement M
 form-spec =
     tie.close
     (tie.spec
-    candidate-requires
-    enum-known-e
-    enum-told
+    (λ c κs. search needs)
+    (λ c. search needs)
+    (λ c. search needs)
     returns
-    raw-of-requires
-    same-raw-requires
-    well-formed-requires
+    (λ c κs. search needs)
+    (λ c κs. search needs)
+    (λ c κs. search needs)
     returns-2
     returns-3)

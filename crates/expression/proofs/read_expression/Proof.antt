@@ -4,14 +4,8 @@ use borrow.Author.Needs.{needs}
 use Rattle.expression.proofs.read_expression.Statement.{statement}
 use Rattle.expression.proofs.read_expression.Tie as tie
 
-raw-at-requires : tie.Need-raw-at-requires
-raw-at-requires c κs = search needs
-
-form-requires : tie.Need-form-requires
-form-requires c κs = search needs
-
 returns : tie.Need-returns
 returns c = c .form .ensures ∙ ap formOf (c .before .raw-at .ensures)
 
 pub read-expression-spec : {M : Type 1} → statement M
-read-expression-spec = tie.close (tie.spec raw-at-requires form-requires returns)
+read-expression-spec = tie.close (tie.spec (λ c κs. search needs) (λ c κs. search needs) returns)

@@ -3,33 +3,6 @@ use borrow.Author.Needs.{needs}
 use Rattle.expression.proofs.tail_formed.Statement.{statement}
 use Rattle.expression.proofs.tail_formed.Tie as tie
 
-is-empty-requires : tie.Need-is-empty-requires
-is-empty-requires c κs = search needs
-
-is-empty-requires-2 : tie.Need-is-empty-requires-2
-is-empty-requires-2 c κs = search needs
-
-is-role-requires : tie.Need-is-role-requires
-is-role-requires c κs = search needs
-
-ascending-requires : tie.Need-ascending-requires
-ascending-requires c κs = search needs
-
-is-empty-requires-3 : tie.Need-is-empty-requires-3
-is-empty-requires-3 c κs = search needs
-
-is-role-requires-2 : tie.Need-is-role-requires-2
-is-role-requires-2 c κs = search needs
-
-ascending-requires-2 : tie.Need-ascending-requires-2
-ascending-requires-2 c κs = search needs
-
-is-role-requires-3 : tie.Need-is-role-requires-3
-is-role-requires-3 c κs = search needs
-
-ascending-requires-3 : tie.Need-ascending-requires-3
-ascending-requires-3 c κs = search needs
-
 returns : tie.Need-returns
 returns c = simp (c .before .before .match .keys1, c .before .is-empty .ensures, c .is-empty2 .ensures)
 
@@ -46,15 +19,15 @@ pub tail-formed-spec : {M : Type 1} → statement M
 tail-formed-spec =
     tie.close
     (tie.spec
-    is-empty-requires
-    is-empty-requires-2
-    is-role-requires
-    ascending-requires
-    is-empty-requires-3
-    is-role-requires-2
-    ascending-requires-2
-    is-role-requires-3
-    ascending-requires-3
+    (λ c κs. search needs)
+    (λ c κs. search needs)
+    (λ c κs. search needs)
+    (λ c κs. search needs)
+    (λ c κs. search needs)
+    (λ c κs. search needs)
+    (λ c κs. search needs)
+    (λ c κs. search needs)
+    (λ c κs. search needs)
     returns
     returns-2
     returns-3

@@ -4,30 +4,6 @@ use borrow.Author.Needs.{needs}
 use Rattle.expression.proofs.well_formed.Statement.{statement}
 use Rattle.expression.proofs.well_formed.Tie as tie
 
-enum-known-e : tie.Need-enum-known-e
-enum-known-e c = search needs
-
-enum-known-e-2 : tie.Need-enum-known-e-2
-enum-known-e-2 c = search needs
-
-is-role-requires : tie.Need-is-role-requires
-is-role-requires c κs = search needs
-
-enum-known-e-3 : tie.Need-enum-known-e-3
-enum-known-e-3 c = search needs
-
-is-role-requires-2 : tie.Need-is-role-requires-2
-is-role-requires-2 c κs = search needs
-
-enum-known-e-4 : tie.Need-enum-known-e-4
-enum-known-e-4 c = search needs
-
-parts-formed-requires : tie.Need-parts-formed-requires
-parts-formed-requires c κs = search needs
-
-enum-known-e-5 : tie.Need-enum-known-e-5
-enum-known-e-5 c = search needs
-
 returns : tie.Need-returns
 returns c = sym (ap wellFormed (c .before .e .given .1))
 
@@ -47,14 +23,14 @@ pub well-formed-spec : {M : Type 1} → statement M
 well-formed-spec =
     tie.close
     (tie.spec
-    enum-known-e
-    enum-known-e-2
-    is-role-requires
-    enum-known-e-3
-    is-role-requires-2
-    enum-known-e-4
-    parts-formed-requires
-    enum-known-e-5
+    (λ c. search needs)
+    (λ c. search needs)
+    (λ c κs. search needs)
+    (λ c. search needs)
+    (λ c κs. search needs)
+    (λ c. search needs)
+    (λ c κs. search needs)
+    (λ c. search needs)
     returns
     returns-2
     returns-3

@@ -1,9 +1,9 @@
 use Prim.Native.Nat.{_-_}
 use native.Mathlib.Omega.{arith}
 use Rattle.expression.specs.declared.Expression.the-variants as E
-use Rattle.rt0.specs.Pool.{poolOf}
-use Rattle.frontier.specs.Queue.{work, Entered}
-use Rattle.frontier.specs.QueueLaws.{enter-start, enter-next, enter-all}
+use Rattle.rt0.specs.laws.Pool.{poolOf}
+use Rattle.frontier.specs.laws.Queue.{work, Entered}
+use Rattle.frontier.specs.laws.QueueLaws.{enter-start, enter-next, enter-all}
 use Rattle.frontier.proofs.enter.Statement.{statement}
 use Rattle.frontier.proofs.enter.Tie as tie
 
@@ -19,12 +19,6 @@ loop-holds c = enter-start _ _ _ _ (c .pre .1)
 join-requires : tie.Need-join-requires Inv-loop μ-loop
 join-requires c κs = (c .before .before .loop-test .taken, c .before .before .before .before .pre .0, c .before .before .before .loop .inv .base)
 
-add-i : tie.Need-add-i Inv-loop μ-loop
-add-i c = omega arith
-
-loop-less : tie.Need-loop-less Inv-loop μ-loop
-loop-less c = omega arith
-
 loop-again : tie.Need-loop-again Inv-loop μ-loop
 loop-again c = enter-next _ (c .before .before .before .before .loop .inv) (c .join .ensures)
 
@@ -34,4 +28,4 @@ returns c = enter-all _ (c .loop-test .left) (c .before .loop .inv)
 pub enter-spec : {M : Type 1} → statement M
 enter-spec =
     tie.close
-    (tie.spec Inv-loop μ-loop loop-holds join-requires add-i loop-less loop-again returns)
+    (tie.spec Inv-loop μ-loop loop-holds join-requires (λ c. omega arith) (λ c. omega arith) loop-again returns)

@@ -1,25 +1,7 @@
 use borrow.Author.Needs.{needs}
-use Rattle.frontier.specs.QueueLaws.{enter-entity, enter-linked, enter-intersection, enter-goal}
+use Rattle.frontier.specs.laws.QueueLaws.{enter-entity, enter-linked, enter-intersection, enter-goal}
 use Rattle.frontier.proofs.enter_body.Statement.{statement}
 use Rattle.frontier.proofs.enter_body.Tie as tie
-
-enum-told : tie.Need-enum-told
-enum-told c = search needs
-
-enum-known-x : tie.Need-enum-known-x
-enum-known-x c = search needs
-
-enter-requires : tie.Need-enter-requires
-enter-requires c κs = search needs
-
-enum-told-2 : tie.Need-enum-told-2
-enum-told-2 c = search needs
-
-enum-told-3 : tie.Need-enum-told-3
-enum-told-3 c = search needs
-
-enum-told-4 : tie.Need-enum-told-4
-enum-told-4 c = search needs
 
 returns : tie.Need-returns
 returns c = enter-entity _ (c .before .before .pre .1) (c .enum-told .given .1)
@@ -40,12 +22,12 @@ pub enter-body-spec : {M : Type 1} → statement M
 enter-body-spec =
     tie.close
     (tie.spec
-    enum-told
-    enum-known-x
-    enter-requires
-    enum-told-2
-    enum-told-3
-    enum-told-4
+    (λ c. search needs)
+    (λ c. search needs)
+    (λ c κs. search needs)
+    (λ c. search needs)
+    (λ c. search needs)
+    (λ c. search needs)
     returns
     returns-2
     returns-3

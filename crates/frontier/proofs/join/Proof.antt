@@ -2,27 +2,15 @@ use native.Mathlib.Omega.{arith}
 use mathlib.Core.Path.{sym, _∙_}
 use borrow.Author.Tests.{not-true, not-false}
 use borrow.Author.Needs.{needs}
-use Rattle.frontier.specs.QueueLaws.{join-stands, join-not, join-room, join-new}
+use Rattle.frontier.specs.laws.QueueLaws.{join-stands, join-not, join-room, join-new}
 use Rattle.frontier.proofs.join.Statement.{statement}
 use Rattle.frontier.proofs.join.Tie as tie
-
-element-copy-out-if1 : tie.Need-element-copy-out-if1
-element-copy-out-if1 c = search needs
 
 returns : tie.Need-returns
 returns c = join-stands _ _ _ _ _ (c .before .before .pre .2) (c .if1 .taken)
 
-is-next-requires : tie.Need-is-next-requires
-is-next-requires c κs = search needs
-
 returns-2 : tie.Need-returns-2
 returns-2 c = join-not _ _ _ _ _ (c .before .before .before .before .pre .2) (sym (c .before .is-next .ensures) ∙ not-true _ (c .if2 .taken))
-
-element-write-found : tie.Need-element-write-found
-element-write-found c = search needs
-
-cast-queue : tie.Need-cast-queue
-cast-queue c = search needs
 
 element-write-queue : tie.Need-element-write-queue
 element-write-queue c = join-room _ _ (c .before .before .before .before .pre .2) (omega arith) (c .before .before .if1 .left)
@@ -37,12 +25,12 @@ pub join-spec : {M : Type 1} → statement M
 join-spec =
     tie.close
     (tie.spec
-    element-copy-out-if1
+    (λ c. search needs)
     returns
-    is-next-requires
+    (λ c κs. search needs)
     returns-2
-    element-write-found
-    cast-queue
+    (λ c. search needs)
+    (λ c. search needs)
     element-write-queue
     add-result
     returns-3)

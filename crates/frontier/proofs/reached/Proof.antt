@@ -1,8 +1,8 @@
 use Prim.Native.Nat.{_-_}
 use native.Mathlib.Omega.{arith}
-use Rattle.rt0.specs.Pool.{poolOf}
-use Rattle.frontier.specs.Queue.{work, Running}
-use Rattle.frontier.specs.QueueLaws.{empty, tail-few, run-start, run-next, run-end, queue-read}
+use Rattle.rt0.specs.laws.Pool.{poolOf}
+use Rattle.frontier.specs.laws.Queue.{work, Running}
+use Rattle.frontier.specs.laws.QueueLaws.{empty, tail-few, run-start, run-next, run-end, queue-read}
 use Rattle.frontier.proofs.reached.Statement.{statement}
 use Rattle.frontier.proofs.reached.Tie as tie
 

@@ -4,10 +4,10 @@ use mathlib.Core.Bool.{Bool}
 use Prim.Native.Nat.{_-_, _≤_}
 use native.Mathlib.Omega.{arith}
 use Rattle.rt0.specs.Decide.{from?}
-use Rattle.rt0.specs.Pool.{poolOf}
-use Rattle.rules.specs.Table.{chosen}
-use Rattle.measure.specs.Repeated.{countOf}
-use Rattle.measure.specs.RepeatedLaws.{count-start, count-yes, count-no, count-most}
+use Rattle.rt0.specs.laws.Pool.{poolOf}
+use Rattle.rules.specs.laws.Table.{chosen}
+use Rattle.measure.specs.laws.Repeated.{countOf}
+use Rattle.measure.specs.laws.RepeatedLaws.{count-start, count-yes, count-no, count-most}
 use Rattle.measure.proofs.ask_times.Statement.{statement}
 use Rattle.measure.proofs.ask_times.Tie as tie
 
@@ -30,12 +30,6 @@ ask-requires c κs = c .before .before .pre
 add-yes : tie.Need-add-yes Inv-loop μ-loop
 add-yes c = omega (arith, count-most _ _ _ (c .before .before .before .loop .inv .1))
 
-add-k : tie.Need-add-k Inv-loop μ-loop
-add-k c = omega arith
-
-loop-less : tie.Need-loop-less Inv-loop μ-loop
-loop-less c = omega arith
-
 loop-again : tie.Need-loop-again Inv-loop μ-loop
 loop-again c = (
   omega arith,
@@ -51,4 +45,4 @@ returns c = c .before .loop .inv .1 ∙ ap (countOf (answer (c .before .before))
 pub ask-times-spec : {M : Type 1} → statement M
 ask-times-spec =
     tie.close
-    (tie.spec Inv-loop μ-loop loop-holds ask-requires add-yes add-k loop-less loop-again returns)
+    (tie.spec Inv-loop μ-loop loop-holds ask-requires add-yes (λ c. omega arith) (λ c. omega arith) loop-again returns)

@@ -3,17 +3,11 @@ use mathlib.Core.Path.{_∙_, ap}
 use Rattle.rt0.specs.Decide.{from?}
 use mathlib.Core.List.{List}
 use Rattle.expression.specs.declared.Credential.{Credential}
-use Rattle.rules.specs.Ruled.{by-columns}
-use Rattle.relation.specs.Reached.{all-on}
-use Rattle.measure.specs.Repeated.{countOf}
+use Rattle.rules.specs.laws.Ruled.{by-columns}
+use Rattle.relation.specs.laws.Reached.{all-on}
+use Rattle.measure.specs.laws.Repeated.{countOf}
 use Rattle.measure.proofs.from_times.Statement.{statement}
 use Rattle.measure.proofs.from_times.Tie as tie
-
-rules-of-requires : tie.Need-rules-of-requires
-rules-of-requires c κs = search needs
-
-readers-requires : tie.Need-readers-requires
-readers-requires c κs = search needs
 
 relation-requires : tie.Need-relation-requires
 relation-requires c κs = (c .before .before .before .before .before .before .before .before .before .before .before .before .before .before .before .before .before .before .before .before .before .before .pre, by-columns (c .before .before .before .before .before .before .before .before .before .before .before .before .before .before .before .before .before .before .before .before .before .before .args .t1) (c .before .before .before .before .before .before .before .before .before .before .before .before .before .before .before .before .before .rules-of .result) (c .before .before .before .before .before .before .before .before .before .before .before .before .before .before .before .before .before .rules-of .ensures))
@@ -26,4 +20,4 @@ returns c = c .ask-times .ensures ∙ ap (λ (C : List Credential). countOf (fro
 
 pub from-times-spec : {M : Type 1} → statement M
 from-times-spec =
-    tie.close (tie.spec rules-of-requires readers-requires relation-requires ask-times-requires returns)
+    tie.close (tie.spec (λ c κs. search needs) (λ c κs. search needs) relation-requires ask-times-requires returns)

@@ -5,14 +5,14 @@ use native.Mathlib.Omega.{arith}
 use borrow.Author.Tests.{not-true, not-false}
 use Prim.Native.Nat.{ℕ}
 use lib.ListN.{length}
-use Rattle.rt0.specs.Pool.{credentials}
+use Rattle.rt0.specs.laws.Pool.{credentials}
 use Rattle.expression.specs.declared.ExpressionAnswer.{ExpressionAnswer}
 use Rattle.expression.specs.declared.ExpressionAnswer.the-variants.{Read}
 use Rattle.question.specs.Credentials.{listed}
-use Rattle.question.specs.CredentialsLaws.{listed-all, listed-refused, list-refusal}
+use Rattle.question.specs.laws.Credentials.{listed-all, listed-refused, list-refusal}
 use Rattle.question.specs.Question.{sized, operandOf, answered, questionOf}
-use Rattle.question.specs.QuestionLaws.{true-sized, question-outside, question-inside}
-use Rattle.measure.specs.RepeatedLaws.{count-most, repeated-refused, repeated-answer}
+use Rattle.question.specs.laws.Question.{true-sized, question-outside, question-inside}
+use Rattle.measure.specs.laws.RepeatedLaws.{count-most, repeated-refused, repeated-answer}
 use borrow.Author.Needs.{needs}
 use Rattle.measure.proofs.measure_questions.Statement.{statement}
 use Rattle.measure.proofs.measure_questions.Tie as tie
@@ -37,9 +37,6 @@ with-first : (c : tie.After-known-told) {q : ExpressionAnswer} → operandOf (c 
     → answered (listed (credentials (c .before .before .before .before .before .before .list .result .pool))) (Read (c .before .x .given .0 .0)) q ≡ answerAt (c .before .before .before .before .before .before .before .before .before .before .before .before)
 with-first c k = with-list (c .before .before .before .before) (sym (c .before .before .before .operand .ensures) ∙ c .before .x .given .1) k
 
-sized-requires : tie.Need-sized-requires
-sized-requires c κs = search needs
-
 returns : tie.Need-returns
 returns c = repeated-refused _ _ _ (inl refl) (question-outside _ _ _ (sym (c .before .sized .ensures) ∙ not-true _ (c .if1 .taken)))
 
@@ -54,29 +51,14 @@ returns-2 c =
 operand-requires : tie.Need-operand-requires
 operand-requires c κs = true-sized _ _ _ (inside (c .before .before .before)) .first
 
-enum-known-x : tie.Need-enum-known-x
-enum-known-x c = search needs
-
-enum-told : tie.Need-enum-told
-enum-told c = search needs
-
 returns-3 : tie.Need-returns-3
 returns-3 c = repeated-refused _ _ _ (inr (inr refl)) (with-list (c .before .before .before) (sym (c .before .before .operand .ensures) ∙ c .enum-told .given .1) refl)
 
 operand-requires-2 : tie.Need-operand-requires-2
 operand-requires-2 c κs = true-sized _ _ _ (inside (c .before .before .before .before .before .before .before)) .second
 
-enum-known-y : tie.Need-enum-known-y
-enum-known-y c = search needs
-
-enum-told-2 : tie.Need-enum-told-2
-enum-told-2 c = search needs
-
 returns-4 : tie.Need-returns-4
 returns-4 c = repeated-refused _ _ _ (inr (inr refl)) (with-first (c .before .before .before) (sym (c .before .before .operand2 .ensures) ∙ c .enum-told2 .given .1))
-
-from-times-requires : tie.Need-from-times-requires
-from-times-requires c κs = search needs
 
 mul-result : tie.Need-mul-result
 mul-result c = omega (arith, count-most _ _ _ (c .from-times .ensures))
@@ -88,18 +70,18 @@ pub measure-questions-spec : {M : Type 1} → statement M
 measure-questions-spec =
     tie.close
     (tie.spec
-    sized-requires
+    (λ c κs. search needs)
     returns
     list-requires
     returns-2
     operand-requires
-    enum-known-x
-    enum-told
+    (λ c. search needs)
+    (λ c. search needs)
     returns-3
     operand-requires-2
-    enum-known-y
-    enum-told-2
+    (λ c. search needs)
+    (λ c. search needs)
     returns-4
-    from-times-requires
+    (λ c κs. search needs)
     mul-result
     returns-5)

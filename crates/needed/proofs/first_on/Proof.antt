@@ -1,7 +1,7 @@
 use Prim.Native.Nat.{_-_, _≤_}
 use native.Mathlib.Omega.{arith}
-use Rattle.needed.specs.Columns.{FirstOn}
-use Rattle.needed.specs.ColumnLaws.{first-start, first-add, first-end}
+use Rattle.needed.specs.laws.Columns.{FirstOn}
+use Rattle.needed.specs.laws.Column.{first-start, first-add, first-end}
 use Rattle.needed.proofs.first_on.Statement.{statement}
 use Rattle.needed.proofs.first_on.Tie as tie
 
@@ -14,15 +14,6 @@ abbrev μ-loop : tie.MeasureT-loop
 loop-holds : tie.Need-loop-holds Inv-loop μ-loop
 loop-holds c = (first-start, omega arith)
 
-array-write-on : tie.Need-array-write-on Inv-loop μ-loop
-array-write-on c = omega arith
-
-add-i : tie.Need-add-i Inv-loop μ-loop
-add-i c = omega arith
-
-loop-less : tie.Need-loop-less Inv-loop μ-loop
-loop-less c = omega arith
-
 loop-again : tie.Need-loop-again Inv-loop μ-loop
 loop-again c = (first-add _ _ (omega arith) (c .before .loop .inv .0), omega arith)
 
@@ -32,4 +23,4 @@ returns c = first-end _ _ _ (c .before .loop .inv .1) (c .loop-test .left) (c .b
 pub first-on-spec : {M : Type 1} → statement M
 first-on-spec =
     tie.close
-    (tie.spec Inv-loop μ-loop loop-holds array-write-on add-i loop-less loop-again returns)
+    (tie.spec Inv-loop μ-loop loop-holds (λ c. omega arith) (λ c. omega arith) (λ c. omega arith) loop-again returns)

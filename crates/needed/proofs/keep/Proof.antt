@@ -1,10 +1,10 @@
 use Prim.Native.Nat.{_-_, _<_}
 use native.Mathlib.Omega.{arith}
 use Rattle.rt0.specs.declared.Pool.{Pool}
-use Rattle.rt0.specs.Pool.{poolOf}
-use Rattle.relation.specs.Relation.{Relation}
-use Rattle.needed.specs.Columns.{Keeping}
-use Rattle.needed.specs.KeepingLaws.{keep-start, keep-done, keep-all, keep-next, keep-last}
+use Rattle.rt0.specs.laws.Pool.{poolOf}
+use Rattle.relation.specs.laws.Relation.{Relation}
+use Rattle.needed.specs.laws.Columns.{Keeping}
+use Rattle.needed.specs.laws.Keeping.{keep-start, keep-done, keep-all, keep-next, keep-last}
 use Rattle.needed.proofs.keep.Statement.{statement}
 use Rattle.needed.proofs.keep.Tie as tie
 

@@ -1,21 +1,12 @@
 use borrow.Author.Needs.{needs}
 use Rattle.rt0.specs.declared.Pool.{Pool}
-use Rattle.rt0.specs.Pool.{poolOf}
-use Rattle.rules.specs.Ruled.{by-columns}
+use Rattle.rt0.specs.laws.Pool.{poolOf}
+use Rattle.rules.specs.laws.Ruled.{by-columns}
 use Rattle.needed.proofs.needed.Statement.{statement}
 use Rattle.needed.proofs.needed.Tie as tie
 
 abbrev pool : (c : tie.Start) → Pool
 pool c = poolOf (c .args .n) (c .args .heads .now) (c .args .kinds .now) (c .args .numbers .now)
-
-rules-of-requires : tie.Need-rules-of-requires
-rules-of-requires c κs = search needs
-
-readers-requires : tie.Need-readers-requires
-readers-requires c κs = search needs
-
-first-on-requires : tie.Need-first-on-requires
-first-on-requires c κs = search needs
 
 relation-requires : tie.Need-relation-requires
 relation-requires c κs = (c .before .before .before .before .before .before .before .before .before .before .before .before .before .before .before .pre .0, by-columns (pool (c .before .before .before .before .before .before .before .before .before .before .before .before .before .before .before)) (c .before .before .before .before .before .before .before .before .before .before .before .before .before .before .rules-of .result) (c .before .before .before .before .before .before .before .before .before .before .before .before .before .before .rules-of .ensures))
@@ -30,9 +21,9 @@ pub needed-spec : {M : Type 1} → statement M
 needed-spec =
     tie.close
     (tie.spec
-    rules-of-requires
-    readers-requires
-    first-on-requires
+    (λ c κs. search needs)
+    (λ c κs. search needs)
+    (λ c κs. search needs)
     relation-requires
     keep-requires
     returns)

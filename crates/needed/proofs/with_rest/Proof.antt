@@ -1,7 +1,7 @@
 use Prim.Native.Nat.{_-_, _≤_}
 use native.Mathlib.Omega.{arith}
-use Rattle.needed.specs.Columns.{WithRest}
-use Rattle.needed.specs.ColumnLaws.{rest-start, rest-add, rest-end}
+use Rattle.needed.specs.laws.Columns.{WithRest}
+use Rattle.needed.specs.laws.Column.{rest-start, rest-add, rest-end}
 use Rattle.needed.proofs.with_rest.Statement.{statement}
 use Rattle.needed.proofs.with_rest.Tie as tie
 
@@ -14,15 +14,6 @@ abbrev μ-loop : tie.MeasureT-loop
 loop-holds : tie.Need-loop-holds Inv-loop μ-loop
 loop-holds c = (rest-start _ _ (c .pre .2), omega arith, omega arith)
 
-array-write-r : tie.Need-array-write-r Inv-loop μ-loop
-array-write-r c = omega arith
-
-add-i : tie.Need-add-i Inv-loop μ-loop
-add-i c = omega arith
-
-loop-less : tie.Need-loop-less Inv-loop μ-loop
-loop-less c = omega arith
-
 loop-again : tie.Need-loop-again Inv-loop μ-loop
 loop-again c = (rest-add _ _ _ _ (c .before .loop .inv .1) (omega arith) (c .before .loop .inv .0), omega arith, omega arith)
 
@@ -32,4 +23,4 @@ returns c = rest-end _ _ _ _ _ (c .before .loop .inv .2) (c .loop-test .left) (c
 pub with-rest-spec : {M : Type 1} → statement M
 with-rest-spec =
     tie.close
-    (tie.spec Inv-loop μ-loop loop-holds array-write-r add-i loop-less loop-again returns)
+    (tie.spec Inv-loop μ-loop loop-holds (λ c. omega arith) (λ c. omega arith) (λ c. omega arith) loop-again returns)

@@ -3,13 +3,13 @@ use mathlib.Core.Bool.{true}
 use borrow.Author.Tests.{not-true, not-false}
 use Prim.Native.Nat.{ℕ}
 use lib.ListN.{length}
-use Rattle.rt0.specs.Pool.{credentials}
+use Rattle.rt0.specs.laws.Pool.{credentials}
 use Rattle.expression.specs.declared.ExpressionAnswer.{ExpressionAnswer}
 use Rattle.expression.specs.declared.ExpressionAnswer.the-variants.{Read}
 use Rattle.question.specs.Credentials.{listed}
-use Rattle.question.specs.CredentialsLaws.{listed-all, listed-refused}
+use Rattle.question.specs.laws.Credentials.{listed-all, listed-refused}
 use Rattle.question.specs.Question.{sized, operandOf, answerOf, answered, questionOf}
-use Rattle.question.specs.QuestionLaws.{true-sized, question-outside, question-inside}
+use Rattle.question.specs.laws.Question.{true-sized, question-outside, question-inside}
 use borrow.Author.Needs.{needs}
 use Rattle.question.proofs.question.Statement.{statement}
 use Rattle.question.proofs.question.Tie as tie
@@ -34,9 +34,6 @@ with-first : (c : tie.After-known-told) {q : ExpressionAnswer} → operandOf (c 
     → answered (listed (credentials (c .before .before .before .before .before .before .list .result .pool))) (Read (c .before .x .given .0 .0)) q ≡ answerAt (c .before .before .before .before .before .before .before .before .before .before .before .before)
 with-first c k = with-list (c .before .before .before .before) (sym (c .before .before .before .operand .ensures) ∙ c .before .x .given .1) k
 
-sized-requires : tie.Need-sized-requires
-sized-requires c κs = search needs
-
 returns : tie.Need-returns
 returns c = question-outside _ _ _ (sym (c .before .sized .ensures) ∙ not-true _ (c .if1 .taken))
 
@@ -49,32 +46,14 @@ returns-2 c = question-inside _ _ _ _ _ _ (inside (c .before .before .before)) (
 operand-requires : tie.Need-operand-requires
 operand-requires c κs = true-sized _ _ _ (inside (c .before .before .before)) .first
 
-enum-known-x : tie.Need-enum-known-x
-enum-known-x c = search needs
-
-enum-told : tie.Need-enum-told
-enum-told c = search needs
-
 returns-3 : tie.Need-returns-3
 returns-3 c = with-list (c .before .before .before) (sym (c .before .before .operand .ensures) ∙ c .enum-told .given .1) refl
 
 operand-requires-2 : tie.Need-operand-requires-2
 operand-requires-2 c κs = true-sized _ _ _ (inside (c .before .before .before .before .before .before .before)) .second
 
-enum-known-y : tie.Need-enum-known-y
-enum-known-y c = search needs
-
-enum-told-2 : tie.Need-enum-told-2
-enum-told-2 c = search needs
-
 returns-4 : tie.Need-returns-4
 returns-4 c = with-first (c .before .before .before) (sym (c .before .before .operand2 .ensures) ∙ c .enum-told2 .given .1)
-
-from-requires : tie.Need-from-requires
-from-requires c κs = search needs
-
-answer-requires : tie.Need-answer-requires
-answer-requires c κs = search needs
 
 returns-5 : tie.Need-returns-5
 returns-5 c = c .answer .ensures ∙ ap answerOf (c .before .from .ensures) ∙ with-first (c .before .before .before .before .before .before) (sym (c .before .before .before .before .before .operand2 .ensures) ∙ c .before .before .before .y .given .1)
@@ -83,18 +62,18 @@ pub question-spec : {M : Type 1} → statement M
 question-spec =
     tie.close
     (tie.spec
-    sized-requires
+    (λ c κs. search needs)
     returns
     list-requires
     returns-2
     operand-requires
-    enum-known-x
-    enum-told
+    (λ c. search needs)
+    (λ c. search needs)
     returns-3
     operand-requires-2
-    enum-known-y
-    enum-told-2
+    (λ c. search needs)
+    (λ c. search needs)
     returns-4
-    from-requires
-    answer-requires
+    (λ c κs. search needs)
+    (λ c κs. search needs)
     returns-5)

@@ -1,29 +1,8 @@
 use mathlib.Core.Path.{refl, _∙_}
-use Rattle.record.specs.RecordLaws.{at-code, unknown}
+use Rattle.record.specs.laws.Record.{at-code, unknown}
 use borrow.Author.Needs.{needs}
 use Rattle.record.proofs.read_record.Statement.{statement}
 use Rattle.record.proofs.read_record.Tie as tie
-
-shared-slice-read-code : tie.Need-shared-slice-read-code
-shared-slice-read-code c = search needs
-
-own-at-requires : tie.Need-own-at-requires
-own-at-requires c κs = search needs
-
-name-at-requires : tie.Need-name-at-requires
-name-at-requires c κs = search needs
-
-stored-at-requires : tie.Need-stored-at-requires
-stored-at-requires c κs = search needs
-
-stored-at-requires-2 : tie.Need-stored-at-requires-2
-stored-at-requires-2 c κs = search needs
-
-pair-at-requires : tie.Need-pair-at-requires
-pair-at-requires c κs = search needs
-
-pair-at-requires-2 : tie.Need-pair-at-requires-2
-pair-at-requires-2 c κs = search needs
 
 returns : tie.Need-returns
 returns c = c .own-at .ensures ∙ at-code _ _ 16 (c .before .match .keys1)
@@ -50,13 +29,13 @@ pub read-record-spec : {M : Type 1} → statement M
 read-record-spec =
     tie.close
     (tie.spec
-    shared-slice-read-code
-    own-at-requires
-    name-at-requires
-    stored-at-requires
-    stored-at-requires-2
-    pair-at-requires
-    pair-at-requires-2
+    (λ c. search needs)
+    (λ c κs. search needs)
+    (λ c κs. search needs)
+    (λ c κs. search needs)
+    (λ c κs. search needs)
+    (λ c κs. search needs)
+    (λ c κs. search needs)
     returns
     returns-2
     returns-3

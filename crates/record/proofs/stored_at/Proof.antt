@@ -1,33 +1,15 @@
 use mathlib.Core.Path.{sym, ap, _∙_}
 use Rattle.record.specs.declared.RecordAnswer.the-variants.{Read}
-use Rattle.record.specs.RecordLaws.{stored-cut, stored-full}
+use Rattle.record.specs.laws.Record.{stored-cut, stored-full}
 use borrow.Author.Needs.{needs}
 use Rattle.record.proofs.stored_at.Statement.{statement}
 use Rattle.record.proofs.stored_at.Tie as tie
 
-sub-if1 : tie.Need-sub-if1
-sub-if1 c = search needs
-
 returns : tie.Need-returns
 returns c = stored-cut _ _ _ (c .if1 .taken)
 
-add-read-credential : tie.Need-add-read-credential
-add-read-credential c = search needs
-
-read-credential-requires : tie.Need-read-credential-requires
-read-credential-requires c κs = search needs
-
-enum-known-c : tie.Need-enum-known-c
-enum-known-c c = search needs
-
-enum-told : tie.Need-enum-told
-enum-told c = search needs
-
 returns-2 : tie.Need-returns-2
 returns-2 c = stored-full _ _ _ _ (c .before .before .before .if1 .left) (sym (c .before .before .read-credential .ensures) ∙ c .enum-told .given .1)
-
-stored-requires : tie.Need-stored-requires
-stored-requires c κs = search needs
 
 returns-3 : tie.Need-returns-3
 returns-3 c =
@@ -39,12 +21,12 @@ pub stored-at-spec : {M : Type 1} → statement M
 stored-at-spec =
     tie.close
     (tie.spec
-    sub-if1
+    (λ c. search needs)
     returns
-    add-read-credential
-    read-credential-requires
-    enum-known-c
-    enum-told
+    (λ c. search needs)
+    (λ c κs. search needs)
+    (λ c. search needs)
+    (λ c. search needs)
     returns-2
-    stored-requires
+    (λ c κs. search needs)
     returns-3)

@@ -1,18 +1,12 @@
 use borrow.Author.Needs.{needs}
 use Rattle.rt0.specs.declared.Pool.{Pool}
-use Rattle.rt0.specs.Pool.{poolOf}
-use Rattle.relation.specs.Reached.{entity-answers, alone-of}
+use Rattle.rt0.specs.laws.Pool.{poolOf}
+use Rattle.relation.specs.laws.Reached.{entity-answers, alone-of}
 use Rattle.relation.proofs.by_entity.Statement.{statement}
 use Rattle.relation.proofs.by_entity.Tie as tie
 
 abbrev pool : (c : tie.Start) → Pool
 pool c = poolOf (c .args .n) (c .args .heads .now) (c .args .kinds .now) (c .args .numbers .now)
-
-source-requires : tie.Need-source-requires
-source-requires c κs = search needs
-
-same-requires : tie.Need-same-requires
-same-requires c κs = search needs
 
 returns : tie.Need-returns
 returns c = alone-of (pool (c .before .before .before)) (c .before .before .before .args .on .now) (c .before .before .before .pre .0) (c .before .before .before .args .mem .now) (c .before .before .before .pre .1) (c .before .before .before .args .b) (c .before .before .source .result) (c .before .before .before .args .f) (c .same .result) (c .before .before .source .ensures) (c .before .if1 .taken) (c .same .ensures)
@@ -20,9 +14,6 @@ returns c = alone-of (pool (c .before .before .before)) (c .before .before .befo
 by-form-requires : tie.Need-by-form-requires
 by-form-requires c κs = (c .before .before .pre .0, c .if1 .left, c .before .before .pre .1, entity-answers (pool (c .before .before)) (c .before .before .args .on .now) (c .before .before .pre .0) (c .before .before .args .mem .now) (c .before .before .pre .1) (c .before .before .args .b) (c .before .source .result) (c .before .source .ensures) (c .if1 .left))
 
-returns-2 : tie.Need-returns-2
-returns-2 c = search needs
-
 pub by-entity-spec : {M : Type 1} → statement M
 by-entity-spec =
-    tie.close (tie.spec source-requires same-requires returns by-form-requires returns-2)
+    tie.close (tie.spec (λ c κs. search needs) (λ c κs. search needs) returns by-form-requires (λ c. search needs))

@@ -3,13 +3,13 @@ use mathlib.Core.Path.{refl}
 use borrow.Author.Needs.{needs}
 use Rattle.expression.specs.declared.Expression.the-variants as E
 use Rattle.rt0.specs.declared.Pool.{Pool}
-use Rattle.rt0.specs.Pool.{poolOf}
+use Rattle.rt0.specs.laws.Pool.{poolOf}
 use Rattle.closure.specs.declared.Rules.{Rules}
-use Rattle.closure.specs.Rules.{rulesOf}
-use Rattle.rules.specs.DigitLaws.{open-bodies}
-use Rattle.rules.specs.Ruled.{compiled-plain}
-use Rattle.relation.specs.Answer.{related}
-use Rattle.relation.specs.QuestionLaws.{start-more}
+use Rattle.closure.specs.laws.Rules.{rulesOf}
+use Rattle.rules.specs.laws.Digit.{open-bodies}
+use Rattle.rules.specs.laws.Ruled.{compiled-plain}
+use Rattle.relation.specs.laws.Answer.{related}
+use Rattle.relation.specs.laws.QuestionLaws.{start-more}
 use Rattle.relation.proofs.switch_on.Statement.{statement}
 use Rattle.relation.proofs.switch_on.Tie as tie
 
@@ -19,26 +19,11 @@ pool c = poolOf (c .args .n) (c .args .heads .now) (c .args .kinds .now) (c .arg
 abbrev rules : (c : tie.Start) → Rules
 rules c = rulesOf (c .args .n) (c .args .words) (c .args .head .now) (c .args .part .now) (c .args .first .now) (c .args .named .now) (c .args .src .now)
 
-mul-woken : tie.Need-mul-woken
-mul-woken c = search needs
-
-element-copy-out-woken : tie.Need-element-copy-out-woken
-element-copy-out-woken c = search needs
-
 woken-requires : tie.Need-woken-requires
 woken-requires c κs = (c .before .pre .2 .head .under .under (c .before .args .i), omega arith)
 
-open-table-requires : tie.Need-open-table-requires
-open-table-requires c κs = search needs
-
 seed-requires : tie.Need-seed-requires
 seed-requires c κs = (c .before .before .before .before .before .pre .0, c .before .before .before .before .before .pre .1, c .before .before .before .before .before .pre .2 .head, open-bodies (pool (c .before .before .before .before .before)) (c .before .before .before .before .before .args .n) _ (c .before .before .before .before .before .pre .0) (c .before .before .open-table .ensures), c .before .before .before .before .before .pre .4 .sized)
-
-element-write-on : tie.Need-element-write-on
-element-write-on c = search needs
-
-close-requires : tie.Need-close-requires
-close-requires c κs = search needs
 
 returns : tie.Need-returns
 returns c = (
@@ -51,11 +36,11 @@ pub switch-on-spec : {M : Type 1} → statement M
 switch-on-spec =
     tie.close
     (tie.spec
-    mul-woken
-    element-copy-out-woken
+    (λ c. search needs)
+    (λ c. search needs)
     woken-requires
-    open-table-requires
+    (λ c κs. search needs)
     seed-requires
-    element-write-on
-    close-requires
+    (λ c. search needs)
+    (λ c κs. search needs)
     returns)

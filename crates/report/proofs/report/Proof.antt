@@ -1,15 +1,11 @@
-use Rattle.negotiation.specs.Within.{within-few}
+use Rattle.negotiation.specs.laws.Within.{within-few}
 use mathlib.Core.Path.{refl}
-use Rattle.damage.specs.DamageLaws.{held-nodes, held-edges}
+use Rattle.damage.specs.laws.Damage.{held-nodes, held-edges}
 use native.Mathlib.Omega.{arith}
-use Rattle.report.specs.ReportLaws.{report-refused, report-absent, report-node}
+use Rattle.report.specs.laws.Report.{report-refused, report-absent, report-node}
 use borrow.Author.Needs.{needs}
 use Rattle.report.proofs.report.Statement.{statement}
 use Rattle.report.proofs.report.Tie as tie
-use Rattle.report.proofs.report.Reads as reads
-
-restore-requires : tie.Need-restore-requires
-restore-requires c κs = search needs
 
 returns : tie.Need-returns
 returns c = report-refused _ _ _ _ (c .before .before .restore .ensures .0) (c .if1 .taken)
@@ -20,12 +16,9 @@ returns-2 c = report-absent _ _ _ _ (c .before .before .before .before .before .
 report-on-requires : tie.Need-report-on-requires
 report-on-requires c κs = (omega (arith, (c .if2 .left)), within-few (c .before .before .before .before .before .before .restore .result .negotiation) ((c .before .before .before .before .before .before .restore .ensures .1) .within-sizes (c .before .before .before .before .if1 .left)) .0, within-few (c .before .before .before .before .before .before .restore .result .negotiation) ((c .before .before .before .before .before .before .restore .ensures .1) .within-sizes (c .before .before .before .before .if1 .left)) .1, within-few (c .before .before .before .before .before .before .restore .result .negotiation) ((c .before .before .before .before .before .before .restore .ensures .1) .within-sizes (c .before .before .before .before .if1 .left)) .2, held-nodes (c .before .before .before .before .before .before .restore .result .house) (c .before .before .before .before .before .before .restore .result .negotiation) ((c .before .before .before .before .before .before .restore .ensures .1) .within-sizes (c .before .before .before .before .if1 .left)) ((c .before .before .before .before .before .before .restore .ensures .1) .is-sound (c .before .before .before .before .if1 .left)) (omega (arith, (c .if2 .left))), held-edges (c .before .before .before .before .before .before .restore .result .house) (c .before .before .before .before .before .before .restore .result .negotiation) ((c .before .before .before .before .before .before .restore .ensures .1) .within-sizes (c .before .before .before .before .if1 .left)) ((c .before .before .before .before .before .before .restore .ensures .1) .is-sound (c .before .before .before .before .if1 .left)) (omega (arith, (c .if2 .left))))
 
-mul-result : tie.Need-mul-result
-mul-result c = search needs
-
 returns-3 : tie.Need-returns-3
 returns-3 c = report-node _ _ _ _ (c .before .before .before .before .before .before .before .restore .ensures .0) (c .before .before .before .before .before .if1 .left) refl (c .before .if2 .left) (c .report-on .ensures .0)
 
 pub report-spec : {M : Type 1} → statement M
 report-spec =
-    tie.close (tie.spec restore-requires returns returns-2 report-on-requires mul-result returns-3)
+    tie.close (tie.spec (λ c κs. search needs) returns returns-2 report-on-requires (λ c. search needs) returns-3)

@@ -1,8 +1,8 @@
 use Prim.Native.Nat.{_-_, _≤_}
 use Rattle.rt0.specs.declared.Pool.{Pool}
-use Rattle.rt0.specs.Pool.{poolOf, bodyAt}
-use Rattle.rules.specs.Columns.{Column, bodyFirst}
-use Rattle.rules.specs.ColumnLaws.{column-start, column-add, column-end, first-small}
+use Rattle.rt0.specs.laws.Pool.{poolOf, bodyAt}
+use Rattle.rules.specs.laws.Columns.{Column, bodyFirst}
+use Rattle.rules.specs.laws.Column.{column-start, column-add, column-end, first-small}
 use native.Mathlib.Omega.{arith}
 use Rattle.rules.proofs.first_rows.Statement.{statement}
 use Rattle.rules.proofs.first_rows.Tie as tie
@@ -22,17 +22,8 @@ loop-holds c = (column-start _ 128 130 128 (omega arith) (omega arith), omega ar
 first-at-requires : tie.Need-first-at-requires Inv-loop μ-loop
 first-at-requires c κs = (c .before .before .pre .0, omega arith, c .before .before .pre .1)
 
-mul-first : tie.Need-mul-first Inv-loop μ-loop
-mul-first c = omega arith
-
 array-write-first : tie.Need-array-write-first Inv-loop μ-loop
 array-write-first c = omega (arith, c .before .before .loop .inv .0 .sized)
-
-add-i : tie.Need-add-i Inv-loop μ-loop
-add-i c = omega arith
-
-loop-less : tie.Need-loop-less Inv-loop μ-loop
-loop-less c = omega arith
 
 loop-again : tie.Need-loop-again Inv-loop μ-loop
 loop-again c = (column-add (bodyFirst (pool (c .before .before .before))) 128 130 (c .before .before .loop .i) (c .first-at .result) (c .before .before .loop .first) (omega arith) (c .first-at .ensures) (rw (c .first-at .ensures) (first-small (pool (c .before .before .before)) (c .before .before .before .pre .0) (bodyAt (pool (c .before .before .before)) (c .before .before .loop .i)))) (c .before .before .loop .inv .0), omega arith)
@@ -48,9 +39,9 @@ first-rows-spec =
     μ-loop
     loop-holds
     first-at-requires
-    mul-first
+    (λ c. omega arith)
     array-write-first
-    add-i
-    loop-less
+    (λ c. omega arith)
+    (λ c. omega arith)
     loop-again
     returns)

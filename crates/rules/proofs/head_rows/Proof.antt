@@ -2,10 +2,10 @@ use Prim.Native.Nat.{_-_, _≤_}
 use native.Mathlib.Omega.{arith}
 use mathlib.Core.Path.{_∙_, ap}
 use Rattle.rt0.specs.declared.Pool.{Pool}
-use Rattle.rt0.specs.Pool.{poolOf}
-use Rattle.rules.specs.Table.{rowOf}
-use Rattle.rules.specs.Columns.{Column, headRow}
-use Rattle.rules.specs.ColumnLaws.{column-start, column-add, column-end, row-small}
+use Rattle.rt0.specs.laws.Pool.{poolOf}
+use Rattle.rules.specs.laws.Table.{rowOf}
+use Rattle.rules.specs.laws.Columns.{Column, headRow}
+use Rattle.rules.specs.laws.Column.{column-start, column-add, column-end, row-small}
 use Rattle.rules.proofs.head_rows.Statement.{statement}
 use Rattle.rules.proofs.head_rows.Tie as tie
 
@@ -21,23 +21,11 @@ pool c = poolOf (c .args .n) (c .args .heads .now) (c .args .kinds .now) (c .arg
 loop-holds : tie.Need-loop-holds Inv-loop μ-loop
 loop-holds c = (column-start _ 128 130 128 (omega arith) (omega arith), omega arith)
 
-head-at-requires : tie.Need-head-at-requires Inv-loop μ-loop
-head-at-requires c κs = omega arith
-
 find-row-requires : tie.Need-find-row-requires Inv-loop μ-loop
 find-row-requires c κs = c .before .before .before .pre
 
-mul-head : tie.Need-mul-head Inv-loop μ-loop
-mul-head c = omega arith
-
 array-write-head : tie.Need-array-write-head Inv-loop μ-loop
 array-write-head c = omega (arith, c .before .before .before .loop .inv .0 .sized)
-
-add-i : tie.Need-add-i Inv-loop μ-loop
-add-i c = omega arith
-
-loop-less : tie.Need-loop-less Inv-loop μ-loop
-loop-less c = omega arith
 
 loop-again : tie.Need-loop-again Inv-loop μ-loop
 loop-again c = (column-add (headRow (pool (c .before .before .before .before))) 128 130 (c .before .before .before .loop .i) (c .find-row .result) (c .before .before .before .loop .head) (omega arith) (c .find-row .ensures ∙ ap (rowOf (pool (c .before .before .before .before))) (c .before .head-at .ensures)) (rw (c .find-row .ensures) (row-small (pool (c .before .before .before .before)) (c .before .before .before .before .pre .0) (c .before .head-at .result))) (c .before .before .before .loop .inv .0), omega arith)
@@ -52,11 +40,11 @@ head-rows-spec =
     Inv-loop
     μ-loop
     loop-holds
-    head-at-requires
+    (λ c κs. omega arith)
     find-row-requires
-    mul-head
+    (λ c. omega arith)
     array-write-head
-    add-i
-    loop-less
+    (λ c. omega arith)
+    (λ c. omega arith)
     loop-again
     returns)

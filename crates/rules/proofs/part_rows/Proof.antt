@@ -2,10 +2,10 @@ use Prim.Native.Nat.{_-_, _≤_}
 use native.Mathlib.Omega.{arith}
 use mathlib.Core.Path.{_∙_, ap}
 use Rattle.rt0.specs.declared.Pool.{Pool}
-use Rattle.rt0.specs.Pool.{poolOf}
-use Rattle.rules.specs.Table.{rowOf}
-use Rattle.rules.specs.Columns.{PartsTo, fourRows}
-use Rattle.rules.specs.ColumnLaws.{parts-start, parts-add, parts-end, row-small}
+use Rattle.rt0.specs.laws.Pool.{poolOf}
+use Rattle.rules.specs.laws.Table.{rowOf}
+use Rattle.rules.specs.laws.Columns.{PartsTo, fourRows}
+use Rattle.rules.specs.laws.Column.{parts-start, parts-add, parts-end, row-small}
 use Rattle.rules.proofs.part_rows.Statement.{statement}
 use Rattle.rules.proofs.part_rows.Tie as tie
 
@@ -21,53 +21,11 @@ pool c = poolOf (c .args .n) (c .args .heads .now) (c .args .kinds .now) (c .arg
 loop-holds : tie.Need-loop-holds Inv-loop μ-loop
 loop-holds c = (parts-start _ _, omega arith)
 
-body-at-requires : tie.Need-body-at-requires Inv-loop μ-loop
-body-at-requires c κs = omega arith
-
 rows-of-requires : tie.Need-rows-of-requires Inv-loop μ-loop
 rows-of-requires c κs = c .before .before .before .pre
 
-mul-at : tie.Need-mul-at Inv-loop μ-loop
-mul-at c = omega arith
-
-mul-part : tie.Need-mul-part Inv-loop μ-loop
-mul-part c = omega arith
-
 array-write-part : tie.Need-array-write-part Inv-loop μ-loop
 array-write-part c = omega (arith, c .before .before .before .loop .inv .0 .sized)
-
-add-part : tie.Need-add-part Inv-loop μ-loop
-add-part c = omega arith
-
-mul-part-2 : tie.Need-mul-part-2 Inv-loop μ-loop
-mul-part-2 c = omega arith
-
-array-write-part-2 : tie.Need-array-write-part-2 Inv-loop μ-loop
-array-write-part-2 c = omega arith
-
-add-part-2 : tie.Need-add-part-2 Inv-loop μ-loop
-add-part-2 c = omega arith
-
-mul-part-3 : tie.Need-mul-part-3 Inv-loop μ-loop
-mul-part-3 c = omega arith
-
-array-write-part-3 : tie.Need-array-write-part-3 Inv-loop μ-loop
-array-write-part-3 c = omega arith
-
-add-part-3 : tie.Need-add-part-3 Inv-loop μ-loop
-add-part-3 c = omega arith
-
-mul-part-4 : tie.Need-mul-part-4 Inv-loop μ-loop
-mul-part-4 c = omega arith
-
-array-write-part-4 : tie.Need-array-write-part-4 Inv-loop μ-loop
-array-write-part-4 c = omega arith
-
-add-i : tie.Need-add-i Inv-loop μ-loop
-add-i c = omega arith
-
-loop-less : tie.Need-loop-less Inv-loop μ-loop
-loop-less c = omega arith
 
 loop-again : tie.Need-loop-again Inv-loop μ-loop
 loop-again c = (parts-add (rowOf (pool (c .before .before .before .before))) (pool (c .before .before .before .before)) (row-small (pool (c .before .before .before .before)) (c .before .before .before .before .pre .0)) (c .before .before .before .loop .i) (c .before .before .before .loop .part) (c .rows-of .result) (omega arith) (c .rows-of .ensures ∙ ap (fourRows (rowOf (pool (c .before .before .before .before)))) (c .before .body-at .ensures)) (c .before .before .before .loop .inv .0), omega arith)
@@ -82,21 +40,21 @@ part-rows-spec =
     Inv-loop
     μ-loop
     loop-holds
-    body-at-requires
+    (λ c κs. omega arith)
     rows-of-requires
-    mul-at
-    mul-part
+    (λ c. omega arith)
+    (λ c. omega arith)
     array-write-part
-    add-part
-    mul-part-2
-    array-write-part-2
-    add-part-2
-    mul-part-3
-    array-write-part-3
-    add-part-3
-    mul-part-4
-    array-write-part-4
-    add-i
-    loop-less
+    (λ c. omega arith)
+    (λ c. omega arith)
+    (λ c. omega arith)
+    (λ c. omega arith)
+    (λ c. omega arith)
+    (λ c. omega arith)
+    (λ c. omega arith)
+    (λ c. omega arith)
+    (λ c. omega arith)
+    (λ c. omega arith)
+    (λ c. omega arith)
     loop-again
     returns)

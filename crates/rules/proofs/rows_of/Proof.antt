@@ -2,27 +2,6 @@ use borrow.Author.Needs.{needs}
 use Rattle.rules.proofs.rows_of.Statement.{statement}
 use Rattle.rules.proofs.rows_of.Tie as tie
 
-enum-told : tie.Need-enum-told
-enum-told c = search needs
-
-enum-known-x : tie.Need-enum-known-x
-enum-known-x c = search needs
-
-find-row-requires : tie.Need-find-row-requires
-find-row-requires c κs = search needs
-
-enum-told-2 : tie.Need-enum-told-2
-enum-told-2 c = search needs
-
-enum-known-x-2 : tie.Need-enum-known-x-2
-enum-known-x-2 c = search needs
-
-meet-rows-requires : tie.Need-meet-rows-requires
-meet-rows-requires c κs = search needs
-
-enum-told-3 : tie.Need-enum-told-3
-enum-told-3 c = search needs
-
 returns : tie.Need-returns
 returns c = rw (c .enum-told .given .1)
 
@@ -42,13 +21,13 @@ pub rows-of-spec : {M : Type 1} → statement M
 rows-of-spec =
     tie.close
     (tie.spec
-    enum-told
-    enum-known-x
-    find-row-requires
-    enum-told-2
-    enum-known-x-2
-    meet-rows-requires
-    enum-told-3
+    (λ c. search needs)
+    (λ c. search needs)
+    (λ c κs. search needs)
+    (λ c. search needs)
+    (λ c. search needs)
+    (λ c κs. search needs)
+    (λ c. search needs)
     returns
     returns-2
     returns-3

@@ -1,5 +1,5 @@
 use mathlib.Core.Path.{refl}
-use Rattle.states.specs.Complete.{completeBy}
+use Rattle.states.specs.laws.Complete.{completeBy}
 use Rattle.states.proofs.complete_by.Statement.{statement}
 use Rattle.states.proofs.complete_by.Tie as tie
 

@@ -1,8 +1,8 @@
 use Prim.Native.Nat.{_-_}
 use native.Mathlib.Omega.{arith}
-use Rattle.class.specs.Find.{Missed, missed-start, missed-more, any-at, any-none}
-use Rattle.graph.specs.Graph.{edgesFrom, edgeAt, edgesOf}
-use Rattle.states.specs.Complete.{isOpen}
+use Rattle.class.specs.laws.Find.{Missed, missed-start, missed-more, any-at, any-none}
+use Rattle.graph.specs.laws.Graph.{edgesFrom, edgeAt, edgesOf}
+use Rattle.states.specs.laws.Complete.{isOpen}
 use Rattle.states.proofs.has_open.Statement.{statement}
 use Rattle.states.proofs.has_open.Tie as tie
 
@@ -22,12 +22,6 @@ returns : tie.Need-returns Inv-loop μ-loop
 unfolding edgesOf
 returns c = any-at _ (c .before .before .before .loop .inv) (c .before .before .loop-test .taken) (c .before .is-open .ensures) (c .if1 .taken)
 
-add-j : tie.Need-add-j Inv-loop μ-loop
-add-j c = omega arith
-
-loop-less : tie.Need-loop-less Inv-loop μ-loop
-loop-less c = omega arith
-
 loop-again : tie.Need-loop-again Inv-loop μ-loop
 loop-again c = missed-more (c .before .before .before .loop .inv) (c .before .is-open .ensures) (c .if1 .left)
 
@@ -44,7 +38,7 @@ has-open-spec =
     loop-holds
     is-open-requires
     returns
-    add-j
-    loop-less
+    (λ c. omega arith)
+    (λ c. omega arith)
     loop-again
     returns-2)

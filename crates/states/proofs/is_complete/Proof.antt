@@ -1,24 +1,8 @@
-use Rattle.graph.specs.Graph.{nodesFrom, edgesFrom}
-use Rattle.states.specs.Complete.{complete-read}
+use Rattle.graph.specs.laws.Graph.{nodesFrom, edgesFrom}
+use Rattle.states.specs.laws.Complete.{complete-read}
 use borrow.Author.Needs.{needs}
 use Rattle.states.proofs.is_complete.Statement.{statement}
 use Rattle.states.proofs.is_complete.Tie as tie
-use Rattle.states.proofs.is_complete.Reads as reads
-use Rattle.states.proofs.is_complete.Lts as lts
-use Rattle.states.proofs.complete_by.Reads as complete-by-reads
-use Rattle.states.proofs.has_open.Reads as has-open-reads
-
-has-open-requires : tie.Need-has-open-requires
-has-open-requires c κs = search needs
-
-element-copy-out-complete-by : tie.Need-element-copy-out-complete-by
-element-copy-out-complete-by c = search needs
-
-element-copy-out-complete-by-2 : tie.Need-element-copy-out-complete-by-2
-element-copy-out-complete-by-2 c = search needs
-
-complete-by-requires : tie.Need-complete-by-requires
-complete-by-requires c κs = search needs
 
 returns : tie.Need-returns
 returns c =
@@ -29,8 +13,8 @@ pub is-complete-spec : {M : Type 1} → statement M
 is-complete-spec =
     tie.close
     (tie.spec
-    has-open-requires
-    element-copy-out-complete-by
-    element-copy-out-complete-by-2
-    complete-by-requires
+    (λ c κs. search needs)
+    (λ c. search needs)
+    (λ c. search needs)
+    (λ c κs. search needs)
     returns)

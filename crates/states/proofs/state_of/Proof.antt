@@ -1,30 +1,16 @@
 use native.Mathlib.Omega.{arith}
-use Rattle.graph.specs.Graph.{nodesOf, edgesOf}
-use Rattle.states.specs.Filled.{needs-beyond, ways-beyond}
-use Rattle.states.specs.Complete.{Settled, satisfied-read, settled-read, state-satisfied, state-complete, state-failed, state-none}
+use Rattle.graph.specs.laws.Graph.{nodesOf, edgesOf}
+use Rattle.states.specs.laws.Filled.{needs-beyond, ways-beyond}
+use Rattle.states.specs.laws.Complete.{Settled, satisfied-read, settled-read, state-satisfied, state-complete, state-failed, state-none}
 use borrow.Author.Needs.{needs}
 use Rattle.states.proofs.state_of.Statement.{statement}
 use Rattle.states.proofs.state_of.Tie as tie
-use Rattle.states.proofs.state_of.Reads as reads
-use Rattle.states.proofs.state_of.Lts as lts
-use Rattle.propagation.proofs.failed.Reads as failed-reads
-use Rattle.propagation.proofs.satisfied.Reads as satisfied-reads
-use Rattle.states.proofs.fill.links.Reads as links-reads
-use Rattle.states.proofs.fill.needs.Reads as needs-reads
-use Rattle.states.proofs.fill.ways.Reads as ways-reads
-use Rattle.states.proofs.is_complete.Reads as is-complete-reads
 
 -- the columns of satisfied and failed nodes
 settled : (c : tie.After-fail) → Settled (nodesOf (c .before .before .before .before .before .before .before .before .before .before .before .before .before .before .before .before .before .before .before .before .before .before .before .before .before .before .before .before .before .before .before .before .before .before .before .before .before .before .before .before .before .before .before .before .before .before .before .before .before .before .before .before .before .before .before .before .args .t1)) (edgesOf (c .before .before .before .before .before .before .before .before .before .before .before .before .before .before .before .before .before .before .before .before .before .before .before .before .before .before .before .before .before .before .before .before .before .before .before .before .before .before .before .before .before .before .before .before .before .before .before .before .before .before .before .before .before .before .before .before .args .t2)) (c .before .before .before .before .before .before .before .before .before .before .before .before .before .before .before .before .before .before .before .before .before .before .before .before .before .before .before .before .before .before .satisfied .result) (c .before .before .before .before .before .before .before .before .before .before .before .before .before .before .before .before .before .before .before .before .failed .result)
 settled c =
     let s = c .before .before .before .before .before .before .before .before .before .before .before .before .before .before .before .before .before .before .before .before .before .before .before .before .before .before .before .before .before .before .before .before .before .before .before .before .before .before .before .before .before .before .before .before .before .before .before .before .before .before .before .before .before .before .before .before in
     settled-read (s .args .t1) (s .args .t2) _ _ (s .pre .3) (c .before .before .before .before .before .before .before .before .before .before .before .before .before .before .before .before .before .before .before .before .before .before .before .before .before .before .before .before .before .before .before .before .before .before .before .links .ensures (s .args .t1)) _ _ (s .pre .4) (c .before .before .before .before .before .before .before .before .before .before .before .before .before .before .before .before .before .before .before .before .before .before .before .before .before .before .before .before .before .before .before .before .before .before .before .before .before .before .before .before .before .before .before .before .before .before .before .before .before .before .before .needs .ensures (s .args .t1)) (c .before .before .before .before .before .before .before .before .before .before .before .before .before .before .before .before .before .before .before .before .before .before .before .before .before .ways .ensures (s .args .t1)) (c .before .before .before .before .before .before .before .before .before .before .before .before .before .before .before .before .before .before .before .before .before .before .before .before .before .before .before .before .before .before .satisfied .ensures) (c .before .before .before .before .before .before .before .before .before .before .before .before .before .before .before .before .before .before .before .before .failed .ensures)
-
-needs-requires : tie.Need-needs-requires
-needs-requires c κs = search needs
-
-links-requires : tie.Need-links-requires
-links-requires c κs = search needs
 
 satisfied-requires : tie.Need-satisfied-requires
 satisfied-requires c κs = let s = c .before .before .before .before .before .before .before .before .before .before .before .before .before .before .before .before .before .before .before .before .before .before .before .before .before in (s .pre .1, s .pre .2, c .before .before .before .before .links .ensures (s .args .t1) .slots, needs-beyond (s .args .t1) _ (c .before .before .before .before .before .before .before .before .before .before .before .before .before .before .before .before .before .before .before .before .needs .ensures (s .args .t1)))
@@ -62,8 +48,8 @@ pub state-of-spec : {M : Type 1} → statement M
 state-of-spec =
     tie.close
     (tie.spec
-    needs-requires
-    links-requires
+    (λ c κs. search needs)
+    (λ c κs. search needs)
     satisfied-requires
     array-read-if1
     returns

@@ -1,46 +1,24 @@
-use Rattle.negotiation.specs.Within.{within-few}
+use Rattle.negotiation.specs.laws.Within.{within-few}
 use Rattle.update.specs.Legal.{legalBy}
-use Rattle.update.specs.LegalLaws.{legal-for}
+use Rattle.update.specs.laws.Legal.{legal-for}
 use borrow.Author.Needs.{needs}
 use Rattle.update.proofs.legal.Statement.{statement}
 use Rattle.update.proofs.legal.Tie as tie
-use Rattle.update.proofs.legal.Reads as reads
-
-enum-known-c : tie.Need-enum-known-c
-enum-known-c c = search needs
 
 show-number-requires : tie.Need-show-number-requires
 show-number-requires c κs = ((c .before .before .before .pre .0), (c .before .before .before .pre .1), within-few _ (c .before .before .before .pre .2) .2)
 
-enum-known-c-2 : tie.Need-enum-known-c-2
-enum-known-c-2 c = search needs
-
 open-number-requires : tie.Need-open-number-requires
 open-number-requires c κs = ((c .before .before .before .pre .0), (c .before .before .before .pre .1))
-
-enum-known-c-3 : tie.Need-enum-known-c-3
-enum-known-c-3 c = search needs
 
 bring-number-requires : tie.Need-bring-number-requires
 bring-number-requires c κs = ((c .before .before .before .pre .0), (c .before .before .before .pre .1), within-few _ (c .before .before .before .pre .2) .0, within-few _ (c .before .before .before .pre .2) .1)
 
-enum-known-c-4 : tie.Need-enum-known-c-4
-enum-known-c-4 c = search needs
-
 join-number-requires : tie.Need-join-number-requires
 join-number-requires c κs = (within-few _ (c .before .before .before .pre .2) .0, within-few _ (c .before .before .before .pre .2) .1)
 
-enum-known-c-5 : tie.Need-enum-known-c-5
-enum-known-c-5 c = search needs
-
 mark-number-requires : tie.Need-mark-number-requires
 mark-number-requires c κs = within-few _ (c .before .before .before .pre .2) .0
-
-enum-told : tie.Need-enum-told
-enum-told c = search needs
-
-end-number-requires : tie.Need-end-number-requires
-end-number-requires c κs = search needs
 
 returns : tie.Need-returns
 unfolding legalBy
@@ -70,18 +48,18 @@ pub legal-spec : {M : Type 1} → statement M
 legal-spec =
     tie.close
     (tie.spec
-    enum-known-c
+    (λ c. search needs)
     show-number-requires
-    enum-known-c-2
+    (λ c. search needs)
     open-number-requires
-    enum-known-c-3
+    (λ c. search needs)
     bring-number-requires
-    enum-known-c-4
+    (λ c. search needs)
     join-number-requires
-    enum-known-c-5
+    (λ c. search needs)
     mark-number-requires
-    enum-told
-    end-number-requires
+    (λ c. search needs)
+    (λ c κs. search needs)
     returns
     returns-2
     returns-3

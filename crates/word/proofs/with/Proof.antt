@@ -6,8 +6,5 @@ use Rattle.word.proofs.with.Tie as tie
 returns : tie.Need-returns
 returns c = rw (c .if1 .taken) refl
 
-returns-2 : tie.Need-returns-2
-returns-2 c = search needs
-
 pub with-spec : {M : Type 1} → statement M
-with-spec = tie.close (tie.spec returns returns-2)
+with-spec = tie.close (tie.spec returns (λ c. search needs))

@@ -1,13 +1,10 @@
 use borrow.Author.Needs.{needs}
-use Rattle.candidates.specs.Collected.{Added, added-start, added-next, added-count}
+use Rattle.candidates.specs.laws.Collected.{Added, added-start, added-next, added-count}
 use mathlib.Core.Path.{refl}
 use native.Mathlib.Omega.{arith}
 use Prim.Native.Nat.{_-_, _≤_}
 use Rattle.candidates.proofs.all.add_flags.Statement.{statement}
 use Rattle.candidates.proofs.all.add_flags.Tie as tie
-use Rattle.candidates.proofs.all.add_flags.Reads as reads
-use Rattle.candidates.proofs.all.add_flags.Lts as lts
-use Rattle.candidates.proofs.all.flag_of.Reads as flag-of-reads
 
 abbrev Inv-loop : tie.InvT-loop
 Inv-loop m all₀ found i₀ all i = Added i all₀ found all × (i ≤ m)
@@ -23,9 +20,6 @@ element-copy-out-flag-of c = omega (arith, c .loop-test .taken, c .before .befor
 
 element-copy-out-flag-of-2 : tie.Need-element-copy-out-flag-of-2 Inv-loop μ-loop
 element-copy-out-flag-of-2 c = omega (arith, c .before .loop-test .taken, c .before .before .before .pre .0)
-
-flag-of-requires : tie.Need-flag-of-requires Inv-loop μ-loop
-flag-of-requires c κs = search needs
 
 element-write-all : tie.Need-element-write-all Inv-loop μ-loop
 element-write-all c = omega (arith, c .before .before .before .loop-test .taken, c .before .before .before .before .before .pre .0)
@@ -51,7 +45,7 @@ add-flags-spec =
     loop-holds
     element-copy-out-flag-of
     element-copy-out-flag-of-2
-    flag-of-requires
+    (λ c κs. search needs)
     element-write-all
     add-i
     loop-less

@@ -1,33 +1,8 @@
-use Rattle.candidates.specs.Collected.{grown-entity, grown-other}
+use Rattle.candidates.specs.laws.Collected.{grown-entity, grown-other}
 use mathlib.Core.Path.{refl}
 use borrow.Author.Needs.{needs}
 use Rattle.candidates.proofs.all.add_found.Statement.{statement}
 use Rattle.candidates.proofs.all.add_found.Tie as tie
-use Rattle.candidates.proofs.all.add_found.Reads as reads
-use Rattle.candidates.proofs.all.add_found.Lts as lts
-use Rattle.candidates.proofs.all.add_flags.Reads as add-flags-reads
-use Rattle.frontier.proofs.reached.Reads as reached-reads
-
-enum-known-x : tie.Need-enum-known-x
-enum-known-x c = search needs
-
-reached-requires : tie.Need-reached-requires
-reached-requires c κs = search needs
-
-add-flags-requires : tie.Need-add-flags-requires
-add-flags-requires c κs = search needs
-
-enum-told : tie.Need-enum-told
-enum-told c = search needs
-
-enum-told-2 : tie.Need-enum-told-2
-enum-told-2 c = search needs
-
-enum-told-3 : tie.Need-enum-told-3
-enum-told-3 c = search needs
-
-enum-told-4 : tie.Need-enum-told-4
-enum-told-4 c = search needs
 
 returns : tie.Need-returns
 returns c = grown-entity (c .before .before .before .before .before .x .given .1) (c .before .before .before .reached .ensures) (c .add-flags .ensures)
@@ -48,13 +23,13 @@ pub add-found-spec : {M : Type 1} → statement M
 add-found-spec =
     tie.close
     (tie.spec
-    enum-known-x
-    reached-requires
-    add-flags-requires
-    enum-told
-    enum-told-2
-    enum-told-3
-    enum-told-4
+    (λ c. search needs)
+    (λ c κs. search needs)
+    (λ c κs. search needs)
+    (λ c. search needs)
+    (λ c. search needs)
+    (λ c. search needs)
+    (λ c. search needs)
     returns
     returns-2
     returns-3

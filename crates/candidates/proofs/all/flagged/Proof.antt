@@ -1,18 +1,13 @@
 use Prim.Native.Nat.{_-_, _≤_}
 use native.Mathlib.Omega.{arith}
 use mathlib.Core.Path.{refl}
-use Rattle.rt0.specs.Pool.{poolOf}
-use Rattle.rules.specs.Table.{chosen}
-use Rattle.moves.specs.Stops.{Told, told-start, told-next}
-use Rattle.candidates.specs.All.{isFrom, told-count}
+use Rattle.rt0.specs.laws.Pool.{poolOf}
+use Rattle.rules.specs.laws.Table.{chosen}
+use Rattle.moves.specs.laws.Stops.{Told, told-start, told-next}
+use Rattle.candidates.specs.laws.All.{isFrom, told-count}
 use borrow.Author.Needs.{needs}
 use Rattle.candidates.proofs.all.flagged.Statement.{statement}
 use Rattle.candidates.proofs.all.flagged.Tie as tie
-use Rattle.candidates.proofs.all.flagged.Reads as reads
-use Rattle.candidates.proofs.all.flagged.Lts as lts
-use Rattle.candidates.proofs.all.flag_of.Reads as flag-of-reads
-use Rattle.candidates.proofs.all.is_from.Reads as is-from-reads
-use Rattle.rt0.proofs.body_at.Reads as body-at-reads
 
 abbrev Inv-loop : tie.InvT-loop
 Inv-loop m heads kinds numbers words head part first named src deps on rows a r₀ k₀ r k = Told (isFrom (chosen (poolOf m heads kinds numbers) on) a) (poolOf m heads kinds numbers) k r × (k ≤ m)
@@ -22,24 +17,6 @@ abbrev μ-loop : tie.MeasureT-loop
 
 loop-holds : tie.Need-loop-holds Inv-loop μ-loop
 loop-holds c = (told-start _ _ _ refl, omega arith)
-
-body-at-requires : tie.Need-body-at-requires Inv-loop μ-loop
-body-at-requires c κs = search needs
-
-is-from-requires : tie.Need-is-from-requires Inv-loop μ-loop
-is-from-requires c κs = search needs
-
-flag-of-requires : tie.Need-flag-of-requires Inv-loop μ-loop
-flag-of-requires c κs = search needs
-
-array-write-r : tie.Need-array-write-r Inv-loop μ-loop
-array-write-r c = search needs
-
-add-k : tie.Need-add-k Inv-loop μ-loop
-add-k c = omega arith
-
-loop-less : tie.Need-loop-less Inv-loop μ-loop
-loop-less c = omega arith
 
 loop-again : tie.Need-loop-again Inv-loop μ-loop
 loop-again c = (told-next _ _ (c .before .before .before .before .loop .inv .0) (omega (arith, (c .before .before .before .loop-test .taken), (c .before .before .before .before .before .pre .0))) (c .before .before .body-at .ensures) (c .before .is-from .ensures) (c .flag-of .ensures) refl, omega (arith, c .before .before .before .loop-test .taken))
@@ -54,11 +31,11 @@ flagged-spec =
     Inv-loop
     μ-loop
     loop-holds
-    body-at-requires
-    is-from-requires
-    flag-of-requires
-    array-write-r
-    add-k
-    loop-less
+    (λ c κs. search needs)
+    (λ c κs. search needs)
+    (λ c κs. search needs)
+    (λ c. search needs)
+    (λ c. omega arith)
+    (λ c. omega arith)
     loop-again
     returns)

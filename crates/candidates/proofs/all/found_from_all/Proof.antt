@@ -1,17 +1,12 @@
-use Rattle.candidates.specs.Collected.{Collected, collected-start, collected-skip, collected-next, collected-count}
-use Rattle.propagation.specs.Flags.{flag}
-use Rattle.rt0.specs.Pool.{poolOf}
+use Rattle.candidates.specs.laws.Collected.{Collected, collected-start, collected-skip, collected-next, collected-count}
+use Rattle.propagation.specs.laws.Flags.{flag}
+use Rattle.rt0.specs.laws.Pool.{poolOf}
 use mathlib.Core.Bool.{true}
 use mathlib.Core.Path.{_≡_}
 use native.Mathlib.Omega.{arith}
 use Prim.Native.Nat.{_-_, _≤_, _<_}
 use Rattle.candidates.proofs.all.found_from_all.Statement.{statement}
 use Rattle.candidates.proofs.all.found_from_all.Tie as tie
-use Rattle.candidates.proofs.all.found_from_all.Reads as reads
-use Rattle.candidates.proofs.all.found_from_all.Lts as lts
-use Rattle.candidates.proofs.all.add_found.Reads as add-found-reads
-use Rattle.candidates.proofs.all.next_flagged.Reads as next-flagged-reads
-use Rattle.rt0.proofs.body_at.Reads as body-at-reads
 
 abbrev Inv-loop : tie.InvT-loop
 Inv-loop m heads kinds numbers on stop flags r all₀ k₀ all k = Collected (poolOf m heads kinds numbers) on stop flags r k all × (k ≤ m) × (k < m → flag flags k ≡ true)

@@ -1,29 +1,8 @@
 use mathlib.Core.Path.{refl}
-use Rattle.candidates.specs.All.{from-entity, from-other}
+use Rattle.candidates.specs.laws.All.{from-entity, from-other}
 use borrow.Author.Needs.{needs}
 use Rattle.candidates.proofs.all.is_from.Statement.{statement}
 use Rattle.candidates.proofs.all.is_from.Tie as tie
-use Rattle.candidates.proofs.all.is_from.Reads as reads
-use Rattle.candidates.proofs.all.is_from.Lts as lts
-use Rattle.relation.proofs.ask.Reads as ask-reads
-
-enum-told : tie.Need-enum-told
-enum-told c = search needs
-
-ask-requires : tie.Need-ask-requires
-ask-requires c κs = search needs
-
-enum-told-2 : tie.Need-enum-told-2
-enum-told-2 c = search needs
-
-enum-told-3 : tie.Need-enum-told-3
-enum-told-3 c = search needs
-
-enum-told-4 : tie.Need-enum-told-4
-enum-told-4 c = search needs
-
-enum-told-5 : tie.Need-enum-told-5
-enum-told-5 c = search needs
 
 returns : tie.Need-returns
 returns c = from-entity _ _ (c .before .enum-told .given .1) (c .ask .ensures)
@@ -44,12 +23,12 @@ pub is-from-spec : {M : Type 1} → statement M
 is-from-spec =
     tie.close
     (tie.spec
-    enum-told
-    ask-requires
-    enum-told-2
-    enum-told-3
-    enum-told-4
-    enum-told-5
+    (λ c. search needs)
+    (λ c κs. search needs)
+    (λ c. search needs)
+    (λ c. search needs)
+    (λ c. search needs)
+    (λ c. search needs)
     returns
     returns-2
     returns-3

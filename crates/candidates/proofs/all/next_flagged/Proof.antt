@@ -1,13 +1,11 @@
-use Rattle.candidates.specs.Skipped.{Skipped, skipped-start, skipped-next}
-use Rattle.propagation.specs.Flags.{flag}
+use Rattle.candidates.specs.laws.Skipped.{Skipped, skipped-start, skipped-next}
+use Rattle.propagation.specs.laws.Flags.{flag}
 use borrow.Author.Tests.{eq-eqb, ne-eqb}
 use mathlib.Core.Path.{refl}
 use native.Mathlib.Omega.{arith}
 use Prim.Native.Nat.{_-_}
 use Rattle.candidates.proofs.all.next_flagged.Statement.{statement}
 use Rattle.candidates.proofs.all.next_flagged.Tie as tie
-use Rattle.candidates.proofs.all.next_flagged.Reads as reads
-use Rattle.candidates.proofs.all.next_flagged.Lts as lts
 
 abbrev Inv-loop : tie.InvT-loop
 Inv-loop m flags from k₀ k = Skipped (flag flags) k₀ m k

@@ -1,21 +1,16 @@
-use Rattle.candidates.specs.All.{offerRoles, roles-skip, roles-taken}
-use Rattle.candidates.specs.Skipped.{folded-skip}
-use Rattle.candidates.specs.Offers.{folded, folded-start, folded-next, folded-all}
+use Rattle.candidates.specs.laws.All.{offerRoles, roles-skip, roles-taken}
+use Rattle.candidates.specs.laws.Skipped.{folded-skip}
+use Rattle.candidates.specs.laws.Offers.{folded, folded-start, folded-next, folded-all}
 use Rattle.moves.specs.Wanted.{isDone}
-use Rattle.graph.specs.Graph.{nodesOf, edgesOf}
-use Rattle.propagation.specs.Flags.{flag}
-use Rattle.rt0.specs.Pool.{poolOf}
+use Rattle.graph.specs.laws.Graph.{nodesOf, edgesOf}
+use Rattle.propagation.specs.laws.Flags.{flag}
+use Rattle.rt0.specs.laws.Pool.{poolOf}
 use mathlib.Core.Bool.{true}
 use mathlib.Core.Path.{_≡_}
 use native.Mathlib.Omega.{arith}
 use Prim.Native.Nat.{_-_, _≤_, _<_}
 use Rattle.candidates.proofs.all.with_roles.Statement.{statement}
 use Rattle.candidates.proofs.all.with_roles.Tie as tie
-use Rattle.candidates.proofs.all.with_roles.Reads as reads
-use Rattle.candidates.proofs.all.with_roles.Lts as lts
-use Rattle.candidates.proofs.all.next_flagged.Reads as next-flagged-reads
-use Rattle.candidates.proofs.all.with_role.Reads as with-role-reads
-use Rattle.rt0.proofs.body_at.Reads as body-at-reads
 
 abbrev Inv-loop : tie.InvT-loop
 Inv-loop m heads kinds numbers flags nodes edges i n r best₀ k₀ best k = (best ≡ folded k (offerRoles (isDone (nodesOf nodes) (edgesOf edges) i) (poolOf m heads kinds numbers) flags n r) best₀) × (k ≤ m) × (k < m → flag flags k ≡ true)

@@ -1,20 +1,10 @@
-use Rattle.candidates.specs.DoneLaws.{better-not, better-done, better-open}
+use Rattle.candidates.specs.laws.Done.{better-not, better-done, better-open}
 use borrow.Author.Needs.{needs}
 use Rattle.candidates.proofs.done.better.Statement.{statement}
 use Rattle.candidates.proofs.done.better.Tie as tie
-use Rattle.candidates.proofs.done.better.Reads as reads
-use Rattle.candidates.proofs.done.better.Lts as lts
-use Rattle.candidates.proofs.done.improves.Reads as improves-reads
-use Rattle.candidates.proofs.done.is_done.Reads as is-done-reads
-
-improves-requires : tie.Need-improves-requires
-improves-requires c κs = search needs
 
 returns : tie.Need-returns
 returns c = better-not _ _ _ (c .before .improves .ensures) (c .if1 .taken)
-
-is-done-requires : tie.Need-is-done-requires
-is-done-requires c κs = search needs
 
 returns-2 : tie.Need-returns-2
 returns-2 c = better-done _ _ _ (c .before .before .before .improves .ensures) (c .before .before .if1 .left) (c .before .is-done .ensures) (c .if2 .taken)
@@ -23,4 +13,4 @@ returns-3 : tie.Need-returns-3
 returns-3 c = better-open _ _ _ (c .before .before .before .improves .ensures) (c .before .before .if1 .left) (c .before .is-done .ensures) (c .if2 .left)
 
 pub better-spec : {M : Type 1} → statement M
-better-spec = tie.close (tie.spec improves-requires returns is-done-requires returns-2 returns-3)
+better-spec = tie.close (tie.spec (λ c κs. search needs) returns (λ c κs. search needs) returns-2 returns-3)

@@ -1,16 +1,10 @@
-use Rattle.candidates.specs.Frontiers.{issuer-first}
+use Rattle.candidates.specs.laws.Frontiers.{issuer-first}
 use borrow.Author.Needs.{needs}
 use Rattle.candidates.proofs.frontiers.issuer_edges.Statement.{statement}
 use Rattle.candidates.proofs.frontiers.issuer_edges.Tie as tie
-use Rattle.candidates.proofs.frontiers.issuer_edges.Reads as reads
-use Rattle.candidates.proofs.frontiers.issuer_edges.Lts as lts
-use Rattle.candidates.proofs.members.with_frontier.Reads as with-frontier-reads
-
-with-frontier-requires : tie.Need-with-frontier-requires
-with-frontier-requires c κs = search needs
 
 returns : tie.Need-returns
 returns c = let s = c .before .before .before .before .before .before .before .before in issuer-first (s .args .t1) (s .pre .0) _ (s .args .x) (s .args .a) (c .with-frontier .ensures)
 
 pub issuer-edges-spec : {M : Type 1} → statement M
-issuer-edges-spec = tie.close (tie.spec with-frontier-requires returns)
+issuer-edges-spec = tie.close (tie.spec (λ c κs. search needs) returns)

@@ -1,16 +1,10 @@
-use Rattle.candidates.specs.Frontiers.{simp-first}
+use Rattle.candidates.specs.laws.Frontiers.{simp-first}
 use borrow.Author.Needs.{needs}
 use Rattle.candidates.proofs.frontiers.other_edges.Statement.{statement}
 use Rattle.candidates.proofs.frontiers.other_edges.Tie as tie
-use Rattle.candidates.proofs.frontiers.other_edges.Reads as reads
-use Rattle.candidates.proofs.frontiers.other_edges.Lts as lts
-use Rattle.candidates.proofs.subject.to_subject.Reads as to-subject-reads
-
-to-subject-requires : tie.Need-to-subject-requires
-to-subject-requires c κs = search needs
 
 returns : tie.Need-returns
 returns c = let s = c .before .before .before .before .before .before .before .before in simp-first (s .args .t1) (s .pre .0) _ (s .args .x) (s .args .a) (c .to-subject .ensures)
 
 pub other-edges-spec : {M : Type 1} → statement M
-other-edges-spec = tie.close (tie.spec to-subject-requires returns)
+other-edges-spec = tie.close (tie.spec (λ c κs. search needs) returns)

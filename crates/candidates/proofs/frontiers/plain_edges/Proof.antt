@@ -1,16 +1,10 @@
-use Rattle.candidates.specs.Frontiers.{sens-first}
+use Rattle.candidates.specs.laws.Frontiers.{sens-first}
 use borrow.Author.Needs.{needs}
 use Rattle.candidates.proofs.frontiers.plain_edges.Statement.{statement}
 use Rattle.candidates.proofs.frontiers.plain_edges.Tie as tie
-use Rattle.candidates.proofs.frontiers.plain_edges.Reads as reads
-use Rattle.candidates.proofs.frontiers.plain_edges.Lts as lts
-use Rattle.candidates.proofs.subject.to_subject.Reads as to-subject-reads
-
-to-subject-requires : tie.Need-to-subject-requires
-to-subject-requires c κs = search needs
 
 returns : tie.Need-returns
 returns c = let s = c .before .before .before .before .before .before .before .before in sens-first (s .args .t1) (s .pre .0) _ (s .args .x) (s .args .a) (s .pre .3) (c .to-subject .ensures)
 
 pub plain-edges-spec : {M : Type 1} → statement M
-plain-edges-spec = tie.close (tie.spec to-subject-requires returns)
+plain-edges-spec = tie.close (tie.spec (λ c κs. search needs) returns)

@@ -1,16 +1,13 @@
 use Prim.Native.Nat.{_-_, _≤_}
 use native.Mathlib.Omega.{arith}
 use mathlib.Core.Path.{_≡_}
-use Rattle.rt0.specs.Pool.{poolOf}
-use Rattle.graph.specs.Graph.{nodesOf, edgesOf}
+use Rattle.rt0.specs.laws.Pool.{poolOf}
+use Rattle.graph.specs.laws.Graph.{nodesOf, edgesOf}
 use Rattle.moves.specs.Wanted.{isDone}
-use Rattle.candidates.specs.Offers.{folded, offer, folded-start, folded-next, folded-all}
-use Rattle.candidates.specs.Goals.{isNamedHead, headEdge}
+use Rattle.candidates.specs.laws.Offers.{folded, offer, folded-start, folded-next, folded-all}
+use Rattle.candidates.specs.laws.Goals.{isNamedHead, headEdge}
 use Rattle.candidates.proofs.goals.with_heads.Statement.{statement}
 use Rattle.candidates.proofs.goals.with_heads.Tie as tie
-use Rattle.candidates.proofs.goals.with_heads.Reads as reads
-use Rattle.candidates.proofs.goals.with_heads.Lts as lts
-use Rattle.candidates.proofs.goals.with_head.Reads as with-head-reads
 
 abbrev Inv-loop : tie.InvT-loop
 Inv-loop m heads kinds numbers on nodes edges i n r best₀ k₀ best k = (best ≡ folded k (offer (isDone (nodesOf nodes) (edgesOf edges) i) (isNamedHead (poolOf m heads kinds numbers) on r) (headEdge (poolOf m heads kinds numbers) n)) best₀) × (k ≤ m)
@@ -24,12 +21,6 @@ loop-holds c = (folded-start _ _, omega arith)
 with-head-requires : tie.Need-with-head-requires Inv-loop μ-loop
 with-head-requires c κs = (omega (arith, c .before .before .pre .0, c .loop-test .taken), c .before .before .pre .1, c .before .before .pre .2)
 
-add-k : tie.Need-add-k Inv-loop μ-loop
-add-k c = omega arith
-
-loop-less : tie.Need-loop-less Inv-loop μ-loop
-loop-less c = omega arith
-
 loop-again : tie.Need-loop-again Inv-loop μ-loop
 loop-again c = (folded-next _ _ (c .before .before .loop .inv .0) (c .with-head .ensures), omega (arith, c .before .loop-test .taken))
 
@@ -39,4 +30,4 @@ returns c = folded-all _ _ (c .before .loop .inv .0) (c .loop-test .left) (c .be
 pub with-heads-spec : {M : Type 1} → statement M
 with-heads-spec =
     tie.close
-    (tie.spec Inv-loop μ-loop loop-holds with-head-requires add-k loop-less loop-again returns)
+    (tie.spec Inv-loop μ-loop loop-holds with-head-requires (λ c. omega arith) (λ c. omega arith) loop-again returns)

@@ -3,16 +3,11 @@ use native.Mathlib.Omega.{arith}
 use mathlib.Core.Bool.{true}
 use mathlib.Core.Path.{_≡_}
 use borrow.Author.Needs.{needs}
-use Rattle.class.specs.Find.{Missed, missed-start, missed-more, any-at, any-none}
-use Rattle.candidates.specs.Skipped.{missed-skip}
-use Rattle.candidates.specs.Links.{isMonitor, isCompleteAt, complete-skip, complete-goal, child-inside}
+use Rattle.class.specs.laws.Find.{Missed, missed-start, missed-more, any-at, any-none}
+use Rattle.candidates.specs.laws.Skipped.{missed-skip}
+use Rattle.candidates.specs.laws.Links.{isMonitor, isCompleteAt, complete-skip, complete-goal, child-inside}
 use Rattle.candidates.proofs.links.any_complete.Statement.{statement}
 use Rattle.candidates.proofs.links.any_complete.Tie as tie
-use Rattle.candidates.proofs.links.any_complete.Reads as reads
-use Rattle.candidates.proofs.links.any_complete.Lts as lts
-use Rattle.candidates.proofs.links.next_monitor.Reads as next-monitor-reads
-use Rattle.word.proofs.wide.Reads as wide-reads
-use Rattle.states.proofs.is_complete.Reads as is-complete-reads
 
 abbrev Inv-loop : tie.InvT-loop
 Inv-loop sat failed i nodes edges m j₀ j = Missed (isCompleteAt nodes edges i) (λ k. k) j × (j ≤ m) × (j < m → isMonitor (edges .kind) (edges .parent) i j ≡ true)
@@ -28,9 +23,6 @@ loop-holds c = let s = c .next-monitor .ensures in (missed-skip _ (missed-start 
 
 element-copy-out-wide : tie.Need-element-copy-out-wide Inv-loop μ-loop
 element-copy-out-wide c = omega (arith, c .before .before .before .before .before .before .pre .1, c .loop-test .taken)
-
-wide-requires : tie.Need-wide-requires Inv-loop μ-loop
-wide-requires c κs = search needs
 
 is-complete-requires : tie.Need-is-complete-requires Inv-loop μ-loop
 is-complete-requires c κs = let s = c .before .before .before .before .before .before .before .before .before .before .before .before .before .before .before .before .before .before .before .before .before .before .before .before .before .before in (child-inside (s .args .t1) (s .args .t2) (s .pre .2) (c .before .before .before .before .before .before .before .before .before .before .before .before .before .before .before .before .before .before .before .before .before .loop .j) (c .before .before .before .before .before .before .before .before .before .before .before .before .before .before .before .before .before .before .before .before .loop-test .taken) (c .before .before .before .before .before .before .before .before .before .before .before .before .before .before .before .before .before .before .wide .ensures), s .pre .0, s .pre .1, s .pre .3)
@@ -62,7 +54,7 @@ any-complete-spec =
     next-monitor-requires
     loop-holds
     element-copy-out-wide
-    wide-requires
+    (λ c κs. search needs)
     is-complete-requires
     returns
     add-next-monitor

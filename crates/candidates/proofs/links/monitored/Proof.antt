@@ -1,15 +1,11 @@
-use Rattle.candidates.specs.Links.{monitoring-room}
+use Rattle.candidates.specs.laws.Links.{monitoring-room, Monitoring, monitoring-start, monitoring-hit, monitoring-miss, monitoring-all}
 use Prim.Native.Nat.{_-_, _≤_}
 use native.Mathlib.Omega.{arith}
 use mathlib.Core.Logic.{⊎-elim}
 use borrow.Author.Needs.{needs}
-use Rattle.graph.specs.Graph.{edgesFrom}
-use Rattle.candidates.specs.Links.{Monitoring, monitoring-start, monitoring-hit, monitoring-miss, monitoring-all}
+use Rattle.graph.specs.laws.Graph.{edgesFrom}
 use Rattle.candidates.proofs.links.monitored.Statement.{statement}
 use Rattle.candidates.proofs.links.monitored.Tie as tie
-use Rattle.candidates.proofs.links.monitored.Reads as reads
-use Rattle.candidates.proofs.links.monitored.Lts as lts
-use Rattle.word.proofs.wide.Reads as wide-reads
 
 abbrev Inv-loop : tie.InvT-loop
 Inv-loop m kind parent child i r₀ j₀ r j = Monitoring (edgesFrom m kind parent child) i j r × (j ≤ m)
@@ -23,9 +19,6 @@ loop-holds c = (monitoring-start _ _, omega arith)
 element-copy-out-wide : tie.Need-element-copy-out-wide Inv-loop μ-loop
 element-copy-out-wide c = omega (arith, c .before .before .pre, c .loop-test .taken)
 
-wide-requires : tie.Need-wide-requires Inv-loop μ-loop
-wide-requires c κs = search needs
-
 element-copy-out-if1 : tie.Need-element-copy-out-if1 Inv-loop μ-loop
 element-copy-out-if1 c = omega (arith, c .before .before .before .before .pre, c .before .before .loop-test .taken)
 
@@ -34,9 +27,6 @@ element-copy-out-if1-2 c = omega (arith, c .before .before .before .before .befo
 
 array-write-r : tie.Need-array-write-r Inv-loop μ-loop
 array-write-r c = let s = c .before .before .before .before .before .before .before in monitoring-room (edgesFrom (s .args .m) (s .args .kind .now) (s .args .parent .now) (s .args .child .now)) (s .args .i) (c .before .before .before .before .before .before .loop .j) (c .before .before .before .wide .result) (c .if1 .taken)
-
-add-j : tie.Need-add-j Inv-loop μ-loop
-add-j c = omega arith
 
 loop-less : tie.Need-loop-less Inv-loop μ-loop
 loop-less c = omega (arith, c .before .before .before .before .before .loop-test .taken)
@@ -55,11 +45,11 @@ monitored-spec =
     μ-loop
     loop-holds
     element-copy-out-wide
-    wide-requires
+    (λ c κs. search needs)
     element-copy-out-if1
     element-copy-out-if1-2
     array-write-r
-    add-j
+    (λ c. omega arith)
     loop-less
     loop-again
     returns)

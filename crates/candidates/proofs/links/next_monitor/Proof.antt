@@ -1,12 +1,9 @@
 use Prim.Native.Nat.{_-_}
 use native.Mathlib.Omega.{arith}
-use Rattle.candidates.specs.Skipped.{Skipped, skipped-start, skipped-next, first-here, first-end}
-use Rattle.candidates.specs.Links.{isMonitor}
+use Rattle.candidates.specs.laws.Skipped.{Skipped, skipped-start, skipped-next, first-here, first-end}
+use Rattle.candidates.specs.laws.Links.{isMonitor}
 use Rattle.candidates.proofs.links.next_monitor.Statement.{statement}
 use Rattle.candidates.proofs.links.next_monitor.Tie as tie
-use Rattle.candidates.proofs.links.next_monitor.Reads as reads
-use Rattle.candidates.proofs.links.next_monitor.Lts as lts
-use Rattle.candidates.proofs.links.is_monitor.Reads as is-monitor-reads
 
 abbrev Inv-loop : tie.InvT-loop
 Inv-loop m kind parent i from j₀ j = Skipped (isMonitor kind parent i) j₀ m j

@@ -1,12 +1,9 @@
 use Prim.Native.Nat.{_-_}
 use native.Mathlib.Omega.{arith}
-use Rattle.candidates.specs.Skipped.{Skipped, skipped-start, skipped-next, first-here, first-end}
-use Rattle.candidates.specs.Links.{isSolution}
+use Rattle.candidates.specs.laws.Skipped.{Skipped, skipped-start, skipped-next, first-here, first-end}
+use Rattle.candidates.specs.laws.Links.{isSolution}
 use Rattle.candidates.proofs.links.next_solution.Statement.{statement}
 use Rattle.candidates.proofs.links.next_solution.Tie as tie
-use Rattle.candidates.proofs.links.next_solution.Reads as reads
-use Rattle.candidates.proofs.links.next_solution.Lts as lts
-use Rattle.candidates.proofs.links.is_solution.Reads as is-solution-reads
 
 abbrev Inv-loop : tie.InvT-loop
 Inv-loop count m kind parent child monitors sat from j₀ j = Skipped (isSolution count kind parent child monitors sat) j₀ m j

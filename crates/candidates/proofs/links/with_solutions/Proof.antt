@@ -3,18 +3,13 @@ use native.Mathlib.Omega.{arith}
 use mathlib.Core.Bool.{true}
 use mathlib.Core.Path.{_≡_}
 use borrow.Author.Needs.{needs}
-use Rattle.graph.specs.Graph.{nodesOf, edgesOf}
+use Rattle.graph.specs.laws.Graph.{nodesOf, edgesOf}
 use Rattle.moves.specs.Wanted.{isDone}
-use Rattle.candidates.specs.Offers.{folded, offer, folded-start, folded-next, folded-all}
-use Rattle.candidates.specs.Skipped.{folded-skip}
-use Rattle.candidates.specs.Links.{isSolution, isSolved, solvedEdge, solution-room, solved-here, solved-skip}
+use Rattle.candidates.specs.laws.Offers.{folded, offer, folded-start, folded-next, folded-all}
+use Rattle.candidates.specs.laws.Skipped.{folded-skip}
+use Rattle.candidates.specs.laws.Links.{isSolution, isSolved, solvedEdge, solution-room, solved-here, solved-skip}
 use Rattle.candidates.proofs.links.with_solutions.Statement.{statement}
 use Rattle.candidates.proofs.links.with_solutions.Tie as tie
-use Rattle.candidates.proofs.links.with_solutions.Reads as reads
-use Rattle.candidates.proofs.links.with_solutions.Lts as lts
-use Rattle.candidates.proofs.links.next_solution.Reads as next-solution-reads
-use Rattle.word.proofs.wide.Reads as wide-reads
-use Rattle.candidates.proofs.links.with_solution.Reads as with-solution-reads
 
 abbrev Inv-loop : tie.InvT-loop
 Inv-loop nodes monitors sat i n a r edges best₀ j₀ best j = (best ≡ folded j (offer (isDone (nodesOf nodes) (edgesOf edges) i) (isSolved nodes edges monitors sat r) (solvedEdge nodes edges n a)) best₀) × (j ≤ edges .count) × (j < edges .count → isSolution (nodes .count) (edges .kind) (edges .parent) (edges .child) monitors sat j ≡ true)
@@ -30,9 +25,6 @@ loop-holds c = let s = c .next-solution .ensures in (folded-skip _ _ (folded-sta
 
 element-copy-out-wide : tie.Need-element-copy-out-wide Inv-loop μ-loop
 element-copy-out-wide c = omega (arith, c .before .before .before .before .before .before .before .pre .1, c .loop-test .taken)
-
-wide-requires : tie.Need-wide-requires Inv-loop μ-loop
-wide-requires c κs = search needs
 
 with-solution-requires : tie.Need-with-solution-requires Inv-loop μ-loop
 with-solution-requires c κs = let s = c .before .before .before .before .before .before .before .before .before in (omega (arith, s .pre .0, solution-room _ _ _ _ _ _ _ (c .before .before .before .loop .inv .2 (c .before .before .loop-test .taken)) (c .wide .ensures)), s .pre .0, s .pre .1)
@@ -61,7 +53,7 @@ with-solutions-spec =
     next-solution-requires
     loop-holds
     element-copy-out-wide
-    wide-requires
+    (λ c κs. search needs)
     with-solution-requires
     add-next-solution
     next-solution-requires-2

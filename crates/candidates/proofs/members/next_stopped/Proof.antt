@@ -1,12 +1,9 @@
 use Prim.Native.Nat.{_-_}
 use native.Mathlib.Omega.{arith}
-use Rattle.candidates.specs.Members.{isStopped}
-use Rattle.candidates.specs.Skipped.{Skipped, skipped-start, skipped-next}
+use Rattle.candidates.specs.laws.Members.{isStopped}
+use Rattle.candidates.specs.laws.Skipped.{Skipped, skipped-start, skipped-next}
 use Rattle.candidates.proofs.members.next_stopped.Statement.{statement}
 use Rattle.candidates.proofs.members.next_stopped.Tie as tie
-use Rattle.candidates.proofs.members.next_stopped.Reads as reads
-use Rattle.candidates.proofs.members.next_stopped.Lts as lts
-use Rattle.candidates.proofs.members.is_stopped.Reads as is-stopped-reads
 
 abbrev Inv-loop : tie.InvT-loop
 Inv-loop m stop found from k₀ k = Skipped (isStopped stop found) k₀ m k

@@ -1,19 +1,15 @@
 use Prim.Native.Nat.{_-_, _≤_}
 use native.Mathlib.Omega.{arith}
 use mathlib.Core.Path.{_≡_}
-use Rattle.rt0.specs.Pool.{poolOf}
-use Rattle.graph.specs.Graph.{nodesOf, edgesOf}
+use Rattle.rt0.specs.laws.Pool.{poolOf}
+use Rattle.graph.specs.laws.Graph.{nodesOf, edgesOf}
 use Rattle.moves.specs.Wanted.{isDone}
-use Rattle.candidates.specs.Offers.{folded, offer, folded-start, folded-next, folded-all}
-use Rattle.candidates.specs.Skipped.{folded-skip}
-use Rattle.candidates.specs.Members.{isMember, memberEdge}
-use Rattle.candidates.specs.MembersLaws.{member-skip}
+use Rattle.candidates.specs.laws.Offers.{folded, offer, folded-start, folded-next, folded-all}
+use Rattle.candidates.specs.laws.Skipped.{folded-skip}
+use Rattle.candidates.specs.laws.Members.{isMember, memberEdge}
+use Rattle.candidates.specs.laws.MembersLaws.{member-skip}
 use Rattle.candidates.proofs.members.with_members.Statement.{statement}
 use Rattle.candidates.proofs.members.with_members.Tie as tie
-use Rattle.candidates.proofs.members.with_members.Reads as reads
-use Rattle.candidates.proofs.members.with_members.Lts as lts
-use Rattle.candidates.proofs.members.next_stopped.Reads as next-stopped-reads
-use Rattle.candidates.proofs.members.with_member.Reads as with-member-reads
 
 abbrev Inv-loop : tie.InvT-loop
 Inv-loop m heads kinds numbers stop found nodes edges i n entities best₀ k₀ best k = (best ≡ folded k (offer (isDone (nodesOf nodes) (edgesOf edges) i) (isMember (poolOf m heads kinds numbers) stop found entities n) (memberEdge (poolOf m heads kinds numbers) n)) best₀) × (k ≤ m)

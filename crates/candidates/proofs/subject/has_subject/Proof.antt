@@ -1,13 +1,10 @@
 use Prim.Native.Nat.{_-_}
 use native.Mathlib.Omega.{arith}
-use Rattle.rt0.specs.Pool.{poolOf}
-use Rattle.class.specs.Find.{Missed, missed-start, missed-more, any-at, any-none}
-use Rattle.candidates.specs.Subject.{isSubjectAt, hasSubject}
+use Rattle.rt0.specs.laws.Pool.{poolOf}
+use Rattle.class.specs.laws.Find.{Missed, missed-start, missed-more, any-at, any-none}
+use Rattle.candidates.specs.laws.Subject.{isSubjectAt, hasSubject}
 use Rattle.candidates.proofs.subject.has_subject.Statement.{statement}
 use Rattle.candidates.proofs.subject.has_subject.Tie as tie
-use Rattle.candidates.proofs.subject.has_subject.Reads as reads
-use Rattle.candidates.proofs.subject.has_subject.Lts as lts
-use Rattle.candidates.proofs.subject.is_subject_at.Reads as is-subject-at-reads
 
 abbrev Inv-loop : tie.InvT-loop
 Inv-loop m heads kinds numbers stop found s k₀ k = Missed (isSubjectAt (poolOf m heads kinds numbers) stop found s) (λ j. j) k
@@ -18,18 +15,9 @@ abbrev μ-loop : tie.MeasureT-loop
 loop-holds : tie.Need-loop-holds Inv-loop μ-loop
 loop-holds c = missed-start _ _
 
-is-subject-at-requires : tie.Need-is-subject-at-requires Inv-loop μ-loop
-is-subject-at-requires c κs = omega arith
-
 returns : tie.Need-returns Inv-loop μ-loop
 unfolding hasSubject
 returns c = any-at (c .before .before .before .before .args .m) (c .before .before .before .loop .inv) (c .before .before .loop-test .taken) (c .before .is-subject-at .ensures) (c .if1 .taken)
-
-add-k : tie.Need-add-k Inv-loop μ-loop
-add-k c = omega arith
-
-loop-less : tie.Need-loop-less Inv-loop μ-loop
-loop-less c = omega arith
 
 loop-again : tie.Need-loop-again Inv-loop μ-loop
 loop-again c = missed-more (c .before .before .before .loop .inv) (c .before .is-subject-at .ensures) (c .if1 .left)
@@ -45,9 +33,9 @@ has-subject-spec =
     Inv-loop
     μ-loop
     loop-holds
-    is-subject-at-requires
+    (λ c κs. omega arith)
     returns
-    add-k
-    loop-less
+    (λ c. omega arith)
+    (λ c. omega arith)
     loop-again
     returns-2)

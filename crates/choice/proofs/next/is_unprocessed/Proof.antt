@@ -1,8 +1,6 @@
-use Rattle.choice.specs.Next.{open-own, open-other}
+use Rattle.choice.specs.laws.Next.{open-own, open-other}
 use Rattle.choice.proofs.next.is_unprocessed.Statement.{statement}
 use Rattle.choice.proofs.next.is_unprocessed.Tie as tie
-use Rattle.choice.proofs.next.is_unprocessed.Reads as reads
-use Rattle.choice.proofs.next.is_unprocessed.Lts as lts
 
 returns : tie.Need-returns
 returns c = open-own _ _ _ (c .if1 .taken)

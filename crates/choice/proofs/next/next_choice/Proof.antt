@@ -2,21 +2,15 @@ use Prim.Native.Nat.{_-_, _≤_}
 use native.Mathlib.Omega.{arith}
 use mathlib.Core.Path.{refl}
 use borrow.Author.Needs.{needs}
-use Rattle.tables.specs.Tables.{tablesOf}
-use Rattle.graph.specs.Columns.{nodes-length}
-use Rattle.negotiation.specs.State.{stateOf}
-use Rattle.negotiation.specs.Within.{within-few}
+use Rattle.tables.specs.laws.Tables.{tablesOf}
+use Rattle.graph.specs.laws.Columns.{nodes-length}
+use Rattle.negotiation.specs.laws.State.{stateOf}
+use Rattle.negotiation.specs.laws.Within.{within-few}
 use Rattle.moves.specs.Rules.{endIn}
-use Rattle.choice.specs.Ready.{ready-of}
-use Rattle.choice.specs.Next.{Passed, passed-start, passed-next, passed-skip, found-here, found-nothing}
+use Rattle.choice.specs.laws.Ready.{ready-of}
+use Rattle.choice.specs.laws.Next.{Passed, passed-start, passed-next, passed-skip, found-here, found-nothing}
 use Rattle.choice.proofs.next.next_choice.Statement.{statement}
 use Rattle.choice.proofs.next.next_choice.Tie as tie
-use Rattle.choice.proofs.next.next_choice.Reads as reads
-use Rattle.choice.proofs.next.next_choice.Lts as lts
-use Rattle.choice.proofs.next.is_nothing.Reads as is-nothing-reads
-use Rattle.choice.proofs.next.next_open.Reads as next-open-reads
-use Rattle.choice.proofs.processing.choice_at.Reads as choice-at-reads
-use Rattle.update.proofs.node_of.Reads as node-of-reads
 
 abbrev Inv-loop : tie.InvT-loop
 Inv-loop own n states passed rests h nodes count i₀ i = Passed (endIn (tablesOf (own .house)) (stateOf n)) i × (i ≤ nodes .count)
@@ -38,9 +32,6 @@ node-of-requires c κs = (c .loop-test .taken, within-few _ (c .before .before .
 
 choice-at-requires : tie.Need-choice-at-requires Inv-loop μ-loop
 choice-at-requires c κs = let s = c .before .before .before .before .before .before .before .before .before .before in (ready-of (s .pre .0) (s .pre .1) (s .pre .4) (s .pre .5), c .before .loop-test .taken, s .pre .6, c .node-of .ensures)
-
-is-nothing-requires : tie.Need-is-nothing-requires Inv-loop μ-loop
-is-nothing-requires c κs = search needs
 
 returns : tie.Need-returns Inv-loop μ-loop
 unfolding endIn stateOf
@@ -74,7 +65,7 @@ next-choice-spec =
     cast-node
     node-of-requires
     choice-at-requires
-    is-nothing-requires
+    (λ c κs. search needs)
     returns
     add-next-open
     next-open-requires-2

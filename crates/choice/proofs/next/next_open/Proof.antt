@@ -1,13 +1,9 @@
 use Prim.Native.Nat.{_-_}
 use native.Mathlib.Omega.{arith}
-use borrow.Author.Needs.{needs}
-use Rattle.choice.specs.Next.{openAt}
-use Rattle.candidates.specs.Skipped.{Skipped, skipped-start, skipped-next}
+use Rattle.choice.specs.laws.Next.{openAt}
+use Rattle.candidates.specs.laws.Skipped.{Skipped, skipped-start, skipped-next}
 use Rattle.choice.proofs.next.next_open.Statement.{statement}
 use Rattle.choice.proofs.next.next_open.Tie as tie
-use Rattle.choice.proofs.next.next_open.Reads as reads
-use Rattle.choice.proofs.next.next_open.Lts as lts
-use Rattle.choice.proofs.next.is_open.Reads as is-open-reads
 
 abbrev Inv-loop : tie.InvT-loop
 Inv-loop n kind verifier state side rests from i₀ i = Skipped (openAt kind verifier state side rests) from n i

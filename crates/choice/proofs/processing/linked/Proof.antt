@@ -1,21 +1,15 @@
 use mathlib.Core.Path.{refl}
-use Rattle.tables.specs.Tables.{tablesOf}
-use Rattle.negotiation.specs.State.{stateOf}
+use Rattle.tables.specs.laws.Tables.{tablesOf}
+use Rattle.negotiation.specs.laws.State.{stateOf}
 use Rattle.moves.specs.Rules.{endIn}
-use Rattle.candidates.specs.Links.{linked-rules}
+use Rattle.candidates.specs.laws.Links.{linked-rules}
 use borrow.Author.Needs.{needs}
 use Rattle.choice.proofs.processing.linked.Statement.{statement}
 use Rattle.choice.proofs.processing.linked.Tie as tie
-use Rattle.choice.proofs.processing.linked.Reads as reads
-use Rattle.choice.proofs.processing.linked.Lts as lts
-use Rattle.candidates.proofs.link_rules.Reads as link-rules-reads
-
-link-rules-requires : tie.Need-link-rules-requires
-link-rules-requires c κs = search needs
 
 returns : tie.Need-returns
 unfolding endIn stateOf
 returns c = let s = c .before .before .before in linked-rules (endIn (tablesOf (s .args .own .house)) (stateOf (s .args .n))) (s .args .n .nodes) (s .args .n .edges) refl refl (s .pre .formed) (s .pre .nodes) (s .pre .settled) (c .link-rules .ensures)
 
 pub linked-spec : {M : Type 1} → statement M
-linked-spec = tie.close (tie.spec link-rules-requires returns)
+linked-spec = tie.close (tie.spec (λ c κs. search needs) returns)

@@ -2,12 +2,10 @@ use mathlib.Core.Path.{sym, ap}
 use mathlib.Core.Bool.{Bool, cond}
 use Prim.Native.Nat.{ℕ}
 use borrow.Author.Tests.{eq-eqb, ne-eqb}
-use Rattle.negotiation.specs.State.{stateOf}
-use Rattle.choice.specs.Sensitive.{control-verifier}
+use Rattle.negotiation.specs.laws.State.{stateOf}
+use Rattle.choice.specs.laws.Sensitive.{control-verifier}
 use Rattle.choice.proofs.sensitive.control_edge.Statement.{statement}
 use Rattle.choice.proofs.sensitive.control_edge.Tie as tie
-use Rattle.choice.proofs.sensitive.control_edge.Reads as reads
-use Rattle.choice.proofs.sensitive.control_edge.Lts as lts
 
 returns : tie.Need-returns
 unfolding stateOf

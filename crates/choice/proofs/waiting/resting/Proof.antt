@@ -1,10 +1,8 @@
 use Prim.Native.Nat.{_-_}
 use native.Mathlib.Omega.{arith}
-use Rattle.choice.specs.Waits.{SameFlags, flags-start, flags-next, unchanged-none, unchanged-all}
+use Rattle.choice.specs.laws.Waits.{SameFlags, flags-start, flags-next, unchanged-none, unchanged-all}
 use Rattle.choice.proofs.waiting.resting.Statement.{statement}
 use Rattle.choice.proofs.waiting.resting.Tie as tie
-use Rattle.choice.proofs.waiting.resting.Reads as reads
-use Rattle.choice.proofs.waiting.resting.Lts as lts
 
 abbrev Inv-loop : tie.InvT-loop
 Inv-loop n sat last waiting j₀ j = SameFlags sat last j

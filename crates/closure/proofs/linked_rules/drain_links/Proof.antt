@@ -2,8 +2,8 @@ use native.Mathlib.Omega.{arith}
 use borrow.Author.Needs.{needs}
 use lib.ListN.{length}
 use mathlib.Core.Path.{_≡_}
-use Rattle.closure.specs.Rules.{rulesOf, Grown}
-use Rattle.closure.specs.Laws.{grow-start, grow-more}
+use Rattle.closure.specs.laws.Rules.{rulesOf, Grown}
+use Rattle.closure.specs.laws.Laws.{grow-start, grow-more}
 use Rattle.closure.proofs.linked_rules.drain_links.Statement.{statement}
 use Rattle.closure.proofs.linked_rules.drain_links.Tie as tie
 
@@ -16,23 +16,11 @@ abbrev μ-loop : tie.MeasureT-loop
 owners-of-requires : tie.Need-owners-of-requires Inv-loop μ-loop
 owners-of-requires c κs = (c .pre .0 .count, c .pre .0 .src)
 
-begun-requires : tie.Need-begun-requires Inv-loop μ-loop
-begun-requires c κs = omega arith
-
 loop-holds : tie.Need-loop-holds Inv-loop μ-loop
 loop-holds c = (search needs, grow-start (rulesOf _ _ _ _ _ _ _) _ _ _ _ (c .before .before .before .pre .1))
 
-turned-requires : tie.Need-turned-requires Inv-loop μ-loop
-turned-requires c κs = omega arith
-
-least-requires : tie.Need-least-requires Inv-loop μ-loop
-least-requires c κs = omega arith
-
 returns : tie.Need-returns Inv-loop μ-loop
 returns c = c .before .before .before .before .before .loop .inv .1
-
-rest-requires : tie.Need-rest-requires Inv-loop μ-loop
-rest-requires c κs = omega arith
 
 step-requires : tie.Need-step-requires Inv-loop μ-loop
 step-requires c κs = (omega (arith, c .before .before .before .before .before .least .ensures), c .before .before .before .before .before .before .before .before .before .before .before .before .before .pre .0, c .before .before .before .before .before .before .before .before .before .loop .inv .0, c .before .before .before .before .before .before .before .before .before .loop .inv .1 .sized)
@@ -64,21 +52,6 @@ mul-touched-4 c = omega (arith, c .before .before .before .before .before .befor
 element-copy-out-touched-2 : tie.Need-element-copy-out-touched-2 Inv-loop μ-loop
 element-copy-out-touched-2 c = omega (arith, c .before .before .before .before .before .before .before .before .before .before .before .before .before .before .before .before .before .pre .0 .head .under (c .before .before .before .before .before .before .before .before .before .least .result))
 
-element-copy-out-touched-3 : tie.Need-element-copy-out-touched-3 Inv-loop μ-loop
-element-copy-out-touched-3 c = omega arith
-
-element-copy-out-touched-4 : tie.Need-element-copy-out-touched-4 Inv-loop μ-loop
-element-copy-out-touched-4 c = omega arith
-
-touched-requires : tie.Need-touched-requires Inv-loop μ-loop
-touched-requires c κs = omega arith
-
-sub-fuel : tie.Need-sub-fuel Inv-loop μ-loop
-sub-fuel c = omega arith
-
-loop-less : tie.Need-loop-less Inv-loop μ-loop
-loop-less c = omega arith
-
 loop-again : tie.Need-loop-again Inv-loop μ-loop
 loop-again c = (c .before .step .ensures .0, grow-more (rulesOf _ _ _ _ _ _ _) _ _ _ (c .before .before .before .before .before .before .before .before .before .before .before .loop .inv .1) (c .before .step .ensures .1))
 
@@ -92,12 +65,12 @@ drain-links-spec =
     Inv-loop
     μ-loop
     owners-of-requires
-    begun-requires
+    (λ c κs. omega arith)
     loop-holds
-    turned-requires
-    least-requires
+    (λ c κs. omega arith)
+    (λ c κs. omega arith)
     returns
-    rest-requires
+    (λ c κs. omega arith)
     step-requires
     mul-r
     element-copy-out-r
@@ -108,10 +81,10 @@ drain-links-spec =
     add-touched
     mul-touched-4
     element-copy-out-touched-2
-    element-copy-out-touched-3
-    element-copy-out-touched-4
-    touched-requires
-    sub-fuel
-    loop-less
+    (λ c. omega arith)
+    (λ c. omega arith)
+    (λ c κs. omega arith)
+    (λ c. omega arith)
+    (λ c. omega arith)
     loop-again
     returns-2)

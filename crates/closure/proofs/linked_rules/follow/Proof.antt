@@ -1,6 +1,6 @@
 use native.Mathlib.Omega.{arith}
-use Rattle.closure.specs.Rules.{rulesOf, Grown}
-use Rattle.closure.specs.Laws.{grow-start, grow-more}
+use Rattle.closure.specs.laws.Rules.{rulesOf, Grown}
+use Rattle.closure.specs.laws.Laws.{grow-start, grow-more}
 use Rattle.closure.proofs.linked_rules.follow.Statement.{statement}
 use Rattle.closure.proofs.linked_rules.follow.Tie as tie
 
@@ -10,47 +10,14 @@ Inv-loop n words head part first named src on mem own i lo hi rows₀ todo₀ gr
 abbrev μ-loop : tie.MeasureT-loop
 μ-loop n words head part first named src on mem own i lo hi rows₀ todo₀ grew₀ fuel₀ rows todo grew fuel = fuel
 
-mul-t20 : tie.Need-mul-t20 Inv-loop μ-loop
-mul-t20 c = omega arith
-
-mul-t21 : tie.Need-mul-t21 Inv-loop μ-loop
-mul-t21 c = omega arith
-
-element-copy-out-t24 : tie.Need-element-copy-out-t24 Inv-loop μ-loop
-element-copy-out-t24 c = omega arith
-
-mul-t26 : tie.Need-mul-t26 Inv-loop μ-loop
-mul-t26 c = omega arith
-
-add-t27 : tie.Need-add-t27 Inv-loop μ-loop
-add-t27 c = omega arith
-
-mul-t28 : tie.Need-mul-t28 Inv-loop μ-loop
-mul-t28 c = omega arith
-
-element-copy-out-t31 : tie.Need-element-copy-out-t31 Inv-loop μ-loop
-element-copy-out-t31 c = omega arith
-
 loop-holds : tie.Need-loop-holds Inv-loop μ-loop
 loop-holds c = grow-start (rulesOf _ _ _ _ _ _ _) _ _ _ _ (c .before .before .pre .2)
-
-least-requires : tie.Need-least-requires Inv-loop μ-loop
-least-requires c κs = omega arith
 
 returns : tie.Need-returns Inv-loop μ-loop
 returns c = c .before .before .before .loop .inv
 
-rest-requires : tie.Need-rest-requires Inv-loop μ-loop
-rest-requires c κs = omega arith
-
 link-requires : tie.Need-link-requires Inv-loop μ-loop
 link-requires c κs = (c .before .before .before .before .before .before .before .before .pre .0, omega (arith, c .before .before .before .least .ensures), c .before .before .before .before .before .before .before .before .pre .1, c .before .before .before .before .before .loop .inv .sized)
-
-sub-fuel : tie.Need-sub-fuel Inv-loop μ-loop
-sub-fuel c = omega arith
-
-loop-less : tie.Need-loop-less Inv-loop μ-loop
-loop-less c = omega arith
 
 loop-again : tie.Need-loop-again Inv-loop μ-loop
 loop-again c = grow-more (rulesOf _ _ _ _ _ _ _) _ _ _ (c .before .before .before .before .before .before .loop .inv) (c .link .ensures)
@@ -64,19 +31,19 @@ follow-spec =
     (tie.spec
     Inv-loop
     μ-loop
-    mul-t20
-    mul-t21
-    element-copy-out-t24
-    mul-t26
-    add-t27
-    mul-t28
-    element-copy-out-t31
+    (λ c. omega arith)
+    (λ c. omega arith)
+    (λ c. omega arith)
+    (λ c. omega arith)
+    (λ c. omega arith)
+    (λ c. omega arith)
+    (λ c. omega arith)
     loop-holds
-    least-requires
+    (λ c κs. omega arith)
     returns
-    rest-requires
+    (λ c κs. omega arith)
     link-requires
-    sub-fuel
-    loop-less
+    (λ c. omega arith)
+    (λ c. omega arith)
     loop-again
     returns-2)

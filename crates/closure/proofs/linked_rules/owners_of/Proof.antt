@@ -12,23 +12,8 @@ Inv-loop n src owners₀ j₀ owners j = length owners ≡ 260
 abbrev μ-loop : tie.MeasureT-loop
 μ-loop n src owners₀ j₀ owners j = n - j
 
-loop-holds : tie.Need-loop-holds Inv-loop μ-loop
-loop-holds c = search needs
-
-mul-mark : tie.Need-mul-mark Inv-loop μ-loop
-mul-mark c = omega arith
-
-element-copy-out-mark : tie.Need-element-copy-out-mark Inv-loop μ-loop
-element-copy-out-mark c = omega arith
-
 mark-requires : tie.Need-mark-requires Inv-loop μ-loop
 mark-requires c κs = (omega (arith, c .before .before .before .before .pre .1 .under (c .before .before .before .loop .j)), omega arith, c .before .before .before .loop .inv)
-
-add-j : tie.Need-add-j Inv-loop μ-loop
-add-j c = omega arith
-
-loop-less : tie.Need-loop-less Inv-loop μ-loop
-loop-less c = omega arith
 
 loop-again : tie.Need-loop-again Inv-loop μ-loop
 loop-again c = c .mark .ensures .sized
@@ -42,11 +27,11 @@ owners-of-spec =
     (tie.spec
     Inv-loop
     μ-loop
-    loop-holds
-    mul-mark
-    element-copy-out-mark
+    (λ c. search needs)
+    (λ c. omega arith)
+    (λ c. omega arith)
     mark-requires
-    add-j
-    loop-less
+    (λ c. omega arith)
+    (λ c. omega arith)
     loop-again
     returns)

@@ -11,17 +11,8 @@ rule-requires c κs = (c .before .before .before .pre .0, c .before .before .bef
 returns : tie.Need-returns
 returns c = (c .before .before .before .before .pre .2, c .rule .ensures .grown)
 
-mul-fresh : tie.Need-mul-fresh
-mul-fresh c = omega arith
-
-element-copy-out-fresh : tie.Need-element-copy-out-fresh
-element-copy-out-fresh c = omega arith
-
 fresh-requires : tie.Need-fresh-requires
 fresh-requires c κs = (c .before .before .before .before .before .pre .1 .first .under _, c .before .before .before .before .before .pre .0, c .before .before .before .before .before .pre .2)
-
-owned-requires : tie.Need-owned-requires
-owned-requires c κs = omega arith
 
 follow-requires : tie.Need-follow-requires
 follow-requires c κs = (c .before .before .before .before .before .before .before .before .before .before .pre .0, c .before .before .before .before .before .before .before .before .before .before .pre .1, c .before .before .before .before .before .before .before .before .before .before .pre .3)
@@ -36,9 +27,9 @@ step-spec =
     bit-requires
     rule-requires
     returns
-    mul-fresh
-    element-copy-out-fresh
+    (λ c. omega arith)
+    (λ c. omega arith)
     fresh-requires
-    owned-requires
+    (λ c κs. omega arith)
     follow-requires
     returns-2)

@@ -1,6 +1,6 @@
 use mathlib.Core.Path.{_≡_, sym, _∙_, ap}
 use lib.ListN.{length}
-use Rattle.word.specs.Bit.{without, without-less}
+use Rattle.word.specs.laws.Bit.{without, without-less}
 use native.Mathlib.Omega.{arith}
 use Rattle.closure.proofs.looks.read_word.Statement.{statement}
 use Rattle.closure.proofs.looks.read_word.Tie as tie
@@ -23,17 +23,11 @@ returns-2 c = c .before .mark .ensures .sized
 loop-holds : tie.Need-loop-holds Inv-loop μ-loop
 loop-holds c = c .before .mark .ensures .sized
 
-lowest-requires : tie.Need-lowest-requires Inv-loop μ-loop
-lowest-requires c κs = omega arith
-
 add-mark : tie.Need-add-mark Inv-loop μ-loop
 add-mark c = omega (arith, c .before .before .before .before .before .before .before .before .pre .0, c .lowest .ensures .0)
 
 mark-requires-2 : tie.Need-mark-requires-2 Inv-loop μ-loop
 mark-requires-2 c κs = (omega (arith, c .before .before .before .before .before .before .before .before .pre .0, c .lowest .ensures .0), c .before .before .before .before .before .before .before .before .pre .1, c .before .before .before .loop .inv)
-
-others-requires : tie.Need-others-requires Inv-loop μ-loop
-others-requires c κs = omega arith
 
 loop-less : tie.Need-loop-less Inv-loop μ-loop
 loop-less c = rw (c .others .ensures ∙ ap (without _) (sym (c .before .before .lowest .ensures .2))) (without-less _ _ (c .before .before .lowest .ensures .1))
@@ -54,10 +48,10 @@ read-word-spec =
     mark-requires
     returns-2
     loop-holds
-    lowest-requires
+    (λ c κs. omega arith)
     add-mark
     mark-requires-2
-    others-requires
+    (λ c κs. omega arith)
     loop-less
     loop-again
     returns-3)

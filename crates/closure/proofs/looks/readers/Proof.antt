@@ -12,17 +12,8 @@ Inv-loop n part first named few d₀ i₀ d i = length d ≡ 260
 abbrev μ-loop : tie.MeasureT-loop
 μ-loop n part first named few d₀ i₀ d i = n - i
 
-loop-holds : tie.Need-loop-holds Inv-loop μ-loop
-loop-holds c = search needs
-
 read-rule-requires : tie.Need-read-rule-requires Inv-loop μ-loop
 read-rule-requires c κs = (c .before .before .before .pre .1, c .before .before .before .pre .2, omega (arith, c .before .before .before .pre .0, c .before .loop-test .taken), c .before .before .loop .inv)
-
-add-i : tie.Need-add-i Inv-loop μ-loop
-add-i c = omega arith
-
-loop-less : tie.Need-loop-less Inv-loop μ-loop
-loop-less c = omega arith
 
 loop-again : tie.Need-loop-again Inv-loop μ-loop
 loop-again c = c .read-rule .ensures
@@ -33,4 +24,4 @@ returns c = c .before .loop .inv
 pub readers-spec : {M : Type 1} → statement M
 readers-spec =
     tie.close
-    (tie.spec Inv-loop μ-loop loop-holds read-rule-requires add-i loop-less loop-again returns)
+    (tie.spec Inv-loop μ-loop (λ c. search needs) read-rule-requires (λ c. omega arith) (λ c. omega arith) loop-again returns)

@@ -1,5 +1,5 @@
-use Rattle.closure.specs.Rules.{rulesOf}
-use Rattle.closure.specs.Laws.{grow-start, along-grown}
+use Rattle.closure.specs.laws.Rules.{rulesOf}
+use Rattle.closure.specs.laws.Laws.{grow-start, along-grown}
 use native.Mathlib.Omega.{arith}
 use Rattle.closure.proofs.narrow.along.Statement.{statement}
 use Rattle.closure.proofs.narrow.along.Tie as tie
@@ -7,17 +7,8 @@ use Rattle.closure.proofs.narrow.along.Tie as tie
 returns : tie.Need-returns
 returns c = grow-start (rulesOf _ _ _ _ _ _ _) _ _ _ _ (c .before .pre .3)
 
-element-copy-out-state : tie.Need-element-copy-out-state
-element-copy-out-state c = omega arith
-
 returns-2 : tie.Need-returns-2
 returns-2 c = grow-start (rulesOf _ _ _ _ _ _ _) _ _ _ _ (c .before .before .before .pre .3)
-
-mul-at : tie.Need-mul-at
-mul-at c = omega arith
-
-element-copy-out-at : tie.Need-element-copy-out-at
-element-copy-out-at c = omega arith
 
 mul-at-2 : tie.Need-mul-at-2
 mul-at-2 c = omega (arith, c .before .before .before .before .pre .2 .head .under (c .before .before .before .before .args .i))
@@ -27,21 +18,6 @@ mul-old c = omega (arith, c .before .before .before .before .pre .2 .head .under
 
 element-copy-out-old : tie.Need-element-copy-out-old
 element-copy-out-old c = omega (arith, c .before .before .before .before .pre .2 .head .under (c .before .before .before .before .args .i), c .before .before .before .before .pre .3)
-
-mul-gathered : tie.Need-mul-gathered
-mul-gathered c = omega arith
-
-mul-gathered-2 : tie.Need-mul-gathered-2
-mul-gathered-2 c = omega arith
-
-element-copy-out-gathered : tie.Need-element-copy-out-gathered
-element-copy-out-gathered c = omega arith
-
-mul-gathered-3 : tie.Need-mul-gathered-3
-mul-gathered-3 c = omega arith
-
-element-copy-out-gathered-2 : tie.Need-element-copy-out-gathered-2
-element-copy-out-gathered-2 c = omega arith
 
 gathered-requires : tie.Need-gathered-requires
 gathered-requires c κs = (c .before .before .before .before .before .before .before .before .pre .2 .first .under _, c .before .before .before .before .before .before .before .before .pre .2 .src)
@@ -60,18 +36,18 @@ along-spec =
     tie.close
     (tie.spec
     returns
-    element-copy-out-state
+    (λ c. omega arith)
     returns-2
-    mul-at
-    element-copy-out-at
+    (λ c. omega arith)
+    (λ c. omega arith)
     mul-at-2
     mul-old
     element-copy-out-old
-    mul-gathered
-    mul-gathered-2
-    element-copy-out-gathered
-    mul-gathered-3
-    element-copy-out-gathered-2
+    (λ c. omega arith)
+    (λ c. omega arith)
+    (λ c. omega arith)
+    (λ c. omega arith)
+    (λ c. omega arith)
     gathered-requires
     mul-rows
     element-write-rows

@@ -1,8 +1,7 @@
-use Prim.Native.Nat.{_<_}
-use mathlib.Core.Path.{_≡_, sym, _∙_, ap}
+use mathlib.Core.Path.{_≡_}
 use lib.ListN.{length}
-use Rattle.closure.specs.Rules.{rulesOf, Grown}
-use Rattle.closure.specs.Laws.{grow-start, grow-more}
+use Rattle.closure.specs.laws.Rules.{rulesOf, Grown}
+use Rattle.closure.specs.laws.Laws.{grow-start, grow-more}
 use native.Mathlib.Omega.{arith}
 use borrow.Author.Needs.{needs}
 use Rattle.closure.proofs.narrow.drain_narrow.Statement.{statement}
@@ -20,29 +19,14 @@ owners-of-requires c κs = (c .pre .0, c .pre .2 .src)
 all-named-requires : tie.Need-all-named-requires Inv-loop μ-loop
 all-named-requires c κs = c .before .pre .0
 
-element-copy-out-links : tie.Need-element-copy-out-links Inv-loop μ-loop
-element-copy-out-links c = omega arith
-
 read-on-requires : tie.Need-read-on-requires Inv-loop μ-loop
 read-on-requires c κs = (c .before .before .before .pre .0, c .before .before .before .pre .2 .head)
-
-unseen-requires : tie.Need-unseen-requires Inv-loop μ-loop
-unseen-requires c κs = omega arith
-
-begun-requires : tie.Need-begun-requires Inv-loop μ-loop
-begun-requires c κs = omega arith
 
 loop-holds : tie.Need-loop-holds Inv-loop μ-loop
 loop-holds c = (search needs, c .before .before .unseen .ensures, grow-start (rulesOf _ _ _ _ _ _ _) _ _ _ _ (c .before .before .before .before .before .before .before .pre .3))
 
-turned-requires : tie.Need-turned-requires Inv-loop μ-loop
-turned-requires c κs = omega arith
-
 returns : tie.Need-returns Inv-loop μ-loop
 returns c = c .before .before .before .loop .inv .2
-
-next-requires : tie.Need-next-requires Inv-loop μ-loop
-next-requires c κs = omega arith
 
 one-requires : tie.Need-one-requires Inv-loop μ-loop
 one-requires c κs = c .next .ensures
@@ -68,12 +52,6 @@ element-copy-out-touched c = omega (arith, c .before .before .before .before .be
 touched-requires : tie.Need-touched-requires Inv-loop μ-loop
 touched-requires c κs = c .before .before .before .before .before .before .before .before .before .next .ensures
 
-sub-fuel : tie.Need-sub-fuel Inv-loop μ-loop
-sub-fuel c = omega arith
-
-loop-less : tie.Need-loop-less Inv-loop μ-loop
-loop-less c = omega arith
-
 loop-again : tie.Need-loop-again Inv-loop μ-loop
 loop-again c = (c .before .step .ensures .0, c .before .step .ensures .1, grow-more (rulesOf _ _ _ _ _ _ _) _ _ _ (c .before .before .before .before .before .before .before .before .before .before .before .loop .inv .2) (c .before .step .ensures .2))
 
@@ -88,14 +66,14 @@ drain-narrow-spec =
     μ-loop
     owners-of-requires
     all-named-requires
-    element-copy-out-links
+    (λ c. omega arith)
     read-on-requires
-    unseen-requires
-    begun-requires
+    (λ c κs. omega arith)
+    (λ c κs. omega arith)
     loop-holds
-    turned-requires
+    (λ c κs. omega arith)
     returns
-    next-requires
+    (λ c κs. omega arith)
     one-requires
     step-requires
     mul-r
@@ -104,7 +82,7 @@ drain-narrow-spec =
     mul-touched-2
     element-copy-out-touched
     touched-requires
-    sub-fuel
-    loop-less
+    (λ c. omega arith)
+    (λ c. omega arith)
     loop-again
     returns-2)

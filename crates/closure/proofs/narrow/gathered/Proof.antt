@@ -1,4 +1,4 @@
-use Rattle.closure.specs.Rules.{memRows}
+use Rattle.closure.specs.laws.Rules.{memRows}
 use native.Mathlib.Omega.{arith}
 use Rattle.closure.proofs.narrow.gathered.Statement.{statement}
 use Rattle.closure.proofs.narrow.gathered.Tie as tie

@@ -1,5 +1,5 @@
-use mathlib.Core.Path.{_≡_, sym, _∙_, ap}
-use Rattle.word.specs.Bit.{without, without-less}
+use mathlib.Core.Path.{sym, _∙_, ap}
+use Rattle.word.specs.laws.Bit.{without, without-less}
 use native.Mathlib.Omega.{arith}
 use Rattle.closure.proofs.narrow.owned.Statement.{statement}
 use Rattle.closure.proofs.narrow.owned.Tie as tie
@@ -13,26 +13,17 @@ abbrev μ-loop : tie.MeasureT-loop
 loop-holds : tie.Need-loop-holds Inv-loop μ-loop
 loop-holds c = tt
 
-lowest-requires : tie.Need-lowest-requires Inv-loop μ-loop
-lowest-requires c κs = omega arith
-
 mul-w : tie.Need-mul-w Inv-loop μ-loop
 mul-w c = omega (arith, c .lowest .ensures .0)
 
 element-copy-out-w : tie.Need-element-copy-out-w Inv-loop μ-loop
 element-copy-out-w c = omega (arith, c .lowest .ensures .0)
 
-others-requires : tie.Need-others-requires Inv-loop μ-loop
-others-requires c κs = omega arith
-
 loop-less : tie.Need-loop-less Inv-loop μ-loop
 loop-less c = rw (c .others .ensures ∙ ap (without _) (sym (c .before .before .lowest .ensures .2))) (without-less _ _ (c .before .before .lowest .ensures .1))
 
 loop-again : tie.Need-loop-again Inv-loop μ-loop
 loop-again c = tt
-
-returns : tie.Need-returns Inv-loop μ-loop
-returns c = omega arith
 
 pub owned-spec : {M : Type 1} → statement M
 owned-spec =
@@ -41,10 +32,10 @@ owned-spec =
     Inv-loop
     μ-loop
     loop-holds
-    lowest-requires
+    (λ c κs. omega arith)
     mul-w
     element-copy-out-w
-    others-requires
+    (λ c κs. omega arith)
     loop-less
     loop-again
-    returns)
+    (λ c. omega arith))

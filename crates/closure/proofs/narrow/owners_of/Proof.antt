@@ -1,4 +1,4 @@
-use mathlib.Core.Path.{_≡_, sym, _∙_, ap}
+use mathlib.Core.Path.{_≡_}
 use Prim.Native.Nat.{_-_}
 use lib.ListN.{length}
 use native.Mathlib.Omega.{arith}
@@ -12,38 +12,17 @@ Inv-loop n src owners₀ j₀ owners j = length owners ≡ 260
 abbrev μ-loop : tie.MeasureT-loop
 μ-loop n src owners₀ j₀ owners j = n - j
 
-loop-holds : tie.Need-loop-holds Inv-loop μ-loop
-loop-holds c = search needs
-
-mul-s : tie.Need-mul-s Inv-loop μ-loop
-mul-s c = omega arith
-
-element-copy-out-s : tie.Need-element-copy-out-s Inv-loop μ-loop
-element-copy-out-s c = omega arith
-
 mul-old : tie.Need-mul-old Inv-loop μ-loop
 mul-old c = omega (arith, c .before .before .before .pre .1 .under (c .before .before .loop .j))
 
 array-read-old : tie.Need-array-read-old Inv-loop μ-loop
 array-read-old c = omega (arith, c .before .before .before .pre .1 .under (c .before .before .loop .j), c .before .before .loop .inv)
 
-one-requires : tie.Need-one-requires Inv-loop μ-loop
-one-requires c κs = omega arith
-
 mul-owners : tie.Need-mul-owners Inv-loop μ-loop
 mul-owners c = omega (arith, c .before .before .before .before .pre .1 .under (c .before .before .before .loop .j))
 
 array-write-owners : tie.Need-array-write-owners Inv-loop μ-loop
 array-write-owners c = omega (arith, c .before .before .before .before .pre .1 .under (c .before .before .before .loop .j), c .before .before .before .loop .inv)
-
-add-j : tie.Need-add-j Inv-loop μ-loop
-add-j c = omega arith
-
-loop-less : tie.Need-loop-less Inv-loop μ-loop
-loop-less c = omega arith
-
-loop-again : tie.Need-loop-again Inv-loop μ-loop
-loop-again c = search needs
 
 returns : tie.Need-returns Inv-loop μ-loop
 returns c = c .before .loop .inv
@@ -54,15 +33,15 @@ owners-of-spec =
     (tie.spec
     Inv-loop
     μ-loop
-    loop-holds
-    mul-s
-    element-copy-out-s
+    (λ c. search needs)
+    (λ c. omega arith)
+    (λ c. omega arith)
     mul-old
     array-read-old
-    one-requires
+    (λ c κs. omega arith)
     mul-owners
     array-write-owners
-    add-j
-    loop-less
-    loop-again
+    (λ c. omega arith)
+    (λ c. omega arith)
+    (λ c. search needs)
     returns)

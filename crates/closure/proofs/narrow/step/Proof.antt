@@ -1,5 +1,5 @@
-use Rattle.closure.specs.Rules.{rulesOf}
-use Rattle.closure.specs.Laws.{grow-start}
+use Rattle.closure.specs.laws.Rules.{rulesOf}
+use Rattle.closure.specs.laws.Laws.{grow-start}
 use native.Mathlib.Omega.{arith}
 use Rattle.closure.proofs.narrow.step.Statement.{statement}
 use Rattle.closure.proofs.narrow.step.Tie as tie

@@ -1,6 +1,6 @@
 use native.Mathlib.Omega.{arith}
-use Rattle.closure.specs.Rules.{rulesOf, Grown}
-use Rattle.closure.specs.Laws.{grow-start, grow-more}
+use Rattle.closure.specs.laws.Rules.{rulesOf, Grown}
+use Rattle.closure.specs.laws.Laws.{grow-start, grow-more}
 use Rattle.closure.proofs.plain_rules.drain_plain.Statement.{statement}
 use Rattle.closure.proofs.plain_rules.drain_plain.Tie as tie
 
@@ -13,14 +13,8 @@ abbrev μ-loop : tie.MeasureT-loop
 loop-holds : tie.Need-loop-holds Inv-loop μ-loop
 loop-holds c = grow-start (rulesOf _ _ _ _ _ _ _) _ _ _ _ (c .pre .1)
 
-least-requires : tie.Need-least-requires Inv-loop μ-loop
-least-requires c κs = omega arith
-
 returns : tie.Need-returns Inv-loop μ-loop
 returns c = c .before .before .before .loop .inv
-
-rest-requires : tie.Need-rest-requires Inv-loop μ-loop
-rest-requires c κs = omega arith
 
 plain-requires : tie.Need-plain-requires Inv-loop μ-loop
 plain-requires c κs = (omega (arith, c .before .before .before .least .ensures), c .before .before .before .before .before .before .pre .0, c .before .before .before .before .before .loop .inv .sized)
@@ -49,12 +43,6 @@ mul-t30 c = omega (arith, c .before .before .before .before .before .before .bef
 element-copy-out-t33 : tie.Need-element-copy-out-t33 Inv-loop μ-loop
 element-copy-out-t33 c = omega (arith, c .before .before .before .before .before .before .before .before .before .before .before .pre .0 .head .under (c .before .before .before .before .before .before .before .before .least .result))
 
-sub-fuel : tie.Need-sub-fuel Inv-loop μ-loop
-sub-fuel c = omega arith
-
-loop-less : tie.Need-loop-less Inv-loop μ-loop
-loop-less c = omega arith
-
 loop-again : tie.Need-loop-again Inv-loop μ-loop
 loop-again c = grow-more (rulesOf _ _ _ _ _ _ _) _ _ _ (c .before .before .before .before .before .before .before .loop .inv) (c .before .plain .ensures)
 
@@ -68,9 +56,9 @@ drain-plain-spec =
     Inv-loop
     μ-loop
     loop-holds
-    least-requires
+    (λ c κs. omega arith)
     returns
-    rest-requires
+    (λ c κs. omega arith)
     plain-requires
     mul-r
     element-copy-out-r
@@ -80,7 +68,7 @@ drain-plain-spec =
     add-t25
     mul-t30
     element-copy-out-t33
-    sub-fuel
-    loop-less
+    (λ c. omega arith)
+    (λ c. omega arith)
     loop-again
     returns-2)

@@ -1,8 +1,8 @@
 use Prim.Native.Nat.{ℕ, _≤_, _-_}
 use native.Mathlib.Omega.{arith}
 use mathlib.Core.Path.{subst, _≡_}
-use Rattle.closure.specs.Words.{HeldOf}
-use Rattle.closure.specs.Laws.{held-next}
+use Rattle.closure.specs.laws.Words.{HeldOf}
+use Rattle.closure.specs.laws.Laws.{held-next}
 use Rattle.closure.proofs.rounds.held.Statement.{statement}
 use Rattle.closure.proofs.rounds.held.Tie as tie
 
@@ -15,9 +15,6 @@ abbrev μ-loop : tie.MeasureT-loop
 loop-holds : tie.Need-loop-holds Inv-loop μ-loop
 loop-holds c = (record { all = λ r t l. absurd (omega arith) }, omega arith)
 
-mul-w : tie.Need-mul-w Inv-loop μ-loop
-mul-w c = omega arith
-
 add-w : tie.Need-add-w Inv-loop μ-loop
 add-w c = omega (arith, c .before .before .pre)
 
@@ -26,12 +23,6 @@ mul-w-2 c = omega (arith, c .before .before .pre)
 
 element-copy-out-w : tie.Need-element-copy-out-w Inv-loop μ-loop
 element-copy-out-w c = omega (arith, c .before .before .pre)
-
-add-r : tie.Need-add-r Inv-loop μ-loop
-add-r c = omega arith
-
-loop-less : tie.Need-loop-less Inv-loop μ-loop
-loop-less c = omega arith
 
 loop-again : tie.Need-loop-again Inv-loop μ-loop
 loop-again c = (held-next (c .before .before .loop .inv .0), omega arith)
@@ -46,11 +37,11 @@ held-spec =
     Inv-loop
     μ-loop
     loop-holds
-    mul-w
+    (λ c. omega arith)
     add-w
     mul-w-2
     element-copy-out-w
-    add-r
-    loop-less
+    (λ c. omega arith)
+    (λ c. omega arith)
     loop-again
     returns)

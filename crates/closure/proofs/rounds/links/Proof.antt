@@ -1,6 +1,6 @@
-use mathlib.Core.Path.{_≡_, sym, _∙_, ap}
-use Rattle.word.specs.Bit.{without, without-less}
-use Rattle.closure.specs.Laws.{LinksTo, links-start, links-next, links-all}
+use mathlib.Core.Path.{sym, _∙_, ap}
+use Rattle.word.specs.laws.Bit.{without, without-less}
+use Rattle.closure.specs.laws.Laws.{LinksTo, links-start, links-next, links-all}
 use native.Mathlib.Omega.{arith}
 use Rattle.closure.proofs.rounds.links.Statement.{statement}
 use Rattle.closure.proofs.rounds.links.Tie as tie
@@ -14,38 +14,8 @@ abbrev μ-loop : tie.MeasureT-loop
 loop-holds : tie.Need-loop-holds Inv-loop μ-loop
 loop-holds c = links-start _ _ _ _ _ _ _
 
-lowest-requires : tie.Need-lowest-requires Inv-loop μ-loop
-lowest-requires c κs = omega arith
-
-add-q : tie.Need-add-q Inv-loop μ-loop
-add-q c = omega arith
-
-mul-with : tie.Need-mul-with Inv-loop μ-loop
-mul-with c = omega arith
-
-add-with : tie.Need-add-with Inv-loop μ-loop
-add-with c = omega arith
-
-mul-with-2 : tie.Need-mul-with-2 Inv-loop μ-loop
-mul-with-2 c = omega arith
-
-element-copy-out-with : tie.Need-element-copy-out-with Inv-loop μ-loop
-element-copy-out-with c = omega arith
-
-mul-bit : tie.Need-mul-bit Inv-loop μ-loop
-mul-bit c = omega arith
-
-element-copy-out-bit : tie.Need-element-copy-out-bit Inv-loop μ-loop
-element-copy-out-bit c = omega arith
-
 bit-requires : tie.Need-bit-requires Inv-loop μ-loop
 bit-requires c κs = (c .before .before .before .before .before .pre .2, c .before .before .before .before .before .pre .3 .under _)
-
-with-requires : tie.Need-with-requires Inv-loop μ-loop
-with-requires c κs = omega arith
-
-others-requires : tie.Need-others-requires Inv-loop μ-loop
-others-requires c κs = omega arith
 
 loop-less : tie.Need-loop-less Inv-loop μ-loop
 loop-less c = rw (c .others .ensures ∙ ap (without _) (sym (c .before .before .before .before .before .lowest .ensures .2))) (without-less _ _ (c .before .before .before .before .before .lowest .ensures .1))
@@ -63,17 +33,17 @@ links-spec =
     Inv-loop
     μ-loop
     loop-holds
-    lowest-requires
-    add-q
-    mul-with
-    add-with
-    mul-with-2
-    element-copy-out-with
-    mul-bit
-    element-copy-out-bit
+    (λ c κs. omega arith)
+    (λ c. omega arith)
+    (λ c. omega arith)
+    (λ c. omega arith)
+    (λ c. omega arith)
+    (λ c. omega arith)
+    (λ c. omega arith)
+    (λ c. omega arith)
     bit-requires
-    with-requires
-    others-requires
+    (λ c κs. omega arith)
+    (λ c κs. omega arith)
     loop-less
     loop-again
     returns)

@@ -1,8 +1,8 @@
 use Prim.Native.Nat.{_-_}
 use mathlib.Core.Logic.{⊎-elim}
-use Rattle.closure.specs.Rules.{rulesOf, bits, Within}
-use Rattle.closure.specs.Words.{level}
-use Rattle.closure.specs.Laws.{PassTo, pass-start, pass-more, pass-quiet, pass-all, level-start, level-grown}
+use Rattle.closure.specs.laws.Rules.{rulesOf, bits, Within}
+use Rattle.closure.specs.laws.Words.{level}
+use Rattle.closure.specs.laws.Laws.{PassTo, pass-start, pass-more, pass-quiet, pass-all, level-start, level-grown}
 use native.Mathlib.Omega.{arith}
 use Rattle.closure.proofs.rounds.pass.Statement.{statement}
 use Rattle.closure.proofs.rounds.pass.Tie as tie
@@ -13,12 +13,6 @@ Inv-loop n words head part first named src on mem own rows₀ lo hi added₀ i�
 abbrev μ-loop : tie.MeasureT-loop
 μ-loop n words head part first named src on mem own rows₀ lo hi added₀ i₀ rows added i = n - i
 
-held-requires : tie.Need-held-requires Inv-loop μ-loop
-held-requires c κs = omega arith
-
-held-requires-2 : tie.Need-held-requires-2 Inv-loop μ-loop
-held-requires-2 c κs = omega arith
-
 loop-holds : tie.Need-loop-holds Inv-loop μ-loop
 loop-holds c = (pass-start (rulesOf _ _ _ _ _ _ _) _ _ _ _ (c .before .before .before .before .pre .1), level-start _ _ _ (c .before .before .before .before .pre .1) (c .before .before .held .ensures) (c .held2 .ensures))
 
@@ -27,12 +21,6 @@ rule-below-requires c κs = (omega (arith, c .before .before .before .before .be
 
 add-added : tie.Need-add-added Inv-loop μ-loop
 add-added c = omega (arith, c .before .before .before .before .loop .inv .0 .few)
-
-add-i : tie.Need-add-i Inv-loop μ-loop
-add-i c = omega arith
-
-loop-less : tie.Need-loop-less Inv-loop μ-loop
-loop-less c = omega arith
 
 loop-again : tie.Need-loop-again Inv-loop μ-loop
 loop-again c = (⊎-elim (λ w. rw (w .1) (pass-more (rulesOf _ _ _ _ _ _ _) _ _ _ (c .before .before .before .loop-test .taken) (w .0 .taken) (c .before .rule-below .ensures) (c .before .before .before .before .loop .inv .0))) (λ w. rw (w .1) (pass-quiet (rulesOf _ _ _ _ _ _ _) _ _ _ (c .before .before .before .loop-test .taken) (w .0 .left) (c .before .rule-below .ensures) (c .before .before .before .before .loop .inv .0))) (c .if1 .came), (level-grown _ _ (c .before .rule-below .ensures .grown) (c .before .before .before .before .loop .inv .1)))
@@ -46,12 +34,12 @@ pass-spec =
     (tie.spec
     Inv-loop
     μ-loop
-    held-requires
-    held-requires-2
+    (λ c κs. omega arith)
+    (λ c κs. omega arith)
     loop-holds
     rule-below-requires
     add-added
-    add-i
-    loop-less
+    (λ c. omega arith)
+    (λ c. omega arith)
     loop-again
     returns)

@@ -1,7 +1,7 @@
 use Prim.Native.Nat.{_-_}
 use native.Mathlib.Omega.{arith}
-use Rattle.closure.specs.Rules.{rulesOf}
-use Rattle.closure.specs.Laws.{RuleTo, rule-start, rule-turn, rule-all, rule-off}
+use Rattle.closure.specs.laws.Rules.{rulesOf}
+use Rattle.closure.specs.laws.Laws.{RuleTo, rule-start, rule-turn, rule-all, rule-off}
 use Rattle.closure.proofs.rounds.rule.Statement.{statement}
 use Rattle.closure.proofs.rounds.rule.Tie as tie
 
@@ -14,9 +14,6 @@ abbrev μ-loop : tie.MeasureT-loop
 returns : tie.Need-returns Inv-loop μ-loop
 returns c = rule-off (rulesOf _ _ _ _ _ _ _) _ _ _ _ _ (c .before .pre .2) (λ l o. omega (arith, c .if1 .taken))
 
-element-copy-out-if2 : tie.Need-element-copy-out-if2 Inv-loop μ-loop
-element-copy-out-if2 c = omega arith
-
 returns-2 : tie.Need-returns-2 Inv-loop μ-loop
 returns-2 c = rule-off (rulesOf _ _ _ _ _ _ _) _ _ _ _ _ (c .before .before .before .pre .2) (λ l o. c .if2 .taken o)
 
@@ -25,12 +22,6 @@ loop-holds c = rule-start (rulesOf _ _ _ _ _ _ _) _ _ _ _ _ (c .before .before .
 
 turn-requires : tie.Need-turn-requires Inv-loop μ-loop
 turn-requires c κs = (c .before .before .before .before .before .before .pre .0, c .before .loop-test .taken, c .before .before .before .before .before .before .pre .1, c .before .before .loop .inv .grown .sized)
-
-add-h : tie.Need-add-h Inv-loop μ-loop
-add-h c = omega arith
-
-loop-less : tie.Need-loop-less Inv-loop μ-loop
-loop-less c = omega arith
 
 loop-again : tie.Need-loop-again Inv-loop μ-loop
 loop-again c = rule-turn (rulesOf _ _ _ _ _ _ _) _ _ _ (c .before .before .before .before .before .before .if1 .left) (c .before .before .before .before .if2 .left) (c .before .before .loop-test .taken) (c .turn .ensures) (c .before .before .before .loop .inv)
@@ -45,11 +36,11 @@ rule-spec =
     Inv-loop
     μ-loop
     returns
-    element-copy-out-if2
+    (λ c. omega arith)
     returns-2
     loop-holds
     turn-requires
-    add-h
-    loop-less
+    (λ c. omega arith)
+    (λ c. omega arith)
     loop-again
     returns-3)

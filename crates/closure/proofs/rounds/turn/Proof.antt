@@ -1,15 +1,9 @@
 use native.Mathlib.Omega.{arith}
-use Rattle.closure.specs.Rules.{rulesOf}
-use Rattle.closure.specs.Laws.{turn-new, turn-same}
+use Rattle.closure.specs.laws.Rules.{rulesOf}
+use Rattle.closure.specs.laws.Laws.{turn-new, turn-same}
 use borrow.Author.Needs.{needs}
 use Rattle.closure.proofs.rounds.turn.Statement.{statement}
 use Rattle.closure.proofs.rounds.turn.Tie as tie
-
-mul-at : tie.Need-mul-at
-mul-at c = search needs
-
-element-copy-out-at : tie.Need-element-copy-out-at
-element-copy-out-at c = search needs
 
 mul-at-2 : tie.Need-mul-at-2
 mul-at-2 c = omega (arith, c .before .pre .2 .head .under (c .before .args .i))
@@ -25,9 +19,6 @@ element-copy-out-old c = omega (arith, c .before .pre .1, c .before .pre .2 .wor
 
 gives-requires : tie.Need-gives-requires
 gives-requires c κs = (c .before .before .before .pre .0, omega (arith, c .before .before .before .pre .1, c .before .before .before .pre .2 .words), c .before .before .before .pre .2)
-
-join-requires : tie.Need-join-requires
-join-requires c κs = search needs
 
 mul-rows : tie.Need-mul-rows
 mul-rows c = omega (arith, c .before .before .before .before .before .before .pre .1, c .before .before .before .before .before .before .pre .2 .words, c .before .before .before .before .before .before .pre .2 .head .under (c .before .before .before .before .before .before .args .i))
@@ -45,14 +36,14 @@ pub turn-spec : {M : Type 1} → statement M
 turn-spec =
     tie.close
     (tie.spec
-    mul-at
-    element-copy-out-at
+    (λ c. search needs)
+    (λ c. search needs)
     mul-at-2
     add-at
     mul-old
     element-copy-out-old
     gives-requires
-    join-requires
+    (λ c κs. search needs)
     mul-rows
     element-write-rows
     returns

@@ -1,7 +1,7 @@
 use Prim.Native.Nat.{_-_}
 use native.Mathlib.Omega.{arith}
-use Rattle.closure.specs.Rules.{rulesOf}
-use Rattle.closure.specs.Laws.{StillTo, still-not, still-start, still-next, still-all}
+use Rattle.closure.specs.laws.Rules.{rulesOf}
+use Rattle.closure.specs.laws.Laws.{StillTo, still-not, still-start, still-next, still-all}
 use Rattle.closure.proofs.single.still.Statement.{statement}
 use Rattle.closure.proofs.single.still.Tie as tie
 
@@ -13,9 +13,6 @@ abbrev μ-loop : tie.MeasureT-loop
 
 returns : tie.Need-returns Inv-loop μ-loop
 returns c = still-not (rulesOf _ _ _ _ _ _ _) _ _ _ _
-
-held-requires : tie.Need-held-requires Inv-loop μ-loop
-held-requires c κs = omega arith
 
 filled-requires : tie.Need-filled-requires Inv-loop μ-loop
 filled-requires c κs = tt
@@ -32,9 +29,6 @@ returns-2 c = still-not (rulesOf _ _ _ _ _ _ _) _ _ _ _
 add-i : tie.Need-add-i Inv-loop μ-loop
 add-i c = omega (arith, c .before .before .before .before .before .before .before .pre .0 .count)
 
-loop-less : tie.Need-loop-less Inv-loop μ-loop
-loop-less c = omega arith
-
 loop-again : tie.Need-loop-again Inv-loop μ-loop
 loop-again c = still-next (rulesOf _ _ _ _ _ _ _) _ _ _ _ (c .before .before .before .loop .i) (c .before .before .loop-test .taken) (c .before .rests .ensures) (c .if2 .left) (c .before .before .before .loop .inv)
 
@@ -48,12 +42,12 @@ still-spec =
     Inv-loop
     μ-loop
     returns
-    held-requires
+    (λ c κs. omega arith)
     filled-requires
     loop-holds
     rests-requires
     returns-2
     add-i
-    loop-less
+    (λ c. omega arith)
     loop-again
     returns-3)

@@ -1,15 +1,9 @@
 use borrow.Author.Tests.{not-false}
 use mathlib.Core.Path.{sym, _∙_}
-use Rattle.damage.specs.EdgesLaws.{edge-unplaced, edge-unformed, edge-new, placed-inside}
+use Rattle.damage.specs.laws.Edges.{edge-unplaced, edge-unformed, edge-new, placed-inside}
 use borrow.Author.Needs.{needs}
 use Rattle.damage.proofs.edges.edge_fits.Statement.{statement}
 use Rattle.damage.proofs.edges.edge_fits.Tie as tie
-
-edge-at-requires : tie.Need-edge-at-requires
-edge-at-requires c κs = search needs
-
-placed-requires : tie.Need-placed-requires
-placed-requires c κs = search needs
 
 returns : tie.Need-returns
 returns c = edge-unplaced _ _ _ _ (c .before .before .before .pre .3) (c .before .before .before .pre .2) (c .before .before .edge-at .ensures) (c .before .placed .ensures) (c .if1 .taken)
@@ -20,9 +14,6 @@ formed-requires c κs = ((c .before .before .before .pre .0), placed-inside _ _ 
 returns-2 : tie.Need-returns-2
 returns-2 c = edge-unformed _ _ _ _ (c .before .before .before .before .before .pre .3) (c .before .before .before .before .before .pre .2) (c .before .before .before .before .edge-at .ensures) (c .before .before .before .placed .ensures) (c .before .before .if1 .left) (c .before .formed .ensures) (c .if2 .taken)
 
-has-edge-requires : tie.Need-has-edge-requires
-has-edge-requires c κs = search needs
-
 returns-3 : tie.Need-returns-3
 returns-3 c = edge-new _ _ _ _ (c .before .before .before .before .before .before .pre .3) (c .before .before .before .before .before .before .pre .2) (c .before .before .before .before .before .edge-at .ensures) (c .before .before .before .before .placed .ensures) (c .before .before .before .if1 .left) (c .before .before .formed .ensures) (c .before .if2 .left) (c .has-edge .ensures)
 
@@ -30,10 +21,10 @@ pub edge-fits-spec : {M : Type 1} → statement M
 edge-fits-spec =
     tie.close
     (tie.spec
-    edge-at-requires
-    placed-requires
+    (λ c κs. search needs)
+    (λ c κs. search needs)
     returns
     formed-requires
     returns-2
-    has-edge-requires
+    (λ c κs. search needs)
     returns-3)

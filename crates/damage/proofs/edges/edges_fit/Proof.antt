@@ -1,9 +1,9 @@
 use mathlib.Core.Logic.{⊎-elim}
-use Rattle.graph.specs.Graph.{nodesFrom, edgesFrom}
+use Rattle.graph.specs.laws.Graph.{nodesFrom, edgesFrom}
 use borrow.Author.Needs.{needs}
 use native.Mathlib.Omega.{arith}
 use Prim.Native.Nat.{_-_}
-use Rattle.damage.specs.EdgesLaws.{Bringing, bringing-none, bringing-stop, bringing-next, bringing-same, bringing-done}
+use Rattle.damage.specs.laws.Edges.{Bringing, bringing-none, bringing-stop, bringing-next, bringing-same, bringing-done}
 use Rattle.damage.proofs.edges.edges_fit.Statement.{statement}
 use Rattle.damage.proofs.edges.edges_fit.Tie as tie
 
@@ -22,20 +22,11 @@ edge-fits-requires c κs = ((c .before .before .pre .1), (c .before .before .pre
 returns : tie.Need-returns Inv-loop μ-loop
 returns c = bringing-stop _ _ _ (c .before .before .before .loop .inv) (c .before .before .loop-test .taken) (c .before .edge-fits .ensures) (c .if1 .taken)
 
-element-copy-out-wide : tie.Need-element-copy-out-wide Inv-loop μ-loop
-element-copy-out-wide c = omega arith
-
-wide-requires : tie.Need-wide-requires Inv-loop μ-loop
-wide-requires c κs = search needs
-
 add-b : tie.Need-add-b Inv-loop μ-loop
 add-b c = omega (arith, (c .before .before .before .before .before .before .loop .inv .few), (c .before .before .before .before .before .before .before .pre .1))
 
 add-j : tie.Need-add-j Inv-loop μ-loop
 add-j c = omega (arith, (c .before .before .before .before .before .loop-test .taken), (c .before .before .before .before .before .before .before .pre .2))
-
-loop-less : tie.Need-loop-less Inv-loop μ-loop
-loop-less c = omega arith
 
 loop-again : tie.Need-loop-again Inv-loop μ-loop
 loop-again c =
@@ -56,10 +47,10 @@ edges-fit-spec =
     loop-holds
     edge-fits-requires
     returns
-    element-copy-out-wide
-    wide-requires
+    (λ c. omega arith)
+    (λ c κs. search needs)
     add-b
     add-j
-    loop-less
+    (λ c. omega arith)
     loop-again
     returns-2)

@@ -1,41 +1,19 @@
-use Rattle.damage.specs.RestoredLaws.{state-within}
-use mathlib.Core.Path.{sym, _∙_, ap}
-use Rattle.negotiation.specs.Codec.{read-within}
-use Rattle.damage.specs.RestoredLaws.{restore-outside, restore-tables, restore-unread, restore-damaged, restore-sound}
+use Rattle.damage.specs.laws.Restored.{state-within, restore-outside, restore-tables, restore-unread, restore-damaged, restore-sound}
 use borrow.Author.Needs.{needs}
 use Rattle.damage.proofs.found.restore.Statement.{statement}
 use Rattle.damage.proofs.found.restore.Tie as tie
-use Rattle.damage.proofs.found.restore.Reads as reads
-
-refused-requires : tie.Need-refused-requires
-refused-requires c κs = search needs
 
 returns : tie.Need-returns
 returns c = restore-outside _ _ _ (c .before .if1 .taken) (c .refused .ensures)
 
-decode-requires : tie.Need-decode-requires
-decode-requires c κs = search needs
-
-refused-requires-2 : tie.Need-refused-requires-2
-refused-requires-2 c κs = search needs
-
 returns-2 : tie.Need-returns-2
 returns-2 c = restore-tables _ _ (c .before .before .before .before .if1 .left) _ (c .before .before .before .decode .ensures .0) _ (c .before .if2 .taken) (c .refused2 .ensures)
-
-read-requires : tie.Need-read-requires
-read-requires c κs = search needs
-
-refused-requires-3 : tie.Need-refused-requires-3
-refused-requires-3 c κs = search needs
 
 returns-3 : tie.Need-returns-3
 returns-3 c = restore-unread _ _ (c .before .before .before .before .before .before .before .if1 .left) _ (c .before .before .before .before .before .before .decode .ensures .0) (c .before .before .before .before .if2 .left) _ (c .before .before .before .read .ensures) _ (c .before .if3 .taken) (c .refused3 .ensures)
 
 sound-requires : tie.Need-sound-requires
 sound-requires c κs = ((c .before .before .before .before .before .decode .ensures .1), state-within _ _ (c .before .before .read .ensures) (c .if3 .left))
-
-refused-requires-4 : tie.Need-refused-requires-4
-refused-requires-4 c κs = search needs
 
 returns-4 : tie.Need-returns-4
 returns-4 c = restore-damaged _ _ (c .before .before .before .before .before .before .before .before .before .if1 .left) _ (c .before .before .before .before .before .before .before .before .decode .ensures .0) (c .before .before .before .before .before .before .if2 .left) _ (c .before .before .before .before .before .read .ensures) (c .before .before .before .if3 .left) (c .before .before .sound .ensures) _ (c .before .if4 .taken) (c .refused4 .ensures)
@@ -47,15 +25,15 @@ pub restore-spec : {M : Type 1} → statement M
 restore-spec =
     tie.close
     (tie.spec
-    refused-requires
+    (λ c κs. search needs)
     returns
-    decode-requires
-    refused-requires-2
+    (λ c κs. search needs)
+    (λ c κs. search needs)
     returns-2
-    read-requires
-    refused-requires-3
+    (λ c κs. search needs)
+    (λ c κs. search needs)
     returns-3
     sound-requires
-    refused-requires-4
+    (λ c κs. search needs)
     returns-4
     returns-5)

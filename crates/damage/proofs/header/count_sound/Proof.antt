@@ -1,4 +1,4 @@
-use Rattle.damage.specs.HeaderLaws.{count-is}
+use Rattle.damage.specs.laws.Header.{count-is}
 use Rattle.damage.proofs.header.count_sound.Statement.{statement}
 use Rattle.damage.proofs.header.count_sound.Tie as tie
 

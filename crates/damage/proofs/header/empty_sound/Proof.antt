@@ -1,4 +1,4 @@
-use Rattle.damage.specs.HeaderLaws.{empty-is}
+use Rattle.damage.specs.laws.Header.{empty-is}
 use Rattle.damage.proofs.header.empty_sound.Statement.{statement}
 use Rattle.damage.proofs.header.empty_sound.Tie as tie
 

@@ -1,4 +1,4 @@
-use Rattle.damage.specs.HeaderLaws.{end-success, end-failed, end-open}
+use Rattle.damage.specs.laws.Header.{end-success, end-failed, end-open}
 use Rattle.damage.proofs.header.end_sound.Statement.{statement}
 use Rattle.damage.proofs.header.end_sound.Tie as tie
 

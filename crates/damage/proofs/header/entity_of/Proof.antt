@@ -1,4 +1,4 @@
-use Rattle.damage.specs.HeaderLaws.{entity-own, entity-other}
+use Rattle.damage.specs.laws.Header.{entity-own, entity-other}
 use Rattle.damage.proofs.header.entity_of.Statement.{statement}
 use Rattle.damage.proofs.header.entity_of.Tie as tie
 

@@ -1,4 +1,4 @@
-use Rattle.damage.specs.HeaderLaws.{requester-mediator, requester-self}
+use Rattle.damage.specs.laws.Header.{requester-mediator, requester-self}
 use Rattle.damage.proofs.header.requester.Statement.{statement}
 use Rattle.damage.proofs.header.requester.Tie as tie
 

@@ -1,23 +1,14 @@
-use Rattle.damage.specs.HeaderLaws.{wanted-none, wanted-role}
+use Rattle.damage.specs.laws.Header.{wanted-none, wanted-role}
 use borrow.Author.Needs.{needs}
 use Rattle.damage.proofs.header.wanted_sound.Statement.{statement}
 use Rattle.damage.proofs.header.wanted_sound.Tie as tie
 
-is-empty-requires : tie.Need-is-empty-requires
-is-empty-requires c κs = search needs
-
 returns : tie.Need-returns
 returns c = wanted-none _ _ _ (c .before .if1 .taken) (c .is-empty .ensures)
-
-is-role-requires : tie.Need-is-role-requires
-is-role-requires c κs = search needs
-
-class-of-requires : tie.Need-class-of-requires
-class-of-requires c κs = search needs
 
 returns-2 : tie.Need-returns-2
 returns-2 c = wanted-role _ _ _ (c .before .before .if1 .left) (c .before .is-role .ensures) (c .class-of .ensures)
 
 pub wanted-sound-spec : {M : Type 1} → statement M
 wanted-sound-spec =
-    tie.close (tie.spec is-empty-requires returns is-role-requires class-of-requires returns-2)
+    tie.close (tie.spec (λ c κs. search needs) returns (λ c κs. search needs) (λ c κs. search needs) returns-2)

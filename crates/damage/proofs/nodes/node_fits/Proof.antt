@@ -1,24 +1,15 @@
 use native.Mathlib.Omega.{arith}
-use Rattle.damage.specs.RecordsLaws.{node-unsound, node-new}
+use Rattle.damage.specs.laws.Records.{node-unsound, node-new}
 use borrow.Author.Needs.{needs}
 use Rattle.damage.proofs.nodes.node_fits.Statement.{statement}
 use Rattle.damage.proofs.nodes.node_fits.Tie as tie
 
-node-at-requires : tie.Need-node-at-requires
-node-at-requires c κs = search needs
-
-node-sound-requires : tie.Need-node-sound-requires
-node-sound-requires c κs = search needs
-
 returns : tie.Need-returns
 returns c = node-unsound _ _ _ (c .before .before .before .pre .2) (c .before .before .node-at .ensures) (c .before .node-sound .ensures) (c .if1 .taken)
-
-find-node-requires : tie.Need-find-node-requires
-find-node-requires c κs = search needs
 
 returns-2 : tie.Need-returns-2
 returns-2 c = node-new _ _ _ (c .before .before .before .before .pre .2) (c .before .before .before .node-at .ensures) (c .before .before .node-sound .ensures) (omega (arith, (c .before .before .before .before .pre .2), (c .before .before .before .before .pre .3))) (c .before .if1 .left) (c .find-node .ensures)
 
 pub node-fits-spec : {M : Type 1} → statement M
 node-fits-spec =
-    tie.close (tie.spec node-at-requires node-sound-requires returns find-node-requires returns-2)
+    tie.close (tie.spec (λ c κs. search needs) (λ c κs. search needs) returns (λ c κs. search needs) returns-2)

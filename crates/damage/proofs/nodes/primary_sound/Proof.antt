@@ -1,22 +1,13 @@
-use Rattle.damage.specs.RecordsLaws.{primary-other, primary-wanted, primary-role}
+use Rattle.damage.specs.laws.Records.{primary-other, primary-wanted, primary-role}
 use borrow.Author.Needs.{needs}
 use Rattle.damage.proofs.nodes.primary_sound.Statement.{statement}
 use Rattle.damage.proofs.nodes.primary_sound.Tie as tie
 
-requester-requires : tie.Need-requester-requires
-requester-requires c κs = search needs
-
 returns : tie.Need-returns
 returns c = primary-other _ _ (c .before .before .requester .ensures) (c .if1 .taken)
 
-same-requires : tie.Need-same-requires
-same-requires c κs = search needs
-
 returns-2 : tie.Need-returns-2
 returns-2 c = primary-wanted _ _ (c .before .before .before .before .before .before .requester .ensures) (c .before .before .before .before .if1 .left) (c .before .if2 .taken) (c .same .ensures)
-
-is-role-expression-requires : tie.Need-is-role-expression-requires
-is-role-expression-requires c κs = search needs
 
 returns-3 : tie.Need-returns-3
 returns-3 c = primary-role _ _ (c .before .before .before .before .before .before .requester .ensures) (c .before .before .before .before .if1 .left) (c .before .if2 .left) (c .is-role-expression .ensures)
@@ -24,4 +15,4 @@ returns-3 c = primary-role _ _ (c .before .before .before .before .before .befor
 pub primary-sound-spec : {M : Type 1} → statement M
 primary-sound-spec =
     tie.close
-    (tie.spec requester-requires returns same-requires returns-2 is-role-expression-requires returns-3)
+    (tie.spec (λ c κs. search needs) returns (λ c κs. search needs) returns-2 (λ c κs. search needs) returns-3)

@@ -1,10 +1,9 @@
 use Rattle.tables.specs.Lookup.{sameCredential}
-use Rattle.rt0.specs.Pool.{poolOf, credentialAt}
-use Rattle.damage.specs.RecordsLaws.{shown-at, shown-none}
-use borrow.Author.Needs.{needs}
+use Rattle.rt0.specs.laws.Pool.{poolOf, credentialAt}
+use Rattle.damage.specs.laws.Records.{shown-at, shown-none}
 use native.Mathlib.Omega.{arith}
 use Prim.Native.Nat.{_-_}
-use Rattle.class.specs.Find.{Missed, missed-start, missed-more}
+use Rattle.class.specs.laws.Find.{Missed, missed-start, missed-more}
 use Rattle.damage.proofs.shown.is_shown.Statement.{statement}
 use Rattle.damage.proofs.shown.is_shown.Tie as tie
 
@@ -17,17 +16,8 @@ abbrev μ-loop : tie.MeasureT-loop
 loop-holds : tie.Need-loop-holds Inv-loop μ-loop
 loop-holds c = missed-start _ _
 
-is-at-requires : tie.Need-is-at-requires Inv-loop μ-loop
-is-at-requires c κs = omega arith
-
 returns : tie.Need-returns Inv-loop μ-loop
 returns c = shown-at _ _ (c .before .before .before .loop .inv) (c .before .before .loop-test .taken) (c .before .is-at .ensures) (c .if1 .taken)
-
-add-i : tie.Need-add-i Inv-loop μ-loop
-add-i c = omega arith
-
-loop-less : tie.Need-loop-less Inv-loop μ-loop
-loop-less c = omega arith
 
 loop-again : tie.Need-loop-again Inv-loop μ-loop
 loop-again c = missed-more (c .before .before .before .loop .inv) (c .before .is-at .ensures) (c .if1 .left)
@@ -42,9 +32,9 @@ is-shown-spec =
     Inv-loop
     μ-loop
     loop-holds
-    is-at-requires
+    (λ c κs. omega arith)
     returns
-    add-i
-    loop-less
+    (λ c. omega arith)
+    (λ c. omega arith)
     loop-again
     returns-2)

@@ -1,7 +1,7 @@
-use Rattle.class.specs.Names.{namesOf, namesFrom}
-use Rattle.rt0.specs.Pool.{poolOf, credentialAt}
+use Rattle.class.specs.laws.Names.{namesOf, namesFrom}
+use Rattle.rt0.specs.laws.Pool.{poolOf, credentialAt}
 use Rattle.damage.specs.Records.{credentialFits}
-use Rattle.damage.specs.Turns.{Judged, judged-none, shown-next, shown-stop, shown-done}
+use Rattle.damage.specs.laws.Turns.{Judged, judged-none, shown-next, shown-stop, shown-done}
 use borrow.Author.Needs.{needs}
 use native.Mathlib.Omega.{arith}
 use Prim.Native.Nat.{_-_}
@@ -17,17 +17,8 @@ abbrev μ-loop : tie.MeasureT-loop
 loop-holds : tie.Need-loop-holds Inv-loop μ-loop
 loop-holds c = judged-none _ _ _
 
-credential-fits-requires : tie.Need-credential-fits-requires Inv-loop μ-loop
-credential-fits-requires c κs = search needs
-
 returns : tie.Need-returns Inv-loop μ-loop
 returns c = shown-stop _ _ (c .before .before .before .loop .inv) (c .before .before .loop-test .taken) (c .before .credential-fits .ensures) (c .if1 .taken)
-
-add-i : tie.Need-add-i Inv-loop μ-loop
-add-i c = omega arith
-
-loop-less : tie.Need-loop-less Inv-loop μ-loop
-loop-less c = omega arith
 
 loop-again : tie.Need-loop-again Inv-loop μ-loop
 loop-again c = shown-next _ _ (c .before .before .before .loop .inv) (c .before .before .loop-test .taken) (c .before .credential-fits .ensures) (c .if1 .left)
@@ -42,9 +33,9 @@ shown-fit-spec =
     Inv-loop
     μ-loop
     loop-holds
-    credential-fits-requires
+    (λ c κs. search needs)
     returns
-    add-i
-    loop-less
+    (λ c. omega arith)
+    (λ c. omega arith)
     loop-again
     returns-2)

@@ -2,17 +2,8 @@ use borrow.Author.Needs.{needs}
 use Rattle.expression.proofs.credentials.role_at.Statement.{statement}
 use Rattle.expression.proofs.credentials.role_at.Tie as tie
 
-number-at-requires : tie.Need-number-at-requires
-number-at-requires c κs = search needs
-
-add-number-at : tie.Need-add-number-at
-add-number-at c = search needs
-
-number-at-requires-2 : tie.Need-number-at-requires-2
-number-at-requires-2 c κs = search needs
-
 returns : tie.Need-returns
 returns c = λ i. record { entity = c .before .number-at .ensures i; name = c .number-at2 .ensures i }
 
 pub role-at-spec : {M : Type 1} → statement M
-role-at-spec = tie.close (tie.spec number-at-requires add-number-at number-at-requires-2 returns)
+role-at-spec = tie.close (tie.spec (λ c κs. search needs) (λ c. search needs) (λ c κs. search needs) returns)

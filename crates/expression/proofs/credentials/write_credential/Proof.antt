@@ -1,25 +1,7 @@
-use Rattle.expression.specs.CredentialLaws.{written}
+use Rattle.expression.specs.laws.Credential.{written}
 use borrow.Author.Needs.{needs}
 use Rattle.expression.proofs.credentials.write_credential.Statement.{statement}
 use Rattle.expression.proofs.credentials.write_credential.Tie as tie
-
-role-bytes-requires : tie.Need-role-bytes-requires
-role-bytes-requires c κs = search needs
-
-slice-aggregate-copy-in : tie.Need-slice-aggregate-copy-in
-slice-aggregate-copy-in c = search needs
-
-copy-in-requires : tie.Need-copy-in-requires
-copy-in-requires c κs = search needs
-
-add-write-expression : tie.Need-add-write-expression
-add-write-expression c = search needs
-
-write-expression-requires : tie.Need-write-expression-requires
-write-expression-requires c κs = search needs
-
-same-length : tie.Need-same-length
-same-length c = search needs
 
 returns : tie.Need-returns
 returns c =
@@ -33,10 +15,10 @@ pub write-credential-spec : {M : Type 1} → statement M
 write-credential-spec =
     tie.close
     (tie.spec
-    role-bytes-requires
-    slice-aggregate-copy-in
-    copy-in-requires
-    add-write-expression
-    write-expression-requires
-    same-length
+    (λ c κs. search needs)
+    (λ c. search needs)
+    (λ c κs. search needs)
+    (λ c. search needs)
+    (λ c κs. search needs)
+    (λ c. search needs)
     returns)

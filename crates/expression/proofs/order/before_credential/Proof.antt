@@ -1,17 +1,8 @@
 use Rattle.expression.specs.Order.{beforeOf, beforeCredential}
-use Rattle.expression.specs.OrderLaws.{leads-then}
+use Rattle.expression.specs.laws.Order.{leads-then}
 use borrow.Author.Needs.{needs}
 use Rattle.expression.proofs.order.before_credential.Statement.{statement}
 use Rattle.expression.proofs.order.before_credential.Tie as tie
-
-before-requires : tie.Need-before-requires
-before-requires c κs = search needs
-
-ahead-requires : tie.Need-ahead-requires
-ahead-requires c κs = search needs
-
-ahead-requires-2 : tie.Need-ahead-requires-2
-ahead-requires-2 c κs = search needs
 
 returns : tie.Need-returns
 unfolding beforeOf beforeCredential
@@ -23,4 +14,4 @@ returns c =
 
 pub before-credential-spec : {M : Type 1} → statement M
 before-credential-spec =
-    tie.close (tie.spec before-requires ahead-requires ahead-requires-2 returns)
+    tie.close (tie.spec (λ c κs. search needs) (λ c κs. search needs) (λ c κs. search needs) returns)

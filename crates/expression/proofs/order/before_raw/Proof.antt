@@ -1,34 +1,10 @@
 use mathlib.Core.Path.{ap}
 use mathlib.Core.Bool.{Bool}
 use Rattle.expression.specs.Order.{leads}
-use Rattle.expression.specs.OrderLaws.{leads-then}
+use Rattle.expression.specs.laws.Order.{leads-then}
 use borrow.Author.Needs.{needs}
 use Rattle.expression.proofs.order.before_raw.Statement.{statement}
 use Rattle.expression.proofs.order.before_raw.Tie as tie
-
-ahead-requires : tie.Need-ahead-requires
-ahead-requires c κs = search needs
-
-ahead-requires-2 : tie.Need-ahead-requires-2
-ahead-requires-2 c κs = search needs
-
-ahead-requires-3 : tie.Need-ahead-requires-3
-ahead-requires-3 c κs = search needs
-
-ahead-requires-4 : tie.Need-ahead-requires-4
-ahead-requires-4 c κs = search needs
-
-ahead-requires-5 : tie.Need-ahead-requires-5
-ahead-requires-5 c κs = search needs
-
-ahead-requires-6 : tie.Need-ahead-requires-6
-ahead-requires-6 c κs = search needs
-
-ahead-requires-7 : tie.Need-ahead-requires-7
-ahead-requires-7 c κs = search needs
-
-ahead-requires-8 : tie.Need-ahead-requires-8
-ahead-requires-8 c κs = search needs
 
 returns : tie.Need-returns
 returns c =
@@ -56,12 +32,12 @@ pub before-raw-spec : {M : Type 1} → statement M
 before-raw-spec =
     tie.close
     (tie.spec
-    ahead-requires
-    ahead-requires-2
-    ahead-requires-3
-    ahead-requires-4
-    ahead-requires-5
-    ahead-requires-6
-    ahead-requires-7
-    ahead-requires-8
+    (λ c κs. search needs)
+    (λ c κs. search needs)
+    (λ c κs. search needs)
+    (λ c κs. search needs)
+    (λ c κs. search needs)
+    (λ c κs. search needs)
+    (λ c κs. search needs)
+    (λ c κs. search needs)
     returns)

@@ -1,7 +1,7 @@
 use mathlib.Core.Path.{refl}
 use Prim.Native.Nat.{ℕ}
 use lib.ListN.{length-replicate}
-use Rattle.graph.specs.Graph.{edgesOf}
+use Rattle.graph.specs.laws.Graph.{edgesOf}
 use Rattle.graph.proofs.Edges.empty.Statement.{statement}
 use Rattle.graph.proofs.Edges.empty.Tie as tie
 

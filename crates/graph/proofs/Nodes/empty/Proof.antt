@@ -1,7 +1,7 @@
 use mathlib.Core.Path.{refl}
 use Prim.Native.Nat.{ℕ}
 use lib.ListN.{length-replicate}
-use Rattle.graph.specs.Graph.{nodesOf}
+use Rattle.graph.specs.laws.Graph.{nodesOf}
 use Rattle.graph.proofs.Nodes.empty.Statement.{statement}
 use Rattle.graph.proofs.Nodes.empty.Tie as tie
 

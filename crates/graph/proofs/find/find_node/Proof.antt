@@ -1,9 +1,9 @@
 use Prim.Native.Nat.{_-_, _≤_}
 use native.Mathlib.Omega.{arith}
-use Rattle.class.specs.Find.{Missed, missed-start, missed-more}
-use Rattle.graph.specs.Graph.{nodesFrom, nodeAt}
+use Rattle.class.specs.laws.Find.{Missed, missed-start, missed-more}
+use Rattle.graph.specs.laws.Graph.{nodesFrom, nodeAt}
 use Rattle.graph.specs.Find.{isNode}
-use Rattle.graph.specs.FindLaws.{node-at, node-none}
+use Rattle.graph.specs.laws.Find.{node-at, node-none}
 use Rattle.graph.proofs.find.find_node.Statement.{statement}
 use Rattle.graph.proofs.find.find_node.Tie as tie
 
@@ -16,17 +16,8 @@ abbrev μ-loop : tie.MeasureT-loop
 loop-holds : tie.Need-loop-holds Inv-loop μ-loop
 loop-holds c = (omega arith, missed-start _ _)
 
-is-node-requires : tie.Need-is-node-requires Inv-loop μ-loop
-is-node-requires c κs = omega arith
-
 returns : tie.Need-returns Inv-loop μ-loop
 returns c = node-at _ _ _ _ (c .before .before .before .loop .inv .1) (c .before .before .loop-test .taken) (c .before .is-node .ensures) (c .if1 .taken)
-
-add-i : tie.Need-add-i Inv-loop μ-loop
-add-i c = omega arith
-
-loop-less : tie.Need-loop-less Inv-loop μ-loop
-loop-less c = omega arith
 
 loop-again : tie.Need-loop-again Inv-loop μ-loop
 loop-again c = (omega arith, missed-more (c .before .before .before .loop .inv .1) (c .before .is-node .ensures) (c .if1 .left))
@@ -41,9 +32,9 @@ find-node-spec =
     Inv-loop
     μ-loop
     loop-holds
-    is-node-requires
+    (λ c κs. omega arith)
     returns
-    add-i
-    loop-less
+    (λ c. omega arith)
+    (λ c. omega arith)
     loop-again
     returns-2)

@@ -1,9 +1,9 @@
 use Prim.Native.Nat.{_-_}
 use native.Mathlib.Omega.{arith}
-use Rattle.class.specs.Find.{Missed, missed-start, missed-more}
-use Rattle.graph.specs.Graph.{edgesFrom, edgeAt}
+use Rattle.class.specs.laws.Find.{Missed, missed-start, missed-more}
+use Rattle.graph.specs.laws.Graph.{edgesFrom, edgeAt}
 use Rattle.graph.specs.Find.{sameEdge}
-use Rattle.graph.specs.FindLaws.{edge-at, edge-none}
+use Rattle.graph.specs.laws.Find.{edge-at, edge-none}
 use Rattle.graph.proofs.find.has_edge.Statement.{statement}
 use Rattle.graph.proofs.find.has_edge.Tie as tie
 
@@ -16,17 +16,8 @@ abbrev μ-loop : tie.MeasureT-loop
 loop-holds : tie.Need-loop-holds Inv-loop μ-loop
 loop-holds c = missed-start _ _
 
-is-edge-requires : tie.Need-is-edge-requires Inv-loop μ-loop
-is-edge-requires c κs = omega arith
-
 returns : tie.Need-returns Inv-loop μ-loop
 returns c = edge-at _ _ (c .before .before .before .loop .inv) (c .before .before .loop-test .taken) (c .before .is-edge .ensures) (c .if1 .taken)
-
-add-j : tie.Need-add-j Inv-loop μ-loop
-add-j c = omega arith
-
-loop-less : tie.Need-loop-less Inv-loop μ-loop
-loop-less c = omega arith
 
 loop-again : tie.Need-loop-again Inv-loop μ-loop
 loop-again c = missed-more (c .before .before .before .loop .inv) (c .before .is-edge .ensures) (c .if1 .left)
@@ -41,9 +32,9 @@ has-edge-spec =
     Inv-loop
     μ-loop
     loop-holds
-    is-edge-requires
+    (λ c κs. omega arith)
     returns
-    add-j
-    loop-less
+    (λ c. omega arith)
+    (λ c. omega arith)
     loop-again
     returns-2)

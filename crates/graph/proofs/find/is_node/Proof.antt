@@ -1,5 +1,5 @@
-use Rattle.graph.specs.Graph.{nodesFrom, nodeAt}
-use Rattle.graph.specs.FindLaws.{other-ends, same-ends}
+use Rattle.graph.specs.laws.Graph.{nodesFrom, nodeAt}
+use Rattle.graph.specs.laws.Find.{other-ends, same-ends}
 use mathlib.Core.Path.{_∙_, ap}
 use Rattle.expression.specs.declared.Expression.{Expression}
 use Rattle.expression.specs.Same.{same}
@@ -7,23 +7,8 @@ use borrow.Author.Needs.{needs}
 use Rattle.graph.proofs.find.is_node.Statement.{statement}
 use Rattle.graph.proofs.find.is_node.Tie as tie
 
-element-copy-out-if1 : tie.Need-element-copy-out-if1
-element-copy-out-if1 c = search needs
-
-mul-if1 : tie.Need-mul-if1
-mul-if1 c = search needs
-
-element-copy-out-if1-2 : tie.Need-element-copy-out-if1-2
-element-copy-out-if1-2 c = search needs
-
 returns : tie.Need-returns
 returns c = other-ends _ _ _ (nodeAt (nodesFrom (c .before .before .before .args .n) (c .before .before .before .args .kind .now) (c .before .before .before .args .parts .now) (c .before .before .before .args .n0 .now) (c .before .before .before .args .n1 .now) (c .before .before .before .args .n2 .now) (c .before .before .before .args .n3 .now) (c .before .before .before .args .n4 .now) (c .before .before .before .args .n5 .now) (c .before .before .before .args .n6 .now) (c .before .before .before .args .n7 .now) (c .before .before .before .args .subject .now) (c .before .before .before .args .verifier .now) (c .before .before .before .args .state .now)) (c .before .before .before .args .i)) (c .if1 .taken)
-
-expression-at-requires : tie.Need-expression-at-requires
-expression-at-requires c κs = search needs
-
-same-requires : tie.Need-same-requires
-same-requires c κs = search needs
 
 returns-2 : tie.Need-returns-2
 returns-2 c = same-ends _ _ _ (nodeAt (nodesFrom (c .before .before .before .before .before .args .n) (c .before .before .before .before .before .args .kind .now) (c .before .before .before .before .before .args .parts .now) (c .before .before .before .before .before .args .n0 .now) (c .before .before .before .before .before .args .n1 .now) (c .before .before .before .before .before .args .n2 .now) (c .before .before .before .before .before .args .n3 .now) (c .before .before .before .before .before .args .n4 .now) (c .before .before .before .before .before .args .n5 .now) (c .before .before .before .before .before .args .n6 .now) (c .before .before .before .before .before .args .n7 .now) (c .before .before .before .before .before .args .subject .now) (c .before .before .before .before .before .args .verifier .now) (c .before .before .before .before .before .args .state .now)) (c .before .before .before .before .before .args .i)) (c .before .before .if1 .left) (c .same .ensures ∙ ap (λ (e : Expression). same e (c .before .before .before .before .before .args .x)) (c .before .expression-at .ensures))
@@ -32,10 +17,10 @@ pub is-node-spec : {M : Type 1} → statement M
 is-node-spec =
     tie.close
     (tie.spec
-    element-copy-out-if1
-    mul-if1
-    element-copy-out-if1-2
+    (λ c. search needs)
+    (λ c. search needs)
+    (λ c. search needs)
     returns
-    expression-at-requires
-    same-requires
+    (λ c κs. search needs)
+    (λ c κs. search needs)
     returns-2)

@@ -4,42 +4,6 @@ use borrow.Author.Needs.{needs}
 use Rattle.graph.proofs.forms.form.Statement.{statement}
 use Rattle.graph.proofs.forms.form.Tie as tie
 
-is-standard-requires : tie.Need-is-standard-requires
-is-standard-requires c κs = search needs
-
-is-target-requires : tie.Need-is-target-requires
-is-target-requires c κs = search needs
-
-same-ends-requires : tie.Need-same-ends-requires
-same-ends-requires c κs = search needs
-
-is-monitor-requires : tie.Need-is-monitor-requires
-is-monitor-requires c κs = search needs
-
-same-ends-requires-2 : tie.Need-same-ends-requires-2
-same-ends-requires-2 c κs = search needs
-
-is-solution-requires : tie.Need-is-solution-requires
-is-solution-requires c κs = search needs
-
-same-ends-requires-3 : tie.Need-same-ends-requires-3
-same-ends-requires-3 c κs = search needs
-
-is-first-requires : tie.Need-is-first-requires
-is-first-requires c κs = search needs
-
-same-verifier-requires : tie.Need-same-verifier-requires
-same-verifier-requires c κs = search needs
-
-is-part-requires : tie.Need-is-part-requires
-is-part-requires c κs = search needs
-
-same-ends-requires-4 : tie.Need-same-ends-requires-4
-same-ends-requires-4 c κs = search needs
-
-is-control-requires : tie.Need-is-control-requires
-is-control-requires c κs = search needs
-
 returns : tie.Need-returns
 unfolding form
 returns c = simp (c .before .before .before .match .keys1, c .before .before .is-standard .ensures, c .before .is-target .ensures, c .same-ends .ensures)
@@ -72,18 +36,18 @@ pub form-spec : {M : Type 1} → statement M
 form-spec =
     tie.close
     (tie.spec
-    is-standard-requires
-    is-target-requires
-    same-ends-requires
-    is-monitor-requires
-    same-ends-requires-2
-    is-solution-requires
-    same-ends-requires-3
-    is-first-requires
-    same-verifier-requires
-    is-part-requires
-    same-ends-requires-4
-    is-control-requires
+    (λ c κs. search needs)
+    (λ c κs. search needs)
+    (λ c κs. search needs)
+    (λ c κs. search needs)
+    (λ c κs. search needs)
+    (λ c κs. search needs)
+    (λ c κs. search needs)
+    (λ c κs. search needs)
+    (λ c κs. search needs)
+    (λ c κs. search needs)
+    (λ c κs. search needs)
+    (λ c κs. search needs)
     returns
     returns-2
     returns-3

@@ -6,15 +6,9 @@ use borrow.Author.Needs.{needs}
 use Rattle.graph.proofs.forms.has_role.Statement.{statement}
 use Rattle.graph.proofs.forms.has_role.Tie as tie
 
-same-requires : tie.Need-same-requires
-same-requires c κs = search needs
-
 returns : tie.Need-returns
 unfolding hasRole
 returns c = rw (sym (c .before .same .ensures) ∙ c .if1 .taken)
-
-same-requires-2 : tie.Need-same-requires-2
-same-requires-2 c κs = search needs
 
 returns-2 : tie.Need-returns-2
 unfolding hasRole
@@ -24,9 +18,6 @@ returns-3 : tie.Need-returns-3
 unfolding hasRole
 returns-3 c = rw (sym (c .before .before .before .before .before .same .ensures) ∙ c .before .before .before .before .if1 .left, sym (c .before .before .before .same2 .ensures) ∙ c .before .before .if2 .left, eq-eqb _ _ (c .if3 .taken))
 
-same-requires-3 : tie.Need-same-requires-3
-same-requires-3 c κs = search needs
-
 returns-4 : tie.Need-returns-4
 unfolding hasRole
 returns-4 c = rw (sym (c .before .before .before .before .before .before .before .same .ensures) ∙ c .before .before .before .before .before .before .if1 .left, sym (c .before .before .before .before .before .same2 .ensures) ∙ c .before .before .before .before .if2 .left, ne-eqb _ _ (c .before .before .if3 .left), sym (c .before .same3 .ensures) ∙ c .if4 .taken)
@@ -34,9 +25,6 @@ returns-4 c = rw (sym (c .before .before .before .before .before .before .before
 returns-5 : tie.Need-returns-5
 unfolding hasRole
 returns-5 c = rw (sym (c .before .before .before .before .before .before .before .before .before .same .ensures) ∙ c .before .before .before .before .before .before .before .before .if1 .left, sym (c .before .before .before .before .before .before .before .same2 .ensures) ∙ c .before .before .before .before .before .before .if2 .left, ne-eqb _ _ (c .before .before .before .before .if3 .left), sym (c .before .before .before .same3 .ensures) ∙ c .before .before .if4 .left, eq-eqb _ _ (c .if5 .taken))
-
-same-requires-4 : tie.Need-same-requires-4
-same-requires-4 c κs = search needs
 
 returns-6 : tie.Need-returns-6
 unfolding hasRole
@@ -46,13 +34,13 @@ pub has-role-spec : {M : Type 1} → statement M
 has-role-spec =
     tie.close
     (tie.spec
-    same-requires
+    (λ c κs. search needs)
     returns
-    same-requires-2
+    (λ c κs. search needs)
     returns-2
     returns-3
-    same-requires-3
+    (λ c κs. search needs)
     returns-4
     returns-5
-    same-requires-4
+    (λ c κs. search needs)
     returns-6)

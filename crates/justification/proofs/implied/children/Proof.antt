@@ -1,11 +1,10 @@
-use Prim.Native.Nat.{_≤_}
+use Prim.Native.Nat.{_≤_, _-_}
 use mathlib.Core.Logic.{⊎-elim}
 use borrow.Author.Needs.{needs}
 use native.Mathlib.Omega.{arith}
-use Prim.Native.Nat.{_-_}
-use Rattle.graph.specs.Graph.{edgesFrom}
-use Rattle.justification.specs.Implied.{Children}
-use Rattle.justification.specs.ImpliedLaws.{children-none, children-add, children-skip, children-all}
+use Rattle.graph.specs.laws.Graph.{edgesFrom}
+use Rattle.justification.specs.laws.Implied.{Children}
+use Rattle.justification.specs.laws.ImpliedLaws.{children-none, children-add, children-skip, children-all}
 use Rattle.justification.proofs.implied.children.Statement.{statement}
 use Rattle.justification.proofs.implied.children.Tie as tie
 
@@ -18,23 +17,8 @@ abbrev μ-loop : tie.MeasureT-loop
 loop-holds : tie.Need-loop-holds Inv-loop μ-loop
 loop-holds c = (omega arith, children-none _)
 
-element-copy-out-if1 : tie.Need-element-copy-out-if1 Inv-loop μ-loop
-element-copy-out-if1 c = omega arith
-
-element-copy-out-wide : tie.Need-element-copy-out-wide Inv-loop μ-loop
-element-copy-out-wide c = omega arith
-
-wide-requires : tie.Need-wide-requires Inv-loop μ-loop
-wide-requires c κs = search needs
-
 array-write-r : tie.Need-array-write-r Inv-loop μ-loop
 array-write-r c = omega (arith, (c .wide .ensures), (c .before .before .before .before .before .before .pre .1 .child) _ (c .before .before .before .before .loop-test .taken))
-
-add-j : tie.Need-add-j Inv-loop μ-loop
-add-j c = omega arith
-
-loop-less : tie.Need-loop-less Inv-loop μ-loop
-loop-less c = omega arith
 
 loop-again : tie.Need-loop-again Inv-loop μ-loop
 loop-again c = (omega arith, ⊎-elim (λ w. children-add _ (c .before .before .before .loop .inv .1) (w .2 .ensures) (omega (arith, (w .2 .ensures), (c .before .before .before .before .pre .1 .child) _ (c .before .before .loop-test .taken))) (w .3)) (λ w. children-skip _ (c .before .before .before .loop .inv .1) (w .0 .left) (w .1)) (c .if1 .came))
@@ -49,11 +33,11 @@ children-spec =
     Inv-loop
     μ-loop
     loop-holds
-    element-copy-out-if1
-    element-copy-out-wide
-    wide-requires
+    (λ c. omega arith)
+    (λ c. omega arith)
+    (λ c κs. search needs)
     array-write-r
-    add-j
-    loop-less
+    (λ c. omega arith)
+    (λ c. omega arith)
     loop-again
     returns)

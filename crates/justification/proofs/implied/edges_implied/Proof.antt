@@ -1,10 +1,10 @@
-use Rattle.graph.specs.Graph.{nodesFrom}
+use Rattle.graph.specs.laws.Graph.{nodesFrom}
 use Rattle.rt0.specs.declared.Pool.{Pool}
-use Rattle.rt0.specs.Pool.{poolOf}
-use Rattle.relation.specs.Reached.{all-on}
-use Rattle.rules.specs.Ruled.{by-columns}
-use Rattle.justification.specs.Inside.{inside-more}
-use Rattle.justification.specs.ImpliedLaws.{implied-nodes}
+use Rattle.rt0.specs.laws.Pool.{poolOf}
+use Rattle.relation.specs.laws.Reached.{all-on}
+use Rattle.rules.specs.laws.Ruled.{by-columns}
+use Rattle.justification.specs.laws.Inside.{inside-more}
+use Rattle.justification.specs.laws.ImpliedLaws.{implied-nodes}
 use borrow.Author.Needs.{needs}
 use Rattle.justification.proofs.implied.edges_implied.Statement.{statement}
 use Rattle.justification.proofs.implied.edges_implied.Tie as tie
@@ -18,9 +18,6 @@ children-requires c κs = (c .pre .1, inside-more (c .pre .0) (c .pre .3))
 
 rules-of-requires : tie.Need-rules-of-requires
 rules-of-requires c κs = c .before .pre .2
-
-readers-requires : tie.Need-readers-requires
-readers-requires c κs = search needs
 
 relation-requires : tie.Need-relation-requires
 relation-requires c κs = let s = c .before .before .before .before .before .before .before .before .before .before .before .before .before .before .before in (s .pre .2, by-columns (P s) (c .before .before .before .before .before .before .before .before .before .before .before .before .before .rules-of .result) (c .before .before .before .before .before .before .before .before .before .before .before .before .before .rules-of .ensures))
@@ -37,7 +34,7 @@ edges-implied-spec =
     (tie.spec
     children-requires
     rules-of-requires
-    readers-requires
+    (λ c κs. search needs)
     relation-requires
     nodes-implied-requires
     returns)

@@ -1,10 +1,9 @@
-use borrow.Author.Needs.{needs}
 use native.Mathlib.Omega.{arith}
 use Prim.Native.Nat.{_-_}
-use Rattle.rules.specs.Table.{chosen}
-use Rattle.rt0.specs.Pool.{poolOf}
-use Rattle.graph.specs.Graph.{expressionFrom, edgesFrom}
-use Rattle.justification.specs.ImpliedLaws.{From, from-start, from-next, from-stop, from-done}
+use Rattle.rules.specs.laws.Table.{chosen}
+use Rattle.rt0.specs.laws.Pool.{poolOf}
+use Rattle.graph.specs.laws.Graph.{expressionFrom, edgesFrom}
+use Rattle.justification.specs.laws.ImpliedLaws.{From, from-start, from-next, from-stop, from-done}
 use Rattle.justification.proofs.implied.implied_from.Statement.{statement}
 use Rattle.justification.proofs.implied.implied_from.Tie as tie
 
@@ -23,12 +22,6 @@ implied-at-requires c κs = ((c .loop-test .taken), (c .before .before .pre .0),
 returns : tie.Need-returns Inv-loop μ-loop
 returns c = from-stop _ _ _ _ (c .before .before .before .loop .inv) (c .before .before .loop-test .taken) (c .before .implied-at .ensures) (c .if1 .taken)
 
-add-j : tie.Need-add-j Inv-loop μ-loop
-add-j c = omega arith
-
-loop-less : tie.Need-loop-less Inv-loop μ-loop
-loop-less c = omega arith
-
 loop-again : tie.Need-loop-again Inv-loop μ-loop
 loop-again c = from-next _ _ _ _ (c .before .before .before .loop .inv) (c .before .before .loop-test .taken) (c .before .implied-at .ensures) (c .if1 .left)
 
@@ -44,7 +37,7 @@ implied-from-spec =
     loop-holds
     implied-at-requires
     returns
-    add-j
-    loop-less
+    (λ c. omega arith)
+    (λ c. omega arith)
     loop-again
     returns-2)

@@ -1,10 +1,9 @@
-use borrow.Author.Needs.{needs}
 use native.Mathlib.Omega.{arith}
 use Prim.Native.Nat.{_-_}
-use Rattle.rules.specs.Table.{chosen}
-use Rattle.rt0.specs.Pool.{poolOf}
-use Rattle.graph.specs.Graph.{expressionFrom, edgesFrom}
-use Rattle.justification.specs.ImpliedLaws.{Below, below-none, below-next, below-stop, below-done}
+use Rattle.rules.specs.laws.Table.{chosen}
+use Rattle.rt0.specs.laws.Pool.{poolOf}
+use Rattle.graph.specs.laws.Graph.{expressionFrom, edgesFrom}
+use Rattle.justification.specs.laws.ImpliedLaws.{Below, below-none, below-next, below-stop, below-done}
 use Rattle.justification.proofs.implied.nodes_implied.Statement.{statement}
 use Rattle.justification.proofs.implied.nodes_implied.Tie as tie
 
@@ -23,12 +22,6 @@ node-implied-requires c κs = (omega arith, (c .before .before .pre .2), (c .bef
 returns : tie.Need-returns Inv-loop μ-loop
 returns c = below-stop _ _ _ (c .before .before .before .loop .inv) (c .before .node-implied .ensures) (c .if1 .taken)
 
-add-c : tie.Need-add-c Inv-loop μ-loop
-add-c c = omega arith
-
-loop-less : tie.Need-loop-less Inv-loop μ-loop
-loop-less c = omega arith
-
 loop-again : tie.Need-loop-again Inv-loop μ-loop
 loop-again c = below-next _ _ _ (c .before .before .before .loop .inv) (c .before .before .loop-test .taken) (c .before .node-implied .ensures) (c .if1 .left)
 
@@ -44,7 +37,7 @@ nodes-implied-spec =
     loop-holds
     node-implied-requires
     returns
-    add-c
-    loop-less
+    (λ c. omega arith)
+    (λ c. omega arith)
     loop-again
     returns-2)

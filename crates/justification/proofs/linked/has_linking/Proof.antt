@@ -1,12 +1,11 @@
 use Prim.Native.Nat.{_-_}
 use native.Mathlib.Omega.{arith}
 use mathlib.Core.Path.{refl, sym}
-use borrow.Author.Needs.{needs}
 use borrow.Author.Tests.{ne-eqb}
 use lib.ListN.{getD}
-use Rattle.rt0.specs.Lists.{false-true}
-use Rattle.class.specs.Find.{Missed, missed-start, missed-more, missed-fewer}
-use Rattle.justification.specs.Justified.{linkingKind}
+use Rattle.word.specs.laws.Bools.{false-true}
+use Rattle.class.specs.laws.Find.{Missed, missed-start, missed-more, missed-fewer}
+use Rattle.justification.specs.laws.Justified.{linkingKind}
 use Rattle.justification.proofs.linked.has_linking.Statement.{statement}
 use Rattle.justification.proofs.linked.has_linking.Tie as tie
 
@@ -25,12 +24,6 @@ element-copy-out-if1 c = omega (arith, c .before .before .pre, c .loop-test .tak
 returns : tie.Need-returns Inv-loop μ-loop
 returns c = λ e. absurd (false-true (sym e))
 
-add-j : tie.Need-add-j Inv-loop μ-loop
-add-j c = omega arith
-
-loop-less : tie.Need-loop-less Inv-loop μ-loop
-loop-less c = omega arith
-
 loop-again : tie.Need-loop-again Inv-loop μ-loop
 loop-again c = missed-more (c .before .before .before .loop .inv) (sym (ne-eqb _ 4 (c .if1 .left))) refl
 
@@ -46,7 +39,7 @@ has-linking-spec =
     loop-holds
     element-copy-out-if1
     returns
-    add-j
-    loop-less
+    (λ c. omega arith)
+    (λ c. omega arith)
     loop-again
     returns-2)

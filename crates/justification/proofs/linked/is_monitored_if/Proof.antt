@@ -1,4 +1,4 @@
-use Rattle.justification.specs.LinkedLaws.{other-kind, linking-kind}
+use Rattle.justification.specs.laws.Linked.{other-kind, linking-kind}
 use borrow.Author.Needs.{needs}
 use Rattle.justification.proofs.linked.is_monitored_if.Statement.{statement}
 use Rattle.justification.proofs.linked.is_monitored_if.Tie as tie
@@ -6,11 +6,8 @@ use Rattle.justification.proofs.linked.is_monitored_if.Tie as tie
 returns : tie.Need-returns
 returns c = other-kind _ _ _ (c .if1 .taken)
 
-is-monitored-requires : tie.Need-is-monitored-requires
-is-monitored-requires c κs = search needs
-
 returns-2 : tie.Need-returns-2
 returns-2 c = linking-kind _ _ _ (c .before .if1 .left) (c .is-monitored .ensures)
 
 pub is-monitored-if-spec : {M : Type 1} → statement M
-is-monitored-if-spec = tie.close (tie.spec returns is-monitored-requires returns-2)
+is-monitored-if-spec = tie.close (tie.spec returns (λ c κs. search needs) returns-2)

@@ -1,11 +1,10 @@
-use Rattle.graph.specs.Graph.{nodesFrom, edgesFrom}
+use Rattle.graph.specs.laws.Graph.{nodesFrom, edgesFrom}
 use borrow.Author.Needs.{needs}
 use native.Mathlib.Omega.{arith}
 use Prim.Native.Nat.{_-_}
-use Rattle.justification.specs.LinkedLaws.{Monitoring, monitoring-start, says-so-far, monitoring-stop, monitoring-next, monitoring-done, edge-inside}
+use Rattle.justification.specs.laws.Linked.{Monitoring, monitoring-start, says-so-far, monitoring-stop, monitoring-next, monitoring-done, edge-inside}
 use Rattle.justification.proofs.linked.linked_in_turn.Statement.{statement}
 use Rattle.justification.proofs.linked.linked_in_turn.Tie as tie
-use Rattle.justification.proofs.linked.linked_in_turn.Reads as reads
 
 abbrev Inv-loop : tie.InvT-loop
 Inv-loop n kind parts n0 n1 n2 n3 n4 n5 n6 n7 subject verifier state m edge parent child from slot need head₀ next₀ got₀ sat₀ queue₀ tail t₀ j₀ head next got sat queue t j = Monitoring (nodesFrom n kind parts n0 n1 n2 n3 n4 n5 n6 n7 subject verifier state) (edgesFrom m edge parent child) from slot need head next got sat queue t j
@@ -15,9 +14,6 @@ abbrev μ-loop : tie.MeasureT-loop
 
 loop-holds : tie.Need-loop-holds Inv-loop μ-loop
 loop-holds c = monitoring-start _ _ _ _ _ (c .pre .6) (c .pre .7)
-
-edge-at-requires : tie.Need-edge-at-requires Inv-loop μ-loop
-edge-at-requires c κs = search needs
 
 is-monitored-if-requires : tie.Need-is-monitored-if-requires Inv-loop μ-loop
 is-monitored-if-requires c κs = ((c .before .before .before .before .pre .0), omega (arith, (c .before .before .loop-test .taken), (c .before .before .before .before .pre .1)), edge-inside _ _ (c .before .before .before .before .pre .3) (c .before .before .loop-test .taken) (c .before .edge-at .ensures) .0, edge-inside _ _ (c .before .before .before .before .pre .3) (c .before .before .loop-test .taken) (c .before .edge-at .ensures) .1, says-so-far _ _ _ _ _ (c .before .before .before .loop .inv) (c .before .before .before .before .pre .2) (c .before .before .before .before .pre .4) (c .before .before .before .before .pre .5))
@@ -47,7 +43,7 @@ linked-in-turn-spec =
     Inv-loop
     μ-loop
     loop-holds
-    edge-at-requires
+    (λ c κs. search needs)
     is-monitored-if-requires
     returns
     insert-requires

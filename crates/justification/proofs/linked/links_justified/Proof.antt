@@ -1,14 +1,12 @@
 use Rattle.graph.specs.declared.Nodes.{Nodes}
 use Rattle.graph.specs.declared.Edges.{Edges}
-use Rattle.graph.specs.Graph.{nodesFrom, edgesFrom}
-use Rattle.states.specs.Filled.{needs-beyond}
-use Rattle.justification.specs.LinkedLaws.{none-linking}
-use Rattle.propagation.specs.Chains.{chain-start}
-use Rattle.propagation.specs.WorkLaws.{start}
-use borrow.Author.Needs.{needs}
+use Rattle.graph.specs.laws.Graph.{nodesFrom, edgesFrom}
+use Rattle.states.specs.laws.Filled.{needs-beyond}
+use Rattle.justification.specs.laws.Linked.{none-linking}
+use Rattle.propagation.specs.laws.Chains.{chain-start}
+use Rattle.propagation.specs.laws.WorkLaws.{start}
 use Rattle.justification.proofs.linked.links_justified.Statement.{statement}
 use Rattle.justification.proofs.linked.links_justified.Tie as tie
-use Rattle.justification.proofs.linked.links_justified.Reads as reads
 
 -- the nodes and the edges of the columns
 abbrev N : tie.Start → Nodes

@@ -1,13 +1,12 @@
 use borrow.Author.Needs.{needs}
 use Rattle.justification.specs.Justified.{monitors}
-use Rattle.class.specs.Find.{Missed, missed-start, missed-more}
-use Rattle.graph.specs.Graph.{nodesFrom, edgesFrom, nodesOf, edgesOf, edgeAt}
+use Rattle.class.specs.laws.Find.{Missed, missed-start, missed-more}
+use Rattle.graph.specs.laws.Graph.{nodesFrom, edgesFrom, nodesOf, edgesOf, edgeAt}
 use Prim.Native.Nat.{_-_}
 use native.Mathlib.Omega.{arith}
-use Rattle.justification.specs.JustifiedLaws.{linked-at, linked-none}
+use Rattle.justification.specs.laws.Justified.{linked-at, linked-none}
 use Rattle.justification.proofs.monitors.is_monitored_for.Statement.{statement}
 use Rattle.justification.proofs.monitors.is_monitored_for.Tie as tie
-use Rattle.justification.proofs.monitors.is_monitored_for.Reads as reads
 
 abbrev Inv-loop : tie.InvT-loop
 Inv-loop n kind parts n0 n1 n2 n3 n4 n5 n6 n7 subject verifier state m edge parent child sat x b p j₀ j = Missed (monitors (nodesOf (nodesFrom n kind parts n0 n1 n2 n3 n4 n5 n6 n7 subject verifier state)) (edgesOf (edgesFrom m edge parent child)) x b p) (edgeAt (edgesFrom m edge parent child)) j
@@ -18,17 +17,8 @@ abbrev μ-loop : tie.MeasureT-loop
 loop-holds : tie.Need-loop-holds Inv-loop μ-loop
 loop-holds c = missed-start _ _
 
-monitors-at-requires : tie.Need-monitors-at-requires Inv-loop μ-loop
-monitors-at-requires c κs = search needs
-
 returns : tie.Need-returns Inv-loop μ-loop
 returns c = linked-at _ _ _ _ _ (c .before .before .before .loop .inv) (c .before .before .loop-test .taken) (c .before .monitors-at .ensures) (c .if1 .taken)
-
-add-j : tie.Need-add-j Inv-loop μ-loop
-add-j c = omega arith
-
-loop-less : tie.Need-loop-less Inv-loop μ-loop
-loop-less c = omega arith
 
 loop-again : tie.Need-loop-again Inv-loop μ-loop
 loop-again c = missed-more (c .before .before .before .loop .inv) (c .before .monitors-at .ensures) (c .if1 .left)
@@ -43,9 +33,9 @@ is-monitored-for-spec =
     Inv-loop
     μ-loop
     loop-holds
-    monitors-at-requires
+    (λ c κs. search needs)
     returns
-    add-j
-    loop-less
+    (λ c. omega arith)
+    (λ c. omega arith)
     loop-again
     returns-2)

@@ -1,10 +1,10 @@
 use Rattle.justification.specs.Justified.{solves}
-use Rattle.justification.specs.JustifiedLaws.{solved-at, solved-none}
+use Rattle.justification.specs.laws.Justified.{solved-at, solved-none}
 use borrow.Author.Needs.{needs}
 use native.Mathlib.Omega.{arith}
 use Prim.Native.Nat.{_-_}
-use Rattle.graph.specs.Graph.{nodesFrom, edgesFrom, nodesOf, edgesOf, edgeAt}
-use Rattle.class.specs.Find.{Missed, missed-start, missed-more}
+use Rattle.graph.specs.laws.Graph.{nodesFrom, edgesFrom, nodesOf, edgesOf, edgeAt}
+use Rattle.class.specs.laws.Find.{Missed, missed-start, missed-more}
 use Rattle.justification.proofs.monitors.is_solved.Statement.{statement}
 use Rattle.justification.proofs.monitors.is_solved.Tie as tie
 
@@ -17,17 +17,8 @@ abbrev μ-loop : tie.MeasureT-loop
 loop-holds : tie.Need-loop-holds Inv-loop μ-loop
 loop-holds c = missed-start _ _
 
-solves-at-requires : tie.Need-solves-at-requires Inv-loop μ-loop
-solves-at-requires c κs = search needs
-
 returns : tie.Need-returns Inv-loop μ-loop
 returns c = solved-at _ _ _ _ _ (c .before .before .before .loop .inv) (c .before .before .loop-test .taken) (c .before .solves-at .ensures) (c .if1 .taken)
-
-add-j : tie.Need-add-j Inv-loop μ-loop
-add-j c = omega arith
-
-loop-less : tie.Need-loop-less Inv-loop μ-loop
-loop-less c = omega arith
 
 loop-again : tie.Need-loop-again Inv-loop μ-loop
 loop-again c = missed-more (c .before .before .before .loop .inv) (c .before .solves-at .ensures) (c .if1 .left)
@@ -42,9 +33,9 @@ is-solved-spec =
     Inv-loop
     μ-loop
     loop-holds
-    solves-at-requires
+    (λ c κs. search needs)
     returns
-    add-j
-    loop-less
+    (λ c. omega arith)
+    (λ c. omega arith)
     loop-again
     returns-2)

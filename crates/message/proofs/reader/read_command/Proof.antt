@@ -1,32 +1,11 @@
 use mathlib.Core.Path.{refl, _∙_}
-use Rattle.message.specs.CommandLaws.{nothing, at-code, unknown}
+use Rattle.message.specs.laws.Command.{nothing, at-code, unknown}
 use borrow.Author.Needs.{needs}
 use Rattle.message.proofs.reader.read_command.Statement.{statement}
 use Rattle.message.proofs.reader.read_command.Tie as tie
 
 returns : tie.Need-returns
 returns c = nothing _ _ (c .if1 .taken)
-
-shared-slice-read-code : tie.Need-shared-slice-read-code
-shared-slice-read-code c = search needs
-
-show-at-requires : tie.Need-show-at-requires
-show-at-requires c κs = search needs
-
-open-at-requires : tie.Need-open-at-requires
-open-at-requires c κs = search needs
-
-bring-at-requires : tie.Need-bring-at-requires
-bring-at-requires c κs = search needs
-
-join-at-requires : tie.Need-join-at-requires
-join-at-requires c κs = search needs
-
-mark-at-requires : tie.Need-mark-at-requires
-mark-at-requires c κs = search needs
-
-end-at-requires : tie.Need-end-at-requires
-end-at-requires c κs = search needs
 
 returns-2 : tie.Need-returns-2
 returns-2 c = c .show-at .ensures ∙ at-code _ _ 1 (c .before .before .before .if1 .left) (c .before .match .keys1)
@@ -54,13 +33,13 @@ read-command-spec =
     tie.close
     (tie.spec
     returns
-    shared-slice-read-code
-    show-at-requires
-    open-at-requires
-    bring-at-requires
-    join-at-requires
-    mark-at-requires
-    end-at-requires
+    (λ c. search needs)
+    (λ c κs. search needs)
+    (λ c κs. search needs)
+    (λ c κs. search needs)
+    (λ c κs. search needs)
+    (λ c κs. search needs)
+    (λ c κs. search needs)
     returns-2
     returns-3
     returns-4

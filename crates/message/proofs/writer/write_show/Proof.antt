@@ -1,22 +1,7 @@
-use Rattle.message.specs.CommandLaws.{show-written}
+use Rattle.message.specs.laws.Command.{show-written}
 use borrow.Author.Needs.{needs}
 use Rattle.message.proofs.writer.write_show.Statement.{statement}
 use Rattle.message.proofs.writer.write_show.Tie as tie
-
-slice-aggregate-copy-in : tie.Need-slice-aggregate-copy-in
-slice-aggregate-copy-in c = search needs
-
-copy-in-requires : tie.Need-copy-in-requires
-copy-in-requires c κs = search needs
-
-add-write-credential : tie.Need-add-write-credential
-add-write-credential c = search needs
-
-write-credential-requires : tie.Need-write-credential-requires
-write-credential-requires c κs = search needs
-
-same-length : tie.Need-same-length
-same-length c = search needs
 
 returns : tie.Need-returns
 returns c =
@@ -29,9 +14,9 @@ pub write-show-spec : {M : Type 1} → statement M
 write-show-spec =
     tie.close
     (tie.spec
-    slice-aggregate-copy-in
-    copy-in-requires
-    add-write-credential
-    write-credential-requires
-    same-length
+    (λ c. search needs)
+    (λ c κs. search needs)
+    (λ c. search needs)
+    (λ c κs. search needs)
+    (λ c. search needs)
     returns)

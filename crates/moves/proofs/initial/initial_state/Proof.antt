@@ -1,43 +1,7 @@
-use Rattle.moves.specs.InitialLaws.{starts-entity, starts-role, starts-linked, starts-intersection, starts-goal}
+use Rattle.moves.specs.laws.Initial.{starts-entity, starts-role, starts-linked, starts-intersection, starts-goal}
 use borrow.Author.Needs.{needs}
 use Rattle.moves.proofs.initial.initial_state.Statement.{statement}
 use Rattle.moves.proofs.initial.initial_state.Tie as tie
-use Rattle.moves.proofs.initial.initial_state.Lts as lts
-use Rattle.moves.proofs.initial.is_subject_all.Reads as is-subject-all-reads
-use Rattle.moves.proofs.initial.traced_state.Reads as traced-state-reads
-
-enum-told : tie.Need-enum-told
-enum-told c = search needs
-
-enum-known-e : tie.Need-enum-known-e
-enum-known-e c = search needs
-
-is-subject-all-requires : tie.Need-is-subject-all-requires
-is-subject-all-requires c κs = search needs
-
-traced-state-requires : tie.Need-traced-state-requires
-traced-state-requires c κs = search needs
-
-enum-known-e-2 : tie.Need-enum-known-e-2
-enum-known-e-2 c = search needs
-
-is-subject-all-requires-2 : tie.Need-is-subject-all-requires-2
-is-subject-all-requires-2 c κs = search needs
-
-is-subject-all-requires-3 : tie.Need-is-subject-all-requires-3
-is-subject-all-requires-3 c κs = search needs
-
-traced-state-requires-2 : tie.Need-traced-state-requires-2
-traced-state-requires-2 c κs = search needs
-
-enum-told-2 : tie.Need-enum-told-2
-enum-told-2 c = search needs
-
-traced-state-requires-3 : tie.Need-traced-state-requires-3
-traced-state-requires-3 c κs = search needs
-
-enum-told-3 : tie.Need-enum-told-3
-enum-told-3 c = search needs
 
 returns : tie.Need-returns
 returns c = starts-entity _ _ _ (c .enum-told .given .1)
@@ -58,17 +22,17 @@ pub initial-state-spec : {M : Type 1} → statement M
 initial-state-spec =
     tie.close
     (tie.spec
-    enum-told
-    enum-known-e
-    is-subject-all-requires
-    traced-state-requires
-    enum-known-e-2
-    is-subject-all-requires-2
-    is-subject-all-requires-3
-    traced-state-requires-2
-    enum-told-2
-    traced-state-requires-3
-    enum-told-3
+    (λ c. search needs)
+    (λ c. search needs)
+    (λ c κs. search needs)
+    (λ c κs. search needs)
+    (λ c. search needs)
+    (λ c κs. search needs)
+    (λ c κs. search needs)
+    (λ c κs. search needs)
+    (λ c. search needs)
+    (λ c κs. search needs)
+    (λ c. search needs)
     returns
     returns-2
     returns-3

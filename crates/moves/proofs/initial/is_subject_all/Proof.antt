@@ -4,14 +4,9 @@ use lib.Dec.{eqb}
 use borrow.Author.Needs.{needs}
 use Rattle.moves.proofs.initial.is_subject_all.Statement.{statement}
 use Rattle.moves.proofs.initial.is_subject_all.Tie as tie
-use Rattle.moves.proofs.initial.is_subject_all.Lts as lts
-use Rattle.class.proofs.class_of.Reads as class-of-reads
-
-class-of-requires : tie.Need-class-of-requires
-class-of-requires c κs = search needs
 
 returns : tie.Need-returns
 returns c = ap (λ (k : ℕ). eqb k 3) (c .class-of .ensures)
 
 pub is-subject-all-spec : {M : Type 1} → statement M
-is-subject-all-spec = tie.close (tie.spec class-of-requires returns)
+is-subject-all-spec = tie.close (tie.spec (λ c κs. search needs) returns)

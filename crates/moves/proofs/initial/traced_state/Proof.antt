@@ -1,7 +1,6 @@
-use Rattle.moves.specs.InitialLaws.{traced-is}
+use Rattle.moves.specs.laws.Initial.{traced-is}
 use Rattle.moves.proofs.initial.traced_state.Statement.{statement}
 use Rattle.moves.proofs.initial.traced_state.Tie as tie
-use Rattle.moves.proofs.initial.traced_state.Lts as lts
 
 returns : tie.Need-returns
 returns c = traced-is _ (c .if1 .taken)

@@ -1,28 +1,8 @@
 use mathlib.Core.Path.{refl}
-use Rattle.moves.specs.Stops.{stop-other, stop-role}
+use Rattle.moves.specs.laws.Stops.{stop-other, stop-role}
 use borrow.Author.Needs.{needs}
 use Rattle.moves.proofs.predicates.is_stop.Statement.{statement}
 use Rattle.moves.proofs.predicates.is_stop.Tie as tie
-use Rattle.moves.proofs.predicates.is_stop.Lts as lts
-use Rattle.moves.proofs.predicates.stops_at.Reads as stops-at-reads
-
-enum-told : tie.Need-enum-told
-enum-told c = search needs
-
-enum-known-e : tie.Need-enum-known-e
-enum-known-e c = search needs
-
-stops-at-requires : tie.Need-stops-at-requires
-stops-at-requires c κs = search needs
-
-enum-told-2 : tie.Need-enum-told-2
-enum-told-2 c = search needs
-
-enum-told-3 : tie.Need-enum-told-3
-enum-told-3 c = search needs
-
-enum-told-4 : tie.Need-enum-told-4
-enum-told-4 c = search needs
 
 returns : tie.Need-returns
 returns c = stop-other _ _ _ _ _ (c .enum-told .given .1) refl
@@ -43,12 +23,12 @@ pub is-stop-spec : {M : Type 1} → statement M
 is-stop-spec =
     tie.close
     (tie.spec
-    enum-told
-    enum-known-e
-    stops-at-requires
-    enum-told-2
-    enum-told-3
-    enum-told-4
+    (λ c. search needs)
+    (λ c. search needs)
+    (λ c κs. search needs)
+    (λ c. search needs)
+    (λ c. search needs)
+    (λ c. search needs)
     returns
     returns-2
     returns-3

@@ -1,26 +1,8 @@
-use Rattle.moves.specs.Stops.{oppo-at, simp-at, sens-at}
+use Rattle.moves.specs.laws.Stops.{oppo-at, simp-at, sens-at}
 use mathlib.Core.Path.{refl}
 use borrow.Author.Needs.{needs}
 use Rattle.moves.proofs.predicates.stops_at.Statement.{statement}
 use Rattle.moves.proofs.predicates.stops_at.Tie as tie
-use Rattle.moves.proofs.predicates.stops_at.Lts as lts
-use Rattle.moves.proofs.initial.is_subject_all.Reads as is-subject-all-reads
-use Rattle.tables.proofs.is_sensitive.Reads as is-sensitive-reads
-
-enum-told : tie.Need-enum-told
-enum-told c = search needs
-
-is-subject-all-requires : tie.Need-is-subject-all-requires
-is-subject-all-requires c κs = search needs
-
-enum-told-2 : tie.Need-enum-told-2
-enum-told-2 c = search needs
-
-enum-told-3 : tie.Need-enum-told-3
-enum-told-3 c = search needs
-
-is-sensitive-requires : tie.Need-is-sensitive-requires
-is-sensitive-requires c κs = search needs
 
 returns : tie.Need-returns
 returns c = oppo-at _ _ _ _ (c .before .enum-told .given .1) (c .is-subject-all .ensures)
@@ -35,11 +17,11 @@ pub stops-at-spec : {M : Type 1} → statement M
 stops-at-spec =
     tie.close
     (tie.spec
-    enum-told
-    is-subject-all-requires
-    enum-told-2
-    enum-told-3
-    is-sensitive-requires
+    (λ c. search needs)
+    (λ c κs. search needs)
+    (λ c. search needs)
+    (λ c. search needs)
+    (λ c κs. search needs)
     returns
     returns-2
     returns-3)

@@ -1,31 +1,7 @@
 use borrow.Author.Needs.{needs}
-use Rattle.needed.specs.FlagLaws.{marked-entity, marked-goal, marked-role, marked-as}
+use Rattle.needed.specs.laws.Flag.{marked-entity, marked-goal, marked-role, marked-as}
 use Rattle.needed.proofs.asked.flag_asked.Statement.{statement}
 use Rattle.needed.proofs.asked.flag_asked.Tie as tie
-
-enum-told : tie.Need-enum-told
-enum-told c = search needs
-
-enum-known-x : tie.Need-enum-known-x
-enum-known-x c = search needs
-
-flag-role-requires : tie.Need-flag-role-requires
-flag-role-requires c κs = search needs
-
-enum-known-x-2 : tie.Need-enum-known-x-2
-enum-known-x-2 c = search needs
-
-flag-linked-requires : tie.Need-flag-linked-requires
-flag-linked-requires c κs = search needs
-
-enum-known-x-3 : tie.Need-enum-known-x-3
-enum-known-x-3 c = search needs
-
-flag-parts-requires : tie.Need-flag-parts-requires
-flag-parts-requires c κs = search needs
-
-enum-told-2 : tie.Need-enum-told-2
-enum-told-2 c = search needs
 
 returns : tie.Need-returns
 returns c = marked-entity (c .before .before .pre .1) (c .enum-told .given .1)
@@ -46,14 +22,14 @@ pub flag-asked-spec : {M : Type 1} → statement M
 flag-asked-spec =
     tie.close
     (tie.spec
-    enum-told
-    enum-known-x
-    flag-role-requires
-    enum-known-x-2
-    flag-linked-requires
-    enum-known-x-3
-    flag-parts-requires
-    enum-told-2
+    (λ c. search needs)
+    (λ c. search needs)
+    (λ c κs. search needs)
+    (λ c. search needs)
+    (λ c κs. search needs)
+    (λ c. search needs)
+    (λ c κs. search needs)
+    (λ c. search needs)
     returns
     returns-2
     returns-3

@@ -1,7 +1,7 @@
 use Prim.Native.Nat.{_-_}
 use native.Mathlib.Omega.{arith}
-use Rattle.needed.specs.FlagLaws.{marked-start, marked-next, marked-all}
-use Rattle.needed.specs.Flags.{isNamed, Marked}
+use Rattle.needed.specs.laws.Flag.{marked-start, marked-next, marked-all}
+use Rattle.needed.specs.laws.Flags.{isNamed, Marked}
 use Rattle.needed.proofs.asked.flag_names.Statement.{statement}
 use Rattle.needed.proofs.asked.flag_names.Tie as tie
 
@@ -23,12 +23,6 @@ flag-name-requires c κs = omega (arith, c .before .before .before .pre .0)
 element-write-flags : tie.Need-element-write-flags Inv-loop μ-loop
 element-write-flags c = omega (arith, c .before .before .before .before .pre .0)
 
-add-i : tie.Need-add-i Inv-loop μ-loop
-add-i c = omega arith
-
-loop-less : tie.Need-loop-less Inv-loop μ-loop
-loop-less c = omega arith
-
 loop-again : tie.Need-loop-again Inv-loop μ-loop
 loop-again c = marked-next (c .before .before .before .loop .inv) (omega (arith, c .before .before .before .before .pre .0)) (c .flag-name .ensures)
 
@@ -45,7 +39,7 @@ flag-names-spec =
     element-copy-out-flag-name
     flag-name-requires
     element-write-flags
-    add-i
-    loop-less
+    (λ c. omega arith)
+    (λ c. omega arith)
     loop-again
     returns)

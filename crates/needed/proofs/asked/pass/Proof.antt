@@ -1,8 +1,8 @@
 use Prim.Native.Nat.{_-_}
 use native.Mathlib.Omega.{arith}
-use Rattle.rt0.specs.Pool.{poolOf}
-use Rattle.needed.specs.FlagLaws.{pass-start, pass-next, pass-all}
-use Rattle.needed.specs.Flags.{Passed}
+use Rattle.rt0.specs.laws.Pool.{poolOf}
+use Rattle.needed.specs.laws.Flag.{pass-start, pass-next, pass-all}
+use Rattle.needed.specs.laws.Flags.{Passed}
 use Rattle.needed.proofs.asked.pass.Statement.{statement}
 use Rattle.needed.proofs.asked.pass.Tie as tie
 
@@ -21,9 +21,6 @@ follow-requires c κs = (c .before .before .before .before .pre .0, c .before .b
 add-j : tie.Need-add-j Inv-loop μ-loop
 add-j c = omega (arith, c .before .before .before .before .before .pre .0)
 
-loop-less : tie.Need-loop-less Inv-loop μ-loop
-loop-less c = omega arith
-
 loop-again : tie.Need-loop-again Inv-loop μ-loop
 loop-again c = pass-next (c .before .before .before .before .loop .inv) (c .follow .ensures)
 
@@ -33,4 +30,4 @@ returns c = pass-all _ (c .loop-test .left) (c .before .loop .inv)
 pub pass-spec : {M : Type 1} → statement M
 pass-spec =
     tie.close
-    (tie.spec Inv-loop μ-loop loop-holds follow-requires add-j loop-less loop-again returns)
+    (tie.spec Inv-loop μ-loop loop-holds follow-requires add-j (λ c. omega arith) loop-again returns)

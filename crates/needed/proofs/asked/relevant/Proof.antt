@@ -3,9 +3,9 @@ use native.Mathlib.Omega.{arith}
 use mathlib.Core.Bool.{true}
 use mathlib.Core.Path.{refl}
 use borrow.Author.Tests.{not-true}
-use Rattle.rt0.specs.Pool.{poolOf}
-use Rattle.needed.specs.FlagLaws.{work-start, pass-start, pass-again, pass-closed, all-closed}
-use Rattle.needed.specs.Flags.{Passed}
+use Rattle.rt0.specs.laws.Pool.{poolOf}
+use Rattle.needed.specs.laws.Flag.{work-start, pass-start, pass-again, pass-closed, all-closed}
+use Rattle.needed.specs.laws.Flags.{Passed}
 use Rattle.needed.proofs.asked.relevant.Statement.{statement}
 use Rattle.needed.proofs.asked.relevant.Tie as tie
 

@@ -1,16 +1,13 @@
 use mathlib.Core.Logic.{⊎-elim}
 use borrow.Author.Needs.{needs}
 use Rattle.rt0.specs.declared.Pool.{Pool}
-use Rattle.rt0.specs.Pool.{poolOf}
-use Rattle.needed.specs.KeepingLaws.{one-on, none-new, same-relation}
+use Rattle.rt0.specs.laws.Pool.{poolOf}
+use Rattle.needed.specs.laws.Keeping.{one-on, none-new, same-relation}
 use Rattle.needed.proofs.next.holds_with.Statement.{statement}
 use Rattle.needed.proofs.next.holds_with.Tie as tie
 
 abbrev pool : (c : tie.Start) → Pool
 pool c = poolOf (c .args .n) (c .args .heads .now) (c .args .kinds .now) (c .args .numbers .now)
-
-switch-on-requires : tie.Need-switch-on-requires
-switch-on-requires c κs = search needs
 
 ask-requires : tie.Need-ask-requires
 ask-requires c κs = (c .before .before .before .pre .0, c .before .before .before .pre .1, (⊎-elim (λ w. same-relation (pool (c .before .before .before)) _ _ _ _ (w .4) (w .5) (w .3 .ensures .1)) (λ w. same-relation (pool (c .before .before .before)) _ _ _ _ (w .1) (w .2) (c .before .before .before .pre .3)) (c .before .before .if1 .came)))
@@ -19,4 +16,4 @@ returns : tie.Need-returns
 returns c = ((⊎-elim (λ w. one-on (c .before .before .before .before .args .n) (c .before .before .before .before .args .i) _ _ _ (w .0 .taken) (w .3 .ensures .0) (w .4)) (λ w. none-new (c .before .before .before .before .args .n) (c .before .before .before .before .args .i) _ _ (w .0 .left) (w .1)) (c .before .before .before .if1 .came)), ((⊎-elim (λ w. same-relation (pool (c .before .before .before .before)) _ _ _ _ (w .4) (w .5) (w .3 .ensures .1)) (λ w. same-relation (pool (c .before .before .before .before)) _ _ _ _ (w .1) (w .2) (c .before .before .before .before .pre .3)) (c .before .before .before .if1 .came)), c .ask .ensures))
 
 pub holds-with-spec : {M : Type 1} → statement M
-holds-with-spec = tie.close (tie.spec switch-on-requires ask-requires returns)
+holds-with-spec = tie.close (tie.spec (λ c κs. search needs) ask-requires returns)

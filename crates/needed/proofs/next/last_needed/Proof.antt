@@ -5,12 +5,12 @@ use mathlib.Core.Bool.{false}
 use mathlib.Core.List.{_++_}
 use Rattle.rt0.specs.declared.Pool.{Pool}
 use Rattle.rt0.specs.Decide.{from?}
-use Rattle.rt0.specs.Pool.{poolOf}
-use Rattle.rules.specs.Table.{chosen}
-use Rattle.relation.specs.Relation.{Relation}
-use Rattle.needed.specs.Needed.{restOf}
-use Rattle.needed.specs.Columns.{Grown}
-use Rattle.needed.specs.KeepingLaws.{grown-start, grown-add, last-again, last-found, last-none}
+use Rattle.rt0.specs.laws.Pool.{poolOf}
+use Rattle.rules.specs.laws.Table.{chosen}
+use Rattle.relation.specs.laws.Relation.{Relation}
+use Rattle.needed.specs.laws.Needed.{restOf}
+use Rattle.needed.specs.laws.Columns.{Grown}
+use Rattle.needed.specs.laws.Keeping.{grown-start, grown-add, last-again, last-found, last-none}
 use Rattle.needed.proofs.next.last_needed.Statement.{statement}
 use Rattle.needed.proofs.next.last_needed.Tie as tie
 
@@ -30,17 +30,11 @@ pool c = poolOf (c .args .n) (c .args .heads .now) (c .args .kinds .now) (c .arg
 loop-holds : tie.Need-loop-holds Inv-loop μ-loop
 loop-holds c = (omega (arith, c .before .before .pre .1), omega arith, grown-start (pool (c .before .before)) _ (c .before .before .args .f) (c .before .before .args .e) (c .before .before .pre .3), c .before .before .pre .4, λ l. absurd (omega arith))
 
-sub-i : tie.Need-sub-i Inv-loop μ-loop
-sub-i c = omega arith
-
 holds-with-requires : tie.Need-holds-with-requires Inv-loop μ-loop
 holds-with-requires c κs = (c .before .before .before .before .before .before .pre .0, c .before .before .before .before .before .before .pre .2, c .before .before .before .loop .inv .2 .sized, c .before .before .before .loop .inv .3)
 
 returns : tie.Need-returns Inv-loop μ-loop
 returns c = last-found (pool (c .before .before .before .before .before .before .before .before)) _ _ _ _ (c .before .before .before .before .before .loop .i) _ _ (omega arith) (omega arith) (omega arith) (grown-add (pool (c .before .before .before .before .before .before .before .before)) _ (c .before .before .before .before .before .before .before .before .args .f) (c .before .before .before .before .before .before .before .before .args .e) (c .before .before .before .before .before .loop .i) _ _ _ (omega arith) (c .before .before .before .before .before .before .before .before .pre .0) (omega arith) (c .before .holds-with .ensures .0) (c .before .before .before .before .before .loop .inv .2)) (c .before .holds-with .ensures .1 .1) (c .if1 .taken) (c .before .before .before .before .before .loop .inv .4)
-
-loop-less : tie.Need-loop-less Inv-loop μ-loop
-loop-less c = omega arith
 
 loop-again : tie.Need-loop-again Inv-loop μ-loop
 loop-again c = (omega arith, omega arith, (grown-add (pool (c .before .before .before .before .before .before .before .before)) _ (c .before .before .before .before .before .before .before .before .args .f) (c .before .before .before .before .before .before .before .before .args .e) (c .before .before .before .before .before .loop .i) _ _ _ (omega arith) (c .before .before .before .before .before .before .before .before .pre .0) (omega arith) (c .before .holds-with .ensures .0) (c .before .before .before .before .before .loop .inv .2)), c .before .holds-with .ensures .1 .0, λ _. last-again (pool (c .before .before .before .before .before .before .before .before)) _ _ _ _ _ (grown-add (pool (c .before .before .before .before .before .before .before .before)) _ (c .before .before .before .before .before .before .before .before .args .f) (c .before .before .before .before .before .before .before .before .args .e) (c .before .before .before .before .before .loop .i) _ _ _ (omega arith) (c .before .before .before .before .before .before .before .before .pre .0) (omega arith) (c .before .holds-with .ensures .0) (c .before .before .before .before .before .loop .inv .2)) (c .before .holds-with .ensures .1 .1) (c .if1 .left))
@@ -56,9 +50,9 @@ last-needed-spec =
     μ-loop
     add-i
     loop-holds
-    sub-i
+    (λ c. omega arith)
     holds-with-requires
     returns
-    loop-less
+    (λ c. omega arith)
     loop-again
     returns-2)

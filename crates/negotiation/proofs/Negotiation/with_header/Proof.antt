@@ -1,5 +1,6 @@
 use mathlib.Core.Path.{refl}
-use Rattle.negotiation.specs.State.{stateOf, withHeader}
+use Rattle.negotiation.specs.laws.State.{stateOf}
+use Rattle.negotiation.specs.State.{withHeader}
 use Rattle.negotiation.proofs.Negotiation.with_header.Statement.{statement}
 use Rattle.negotiation.proofs.Negotiation.with_header.Tie as tie
 

@@ -1,41 +1,17 @@
 use native.Mathlib.Omega.{arith}
 use lib.ListN.{getD}
-use Rattle.negotiation.specs.ReadLaws.{few-most, candidate-read}
+use Rattle.negotiation.specs.laws.Read.{few-most, candidate-read}
 use mathlib.Core.Path.{ap, _∙_}
 use Rattle.negotiation.specs.Layout.{few}
 use borrow.Author.Needs.{needs}
 use Rattle.negotiation.proofs.reader.candidate.Statement.{statement}
 use Rattle.negotiation.proofs.reader.candidate.Tie as tie
 
-shared-slice-read-at-most : tie.Need-shared-slice-read-at-most
-shared-slice-read-at-most c = search needs
-
 cast-at-most : tie.Need-cast-at-most
 cast-at-most c = omega (arith, c .shared-slice-known2 .given 14)
 
-at-most-requires : tie.Need-at-most-requires
-at-most-requires c κs = search needs
-
-number-at-requires : tie.Need-number-at-requires
-number-at-requires c κs = search needs
-
-cast-at-most-2 : tie.Need-cast-at-most-2
-cast-at-most-2 c = search needs
-
-at-most-requires-2 : tie.Need-at-most-requires-2
-at-most-requires-2 c κs = search needs
-
-shared-slice-read-at-most-2 : tie.Need-shared-slice-read-at-most-2
-shared-slice-read-at-most-2 c = search needs
-
 cast-at-most-3 : tie.Need-cast-at-most-3
 cast-at-most-3 c = omega (arith, c .shared-slice-known3 .given 17)
-
-at-most-requires-3 : tie.Need-at-most-requires-3
-at-most-requires-3 c κs = search needs
-
-header-from-requires : tie.Need-header-from-requires
-header-from-requires c κs = search needs
 
 read-nodes-requires : tie.Need-read-nodes-requires
 read-nodes-requires c κs = (omega (arith, c .before .before .before .before .before .at-most .ensures, few-most 128 (getD (c .before .before .before .before .before .before .before .before .args .s .now) 14 0)), omega (arith, c .before .before .before .before .before .before .before .before .pre))
@@ -56,16 +32,16 @@ pub candidate-spec : {M : Type 1} → statement M
 candidate-spec =
     tie.close
     (tie.spec
-    shared-slice-read-at-most
+    (λ c. search needs)
     cast-at-most
-    at-most-requires
-    number-at-requires
-    cast-at-most-2
-    at-most-requires-2
-    shared-slice-read-at-most-2
+    (λ c κs. search needs)
+    (λ c κs. search needs)
+    (λ c. search needs)
+    (λ c κs. search needs)
+    (λ c. search needs)
     cast-at-most-3
-    at-most-requires-3
-    header-from-requires
+    (λ c κs. search needs)
+    (λ c κs. search needs)
     read-nodes-requires
     read-edges-requires
     read-shown-requires

@@ -5,7 +5,7 @@ use native.Mathlib.Nat.{le-antisymm}
 use borrow.Author.Needs.{needs}
 use Rattle.rt0.specs.Pool.{upTo}
 use Rattle.negotiation.specs.Layout.{edgeFrom}
-use Rattle.negotiation.specs.ReadLaws.{EdgesRead, no-edges-read, edge-read}
+use Rattle.negotiation.specs.laws.Read.{EdgesRead, no-edges-read, edge-read}
 use Rattle.negotiation.proofs.reader.read_edges.Statement.{statement}
 use Rattle.negotiation.proofs.reader.read_edges.Tie as tie
 
@@ -14,9 +14,6 @@ Inv-loop s count edges₀ edges = EdgesRead s count edges
 
 abbrev μ-loop : tie.MeasureT-loop
 μ-loop s count edges₀ edges = count - edges .count
-
-empty-requires : tie.Need-empty-requires Inv-loop μ-loop
-empty-requires c κs = search needs
 
 loop-holds : tie.Need-loop-holds Inv-loop μ-loop
 loop-holds c = no-edges-read (c .before .before .args .s .now) (c .before .before .args .count) (c .empty .result) (c .empty .ensures .0) (c .empty .ensures .1)
@@ -72,7 +69,7 @@ read-edges-spec =
     (tie.spec
     Inv-loop
     μ-loop
-    empty-requires
+    (λ c κs. search needs)
     loop-holds
     mul-at
     add-at

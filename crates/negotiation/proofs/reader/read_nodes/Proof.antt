@@ -8,7 +8,7 @@ use native.Mathlib.Nat.{le-antisymm}
 use borrow.Author.Needs.{needs}
 use Rattle.rt0.specs.Pool.{upTo}
 use Rattle.negotiation.specs.Layout.{nodeFrom}
-use Rattle.negotiation.specs.ReadLaws.{NodesRead, no-nodes-read, node-read}
+use Rattle.negotiation.specs.laws.Read.{NodesRead, no-nodes-read, node-read}
 use Rattle.negotiation.proofs.reader.read_nodes.Statement.{statement}
 use Rattle.negotiation.proofs.reader.read_nodes.Tie as tie
 
@@ -17,9 +17,6 @@ Inv-loop s count nodes₀ nodes = NodesRead s count nodes
 
 abbrev μ-loop : tie.MeasureT-loop
 μ-loop s count nodes₀ nodes = count - nodes .count
-
-empty-requires : tie.Need-empty-requires Inv-loop μ-loop
-empty-requires c κs = search needs
 
 loop-holds : tie.Need-loop-holds Inv-loop μ-loop
 loop-holds c = no-nodes-read (c .before .before .args .s .now) (c .before .before .args .count) (c .empty .result) (c .empty .ensures .0) (c .empty .ensures .1)
@@ -146,7 +143,7 @@ read-nodes-spec =
     (tie.spec
     Inv-loop
     μ-loop
-    empty-requires
+    (λ c κs. search needs)
     loop-holds
     mul-at
     add-at

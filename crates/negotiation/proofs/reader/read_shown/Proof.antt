@@ -3,10 +3,11 @@ use Prim.Native.Nat.{ℕ, _+_, _*_, _-_, _≤_}
 use native.Mathlib.Omega.{arith}
 use native.Mathlib.Nat.{le-antisymm}
 use lib.ListN.{length-replicate}
-use Rattle.rt0.specs.Pool.{poolOf, credentials, upTo}
-use Rattle.rt0.specs.Added.{Sized}
+use Rattle.rt0.specs.laws.Pool.{poolOf, credentials}
+use Rattle.rt0.specs.Pool.{upTo}
+use Rattle.rt0.specs.laws.Added.{Sized}
 use Rattle.negotiation.specs.Layout.{credentialFrom}
-use Rattle.negotiation.specs.ReadLaws.{upTo-next}
+use Rattle.negotiation.specs.laws.Read.{upTo-next}
 use Rattle.negotiation.proofs.reader.read_shown.Statement.{statement}
 use Rattle.negotiation.proofs.reader.read_shown.Tie as tie
 
@@ -21,23 +22,8 @@ loop-holds : tie.Need-loop-holds Inv-loop μ-loop
 unfolding credentials
 loop-holds c = (omega arith, record { heads = length-replicate {A = ℕ} 256 0; kinds = length-replicate {A = ℕ} 256 0; numbers = length-replicate {A = ℕ} 1024 0 }, refl)
 
-mul-credential-from : tie.Need-mul-credential-from Inv-loop μ-loop
-mul-credential-from c = omega arith
-
-add-credential-from : tie.Need-add-credential-from Inv-loop μ-loop
-add-credential-from c = omega arith
-
-credential-from-requires : tie.Need-credential-from-requires Inv-loop μ-loop
-credential-from-requires c κs = omega arith
-
 store-requires : tie.Need-store-requires Inv-loop μ-loop
 store-requires c κs = (omega arith, c .before .before .before .before .before .loop .inv .1)
-
-add-k : tie.Need-add-k Inv-loop μ-loop
-add-k c = omega arith
-
-loop-less : tie.Need-loop-less Inv-loop μ-loop
-loop-less c = omega arith
 
 loop-again : tie.Need-loop-again Inv-loop μ-loop
 loop-again c =
@@ -63,11 +49,11 @@ read-shown-spec =
     Inv-loop
     μ-loop
     loop-holds
-    mul-credential-from
-    add-credential-from
-    credential-from-requires
+    (λ c. omega arith)
+    (λ c. omega arith)
+    (λ c κs. omega arith)
     store-requires
-    add-k
-    loop-less
+    (λ c. omega arith)
+    (λ c. omega arith)
     loop-again
     returns)

@@ -1,21 +1,12 @@
 use native.Mathlib.Omega.{arith}
 use mathlib.Core.Path.{_∙_}
-use Rattle.negotiation.specs.LayoutLaws.{counts, negotiation-written}
+use Rattle.negotiation.specs.laws.Layout.{counts, negotiation-written}
 use borrow.Author.Needs.{needs}
 use Rattle.negotiation.proofs.writer.write.Statement.{statement}
 use Rattle.negotiation.proofs.writer.write.Tie as tie
 
 header-bytes-requires : tie.Need-header-bytes-requires
 header-bytes-requires c κs = counts (c .before .before .args .t1) (c .before .before .pre .0)
-
-slice-aggregate-copy-in : tie.Need-slice-aggregate-copy-in
-slice-aggregate-copy-in c = search needs
-
-copy-in-requires : tie.Need-copy-in-requires
-copy-in-requires c κs = search needs
-
-write-zeros-requires : tie.Need-write-zeros-requires
-write-zeros-requires c κs = search needs
 
 write-nodes-requires : tie.Need-write-nodes-requires
 write-nodes-requires c κs = (counts (c .before .before .before .before .before .before .before .before .before .before .before .before .before .before .before .before .before .before .before .before .before .before .before .before .before .before .before .args .t1) (c .before .before .before .before .before .before .before .before .before .before .before .before .before .before .before .before .before .before .before .before .before .before .before .before .before .before .before .pre .0) .0, omega (arith, c .before .before .before .before .before .before .before .before .before .before .before .before .before .before .before .before .before .write-zeros .kept .0, c .before .before .before .before .before .before .before .before .before .before .before .before .before .before .before .before .before .before .before .before .before .copy-in .kept .0, c .before .before .before .before .before .before .before .before .before .before .before .before .before .before .before .before .before .before .before .before .before .before .before .before .before .before .before .pre .1))
@@ -45,9 +36,9 @@ write-spec =
     tie.close
     (tie.spec
     header-bytes-requires
-    slice-aggregate-copy-in
-    copy-in-requires
-    write-zeros-requires
+    (λ c. search needs)
+    (λ c κs. search needs)
+    (λ c κs. search needs)
     write-nodes-requires
     write-edges-requires
     write-shown-requires

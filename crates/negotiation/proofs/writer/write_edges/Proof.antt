@@ -9,9 +9,9 @@ use lib.Seq.{paste-zero}
 use Rattle.expression.specs.Bytes.{pasted}
 use Rattle.rt0.specs.Pool.{upTo}
 use Rattle.graph.specs.declared.Edges.{Edges}
-use Rattle.graph.specs.Graph.{edgesFrom, edgeAt, edgesOf}
+use Rattle.graph.specs.laws.Graph.{edgesFrom, edgeAt, edgesOf}
 use Rattle.negotiation.specs.Layout.{edgeBytes, records, zeros}
-use Rattle.negotiation.specs.LayoutLaws.{record-next, part-written, edge-size}
+use Rattle.negotiation.specs.laws.Layout.{record-next, part-written, edge-size}
 use Rattle.negotiation.proofs.writer.write_edges.Statement.{statement}
 use Rattle.negotiation.proofs.writer.write_edges.Tie as tie
 
@@ -23,30 +23,6 @@ abbrev μ-loop : tie.MeasureT-loop
 
 loop-holds : tie.Need-loop-holds Inv-loop μ-loop
 loop-holds c = (omega arith, refl, paste-zero (c .before .args .buf .now) 2944 [])
-
-element-copy-out-t11 : tie.Need-element-copy-out-t11 Inv-loop μ-loop
-element-copy-out-t11 c = search needs
-
-element-copy-out-t14 : tie.Need-element-copy-out-t14 Inv-loop μ-loop
-element-copy-out-t14 c = search needs
-
-element-copy-out-t17 : tie.Need-element-copy-out-t17 Inv-loop μ-loop
-element-copy-out-t17 c = search needs
-
-mul-write-edge : tie.Need-mul-write-edge Inv-loop μ-loop
-mul-write-edge c = omega arith
-
-add-write-edge : tie.Need-add-write-edge Inv-loop μ-loop
-add-write-edge c = omega arith
-
-write-edge-requires : tie.Need-write-edge-requires Inv-loop μ-loop
-write-edge-requires c κs = omega arith
-
-add-j : tie.Need-add-j Inv-loop μ-loop
-add-j c = omega arith
-
-loop-less : tie.Need-loop-less Inv-loop μ-loop
-loop-less c = omega arith
 
 loop-again : tie.Need-loop-again Inv-loop μ-loop
 loop-again c =
@@ -61,12 +37,6 @@ loop-again c =
           ∙ ap (λ (l : List ℕ). pasted l (2944 + j * 3) (edgeBytes (edgeAt E j))) (s .loop .inv .2)
           ∙ record-next edgeBytes 3 edge-size (a .buf .now) 2944 j (edgeAt E) (omega arith),
     )
-
-mul-write-zeros : tie.Need-mul-write-zeros Inv-loop μ-loop
-mul-write-zeros c = omega arith
-
-add-write-zeros : tie.Need-add-write-zeros Inv-loop μ-loop
-add-write-zeros c = omega arith
 
 write-zeros-requires : tie.Need-write-zeros-requires Inv-loop μ-loop
 write-zeros-requires c κs = (omega arith, omega arith)
@@ -94,17 +64,17 @@ write-edges-spec =
     Inv-loop
     μ-loop
     loop-holds
-    element-copy-out-t11
-    element-copy-out-t14
-    element-copy-out-t17
-    mul-write-edge
-    add-write-edge
-    write-edge-requires
-    add-j
-    loop-less
+    (λ c. search needs)
+    (λ c. search needs)
+    (λ c. search needs)
+    (λ c. omega arith)
+    (λ c. omega arith)
+    (λ c κs. omega arith)
+    (λ c. omega arith)
+    (λ c. omega arith)
     loop-again
-    mul-write-zeros
-    add-write-zeros
+    (λ c. omega arith)
+    (λ c. omega arith)
     write-zeros-requires
     same-length
     returns)

@@ -11,9 +11,9 @@ use Rattle.rt0.specs.Pool.{upTo}
 use Rattle.expression.specs.declared.Expression.{Expression}
 use Rattle.graph.specs.declared.Node.{Node}
 use Rattle.graph.specs.declared.Nodes.{Nodes}
-use Rattle.graph.specs.Graph.{nodesFrom, nodeAt, nodesOf, expressionFrom}
+use Rattle.graph.specs.laws.Graph.{nodesFrom, nodeAt, nodesOf, expressionFrom}
 use Rattle.negotiation.specs.Layout.{nodeBytes, records, zeros}
-use Rattle.negotiation.specs.LayoutLaws.{record-next, part-written, node-size}
+use Rattle.negotiation.specs.laws.Layout.{record-next, part-written, node-size}
 use Rattle.negotiation.proofs.writer.write_nodes.Statement.{statement}
 use Rattle.negotiation.proofs.writer.write_nodes.Tie as tie
 
@@ -25,90 +25,6 @@ abbrev μ-loop : tie.MeasureT-loop
 
 loop-holds : tie.Need-loop-holds Inv-loop μ-loop
 loop-holds c = (omega arith, refl, paste-zero (c .before .args .buf .now) 128 [])
-
-element-copy-out-t22 : tie.Need-element-copy-out-t22 Inv-loop μ-loop
-element-copy-out-t22 c = search needs
-
-element-copy-out-t25 : tie.Need-element-copy-out-t25 Inv-loop μ-loop
-element-copy-out-t25 c = search needs
-
-mul-t26 : tie.Need-mul-t26 Inv-loop μ-loop
-mul-t26 c = omega arith
-
-element-copy-out-t29 : tie.Need-element-copy-out-t29 Inv-loop μ-loop
-element-copy-out-t29 c = search needs
-
-mul-t30 : tie.Need-mul-t30 Inv-loop μ-loop
-mul-t30 c = omega arith
-
-element-copy-out-t33 : tie.Need-element-copy-out-t33 Inv-loop μ-loop
-element-copy-out-t33 c = search needs
-
-mul-t34 : tie.Need-mul-t34 Inv-loop μ-loop
-mul-t34 c = omega arith
-
-element-copy-out-t37 : tie.Need-element-copy-out-t37 Inv-loop μ-loop
-element-copy-out-t37 c = search needs
-
-mul-t38 : tie.Need-mul-t38 Inv-loop μ-loop
-mul-t38 c = omega arith
-
-element-copy-out-t41 : tie.Need-element-copy-out-t41 Inv-loop μ-loop
-element-copy-out-t41 c = search needs
-
-mul-t42 : tie.Need-mul-t42 Inv-loop μ-loop
-mul-t42 c = omega arith
-
-element-copy-out-t45 : tie.Need-element-copy-out-t45 Inv-loop μ-loop
-element-copy-out-t45 c = search needs
-
-mul-t46 : tie.Need-mul-t46 Inv-loop μ-loop
-mul-t46 c = omega arith
-
-element-copy-out-t49 : tie.Need-element-copy-out-t49 Inv-loop μ-loop
-element-copy-out-t49 c = search needs
-
-mul-t50 : tie.Need-mul-t50 Inv-loop μ-loop
-mul-t50 c = omega arith
-
-element-copy-out-t53 : tie.Need-element-copy-out-t53 Inv-loop μ-loop
-element-copy-out-t53 c = search needs
-
-mul-t54 : tie.Need-mul-t54 Inv-loop μ-loop
-mul-t54 c = omega arith
-
-element-copy-out-t57 : tie.Need-element-copy-out-t57 Inv-loop μ-loop
-element-copy-out-t57 c = search needs
-
-expression-of-requires : tie.Need-expression-of-requires Inv-loop μ-loop
-expression-of-requires c κs = search needs
-
-mul-t26-2 : tie.Need-mul-t26-2 Inv-loop μ-loop
-mul-t26-2 c = omega arith
-
-element-copy-out-t29-2 : tie.Need-element-copy-out-t29-2 Inv-loop μ-loop
-element-copy-out-t29-2 c = search needs
-
-element-copy-out-t22-2 : tie.Need-element-copy-out-t22-2 Inv-loop μ-loop
-element-copy-out-t22-2 c = search needs
-
-element-copy-out-t25-2 : tie.Need-element-copy-out-t25-2 Inv-loop μ-loop
-element-copy-out-t25-2 c = search needs
-
-mul-write-node : tie.Need-mul-write-node Inv-loop μ-loop
-mul-write-node c = omega arith
-
-add-write-node : tie.Need-add-write-node Inv-loop μ-loop
-add-write-node c = omega arith
-
-write-node-requires : tie.Need-write-node-requires Inv-loop μ-loop
-write-node-requires c κs = omega arith
-
-add-i : tie.Need-add-i Inv-loop μ-loop
-add-i c = omega arith
-
-loop-less : tie.Need-loop-less Inv-loop μ-loop
-loop-less c = omega arith
 
 loop-again : tie.Need-loop-again Inv-loop μ-loop
 unfolding expressionFrom
@@ -129,12 +45,6 @@ loop-again c =
           ∙ (λ t. pasted (s .loop .inv .2 t) (128 + i * 22) (nodeBytes (x (e .expression-of .ensures t))))
           ∙ record-next nodeBytes 22 node-size (a .buf .now) 128 i (nodeAt N) room,
     )
-
-mul-write-zeros : tie.Need-mul-write-zeros Inv-loop μ-loop
-mul-write-zeros c = omega arith
-
-add-write-zeros : tie.Need-add-write-zeros Inv-loop μ-loop
-add-write-zeros c = omega arith
 
 write-zeros-requires : tie.Need-write-zeros-requires Inv-loop μ-loop
 write-zeros-requires c κs = (omega arith, omega arith)
@@ -162,37 +72,37 @@ write-nodes-spec =
     Inv-loop
     μ-loop
     loop-holds
-    element-copy-out-t22
-    element-copy-out-t25
-    mul-t26
-    element-copy-out-t29
-    mul-t30
-    element-copy-out-t33
-    mul-t34
-    element-copy-out-t37
-    mul-t38
-    element-copy-out-t41
-    mul-t42
-    element-copy-out-t45
-    mul-t46
-    element-copy-out-t49
-    mul-t50
-    element-copy-out-t53
-    mul-t54
-    element-copy-out-t57
-    expression-of-requires
-    mul-t26-2
-    element-copy-out-t29-2
-    element-copy-out-t22-2
-    element-copy-out-t25-2
-    mul-write-node
-    add-write-node
-    write-node-requires
-    add-i
-    loop-less
+    (λ c. search needs)
+    (λ c. search needs)
+    (λ c. omega arith)
+    (λ c. search needs)
+    (λ c. omega arith)
+    (λ c. search needs)
+    (λ c. omega arith)
+    (λ c. search needs)
+    (λ c. omega arith)
+    (λ c. search needs)
+    (λ c. omega arith)
+    (λ c. search needs)
+    (λ c. omega arith)
+    (λ c. search needs)
+    (λ c. omega arith)
+    (λ c. search needs)
+    (λ c. omega arith)
+    (λ c. search needs)
+    (λ c κs. search needs)
+    (λ c. omega arith)
+    (λ c. search needs)
+    (λ c. search needs)
+    (λ c. search needs)
+    (λ c. omega arith)
+    (λ c. omega arith)
+    (λ c κs. omega arith)
+    (λ c. omega arith)
+    (λ c. omega arith)
     loop-again
-    mul-write-zeros
-    add-write-zeros
+    (λ c. omega arith)
+    (λ c. omega arith)
     write-zeros-requires
     same-length
     returns)

@@ -5,13 +5,13 @@ use native.Mathlib.Nat.{le-antisymm}
 use mathlib.Core.List.{List, []}
 use lib.ListN.{length}
 use lib.Seq.{paste-zero}
-use Rattle.expression.specs.declared.Credential.{Credential}
 use Rattle.expression.specs.Bytes.{pasted}
 use Rattle.expression.specs.Credential.{credentialBytes}
 use Rattle.rt0.specs.declared.Pool.{Pool}
-use Rattle.rt0.specs.Pool.{upTo, poolOf, credentialAt, credentials}
+use Rattle.rt0.specs.Pool.{upTo}
+use Rattle.rt0.specs.laws.Pool.{poolOf, credentialAt, credentials}
 use Rattle.negotiation.specs.Layout.{records, zeros}
-use Rattle.negotiation.specs.LayoutLaws.{record-next, part-written, credential-size}
+use Rattle.negotiation.specs.laws.Layout.{record-next, part-written, credential-size}
 use Rattle.negotiation.proofs.writer.write_shown.Statement.{statement}
 use Rattle.negotiation.proofs.writer.write_shown.Tie as tie
 
@@ -23,27 +23,6 @@ abbrev μ-loop : tie.MeasureT-loop
 
 loop-holds : tie.Need-loop-holds Inv-loop μ-loop
 loop-holds c = (omega arith, refl, paste-zero (c .before .args .buf .now) 3712 [])
-
-head-at-requires : tie.Need-head-at-requires Inv-loop μ-loop
-head-at-requires c κs = omega arith
-
-body-at-requires : tie.Need-body-at-requires Inv-loop μ-loop
-body-at-requires c κs = omega arith
-
-mul-write-credential : tie.Need-mul-write-credential Inv-loop μ-loop
-mul-write-credential c = omega arith
-
-add-write-credential : tie.Need-add-write-credential Inv-loop μ-loop
-add-write-credential c = omega arith
-
-write-credential-requires : tie.Need-write-credential-requires Inv-loop μ-loop
-write-credential-requires c κs = omega arith
-
-add-k : tie.Need-add-k Inv-loop μ-loop
-add-k c = omega arith
-
-loop-less : tie.Need-loop-less Inv-loop μ-loop
-loop-less c = omega arith
 
 loop-again : tie.Need-loop-again Inv-loop μ-loop
 loop-again c =
@@ -60,12 +39,6 @@ loop-again c =
           ∙ (λ t. pasted (s .loop .inv .2 t) (3712 + k * 22) (credentialBytes (record { head = h .head-at .ensures t; body = b .body-at .ensures t })))
           ∙ record-next credentialBytes 22 credential-size (a .buf .now) 3712 k (credentialAt P) (omega arith),
     )
-
-mul-write-zeros : tie.Need-mul-write-zeros Inv-loop μ-loop
-mul-write-zeros c = omega arith
-
-add-write-zeros : tie.Need-add-write-zeros Inv-loop μ-loop
-add-write-zeros c = omega arith
 
 write-zeros-requires : tie.Need-write-zeros-requires Inv-loop μ-loop
 write-zeros-requires c κs = (omega arith, omega arith)
@@ -93,16 +66,16 @@ write-shown-spec =
     Inv-loop
     μ-loop
     loop-holds
-    head-at-requires
-    body-at-requires
-    mul-write-credential
-    add-write-credential
-    write-credential-requires
-    add-k
-    loop-less
+    (λ c κs. omega arith)
+    (λ c κs. omega arith)
+    (λ c. omega arith)
+    (λ c. omega arith)
+    (λ c κs. omega arith)
+    (λ c. omega arith)
+    (λ c. omega arith)
     loop-again
-    mul-write-zeros
-    add-write-zeros
+    (λ c. omega arith)
+    (λ c. omega arith)
     write-zeros-requires
     same-length
     returns)

@@ -1,13 +1,12 @@
-use native.Mathlib.Nat.{le-antisymm}
+use native.Mathlib.Nat.{le-antisymm, sub-self}
 use mathlib.Core.Path.{_≡_, refl, sym, ap, _∙_}
 use Prim.Native.Nat.{ℕ, _-_, _≤_}
 use native.Mathlib.Omega.{arith}
-use native.Mathlib.Nat.{sub-self}
 use mathlib.Core.List.{List}
 use lib.ListN.{length, set, length-set}
 use lib.Seq.{paste, paste-zero}
 use Rattle.negotiation.specs.Layout.{zeros}
-use Rattle.negotiation.specs.LayoutLaws.{zero-next, zeros-all}
+use Rattle.negotiation.specs.laws.Layout.{zero-next, zeros-all}
 use Rattle.negotiation.proofs.writer.write_zeros.Statement.{statement}
 use Rattle.negotiation.proofs.writer.write_zeros.Tie as tie
 
@@ -22,15 +21,6 @@ loop-holds c =
     let a = c .args in
     let z : List ℕ = zeros (a .to - a .from) in
     (omega arith, c .pre .0, refl, paste-zero (a .buf .now) (a .from) z ∙ ap (paste (a .buf .now) (a .from) z) (sym (sub-self (a .from))))
-
-slice-write-buf : tie.Need-slice-write-buf Inv-loop μ-loop
-slice-write-buf c = omega arith
-
-add-i : tie.Need-add-i Inv-loop μ-loop
-add-i c = omega arith
-
-loop-less : tie.Need-loop-less Inv-loop μ-loop
-loop-less c = omega arith
 
 loop-again : tie.Need-loop-again Inv-loop μ-loop
 loop-again c =
@@ -58,9 +48,9 @@ write-zeros-spec =
     Inv-loop
     μ-loop
     loop-holds
-    slice-write-buf
-    add-i
-    loop-less
+    (λ c. omega arith)
+    (λ c. omega arith)
+    (λ c. omega arith)
     loop-again
     same-length
     returns)

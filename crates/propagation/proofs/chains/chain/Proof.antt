@@ -1,6 +1,6 @@
 use Prim.Native.Nat.{_-_, _≤_}
 use native.Mathlib.Omega.{arith}
-use Rattle.propagation.specs.Chains.{chain-all, Chained}
+use Rattle.propagation.specs.laws.Chains.{chain-all, Chained}
 use Rattle.propagation.proofs.chains.chain.Statement.{statement}
 use Rattle.propagation.proofs.chains.chain.Tie as tie
 
@@ -16,12 +16,6 @@ loop-holds c = (omega arith, c .pre .1)
 link-requires : tie.Need-link-requires Inv-loop μ-loop
 link-requires c κs = (omega arith, c .before .before .before .loop .inv .1)
 
-add-j : tie.Need-add-j Inv-loop μ-loop
-add-j c = omega arith
-
-loop-less : tie.Need-loop-less Inv-loop μ-loop
-loop-less c = omega arith
-
 loop-again : tie.Need-loop-again Inv-loop μ-loop
 loop-again c = (omega arith, c .link .ensures)
 
@@ -31,4 +25,4 @@ returns c = chain-all (c .before .loop .inv .0) (c .loop-test .left) (c .before 
 pub chain-spec : {M : Type 1} → statement M
 chain-spec =
     tie.close
-    (tie.spec Inv-loop μ-loop loop-holds link-requires add-j loop-less loop-again returns)
+    (tie.spec Inv-loop μ-loop loop-holds link-requires (λ c. omega arith) (λ c. omega arith) loop-again returns)

@@ -1,7 +1,7 @@
 use Prim.Native.Nat.{_-_, _≤_}
 use native.Mathlib.Omega.{arith}
-use Rattle.propagation.specs.Satisfied.{graph}
-use Rattle.propagation.specs.Failing.{Failing}
+use Rattle.propagation.specs.laws.Satisfied.{graph}
+use Rattle.propagation.specs.laws.Failing.{Failing}
 use Rattle.propagation.proofs.failing.drop_chain.Statement.{statement}
 use Rattle.propagation.proofs.failing.drop_chain.Tie as tie
 
@@ -14,14 +14,8 @@ abbrev μ-loop : tie.MeasureT-loop
 loop-holds : tie.Need-loop-holds Inv-loop μ-loop
 loop-holds c = (c .pre .0, c .pre .1, c .pre .3)
 
-sub-j : tie.Need-sub-j Inv-loop μ-loop
-sub-j c = omega arith
-
 drop-edge-requires : tie.Need-drop-edge-requires Inv-loop μ-loop
 drop-edge-requires c κs = (omega arith, c .before .before .before .before .before .loop .inv .1, c .before .before .before .before .before .loop .inv .2)
-
-mul-wide16 : tie.Need-mul-wide16 Inv-loop μ-loop
-mul-wide16 c = omega arith
 
 element-copy-out-wide16 : tie.Need-element-copy-out-wide16 Inv-loop μ-loop
 element-copy-out-wide16 c = omega (arith, c .drop-edge .ensures .1 .few)
@@ -45,9 +39,9 @@ drop-chain-spec =
     Inv-loop
     μ-loop
     loop-holds
-    sub-j
+    (λ c. omega arith)
     drop-edge-requires
-    mul-wide16
+    (λ c. omega arith)
     element-copy-out-wide16
     wide16-requires
     loop-less

@@ -1,24 +1,18 @@
 use borrow.Author.Needs.{needs}
-use Rattle.propagation.specs.Chains.{chain-start}
-use Rattle.propagation.specs.FailingLaws.{failing-start, failing-sound}
+use Rattle.propagation.specs.laws.Chains.{chain-start}
+use Rattle.propagation.specs.laws.FailingLaws.{failing-start, failing-sound}
 use Rattle.propagation.proofs.failing.fail_by_queue.Statement.{statement}
 use Rattle.propagation.proofs.failing.fail_by_queue.Tie as tie
 
 chain-requires : tie.Need-chain-requires
 chain-requires c κs = (c .before .before .pre .1, chain-start _)
 
-tally-requires : tie.Need-tally-requires
-tally-requires c κs = search needs
-
 fail-childless-requires : tie.Need-fail-childless-requires
 fail-childless-requires c κs = (c .before .before .before .before .before .before .before .before .pre .0, failing-start _ _ _ (c .before .before .before .before .before .before .before .before .pre .1) (c .before .before .before .before .before .before .before .before .pre .2) (c .before .before .before .before .tally .ensures))
-
-run-queue-requires : tie.Need-run-queue-requires
-run-queue-requires c κs = search needs
 
 returns : tie.Need-returns
 returns c = failing-sound (c .run-queue .ensures)
 
 pub fail-by-queue-spec : {M : Type 1} → statement M
 fail-by-queue-spec =
-    tie.close (tie.spec chain-requires tally-requires fail-childless-requires run-queue-requires returns)
+    tie.close (tie.spec chain-requires (λ c κs. search needs) fail-childless-requires (λ c κs. search needs) returns)

@@ -1,8 +1,8 @@
 use Prim.Native.Nat.{_-_, _≤_}
 use native.Mathlib.Omega.{arith}
-use Rattle.rt0.specs.Lists.{false-true}
-use Rattle.propagation.specs.Satisfied.{graph}
-use Rattle.propagation.specs.Failing.{Failing}
+use Rattle.word.specs.laws.Bools.{false-true}
+use Rattle.propagation.specs.laws.Satisfied.{graph}
+use Rattle.propagation.specs.laws.Failing.{Failing}
 use Rattle.propagation.proofs.failing.fail_childless.Statement.{statement}
 use Rattle.propagation.proofs.failing.fail_childless.Tie as tie
 
@@ -18,12 +18,6 @@ loop-holds c = (omega arith, c .pre .1)
 fail-node-requires : tie.Need-fail-node-requires Inv-loop μ-loop
 fail-node-requires c κs = (omega (arith, c .before .before .loop-test .taken, c .before .before .before .before .pre .0), c .before .before .before .loop .inv .0, (λ e. absurd (false-true e)), c .before .before .before .loop .inv .1)
 
-add-i : tie.Need-add-i Inv-loop μ-loop
-add-i c = omega arith
-
-loop-less : tie.Need-loop-less Inv-loop μ-loop
-loop-less c = omega arith
-
 loop-again : tie.Need-loop-again Inv-loop μ-loop
 loop-again c = c .fail-node .ensures
 
@@ -33,4 +27,4 @@ returns c = c .before .loop .inv
 pub fail-childless-spec : {M : Type 1} → statement M
 fail-childless-spec =
     tie.close
-    (tie.spec Inv-loop μ-loop loop-holds fail-node-requires add-i loop-less loop-again returns)
+    (tie.spec Inv-loop μ-loop loop-holds fail-node-requires (λ c. omega arith) (λ c. omega arith) loop-again returns)

@@ -1,9 +1,9 @@
 use Prim.Native.Nat.{_-_}
 use native.Mathlib.Omega.{arith}
-use Rattle.propagation.specs.Satisfied.{graph}
-use Rattle.propagation.specs.Flags.{cnt, flag}
-use Rattle.propagation.specs.Failed.{Sound}
-use Rattle.propagation.specs.FailedLaws.{round-sound, round-last, cnt-few}
+use Rattle.propagation.specs.laws.Satisfied.{graph}
+use Rattle.propagation.specs.laws.Flags.{cnt, flag}
+use Rattle.propagation.specs.laws.Failed.{Sound}
+use Rattle.propagation.specs.laws.FailedLaws.{round-sound, round-last, cnt-few}
 use Rattle.propagation.proofs.failing.failed.Statement.{statement}
 use Rattle.propagation.proofs.failing.failed.Tie as tie
 

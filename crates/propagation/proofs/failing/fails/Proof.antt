@@ -1,9 +1,7 @@
 use mathlib.Core.Path.{refl}
-use Rattle.propagation.specs.Failed.{failsBy}
+use Rattle.propagation.specs.laws.Failed.{failsBy}
 use Rattle.propagation.proofs.failing.fails.Statement.{statement}
 use Rattle.propagation.proofs.failing.fails.Tie as tie
-use Rattle.propagation.proofs.failing.fails.Reads as reads
-use Rattle.propagation.proofs.failing.fails.Lts as lts
 
 -- src/lib.rt:227:1
 returns : tie.Need-returns

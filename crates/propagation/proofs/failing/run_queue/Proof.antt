@@ -1,7 +1,7 @@
 use Prim.Native.Nat.{_-_, _≤_}
 use native.Mathlib.Omega.{arith}
-use Rattle.propagation.specs.Satisfied.{graph}
-use Rattle.propagation.specs.Failing.{Failing}
+use Rattle.propagation.specs.laws.Satisfied.{graph}
+use Rattle.propagation.specs.laws.Failing.{Failing}
 use Rattle.propagation.proofs.failing.run_queue.Statement.{statement}
 use Rattle.propagation.proofs.failing.run_queue.Tie as tie
 
@@ -14,17 +14,8 @@ abbrev μ-loop : tie.MeasureT-loop
 loop-holds : tie.Need-loop-holds Inv-loop μ-loop
 loop-holds c = (c .pre .0, c .pre .2)
 
-element-copy-out-wide : tie.Need-element-copy-out-wide Inv-loop μ-loop
-element-copy-out-wide c = omega arith
-
 wide-requires : tie.Need-wide-requires Inv-loop μ-loop
 wide-requires c κs = tt
-
-mul-wide16 : tie.Need-mul-wide16 Inv-loop μ-loop
-mul-wide16 c = omega arith
-
-element-copy-out-wide16 : tie.Need-element-copy-out-wide16 Inv-loop μ-loop
-element-copy-out-wide16 c = omega arith
 
 wide16-requires : tie.Need-wide16-requires Inv-loop μ-loop
 wide16-requires c κs = tt
@@ -34,12 +25,6 @@ drop-chain-requires c κs =
     let s = c .before .before .before .before .before .before .before .before .before .before in
     let l = c .before .before .before .before .before .before .before .before .before .loop in
     (omega (arith, c .before .before .before .before .wide16 .ensures, s .pre .1 .head-low (c .before .before .before .before .before .before .wide .result)), l .inv .0, s .pre .1 .next-low, l .inv .1)
-
-add-q : tie.Need-add-q Inv-loop μ-loop
-add-q c = omega arith
-
-loop-less : tie.Need-loop-less Inv-loop μ-loop
-loop-less c = omega arith
 
 loop-again : tie.Need-loop-again Inv-loop μ-loop
 loop-again c = c .drop-chain .ensures
@@ -54,13 +39,13 @@ run-queue-spec =
     Inv-loop
     μ-loop
     loop-holds
-    element-copy-out-wide
+    (λ c. omega arith)
     wide-requires
-    mul-wide16
-    element-copy-out-wide16
+    (λ c. omega arith)
+    (λ c. omega arith)
     wide16-requires
     drop-chain-requires
-    add-q
-    loop-less
+    (λ c. omega arith)
+    (λ c. omega arith)
     loop-again
     returns)

@@ -1,8 +1,8 @@
 use Prim.Native.Nat.{_-_}
 use native.Mathlib.Omega.{arith}
 use mathlib.Core.Logic.{⊎-elim}
-use Rattle.propagation.specs.Failed.{Swept}
-use Rattle.propagation.specs.FailedLaws.{sweep-start, sweep-add-at, sweep-skip-at, sweep-all, cnt-few}
+use Rattle.propagation.specs.laws.Failed.{Swept}
+use Rattle.propagation.specs.laws.FailedLaws.{sweep-start, sweep-add-at, sweep-skip-at, sweep-all, cnt-few}
 use Rattle.propagation.proofs.failing.swept.Statement.{statement}
 use Rattle.propagation.proofs.failing.swept.Tie as tie
 
@@ -15,32 +15,11 @@ abbrev μ-loop : tie.MeasureT-loop
 loop-holds : tie.Need-loop-holds Inv-loop μ-loop
 loop-holds c = sweep-start _ _ _ _ (c .pre .2)
 
-element-copy-out-fails-anew : tie.Need-element-copy-out-fails-anew Inv-loop μ-loop
-element-copy-out-fails-anew c = omega arith
-
-element-copy-out-fails-anew-2 : tie.Need-element-copy-out-fails-anew-2 Inv-loop μ-loop
-element-copy-out-fails-anew-2 c = omega arith
-
-element-copy-out-fails-anew-3 : tie.Need-element-copy-out-fails-anew-3 Inv-loop μ-loop
-element-copy-out-fails-anew-3 c = omega arith
-
-array-read-fails-anew : tie.Need-array-read-fails-anew Inv-loop μ-loop
-array-read-fails-anew c = omega arith
-
 fails-anew-requires : tie.Need-fails-anew-requires Inv-loop μ-loop
 fails-anew-requires c κs = tt
 
-array-write-next : tie.Need-array-write-next Inv-loop μ-loop
-array-write-next c = omega arith
-
 add-added : tie.Need-add-added Inv-loop μ-loop
 add-added c = omega (arith, c .before .before .before .before .before .before .loop .inv .counted, cnt-few (c .before .before .before .before .before .before .loop .next))
-
-add-i : tie.Need-add-i Inv-loop μ-loop
-add-i c = omega arith
-
-loop-less : tie.Need-loop-less Inv-loop μ-loop
-loop-less c = omega arith
 
 loop-again : tie.Need-loop-again Inv-loop μ-loop
 loop-again c =
@@ -59,14 +38,14 @@ swept-spec =
     Inv-loop
     μ-loop
     loop-holds
-    element-copy-out-fails-anew
-    element-copy-out-fails-anew-2
-    element-copy-out-fails-anew-3
-    array-read-fails-anew
+    (λ c. omega arith)
+    (λ c. omega arith)
+    (λ c. omega arith)
+    (λ c. omega arith)
     fails-anew-requires
-    array-write-next
+    (λ c. omega arith)
     add-added
-    add-i
-    loop-less
+    (λ c. omega arith)
+    (λ c. omega arith)
     loop-again
     returns)

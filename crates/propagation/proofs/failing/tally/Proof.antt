@@ -1,9 +1,9 @@
 use Prim.Native.Nat.{_-_, _/_, _≤_}
 use native.Mathlib.Omega.{arith}
 use mathlib.Core.Logic.{⊎-elim}
-use Rattle.propagation.specs.FailingLaws.{tally-start, tally-add, tally-skip, tally-all, tally-low}
-use Rattle.propagation.specs.Satisfied.{graph}
-use Rattle.propagation.specs.Failing.{Tallied}
+use Rattle.propagation.specs.laws.FailingLaws.{tally-start, tally-add, tally-skip, tally-all, tally-low}
+use Rattle.propagation.specs.laws.Satisfied.{graph}
+use Rattle.propagation.specs.laws.Failing.{Tallied}
 use Rattle.propagation.proofs.failing.tally.Statement.{statement}
 use Rattle.propagation.proofs.failing.tally.Tie as tie
 
@@ -16,20 +16,8 @@ abbrev μ-loop : tie.MeasureT-loop
 loop-holds : tie.Need-loop-holds Inv-loop μ-loop
 loop-holds c = (omega arith, tally-start _)
 
-mul-wide16 : tie.Need-mul-wide16 Inv-loop μ-loop
-mul-wide16 c = omega arith
-
-element-copy-out-wide16 : tie.Need-element-copy-out-wide16 Inv-loop μ-loop
-element-copy-out-wide16 c = omega arith
-
 wide16-requires : tie.Need-wide16-requires Inv-loop μ-loop
 wide16-requires c κs = tt
-
-element-copy-out-if1 : tie.Need-element-copy-out-if1 Inv-loop μ-loop
-element-copy-out-if1 c = omega arith
-
-mul-left : tie.Need-mul-left Inv-loop μ-loop
-mul-left c = omega arith
 
 array-read-left : tie.Need-array-read-left Inv-loop μ-loop
 array-read-left c = omega (arith, (c .before .before .wide16 .ensures), c .before .before .before .before .before .before .pre .1 (c .before .before .before .before .before .loop .j))
@@ -39,12 +27,6 @@ add-left c = omega (arith, tally-low (c .before .before .before .before .before 
 
 array-write-left : tie.Need-array-write-left Inv-loop μ-loop
 array-write-left c = omega (arith, (c .before .before .wide16 .ensures), c .before .before .before .before .before .before .pre .1 (c .before .before .before .before .before .loop .j))
-
-add-j : tie.Need-add-j Inv-loop μ-loop
-add-j c = omega arith
-
-loop-less : tie.Need-loop-less Inv-loop μ-loop
-loop-less c = omega arith
 
 loop-again : tie.Need-loop-again Inv-loop μ-loop
 loop-again c =
@@ -67,15 +49,15 @@ tally-spec =
     Inv-loop
     μ-loop
     loop-holds
-    mul-wide16
-    element-copy-out-wide16
+    (λ c. omega arith)
+    (λ c. omega arith)
     wide16-requires
-    element-copy-out-if1
-    mul-left
+    (λ c. omega arith)
+    (λ c. omega arith)
     array-read-left
     add-left
     array-write-left
-    add-j
-    loop-less
+    (λ c. omega arith)
+    (λ c. omega arith)
     loop-again
     returns)

@@ -1,9 +1,9 @@
 use Prim.Native.Nat.{_-_, _≤_}
 use native.Mathlib.Omega.{arith}
 use mathlib.Core.Logic.{⊎-elim}
-use Rattle.propagation.specs.Satisfied.{graph}
-use Rattle.propagation.specs.Failed.{Touched}
-use Rattle.propagation.specs.FailedLaws.{touch-start, touch-add-at, touch-skip-at, touch-all}
+use Rattle.propagation.specs.laws.Satisfied.{graph}
+use Rattle.propagation.specs.laws.Failed.{Touched}
+use Rattle.propagation.specs.laws.FailedLaws.{touch-start, touch-add-at, touch-skip-at, touch-all}
 use Rattle.propagation.proofs.failing.touched.Statement.{statement}
 use Rattle.propagation.proofs.failing.touched.Tie as tie
 
@@ -16,17 +16,8 @@ abbrev μ-loop : tie.MeasureT-loop
 loop-holds : tie.Need-loop-holds Inv-loop μ-loop
 loop-holds c = (omega arith, touch-start _ _ _)
 
-mul-wide16 : tie.Need-mul-wide16 Inv-loop μ-loop
-mul-wide16 c = omega arith
-
-element-copy-out-wide16 : tie.Need-element-copy-out-wide16 Inv-loop μ-loop
-element-copy-out-wide16 c = omega arith
-
 wide16-requires : tie.Need-wide16-requires Inv-loop μ-loop
 wide16-requires c κs = tt
-
-element-copy-out-wide : tie.Need-element-copy-out-wide Inv-loop μ-loop
-element-copy-out-wide c = omega arith
 
 wide-requires : tie.Need-wide-requires Inv-loop μ-loop
 wide-requires c κs = tt
@@ -36,12 +27,6 @@ is-at-requires c κs = c .before .before .before .before .before .before .pre .2
 
 array-write-r : tie.Need-array-write-r Inv-loop μ-loop
 array-write-r c = omega (arith, c .before .before .before .before .wide16 .ensures, c .before .before .before .before .before .before .before .before .pre .1 (c .before .before .before .before .before .before .before .loop .j))
-
-add-j : tie.Need-add-j Inv-loop μ-loop
-add-j c = omega arith
-
-loop-less : tie.Need-loop-less Inv-loop μ-loop
-loop-less c = omega arith
 
 loop-again : tie.Need-loop-again Inv-loop μ-loop
 loop-again c =
@@ -67,14 +52,14 @@ touched-spec =
     Inv-loop
     μ-loop
     loop-holds
-    mul-wide16
-    element-copy-out-wide16
+    (λ c. omega arith)
+    (λ c. omega arith)
     wide16-requires
-    element-copy-out-wide
+    (λ c. omega arith)
     wide-requires
     is-at-requires
     array-write-r
-    add-j
-    loop-less
+    (λ c. omega arith)
+    (λ c. omega arith)
     loop-again
     returns)

@@ -1,17 +1,8 @@
 use native.Mathlib.Omega.{arith}
 use borrow.Author.Needs.{needs}
-use Rattle.propagation.specs.WorkLaws.{fill-at, bring-at}
+use Rattle.propagation.specs.laws.WorkLaws.{fill-at, bring-at}
 use Rattle.propagation.proofs.satisfying.bring.Statement.{statement}
 use Rattle.propagation.proofs.satisfying.bring.Tie as tie
-
-mul-wide16 : tie.Need-mul-wide16
-mul-wide16 c = search needs
-
-element-copy-out-wide16 : tie.Need-element-copy-out-wide16
-element-copy-out-wide16 c = search needs
-
-wide16-requires : tie.Need-wide16-requires
-wide16-requires c κs = search needs
 
 element-write-got : tie.Need-element-write-got
 element-write-got c = omega (arith, c .wide16 .ensures, c .before .before .pre .2 .slots (c .before .before .args .j))
@@ -29,9 +20,9 @@ pub bring-spec : {M : Type 1} → statement M
 bring-spec =
     tie.close
     (tie.spec
-    mul-wide16
-    element-copy-out-wide16
-    wide16-requires
+    (λ c. search needs)
+    (λ c. search needs)
+    (λ c κs. search needs)
     element-write-got
     mark-requires
     returns)

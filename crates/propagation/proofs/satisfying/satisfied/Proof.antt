@@ -1,9 +1,9 @@
 use Prim.Native.Nat.{_-_, _≤_}
 use native.Mathlib.Omega.{arith}
-use Rattle.propagation.specs.Satisfied.{graph}
-use Rattle.propagation.specs.Work.{work, Done}
-use Rattle.propagation.specs.Chains.{Chained, chain-start}
-use Rattle.propagation.specs.WorkLaws.{start, settled-at}
+use Rattle.propagation.specs.laws.Satisfied.{graph}
+use Rattle.propagation.specs.laws.Work.{work, Done}
+use Rattle.propagation.specs.laws.Chains.{Chained, chain-start}
+use Rattle.propagation.specs.laws.WorkLaws.{start, settled-at}
 use Rattle.propagation.proofs.satisfying.satisfied.Statement.{statement}
 use Rattle.propagation.proofs.satisfying.satisfied.Tie as tie
 
@@ -22,12 +22,6 @@ loop-holds c = (omega arith, chain-start _, c .seed .ensures)
 insert-requires : tie.Need-insert-requires Inv-loop μ-loop
 insert-requires c κs = (omega (arith, c .before .before .before .before .before .before .before .before .before .before .before .pre .1), c .before .before .before .before .before .before .loop .inv .1, c .before .before .before .before .before .before .loop .inv .2)
 
-add-j : tie.Need-add-j Inv-loop μ-loop
-add-j c = omega arith
-
-loop-less : tie.Need-loop-less Inv-loop μ-loop
-loop-less c = omega arith
-
 loop-again : tie.Need-loop-again Inv-loop μ-loop
 loop-again c = (omega arith, c .insert .ensures .0, c .insert .ensures .1)
 
@@ -43,7 +37,7 @@ satisfied-spec =
     seed-requires
     loop-holds
     insert-requires
-    add-j
-    loop-less
+    (λ c. omega arith)
+    (λ c. omega arith)
     loop-again
     returns)

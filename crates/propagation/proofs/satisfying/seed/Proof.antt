@@ -1,8 +1,8 @@
 use Prim.Native.Nat.{_-_}
 use native.Mathlib.Omega.{arith}
-use Rattle.propagation.specs.Satisfied.{graph}
-use Rattle.propagation.specs.Work.{work, Base, Full}
-use Rattle.propagation.specs.WorkLaws.{full-none, full-next, full-all, done-none}
+use Rattle.propagation.specs.laws.Satisfied.{graph}
+use Rattle.propagation.specs.laws.Work.{work, Base, Full}
+use Rattle.propagation.specs.laws.WorkLaws.{full-none, full-next, full-all, done-none}
 use Rattle.propagation.proofs.satisfying.seed.Statement.{statement}
 use Rattle.propagation.proofs.satisfying.seed.Tie as tie
 
@@ -18,12 +18,6 @@ loop-holds c = (c .pre .2, full-none _ _)
 mark-requires : tie.Need-mark-requires Inv-loop μ-loop
 mark-requires c κs = (omega (arith, c .before .before .loop-test .taken, c .before .before .before .before .pre .0), c .before .before .before .loop .inv .0)
 
-add-i : tie.Need-add-i Inv-loop μ-loop
-add-i c = omega arith
-
-loop-less : tie.Need-loop-less Inv-loop μ-loop
-loop-less c = omega arith
-
 loop-again : tie.Need-loop-again Inv-loop μ-loop
 loop-again c = (c .mark .ensures .base, full-next _ (c .before .before .before .before .loop .inv .1) (c .mark .ensures))
 
@@ -33,4 +27,4 @@ returns c = done-none (c .before .loop .inv .0) (full-all _ _ (c .loop-test .lef
 pub seed-spec : {M : Type 1} → statement M
 seed-spec =
     tie.close
-    (tie.spec Inv-loop μ-loop loop-holds mark-requires add-i loop-less loop-again returns)
+    (tie.spec Inv-loop μ-loop loop-holds mark-requires (λ c. omega arith) (λ c. omega arith) loop-again returns)

@@ -1,8 +1,8 @@
 use Prim.Native.Nat.{_-_}
 use native.Mathlib.Omega.{arith}
-use Rattle.propagation.specs.Satisfied.{graph}
-use Rattle.propagation.specs.Work.{work, Done}
-use Rattle.propagation.specs.WorkLaws.{settle-step, done-all, tail-few}
+use Rattle.propagation.specs.laws.Satisfied.{graph}
+use Rattle.propagation.specs.laws.Work.{work, Done}
+use Rattle.propagation.specs.laws.WorkLaws.{settle-step, done-all, tail-few}
 use Rattle.propagation.proofs.satisfying.settle.Statement.{statement}
 use Rattle.propagation.proofs.satisfying.settle.Tie as tie
 

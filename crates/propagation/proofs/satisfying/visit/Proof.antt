@@ -1,10 +1,10 @@
 use Prim.Native.Nat.{_-_}
 use native.Mathlib.Omega.{arith}
 use mathlib.Core.Path.{ap, _∙_}
-use Rattle.propagation.specs.Flags.{flag}
-use Rattle.propagation.specs.WorkLaws.{visit-start, visit-follow, visit-skip, visit-all}
-use Rattle.propagation.specs.Satisfied.{graph}
-use Rattle.propagation.specs.Work.{work, Visited}
+use Rattle.propagation.specs.laws.Flags.{flag}
+use Rattle.propagation.specs.laws.WorkLaws.{visit-start, visit-follow, visit-skip, visit-all}
+use Rattle.propagation.specs.laws.Satisfied.{graph}
+use Rattle.propagation.specs.laws.Work.{work, Visited}
 use Rattle.propagation.proofs.satisfying.visit.Statement.{statement}
 use Rattle.propagation.proofs.satisfying.visit.Tie as tie
 
@@ -17,20 +17,11 @@ abbrev μ-loop : tie.MeasureT-loop
 wide-requires : tie.Need-wide-requires Inv-loop μ-loop
 wide-requires c κs = tt
 
-mul-wide16 : tie.Need-mul-wide16 Inv-loop μ-loop
-mul-wide16 c = omega arith
-
-element-copy-out-wide16 : tie.Need-element-copy-out-wide16 Inv-loop μ-loop
-element-copy-out-wide16 c = omega arith
-
 wide16-requires : tie.Need-wide16-requires Inv-loop μ-loop
 wide16-requires c κs = tt
 
 loop-holds : tie.Need-loop-holds Inv-loop μ-loop
 loop-holds c = visit-start _ _ _ _ _ _ _ _ (c .before .before .before .pre .2) (c .before .before .before .pre .3) (c .before .before .before .pre .1) (c .before .before .wide .ensures .0) (c .wide16 .ensures)
-
-sub-j : tie.Need-sub-j Inv-loop μ-loop
-sub-j c = omega arith
 
 mul-wide16-2 : tie.Need-mul-wide16-2 Inv-loop μ-loop
 mul-wide16-2 c = omega (arith, c .before .loop .inv .low, c .before .loop .inv .base .few)
@@ -55,9 +46,6 @@ loop-less c = omega (arith, c .before .before .before .before .before .before .w
 loop-again : tie.Need-loop-again Inv-loop μ-loop
 loop-again c = visit-follow _ _ (omega arith) (c .before .before .before .before .before .before .wide162 .ensures) (c .before .before .before .before .if1 .taken) (c .before .before .before .before .before .before .before .before .before .before .before .before .before .pre .1) (c .before .before .before .before .before .before .before .before .before .loop .inv) (c .bring .ensures)
 
-loop-less-2 : tie.Need-loop-less-2 Inv-loop μ-loop
-loop-less-2 c = omega arith
-
 loop-again-2 : tie.Need-loop-again-2 Inv-loop μ-loop
 loop-again-2 c = visit-skip (omega arith) (c .if1 .left) (c .before .before .before .before .before .loop .inv)
 
@@ -71,11 +59,11 @@ visit-spec =
     Inv-loop
     μ-loop
     wide-requires
-    mul-wide16
-    element-copy-out-wide16
+    (λ c. omega arith)
+    (λ c. omega arith)
     wide16-requires
     loop-holds
-    sub-j
+    (λ c. omega arith)
     mul-wide16-2
     element-copy-out-wide16-2
     wide16-requires-2
@@ -83,6 +71,6 @@ visit-spec =
     bring-requires
     loop-less
     loop-again
-    loop-less-2
+    (λ c. omega arith)
     loop-again-2
     returns)

@@ -1,11 +1,10 @@
 use borrow.Author.Needs.{needs}
 use mathlib.Core.Path.{refl, sym, _∙_}
-use mathlib.Core.List.{[]}
-use Prim.Native.Nat.{ℕ, _-_, _≤_}
+use Prim.Native.Nat.{ℕ, _-_}
 use lib.ListN.{length, length-replicate}
-use Rattle.rt0.specs.Pool.{poolOf, credentials}
-use Rattle.rt0.specs.Added.{Sized}
-use Rattle.question.specs.CredentialsLaws.{Reading, reading-start, reading-few, reading-next, list-end, list-refused, list-past}
+use Rattle.rt0.specs.laws.Pool.{poolOf, credentials}
+use Rattle.rt0.specs.laws.Added.{Sized}
+use Rattle.question.specs.laws.Credentials.{Reading, reading-start, reading-few, reading-next, list-end, list-refused, list-past}
 use native.Mathlib.Omega.{arith}
 use Rattle.question.proofs.credentials.list.Statement.{statement}
 use Rattle.question.proofs.credentials.list.Tie as tie
@@ -20,35 +19,17 @@ loop-holds : tie.Need-loop-holds Inv-loop μ-loop
 unfolding credentials
 loop-holds c = (reading-start _ _ refl, record { heads = length-replicate {A = ℕ} 256 0; kinds = length-replicate {A = ℕ} 256 0; numbers = length-replicate {A = ℕ} 1024 0 })
 
-step-requires : tie.Need-step-requires Inv-loop μ-loop
-step-requires c κs = search needs
-
-enum-known-c : tie.Need-enum-known-c Inv-loop μ-loop
-enum-known-c c = search needs
-
 store-requires : tie.Need-store-requires Inv-loop μ-loop
 store-requires c κs = (omega (arith, reading-few (c .before .before .before .before .before .before .before .before .loop .inv .0) (c .before .before .before .before .before .before .before .before .before .before .pre)), c .before .before .before .before .before .before .before .before .loop .inv .1)
 
 add-count : tie.Need-add-count Inv-loop μ-loop
 add-count c = omega (arith, reading-few (c .before .before .before .before .before .before .before .before .before .loop .inv .0) (c .before .before .before .before .before .before .before .before .before .before .before .pre))
 
-add-at : tie.Need-add-at Inv-loop μ-loop
-add-at c = search needs
-
-loop-less : tie.Need-loop-less Inv-loop μ-loop
-loop-less c = omega arith
-
 loop-again : tie.Need-loop-again Inv-loop μ-loop
 loop-again c = (reading-next (c .before .before .before .before .before .before .before .before .before .loop .inv .0) (c .before .before .before .before .before .before .before .before .loop-test .taken) (sym (c .before .before .before .before .before .before .before .step .ensures) ∙ c .before .before .before .before .before .c .given .1) (c .store .ensures .all), c .store .ensures .sized)
 
-enum-told : tie.Need-enum-told Inv-loop μ-loop
-enum-told c = search needs
-
 returns : tie.Need-returns Inv-loop μ-loop
 returns c = list-end (c .before .before .before .before .loop .inv .0) (c .before .before .before .loop-test .taken) (sym (c .before .before .step .ensures) ∙ c .enum-told .given .1) (c .before .before .before .before .before .before .pre)
-
-enum-known-k : tie.Need-enum-known-k Inv-loop μ-loop
-enum-known-k c = search needs
 
 returns-2 : tie.Need-returns-2 Inv-loop μ-loop
 returns-2 c = list-refused (c .before .before .before .before .before .loop .inv .0) (c .before .before .before .before .loop-test .taken) (sym (c .before .before .before .step .ensures) ∙ c .before .k .given .1) (c .before .before .before .before .before .before .before .pre)
@@ -63,15 +44,15 @@ list-spec =
     Inv-loop
     μ-loop
     loop-holds
-    step-requires
-    enum-known-c
+    (λ c κs. search needs)
+    (λ c. search needs)
     store-requires
     add-count
-    add-at
-    loop-less
+    (λ c. search needs)
+    (λ c. omega arith)
     loop-again
-    enum-told
+    (λ c. search needs)
     returns
-    enum-known-k
+    (λ c. search needs)
     returns-2
     returns-3)

@@ -1,17 +1,8 @@
 use mathlib.Core.Path.{refl, _∙_}
-use Rattle.question.specs.CredentialsLaws.{at-code, unknown}
+use Rattle.question.specs.laws.Credentials.{at-code, unknown}
 use borrow.Author.Needs.{needs}
 use Rattle.question.proofs.credentials.step.Statement.{statement}
 use Rattle.question.proofs.credentials.step.Tie as tie
-
-shared-slice-read-code : tie.Need-shared-slice-read-code
-shared-slice-read-code c = search needs
-
-credential-step-requires : tie.Need-credential-step-requires
-credential-step-requires c κs = search needs
-
-end-step-requires : tie.Need-end-step-requires
-end-step-requires c κs = search needs
 
 returns : tie.Need-returns
 returns c = c .credential-step .ensures ∙ at-code _ _ 1 (c .before .before .before .before .pre) (c .before .match .keys1)
@@ -26,9 +17,9 @@ pub step-spec : {M : Type 1} → statement M
 step-spec =
     tie.close
     (tie.spec
-    shared-slice-read-code
-    credential-step-requires
-    end-step-requires
+    (λ c. search needs)
+    (λ c κs. search needs)
+    (λ c κs. search needs)
     returns
     returns-2
     returns-3)

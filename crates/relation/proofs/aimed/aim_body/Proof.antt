@@ -1,10 +1,10 @@
 use borrow.Author.Needs.{needs}
 use mathlib.Core.Path.{sym, _∙_, ap}
 use Rattle.rt0.specs.declared.Pool.{Pool}
-use Rattle.rt0.specs.Pool.{poolOf}
-use Rattle.rules.specs.Table.{rowOf, rowFor}
-use Rattle.rules.specs.Columns.{fourRows}
-use Rattle.relation.specs.QuestionLaws.{aim-heads, aim-entity, aim-link}
+use Rattle.rt0.specs.laws.Pool.{poolOf}
+use Rattle.rules.specs.laws.Table.{rowOf, rowFor}
+use Rattle.rules.specs.laws.Columns.{fourRows}
+use Rattle.relation.specs.laws.QuestionLaws.{aim-heads, aim-entity, aim-link}
 use Rattle.relation.proofs.aimed.aim_body.Statement.{statement}
 use Rattle.relation.proofs.aimed.aim_body.Tie as tie
 
@@ -14,20 +14,11 @@ pool c = poolOf (c .args .n) (c .args .heads .now) (c .args .kinds .now) (c .arg
 returns : tie.Need-returns
 returns c = aim-heads (pool (c .before .before .before .before .before)) (c .before .before .before .before .before .args .e) (c .before .before .before .before .before .args .i) (c .before .before .before .before .before .args .old) (c .before .before .before .before .before .pre .1) (c .if1 .taken)
 
-mul-kind : tie.Need-mul-kind
-mul-kind c = search needs
-
-element-copy-out-kind : tie.Need-element-copy-out-kind
-element-copy-out-kind c = search needs
-
 returns-2 : tie.Need-returns-2
 returns-2 c = aim-entity (pool (c .before .before .before .before .before .before .before)) (c .before .before .before .before .before .before .before .args .e) (c .before .before .before .before .before .before .before .args .i) (c .before .before .before .before .before .before .before .args .old) (c .before .before .before .before .before .before .before .pre .1) (c .if2 .taken)
 
 returns-3 : tie.Need-returns-3
 returns-3 c = aim-link (pool (c .before .before .before .before .before .before .before .before)) (c .before .before .before .before .before .before .before .before .args .e) (c .before .before .before .before .before .before .before .before .args .i) (c .before .before .before .before .before .before .before .before .args .old) (c .before .before .before .before .before .before .before .before .pre .1) (c .if3 .taken)
-
-body-at-requires : tie.Need-body-at-requires
-body-at-requires c κs = search needs
 
 aim-rows-requires : tie.Need-aim-rows-requires
 aim-rows-requires c κs = c .before .before .before .before .before .before .before .before .before .pre .1 ∙ ap (fourRows (rowOf (pool (c .before .before .before .before .before .before .before .before .before)))) (sym (c .body-at .ensures))
@@ -40,10 +31,10 @@ aim-body-spec =
     tie.close
     (tie.spec
     returns
-    mul-kind
-    element-copy-out-kind
+    (λ c. search needs)
+    (λ c. search needs)
     returns-2
     returns-3
-    body-at-requires
+    (λ c κs. search needs)
     aim-rows-requires
     returns-4)

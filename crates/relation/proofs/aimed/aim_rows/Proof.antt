@@ -1,29 +1,17 @@
 use mathlib.Core.Path.{sym, _∙_, ap}
 use borrow.Author.Needs.{needs}
 use Rattle.rt0.specs.declared.Pool.{Pool}
-use Rattle.rt0.specs.Pool.{poolOf}
+use Rattle.rt0.specs.laws.Pool.{poolOf}
 use Rattle.rules.specs.declared.Four.{Four}
-use Rattle.rules.specs.Table.{rowOf, rowFor}
+use Rattle.rules.specs.laws.Table.{rowOf, rowFor}
 use Rattle.relation.proofs.aimed.aim_rows.Statement.{statement}
 use Rattle.relation.proofs.aimed.aim_rows.Tie as tie
 
 abbrev pool : (c : tie.Start) → Pool
 pool c = poolOf (c .args .n) (c .args .heads .now) (c .args .kinds .now) (c .args .numbers .now)
 
-enum-told : tie.Need-enum-told
-enum-told c = search needs
-
-enum-known-x : tie.Need-enum-known-x
-enum-known-x c = search needs
-
 aim-requires : tie.Need-aim-requires
 aim-requires c κs = ap (λ (r : Four). r .a) (rw (c .before .x .given .1) at (c .before .before .before .pre))
-
-enum-told-2 : tie.Need-enum-told-2
-enum-told-2 c = search needs
-
-enum-known-x-2 : tie.Need-enum-known-x-2
-enum-known-x-2 c = search needs
 
 aim-requires-2 : tie.Need-aim-requires-2
 aim-requires-2 c κs = ap (λ (r : Four). r .a) (rw (c .before .x2 .given .1) at (c .before .before .before .pre))
@@ -31,20 +19,11 @@ aim-requires-2 c κs = ap (λ (r : Four). r .a) (rw (c .before .x2 .given .1) at
 aim-requires-3 : tie.Need-aim-requires-3
 aim-requires-3 c κs = ap (λ (r : Four). r .b) (rw (c .before .before .x2 .given .1) at (c .before .before .before .before .pre))
 
-third-of-requires : tie.Need-third-of-requires
-third-of-requires c κs = search needs
-
 aim-requires-4 : tie.Need-aim-requires-4
 aim-requires-4 c κs = ap (λ (r : Four). r .c) (rw (c .before .before .before .before .x2 .given .1) at (c .before .before .before .before .before .before .pre)) ∙ ap (rowOf (pool (c .before .before .before .before .before .before))) (sym (c .third-of .ensures))
 
-fourth-of-requires : tie.Need-fourth-of-requires
-fourth-of-requires c κs = search needs
-
 aim-requires-5 : tie.Need-aim-requires-5
 aim-requires-5 c κs = ap (λ (r : Four). r .d) (rw (c .before .before .before .before .before .before .x2 .given .1) at (c .before .before .before .before .before .before .before .before .pre)) ∙ ap (rowOf (pool (c .before .before .before .before .before .before .before .before))) (sym (c .fourth-of .ensures))
-
-enum-told-3 : tie.Need-enum-told-3
-enum-told-3 c = search needs
 
 returns : tie.Need-returns
 returns c = c .before .before .pre ∙ rw (c .enum-told .given .1)
@@ -65,18 +44,18 @@ pub aim-rows-spec : {M : Type 1} → statement M
 aim-rows-spec =
     tie.close
     (tie.spec
-    enum-told
-    enum-known-x
+    (λ c. search needs)
+    (λ c. search needs)
     aim-requires
-    enum-told-2
-    enum-known-x-2
+    (λ c. search needs)
+    (λ c. search needs)
     aim-requires-2
     aim-requires-3
-    third-of-requires
+    (λ c κs. search needs)
     aim-requires-4
-    fourth-of-requires
+    (λ c κs. search needs)
     aim-requires-5
-    enum-told-3
+    (λ c. search needs)
     returns
     returns-2
     returns-3

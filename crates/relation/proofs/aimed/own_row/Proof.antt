@@ -2,34 +2,13 @@ use Rattle.expression.specs.Kinds.{isRoleExpression}
 use mathlib.Core.Path.{ap}
 use borrow.Author.Needs.{needs}
 use Rattle.rt0.specs.declared.Pool.{Pool}
-use Rattle.rt0.specs.Pool.{poolOf}
-use Rattle.relation.specs.QuestionLaws.{own-none, own-role}
+use Rattle.rt0.specs.laws.Pool.{poolOf}
+use Rattle.relation.specs.laws.QuestionLaws.{own-none, own-role}
 use Rattle.relation.proofs.aimed.own_row.Statement.{statement}
 use Rattle.relation.proofs.aimed.own_row.Tie as tie
 
 abbrev pool : (c : tie.Start) → Pool
 pool c = poolOf (c .args .n) (c .args .heads .now) (c .args .kinds .now) (c .args .numbers .now)
-
-enum-told : tie.Need-enum-told
-enum-told c = search needs
-
-enum-known-e : tie.Need-enum-known-e
-enum-known-e c = search needs
-
-row-requires : tie.Need-row-requires
-row-requires c κs = search needs
-
-aim-requires : tie.Need-aim-requires
-aim-requires c κs = search needs
-
-enum-told-2 : tie.Need-enum-told-2
-enum-told-2 c = search needs
-
-enum-told-3 : tie.Need-enum-told-3
-enum-told-3 c = search needs
-
-enum-told-4 : tie.Need-enum-told-4
-enum-told-4 c = search needs
 
 returns : tie.Need-returns
 returns c = own-none (pool (c .before .before)) (c .before .before .args .e) (ap isRoleExpression (c .enum-told .given .1))
@@ -50,13 +29,13 @@ pub own-row-spec : {M : Type 1} → statement M
 own-row-spec =
     tie.close
     (tie.spec
-    enum-told
-    enum-known-e
-    row-requires
-    aim-requires
-    enum-told-2
-    enum-told-3
-    enum-told-4
+    (λ c. search needs)
+    (λ c. search needs)
+    (λ c κs. search needs)
+    (λ c κs. search needs)
+    (λ c. search needs)
+    (λ c. search needs)
+    (λ c. search needs)
     returns
     returns-2
     returns-3

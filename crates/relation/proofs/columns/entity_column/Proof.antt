@@ -1,12 +1,12 @@
-use Prim.Native.Nat.{_-_, _≤_, _<_}
+use Prim.Native.Nat.{_-_, _≤_}
 use native.Mathlib.Omega.{arith}
 use mathlib.Core.Logic.{⊎-elim}
 use borrow.Author.Needs.{needs}
 use Rattle.rt0.specs.declared.Pool.{Pool}
-use Rattle.rt0.specs.Pool.{poolOf}
-use Rattle.relation.specs.Answer.{Moved}
-use Rattle.relation.specs.QuestionLaws.{moved-start, moved-add, moved-skip}
-use Rattle.relation.specs.Reached.{no-column, entity-column}
+use Rattle.rt0.specs.laws.Pool.{poolOf}
+use Rattle.relation.specs.laws.Answer.{Moved}
+use Rattle.relation.specs.laws.QuestionLaws.{moved-start, moved-add, moved-skip}
+use Rattle.relation.specs.laws.Reached.{no-column, entity-column}
 use Rattle.relation.proofs.columns.entity_column.Statement.{statement}
 use Rattle.relation.proofs.columns.entity_column.Tie as tie
 
@@ -19,9 +19,6 @@ abbrev μ-loop : tie.MeasureT-loop
 abbrev pool : (c : tie.Start Inv-loop μ-loop) → Pool
 pool c = poolOf (c .args .n) (c .args .heads .now) (c .args .kinds .now) (c .args .numbers .now)
 
-source-requires : tie.Need-source-requires Inv-loop μ-loop
-source-requires c κs = search needs
-
 returns : tie.Need-returns Inv-loop μ-loop
 returns c = no-column (pool (c .before .before)) (c .before .before .args .on .now) (c .before .before .pre .0) (c .before .before .args .mem .now) (c .before .before .pre .1) (c .before .before .args .b) (c .before .source .result) (c .before .source .ensures) (c .if1 .taken)
 
@@ -33,12 +30,6 @@ bit-requires c κs = (omega (arith, c .before .before .before .before .pre .0), 
 
 mark-requires : tie.Need-mark-requires Inv-loop μ-loop
 mark-requires c κs = (omega (arith, c .before .before .before .before .before .before .before .pre .0), omega arith, c .before .before .before .before .loop .inv .0 .sized)
-
-add-r : tie.Need-add-r Inv-loop μ-loop
-add-r c = omega arith
-
-loop-less : tie.Need-loop-less Inv-loop μ-loop
-loop-less c = omega arith
 
 loop-again : tie.Need-loop-again Inv-loop μ-loop
 loop-again c = (
@@ -58,12 +49,12 @@ entity-column-spec =
     (tie.spec
     Inv-loop
     μ-loop
-    source-requires
+    (λ c κs. search needs)
     returns
     loop-holds
     bit-requires
     mark-requires
-    add-r
-    loop-less
+    (λ c. omega arith)
+    (λ c. omega arith)
     loop-again
     returns-2)

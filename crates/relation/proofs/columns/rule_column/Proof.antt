@@ -1,10 +1,10 @@
 use mathlib.Core.Path.{refl}
 use borrow.Author.Needs.{needs}
 use Rattle.rt0.specs.declared.Pool.{Pool}
-use Rattle.rt0.specs.Pool.{poolOf}
+use Rattle.rt0.specs.laws.Pool.{poolOf}
 use Rattle.closure.specs.declared.Rules.{Rules}
-use Rattle.closure.specs.Rules.{rulesOf}
-use Rattle.relation.specs.Reached.{column-of}
+use Rattle.closure.specs.laws.Rules.{rulesOf}
+use Rattle.relation.specs.laws.Reached.{column-of}
 use Rattle.relation.proofs.columns.rule_column.Statement.{statement}
 use Rattle.relation.proofs.columns.rule_column.Tie as tie
 
@@ -14,15 +14,6 @@ pool c = poolOf (c .args .n) (c .args .heads .now) (c .args .kinds .now) (c .arg
 abbrev rules : (c : tie.Start) → Rules
 rules c = rulesOf (c .args .n) (c .args .words) (c .args .head .now) (c .args .part .now) (c .args .first .now) (c .args .named .now) (c .args .src .now)
 
-aim-parts-requires : tie.Need-aim-parts-requires
-aim-parts-requires c κs = search needs
-
-asked-requires : tie.Need-asked-requires
-asked-requires c κs = search needs
-
-close-requires : tie.Need-close-requires
-close-requires c κs = search needs
-
 returns : tie.Need-returns
 returns c =
     column-of (pool (c .before .before .before .before .before .before)) (c .before .before .before .before .before .before .args .on .now) (c .before .before .before .before .before .before .pre .0) (c .before .before .before .before .before .before .args .mem .now) (c .before .before .before .before .before .before .pre .2) (c .before .before .before .before .before .before .args .e) (rules (c .before .before .before .before .before .before))
@@ -31,4 +22,4 @@ returns c =
 
 pub rule-column-spec : {M : Type 1} → statement M
 rule-column-spec =
-    tie.close (tie.spec aim-parts-requires asked-requires close-requires returns)
+    tie.close (tie.spec (λ c κs. search needs) (λ c κs. search needs) (λ c κs. search needs) returns)

@@ -3,12 +3,10 @@ use native.Mathlib.Omega.{arith}
 use mathlib.Core.Path.{_≡_, refl}
 use mathlib.Core.Bool.{false}
 use lib.ListN.{length-replicate}
-use Rattle.rt0.specs.declared.Pool.{Pool}
-use Rattle.rt0.specs.Pool.{poolOf}
-use Rattle.rules.specs.Table.{anyTo}
-use Rattle.rules.specs.Search.{found-at, not-at, nowhere}
-use Rattle.rules.specs.Digits.{BodiesIn}
-use Rattle.relation.specs.Question.{leadsAt}
+use Rattle.rt0.specs.laws.Pool.{poolOf}
+use Rattle.rules.specs.laws.Table.{anyTo}
+use Rattle.rules.specs.laws.Search.{found-at, not-at, nowhere}
+use Rattle.relation.specs.laws.Question.{leadsAt}
 use Rattle.relation.proofs.forms.leads_on.Statement.{statement}
 use Rattle.relation.proofs.forms.leads_on.Tie as tie
 
@@ -30,12 +28,6 @@ leads-requires c κs = (c .before .before .before .before .before .pre .0, c .be
 returns : tie.Need-returns Inv-loop μ-loop
 returns c = found-at (leadsAt (poolOf (c .before .before .before .before .before .before .before .args .n) (c .before .before .before .before .before .before .before .args .heads .now) (c .before .before .before .before .before .before .before .args .kinds .now) (c .before .before .before .before .before .before .before .args .numbers .now)) (c .before .before .before .before .before .before .before .args .mem .now) (c .before .before .before .before .before .before .before .args .vals .now) (c .before .before .before .before .before .before .before .args .z) (c .before .before .before .before .before .before .before .args .r) (c .before .before .before .before .before .before .before .args .m)) (c .before .before .before .before .loop .j) (c .before .before .before .loop-test .taken) (c .before .leads .ensures) (c .if1 .taken)
 
-add-j : tie.Need-add-j Inv-loop μ-loop
-add-j c = omega arith
-
-loop-less : tie.Need-loop-less Inv-loop μ-loop
-loop-less c = omega arith
-
 loop-again : tie.Need-loop-again Inv-loop μ-loop
 loop-again c = (not-at (leadsAt (poolOf (c .before .before .before .before .before .before .before .args .n) (c .before .before .before .before .before .before .before .args .heads .now) (c .before .before .before .before .before .before .before .args .kinds .now) (c .before .before .before .before .before .before .before .args .numbers .now)) (c .before .before .before .before .before .before .before .args .mem .now) (c .before .before .before .before .before .before .before .args .vals .now) (c .before .before .before .before .before .before .before .args .z) (c .before .before .before .before .before .before .before .args .r) (c .before .before .before .before .before .before .before .args .m)) (c .before .before .before .before .loop .j) (c .before .before .before .before .loop .inv .0) (c .before .leads .ensures) (c .if1 .left), omega arith)
 
@@ -52,7 +44,7 @@ leads-on-spec =
     loop-holds
     leads-requires
     returns
-    add-j
-    loop-less
+    (λ c. omega arith)
+    (λ c. omega arith)
     loop-again
     returns-2)

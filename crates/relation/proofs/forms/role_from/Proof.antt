@@ -1,27 +1,18 @@
 use borrow.Author.Needs.{needs}
-use Rattle.rt0.specs.Pool.{poolOf}
+use Rattle.rt0.specs.laws.Pool.{poolOf}
 use Rattle.rt0.specs.declared.Pool.{Pool}
-use Rattle.relation.specs.Reached.{role-head, role-none}
+use Rattle.relation.specs.laws.Reached.{role-head, role-none}
 use Rattle.relation.proofs.forms.role_from.Statement.{statement}
 use Rattle.relation.proofs.forms.role_from.Tie as tie
 
 abbrev pool : (c : tie.Start) → Pool
 pool c = poolOf (c .args .n) (c .args .heads .now) (c .args .kinds .now) (c .args .numbers .now)
 
-row-requires : tie.Need-row-requires
-row-requires c κs = search needs
-
-same-requires : tie.Need-same-requires
-same-requires c κs = search needs
-
 returns : tie.Need-returns
 returns c = role-none (pool (c .before .before .before)) (c .before .before .before .args .on .now) (c .before .before .before .pre .0) (c .before .before .before .args .e) (c .before .before .before .args .z) (c .before .before .before .args .vals .now) (c .before .before .before .pre .2) (c .before .before .before .args .p) (c .before .before .row .result) (c .before .before .row .ensures) (c .before .if1 .taken) (c .same .ensures)
-
-bit-requires : tie.Need-bit-requires
-bit-requires c κs = search needs
 
 returns-2 : tie.Need-returns-2
 returns-2 c = role-head (pool (c .before .before .before)) (c .before .before .before .args .on .now) (c .before .before .before .pre .0) (c .before .before .before .args .e) (c .before .before .before .args .z) (c .before .before .before .args .vals .now) (c .before .before .before .pre .2) (c .before .before .before .args .p) (c .before .before .row .result) (c .before .before .row .ensures) (c .before .if1 .left) (c .bit .ensures)
 
 pub role-from-spec : {M : Type 1} → statement M
-role-from-spec = tie.close (tie.spec row-requires same-requires returns bit-requires returns-2)
+role-from-spec = tie.close (tie.spec (λ c κs. search needs) (λ c κs. search needs) returns (λ c κs. search needs) returns-2)

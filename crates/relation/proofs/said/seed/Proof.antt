@@ -1,40 +1,19 @@
 use borrow.Author.Needs.{needs}
 use Rattle.rt0.specs.declared.Pool.{Pool}
-use Rattle.rt0.specs.Pool.{poolOf}
-use Rattle.rules.specs.Exact.{body-one}
-use Rattle.relation.specs.QuestionLaws.{seed-none, seed-mark, body-bit}
+use Rattle.rt0.specs.laws.Pool.{poolOf}
+use Rattle.rules.specs.laws.Exact.{body-one}
+use Rattle.relation.specs.laws.QuestionLaws.{seed-none, seed-mark, body-bit}
 use Rattle.relation.proofs.said.seed.Statement.{statement}
 use Rattle.relation.proofs.said.seed.Tie as tie
 
 abbrev pool : (c : tie.Start) → Pool
 pool c = poolOf (c .args .n) (c .args .heads .now) (c .args .kinds .now) (c .args .numbers .now)
 
-mul-if1 : tie.Need-mul-if1
-mul-if1 c = search needs
-
-element-copy-out-if1 : tie.Need-element-copy-out-if1
-element-copy-out-if1 c = search needs
-
 returns : tie.Need-returns
 returns c = seed-none (pool (c .before .before)) (c .before .before .pre .0) (c .before .before .args .i) (c .before .before .args .rows .now) (c .before .before .pre .4) (c .if1 .taken)
 
-mul-find-source : tie.Need-mul-find-source
-mul-find-source c = search needs
-
-mul-find-source-2 : tie.Need-mul-find-source-2
-mul-find-source-2 c = search needs
-
-element-copy-out-find-source : tie.Need-element-copy-out-find-source
-element-copy-out-find-source c = search needs
-
 find-source-requires : tie.Need-find-source-requires
 find-source-requires c κs = (c .before .before .before .pre .0, c .before .before .before .pre .3)
-
-mul-mark : tie.Need-mul-mark
-mul-mark c = search needs
-
-element-copy-out-mark : tie.Need-element-copy-out-mark
-element-copy-out-mark c = search needs
 
 mark-requires : tie.Need-mark-requires
 mark-requires c κs = (c .before .before .before .before .before .before .pre .2 .under .under (c .before .before .before .before .before .before .args .i), body-bit (pool (c .before .before .before .before .before .before)) (c .before .before .before .before .before .before .pre .0) (c .before .before .before .before .before .before .args .i) _ (c .before .before .find-source .result) (c .before .before .before .before .before .before .pre .1) (body-one (pool (c .before .before .before .before .before .before)) (c .before .before .before .before .before .before .pre .0) (c .before .before .before .before .before .before .args .i) (c .before .before .before .before .if1 .left)) (c .before .before .find-source .ensures), c .before .before .before .before .before .before .pre .4)
@@ -46,14 +25,14 @@ pub seed-spec : {M : Type 1} → statement M
 seed-spec =
     tie.close
     (tie.spec
-    mul-if1
-    element-copy-out-if1
+    (λ c. search needs)
+    (λ c. search needs)
     returns
-    mul-find-source
-    mul-find-source-2
-    element-copy-out-find-source
+    (λ c. search needs)
+    (λ c. search needs)
+    (λ c. search needs)
     find-source-requires
-    mul-mark
-    element-copy-out-mark
+    (λ c. search needs)
+    (λ c. search needs)
     mark-requires
     returns-2)

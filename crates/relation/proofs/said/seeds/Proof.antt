@@ -3,9 +3,9 @@ use native.Mathlib.Omega.{arith}
 use mathlib.Core.Logic.{⊎-elim}
 use lib.ListN.{length-replicate}
 use Rattle.rt0.specs.declared.Pool.{Pool}
-use Rattle.rt0.specs.Pool.{poolOf}
-use Rattle.relation.specs.Question.{StartTo}
-use Rattle.relation.specs.QuestionLaws.{start-start, start-add, start-skip, start-end}
+use Rattle.rt0.specs.laws.Pool.{poolOf}
+use Rattle.relation.specs.laws.Question.{StartTo}
+use Rattle.relation.specs.laws.QuestionLaws.{start-start, start-add, start-skip, start-end}
 use Rattle.relation.proofs.said.seeds.Statement.{statement}
 use Rattle.relation.proofs.said.seeds.Tie as tie
 
@@ -24,17 +24,8 @@ note-bodies-requires c κs = (c .before .pre .0, length-replicate {A = ℕ} 260 
 loop-holds : tie.Need-loop-holds Inv-loop μ-loop
 loop-holds c = (start-start (pool (c .before .before)) (c .before .before .args .on .now) (c .before .before .pre .0), omega arith)
 
-element-copy-out-if1 : tie.Need-element-copy-out-if1 Inv-loop μ-loop
-element-copy-out-if1 c = omega arith
-
 seed-requires : tie.Need-seed-requires Inv-loop μ-loop
 seed-requires c κs = (c .before .before .before .before .before .before .before .before .pre .0, c .before .before .before .before .loop-test .taken, c .before .before .before .before .before .before .before .before .pre .1, c .before .before .before .before .before .before .note-bodies .ensures, c .before .before .before .before .before .loop .inv .0 .sized)
-
-add-i : tie.Need-add-i Inv-loop μ-loop
-add-i c = omega arith
-
-loop-less : tie.Need-loop-less Inv-loop μ-loop
-loop-less c = omega arith
 
 loop-again : tie.Need-loop-again Inv-loop μ-loop
 loop-again c = (
@@ -56,9 +47,9 @@ seeds-spec =
     μ-loop
     note-bodies-requires
     loop-holds
-    element-copy-out-if1
+    (λ c. omega arith)
     seed-requires
-    add-i
-    loop-less
+    (λ c. omega arith)
+    (λ c. omega arith)
     loop-again
     returns)

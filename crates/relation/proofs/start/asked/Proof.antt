@@ -5,9 +5,9 @@ use mathlib.Core.Logic.{⊎-elim}
 use mathlib.Core.List.{List}
 use lib.ListN.{length, length-replicate}
 use Rattle.rt0.specs.declared.Pool.{Pool}
-use Rattle.rt0.specs.Pool.{poolOf}
-use Rattle.relation.specs.Question.{AskedTo}
-use Rattle.relation.specs.QuestionLaws.{asked-start, asked-add, asked-skip, asked-end}
+use Rattle.rt0.specs.laws.Pool.{poolOf}
+use Rattle.relation.specs.laws.Question.{AskedTo}
+use Rattle.relation.specs.laws.QuestionLaws.{asked-start, asked-add, asked-skip, asked-end}
 use Rattle.relation.proofs.start.asked.Statement.{statement}
 use Rattle.relation.proofs.start.asked.Tie as tie
 
@@ -41,23 +41,11 @@ loop-holds c = (asked-start (pool (c .before .before .before .before .before .be
 starts-requires : tie.Need-starts-requires Inv-loop μ-loop
 starts-requires c κs = (c .before .before .before .before .before .before .before .before .pre .0, c .loop-test .taken, c .before .before .before .before .before .before .before .before .pre .2, c .before .before .before .before .before .before .before .raw-of .ensures, c .before .before .before .before .before .before .own-source .ensures)
 
-mul-h : tie.Need-mul-h Inv-loop μ-loop
-mul-h c = omega arith
-
-element-copy-out-h : tie.Need-element-copy-out-h Inv-loop μ-loop
-element-copy-out-h c = omega arith
-
 mark-requires-2 : tie.Need-mark-requires-2 Inv-loop μ-loop
 mark-requires-2 c κs = (c .before .before .before .before .before .before .before .before .before .before .before .before .pre .1 .under .under (c .before .before .before .before .before .loop .i), omega arith, c .before .before .before .before .before .loop .inv .0 .sized)
 
 read-too-requires-2 : tie.Need-read-too-requires-2 Inv-loop μ-loop
 read-too-requires-2 c κs = c .before .before .before .before .before .before .before .before .before .before .before .before .before .pre .1 .under .under (c .before .before .before .before .before .before .loop .i)
-
-add-i : tie.Need-add-i Inv-loop μ-loop
-add-i c = omega arith
-
-loop-less : tie.Need-loop-less Inv-loop μ-loop
-loop-less c = omega arith
 
 loop-again : tie.Need-loop-again Inv-loop μ-loop
 loop-again c = (
@@ -84,11 +72,11 @@ asked-spec =
     read-too-requires
     loop-holds
     starts-requires
-    mul-h
-    element-copy-out-h
+    (λ c. omega arith)
+    (λ c. omega arith)
     mark-requires-2
     read-too-requires-2
-    add-i
-    loop-less
+    (λ c. omega arith)
+    (λ c. omega arith)
     loop-again
     returns)

@@ -1,46 +1,22 @@
 use borrow.Author.Needs.{needs}
 use mathlib.Core.Path.{sym, _∙_}
 use Rattle.rt0.specs.declared.Pool.{Pool}
-use Rattle.rt0.specs.Pool.{poolOf}
-use Rattle.relation.specs.Bodies.{own-kind, own-name, own-none, own-is}
+use Rattle.rt0.specs.laws.Pool.{poolOf}
+use Rattle.relation.specs.laws.Bodies.{own-kind, own-name, own-none, own-is}
 use Rattle.relation.proofs.start.leads_to.Statement.{statement}
 use Rattle.relation.proofs.start.leads_to.Tie as tie
 
 abbrev pool : (c : tie.Start) → Pool
 pool c = poolOf (c .args .n) (c .args .heads .now) (c .args .kinds .now) (c .args .numbers .now)
 
-mul-if1 : tie.Need-mul-if1
-mul-if1 c = search needs
-
-element-copy-out-if1 : tie.Need-element-copy-out-if1
-element-copy-out-if1 c = search needs
-
 returns : tie.Need-returns
 returns c = own-kind (pool (c .before .before)) (c .before .before .args .rows .now) (c .before .before .args .i) (c .before .before .args .e) (c .if1 .taken)
-
-mul-if2 : tie.Need-mul-if2
-mul-if2 c = search needs
-
-add-if2 : tie.Need-add-if2
-add-if2 c = search needs
-
-mul-if2-2 : tie.Need-mul-if2-2
-mul-if2-2 c = search needs
-
-element-copy-out-if2 : tie.Need-element-copy-out-if2
-element-copy-out-if2 c = search needs
 
 returns-2 : tie.Need-returns-2
 returns-2 c = own-name (pool (c .before .before .before .before)) (c .before .before .before .before .args .rows .now) (c .before .before .before .before .args .i) (c .before .before .before .before .args .e) (c .before .before .if1 .left) (λ z. c .if2 .taken (z ∙ sym (c .before .before .before .before .pre .3)))
 
 returns-3 : tie.Need-returns-3
 returns-3 c = own-none (pool (c .before .before .before .before .before)) (c .before .before .before .before .before .args .rows .now) (c .before .before .before .before .before .args .i) (c .before .before .before .before .before .args .e) (c .before .before .before .before .before .args .s) (c .before .before .before .before .before .pre .4) (c .if3 .taken)
-
-mul-bit : tie.Need-mul-bit
-mul-bit c = search needs
-
-element-copy-out-bit : tie.Need-element-copy-out-bit
-element-copy-out-bit c = search needs
 
 bit-requires : tie.Need-bit-requires
 bit-requires c κs = (c .before .before .before .before .before .before .pre .2 .under .under (c .before .before .before .before .before .before .args .i), c .before .if3 .left)
@@ -52,16 +28,16 @@ pub leads-to-spec : {M : Type 1} → statement M
 leads-to-spec =
     tie.close
     (tie.spec
-    mul-if1
-    element-copy-out-if1
+    (λ c. search needs)
+    (λ c. search needs)
     returns
-    mul-if2
-    add-if2
-    mul-if2-2
-    element-copy-out-if2
+    (λ c. search needs)
+    (λ c. search needs)
+    (λ c. search needs)
+    (λ c. search needs)
     returns-2
     returns-3
-    mul-bit
-    element-copy-out-bit
+    (λ c. search needs)
+    (λ c. search needs)
     bit-requires
     returns-4)

@@ -1,9 +1,9 @@
 use borrow.Author.Needs.{needs}
 use borrow.Author.Tests.{eq-eqb, ne-eqb, le-ltb}
 use Rattle.rt0.specs.declared.Pool.{Pool}
-use Rattle.rt0.specs.Pool.{poolOf}
-use Rattle.closure.specs.Rules.{bits}
-use Rattle.rules.specs.ColumnLaws.{row-small}
+use Rattle.rt0.specs.laws.Pool.{poolOf}
+use Rattle.closure.specs.laws.Rules.{bits}
+use Rattle.rules.specs.laws.Column.{row-small}
 use Rattle.relation.proofs.start.own_role.Statement.{statement}
 use Rattle.relation.proofs.start.own_role.Tie as tie
 
@@ -12,9 +12,6 @@ pool c = poolOf (c .args .n) (c .args .heads .now) (c .args .kinds .now) (c .arg
 
 returns : tie.Need-returns
 returns c = rw (ne-eqb _ _ (c .if1 .taken))
-
-source-requires : tie.Need-source-requires
-source-requires c κs = search needs
 
 returns-2 : tie.Need-returns-2
 unfolding bits
@@ -28,4 +25,4 @@ returns-3 c = rw (eq-eqb _ _ (c .before .before .before .if1 .left), ← c .befo
 
 pub own-role-spec : {M : Type 1} → statement M
 own-role-spec =
-    tie.close (tie.spec returns source-requires returns-2 bit-requires returns-3)
+    tie.close (tie.spec returns (λ c κs. search needs) returns-2 bit-requires returns-3)

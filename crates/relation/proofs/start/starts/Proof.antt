@@ -2,16 +2,13 @@ use borrow.Author.Needs.{needs}
 use mathlib.Core.Path.{ap}
 use Rattle.expression.specs.declared.Raw.{Raw}
 use Rattle.rt0.specs.declared.Pool.{Pool}
-use Rattle.rt0.specs.Pool.{poolOf}
-use Rattle.relation.specs.Bodies.{starts-off, starts-link, starts-same}
+use Rattle.rt0.specs.laws.Pool.{poolOf}
+use Rattle.relation.specs.laws.Bodies.{starts-off, starts-link, starts-same}
 use Rattle.relation.proofs.start.starts.Statement.{statement}
 use Rattle.relation.proofs.start.starts.Tie as tie
 
 abbrev pool : (c : tie.Start) → Pool
 pool c = poolOf (c .args .n) (c .args .heads .now) (c .args .kinds .now) (c .args .numbers .now)
-
-element-copy-out-if1 : tie.Need-element-copy-out-if1
-element-copy-out-if1 c = search needs
 
 returns : tie.Need-returns
 returns c = starts-off (pool (c .before .before)) (c .before .before .args .on .now) (c .before .before .args .rows .now) (c .before .before .args .e) (c .before .before .args .i) (c .if1 .taken)
@@ -22,13 +19,10 @@ leads-to-requires c κs = (c .before .before .pre .0, c .before .before .pre .1,
 returns-2 : tie.Need-returns-2
 returns-2 c = starts-link (pool (c .before .before .before .before)) (c .before .before .before .before .args .on .now) (c .before .before .before .before .args .rows .now) (c .before .before .before .before .args .e) (c .before .before .before .before .args .i) (c .before .before .if1 .left) (c .before .leads-to .ensures) (c .if2 .taken)
 
-is-e-requires : tie.Need-is-e-requires
-is-e-requires c κs = search needs
-
 returns-3 : tie.Need-returns-3
 returns-3 c = starts-same (pool (c .before .before .before .before .before)) (c .before .before .before .before .before .args .on .now) (c .before .before .before .before .before .args .rows .now) (c .before .before .before .before .before .args .e) (c .before .before .before .before .before .args .i) (c .before .before .before .if1 .left) (c .before .before .leads-to .ensures) (c .before .if2 .left) (c .is-e .ensures)
 
 pub starts-spec : {M : Type 1} → statement M
 starts-spec =
     tie.close
-    (tie.spec element-copy-out-if1 returns leads-to-requires returns-2 is-e-requires returns-3)
+    (tie.spec (λ c. search needs) returns leads-to-requires returns-2 (λ c κs. search needs) returns-3)

@@ -2,8 +2,6 @@ use mathlib.Core.Path.{refl}
 use Rattle.reply.specs.Reply.{replySize}
 use Rattle.reply.proofs.call.fits.Statement.{statement}
 use Rattle.reply.proofs.call.fits.Tie as tie
-use Rattle.reply.proofs.call.fits.Reads as reads
-use Rattle.reply.proofs.call.fits.Lts as lts
 
 returns : tie.Need-returns
 unfolding replySize

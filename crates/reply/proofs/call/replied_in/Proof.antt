@@ -1,39 +1,15 @@
 use borrow.Author.Needs.{needs}
-use Rattle.tables.specs.Tables.{tablesOf}
-use Rattle.negotiation.specs.State.{stateOf}
-use Rattle.reply.specs.ReplyLaws.{turn-of, own-going, own-gives, begun-ready, begun-gives, replied-ended, replied-turn, in-turn, after-ready, end-fits, end-length, replied-given}
+use Rattle.tables.specs.laws.Tables.{tablesOf}
+use Rattle.negotiation.specs.laws.State.{stateOf}
+use Rattle.reply.specs.laws.Reply.{turn-of, own-going, own-gives, begun-ready, begun-gives, replied-ended, replied-turn, in-turn, after-ready, end-fits, end-length, replied-given}
 use Rattle.reply.proofs.call.replied_in.Statement.{statement}
 use Rattle.reply.proofs.call.replied_in.Tie as tie
-use Rattle.reply.proofs.call.replied_in.Reads as reads
-use Rattle.reply.proofs.call.replied_in.Lts as lts
-use Rattle.message.proofs.write_command.Reads as write-command-reads
-use Rattle.reply.proofs.call.begun.Reads as begun-reads
-use Rattle.reply.proofs.turns.reply_from.Reads as reply-from-reads
-use Rattle.reply.proofs.turns.replying.Reads as replying-reads
-use Rattle.sending.proofs.own_of.Reads as own-of-reads
-use Rattle.take.proofs.sends.Reads as sends-reads
-use Rattle.update.proofs.after_message.Reads as after-message-reads
-
-replying-requires : tie.Need-replying-requires
-replying-requires c κs = search needs
 
 returns : tie.Need-returns
 returns c = replied-ended (tablesOf (c .before .before .before .before .before .args .house)) (c .before .before .before .before .before .args .n) (c .before .before .before .before .before .args .s .now) (c .replying .result) (c .before .if1 .taken) (c .replying .ensures .0)
 
-sends-requires : tie.Need-sends-requires
-sends-requires c κs = search needs
-
-replying-requires-2 : tie.Need-replying-requires-2
-replying-requires-2 c κs = search needs
-
 returns-2 : tie.Need-returns-2
 returns-2 c = replied-turn (tablesOf (c .before .before .before .before .before .before .before .args .house)) (c .before .before .before .before .before .before .before .args .n) (c .before .before .before .if1 .left) (c .before .before .sends .ensures) (c .before .before .before .before .before .before .before .args .s .now) (c .replying2 .result) (c .before .if2 .taken) (c .replying2 .ensures .0)
-
-begun-requires : tie.Need-begun-requires
-begun-requires c κs = search needs
-
-own-of-requires : tie.Need-own-of-requires
-own-of-requires c κs = search needs
 
 reply-from-requires : tie.Need-reply-from-requires
 reply-from-requires c κs = let b = begun-ready (tablesOf (c .before .before .before .before .before .before .before .before .before .before .before .before .args .house)) (c .before .before .before .before .before .before .before .before .before .before .before .before .pre .1) (stateOf (c .before .before .before .before .before .before .before .before .before .before .before .before .args .n)) (c .before .before .before .before .before .before .before .before .before .before .before .before .pre .2) (c .before .before .before .before .before .before .before .before .before .before .before .before .pre .3) (turn-of (c .before .before .before .before .before .before .before .before .before .before .before .before .args .n) (in-turn (tablesOf (c .before .before .before .before .before .before .before .before .before .before .before .before .args .house)) (c .before .before .before .before .before .before .before .before .before .before .before .before .args .n) (c .before .before .before .before .before .before .before .before .if1 .left) (c .before .before .before .before .before .before .before .sends .ensures) (c .before .before .before .before .before .before .if2 .left))) (c .before .before .before .before .begun .result) (c .before .before .before .before .begun .ensures) (c .before .before .before .before .before .before .before .before .before .before .before .before .pre .4) in (c .before .own-of .ensures .0, own-going (c .before .own-of .ensures .1) (stateOf (c .before .before .before .before .begun .result .negotiation)) (b .0), b .1, b .2)
@@ -43,12 +19,6 @@ after-message-requires c κs = after-ready (tablesOf (c .before .before .before 
 
 write-command-requires : tie.Need-write-command-requires
 write-command-requires c κs = end-fits (tablesOf (c .before .before .before .before .before .before .before .before .before .before .before .before .before .before .before .before .before .before .args .house)) (c .before .before .before .before .before .before .before .before .before .before .before .before .before .before .before .before .before .before .args .n) (c .before .before .before .before .before .before .before .before .before .before .before .before .before .before .if1 .left) (c .before .before .before .before .before .before .before .before .before .before .before .before .before .sends .ensures) (c .before .before .before .before .before .before .before .before .before .before .before .before .if2 .left) (c .before .before .before .before .before .before .before .before .before .before .before .before .before .before .before .before .before .before .pre .1) (c .before .before .before .before .before .before .before .before .before .before .before .before .before .before .before .before .before .before .pre .2) (c .before .before .before .before .before .before .before .before .before .before .before .before .before .before .before .before .before .before .pre .3) (c .before .before .before .before .before .reply-from .result) (begun-gives (tablesOf (c .before .before .before .before .before .before .before .before .before .before .before .before .before .before .before .before .before .before .args .house)) (c .before .before .before .before .before .before .before .before .before .before .before .before .before .before .before .before .before .before .pre .1) (stateOf (c .before .before .before .before .before .before .before .before .before .before .before .before .before .before .before .before .before .before .args .n)) (c .before .before .before .before .before .before .before .before .before .before .before .before .before .before .before .before .before .before .pre .2) (c .before .before .before .before .before .before .before .before .before .before .before .before .before .before .before .before .before .before .pre .3) (turn-of (c .before .before .before .before .before .before .before .before .before .before .before .before .before .before .before .before .before .before .args .n) (in-turn (tablesOf (c .before .before .before .before .before .before .before .before .before .before .before .before .before .before .before .before .before .before .args .house)) (c .before .before .before .before .before .before .before .before .before .before .before .before .before .before .before .before .before .before .args .n) (c .before .before .before .before .before .before .before .before .before .before .before .before .before .before .if1 .left) (c .before .before .before .before .before .before .before .before .before .before .before .before .before .sends .ensures) (c .before .before .before .before .before .before .before .before .before .before .before .before .if2 .left))) (c .before .before .before .before .before .before .before .before .before .before .begun .result) (c .before .before .before .before .before .before .before .before .before .before .begun .ensures) (c .before .before .before .before .before .before .before .before .before .before .before .before .before .before .before .before .before .before .pre .4) (c .before .before .before .before .before .reply-from .result) (own-gives (c .before .before .before .before .before .before .before .own-of .ensures .1) (stateOf (c .before .before .before .before .before .before .before .before .before .before .begun .result .negotiation)) (c .before .before .before .before .before .before .before .before .before .before .begun .result .at) (c .before .before .before .before .before .reply-from .result) (c .before .before .before .before .before .reply-from .ensures))) (c .before .before .before .before .before .before .before .before .before .before .before .before .before .before .before .before .before .before .pre .4)
-
-add-replying : tie.Need-add-replying
-add-replying c = search needs
-
-replying-requires-3 : tie.Need-replying-requires-3
-replying-requires-3 c κs = search needs
 
 same-length : tie.Need-same-length
 same-length c = end-length (tablesOf (c .before .before .before .before .before .before .before .before .before .before .before .before .before .before .before .before .before .before .before .before .before .before .before .args .house)) (c .before .before .before .before .before .before .before .before .before .before .before .before .before .before .before .before .before .before .before .before .before .before .before .args .n) (c .before .before .before .before .before .before .before .before .before .before .before .before .before .before .before .before .before .before .before .if1 .left) (c .before .before .before .before .before .before .before .before .before .before .before .before .before .before .before .before .before .before .sends .ensures) (c .before .before .before .before .before .before .before .before .before .before .before .before .before .before .before .before .before .if2 .left) (c .before .before .before .before .before .before .before .before .before .before .before .before .before .before .before .before .before .before .before .before .before .before .before .pre .1) (c .before .before .before .before .before .before .before .before .before .before .before .before .before .before .before .before .before .before .before .before .before .before .before .pre .2) (c .before .before .before .before .before .before .before .before .before .before .before .before .before .before .before .before .before .before .before .before .before .before .before .pre .3) (c .before .before .before .before .before .before .before .before .before .before .reply-from .result) (begun-gives (tablesOf (c .before .before .before .before .before .before .before .before .before .before .before .before .before .before .before .before .before .before .before .before .before .before .before .args .house)) (c .before .before .before .before .before .before .before .before .before .before .before .before .before .before .before .before .before .before .before .before .before .before .before .pre .1) (stateOf (c .before .before .before .before .before .before .before .before .before .before .before .before .before .before .before .before .before .before .before .before .before .before .before .args .n)) (c .before .before .before .before .before .before .before .before .before .before .before .before .before .before .before .before .before .before .before .before .before .before .before .pre .2) (c .before .before .before .before .before .before .before .before .before .before .before .before .before .before .before .before .before .before .before .before .before .before .before .pre .3) (turn-of (c .before .before .before .before .before .before .before .before .before .before .before .before .before .before .before .before .before .before .before .before .before .before .before .args .n) (in-turn (tablesOf (c .before .before .before .before .before .before .before .before .before .before .before .before .before .before .before .before .before .before .before .before .before .before .before .args .house)) (c .before .before .before .before .before .before .before .before .before .before .before .before .before .before .before .before .before .before .before .before .before .before .before .args .n) (c .before .before .before .before .before .before .before .before .before .before .before .before .before .before .before .before .before .before .before .if1 .left) (c .before .before .before .before .before .before .before .before .before .before .before .before .before .before .before .before .before .before .sends .ensures) (c .before .before .before .before .before .before .before .before .before .before .before .before .before .before .before .before .before .if2 .left))) (c .before .before .before .before .before .before .before .before .before .before .before .before .before .before .before .begun .result) (c .before .before .before .before .before .before .before .before .before .before .before .before .before .before .before .begun .ensures) (c .before .before .before .before .before .before .before .before .before .before .before .before .before .before .before .before .before .before .before .before .before .before .before .pre .4) (c .before .before .before .before .before .before .before .before .before .before .reply-from .result) (own-gives (c .before .before .before .before .before .before .before .before .before .before .before .before .own-of .ensures .1) (stateOf (c .before .before .before .before .before .before .before .before .before .before .before .before .before .before .before .begun .result .negotiation)) (c .before .before .before .before .before .before .before .before .before .before .before .before .before .before .before .begun .result .at) (c .before .before .before .before .before .before .before .before .before .before .reply-from .result) (c .before .before .before .before .before .before .before .before .before .before .reply-from .ensures))) (c .before .before .before .before .before .before .before .before .before .before .before .before .before .before .before .before .before .before .before .before .before .before .before .pre .4) (c .before .before .before .before .write-command .ensures)
@@ -60,17 +30,17 @@ pub replied-in-spec : {M : Type 1} → statement M
 replied-in-spec =
     tie.close
     (tie.spec
-    replying-requires
+    (λ c κs. search needs)
     returns
-    sends-requires
-    replying-requires-2
+    (λ c κs. search needs)
+    (λ c κs. search needs)
     returns-2
-    begun-requires
-    own-of-requires
+    (λ c κs. search needs)
+    (λ c κs. search needs)
     reply-from-requires
     after-message-requires
     write-command-requires
-    add-replying
-    replying-requires-3
+    (λ c. search needs)
+    (λ c κs. search needs)
     same-length
     returns-3)

@@ -1,40 +1,18 @@
-use Rattle.reply.specs.CallLaws.{reply-size, size-parts, reply-unrestored, restored-sound, reply-refused, reply-given}
-use Rattle.damage.specs.RestoredLaws.{restored-length}
+use Rattle.reply.specs.laws.Call.{reply-size, size-parts, reply-unrestored, restored-sound, reply-refused, reply-given}
+use Rattle.damage.specs.laws.Restored.{restored-length}
 use native.Mathlib.Omega.{arith}
 use borrow.Author.Needs.{needs}
 use Rattle.reply.proofs.call.reply.Statement.{statement}
 use Rattle.reply.proofs.call.reply.Tie as tie
-use Rattle.reply.proofs.call.reply.Reads as reads
-use Rattle.reply.proofs.call.reply.Lts as lts
-use Rattle.damage.proofs.restore.Reads as restore-reads
-use Rattle.negotiation.proofs.write.Reads as write-reads
-use Rattle.negotiation.proofs.write_zeros.Reads as write-zeros-reads
-use Rattle.reply.proofs.call.fits.Reads as fits-reads
-use Rattle.reply.proofs.call.replied_in.Reads as replied-in-reads
-
-fits-requires : tie.Need-fits-requires
-fits-requires c κs = search needs
 
 returns : tie.Need-returns
 returns c = reply-size (c .before .before .before .before .before .before .args .tables .now) (c .before .before .before .before .before .before .args .negotiation .now) (c .before .before .before .before .before .before .args .reply .now) (c .before .before .before .before .before .before .args .scratch .now) (c .before .fits2 .ensures) (c .if1 .taken)
-
-restore-requires : tie.Need-restore-requires
-restore-requires c κs = search needs
-
-same-length : tie.Need-same-length
-same-length c = search needs
 
 returns-2 : tie.Need-returns-2
 returns-2 c = reply-unrestored (c .before .before .before .before .before .before .before .before .before .before .args .tables .now) (c .before .before .before .before .before .before .before .before .before .before .args .negotiation .now) (c .before .before .before .before .before .before .before .before .before .before .args .reply .now) (c .before .before .before .before .before .before .before .before .before .before .args .scratch .now) (c .before .before .before .before .before .fits2 .ensures) (c .before .before .before .before .if1 .left) (c .before .before .restore .result) (c .before .before .restore .ensures .0) (c .if2 .taken)
 
 replied-in-requires : tie.Need-replied-in-requires
 replied-in-requires c κs = ((c .before .before .before .restore .ensures .1 .housed) (c .before .if2 .left), restored-sound (c .before .before .before .before .before .before .before .before .before .before .before .args .tables .now) (c .before .before .before .before .before .before .before .before .before .before .before .args .negotiation .now) (c .before .before .before .before .before .before .before .before .before .before .before .args .reply .now) (c .before .before .before .before .before .before .before .before .before .before .before .args .scratch .now) (c .before .before .before .before .before .before .fits2 .ensures) (c .before .before .before .before .before .if1 .left) (c .before .before .before .restore .result) (c .before .before .before .restore .ensures .0) (c .before .if2 .left), (c .before .before .before .restore .ensures .1 .is-sound) (c .before .if2 .left), (c .before .before .before .restore .ensures .1 .within-sizes) (c .before .if2 .left), size-parts (c .before .before .before .before .before .before .before .before .before .before .before .args .tables .now) (c .before .before .before .before .before .before .before .before .before .before .before .args .negotiation .now) (c .before .before .before .before .before .before .before .before .before .before .before .args .reply .now) (c .before .before .before .before .before .before .before .before .before .before .before .args .scratch .now) (c .before .before .before .before .before .before .fits2 .ensures) (c .before .before .before .before .before .if1 .left) .0)
-
-same-length-2 : tie.Need-same-length-2
-same-length-2 c = search needs
-
-same-length-3 : tie.Need-same-length-3
-same-length-3 c = search needs
 
 returns-3 : tie.Need-returns-3
 returns-3 c = reply-refused (c .before .before .before .before .before .before .before .before .before .before .before .before .before .before .before .before .args .tables .now) (c .before .before .before .before .before .before .before .before .before .before .before .before .before .before .before .before .args .negotiation .now) (c .before .before .before .before .before .before .before .before .before .before .before .before .before .before .before .before .args .reply .now) (c .before .before .before .before .before .before .before .before .before .before .before .before .before .before .before .before .args .scratch .now) (c .before .before .before .before .before .before .before .before .before .before .before .fits2 .ensures) (c .before .before .before .before .before .before .before .before .before .before .if1 .left) (c .before .before .before .before .before .before .before .before .restore .result) (c .before .before .before .before .before .before .before .before .restore .ensures .0) (c .before .before .before .before .before .before .if2 .left) (c .before .before .before .before .replied-in .result) (c .before .before .before .before .replied-in .ensures) (c .if3 .taken)
@@ -48,15 +26,6 @@ write-zeros-requires c κs = (omega arith, omega (arith, size-parts (c .before .
 mul-result : tie.Need-mul-result
 mul-result c = omega (arith, (c .before .before .before .before .before .before .before .before .before .before .before .before .replied-in .ensures .few) (c .before .before .before .before .before .before .before .before .if3 .left))
 
-same-length-4 : tie.Need-same-length-4
-same-length-4 c = search needs
-
-same-length-5 : tie.Need-same-length-5
-same-length-5 c = search needs
-
-same-length-6 : tie.Need-same-length-6
-same-length-6 c = search needs
-
 returns-4 : tie.Need-returns-4
 returns-4 c = reply-given (c .before .before .before .before .before .before .before .before .before .before .before .before .before .before .before .before .before .before .before .before .before .before .before .before .args .tables .now) (c .before .before .before .before .before .before .before .before .before .before .before .before .before .before .before .before .before .before .before .before .before .before .before .before .args .negotiation .now) (c .before .before .before .before .before .before .before .before .before .before .before .before .before .before .before .before .before .before .before .before .before .before .before .before .args .reply .now) (c .before .before .before .before .before .before .before .before .before .before .before .before .before .before .before .before .before .before .before .before .before .before .before .before .args .scratch .now) (c .before .before .before .before .before .before .before .before .before .before .before .before .before .before .before .before .before .before .before .fits2 .ensures) (c .before .before .before .before .before .before .before .before .before .before .before .before .before .before .before .before .before .before .if1 .left) (c .before .before .before .before .before .before .before .before .before .before .before .before .before .before .before .before .restore .result) (c .before .before .before .before .before .before .before .before .before .before .before .before .before .before .before .before .restore .ensures .0) (c .before .before .before .before .before .before .before .before .before .before .before .before .before .before .if2 .left) (c .before .before .before .before .before .before .before .before .before .before .before .before .replied-in .result) (c .before .before .before .before .before .before .before .before .before .before .before .before .replied-in .ensures) (c .before .before .before .before .before .before .before .before .if3 .left) (c .before .before .before .before .before .before .write .ensures) (c .before .before .write-zeros .ensures)
 
@@ -64,19 +33,19 @@ pub reply-spec : {M : Type 1} → statement M
 reply-spec =
     tie.close
     (tie.spec
-    fits-requires
+    (λ c κs. search needs)
     returns
-    restore-requires
-    same-length
+    (λ c κs. search needs)
+    (λ c. search needs)
     returns-2
     replied-in-requires
-    same-length-2
-    same-length-3
+    (λ c. search needs)
+    (λ c. search needs)
     returns-3
     write-requires
     write-zeros-requires
     mul-result
-    same-length-4
-    same-length-5
-    same-length-6
+    (λ c. search needs)
+    (λ c. search needs)
+    (λ c. search needs)
     returns-4)

@@ -1,14 +1,8 @@
-use Rattle.negotiation.specs.State.{stateOf}
-use Rattle.reply.specs.Carry.{carry-room, carry-fits, carry-within, carry-step, carry-behind, carry-led}
+use Rattle.negotiation.specs.laws.State.{stateOf}
+use Rattle.reply.specs.laws.Carry.{carry-room, carry-fits, carry-within, carry-step, carry-behind, carry-led}
 use borrow.Author.Needs.{needs}
 use Rattle.reply.proofs.carry.carry.Statement.{statement}
 use Rattle.reply.proofs.carry.carry.Tie as tie
-use Rattle.reply.proofs.carry.carry.Reads as reads
-use Rattle.reply.proofs.carry.carry.Lts as lts
-use Rattle.message.proofs.write_command.Reads as write-command-reads
-use Rattle.reply.proofs.carry.count_on.Reads as count-on-reads
-use Rattle.reply.proofs.carry.show_all.Reads as show-all-reads
-use Rattle.update.proofs.step.Reads as step-reads
 
 show-all-requires : tie.Need-show-all-requires
 show-all-requires c κs = ((c .before .before .before .before .pre .1), carry-room (c .before .before .before .before .args .n .header .side) (stateOf (c .before .before .before .before .args .n)) (c .before .before .before .before .args .out) (c .before .before .before .before .args .s .now) (c .before .before .before .before .args .at) (c .before .before .before .before .pre .2) (c .before .before .before .before .pre .3) (c .before .before .before .before .pre .4), carry-fits (c .before .before .before .before .args .n .header .side) (stateOf (c .before .before .before .before .args .n)) (c .before .before .before .before .args .out) (c .before .before .before .before .args .s .now) (c .before .before .before .before .args .at) (c .before .before .before .before .pre .2) (c .before .before .before .before .pre .3) (c .before .before .before .before .pre .4), (c .before .before .before .before .pre .4))
@@ -16,20 +10,11 @@ show-all-requires c κs = ((c .before .before .before .before .pre .1), carry-ro
 count-on-requires : tie.Need-count-on-requires
 count-on-requires c κs = (c .before .before .before .before .before .before .before .before .pre .1)
 
-mul-behind : tie.Need-mul-behind
-mul-behind c = search needs
-
-add-behind : tie.Need-add-behind
-add-behind c = search needs
-
 write-command-requires : tie.Need-write-command-requires
 write-command-requires c κs = carry-behind (c .before .before .before .before .before .before .before .before .before .before .args .n .header .side) (stateOf (c .before .before .before .before .before .before .before .before .before .before .args .n)) (c .before .before .before .before .before .before .before .before .before .before .args .out) (c .before .before .before .before .before .before .before .before .before .before .args .s .now) (c .before .before .before .before .before .before .before .before .before .before .args .at) (c .before .before .before .before .before .before .before .before .before .before .pre .2) (c .before .before .before .before .before .before .before .before .before .before .pre .3) (c .before .before .before .before .before .before .before .before .before .before .pre .4) (c .before .before .before .before .before .show-all .ensures .0) (c .before .before .before .before .before .show-all .ensures .1) (c .before .count-on .ensures .0)
 
 step-requires : tie.Need-step-requires
 step-requires c κs = (carry-within (c .before .before .before .before .before .before .before .before .before .before .before .before .before .args .n .header .side) (stateOf (c .before .before .before .before .before .before .before .before .before .before .before .before .before .args .n)) (c .before .before .before .before .before .before .before .before .before .before .before .before .before .args .out) (c .before .before .before .before .before .before .before .before .before .before .before .before .before .args .s .now) (c .before .before .before .before .before .before .before .before .before .before .before .before .before .args .at) (c .before .before .before .before .before .before .before .before .before .before .before .before .before .pre .2) (c .before .before .before .before .before .before .before .before .before .before .before .before .before .pre .3) (c .before .before .before .before .before .before .before .before .before .before .before .before .before .pre .4) (c .before .before .before .before .before .before .before .before .show-all .ensures .0) (c .before .before .before .before .before .before .before .before .show-all .ensures .1) (c .before .before .before .before .before .before .before .before .before .before .before .before .before .pre .0), carry-step (c .before .before .before .before .before .before .before .before .before .before .before .before .before .args .n .header .side) (stateOf (c .before .before .before .before .before .before .before .before .before .before .before .before .before .args .n)) (c .before .before .before .before .before .before .before .before .before .before .before .before .before .args .out) (c .before .before .before .before .before .before .before .before .before .before .before .before .before .args .s .now) (c .before .before .before .before .before .before .before .before .before .before .before .before .before .args .at) (c .before .before .before .before .before .before .before .before .before .before .before .before .before .pre .2) (c .before .before .before .before .before .before .before .before .before .before .before .before .before .pre .3) (c .before .before .before .before .before .before .before .before .before .before .before .before .before .pre .4) (c .before .before .before .before .before .before .before .before .show-all .ensures .0) (c .before .before .before .before .before .before .before .before .show-all .ensures .1))
-
-same-length : tie.Need-same-length
-same-length c = search needs
 
 returns : tie.Need-returns
 returns c = carry-led (c .before .before .before .before .before .before .before .before .before .before .before .before .before .before .args .n .header .side) (stateOf (c .before .before .before .before .before .before .before .before .before .before .before .before .before .before .args .n)) (c .before .before .before .before .before .before .before .before .before .before .before .before .before .before .args .out) (c .before .before .before .before .before .before .before .before .before .before .before .before .before .before .args .s .now) (c .before .before .before .before .before .before .before .before .before .before .before .before .before .before .args .at) (c .before .before .before .before .before .before .before .before .before .before .before .before .before .before .pre .2) (c .before .before .before .before .before .before .before .before .before .before .before .before .before .before .pre .3) (c .before .before .before .before .before .before .before .before .before .before .before .before .before .before .pre .4) (c .before .before .before .before .before .before .before .before .before .show-all .ensures .0) (c .before .before .before .before .before .before .before .before .before .show-all .ensures .1) (c .before .before .before .before .before .count-on .ensures .0) (c .before .before .before .write-command .ensures) (c .step .ensures)
@@ -40,9 +25,9 @@ carry-spec =
     (tie.spec
     show-all-requires
     count-on-requires
-    mul-behind
-    add-behind
+    (λ c. search needs)
+    (λ c. search needs)
     write-command-requires
     step-requires
-    same-length
+    (λ c. search needs)
     returns)

@@ -1,12 +1,9 @@
 use Prim.Native.Nat.{_-_}
 use native.Mathlib.Omega.{arith}
 use borrow.Author.Needs.{needs}
-use Rattle.reply.specs.Outgoing.{Counted, counted-start, counted-next, counted-end}
+use Rattle.reply.specs.laws.Outgoing.{Counted, counted-start, counted-next, counted-end}
 use Rattle.reply.proofs.carry.count_on.Statement.{statement}
 use Rattle.reply.proofs.carry.count_on.Tie as tie
-use Rattle.reply.proofs.carry.count_on.Reads as reads
-use Rattle.reply.proofs.carry.count_on.Lts as lts
-use Rattle.reply.proofs.carry.one_if.Reads as one-if-reads
 
 abbrev Inv-loop : tie.InvT-loop
 Inv-loop pool on n₀ k₀ n k = Counted pool on n k
@@ -19,9 +16,6 @@ loop-holds c = counted-start _ _
 
 element-copy-out-one-if : tie.Need-element-copy-out-one-if Inv-loop μ-loop
 element-copy-out-one-if c = omega (arith, (c .if1 .taken), (c .before .before .before .pre))
-
-one-if-requires : tie.Need-one-if-requires Inv-loop μ-loop
-one-if-requires c κs = search needs
 
 add-n : tie.Need-add-n Inv-loop μ-loop
 add-n c = omega (arith, (c .one-if .ensures .1), (c .before .before .if1 .taken), (c .before .before .before .before .loop .inv .few), (c .before .before .before .before .before .pre))
@@ -46,7 +40,7 @@ count-on-spec =
     μ-loop
     loop-holds
     element-copy-out-one-if
-    one-if-requires
+    (λ c κs. search needs)
     add-n
     add-k
     loop-less

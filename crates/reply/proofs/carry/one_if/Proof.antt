@@ -1,9 +1,7 @@
 use native.Mathlib.Omega.{arith}
-use Rattle.reply.specs.Outgoing.{one-on, one-off}
+use Rattle.reply.specs.laws.Outgoing.{one-on, one-off}
 use Rattle.reply.proofs.carry.one_if.Statement.{statement}
 use Rattle.reply.proofs.carry.one_if.Tie as tie
-use Rattle.reply.proofs.carry.one_if.Reads as reads
-use Rattle.reply.proofs.carry.one_if.Lts as lts
 
 returns : tie.Need-returns
 returns c = (one-on _ (c .if1 .taken), omega arith)

@@ -1,15 +1,10 @@
 use Prim.Native.Nat.{_-_}
 use native.Mathlib.Omega.{arith}
 use borrow.Author.Needs.{needs}
-use Rattle.negotiation.specs.State.{stateOf}
-use Rattle.reply.specs.Carry.{showing-length, Showing, showing-start, showing-end, showing-skip, showing-room, showing-fits, showing-next, showing-inside}
+use Rattle.negotiation.specs.laws.State.{stateOf}
+use Rattle.reply.specs.laws.Carry.{showing-length, Showing, showing-start, showing-end, showing-skip, showing-room, showing-fits, showing-next, showing-inside}
 use Rattle.reply.proofs.carry.show_all.Statement.{statement}
 use Rattle.reply.proofs.carry.show_all.Tie as tie
-use Rattle.reply.proofs.carry.show_all.Reads as reads
-use Rattle.reply.proofs.carry.show_all.Lts as lts
-use Rattle.candidates.proofs.next_flagged.Reads as next-flagged-reads
-use Rattle.reply.proofs.carry.one_if.Reads as one-if-reads
-use Rattle.reply.proofs.carry.show_at.Reads as show-at-reads
 
 abbrev Inv-loop : tie.InvT-loop
 Inv-loop s₀ from pool on n₀ at₀ k₀ s n at k = Showing pool on (stateOf n₀) s₀ at₀ (stateOf n) s at k
@@ -28,9 +23,6 @@ array-read-flag c = omega (arith, c .if1 .taken, c .before .before .before .befo
 
 show-at-requires : tie.Need-show-at-requires Inv-loop μ-loop
 show-at-requires c κs = (omega (arith, c .before .if1 .taken, c .before .before .before .before .before .before .before .pre .0), showing-room _ _ _ _ _ (c .before .before .before .loop .inv) (c .before .if1 .taken), showing-fits _ _ _ _ _ (c .before .before .before .loop .inv) (c .before .if1 .taken))
-
-one-if-requires : tie.Need-one-if-requires Inv-loop μ-loop
-one-if-requires c κs = search needs
 
 mul-at : tie.Need-mul-at Inv-loop μ-loop
 mul-at c = omega (arith, c .one-if .ensures .1)
@@ -66,7 +58,7 @@ show-all-spec =
     loop-holds
     array-read-flag
     show-at-requires
-    one-if-requires
+    (λ c κs. search needs)
     mul-at
     add-at
     add-next-flagged

@@ -3,8 +3,6 @@ use mathlib.Core.Bool.{Bool, cond}
 use borrow.Author.Tests.{lt-ltb, le-ltb}
 use Rattle.reply.proofs.turns.larger.Statement.{statement}
 use Rattle.reply.proofs.turns.larger.Tie as tie
-use Rattle.reply.proofs.turns.larger.Reads as reads
-use Rattle.reply.proofs.turns.larger.Lts as lts
 
 returns : tie.Need-returns
 returns c = sym (ap (λ (x : Bool). cond x (c .before .args .b) (c .before .args .a)) (lt-ltb (c .before .args .a) (c .before .args .b) (c .if1 .taken)))

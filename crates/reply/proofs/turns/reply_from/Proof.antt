@@ -1,27 +1,14 @@
 use native.Mathlib.Omega.{arith}
 use borrow.Author.Needs.{needs}
-use Rattle.tables.specs.Tables.{tablesOf}
-use Rattle.negotiation.specs.State.{stateOf}
-use Rattle.moves.specs.Own.{commandsOf}
-use Rattle.choice.specs.Exhausted.{Exhausted, exhausted-none}
-use Rattle.choice.specs.Waits.{Waits, waits-none}
-use Rattle.reply.specs.TurnLaws.{going-ready, something, next-satisfied, next-none, next-full, next-long, next-goes}
-use Rattle.reply.specs.Writing.{Writing, writing-start, writing-length, writing-past, writing-stops, writing-room, writing-next, exhausted-next, waits-next, waits-now}
+use Rattle.tables.specs.laws.Tables.{tablesOf}
+use Rattle.negotiation.specs.laws.State.{stateOf}
+use Rattle.moves.specs.laws.Own.{commandsOf}
+use Rattle.choice.specs.laws.Exhausted.{Exhausted, exhausted-none}
+use Rattle.choice.specs.laws.Waits.{Waits, waits-none}
+use Rattle.reply.specs.laws.Turn.{going-ready, something, next-satisfied, next-none, next-full, next-long, next-goes}
+use Rattle.reply.specs.laws.Writing.{Writing, writing-start, writing-length, writing-past, writing-stops, writing-room, writing-next, exhausted-next, waits-next, waits-now}
 use Rattle.reply.proofs.turns.reply_from.Statement.{statement}
 use Rattle.reply.proofs.turns.reply_from.Tie as tie
-use Rattle.reply.proofs.turns.reply_from.Reads as reads
-use Rattle.reply.proofs.turns.reply_from.Lts as lts
-use Rattle.choice.proofs.is_nothing.Reads as is-nothing-reads
-use Rattle.choice.proofs.next_choice.Reads as next-choice-reads
-use Rattle.choice.proofs.resting.Reads as resting-reads
-use Rattle.reply.proofs.carry.carry.Reads as carry-reads
-use Rattle.reply.proofs.carry.room_for.Reads as room-for-reads
-use Rattle.reply.proofs.carry.size_of_outgoing.Reads as size-of-outgoing-reads
-use Rattle.reply.proofs.turns.larger.Reads as larger-reads
-use Rattle.reply.proofs.turns.replying.Reads as replying-reads
-use Rattle.sending.proofs.outgoing.Reads as outgoing-reads
-use Rattle.states.proofs.node_states.Reads as node-states-reads
-use Rattle.word.proofs.wide.Reads as wide-reads
 
 abbrev Inv-loop : tie.InvT-loop
 Inv-loop own from s₀ n₀ at₀ left₀ passed₀ waiting₀ last₀ s n at left passed waiting last = Writing (tablesOf (own .house)) (stateOf n₀) at₀ s₀ (stateOf n) at left s × Exhausted (tablesOf (own .house)) (stateOf n) passed × Waits (tablesOf (own .house)) (stateOf n) last waiting
@@ -35,12 +22,6 @@ loop-holds c = (writing-start _ _ _ _ (c .before .pre .1) (c .before .pre .2) (c
 node-states-requires : tie.Need-node-states-requires Inv-loop μ-loop
 node-states-requires c κs = let g = going-ready (tablesOf (c .before .before .before .args .own .house)) (c .before .loop .n) (c .before .loop .inv .0 .going) in (g .1, g .2, g .3, g .4)
 
-array-read-if1 : tie.Need-array-read-if1 Inv-loop μ-loop
-array-read-if1 c = search needs
-
-replying-requires : tie.Need-replying-requires Inv-loop μ-loop
-replying-requires c κs = search needs
-
 same-length : tie.Need-same-length Inv-loop μ-loop
 same-length c = writing-length _ _ _ _ (c .before .before .before .before .before .loop .n) (c .before .before .before .before .before .loop .inv .0)
 
@@ -53,12 +34,6 @@ resting-requires c κs = going-ready (tablesOf (c .before .before .before .befor
 next-choice-requires : tie.Need-next-choice-requires Inv-loop μ-loop
 next-choice-requires c κs = let g = going-ready (tablesOf (c .before .before .before .before .before .before .before .before .before .args .own .house)) (c .before .before .before .before .before .before .before .loop .n) (c .before .before .before .before .before .before .before .loop .inv .0 .going) in (c .before .before .before .before .before .before .before .before .before .pre .0, c .before .before .before .before .before .before .before .loop .inv .0 .going .sizes, g .0, g .3, g .4, (c .before .before .before .before .before .node-states .ensures), c .before .before .before .before .before .before .before .loop .inv .1, waits-now (tablesOf (c .before .before .before .before .before .before .before .before .before .args .own .house)) (c .before .before .before .before .before .before .before .loop .n) (c .before .before .before .before .before .node-states .ensures) (c .before .before .before .before .before .before .before .loop .inv .2) (c .resting .ensures))
 
-is-nothing-requires : tie.Need-is-nothing-requires Inv-loop μ-loop
-is-nothing-requires c κs = search needs
-
-replying-requires-2 : tie.Need-replying-requires-2 Inv-loop μ-loop
-replying-requires-2 c κs = search needs
-
 same-length-2 : tie.Need-same-length-2 Inv-loop μ-loop
 same-length-2 c = writing-length _ _ _ _ (c .before .before .before .before .before .before .before .before .before .before .before .loop .n) (c .before .before .before .before .before .before .before .before .before .before .before .loop .inv .0)
 
@@ -70,9 +45,6 @@ outgoing-requires c κs = (c .before .before .before .before .before .before .be
 
 room-for-requires : tie.Need-room-for-requires Inv-loop μ-loop
 room-for-requires c κs = (c .before .before .before .before .before .before .before .before .before .before .before .loop .inv .0 .going .sizes, (c .outgoing .ensures .1))
-
-replying-requires-3 : tie.Need-replying-requires-3 Inv-loop μ-loop
-replying-requires-3 c κs = search needs
 
 same-length-3 : tie.Need-same-length-3 Inv-loop μ-loop
 same-length-3 c = writing-length _ _ _ _ (c .before .before .before .before .before .before .before .before .before .before .before .before .before .before .loop .n) (c .before .before .before .before .before .before .before .before .before .before .before .before .before .before .loop .inv .0)
@@ -89,9 +61,6 @@ add-if4 c = omega (arith, c .size-of-outgoing .ensures .1, c .before .before .be
 add-if4-2 : tie.Need-add-if4-2 Inv-loop μ-loop
 add-if4-2 c = omega (arith, c .size-of-outgoing .ensures .1, c .before .before .before .before .before .before .before .before .before .before .before .before .before .before .loop .inv .0 .most)
 
-replying-requires-4 : tie.Need-replying-requires-4 Inv-loop μ-loop
-replying-requires-4 c κs = search needs
-
 same-length-4 : tie.Need-same-length-4 Inv-loop μ-loop
 same-length-4 c = writing-length _ _ _ _ (c .before .before .before .before .before .before .before .before .before .before .before .before .before .before .before .before .loop .n) (c .before .before .before .before .before .before .before .before .before .before .before .before .before .before .before .before .loop .inv .0)
 
@@ -104,12 +73,6 @@ carry-requires c κs = let w = writing-room _ _ _ _ (c .before .before .before .
 add-at : tie.Need-add-at Inv-loop μ-loop
 add-at c = omega (arith, c .before .before .before .before .before .size-of-outgoing .ensures .1, c .before .before .before .before .before .before .before .before .before .before .before .before .before .before .before .before .before .before .before .loop .inv .0 .most)
 
-wide-requires : tie.Need-wide-requires Inv-loop μ-loop
-wide-requires c κs = search needs
-
-larger-requires : tie.Need-larger-requires Inv-loop μ-loop
-larger-requires c κs = search needs
-
 sub-left : tie.Need-sub-left Inv-loop μ-loop
 sub-left c = omega (arith, (c .before .before .before .before .before .before .before .before .before .before .before .before .before .before .before .before .before .before .before .before .loop-test .taken))
 
@@ -118,9 +81,6 @@ loop-less c = omega (arith, (c .before .before .before .before .before .before .
 
 loop-again : tie.Need-loop-again Inv-loop μ-loop
 loop-again c = (writing-next _ _ _ _ (c .before .before .before .before .before .before .before .before .before .before .before .before .before .before .before .before .before .before .before .before .before .loop .n) (c .before .before .before .before .before .before .before .before .before .before .before .before .before .before .before .before .before .before .before .before .before .loop .inv .0) (c .before .before .before .before .before .before .before .before .before .before .before .before .before .before .before .before .before .before .before .before .loop-test .taken) (next-goes (tablesOf (c .before .before .before .before .before .before .before .before .before .before .before .before .before .before .before .before .before .before .before .before .before .before .before .args .own .house)) (c .before .before .before .before .before .before .before .before .before .before .before .before .before .before .before .before .before .before .before .before .before .loop .n) (c .before .before .before .before .before .before .before .before .before .before .before .before .before .before .before .before .before .before .before .before .before .loop .at) (c .before .before .before .before .before .before .before .before .before .before .before .before .before .before .before .before .before .before .before .node-states .ensures) (c .before .before .before .before .before .before .before .before .before .before .before .before .before .before .before .before .before .before .before .before .before .loop .inv .0 .going) (c .before .before .before .before .before .before .before .before .before .before .before .before .before .before .before .before .before .if1 .left) (c .before .before .before .before .before .before .before .before .before .before .before .before .before .next-choice .result) (c .before .before .before .before .before .before .before .before .before .before .before .before .before .next-choice .ensures .0) (c .before .before .before .before .before .before .before .before .before .before .outgoing .result) (c .before .before .before .before .before .before .before .before .before .before .outgoing .ensures .0) (c .before .before .before .before .before .before .before .before .before .room-for .ensures) (c .before .before .before .before .before .before .before .before .if3 .left) (c .before .before .before .before .before .before .before .size-of-outgoing .ensures .0) (c .before .before .before .before .before .before .if4 .left)) (c .before .before .before .before .carry .result) (c .before .before .before .before .carry .ensures .0) (c .before .before .before .before .carry .ensures .1) (c .before .before .before .before .before .before .before .size-of-outgoing .ensures .0), exhausted-next (tablesOf (c .before .before .before .before .before .before .before .before .before .before .before .before .before .before .before .before .before .before .before .before .before .before .before .args .own .house)) (c .before .before .before .before .before .before .before .before .before .before .before .before .before .before .before .before .before .before .before .before .before .loop .n) (c .before .before .before .before .carry .result) (commandsOf (c .before .before .before .before .before .before .before .before .before .before .outgoing .result)) (c .before .before .before .before .before .before .before .before .before .before .before .before .before .before .before .before .before .before .before .before .before .loop .inv .0 .going) (c .before .before .before .before .carry .ensures .0) (c .before .before .before .before .before .before .before .before .before .before .before .before .before .before .before .before .before .before .before .before .before .loop .inv .1) (c .before .before .before .before .before .before .before .before .before .before .before .before .before .next-choice .ensures .1 .0) (c .before .before .before .before .before .before .before .before .before .before .before .before .before .next-choice .ensures .1 .1) (c .before .wide .ensures) (c .larger .ensures), waits-next (tablesOf (c .before .before .before .before .before .before .before .before .before .before .before .before .before .before .before .before .before .before .before .before .before .before .before .args .own .house)) (c .before .before .before .before .before .before .before .before .before .before .before .before .before .before .before .before .before .before .before .before .before .loop .n) (c .before .before .before .before .carry .result) (commandsOf (c .before .before .before .before .before .before .before .before .before .before .outgoing .result)) (c .before .before .before .before .before .before .before .before .before .before .before .before .before .before .before .before .before .before .before .before .before .loop .inv .0 .going) (c .before .before .before .before .carry .ensures .0) (c .before .before .before .before .before .before .before .before .before .before .before .before .before .before .before .before .before .before .before .node-states .ensures) (c .before .before .before .before .before .before .before .before .before .before .before .before .before .next-choice .ensures .1 .0) (c .before .before .before .before .before .before .before .before .before .before .before .before .before .next-choice .ensures .1 .1) (c .before .wide .ensures))
-
-replying-requires-5 : tie.Need-replying-requires-5 Inv-loop μ-loop
-replying-requires-5 c κs = search needs
 
 same-length-5 : tie.Need-same-length-5 Inv-loop μ-loop
 same-length-5 c = writing-length _ _ _ _ (c .before .before .loop .n) (c .before .before .loop .inv .0)
@@ -136,34 +96,34 @@ reply-from-spec =
     μ-loop
     loop-holds
     node-states-requires
-    array-read-if1
-    replying-requires
+    (λ c. search needs)
+    (λ c κs. search needs)
     same-length
     returns
     resting-requires
     next-choice-requires
-    is-nothing-requires
-    replying-requires-2
+    (λ c κs. search needs)
+    (λ c κs. search needs)
     same-length-2
     returns-2
     outgoing-requires
     room-for-requires
-    replying-requires-3
+    (λ c κs. search needs)
     same-length-3
     returns-3
     size-of-outgoing-requires
     add-if4
     add-if4-2
-    replying-requires-4
+    (λ c κs. search needs)
     same-length-4
     returns-4
     carry-requires
     add-at
-    wide-requires
-    larger-requires
+    (λ c κs. search needs)
+    (λ c κs. search needs)
     sub-left
     loop-less
     loop-again
-    replying-requires-5
+    (λ c κs. search needs)
     same-length-5
     returns-5)

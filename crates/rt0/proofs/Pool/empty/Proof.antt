@@ -1,5 +1,5 @@
 use mathlib.Core.Path.{refl}
-use Rattle.rt0.specs.Pool.{credentials}
+use Rattle.rt0.specs.laws.Pool.{credentials}
 use Rattle.rt0.proofs.Pool.empty.Statement.{statement}
 use Rattle.rt0.proofs.Pool.empty.Tie as tie
 

@@ -1,52 +1,28 @@
-use Rattle.rt0.specs.Pool.{poolOf}
+use Rattle.rt0.specs.laws.Pool.{poolOf}
 use lib.Bits.{bitAnd}
-use Rattle.rules.specs.DigitLaws.{row-missed, row-hit}
+use Rattle.rules.specs.laws.Digit.{row-missed, row-hit}
 use native.Mathlib.Omega.{arith}
 use borrow.Author.Needs.{needs}
 use Rattle.rules.proofs.digits.find_row.Statement.{statement}
 use Rattle.rules.proofs.digits.find_row.Tie as tie
 
-alike-requires : tie.Need-alike-requires
-alike-requires c κs = search needs
-
-alike-requires-2 : tie.Need-alike-requires-2
-alike-requires-2 c κs = search needs
-
-alike-requires-3 : tie.Need-alike-requires-3
-alike-requires-3 c κs = search needs
-
-alike-requires-4 : tie.Need-alike-requires-4
-alike-requires-4 c κs = search needs
-
-least-of-requires : tie.Need-least-of-requires
-least-of-requires c κs = search needs
-
 returns : tie.Need-returns
 returns c = row-missed (poolOf (c .before .before .before .before .before .before .args .n) (c .before .before .before .before .before .before .args .heads .now) (c .before .before .before .before .before .before .args .kinds .now) (c .before .before .before .before .before .before .args .numbers .now)) (c .before .before .before .before .before .before .pre .0) (c .before .before .before .before .before .before .args .p) (c .before .before .before .before .before .before .args .entity .now) (c .before .before .before .before .before .before .args .name .now) _ _ (c .before .least-of .result) (c .before .before .before .before .before .before .pre .1) (λ i. bitAnd (c .before .before .before .before .before .alike .ensures i) (c .before .before .before .before .alike2 .ensures i)) (λ i. bitAnd (c .before .before .before .alike3 .ensures i) (c .before .before .alike4 .ensures i)) (c .before .least-of .ensures) (c .if1 .taken)
 
-is-head-requires : tie.Need-is-head-requires
-is-head-requires c κs = search needs
-
 returns-2 : tie.Need-returns-2
 returns-2 c = row-hit (poolOf (c .before .before .before .before .before .before .before .before .args .n) (c .before .before .before .before .before .before .before .before .args .heads .now) (c .before .before .before .before .before .before .before .before .args .kinds .now) (c .before .before .before .before .before .before .before .before .args .numbers .now)) (c .before .before .before .before .before .before .before .before .pre .0) (c .before .before .before .before .before .before .before .before .args .p) (c .before .before .before .before .before .before .before .before .args .entity .now) (c .before .before .before .before .before .before .before .before .args .name .now) _ _ (c .before .before .before .least-of .result) (c .before .before .before .before .before .before .before .before .pre .1) (λ i. bitAnd (c .before .before .before .before .before .before .before .alike .ensures i) (c .before .before .before .before .before .before .alike2 .ensures i)) (λ i. bitAnd (c .before .before .before .before .before .alike3 .ensures i) (c .before .before .before .before .alike4 .ensures i)) (c .before .before .before .least-of .ensures) (omega arith) (c .before .is-head .ensures) (c .if2 .taken)
-
-row-requires : tie.Need-row-requires
-row-requires c κs = search needs
-
-returns-3 : tie.Need-returns-3
-returns-3 c = search needs
 
 pub find-row-spec : {M : Type 1} → statement M
 find-row-spec =
     tie.close
     (tie.spec
-    alike-requires
-    alike-requires-2
-    alike-requires-3
-    alike-requires-4
-    least-of-requires
+    (λ c κs. search needs)
+    (λ c κs. search needs)
+    (λ c κs. search needs)
+    (λ c κs. search needs)
+    (λ c κs. search needs)
     returns
-    is-head-requires
+    (λ c κs. search needs)
     returns-2
-    row-requires
-    returns-3)
+    (λ c κs. search needs)
+    (λ c. search needs))

@@ -1,43 +1,25 @@
-use Rattle.rt0.specs.Pool.{poolOf}
-use Rattle.rules.specs.DigitLaws.{bit-missed, bit-hit}
+use Rattle.rt0.specs.laws.Pool.{poolOf}
+use Rattle.rules.specs.laws.Digit.{bit-missed, bit-hit}
 use native.Mathlib.Omega.{arith}
 use borrow.Author.Needs.{needs}
 use Rattle.rules.proofs.digits.find_source.Statement.{statement}
 use Rattle.rules.proofs.digits.find_source.Tie as tie
 
-alike-requires : tie.Need-alike-requires
-alike-requires c κs = search needs
-
-alike-requires-2 : tie.Need-alike-requires-2
-alike-requires-2 c κs = search needs
-
-least-of-requires : tie.Need-least-of-requires
-least-of-requires c κs = search needs
-
 returns : tie.Need-returns
 returns c = bit-missed (poolOf (c .before .before .before .before .args .n) (c .before .before .before .before .args .heads .now) (c .before .before .before .before .args .kinds .now) (c .before .before .before .before .args .numbers .now)) (c .before .before .before .before .pre .0) (c .before .before .before .before .args .b) (c .before .before .before .before .args .body .now) _ _ (c .before .least-of .result) (c .before .before .before .before .pre .1) (c .before .before .before .alike .ensures) (c .before .before .alike2 .ensures) (c .before .least-of .ensures) (c .if1 .taken)
 
-is-body-requires : tie.Need-is-body-requires
-is-body-requires c κs = search needs
-
 returns-2 : tie.Need-returns-2
 returns-2 c = bit-hit (poolOf (c .before .before .before .before .before .before .args .n) (c .before .before .before .before .before .before .args .heads .now) (c .before .before .before .before .before .before .args .kinds .now) (c .before .before .before .before .before .before .args .numbers .now)) (c .before .before .before .before .before .before .pre .0) (c .before .before .before .before .before .before .args .b) (c .before .before .before .before .before .before .args .body .now) _ _ (c .before .before .before .least-of .result) (c .before .before .before .before .before .before .pre .1) (c .before .before .before .before .before .alike .ensures) (c .before .before .before .before .alike2 .ensures) (c .before .before .before .least-of .ensures) (omega arith) (c .before .is-body .ensures) (c .if2 .taken)
-
-source-requires : tie.Need-source-requires
-source-requires c κs = search needs
-
-returns-3 : tie.Need-returns-3
-returns-3 c = search needs
 
 pub find-source-spec : {M : Type 1} → statement M
 find-source-spec =
     tie.close
     (tie.spec
-    alike-requires
-    alike-requires-2
-    least-of-requires
+    (λ c κs. search needs)
+    (λ c κs. search needs)
+    (λ c κs. search needs)
     returns
-    is-body-requires
+    (λ c κs. search needs)
     returns-2
-    source-requires
-    returns-3)
+    (λ c κs. search needs)
+    (λ c. search needs))

@@ -1,4 +1,4 @@
-use Rattle.rules.specs.DigitLaws.{open-start}
+use Rattle.rules.specs.laws.Digit.{open-start}
 use Rattle.rules.proofs.digits.open_table.Statement.{statement}
 use Rattle.rules.proofs.digits.open_table.Tie as tie
 

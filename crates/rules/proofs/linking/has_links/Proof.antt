@@ -3,10 +3,10 @@ use native.Mathlib.Omega.{arith}
 use mathlib.Core.Path.{_≡_, refl}
 use mathlib.Core.Bool.{false}
 use Rattle.rt0.specs.declared.Pool.{Pool}
-use Rattle.rt0.specs.Pool.{poolOf}
-use Rattle.rules.specs.Table.{anyTo}
-use Rattle.rules.specs.Columns.{hasLink}
-use Rattle.rules.specs.Search.{found-at, not-at, nowhere}
+use Rattle.rt0.specs.laws.Pool.{poolOf}
+use Rattle.rules.specs.laws.Table.{anyTo}
+use Rattle.rules.specs.laws.Columns.{hasLink}
+use Rattle.rules.specs.laws.Search.{found-at, not-at, nowhere}
 use Rattle.rules.proofs.linking.has_links.Statement.{statement}
 use Rattle.rules.proofs.linking.has_links.Tie as tie
 
@@ -22,17 +22,8 @@ pool c = poolOf (c .args .n) (c .args .heads .now) (c .args .kinds .now) (c .arg
 loop-holds : tie.Need-loop-holds Inv-loop μ-loop
 loop-holds c = (omega arith, refl)
 
-has-link-requires : tie.Need-has-link-requires Inv-loop μ-loop
-has-link-requires c κs = omega arith
-
 returns : tie.Need-returns Inv-loop μ-loop
 returns c = found-at (hasLink (pool (c .before .before .before .before))) (c .before .before .before .loop .i) (c .before .before .loop-test .taken) (c .before .has-link .ensures) (c .if1 .taken)
-
-add-i : tie.Need-add-i Inv-loop μ-loop
-add-i c = omega arith
-
-loop-less : tie.Need-loop-less Inv-loop μ-loop
-loop-less c = omega arith
 
 loop-again : tie.Need-loop-again Inv-loop μ-loop
 loop-again c = (omega arith, not-at (hasLink (pool (c .before .before .before .before))) (c .before .before .before .loop .i) (c .before .before .before .loop .inv .1) (c .before .has-link .ensures) (c .if1 .left))
@@ -47,9 +38,9 @@ has-links-spec =
     Inv-loop
     μ-loop
     loop-holds
-    has-link-requires
+    (λ c κs. omega arith)
     returns
-    add-i
-    loop-less
+    (λ c. omega arith)
+    (λ c. omega arith)
     loop-again
     returns-2)

@@ -4,9 +4,9 @@ use native.Mathlib.Omega.{arith}
 use mathlib.Core.Logic.{⊎-elim}
 use borrow.Author.Tests.{not-true}
 use Rattle.rt0.specs.declared.Pool.{Pool}
-use Rattle.rt0.specs.Pool.{poolOf}
-use Rattle.rules.specs.Columns.{Able}
-use Rattle.rules.specs.ColumnLaws.{able-start, able-off, able-add, able-skip, able-end}
+use Rattle.rt0.specs.laws.Pool.{poolOf}
+use Rattle.rules.specs.laws.Columns.{Able}
+use Rattle.rules.specs.laws.Column.{able-start, able-off, able-add, able-skip, able-end}
 use Rattle.rules.proofs.linking.linkable.Statement.{statement}
 use Rattle.rules.proofs.linking.linkable.Tie as tie
 
@@ -31,21 +31,6 @@ loop-holds c = (able-start (pool (c .before .before .before)) (c .before .before
 link-source-requires : tie.Need-link-source-requires Inv-loop μ-loop
 link-source-requires c κs = (c .before .before .before .before .before .before .pre .0, c .before .loop-test .taken, c .before .before .before .before .before .before .pre .1, c .before .before .before .note-bodies .ensures)
 
-mul-src : tie.Need-mul-src Inv-loop μ-loop
-mul-src c = omega arith
-
-array-write-src : tie.Need-array-write-src Inv-loop μ-loop
-array-write-src c = omega arith
-
-array-write-able : tie.Need-array-write-able Inv-loop μ-loop
-array-write-able c = omega arith
-
-add-j : tie.Need-add-j Inv-loop μ-loop
-add-j c = omega arith
-
-loop-less : tie.Need-loop-less Inv-loop μ-loop
-loop-less c = omega arith
-
 loop-again : tie.Need-loop-again Inv-loop μ-loop
 loop-again c = (
   ⊎-elim
@@ -68,10 +53,10 @@ linkable-spec =
     note-bodies-requires
     loop-holds
     link-source-requires
-    mul-src
-    array-write-src
-    array-write-able
-    add-j
-    loop-less
+    (λ c. omega arith)
+    (λ c. omega arith)
+    (λ c. omega arith)
+    (λ c. omega arith)
+    (λ c. omega arith)
     loop-again
     returns-2)

@@ -1,32 +1,14 @@
 use mathlib.Core.Path.{ap}
 use borrow.Author.Needs.{needs}
 use Rattle.rt0.specs.declared.Pool.{Pool}
-use Rattle.rt0.specs.Pool.{poolOf}
-use Rattle.rules.specs.Columns.{isLinked}
-use Rattle.rules.specs.ColumnLaws.{link-row, link-none, not-linked}
+use Rattle.rt0.specs.laws.Pool.{poolOf}
+use Rattle.rules.specs.laws.Columns.{isLinked}
+use Rattle.rules.specs.laws.Column.{link-row, link-none, not-linked}
 use Rattle.rules.proofs.linking.name_link.Statement.{statement}
 use Rattle.rules.proofs.linking.name_link.Tie as tie
 
 abbrev pool : (c : tie.Start) → Pool
 pool c = poolOf (c .args .n) (c .args .heads .now) (c .args .kinds .now) (c .args .numbers .now)
-
-enum-told : tie.Need-enum-told
-enum-told c = search needs
-
-enum-told-2 : tie.Need-enum-told-2
-enum-told-2 c = search needs
-
-enum-known-x : tie.Need-enum-known-x
-enum-known-x c = search needs
-
-name-row-requires : tie.Need-name-row-requires
-name-row-requires c κs = search needs
-
-enum-told-3 : tie.Need-enum-told-3
-enum-told-3 c = search needs
-
-enum-told-4 : tie.Need-enum-told-4
-enum-told-4 c = search needs
 
 returns : tie.Need-returns
 returns c = link-none (pool (c .before .before)) (c .before .before .args .able .now) (c .before .before .args .i) (c .before .before .args .n) (c .before .before .args .x) (c .before .before .args .named .now) (c .before .before .pre .2) (not-linked (c .before .before .args .x) (ap isLinked (c .enum-told .given .1)))
@@ -47,12 +29,12 @@ pub name-link-spec : {M : Type 1} → statement M
 name-link-spec =
     tie.close
     (tie.spec
-    enum-told
-    enum-told-2
-    enum-known-x
-    name-row-requires
-    enum-told-3
-    enum-told-4
+    (λ c. search needs)
+    (λ c. search needs)
+    (λ c. search needs)
+    (λ c κs. search needs)
+    (λ c. search needs)
+    (λ c. search needs)
     returns
     returns-2
     returns-3

@@ -1,24 +1,12 @@
-use Rattle.rt0.specs.Pool.{poolOf}
-use Rattle.rules.specs.ColumnLaws.{names-copy, names-add}
+use Rattle.rt0.specs.laws.Pool.{poolOf}
+use Rattle.rules.specs.laws.Column.{names-copy, names-add}
 use native.Mathlib.Omega.{arith}
 use borrow.Author.Needs.{needs}
 use Rattle.rules.proofs.linking.name_next.Statement.{statement}
 use Rattle.rules.proofs.linking.name_next.Tie as tie
 
-same-link-requires : tie.Need-same-link-requires
-same-link-requires c κs = search needs
-
-copy-row-requires : tie.Need-copy-row-requires
-copy-row-requires c κs = search needs
-
 returns : tie.Need-returns
 returns c = names-copy (poolOf (c .before .before .before .before .args .n) (c .before .before .before .before .args .heads .now) (c .before .before .before .before .args .kinds .now) (c .before .before .before .before .args .numbers .now)) (c .before .before .before .before .args .able .now) (c .before .before .before .before .args .k) (c .before .before .before .before .args .i) (c .before .before .before .before .args .named .now) _ (omega (arith, c .before .before .before .before .pre .0, c .before .before .before .before .pre .1)) (c .before .before .before .before .pre .3) (c .before .before .before .same-link .ensures) (c .before .before .if1 .taken) (c .copy-row .ensures) (c .before .before .before .before .pre .4)
-
-body-at-requires : tie.Need-body-at-requires
-body-at-requires c κs = search needs
-
-name-link-requires : tie.Need-name-link-requires
-name-link-requires c κs = search needs
 
 returns-2 : tie.Need-returns-2
 returns-2 c = names-add (poolOf (c .before .before .before .before .before .args .n) (c .before .before .before .before .before .args .heads .now) (c .before .before .before .before .before .args .kinds .now) (c .before .before .before .before .before .args .numbers .now)) (c .before .before .before .before .before .args .able .now) (c .before .before .before .before .before .args .i) (c .before .before .body-at .result) (c .before .before .before .before .before .args .named .now) _ (c .before .before .body-at .ensures) (c .before .before .before .before .before .pre .4) (c .name-link .ensures)
@@ -27,9 +15,9 @@ pub name-next-spec : {M : Type 1} → statement M
 name-next-spec =
     tie.close
     (tie.spec
-    same-link-requires
-    copy-row-requires
+    (λ c κs. search needs)
+    (λ c κs. search needs)
     returns
-    body-at-requires
-    name-link-requires
+    (λ c κs. search needs)
+    (λ c κs. search needs)
     returns-2)

@@ -2,9 +2,9 @@ use Prim.Native.Nat.{_-_, _≤_}
 use native.Mathlib.Omega.{arith}
 use mathlib.Core.Logic.{⊎-elim}
 use Rattle.rt0.specs.declared.Pool.{Pool}
-use Rattle.rt0.specs.Pool.{poolOf}
-use Rattle.rules.specs.Columns.{NamedRow}
-use Rattle.rules.specs.ColumnLaws.{name-start, name-add, name-skip, name-end}
+use Rattle.rt0.specs.laws.Pool.{poolOf}
+use Rattle.rules.specs.laws.Columns.{NamedRow}
+use Rattle.rules.specs.laws.Column.{name-start, name-add, name-skip, name-end}
 use Rattle.rules.proofs.linking.name_row.Statement.{statement}
 use Rattle.rules.proofs.linking.name_row.Tie as tie
 
@@ -20,17 +20,8 @@ pool c = poolOf (c .args .n) (c .args .heads .now) (c .args .kinds .now) (c .arg
 loop-holds : tie.Need-loop-holds Inv-loop μ-loop
 loop-holds c = (name-start (pool (c)) (c .args .able .now) (c .args .i) (c .args .m) (c .args .named .now) (c .pre .2), omega arith)
 
-is-named-requires : tie.Need-is-named-requires Inv-loop μ-loop
-is-named-requires c κs = omega arith
-
 mark-requires : tie.Need-mark-requires Inv-loop μ-loop
 mark-requires c κs = (omega arith, omega arith, c .before .before .before .before .loop .inv .0 .sized)
-
-add-j : tie.Need-add-j Inv-loop μ-loop
-add-j c = omega arith
-
-loop-less : tie.Need-loop-less Inv-loop μ-loop
-loop-less c = omega arith
 
 loop-again : tie.Need-loop-again Inv-loop μ-loop
 loop-again c = (
@@ -51,9 +42,9 @@ name-row-spec =
     Inv-loop
     μ-loop
     loop-holds
-    is-named-requires
+    (λ c κs. omega arith)
     mark-requires
-    add-j
-    loop-less
+    (λ c. omega arith)
+    (λ c. omega arith)
     loop-again
     returns)

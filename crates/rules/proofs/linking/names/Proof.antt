@@ -1,9 +1,9 @@
 use Prim.Native.Nat.{_-_, _≤_, _<_}
 use mathlib.Core.Path.{sym, _∙_}
 use mathlib.Core.Logic.{⊎-elim}
-use Rattle.rt0.specs.Pool.{poolOf}
-use Rattle.rules.specs.Columns.{NamesTo}
-use Rattle.rules.specs.ColumnLaws.{names-start, names-skip, names-end}
+use Rattle.rt0.specs.laws.Pool.{poolOf}
+use Rattle.rules.specs.laws.Columns.{NamesTo}
+use Rattle.rules.specs.laws.Column.{names-start, names-skip, names-end}
 use native.Mathlib.Omega.{arith}
 use Rattle.rules.proofs.linking.names.Statement.{statement}
 use Rattle.rules.proofs.linking.names.Tie as tie
@@ -17,17 +17,8 @@ abbrev μ-loop : tie.MeasureT-loop
 loop-holds : tie.Need-loop-holds Inv-loop μ-loop
 loop-holds c = (names-start (poolOf (c .args .n) (c .args .heads .now) (c .args .kinds .now) (c .args .numbers .now)) (c .args .able .now), omega arith, omega arith)
 
-has-link-requires : tie.Need-has-link-requires Inv-loop μ-loop
-has-link-requires c κs = omega arith
-
 name-next-requires : tie.Need-name-next-requires Inv-loop μ-loop
 name-next-requires c κs = (c .before .before .before .before .before .pre, c .before .before .before .loop-test .taken, c .before .before .before .before .loop .inv .2, sym (c .before .before .has-link .ensures) ∙ c .before .if1 .taken, c .before .before .before .before .loop .inv .0)
-
-add-i : tie.Need-add-i Inv-loop μ-loop
-add-i c = omega arith
-
-loop-less : tie.Need-loop-less Inv-loop μ-loop
-loop-less c = omega arith
 
 loop-again : tie.Need-loop-again Inv-loop μ-loop
 loop-again c = ⊎-elim (λ w. rw (w .3, w .4) (w .2 .ensures, omega arith, omega arith)) (λ w. rw (w .1, w .2) (names-skip (poolOf (c .before .before .before .before .args .n) (c .before .before .before .before .args .heads .now) (c .before .before .before .before .args .kinds .now) (c .before .before .before .before .args .numbers .now)) (c .before .before .before .before .args .able .now) (c .before .before .before .loop .i) (c .before .before .before .loop .named) (sym (c .before .has-link .ensures) ∙ w .0 .left) (c .before .before .before .loop .inv .0), omega arith, c .before .before .before .loop .inv .2)) (c .if1 .came)
@@ -42,9 +33,9 @@ names-spec =
     Inv-loop
     μ-loop
     loop-holds
-    has-link-requires
+    (λ c κs. omega arith)
     name-next-requires
-    add-i
-    loop-less
+    (λ c. omega arith)
+    (λ c. omega arith)
     loop-again
     returns)

@@ -3,9 +3,9 @@ use native.Mathlib.Omega.{arith}
 use mathlib.Core.Path.{_≡_, refl}
 use mathlib.Core.Bool.{false}
 use Rattle.rt0.specs.declared.Pool.{Pool}
-use Rattle.rt0.specs.Pool.{poolOf}
-use Rattle.rules.specs.Table.{anyTo, isHead, rowOf}
-use Rattle.rules.specs.Search.{first-at, first-nowhere, not-at}
+use Rattle.rt0.specs.laws.Pool.{poolOf}
+use Rattle.rules.specs.laws.Table.{anyTo, isHead, rowOf}
+use Rattle.rules.specs.laws.Search.{first-at, first-nowhere, not-at}
 use Rattle.rules.proofs.rows.row.Statement.{statement}
 use Rattle.rules.proofs.rows.row.Tie as tie
 
@@ -21,18 +21,9 @@ pool c = poolOf (c .args .n) (c .args .heads .now) (c .args .kinds .now) (c .arg
 loop-holds : tie.Need-loop-holds Inv-loop μ-loop
 loop-holds c = (omega arith, refl)
 
-is-head-requires : tie.Need-is-head-requires Inv-loop μ-loop
-is-head-requires c κs = omega arith
-
 returns : tie.Need-returns Inv-loop μ-loop
 unfolding rowOf
 returns c = first-at (c .before .before .before .before .args .n) (isHead (pool (c .before .before .before .before)) (c .before .before .before .before .args .p)) (c .before .before .before .loop .j) (c .before .before .loop-test .taken) (c .before .before .before .loop .inv .1) (c .before .is-head .ensures) (c .if1 .taken)
-
-add-j : tie.Need-add-j Inv-loop μ-loop
-add-j c = omega arith
-
-loop-less : tie.Need-loop-less Inv-loop μ-loop
-loop-less c = omega arith
 
 loop-again : tie.Need-loop-again Inv-loop μ-loop
 loop-again c = (omega arith, not-at (isHead (pool (c .before .before .before .before)) (c .before .before .before .before .args .p)) (c .before .before .before .loop .j) (c .before .before .before .loop .inv .1) (c .before .is-head .ensures) (c .if1 .left))
@@ -48,9 +39,9 @@ row-spec =
     Inv-loop
     μ-loop
     loop-holds
-    is-head-requires
+    (λ c κs. omega arith)
     returns
-    add-j
-    loop-less
+    (λ c. omega arith)
+    (λ c. omega arith)
     loop-again
     returns-2)

@@ -3,9 +3,9 @@ use native.Mathlib.Omega.{arith}
 use mathlib.Core.Path.{_≡_, refl}
 use mathlib.Core.Bool.{false}
 use Rattle.rt0.specs.declared.Pool.{Pool}
-use Rattle.rt0.specs.Pool.{poolOf}
-use Rattle.rules.specs.Table.{anyTo, isBody, bitOf}
-use Rattle.rules.specs.Search.{first-at, first-nowhere, not-at}
+use Rattle.rt0.specs.laws.Pool.{poolOf}
+use Rattle.rules.specs.laws.Table.{anyTo, isBody, bitOf}
+use Rattle.rules.specs.laws.Search.{first-at, first-nowhere, not-at}
 use Rattle.rules.proofs.rows.source.Statement.{statement}
 use Rattle.rules.proofs.rows.source.Tie as tie
 
@@ -21,18 +21,9 @@ pool c = poolOf (c .args .n) (c .args .heads .now) (c .args .kinds .now) (c .arg
 loop-holds : tie.Need-loop-holds Inv-loop μ-loop
 loop-holds c = (omega arith, refl)
 
-is-body-requires : tie.Need-is-body-requires Inv-loop μ-loop
-is-body-requires c κs = omega arith
-
 returns : tie.Need-returns Inv-loop μ-loop
 unfolding bitOf
 returns c = first-at (c .before .before .before .before .args .n) (isBody (pool (c .before .before .before .before)) (c .before .before .before .before .args .b)) (c .before .before .before .loop .s) (c .before .before .loop-test .taken) (c .before .before .before .loop .inv .1) (c .before .is-body .ensures) (c .if1 .taken)
-
-add-s : tie.Need-add-s Inv-loop μ-loop
-add-s c = omega arith
-
-loop-less : tie.Need-loop-less Inv-loop μ-loop
-loop-less c = omega arith
 
 loop-again : tie.Need-loop-again Inv-loop μ-loop
 loop-again c = (omega arith, not-at (isBody (pool (c .before .before .before .before)) (c .before .before .before .before .args .b)) (c .before .before .before .loop .s) (c .before .before .before .loop .inv .1) (c .before .is-body .ensures) (c .if1 .left))
@@ -48,9 +39,9 @@ source-spec =
     Inv-loop
     μ-loop
     loop-holds
-    is-body-requires
+    (λ c κs. omega arith)
     returns
-    add-s
-    loop-less
+    (λ c. omega arith)
+    (λ c. omega arith)
     loop-again
     returns-2)

@@ -1,16 +1,10 @@
 use Prim.Native.Nat.{ℕ}
 use lib.ListN.{length-replicate}
 use borrow.Author.Needs.{needs}
-use Rattle.sending.specs.Part.{sends-part, sends-all}
-use Rattle.sending.specs.Behind.{behind-count}
+use Rattle.sending.specs.laws.Part.{sends-part, sends-all}
+use Rattle.sending.specs.laws.Behind.{behind-count}
 use Rattle.sending.proofs.credentials.needed_of.Statement.{statement}
 use Rattle.sending.proofs.credentials.needed_of.Tie as tie
-
-own-pool-requires : tie.Need-own-pool-requires
-own-pool-requires c κs = search needs
-
-relevant-requires : tie.Need-relevant-requires
-relevant-requires c κs = search needs
 
 part-of-requires : tie.Need-part-of-requires
 part-of-requires c κs = (c .before .before .before .before .before .before .before .before .before .before .own-pool .ensures .0, behind-count _ _ _ (c .before .before .before .before .before .before .before .before .before .before .own-pool .ensures .1))
@@ -31,8 +25,8 @@ pub needed-of-spec : {M : Type 1} → statement M
 needed-of-spec =
     tie.close
     (tie.spec
-    own-pool-requires
-    relevant-requires
+    (λ c κs. search needs)
+    (λ c κs. search needs)
     part-of-requires
     needed-requires
     returns

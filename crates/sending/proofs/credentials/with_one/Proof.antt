@@ -1,19 +1,10 @@
-use Rattle.sending.specs.SentLaws.{empty-few, one-shown, one-new}
+use Rattle.sending.specs.laws.SentLaws.{empty-few, one-shown, one-new}
 use borrow.Author.Needs.{needs}
 use Rattle.sending.proofs.credentials.with_one.Statement.{statement}
 use Rattle.sending.proofs.credentials.with_one.Tie as tie
 
-is-shown-requires : tie.Need-is-shown-requires
-is-shown-requires c κs = search needs
-
-alone-requires : tie.Need-alone-requires
-alone-requires c κs = search needs
-
 returns : tie.Need-returns
 returns c = one-shown _ _ (c .before .before .is-shown .ensures) (c .before .if1 .taken) (c .alone .ensures)
-
-empty-requires : tie.Need-empty-requires
-empty-requires c κs = search needs
 
 add-requires : tie.Need-add-requires
 add-requires c κs = empty-few _ (c .empty .ensures)
@@ -24,4 +15,4 @@ returns-2 c = one-new _ _ (c .before .before .before .is-shown .ensures) _ _ _ (
 pub with-one-spec : {M : Type 1} → statement M
 with-one-spec =
     tie.close
-    (tie.spec is-shown-requires alone-requires returns empty-requires add-requires returns-2)
+    (tie.spec (λ c κs. search needs) (λ c κs. search needs) returns (λ c κs. search needs) add-requires returns-2)

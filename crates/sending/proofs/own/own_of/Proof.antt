@@ -1,19 +1,10 @@
 use native.Mathlib.Omega.{arith}
 use mathlib.Core.Path.{refl}
 use borrow.Author.Needs.{needs}
-use Rattle.tables.specs.Tables.{tablesOf}
+use Rattle.tables.specs.laws.Tables.{tablesOf}
 use Rattle.tables.specs.Public.{publicOf}
 use Rattle.sending.proofs.own.own_of.Statement.{statement}
 use Rattle.sending.proofs.own.own_of.Tie as tie
-
-visible-of-requires : tie.Need-visible-of-requires
-visible-of-requires c κs = search needs
-
-stops-requires : tie.Need-stops-requires
-stops-requires c κs = search needs
-
-stops-requires-2 : tie.Need-stops-requires-2
-stops-requires-2 c κs = search needs
 
 stops-requires-3 : tie.Need-stops-requires-3
 stops-requires-3 c κs = (c .before .before .before .before .before .before .before .before .before .before .before .before .before .before .before .before .before .before .before .before .before .before .before .before .before .before .before .before .before .before .before .before .before .pre .names, c .before .before .before .before .before .before .before .before .before .before .before .before .before .before .before .before .before .before .before .before .before .before .before .before .before .before .before .before .before .before .before .before .before .pre .ascending, c .before .before .before .before .before .before .before .before .before .before .before .before .before .before .before .before .before .before .before .before .before .before .before .before .before .before .before .before .before .before .before .before .before .pre .sensitive, omega (arith, c .before .before .before .before .before .before .before .before .before .before .before .before .before .before .before .before .before .before .before .before .before .before .before .before .before .before .before .before .before .before .before .before .before .pre .subject))
@@ -35,8 +26,8 @@ pub own-of-spec : {M : Type 1} → statement M
 own-of-spec =
     tie.close
     (tie.spec
-    visible-of-requires
-    stops-requires
-    stops-requires-2
+    (λ c κs. search needs)
+    (λ c κs. search needs)
+    (λ c κs. search needs)
     stops-requires-3
     returns)

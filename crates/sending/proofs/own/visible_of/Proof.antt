@@ -3,11 +3,11 @@ use native.Mathlib.Omega.{arith}
 use mathlib.Core.Path.{refl}
 use mathlib.Core.Bool.{not}
 use borrow.Author.Needs.{needs}
-use Rattle.rt0.specs.Pool.{poolOf}
-use Rattle.tables.specs.Tables.{pairsFrom, pairsOf}
+use Rattle.rt0.specs.laws.Pool.{poolOf}
+use Rattle.tables.specs.laws.Tables.{pairsFrom, pairsOf}
 use Rattle.tables.specs.Lookup.{isDirect}
 use Rattle.tables.specs.Public.{lessDirect}
-use Rattle.sending.specs.Picked.{Picked, picked-start, picked-next, picked-all}
+use Rattle.sending.specs.laws.Picked.{Picked, picked-start, picked-next, picked-all}
 use Rattle.sending.proofs.own.visible_of.Statement.{statement}
 use Rattle.sending.proofs.own.visible_of.Tie as tie
 
@@ -19,21 +19,6 @@ abbrev μ-loop : tie.MeasureT-loop
 
 loop-holds : tie.Need-loop-holds Inv-loop μ-loop
 loop-holds c = picked-start _ _ _ refl
-
-credential-at-requires : tie.Need-credential-at-requires Inv-loop μ-loop
-credential-at-requires c κs = search needs
-
-visible-flag-requires : tie.Need-visible-flag-requires Inv-loop μ-loop
-visible-flag-requires c κs = search needs
-
-array-write-on : tie.Need-array-write-on Inv-loop μ-loop
-array-write-on c = search needs
-
-add-i : tie.Need-add-i Inv-loop μ-loop
-add-i c = omega arith
-
-loop-less : tie.Need-loop-less Inv-loop μ-loop
-loop-less c = omega arith
 
 loop-again : tie.Need-loop-again Inv-loop μ-loop
 loop-again c = picked-next _ _ (c .before .before .before .loop .inv) (omega (arith, (c .before .before .loop-test .taken), (c .before .before .before .before .pre .1))) (c .before .credential-at .ensures) (c .visible-flag .ensures) refl
@@ -49,10 +34,10 @@ visible-of-spec =
     Inv-loop
     μ-loop
     loop-holds
-    credential-at-requires
-    visible-flag-requires
-    array-write-on
-    add-i
-    loop-less
+    (λ c κs. search needs)
+    (λ c κs. search needs)
+    (λ c. search needs)
+    (λ c. omega arith)
+    (λ c. omega arith)
     loop-again
     returns)

@@ -2,10 +2,10 @@ use Prim.Native.Nat.{_-_}
 use native.Mathlib.Omega.{arith}
 use mathlib.Core.Bool.{not}
 use borrow.Author.Needs.{needs}
-use Rattle.rt0.specs.Pool.{poolOf, credentials}
+use Rattle.rt0.specs.laws.Pool.{poolOf, credentials}
 use Rattle.damage.specs.Records.{isShown}
-use Rattle.sending.specs.Unshown.{unshownOf, isNew}
-use Rattle.sending.specs.Behind.{Behind, behind-start, behind-next, behind-all}
+use Rattle.sending.specs.laws.Unshown.{unshownOf, isNew}
+use Rattle.sending.specs.laws.Behind.{Behind, behind-start, behind-next, behind-all}
 use Rattle.sending.proofs.pool.own_pool.Statement.{statement}
 use Rattle.sending.proofs.pool.own_pool.Tie as tie
 
@@ -18,23 +18,8 @@ abbrev μ-loop : tie.MeasureT-loop
 loop-holds : tie.Need-loop-holds Inv-loop μ-loop
 loop-holds c = behind-start _ _ _ _ (record { heads = search needs; kinds = search needs; numbers = search needs })
 
-credential-at-requires : tie.Need-credential-at-requires Inv-loop μ-loop
-credential-at-requires c κs = search needs
-
-element-copy-out-is-new : tie.Need-element-copy-out-is-new Inv-loop μ-loop
-element-copy-out-is-new c = search needs
-
-is-new-requires : tie.Need-is-new-requires Inv-loop μ-loop
-is-new-requires c κs = search needs
-
 store-if-requires : tie.Need-store-if-requires Inv-loop μ-loop
 store-if-requires c κs = (omega (arith, c .before .before .before .before .before .before .before .before .before .before .before .loop .inv .few, c .before .before .before .before .before .before .before .before .before .before .loop-test .taken, c .before .before .before .before .before .before .before .before .before .before .before .before .before .before .before .pre .0, c .before .before .before .before .before .before .before .before .before .before .before .before .before .before .before .pre .1), c .before .before .before .before .before .before .before .before .before .before .before .loop .inv .sized)
-
-add-i : tie.Need-add-i Inv-loop μ-loop
-add-i c = omega arith
-
-loop-less : tie.Need-loop-less Inv-loop μ-loop
-loop-less c = omega arith
 
 loop-again : tie.Need-loop-again Inv-loop μ-loop
 unfolding isNew
@@ -51,11 +36,11 @@ own-pool-spec =
     Inv-loop
     μ-loop
     loop-holds
-    credential-at-requires
-    element-copy-out-is-new
-    is-new-requires
+    (λ c κs. search needs)
+    (λ c. search needs)
+    (λ c κs. search needs)
     store-if-requires
-    add-i
-    loop-less
+    (λ c. omega arith)
+    (λ c. omega arith)
     loop-again
     returns)

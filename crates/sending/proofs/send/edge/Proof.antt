@@ -1,18 +1,15 @@
-use Rattle.tables.specs.Tables.{tablesOf}
+use Rattle.tables.specs.laws.Tables.{tablesOf}
 use Rattle.tables.specs.Public.{publicOf}
-use Rattle.negotiation.specs.State.{stateOf}
-use Rattle.negotiation.specs.Within.{within-few}
+use Rattle.negotiation.specs.laws.State.{stateOf}
+use Rattle.negotiation.specs.laws.Within.{within-few}
 use Rattle.moves.specs.Rules.{endIn}
-use Rattle.sending.specs.Edge.{edge-other, edge-direct, edge-needed}
+use Rattle.sending.specs.laws.Edge.{edge-other, edge-direct, edge-needed}
 use borrow.Author.Needs.{needs}
 use Rattle.sending.proofs.send.edge.Statement.{statement}
 use Rattle.sending.proofs.send.edge.Tie as tie
 
 edge-command-requires : tie.Need-edge-command-requires
 edge-command-requires c κs = (c .before .before .before .before .before .pre .0 .housed .names, c .before .before .before .before .before .pre .0 .housed .ascending, within-few (c .before .before .before .before .before .args .n) (c .before .before .before .before .before .pre .1) .0)
-
-alone-requires : tie.Need-alone-requires
-alone-requires c κs = search needs
 
 returns : tie.Need-returns
 unfolding endIn publicOf tablesOf stateOf
@@ -40,7 +37,7 @@ edge-spec =
     tie.close
     (tie.spec
     edge-command-requires
-    alone-requires
+    (λ c κs. search needs)
     returns
     node-of-requires
     direct-for-requires

@@ -2,8 +2,8 @@ use Prim.Native.Nat.{_-_, _≤_}
 use native.Mathlib.Omega.{arith}
 use mathlib.Core.Logic.{⊎-elim}
 use Rattle.graph.specs.declared.Nodes.{Nodes}
-use Rattle.graph.specs.Graph.{nodesFrom, edgesFrom}
-use Rattle.states.specs.Filled.{Linked, link-start, link-add, link-skip, link-all}
+use Rattle.graph.specs.laws.Graph.{nodesFrom, edgesFrom}
+use Rattle.states.specs.laws.Filled.{Linked, link-start, link-add, link-skip, link-all}
 use borrow.Author.Needs.{needs}
 use Rattle.states.proofs.fill.links.Statement.{statement}
 use Rattle.states.proofs.fill.links.Tie as tie
@@ -16,33 +16,6 @@ abbrev μ-loop : tie.MeasureT-loop
 
 loop-holds : tie.Need-loop-holds Inv-loop μ-loop
 loop-holds c = (omega arith, λ o. link-start _ _)
-
-element-copy-out-c : tie.Need-element-copy-out-c Inv-loop μ-loop
-element-copy-out-c c = search needs
-
-element-copy-out-slot-by : tie.Need-element-copy-out-slot-by Inv-loop μ-loop
-element-copy-out-slot-by c = search needs
-
-element-copy-out-slot-by-2 : tie.Need-element-copy-out-slot-by-2 Inv-loop μ-loop
-element-copy-out-slot-by-2 c = search needs
-
-slot-by-requires : tie.Need-slot-by-requires Inv-loop μ-loop
-slot-by-requires c κs = omega arith
-
-array-write-from : tie.Need-array-write-from Inv-loop μ-loop
-array-write-from c = search needs
-
-mul-slot : tie.Need-mul-slot Inv-loop μ-loop
-mul-slot c = omega arith
-
-array-write-slot : tie.Need-array-write-slot Inv-loop μ-loop
-array-write-slot c = search needs
-
-add-j : tie.Need-add-j Inv-loop μ-loop
-add-j c = omega arith
-
-loop-less : tie.Need-loop-less Inv-loop μ-loop
-loop-less c = omega arith
 
 loop-again : tie.Need-loop-again Inv-loop μ-loop
 loop-again c =
@@ -67,14 +40,14 @@ links-spec =
     Inv-loop
     μ-loop
     loop-holds
-    element-copy-out-c
-    element-copy-out-slot-by
-    element-copy-out-slot-by-2
-    slot-by-requires
-    array-write-from
-    mul-slot
-    array-write-slot
-    add-j
-    loop-less
+    (λ c. search needs)
+    (λ c. search needs)
+    (λ c. search needs)
+    (λ c κs. omega arith)
+    (λ c. search needs)
+    (λ c. omega arith)
+    (λ c. search needs)
+    (λ c. omega arith)
+    (λ c. omega arith)
     loop-again
     returns)

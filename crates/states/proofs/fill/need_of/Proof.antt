@@ -1,5 +1,5 @@
 use borrow.Author.Tests.{eq-eqb, ne-eqb}
-use Rattle.states.specs.Fields.{needBy}
+use Rattle.states.specs.laws.Fields.{needBy}
 use Rattle.states.proofs.fill.need_of.Statement.{statement}
 use Rattle.states.proofs.fill.need_of.Tie as tie
 

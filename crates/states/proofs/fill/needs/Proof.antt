@@ -2,9 +2,9 @@ use Prim.Native.Nat.{_-_, _≤_}
 use native.Mathlib.Omega.{arith}
 use mathlib.Core.Path.{refl}
 use Rattle.graph.specs.declared.Nodes.{Nodes}
-use Rattle.graph.specs.Graph.{nodesFrom}
-use Rattle.states.specs.Brings.{needOf}
-use Rattle.states.specs.Filled.{NodeColumn, needs-start, needs-add, needs-all}
+use Rattle.graph.specs.laws.Graph.{nodesFrom}
+use Rattle.states.specs.laws.Brings.{needOf}
+use Rattle.states.specs.laws.Filled.{NodeColumn, needs-start, needs-add, needs-all}
 use borrow.Author.Needs.{needs}
 use Rattle.states.proofs.fill.needs.Statement.{statement}
 use Rattle.states.proofs.fill.needs.Tie as tie
@@ -17,27 +17,6 @@ abbrev μ-loop : tie.MeasureT-loop
 
 loop-holds : tie.Need-loop-holds Inv-loop μ-loop
 loop-holds c = (omega arith, λ o. needs-start _)
-
-element-copy-out-need-of : tie.Need-element-copy-out-need-of Inv-loop μ-loop
-element-copy-out-need-of c = search needs
-
-element-copy-out-need-of-2 : tie.Need-element-copy-out-need-of-2 Inv-loop μ-loop
-element-copy-out-need-of-2 c = search needs
-
-element-copy-out-need-of-3 : tie.Need-element-copy-out-need-of-3 Inv-loop μ-loop
-element-copy-out-need-of-3 c = search needs
-
-need-of-requires : tie.Need-need-of-requires Inv-loop μ-loop
-need-of-requires c κs = search needs
-
-array-write-r : tie.Need-array-write-r Inv-loop μ-loop
-array-write-r c = search needs
-
-add-i : tie.Need-add-i Inv-loop μ-loop
-add-i c = omega arith
-
-loop-less : tie.Need-loop-less Inv-loop μ-loop
-loop-less c = omega arith
 
 loop-again : tie.Need-loop-again Inv-loop μ-loop
 loop-again c = (omega arith, λ o. needs-add _ (omega arith) refl (c .need-of .ensures) (c .before .before .before .before .before .loop .inv .1 o))
@@ -52,12 +31,12 @@ needs-spec =
     Inv-loop
     μ-loop
     loop-holds
-    element-copy-out-need-of
-    element-copy-out-need-of-2
-    element-copy-out-need-of-3
-    need-of-requires
-    array-write-r
-    add-i
-    loop-less
+    (λ c. search needs)
+    (λ c. search needs)
+    (λ c. search needs)
+    (λ c κs. search needs)
+    (λ c. search needs)
+    (λ c. omega arith)
+    (λ c. omega arith)
     loop-again
     returns)

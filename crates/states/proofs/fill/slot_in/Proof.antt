@@ -1,19 +1,13 @@
 use mathlib.Core.Path.{sym, _∙_}
 use borrow.Author.Tests.{eq-eqb, ne-eqb}
-use Rattle.states.specs.Brings.{slotIn}
+use Rattle.states.specs.laws.Brings.{slotIn}
 use borrow.Author.Needs.{needs}
 use Rattle.states.proofs.fill.slot_in.Statement.{statement}
 use Rattle.states.proofs.fill.slot_in.Tie as tie
 
-same-role-requires : tie.Need-same-role-requires
-same-role-requires c κs = search needs
-
 returns : tie.Need-returns
 unfolding slotIn
 returns c = rw (sym (c .before .same-role .ensures) ∙ c .if1 .taken)
-
-same-role-requires-2 : tie.Need-same-role-requires-2
-same-role-requires-2 c κs = search needs
 
 returns-2 : tie.Need-returns-2
 unfolding slotIn
@@ -23,9 +17,6 @@ returns-3 : tie.Need-returns-3
 unfolding slotIn
 returns-3 c = rw (sym (c .before .before .before .before .before .same-role .ensures) ∙ c .before .before .before .before .if1 .left, sym (c .before .before .before .same-role2 .ensures) ∙ c .before .before .if2 .left, eq-eqb _ _ (c .if3 .taken))
 
-same-role-requires-3 : tie.Need-same-role-requires-3
-same-role-requires-3 c κs = search needs
-
 returns-4 : tie.Need-returns-4
 unfolding slotIn
 returns-4 c = rw (sym (c .before .before .before .before .before .before .before .same-role .ensures) ∙ c .before .before .before .before .before .before .if1 .left, sym (c .before .before .before .before .before .same-role2 .ensures) ∙ c .before .before .before .before .if2 .left, ne-eqb _ _ (c .before .before .if3 .left), sym (c .before .same-role3 .ensures) ∙ c .if4 .taken)
@@ -33,9 +24,6 @@ returns-4 c = rw (sym (c .before .before .before .before .before .before .before
 returns-5 : tie.Need-returns-5
 unfolding slotIn
 returns-5 c = rw (sym (c .before .before .before .before .before .before .before .before .before .same-role .ensures) ∙ c .before .before .before .before .before .before .before .before .if1 .left, sym (c .before .before .before .before .before .before .before .same-role2 .ensures) ∙ c .before .before .before .before .before .before .if2 .left, ne-eqb _ _ (c .before .before .before .before .if3 .left), sym (c .before .before .before .same-role3 .ensures) ∙ c .before .before .if4 .left, eq-eqb _ _ (c .if5 .taken))
-
-same-role-requires-4 : tie.Need-same-role-requires-4
-same-role-requires-4 c κs = search needs
 
 returns-6 : tie.Need-returns-6
 unfolding slotIn
@@ -49,14 +37,14 @@ pub slot-in-spec : {M : Type 1} → statement M
 slot-in-spec =
     tie.close
     (tie.spec
-    same-role-requires
+    (λ c κs. search needs)
     returns
-    same-role-requires-2
+    (λ c κs. search needs)
     returns-2
     returns-3
-    same-role-requires-3
+    (λ c κs. search needs)
     returns-4
     returns-5
-    same-role-requires-4
+    (λ c κs. search needs)
     returns-6
     returns-7)

@@ -1,5 +1,5 @@
 use borrow.Author.Tests.{eq-eqb, ne-eqb}
-use Rattle.states.specs.Fields.{wayBy}
+use Rattle.states.specs.laws.Fields.{wayBy}
 use Rattle.states.proofs.fill.way_of.Statement.{statement}
 use Rattle.states.proofs.fill.way_of.Tie as tie
 

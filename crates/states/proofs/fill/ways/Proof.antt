@@ -2,9 +2,9 @@ use Prim.Native.Nat.{_-_, _≤_}
 use native.Mathlib.Omega.{arith}
 use mathlib.Core.Path.{refl}
 use Rattle.graph.specs.declared.Nodes.{Nodes}
-use Rattle.graph.specs.Graph.{nodesFrom}
-use Rattle.states.specs.Brings.{wayOf}
-use Rattle.states.specs.Filled.{NodeColumn, ways-start, ways-add, ways-all}
+use Rattle.graph.specs.laws.Graph.{nodesFrom}
+use Rattle.states.specs.laws.Brings.{wayOf}
+use Rattle.states.specs.laws.Filled.{NodeColumn, ways-start, ways-add, ways-all}
 use borrow.Author.Needs.{needs}
 use Rattle.states.proofs.fill.ways.Statement.{statement}
 use Rattle.states.proofs.fill.ways.Tie as tie
@@ -17,24 +17,6 @@ abbrev μ-loop : tie.MeasureT-loop
 
 loop-holds : tie.Need-loop-holds Inv-loop μ-loop
 loop-holds c = (omega arith, λ o. ways-start _)
-
-element-copy-out-way-of : tie.Need-element-copy-out-way-of Inv-loop μ-loop
-element-copy-out-way-of c = search needs
-
-element-copy-out-way-of-2 : tie.Need-element-copy-out-way-of-2 Inv-loop μ-loop
-element-copy-out-way-of-2 c = search needs
-
-way-of-requires : tie.Need-way-of-requires Inv-loop μ-loop
-way-of-requires c κs = search needs
-
-array-write-r : tie.Need-array-write-r Inv-loop μ-loop
-array-write-r c = search needs
-
-add-i : tie.Need-add-i Inv-loop μ-loop
-add-i c = omega arith
-
-loop-less : tie.Need-loop-less Inv-loop μ-loop
-loop-less c = omega arith
 
 loop-again : tie.Need-loop-again Inv-loop μ-loop
 loop-again c = (omega arith, λ o. ways-add _ (omega arith) refl (c .way-of .ensures) (c .before .before .before .before .loop .inv .1 o))
@@ -49,11 +31,11 @@ ways-spec =
     Inv-loop
     μ-loop
     loop-holds
-    element-copy-out-way-of
-    element-copy-out-way-of-2
-    way-of-requires
-    array-write-r
-    add-i
-    loop-less
+    (λ c. search needs)
+    (λ c. search needs)
+    (λ c κs. search needs)
+    (λ c. search needs)
+    (λ c. omega arith)
+    (λ c. omega arith)
     loop-again
     returns)

@@ -1,8 +1,8 @@
 use Prim.Native.Nat.{_-_}
 use native.Mathlib.Omega.{arith}
 use Rattle.expression.specs.declared.Credential.{Credential}
-use Rattle.rt0.specs.Pool.{poolOf, credentialAt, credentials}
-use Rattle.class.specs.Find.{Missed, missed-start, missed-more, any-at, any-none}
+use Rattle.rt0.specs.laws.Pool.{poolOf, credentialAt, credentials}
+use Rattle.class.specs.laws.Find.{Missed, missed-start, missed-more, any-at, any-none}
 use Rattle.tables.specs.Lookup.{directOf, sameCredential, holds}
 use Rattle.tables.proofs.lookup.holds.Statement.{statement}
 use Rattle.tables.proofs.lookup.holds.Tie as tie
@@ -16,18 +16,9 @@ abbrev μ-loop : tie.MeasureT-loop
 loop-holds : tie.Need-loop-holds Inv-loop μ-loop
 loop-holds c = missed-start _ _
 
-is-direct-at-requires : tie.Need-is-direct-at-requires Inv-loop μ-loop
-is-direct-at-requires c κs = omega arith
-
 returns : tie.Need-returns Inv-loop μ-loop
 unfolding holds credentials
 returns c = any-at (c .before .before .before .before .args .n) (c .before .before .before .loop .inv) (c .before .before .loop-test .taken) (c .before .is-direct-at .ensures) (c .if1 .taken)
-
-add-i : tie.Need-add-i Inv-loop μ-loop
-add-i c = omega arith
-
-loop-less : tie.Need-loop-less Inv-loop μ-loop
-loop-less c = omega arith
 
 loop-again : tie.Need-loop-again Inv-loop μ-loop
 loop-again c = missed-more (c .before .before .before .loop .inv) (c .before .is-direct-at .ensures) (c .if1 .left)
@@ -43,9 +34,9 @@ holds-spec =
     Inv-loop
     μ-loop
     loop-holds
-    is-direct-at-requires
+    (λ c κs. omega arith)
     returns
-    add-i
-    loop-less
+    (λ c. omega arith)
+    (λ c. omega arith)
     loop-again
     returns-2)

@@ -1,9 +1,9 @@
 use borrow.Author.Needs.{needs}
 use Prim.Native.Nat.{_-_}
 use native.Mathlib.Omega.{arith}
-use Rattle.class.specs.Find.{Missed, missed-start}
-use Rattle.tables.specs.Tables.{pairsFrom, pairAt}
-use Rattle.tables.specs.LookupLaws.{isOf, missed-pair, other-at, other-none}
+use Rattle.class.specs.laws.Find.{Missed, missed-start}
+use Rattle.tables.specs.laws.Tables.{pairsFrom, pairAt}
+use Rattle.tables.specs.laws.Lookup.{isOf, missed-pair, other-at, other-none}
 use Rattle.tables.proofs.lookup.other_of.Statement.{statement}
 use Rattle.tables.proofs.lookup.other_of.Tie as tie
 
@@ -16,20 +16,8 @@ abbrev μ-loop : tie.MeasureT-loop
 loop-holds : tie.Need-loop-holds Inv-loop μ-loop
 loop-holds c = missed-start _ _
 
-pair-at-requires : tie.Need-pair-at-requires Inv-loop μ-loop
-pair-at-requires c κs = omega arith
-
-same-role-requires : tie.Need-same-role-requires Inv-loop μ-loop
-same-role-requires c κs = search needs
-
 returns : tie.Need-returns Inv-loop μ-loop
 returns c = other-at _ _ (c .before .before .before .before .before .before .loop .inv) (c .before .before .before .before .before .loop-test .taken) (c .before .before .before .before .pair-at .ensures) (c .before .same-role .ensures) (c .if1 .taken)
-
-add-i : tie.Need-add-i Inv-loop μ-loop
-add-i c = omega arith
-
-loop-less : tie.Need-loop-less Inv-loop μ-loop
-loop-less c = omega arith
 
 loop-again : tie.Need-loop-again Inv-loop μ-loop
 loop-again c = missed-pair (pairsFrom (c .before .before .before .before .before .before .before .args .n) (c .before .before .before .before .before .before .before .args .roles .now) (c .before .before .before .before .before .before .before .args .others .now)) _ (c .before .before .before .before .before .before .loop .inv) (c .before .before .before .before .pair-at .ensures) (c .before .same-role .ensures) (c .if1 .left)
@@ -44,10 +32,10 @@ other-of-spec =
     Inv-loop
     μ-loop
     loop-holds
-    pair-at-requires
-    same-role-requires
+    (λ c κs. omega arith)
+    (λ c κs. search needs)
     returns
-    add-i
-    loop-less
+    (λ c. omega arith)
+    (λ c. omega arith)
     loop-again
     returns-2)

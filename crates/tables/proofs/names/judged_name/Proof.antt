@@ -1,11 +1,8 @@
 use borrow.Author.Needs.{needs}
-use Rattle.tables.specs.Group.{behind, step-zero, step-number}
-use Rattle.tables.specs.Groups.{names}
+use Rattle.tables.specs.laws.Group.{behind, step-zero, step-number}
+use Rattle.tables.specs.laws.Groups.{names}
 use Rattle.tables.proofs.names.judged_name.Statement.{statement}
 use Rattle.tables.proofs.names.judged_name.Tie as tie
-
-rising-requires : tie.Need-rising-requires
-rising-requires c κs = search needs
 
 returns : tie.Need-returns
 unfolding behind names
@@ -16,4 +13,4 @@ unfolding behind names
 returns-2 c = step-number _ (c .before .rising .ensures) (c .if1 .left)
 
 pub judged-name-spec : {M : Type 1} → statement M
-judged-name-spec = tie.close (tie.spec rising-requires returns returns-2)
+judged-name-spec = tie.close (tie.spec (λ c κs. search needs) returns returns-2)

@@ -3,8 +3,8 @@ use borrow.Author.Needs.{needs}
 use mathlib.Core.Path.{refl}
 use Prim.Native.Nat.{ℕ, _-_}
 use lib.ListN.{length, length-replicate}
-use Rattle.class.specs.Names.{namesFrom, namesOf}
-use Rattle.tables.specs.NamesReading.{ReadingNames, reading-start, names-past, names-room, names-next, names-stop}
+use Rattle.class.specs.laws.Names.{namesFrom, namesOf}
+use Rattle.tables.specs.laws.NamesReading.{ReadingNames, reading-start, names-past, names-room, names-next, names-stop}
 use Rattle.tables.proofs.names.read_names.Statement.{statement}
 use Rattle.tables.proofs.names.read_names.Tie as tie
 
@@ -18,29 +18,14 @@ loop-holds : tie.Need-loop-holds Inv-loop μ-loop
 unfolding namesOf
 loop-holds c = reading-start _ _ (namesFrom 0 _ _) _ refl refl (record { name = length-replicate {A = ℕ} 64 0; class = length-replicate {A = ℕ} 64 0 })
 
-next-name-requires : tie.Need-next-name-requires Inv-loop μ-loop
-next-name-requires c κs = search needs
-
-enum-known-n : tie.Need-enum-known-n Inv-loop μ-loop
-enum-known-n c = search needs
-
 store-name-requires : tie.Need-store-name-requires Inv-loop μ-loop
 store-name-requires c κs = (names-room (c .before .before .before .before .before .before .before .loop .inv) (c .before .before .before .before .before .before .loop-test .taken) (c .before .before .before .before .before .next-name .ensures) _ (c .before .before .before .n .given .1), c .before .before .before .before .before .before .before .loop .inv .sized)
 
 add-count : tie.Need-add-count Inv-loop μ-loop
 add-count c = omega (arith, names-room (c .before .before .before .before .before .before .before .before .loop .inv) (c .before .before .before .before .before .before .before .loop-test .taken) (c .before .before .before .before .before .before .next-name .ensures) _ (c .before .before .before .before .n .given .1))
 
-add-at : tie.Need-add-at Inv-loop μ-loop
-add-at c = search needs
-
-loop-less : tie.Need-loop-less Inv-loop μ-loop
-loop-less c = omega arith
-
 loop-again : tie.Need-loop-again Inv-loop μ-loop
 loop-again c = names-next (c .before .before .before .before .before .before .before .before .loop .inv) (c .before .before .before .before .before .before .before .loop-test .taken) (c .before .before .before .before .before .before .next-name .ensures) _ (c .before .before .before .before .n .given .1) refl (c .store-name .ensures)
-
-enum-known-k : tie.Need-enum-known-k Inv-loop μ-loop
-enum-known-k c = search needs
 
 returns : tie.Need-returns Inv-loop μ-loop
 returns c = names-stop (c .before .before .before .before .before .loop .inv) (c .before .before .before .before .loop-test .taken) (c .before .before .before .next-name .ensures) _ (c .before .k .given .1)
@@ -55,13 +40,13 @@ read-names-spec =
     Inv-loop
     μ-loop
     loop-holds
-    next-name-requires
-    enum-known-n
+    (λ c κs. search needs)
+    (λ c. search needs)
     store-name-requires
     add-count
-    add-at
-    loop-less
+    (λ c. search needs)
+    (λ c. omega arith)
     loop-again
-    enum-known-k
+    (λ c. search needs)
     returns
     returns-2)

@@ -3,11 +3,11 @@ use borrow.Author.Needs.{needs}
 use mathlib.Core.Path.{refl}
 use Prim.Native.Nat.{ℕ, _-_}
 use lib.ListN.{length, length-replicate}
-use Rattle.rt0.specs.Pool.{poolOf, credentials}
-use Rattle.class.specs.Names.{namesFrom, namesOf}
-use Rattle.tables.specs.Tables.{pairsFrom, pairsOf}
-use Rattle.tables.specs.Reading.{tablesFor}
-use Rattle.tables.specs.PairsReading.{ReadingPairs, pairs-start, pairs-past, pairs-room, pairs-next, pairs-stop}
+use Rattle.rt0.specs.laws.Pool.{poolOf, credentials}
+use Rattle.class.specs.laws.Names.{namesFrom, namesOf}
+use Rattle.tables.specs.laws.Tables.{pairsFrom, pairsOf}
+use Rattle.tables.specs.laws.Reading.{tablesFor}
+use Rattle.tables.specs.laws.PairsReading.{ReadingPairs, pairs-start, pairs-past, pairs-room, pairs-next, pairs-stop}
 use Rattle.tables.proofs.sensitive.read_pairs.Statement.{statement}
 use Rattle.tables.proofs.sensitive.read_pairs.Tie as tie
 
@@ -23,29 +23,14 @@ loop-holds : tie.Need-loop-holds Inv-loop μ-loop
 unfolding pairsOf
 loop-holds c = pairs-start _ _ _ _ (pairsFrom 0 _ _) _ refl (record { roles = length-replicate {A = ℕ} 64 0; others = length-replicate {A = ℕ} 64 0 })
 
-next-pair-requires : tie.Need-next-pair-requires Inv-loop μ-loop
-next-pair-requires c κs = search needs
-
-enum-known-x : tie.Need-enum-known-x Inv-loop μ-loop
-enum-known-x c = search needs
-
 store-pair-requires : tie.Need-store-pair-requires Inv-loop μ-loop
 store-pair-requires c κs = (pairs-room (c .before .before .before .before .before .before .before .loop .inv) (c .before .before .before .before .before .before .loop-test .taken) (c .before .before .before .before .before .next-pair .ensures) _ (c .before .before .before .x .given .1), c .before .before .before .before .before .before .before .loop .inv .sized)
 
 add-count : tie.Need-add-count Inv-loop μ-loop
 add-count c = omega (arith, pairs-room (c .before .before .before .before .before .before .before .before .loop .inv) (c .before .before .before .before .before .before .before .loop-test .taken) (c .before .before .before .before .before .before .next-pair .ensures) _ (c .before .before .before .before .x .given .1))
 
-add-at : tie.Need-add-at Inv-loop μ-loop
-add-at c = search needs
-
-loop-less : tie.Need-loop-less Inv-loop μ-loop
-loop-less c = omega arith
-
 loop-again : tie.Need-loop-again Inv-loop μ-loop
 loop-again c = pairs-next (c .before .before .before .before .before .before .before .before .loop .inv) (c .before .before .before .before .before .before .before .loop-test .taken) (c .before .before .before .before .before .before .next-pair .ensures) _ (c .before .before .before .before .x .given .1) (c .store-pair .ensures)
-
-enum-known-k : tie.Need-enum-known-k Inv-loop μ-loop
-enum-known-k c = search needs
 
 returns : tie.Need-returns Inv-loop μ-loop
 returns c = pairs-stop (c .before .before .before .before .before .loop .inv) (c .before .before .before .before .loop-test .taken) (c .before .before .before .next-pair .ensures) _ (c .before .k .given .1)
@@ -60,13 +45,13 @@ read-pairs-spec =
     Inv-loop
     μ-loop
     loop-holds
-    next-pair-requires
-    enum-known-x
+    (λ c κs. search needs)
+    (λ c. search needs)
     store-pair-requires
     add-count
-    add-at
-    loop-less
+    (λ c. search needs)
+    (λ c. omega arith)
     loop-again
-    enum-known-k
+    (λ c. search needs)
     returns
     returns-2)

@@ -1,19 +1,13 @@
 use borrow.Author.Needs.{needs}
-use Rattle.tables.specs.PairsReading.{suits-sensitive, suits-access}
+use Rattle.tables.specs.laws.PairsReading.{suits-sensitive, suits-access}
 use Rattle.tables.proofs.sensitive.suits_pair.Statement.{statement}
 use Rattle.tables.proofs.sensitive.suits_pair.Tie as tie
 
 returns : tie.Need-returns
 returns c = suits-sensitive (c .before .args .access) _ _ (c .if1 .taken)
 
-holds-requires : tie.Need-holds-requires
-holds-requires c κs = search needs
-
-is-sensitive-requires : tie.Need-is-sensitive-requires
-is-sensitive-requires c κs = search needs
-
 returns-2 : tie.Need-returns-2
 returns-2 c = suits-access (c .before .before .before .args .access) _ (c .before .before .if1 .left) (c .before .holds .ensures) (c .is-sensitive .ensures)
 
 pub suits-pair-spec : {M : Type 1} → statement M
-suits-pair-spec = tie.close (tie.spec returns holds-requires is-sensitive-requires returns-2)
+suits-pair-spec = tie.close (tie.spec returns (λ c κs. search needs) (λ c κs. search needs) returns-2)

@@ -1,16 +1,13 @@
 use borrow.Author.Needs.{needs}
 use mathlib.Core.Path.{_∙_, ap}
 use Rattle.tables.specs.Check.{numberOf, checkOf}
-use Rattle.tables.specs.DecodingLaws.{number-outcome}
+use Rattle.tables.specs.laws.DecodingLaws.{number-outcome}
 use Rattle.tables.proofs.whole.check.Statement.{statement}
 use Rattle.tables.proofs.whole.check.Tie as tie
-
-decode-requires : tie.Need-decode-requires
-decode-requires c κs = search needs
 
 returns : tie.Need-returns
 unfolding checkOf
 returns c = number-outcome _ ∙ ap numberOf (c .decode .ensures .0)
 
 pub check-spec : {M : Type 1} → statement M
-check-spec = tie.close (tie.spec decode-requires returns)
+check-spec = tie.close (tie.spec (λ c κs. search needs) returns)

@@ -1,37 +1,16 @@
 use borrow.Author.Needs.{needs}
-use Rattle.tables.specs.DecodingLaws.{tables-outside, some-bytes, tables-refused, tables-own, passed-first, open-names, decodes-refused, decodes-on, passed-on}
-use Rattle.tables.specs.Groups.{names}
-use Rattle.tables.specs.NamesReading.{names-few}
-use Rattle.tables.specs.Passed.{names-ranked}
+use Rattle.tables.specs.laws.DecodingLaws.{tables-outside, some-bytes, tables-refused, tables-own, passed-first, open-names, decodes-refused, decodes-on, passed-on}
+use Rattle.tables.specs.laws.Groups.{names}
+use Rattle.tables.specs.laws.NamesReading.{names-few}
+use Rattle.tables.specs.laws.Passed.{names-ranked}
 use Rattle.tables.proofs.whole.decode.Statement.{statement}
 use Rattle.tables.proofs.whole.decode.Tie as tie
-
-sized-requires : tie.Need-sized-requires
-sized-requires c κs = search needs
-
-refused-requires : tie.Need-refused-requires
-refused-requires c κs = search needs
 
 returns : tie.Need-returns
 returns c = (tables-outside _ _ (c .before .before .sized .ensures) (c .before .if1 .taken) (c .refused .ensures .0), c .refused .ensures .1)
 
 own-of-requires : tie.Need-own-of-requires
 own-of-requires c κs = some-bytes (c .before .before .before .args .s .now) (c .before .sized .ensures) (c .if1 .left)
-
-enum-known-k : tie.Need-enum-known-k
-enum-known-k c = search needs
-
-refused-requires-2 : tie.Need-refused-requires-2
-refused-requires-2 c κs = search needs
-
-enum-known-own : tie.Need-enum-known-own
-enum-known-own c = search needs
-
-read-names-requires : tie.Need-read-names-requires
-read-names-requires c κs = search needs
-
-refused-requires-3 : tie.Need-refused-requires-3
-refused-requires-3 c κs = search needs
 
 returns-2 : tie.Need-returns-2
 unfolding names
@@ -52,15 +31,15 @@ pub decode-spec : {M : Type 1} → statement M
 decode-spec =
     tie.close
     (tie.spec
-    sized-requires
-    refused-requires
+    (λ c κs. search needs)
+    (λ c κs. search needs)
     returns
     own-of-requires
-    enum-known-k
-    refused-requires-2
-    enum-known-own
-    read-names-requires
-    refused-requires-3
+    (λ c. search needs)
+    (λ c κs. search needs)
+    (λ c. search needs)
+    (λ c κs. search needs)
+    (λ c κs. search needs)
     returns-2
     decode-stored-requires
     returns-3

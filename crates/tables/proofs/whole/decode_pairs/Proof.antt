@@ -1,19 +1,13 @@
 use native.Mathlib.Omega.{arith}
 use borrow.Author.Needs.{needs}
 use mathlib.Core.Path.{refl}
-use Rattle.tables.specs.Tables.{pairsOf, tablesOf}
-use Rattle.tables.specs.Groups.{pairs}
-use Rattle.tables.specs.PairsReading.{pairs-few}
-use Rattle.tables.specs.Passed.{sensitive-ranked, access-ranked}
-use Rattle.tables.specs.DecodingLaws.{open-sensitive, open-access, decodes-refused, decodes-on, passed-on, left-outcome, class-same}
+use Rattle.tables.specs.laws.Tables.{pairsOf, tablesOf}
+use Rattle.tables.specs.laws.Groups.{pairs}
+use Rattle.tables.specs.laws.PairsReading.{pairs-few}
+use Rattle.tables.specs.laws.Passed.{sensitive-ranked, access-ranked}
+use Rattle.tables.specs.laws.DecodingLaws.{open-sensitive, open-access, decodes-refused, decodes-on, passed-on, left-outcome, class-same}
 use Rattle.tables.proofs.whole.decode_pairs.Statement.{statement}
 use Rattle.tables.proofs.whole.decode_pairs.Tie as tie
-
-read-pairs-requires : tie.Need-read-pairs-requires
-read-pairs-requires c κs = search needs
-
-refused-requires : tie.Need-refused-requires
-refused-requires c κs = search needs
 
 returns : tie.Need-returns
 unfolding pairs pairsOf
@@ -22,9 +16,6 @@ returns c = decodes-refused (c .before .before .before .before .read-pairs .ensu
 read-pairs-requires-2 : tie.Need-read-pairs-requires-2
 unfolding pairs
 read-pairs-requires-2 c κs = ((c .before .before .before .before .before .before .before .before .before .before .before .before .before .before .before .before .before .before .before .before .before .before .before .before .pre .0), (c .before .before .before .before .before .before .before .before .before .before .before .before .before .before .before .before .before .before .before .before .before .before .before .before .pre .1), omega (arith, (c .before .before .before .before .before .before .before .before .before .before .before .before .before .before .before .before .before .before .before .before .before .before .before .before .pre .3)), pairs-few _ (c .before .before .before .before .before .before .before .before .before .before .before .before .before .read-pairs .ensures .few))
-
-refused-requires-2 : tie.Need-refused-requires-2
-refused-requires-2 c κs = search needs
 
 returns-2 : tie.Need-returns-2
 unfolding pairs pairsOf
@@ -42,11 +33,11 @@ pub decode-pairs-spec : {M : Type 1} → statement M
 decode-pairs-spec =
     tie.close
     (tie.spec
-    read-pairs-requires
-    refused-requires
+    (λ c κs. search needs)
+    (λ c κs. search needs)
     returns
     read-pairs-requires-2
-    refused-requires-2
+    (λ c κs. search needs)
     returns-2
     left-over-requires
     returns-3)

@@ -1,27 +1,13 @@
 use borrow.Author.Needs.{needs}
-use mathlib.Core.List.{[]}
-use Rattle.tables.specs.Groups.{credentialsOf}
-use Rattle.tables.specs.StoredReading.{stored-few}
-use Rattle.class.specs.Names.{namesOf}
-use Rattle.tables.specs.DecodingLaws.{open-issuer, open-subject, decodes-refused, decodes-on, passed-on}
-use Rattle.tables.specs.Passed.{issuer-ranked, subject-ranked}
+use Rattle.tables.specs.laws.Groups.{credentialsOf}
+use Rattle.tables.specs.laws.StoredReading.{stored-few}
+use Rattle.tables.specs.laws.DecodingLaws.{open-issuer, open-subject, decodes-refused, decodes-on, passed-on}
+use Rattle.tables.specs.laws.Passed.{issuer-ranked, subject-ranked}
 use Rattle.tables.proofs.whole.decode_stored.Statement.{statement}
 use Rattle.tables.proofs.whole.decode_stored.Tie as tie
 
-read-stored-requires : tie.Need-read-stored-requires
-read-stored-requires c κs = search needs
-
-refused-requires : tie.Need-refused-requires
-refused-requires c κs = search needs
-
 returns : tie.Need-returns
 returns c = decodes-refused (c .before .before .before .before .read-stored .ensures) (open-issuer _ (c .before .before .before .before .before .before .before .before .before .pre .2 .begun) _) (c .before .if1 .taken) (c .refused .ensures .0) (c .refused .ensures .1)
-
-read-stored-requires-2 : tie.Need-read-stored-requires-2
-read-stored-requires-2 c κs = search needs
-
-refused-requires-2 : tie.Need-refused-requires-2
-refused-requires-2 c κs = search needs
 
 returns-2 : tie.Need-returns-2
 unfolding credentialsOf
@@ -39,11 +25,11 @@ pub decode-stored-spec : {M : Type 1} → statement M
 decode-stored-spec =
     tie.close
     (tie.spec
-    read-stored-requires
-    refused-requires
+    (λ c κs. search needs)
+    (λ c κs. search needs)
     returns
-    read-stored-requires-2
-    refused-requires-2
+    (λ c κs. search needs)
+    (λ c κs. search needs)
     returns-2
     decode-pairs-requires
     returns-3)

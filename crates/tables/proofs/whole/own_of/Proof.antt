@@ -1,44 +1,14 @@
 use borrow.Author.Needs.{needs}
-use mathlib.Core.Path.{sym, _∙_, ap}
+use mathlib.Core.Path.{sym}
 use Rattle.class.specs.Names.{classOf}
 use Rattle.class.specs.Typing.{credentialNumber}
 use Rattle.tables.specs.Check.{judge, classNumber, storedNumber, pairNumber, orderNumber, inOrder}
-use Rattle.tables.specs.DecodingLaws.{first-unread}
+use Rattle.tables.specs.laws.DecodingLaws.{first-unread}
 use Rattle.tables.proofs.whole.own_of.Statement.{statement}
 use Rattle.tables.proofs.whole.own_of.Tie as tie
 
-read-record-requires : tie.Need-read-record-requires
-read-record-requires c κs = search needs
-
-enum-known-a : tie.Need-enum-known-a
-enum-known-a c = search needs
-
-enum-told : tie.Need-enum-told
-enum-told c = search needs
-
-refusal-of-requires : tie.Need-refusal-of-requires
-refusal-of-requires c κs = search needs
-
 returns : tie.Need-returns
 returns c = first-unread (c .before .before .before .read-record .ensures) (c .before .enum-told .given .1) (c .refusal-of .ensures)
-
-enum-known-r : tie.Need-enum-known-r
-enum-known-r c = search needs
-
-enum-told-2 : tie.Need-enum-told-2
-enum-told-2 c = search needs
-
-enum-told-3 : tie.Need-enum-told-3
-enum-told-3 c = search needs
-
-enum-told-4 : tie.Need-enum-told-4
-enum-told-4 c = search needs
-
-enum-told-5 : tie.Need-enum-told-5
-enum-told-5 c = search needs
-
-enum-told-6 : tie.Need-enum-told-6
-enum-told-6 c = search needs
 
 returns-2 : tie.Need-returns-2
 returns-2 c = rw (sym (c .before .before .before .before .before .before .read-record .ensures)) (rw (c .before .before .before .before .a .given .1) (rw (c .before .r .given .1)))
@@ -67,17 +37,17 @@ pub own-of-spec : {M : Type 1} → statement M
 own-of-spec =
     tie.close
     (tie.spec
-    read-record-requires
-    enum-known-a
-    enum-told
-    refusal-of-requires
+    (λ c κs. search needs)
+    (λ c. search needs)
+    (λ c. search needs)
+    (λ c κs. search needs)
     returns
-    enum-known-r
-    enum-told-2
-    enum-told-3
-    enum-told-4
-    enum-told-5
-    enum-told-6
+    (λ c. search needs)
+    (λ c. search needs)
+    (λ c. search needs)
+    (λ c. search needs)
+    (λ c. search needs)
+    (λ c. search needs)
     returns-2
     returns-3
     returns-4

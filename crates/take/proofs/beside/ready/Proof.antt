@@ -1,20 +1,8 @@
-use Rattle.take.specs.KeptLaws.{ready-left, ready-made}
-use Rattle.negotiation.specs.Within.{within-few}
+use Rattle.take.specs.laws.Kept.{ready-left, ready-made}
+use Rattle.negotiation.specs.laws.Within.{within-few}
 use borrow.Author.Needs.{needs}
 use Rattle.take.proofs.beside.ready.Statement.{statement}
 use Rattle.take.proofs.beside.ready.Tie as tie
-use Rattle.take.proofs.beside.ready.Reads as reads
-use Rattle.take.proofs.beside.ready.Lts as lts
-use Rattle.update.proofs.is_implication.Reads as is-implication-reads
-use Rattle.update.proofs.is_linking.Reads as is-linking-reads
-use Rattle.update.proofs.satisfied_nodes.Reads as satisfied-nodes-reads
-use Rattle.update.proofs.is_inside.Reads as is-inside-reads
-
-is-implication-requires : tie.Need-is-implication-requires
-is-implication-requires c κs = search needs
-
-is-linking-requires : tie.Need-is-linking-requires
-is-linking-requires c κs = search needs
 
 returns : tie.Need-returns
 returns c = ready-left _ _ _ (c .before .before .before .before .before .is-implication .ensures) (c .before .before .before .before .before .before .pre .2) (c .before .before .before .is-linking .ensures) (c .before .if1 .taken)
@@ -32,8 +20,8 @@ pub ready-spec : {M : Type 1} → statement M
 ready-spec =
     tie.close
     (tie.spec
-    is-implication-requires
-    is-linking-requires
+    (λ c κs. search needs)
+    (λ c κs. search needs)
     returns
     satisfied-nodes-requires
     is-inside-requires

@@ -2,7 +2,6 @@ use mathlib.Core.Path.{refl}
 use Rattle.take.specs.Take.{messageSize}
 use Rattle.take.proofs.call.fits.Statement.{statement}
 use Rattle.take.proofs.call.fits.Tie as tie
-use Rattle.take.proofs.call.fits.Lts as lts
 
 returns : tie.Need-returns
 unfolding messageSize

@@ -3,7 +3,6 @@ use mathlib.Core.Bool.{Bool, cond}
 use borrow.Author.Tests.{eq-eqb, ne-eqb}
 use Rattle.take.proofs.call.other_side.Statement.{statement}
 use Rattle.take.proofs.call.other_side.Tie as tie
-use Rattle.take.proofs.call.other_side.Lts as lts
 
 returns : tie.Need-returns
 returns c = ap (λ (b : Bool). cond b 1 0) (sym (eq-eqb _ 0 (c .if1 .taken)))

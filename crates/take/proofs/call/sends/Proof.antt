@@ -2,7 +2,6 @@ use mathlib.Core.Path.{refl}
 use Rattle.take.specs.Take.{sends}
 use Rattle.take.proofs.call.sends.Statement.{statement}
 use Rattle.take.proofs.call.sends.Tie as tie
-use Rattle.take.proofs.call.sends.Lts as lts
 
 returns : tie.Need-returns
 unfolding sends

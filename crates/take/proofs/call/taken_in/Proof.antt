@@ -1,29 +1,11 @@
 use mathlib.Core.Path.{refl}
-use Rattle.take.specs.TakeLaws.{taken-ended, taken-turn, taken-refused, taken-after, led-ready, start-formed}
+use Rattle.take.specs.laws.Take.{taken-ended, taken-turn, taken-refused, taken-after, led-ready, start-formed}
 use borrow.Author.Needs.{needs}
 use Rattle.take.proofs.call.taken_in.Statement.{statement}
 use Rattle.take.proofs.call.taken_in.Tie as tie
-use Rattle.take.proofs.call.taken_in.Lts as lts
-use Rattle.take.proofs.call.other_side.Reads as other-side-reads
-use Rattle.take.proofs.call.sends.Reads as sends-reads
-use Rattle.take.proofs.commands.take_commands.Reads as take-commands-reads
-use Rattle.take.proofs.commands.taking.Reads as taking-reads
-use Rattle.update.proofs.after_message.Reads as after-message-reads
-
-taking-requires : tie.Need-taking-requires
-taking-requires c κs = search needs
 
 returns : tie.Need-returns
 returns c = taken-ended _ _ _ _ (c .before .if1 .taken) (c .taking .ensures .0)
-
-other-side-requires : tie.Need-other-side-requires
-other-side-requires c κs = search needs
-
-sends-requires : tie.Need-sends-requires
-sends-requires c κs = search needs
-
-taking-requires-2 : tie.Need-taking-requires-2
-taking-requires-2 c κs = search needs
 
 returns-2 : tie.Need-returns-2
 returns-2 c = taken-turn _ _ _ (c .before .before .before .before .if1 .left) (c .before .before .before .other-side .ensures) (c .before .before .sends .ensures) _ (c .before .if2 .taken) (c .taking2 .ensures .0)
@@ -37,9 +19,6 @@ returns-3 c = taken-refused _ _ _ (c .before .before .before .before .before .be
 after-message-requires : tie.Need-after-message-requires
 after-message-requires c κs = led-ready (c .before .before .before .before .before .before .before .before .before .before .before .args .message .now) _ _ (c .before .before .before .before .before .before .if1 .left) (c .before .before .before .before .before .other-side .ensures) (c .before .before .before .before .sends .ensures) (c .before .before .before .if2 .left) _ (c .before .before .take-commands .ensures .0) (c .if3 .left) (c .before .before .before .before .before .before .before .before .before .before .before .pre .3) (c .before .before .before .before .before .before .before .before .before .before .before .pre .2) (c .before .before .before .before .before .before .before .before .before .before .before .pre .1) (c .before .before .take-commands .ensures .1)
 
-taking-requires-3 : tie.Need-taking-requires-3
-taking-requires-3 c κs = search needs
-
 returns-4 : tie.Need-returns-4
 returns-4 c = taken-after _ _ _ (c .before .before .before .before .before .before .before .before .if1 .left) (c .before .before .before .before .before .before .before .other-side .ensures) (c .before .before .before .before .before .before .sends .ensures) (c .before .before .before .before .before .if2 .left) _ (c .before .before .before .before .take-commands .ensures .0) (c .before .before .if3 .left) _ _ (c .before .before .before .before .take-commands .ensures .1) (c .before .after-message .ensures) (c .taking3 .ensures .0) (c .taking3 .ensures .2)
 
@@ -47,14 +26,14 @@ pub taken-in-spec : {M : Type 1} → statement M
 taken-in-spec =
     tie.close
     (tie.spec
-    taking-requires
+    (λ c κs. search needs)
     returns
-    other-side-requires
-    sends-requires
-    taking-requires-2
+    (λ c κs. search needs)
+    (λ c κs. search needs)
+    (λ c κs. search needs)
     returns-2
     take-commands-requires
     returns-3
     after-message-requires
-    taking-requires-3
+    (λ c κs. search needs)
     returns-4)

@@ -1,32 +1,16 @@
-use Rattle.negotiation.specs.Within.{within-few}
-use Rattle.update.specs.RoomLaws.{legal-room}
-use Rattle.take.specs.KeptLaws.{Keeps, keeps-start, current-left, current-made, current-by, known-for, keeps-next, moved-next}
-use Rattle.take.specs.CommandsLaws.{Reading, stop-left, reading-start, reading-past, reading-unread, reading-stop, reading-next, reading-room}
+use Rattle.negotiation.specs.laws.Within.{within-few}
+use Rattle.update.specs.laws.Room.{legal-room}
+use Rattle.take.specs.laws.Kept.{Keeps, keeps-start, current-left, current-made, current-by, known-for, keeps-next, moved-next}
+use Rattle.take.specs.laws.Commands.{Reading, stop-left, reading-start, reading-past, reading-unread, reading-stop, reading-next, reading-room}
 use Prim.Native.Nat.{_-_}
 use mathlib.Core.Path.{sym, _∙_}
 use lib.ListN.{length}
 use native.Mathlib.Omega.{arith}
-use Rattle.class.specs.Names.{namesOf}
-use Rattle.negotiation.specs.State.{stateOf}
+use Rattle.class.specs.laws.Names.{namesOf}
+use Rattle.negotiation.specs.laws.State.{stateOf}
 use borrow.Author.Needs.{needs}
 use Rattle.take.proofs.commands.take_commands.Statement.{statement}
 use Rattle.take.proofs.commands.take_commands.Tie as tie
-use Rattle.take.proofs.commands.take_commands.Reads as reads
-use Rattle.take.proofs.commands.take_commands.Lts as lts
-use Rattle.message.proofs.size_of.Reads as size-of-reads
-use Rattle.reader.proofs.command_at.Reads as command-at-reads
-use Rattle.take.proofs.beside.carried.Reads as carried-reads
-use Rattle.take.proofs.beside.nothing_kept.Reads as nothing-kept-reads
-use Rattle.take.proofs.beside.ready.Reads as ready-reads
-use Rattle.take.proofs.commands.is_end.Reads as is-end-reads
-use Rattle.take.proofs.commands.judge.Reads as judge-reads
-use Rattle.take.proofs.commands.refusal_of.Reads as refusal-of-reads
-use Rattle.take.proofs.commands.taking.Reads as taking-reads
-use Rattle.update.proofs.is_proved.Reads as is-proved-reads
-use Rattle.update.proofs.known_of.Reads as known-of-reads
-use Rattle.update.proofs.unknown.Reads as unknown-reads
-use Rattle.update.proofs.is_implication.Reads as is-implication-reads
-use Rattle.update.proofs.step.Reads as step-reads
 
 abbrev Inv-loop : tie.InvT-loop
 Inv-loop names sender message n₀ known₀ kept₀ at₀ n known kept at = Reading (namesOf names) sender message (stateOf n₀) n at (kept .moved) × Keeps known kept n
@@ -34,35 +18,11 @@ Inv-loop names sender message n₀ known₀ kept₀ at₀ n known kept at = Read
 abbrev μ-loop : tie.MeasureT-loop
 μ-loop names sender message n₀ known₀ kept₀ at₀ n known kept at = length message - at
 
-unknown-requires : tie.Need-unknown-requires Inv-loop μ-loop
-unknown-requires c κs = search needs
-
-nothing-kept-requires : tie.Need-nothing-kept-requires Inv-loop μ-loop
-nothing-kept-requires c κs = search needs
-
 loop-holds : tie.Need-loop-holds Inv-loop μ-loop
 loop-holds c = (reading-start _ _ _ _ (c .nothing-kept .ensures .0) (c .before .before .before .pre .2) (c .before .before .before .pre .3), keeps-start _ _ _ (c .nothing-kept .ensures .1) (c .nothing-kept .ensures .2))
 
-command-at-requires : tie.Need-command-at-requires Inv-loop μ-loop
-command-at-requires c κs = search needs
-
-enum-known-a : tie.Need-enum-known-a Inv-loop μ-loop
-enum-known-a c = search needs
-
-enum-told : tie.Need-enum-told Inv-loop μ-loop
-enum-told c = search needs
-
-refusal-of-requires : tie.Need-refusal-of-requires Inv-loop μ-loop
-refusal-of-requires c κs = search needs
-
-taking-requires : tie.Need-taking-requires Inv-loop μ-loop
-taking-requires c κs = search needs
-
 returns : tie.Need-returns Inv-loop μ-loop
 returns c = reading-unread _ _ _ (c .before .before .before .before .before .before .loop .inv .0) (c .before .before .before .before .before .loop-test .taken) (c .before .before .before .before .command-at .ensures) _ (c .before .before .enum-told .given .1) (c .before .refusal-of .ensures) (c .taking .ensures .0)
-
-is-implication-requires : tie.Need-is-implication-requires Inv-loop μ-loop
-is-implication-requires c κs = search needs
 
 known-of-requires : tie.Need-known-of-requires Inv-loop μ-loop
 known-of-requires c κs = omega (arith, within-few _ (c .before .before .before .before .before .before .before .before .loop .inv .0 .sizes) .2)
@@ -76,12 +36,6 @@ is-proved-requires c κs = (within-few _ (c .before .before .before .before .bef
 judge-requires : tie.Need-judge-requires Inv-loop μ-loop
 judge-requires c κs = ((c .before .before .before .before .before .before .before .before .before .before .before .before .before .before .before .before .before .before .before .before .before .before .before .before .before .before .before .pre .0), (c .before .before .before .before .before .before .before .before .before .before .before .before .before .before .before .before .before .before .before .before .before .before .before .before .before .before .before .pre .1), (c .before .before .before .before .before .before .before .before .before .before .before .before .before .before .before .before .before .before .before .before .before .before .before .loop .inv .0 .sizes), (c .before .before .is-proved .ensures), (c .before .before .before .before .before .before .before .before .before .before .before .before .before .before .ready .ensures .says))
 
-is-end-requires : tie.Need-is-end-requires Inv-loop μ-loop
-is-end-requires c κs = search needs
-
-taking-requires-2 : tie.Need-taking-requires-2 Inv-loop μ-loop
-taking-requires-2 c κs = search needs
-
 returns-2 : tie.Need-returns-2 Inv-loop μ-loop
 returns-2 c = reading-stop _ _ _ (c .before .before .before .before .before .before .before .before .before .before .before .before .before .before .before .before .before .before .before .before .before .before .before .before .before .before .before .loop .inv .0) (c .before .before .before .before .before .before .before .before .before .before .before .before .before .before .before .before .before .before .before .before .before .before .before .before .before .before .loop-test .taken) (c .before .before .before .before .before .before .before .before .before .before .before .before .before .before .before .before .before .before .before .before .before .before .before .before .before .command-at .ensures) (c .before .before .before .before .before .before .before .before .before .before .before .before .before .before .before .before .before .before .before .before .before .before .before .a .given .1) (c .before .before .before .judge .ensures) (c .before .before .is-end .ensures) _ (c .before .if2 .taken) (c .taking2 .ensures .0) ((c .taking2 .ensures .1) ∙ (c .before .before .before .before .before .before .before .before .before .before .before .before .before .before .before .before .before .before .ready .ensures .moved)) (c .taking2 .ensures .2)
 
@@ -90,9 +44,6 @@ carried-requires c κs = within-few _ (c .before .before .before .before .before
 
 step-requires : tie.Need-step-requires Inv-loop μ-loop
 step-requires c κs = ((c .before .before .before .before .before .before .before .before .before .before .before .before .before .before .before .before .before .before .before .before .before .before .before .before .before .before .before .loop .inv .0 .sizes), legal-room _ _ _ _ (sym (c .before .before .before .judge .ensures) ∙ (stop-left _ _ (c .before .if2 .left) .0)))
-
-size-of-requires : tie.Need-size-of-requires Inv-loop μ-loop
-size-of-requires c κs = search needs
 
 add-at : tie.Need-add-at Inv-loop μ-loop
 add-at c = omega (arith, (c .before .before .before .before .before .before .before .before .before .before .before .before .before .before .before .before .before .before .before .before .before .before .before .before .before .before .before .before .before .before .before .before .before .pre .4), reading-room _ _ _ (c .before .before .before .before .before .before .before .before .before .before .before .before .before .before .before .before .before .before .before .before .before .before .before .before .before .before .before .before .before .loop .inv .0) (c .before .before .before .before .before .before .before .before .before .before .before .before .before .before .before .before .before .before .before .before .before .before .before .before .before .before .before .before .loop-test .taken) (c .before .before .before .before .before .before .before .before .before .before .before .before .before .before .before .before .before .before .before .before .before .before .before .before .before .before .before .command-at .ensures) (c .before .before .before .before .before .before .before .before .before .before .before .before .before .before .before .before .before .before .before .before .before .before .before .before .before .a .given .1) (c .before .before .before .before .before .judge .ensures) (stop-left _ _ (c .before .before .before .if2 .left) .0) (c .before .before .before .before .is-end .ensures) (c .size-of .ensures) .0)
@@ -103,9 +54,6 @@ loop-less c = omega (arith, reading-room _ _ _ (c .before .before .before .befor
 loop-again : tie.Need-loop-again Inv-loop μ-loop
 loop-again c = (reading-next _ _ _ (c .before .before .before .before .before .before .before .before .before .before .before .before .before .before .before .before .before .before .before .before .before .before .before .before .before .before .before .before .before .loop .inv .0) (c .before .before .before .before .before .before .before .before .before .before .before .before .before .before .before .before .before .before .before .before .before .before .before .before .before .before .before .before .loop-test .taken) (c .before .before .before .before .before .before .before .before .before .before .before .before .before .before .before .before .before .before .before .before .before .before .before .before .before .before .before .command-at .ensures) (c .before .before .before .before .before .before .before .before .before .before .before .before .before .before .before .before .before .before .before .before .before .before .before .before .before .a .given .1) (c .before .before .before .before .before .judge .ensures) (stop-left _ _ (c .before .before .before .if2 .left) .0) (c .before .before .before .before .is-end .ensures) (stop-left (c .before .before .before .before .before .judge .result) _ (c .before .before .before .if2 .left) .1) (c .before .step .ensures) (moved-next _ _ (c .before .before .before .before .before .before .before .before .before .before .before .before .before .before .before .before .before .before .before .before .ready .ensures) (c .before .before .carried .ensures)) (c .size-of .ensures), keeps-next _ _ _ _ (current-by (c .before .before .before .before .before .before .before .before .before .before .before .before .before .before .before .before .before .before .before .before .before .if1 .known) (c .before .before .before .before .before .before .before .before .before .before .before .before .before .before .before .before .before .before .before .before .before .before .before .before .before .before .before .before .before .loop .kept .stale) (c .before .before .before .before .before .before .before .before .before .before .before .before .before .before .before .before .before .before .before .before .before .before .before .before .before .a .given .0 .0) (c .before .before .before .before .before .before .before .before .before .before .before .before .before .before .before .before .before .before .before .before .before .before .before .before .before .before .before .before .before .loop .n .shown) (λ w. current-made _ _ _ _ _ (w .1 .ensures .0) (w .1 .ensures .1) (w .2)) (λ w. current-left _ _ _ _ _ (c .before .before .before .before .before .before .before .before .before .before .before .before .before .before .before .before .before .before .before .before .before .before .before .before .before .before .before .before .before .loop .inv .1 .current) (c .before .before .before .before .before .before .before .before .before .before .before .before .before .before .before .before .before .before .before .before .before .before .before .is-implication .ensures) (w .0 .left) (w .1)) (c .before .before .before .before .before .before .before .before .before .before .before .before .before .before .before .before .before .before .before .before .before .if1 .came)) (c .before .before .before .before .before .before .before .before .before .before .before .before .before .before .before .before .before .before .before .before .ready .ensures) (c .before .step .ensures) (c .before .before .carried .ensures))
 
-taking-requires-3 : tie.Need-taking-requires-3 Inv-loop μ-loop
-taking-requires-3 c κs = search needs
-
 returns-3 : tie.Need-returns-3 Inv-loop μ-loop
 returns-3 c = reading-past _ _ _ (c .before .before .loop .inv .0) _ (c .before .loop-test .left) (c .taking3 .ensures .0)
 
@@ -115,28 +63,28 @@ take-commands-spec =
     (tie.spec
     Inv-loop
     μ-loop
-    unknown-requires
-    nothing-kept-requires
+    (λ c κs. search needs)
+    (λ c κs. search needs)
     loop-holds
-    command-at-requires
-    enum-known-a
-    enum-told
-    refusal-of-requires
-    taking-requires
+    (λ c κs. search needs)
+    (λ c. search needs)
+    (λ c. search needs)
+    (λ c κs. search needs)
+    (λ c κs. search needs)
     returns
-    is-implication-requires
+    (λ c κs. search needs)
     known-of-requires
     ready-requires
     is-proved-requires
     judge-requires
-    is-end-requires
-    taking-requires-2
+    (λ c κs. search needs)
+    (λ c κs. search needs)
     returns-2
     carried-requires
     step-requires
-    size-of-requires
+    (λ c κs. search needs)
     add-at
     loop-less
     loop-again
-    taking-requires-3
+    (λ c κs. search needs)
     returns-3)

@@ -1,7 +1,6 @@
-use Rattle.update.specs.AfterLaws.{end-success, end-failed, end-stalled, end-full, end-none}
+use Rattle.update.specs.laws.After.{end-success, end-failed, end-stalled, end-full, end-none}
 use Rattle.update.proofs.after.end_of.Statement.{statement}
 use Rattle.update.proofs.after.end_of.Tie as tie
-use Rattle.update.proofs.after.end_of.Lts as lts
 
 returns : tie.Need-returns
 returns c = end-success _ _ _ (c .if1 .taken)

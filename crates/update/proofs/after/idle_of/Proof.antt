@@ -3,7 +3,6 @@ use mathlib.Core.Bool.{Bool, cond}
 use Rattle.update.specs.After.{idleOf}
 use Rattle.update.proofs.after.idle_of.Statement.{statement}
 use Rattle.update.proofs.after.idle_of.Tie as tie
-use Rattle.update.proofs.after.idle_of.Lts as lts
 
 returns : tie.Need-returns
 unfolding idleOf

@@ -2,7 +2,6 @@ use mathlib.Core.Path.{refl}
 use Rattle.update.specs.After.{isStalled}
 use Rattle.update.proofs.after.is_stalled.Statement.{statement}
 use Rattle.update.proofs.after.is_stalled.Tie as tie
-use Rattle.update.proofs.after.is_stalled.Lts as lts
 
 returns : tie.Need-returns
 unfolding isStalled

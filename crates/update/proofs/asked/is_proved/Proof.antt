@@ -1,23 +1,12 @@
-use Rattle.update.specs.JudgedLaws.{proves-none, proves-asked}
+use Rattle.update.specs.laws.JudgedLaws.{proves-none, proves-asked}
 use borrow.Author.Tests.{not-false}
 use mathlib.Core.Path.{sym, _∙_}
 use borrow.Author.Needs.{needs}
 use Rattle.update.proofs.asked.is_proved.Statement.{statement}
 use Rattle.update.proofs.asked.is_proved.Tie as tie
-use Rattle.update.proofs.asked.is_proved.Reads as reads
-use Rattle.update.proofs.asked.is_proved.Lts as lts
-use Rattle.update.proofs.asked.is_known.Reads as is-known-reads
-use Rattle.update.proofs.asked.question_of.Reads as question-of-reads
-use Rattle.update.proofs.justify.is_implication.Reads as is-implication-reads
-
-is-implication-requires : tie.Need-is-implication-requires
-is-implication-requires c κs = search needs
 
 returns : tie.Need-returns
 returns c = proves-none _ _ _ (c .before .is-implication .ensures) (c .if1 .taken)
-
-question-of-requires : tie.Need-question-of-requires
-question-of-requires c κs = search needs
 
 is-known-requires : tie.Need-is-known-requires
 is-known-requires c κs = (c .before .before .before .before .pre .1 .knows) (sym (c .before .before .before .is-implication .ensures) ∙ not-false _ (c .before .before .if1 .left))
@@ -28,4 +17,4 @@ returns-2 c = proves-asked _ _ _ _ _ (c .before .before .before .before .before 
 pub is-proved-spec : {M : Type 1} → statement M
 is-proved-spec =
     tie.close
-    (tie.spec is-implication-requires returns question-of-requires is-known-requires returns-2)
+    (tie.spec (λ c κs. search needs) returns (λ c κs. search needs) is-known-requires returns-2)

@@ -1,48 +1,7 @@
-use Rattle.update.specs.JudgedLaws.{question-for}
+use Rattle.update.specs.laws.JudgedLaws.{question-for}
 use borrow.Author.Needs.{needs}
 use Rattle.update.proofs.asked.question_of.Statement.{statement}
 use Rattle.update.proofs.asked.question_of.Tie as tie
-use Rattle.update.proofs.asked.question_of.Reads as reads
-use Rattle.update.proofs.asked.question_of.Lts as lts
-use Rattle.update.proofs.asked.bring_question.Reads as bring-question-reads
-use Rattle.update.proofs.asked.join_question.Reads as join-question-reads
-use Rattle.update.proofs.asked.no_question.Reads as no-question-reads
-
-enum-told : tie.Need-enum-told
-enum-told c = search needs
-
-no-question-requires : tie.Need-no-question-requires
-no-question-requires c κs = search needs
-
-enum-told-2 : tie.Need-enum-told-2
-enum-told-2 c = search needs
-
-no-question-requires-2 : tie.Need-no-question-requires-2
-no-question-requires-2 c κs = search needs
-
-enum-known-c : tie.Need-enum-known-c
-enum-known-c c = search needs
-
-bring-question-requires : tie.Need-bring-question-requires
-bring-question-requires c κs = search needs
-
-enum-known-c-2 : tie.Need-enum-known-c-2
-enum-known-c-2 c = search needs
-
-join-question-requires : tie.Need-join-question-requires
-join-question-requires c κs = search needs
-
-enum-told-3 : tie.Need-enum-told-3
-enum-told-3 c = search needs
-
-no-question-requires-3 : tie.Need-no-question-requires-3
-no-question-requires-3 c κs = search needs
-
-enum-told-4 : tie.Need-enum-told-4
-enum-told-4 c = search needs
-
-no-question-requires-4 : tie.Need-no-question-requires-4
-no-question-requires-4 c κs = search needs
 
 returns : tie.Need-returns
 returns c = question-for _ _ _ (c .before .enum-told .given .1) (c .no-question .ensures)
@@ -66,18 +25,18 @@ pub question-of-spec : {M : Type 1} → statement M
 question-of-spec =
     tie.close
     (tie.spec
-    enum-told
-    no-question-requires
-    enum-told-2
-    no-question-requires-2
-    enum-known-c
-    bring-question-requires
-    enum-known-c-2
-    join-question-requires
-    enum-told-3
-    no-question-requires-3
-    enum-told-4
-    no-question-requires-4
+    (λ c. search needs)
+    (λ c κs. search needs)
+    (λ c. search needs)
+    (λ c κs. search needs)
+    (λ c. search needs)
+    (λ c κs. search needs)
+    (λ c. search needs)
+    (λ c κs. search needs)
+    (λ c. search needs)
+    (λ c κs. search needs)
+    (λ c. search needs)
+    (λ c κs. search needs)
     returns
     returns-2
     returns-3

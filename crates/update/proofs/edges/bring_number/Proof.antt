@@ -1,25 +1,12 @@
 use native.Mathlib.Omega.{arith}
 use mathlib.Core.Path.{refl, sym, _∙_, ap}
-use Rattle.negotiation.specs.State.{stateOf}
+use Rattle.negotiation.specs.laws.State.{stateOf}
 use Rattle.update.specs.Step.{processedBy}
 use Rattle.update.specs.Legal.{typeNumber, bringNumber}
-use Rattle.update.specs.LegalLaws.{first-stops, first-passes, stops, passes, fresh-yes, fresh-no, absent-yes, absent-no, sizes-same}
+use Rattle.update.specs.laws.Legal.{first-stops, first-passes, stops, passes, fresh-yes, fresh-no, absent-yes, absent-no, sizes-same}
 use borrow.Author.Needs.{needs}
 use Rattle.update.proofs.edges.bring_number.Statement.{statement}
 use Rattle.update.proofs.edges.bring_number.Tie as tie
-use Rattle.update.proofs.edges.bring_number.Lts as lts
-use Rattle.class.proofs.type_of.Reads as type-of-reads
-use Rattle.update.proofs.edges.bring_wrong.Reads as bring-wrong-reads
-use Rattle.update.proofs.edges.type_number.Reads as type-number-reads
-use Rattle.word.proofs.wide.Reads as wide-reads
-use Rattle.update.proofs.sides.is_processed.Reads as is-processed-reads
-use Rattle.update.proofs.steps.node_of.Reads as node-of-reads
-
-type-of-requires : tie.Need-type-of-requires
-type-of-requires c κs = search needs
-
-type-number-requires : tie.Need-type-number-requires
-type-number-requires c κs = search needs
 
 returns : tie.Need-returns
 unfolding bringNumber stateOf
@@ -28,9 +15,6 @@ returns c = first-stops _ _ _ ((c .before .type-number .ensures) ∙ ap typeNumb
 returns-2 : tie.Need-returns-2
 unfolding bringNumber stateOf
 returns-2 c = first-passes _ _ _ ((c .before .before .before .before .type-number .ensures) ∙ ap typeNumber (c .before .before .before .before .before .type-of .ensures)) (c .before .before .before .if1 .left) (stops _ _ _ (fresh-yes (c .before .before .before .before .before .before .before .before .before .args .n) (c .if2 .taken)))
-
-wide-requires : tie.Need-wide-requires
-wide-requires c κs = search needs
 
 returns-3 : tie.Need-returns-3
 unfolding bringNumber stateOf
@@ -50,9 +34,6 @@ returns-5 c = first-passes _ _ _ ((c .before .before .before .before .before .be
 node-of-requires : tie.Need-node-of-requires
 node-of-requires c κs = (omega (arith, (c .before .before .before .before .before .wide .ensures), (c .before .before .before .if3 .left)), (c .before .before .before .before .before .before .before .before .before .before .before .before .before .before .before .pre .2))
 
-is-processed-requires : tie.Need-is-processed-requires
-is-processed-requires c κs = search needs
-
 returns-6 : tie.Need-returns-6
 unfolding bringNumber stateOf
 returns-6 c = first-passes _ _ _ ((c .before .before .before .before .before .before .before .before .before .before .before .before .before .type-number .ensures) ∙ ap typeNumber (c .before .before .before .before .before .before .before .before .before .before .before .before .before .before .type-of .ensures)) (c .before .before .before .before .before .before .before .before .before .before .before .before .if1 .left) (passes _ _ _ (fresh-no (c .before .before .before .before .before .before .before .before .before .before .before .before .before .before .before .before .before .before .args .n) (c .before .before .before .before .before .before .before .before .before .if2 .left)) (passes _ _ _ (absent-no (c .before .before .before .before .before .before .before .before .before .before .before .before .before .before .before .before .before .before .args .n) _ (omega (arith, (c .before .before .before .before .before .before .before .before .wide .ensures), (c .before .before .before .before .before .before .if3 .left)))) (passes _ _ _ (sym (c .before .before .before .before .before .bring-wrong .ensures) ∙ (c .before .before .before .before .if4 .left)) (passes _ _ _ (c .before .before .before .if5 .left) (stops _ _ _ (ap (processedBy (c .before .before .before .before .before .before .before .before .before .before .before .before .before .before .before .before .before .before .args .side)) (sym (c .before .before .node-of .ensures)) ∙ sym (c .before .is-processed .ensures) ∙ (c .if6 .taken)))))))
@@ -69,17 +50,17 @@ pub bring-number-spec : {M : Type 1} → statement M
 bring-number-spec =
     tie.close
     (tie.spec
-    type-of-requires
-    type-number-requires
+    (λ c κs. search needs)
+    (λ c κs. search needs)
     returns
     returns-2
-    wide-requires
+    (λ c κs. search needs)
     returns-3
     bring-wrong-requires
     returns-4
     returns-5
     node-of-requires
-    is-processed-requires
+    (λ c κs. search needs)
     returns-6
     returns-7
     returns-8)

@@ -1,31 +1,20 @@
 use native.Mathlib.Omega.{arith}
 use mathlib.Core.Path.{refl, sym, _∙_, ap}
-use Rattle.negotiation.specs.State.{stateOf}
+use Rattle.negotiation.specs.laws.State.{stateOf}
 use Rattle.update.specs.Step.{processedBy}
 use Rattle.update.specs.Legal.{joinNumber}
-use Rattle.update.specs.LegalLaws.{stops, passes, fresh-yes, fresh-no, both-present, parent-absent, child-absent, edges-full, edges-room}
+use Rattle.update.specs.laws.Legal.{stops, passes, fresh-yes, fresh-no, both-present, parent-absent, child-absent, edges-full, edges-room}
 use borrow.Author.Needs.{needs}
 use Rattle.update.proofs.edges.join_number.Statement.{statement}
 use Rattle.update.proofs.edges.join_number.Tie as tie
-use Rattle.update.proofs.edges.join_number.Lts as lts
-use Rattle.update.proofs.edges.join_wrong.Reads as join-wrong-reads
-use Rattle.word.proofs.wide.Reads as wide-reads
-use Rattle.update.proofs.sides.is_processed.Reads as is-processed-reads
-use Rattle.update.proofs.steps.node_of.Reads as node-of-reads
 
 returns : tie.Need-returns
 unfolding joinNumber stateOf
 returns c = stops _ _ _ (fresh-yes (c .before .before .before .args .n) (c .if1 .taken))
 
-wide-requires : tie.Need-wide-requires
-wide-requires c κs = search needs
-
 returns-2 : tie.Need-returns-2
 unfolding joinNumber stateOf
 returns-2 c = (passes _ _ _ (fresh-no (c .before .before .before .before .before .before .args .n) (c .before .before .before .if1 .left)) (stops _ _ _ (parent-absent (c .before .before .before .before .before .before .args .n) _ _ (omega (arith, (c .before .before .wide .ensures), (c .if2 .taken))))))
-
-wide-requires-2 : tie.Need-wide-requires-2
-wide-requires-2 c κs = search needs
 
 returns-3 : tie.Need-returns-3
 unfolding joinNumber stateOf
@@ -45,9 +34,6 @@ returns-5 c = (passes _ _ _ (fresh-no (c .before .before .before .before .before
 node-of-requires : tie.Need-node-of-requires
 node-of-requires c κs = ((omega (arith, (c .before .before .before .before .before .before .before .before .wide .ensures), (c .before .before .before .before .before .before .if2 .left))), (c .before .before .before .before .before .before .before .before .before .before .before .before .pre .0))
 
-is-processed-requires : tie.Need-is-processed-requires
-is-processed-requires c κs = search needs
-
 returns-6 : tie.Need-returns-6
 unfolding joinNumber stateOf
 returns-6 c = (passes _ _ _ (fresh-no (c .before .before .before .before .before .before .before .before .before .before .before .before .before .before .before .args .n) (c .before .before .before .before .before .before .before .before .before .before .before .before .if1 .left)) (passes _ _ _ (both-present (c .before .before .before .before .before .before .before .before .before .before .before .before .before .before .before .args .n) _ _ (omega (arith, (c .before .before .before .before .before .before .before .before .before .before .before .wide .ensures), (c .before .before .before .before .before .before .before .before .before .if2 .left))) (omega (arith, (c .before .before .before .before .before .before .before .before .wide2 .ensures), (c .before .before .before .before .before .before .if3 .left)))) (passes _ _ _ (sym (c .before .before .before .before .before .join-wrong .ensures) ∙ (c .before .before .before .before .if4 .left)) (passes _ _ _ (c .before .before .before .if5 .left) (stops _ _ _ (ap (processedBy (c .before .before .before .before .before .before .before .before .before .before .before .before .before .before .before .args .side)) (sym (c .before .before .node-of .ensures)) ∙ sym (c .before .is-processed .ensures) ∙ (c .if6 .taken)))))))
@@ -65,15 +51,15 @@ join-number-spec =
     tie.close
     (tie.spec
     returns
-    wide-requires
+    (λ c κs. search needs)
     returns-2
-    wide-requires-2
+    (λ c κs. search needs)
     returns-3
     join-wrong-requires
     returns-4
     returns-5
     node-of-requires
-    is-processed-requires
+    (λ c κs. search needs)
     returns-6
     returns-7
     returns-8)

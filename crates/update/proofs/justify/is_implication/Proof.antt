@@ -1,33 +1,8 @@
 use mathlib.Core.Path.{sym, ap}
-use Rattle.update.specs.Judged.{isImplication}
+use Rattle.update.specs.laws.Judged.{isImplication}
 use borrow.Author.Needs.{needs}
 use Rattle.update.proofs.justify.is_implication.Statement.{statement}
 use Rattle.update.proofs.justify.is_implication.Tie as tie
-use Rattle.update.proofs.justify.is_implication.Lts as lts
-
-enum-told : tie.Need-enum-told
-enum-told c = search needs
-
-enum-told-2 : tie.Need-enum-told-2
-enum-told-2 c = search needs
-
-enum-known-c : tie.Need-enum-known-c
-enum-known-c c = search needs
-
-enum-known-c-2 : tie.Need-enum-known-c-2
-enum-known-c-2 c = search needs
-
-enum-told-3 : tie.Need-enum-told-3
-enum-told-3 c = search needs
-
-enum-told-4 : tie.Need-enum-told-4
-enum-told-4 c = search needs
-
-returns : tie.Need-returns
-returns c = search needs
-
-returns-2 : tie.Need-returns-2
-returns-2 c = search needs
 
 returns-3 : tie.Need-returns-3
 returns-3 c = ap isImplication (sym (c .before .before .c .given .1))
@@ -35,25 +10,19 @@ returns-3 c = ap isImplication (sym (c .before .before .c .given .1))
 returns-4 : tie.Need-returns-4
 returns-4 c = ap isImplication (sym (c .before .before .c2 .given .1))
 
-returns-5 : tie.Need-returns-5
-returns-5 c = search needs
-
-returns-6 : tie.Need-returns-6
-returns-6 c = search needs
-
 pub is-implication-spec : {M : Type 1} → statement M
 is-implication-spec =
     tie.close
     (tie.spec
-    enum-told
-    enum-told-2
-    enum-known-c
-    enum-known-c-2
-    enum-told-3
-    enum-told-4
-    returns
-    returns-2
+    (λ c. search needs)
+    (λ c. search needs)
+    (λ c. search needs)
+    (λ c. search needs)
+    (λ c. search needs)
+    (λ c. search needs)
+    (λ c. search needs)
+    (λ c. search needs)
     returns-3
     returns-4
-    returns-5
-    returns-6)
+    (λ c. search needs)
+    (λ c. search needs))

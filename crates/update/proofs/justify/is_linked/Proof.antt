@@ -1,38 +1,13 @@
-use Rattle.update.specs.JudgedLaws.{bring-linked, justified-for}
-use Rattle.update.specs.Judged.{isLinking}
-use Rattle.rt0.specs.Lists.{false-true}
+use Rattle.update.specs.laws.JudgedLaws.{bring-linked, justified-for}
+use Rattle.update.specs.laws.Judged.{isLinking}
+use Rattle.word.specs.laws.Bools.{false-true}
 use mathlib.Core.Path.{sym, _∙_, ap}
 use borrow.Author.Needs.{needs}
 use Rattle.update.proofs.justify.is_linked.Statement.{statement}
 use Rattle.update.proofs.justify.is_linked.Tie as tie
-use Rattle.update.proofs.justify.is_linked.Reads as reads
-use Rattle.update.proofs.justify.is_linked.Lts as lts
-use Rattle.update.proofs.justify.is_join_linked.Reads as is-join-linked-reads
-use Rattle.update.proofs.justify.is_linked_for.Reads as is-linked-for-reads
-
-enum-told : tie.Need-enum-told
-enum-told c = search needs
-
-enum-told-2 : tie.Need-enum-told-2
-enum-told-2 c = search needs
-
-enum-known-c : tie.Need-enum-known-c
-enum-known-c c = search needs
-
-is-linked-for-requires : tie.Need-is-linked-for-requires
-is-linked-for-requires c κs = search needs
-
-enum-known-c-2 : tie.Need-enum-known-c-2
-enum-known-c-2 c = search needs
 
 is-join-linked-requires : tie.Need-is-join-linked-requires
 is-join-linked-requires c κs = ((c .before .before .before .pre .0), (c .before .before .before .pre .1), ap isLinking (sym (c .before .c2 .given .1)) ∙ (c .before .before .before .pre .2), (c .before .before .before .pre .3))
-
-enum-told-3 : tie.Need-enum-told-3
-enum-told-3 c = search needs
-
-enum-told-4 : tie.Need-enum-told-4
-enum-told-4 c = search needs
 
 returns : tie.Need-returns
 returns c = absurd (false-true (ap isLinking (sym (c .enum-told .given .1)) ∙ (c .before .before .pre .2)))
@@ -56,14 +31,14 @@ pub is-linked-spec : {M : Type 1} → statement M
 is-linked-spec =
     tie.close
     (tie.spec
-    enum-told
-    enum-told-2
-    enum-known-c
-    is-linked-for-requires
-    enum-known-c-2
+    (λ c. search needs)
+    (λ c. search needs)
+    (λ c. search needs)
+    (λ c κs. search needs)
+    (λ c. search needs)
     is-join-linked-requires
-    enum-told-3
-    enum-told-4
+    (λ c. search needs)
+    (λ c. search needs)
     returns
     returns-2
     returns-3

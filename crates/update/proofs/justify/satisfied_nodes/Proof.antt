@@ -1,14 +1,8 @@
-use Rattle.states.specs.Filled.{needs-beyond}
-use Rattle.update.specs.EdgeLaws.{says-is}
+use Rattle.states.specs.laws.Filled.{needs-beyond}
+use Rattle.update.specs.laws.Edge.{says-is}
 use borrow.Author.Needs.{needs}
 use Rattle.update.proofs.justify.satisfied_nodes.Statement.{statement}
 use Rattle.update.proofs.justify.satisfied_nodes.Tie as tie
-
-needs-requires : tie.Need-needs-requires
-needs-requires c κs = search needs
-
-links-requires : tie.Need-links-requires
-links-requires c κs = search needs
 
 satisfied-requires : tie.Need-satisfied-requires
 satisfied-requires c κs = let s = c .before .before .before .before .before .before .before .before .before .before .before .before .before .before .before .before .before .before .before .before .before .before .before .before .before in (s .pre .0, s .pre .1, c .before .before .before .before .links .ensures (s .args .t1) .slots, needs-beyond (s .args .t1) _ (c .before .before .before .before .before .before .before .before .before .before .before .before .before .before .before .before .before .before .before .before .needs .ensures (s .args .t1)))
@@ -18,4 +12,4 @@ returns c = let s = c .before .before .before .before .before .before .before .b
 
 pub satisfied-nodes-spec : {M : Type 1} → statement M
 satisfied-nodes-spec =
-    tie.close (tie.spec needs-requires links-requires satisfied-requires returns)
+    tie.close (tie.spec (λ c κs. search needs) (λ c κs. search needs) satisfied-requires returns)

@@ -1,23 +1,14 @@
 use native.Mathlib.Omega.{arith}
-use Rattle.update.specs.KeepsStates.{bring-absent, bring-keeps}
+use Rattle.update.specs.laws.KeepsStates.{bring-absent, bring-keeps}
 use borrow.Author.Needs.{needs}
 use Rattle.update.proofs.keeps.bring_keeps.Statement.{statement}
 use Rattle.update.proofs.keeps.bring_keeps.Tie as tie
-use Rattle.update.proofs.keeps.bring_keeps.Lts as lts
-use Rattle.expression.proofs.is_entity.Reads as is-entity-reads
-use Rattle.word.proofs.wide.Reads as wide-reads
-
-wide-requires : tie.Need-wide-requires
-wide-requires c κs = search needs
 
 returns : tie.Need-returns
 returns c = bring-absent _ _ _ (omega (arith, (c .before .before .wide .ensures), (c .if1 .taken)))
-
-is-entity-requires : tie.Need-is-entity-requires
-is-entity-requires c κs = search needs
 
 returns-2 : tie.Need-returns-2
 returns-2 c = bring-keeps _ _ _ (omega (arith, (c .before .before .before .wide .ensures), (c .before .if1 .left))) (c .is-entity .ensures)
 
 pub bring-keeps-spec : {M : Type 1} → statement M
-bring-keeps-spec = tie.close (tie.spec wide-requires returns is-entity-requires returns-2)
+bring-keeps-spec = tie.close (tie.spec (λ c κs. search needs) returns (λ c κs. search needs) returns-2)

@@ -1,12 +1,10 @@
 use borrow.Author.Needs.{needs}
 use native.Mathlib.Omega.{arith}
 use Prim.Native.Nat.{_-_, _≤_}
-use Rattle.rt0.specs.Lists.{false-true}
-use Rattle.update.specs.KeepsStates.{InsideTo, inside-start, inside-add, inside-all}
+use Rattle.word.specs.laws.Bools.{false-true}
+use Rattle.update.specs.laws.KeepsStates.{InsideTo, inside-start, inside-add, inside-all}
 use Rattle.update.proofs.keeps.is_inside.Statement.{statement}
 use Rattle.update.proofs.keeps.is_inside.Tie as tie
-use Rattle.update.proofs.keeps.is_inside.Lts as lts
-use Rattle.word.proofs.wide.Reads as wide-reads
 
 abbrev Inv-loop : tie.InvT-loop
 Inv-loop nodes edges j₀ j = InsideTo (nodes .count) (edges .parent) j × (j ≤ edges .count)
@@ -19,9 +17,6 @@ loop-holds c = (inside-start _ _, omega arith)
 
 element-copy-out-wide : tie.Need-element-copy-out-wide Inv-loop μ-loop
 element-copy-out-wide c = omega (arith, (c .before .before .pre), (c .loop-test .taken))
-
-wide-requires : tie.Need-wide-requires Inv-loop μ-loop
-wide-requires c κs = search needs
 
 returns : tie.Need-returns Inv-loop μ-loop
 returns c = λ h. absurd (false-true h)
@@ -46,7 +41,7 @@ is-inside-spec =
     μ-loop
     loop-holds
     element-copy-out-wide
-    wide-requires
+    (λ c κs. search needs)
     returns
     add-j
     loop-less

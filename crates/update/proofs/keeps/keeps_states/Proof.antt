@@ -1,38 +1,7 @@
-use Rattle.update.specs.KeepsStates.{keeps-for, show-keeps, open-keeps, end-keeps}
+use Rattle.update.specs.laws.KeepsStates.{keeps-for, show-keeps, open-keeps, end-keeps}
 use borrow.Author.Needs.{needs}
 use Rattle.update.proofs.keeps.keeps_states.Statement.{statement}
 use Rattle.update.proofs.keeps.keeps_states.Tie as tie
-use Rattle.update.proofs.keeps.keeps_states.Lts as lts
-use Rattle.update.proofs.keeps.bring_keeps.Reads as bring-keeps-reads
-use Rattle.update.proofs.keeps.join_keeps.Reads as join-keeps-reads
-use Rattle.update.proofs.keeps.mark_keeps.Reads as mark-keeps-reads
-
-enum-told : tie.Need-enum-told
-enum-told c = search needs
-
-enum-told-2 : tie.Need-enum-told-2
-enum-told-2 c = search needs
-
-enum-known-c : tie.Need-enum-known-c
-enum-known-c c = search needs
-
-bring-keeps-requires : tie.Need-bring-keeps-requires
-bring-keeps-requires c κs = search needs
-
-enum-known-c-2 : tie.Need-enum-known-c-2
-enum-known-c-2 c = search needs
-
-join-keeps-requires : tie.Need-join-keeps-requires
-join-keeps-requires c κs = search needs
-
-enum-known-c-3 : tie.Need-enum-known-c-3
-enum-known-c-3 c = search needs
-
-mark-keeps-requires : tie.Need-mark-keeps-requires
-mark-keeps-requires c κs = search needs
-
-enum-told-3 : tie.Need-enum-told-3
-enum-told-3 c = search needs
 
 returns : tie.Need-returns
 returns c = keeps-for _ _ _ _ (c .enum-told .given .1) (show-keeps _ _ _)
@@ -56,15 +25,15 @@ pub keeps-states-spec : {M : Type 1} → statement M
 keeps-states-spec =
     tie.close
     (tie.spec
-    enum-told
-    enum-told-2
-    enum-known-c
-    bring-keeps-requires
-    enum-known-c-2
-    join-keeps-requires
-    enum-known-c-3
-    mark-keeps-requires
-    enum-told-3
+    (λ c. search needs)
+    (λ c. search needs)
+    (λ c. search needs)
+    (λ c κs. search needs)
+    (λ c. search needs)
+    (λ c κs. search needs)
+    (λ c. search needs)
+    (λ c κs. search needs)
+    (λ c. search needs)
     returns
     returns-2
     returns-3

@@ -1,6 +1,6 @@
 use mathlib.Core.Path.{refl}
 use Rattle.update.specs.Legal.{endNumber}
-use Rattle.update.specs.LegalLaws.{stops, passes, fresh-yes, fresh-no}
+use Rattle.update.specs.laws.Legal.{stops, passes, fresh-yes, fresh-no}
 use Rattle.update.proofs.numbers.end_number.Statement.{statement}
 use Rattle.update.proofs.numbers.end_number.Tie as tie
 

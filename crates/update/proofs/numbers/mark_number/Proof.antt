@@ -1,9 +1,9 @@
 use Rattle.update.specs.Step.{processedBy}
-use Rattle.negotiation.specs.State.{stateOf}
+use Rattle.negotiation.specs.laws.State.{stateOf}
 use native.Mathlib.Omega.{arith}
 use mathlib.Core.Path.{refl, sym, _∙_, ap}
 use Rattle.update.specs.Legal.{markNumber}
-use Rattle.update.specs.LegalLaws.{stops, passes, fresh-yes, fresh-no, absent-yes, absent-no}
+use Rattle.update.specs.laws.Legal.{stops, passes, fresh-yes, fresh-no, absent-yes, absent-no}
 use borrow.Author.Needs.{needs}
 use Rattle.update.proofs.numbers.mark_number.Statement.{statement}
 use Rattle.update.proofs.numbers.mark_number.Tie as tie
@@ -12,18 +12,12 @@ returns : tie.Need-returns
 unfolding markNumber stateOf
 returns c = stops _ _ _ (fresh-yes (c .before .before .before .args .n) (c .if1 .taken))
 
-wide-requires : tie.Need-wide-requires
-wide-requires c κs = search needs
-
 returns-2 : tie.Need-returns-2
 unfolding markNumber stateOf
 returns-2 c = passes _ _ _ (fresh-no (c .before .before .before .before .before .before .args .n) (c .before .before .before .if1 .left)) (stops _ _ _ (absent-yes (c .before .before .before .before .before .before .args .n) _ (omega (arith, (c .before .before .wide .ensures), (c .if2 .taken)))))
 
 node-of-requires : tie.Need-node-of-requires
 node-of-requires c κs = (omega (arith, (c .before .before .wide .ensures), (c .if2 .left)), (c .before .before .before .before .before .before .pre))
-
-is-processed-requires : tie.Need-is-processed-requires
-is-processed-requires c κs = search needs
 
 returns-3 : tie.Need-returns-3
 unfolding markNumber stateOf
@@ -38,9 +32,9 @@ mark-number-spec =
     tie.close
     (tie.spec
     returns
-    wide-requires
+    (λ c κs. search needs)
     returns-2
     node-of-requires
-    is-processed-requires
+    (λ c κs. search needs)
     returns-3
     returns-4)

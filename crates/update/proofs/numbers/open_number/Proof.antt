@@ -2,14 +2,10 @@ use borrow.Author.Tests.{eq-eqb, ne-eqb}
 use mathlib.Core.Bool.{not}
 use mathlib.Core.Path.{refl, sym, _∙_, ap}
 use Rattle.update.specs.Legal.{openNumber}
-use Rattle.update.specs.LegalLaws.{stops, passes, fresh-yes, fresh-no}
+use Rattle.update.specs.laws.Legal.{stops, passes, fresh-yes, fresh-no}
 use borrow.Author.Needs.{needs}
 use Rattle.update.proofs.numbers.open_number.Statement.{statement}
 use Rattle.update.proofs.numbers.open_number.Tie as tie
-use Rattle.update.proofs.numbers.open_number.Reads as reads
-
-class-of-requires : tie.Need-class-of-requires
-class-of-requires c κs = search needs
 
 returns : tie.Need-returns
 unfolding openNumber
@@ -24,4 +20,4 @@ unfolding openNumber
 returns-3 c = passes _ _ _ (ne-eqb _ 0 (λ e. (c .before .before .before .if1 .left) ((c .before .before .before .before .class-of .ensures) ∙ e))) (passes _ _ _ (ap not (fresh-yes (c .before .before .before .before .before .before .before .before .before .args .n) (c .if2 .left))) refl)
 
 pub open-number-spec : {M : Type 1} → statement M
-open-number-spec = tie.close (tie.spec class-of-requires returns returns-2 returns-3)
+open-number-spec = tie.close (tie.spec (λ c κs. search needs) returns returns-2 returns-3)

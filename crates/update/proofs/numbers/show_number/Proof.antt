@@ -1,14 +1,10 @@
 use mathlib.Core.Path.{refl, sym, _∙_}
 use Rattle.update.specs.Legal.{showNumber}
-use Rattle.negotiation.specs.State.{stateOf}
-use Rattle.update.specs.LegalLaws.{first-stops, first-passes, stops, passes, fresh-yes, fresh-no, shown-full, shown-room}
+use Rattle.negotiation.specs.laws.State.{stateOf}
+use Rattle.update.specs.laws.Legal.{first-stops, first-passes, stops, passes, fresh-yes, fresh-no, shown-full, shown-room}
 use borrow.Author.Needs.{needs}
 use Rattle.update.proofs.numbers.show_number.Statement.{statement}
 use Rattle.update.proofs.numbers.show_number.Tie as tie
-use Rattle.update.proofs.numbers.show_number.Reads as reads
-
-credential-number-requires : tie.Need-credential-number-requires
-credential-number-requires c κs = search needs
 
 returns : tie.Need-returns
 unfolding showNumber stateOf
@@ -17,9 +13,6 @@ returns c = first-stops _ _ _ (c .before .credential-number .ensures) (c .if1 .t
 returns-2 : tie.Need-returns-2
 unfolding showNumber stateOf
 returns-2 c = first-passes _ _ _ (c .before .before .before .before .credential-number .ensures) (c .before .before .before .if1 .left) (stops _ _ _ (fresh-yes (c .before .before .before .before .before .before .before .before .args .n) (c .if2 .taken)))
-
-is-shown-requires : tie.Need-is-shown-requires
-is-shown-requires c κs = search needs
 
 returns-3 : tie.Need-returns-3
 unfolding showNumber stateOf
@@ -37,10 +30,10 @@ pub show-number-spec : {M : Type 1} → statement M
 show-number-spec =
     tie.close
     (tie.spec
-    credential-number-requires
+    (λ c κs. search needs)
     returns
     returns-2
-    is-shown-requires
+    (λ c κs. search needs)
     returns-3
     returns-4
     returns-5)

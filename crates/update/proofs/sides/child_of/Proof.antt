@@ -1,14 +1,10 @@
-use Rattle.update.specs.StepLaws.{child-is}
+use Rattle.update.specs.laws.Step.{child-is}
 use borrow.Author.Needs.{needs}
 use Rattle.update.proofs.sides.child_of.Statement.{statement}
 use Rattle.update.proofs.sides.child_of.Tie as tie
-use Rattle.update.proofs.sides.child_of.Reads as reads
-
-verifier-of-requires : tie.Need-verifier-of-requires
-verifier-of-requires c κs = search needs
 
 returns : tie.Need-returns
 returns c = child-is _ _ (c .verifier-of .ensures)
 
 pub child-of-spec : {M : Type 1} → statement M
-child-of-spec = tie.close (tie.spec verifier-of-requires returns)
+child-of-spec = tie.close (tie.spec (λ c κs. search needs) returns)

@@ -1,4 +1,4 @@
-use Rattle.update.specs.StepLaws.{processed-own, processed-other}
+use Rattle.update.specs.laws.Step.{processed-own, processed-other}
 use Rattle.update.proofs.sides.is_processed.Statement.{statement}
 use Rattle.update.proofs.sides.is_processed.Tie as tie
 

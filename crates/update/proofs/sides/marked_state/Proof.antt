@@ -1,4 +1,4 @@
-use Rattle.update.specs.StepLaws.{marked-own, marked-other}
+use Rattle.update.specs.laws.Step.{marked-own, marked-other}
 use Rattle.update.proofs.sides.marked_state.Statement.{statement}
 use Rattle.update.proofs.sides.marked_state.Tie as tie
 

@@ -1,4 +1,4 @@
-use Rattle.update.specs.StepLaws.{verifier-same, verifier-requester, verifier-mediator}
+use Rattle.update.specs.laws.Step.{verifier-same, verifier-requester, verifier-mediator}
 use Rattle.update.proofs.sides.verifier_of.Statement.{statement}
 use Rattle.update.proofs.sides.verifier_of.Tie as tie
 

@@ -1,19 +1,13 @@
 use Prim.Native.Nat.{ℕ}
-use Rattle.graph.specs.Graph.{nodesOf, nodeIn}
+use Rattle.graph.specs.laws.Graph.{nodesOf}
+use Rattle.graph.specs.Graph.{nodeIn}
 use mathlib.Core.Path.{_∙_, ap}
 use borrow.Author.Needs.{needs}
 use Rattle.update.proofs.steps.node_of.Statement.{statement}
 use Rattle.update.proofs.steps.node_of.Tie as tie
-use Rattle.update.proofs.steps.node_of.Reads as reads
-
-wide-requires : tie.Need-wide-requires
-wide-requires c κs = search needs
-
-node-at-requires : tie.Need-node-at-requires
-node-at-requires c κs = search needs
 
 returns : tie.Need-returns
 returns c = (c .node-at .ensures) ∙ ap (λ (i : ℕ). nodeIn (nodesOf (c .before .before .before .before .before .before .before .before .before .before .before .before .before .before .before .before .args .t1)) i) (c .before .wide .ensures)
 
 pub node-of-spec : {M : Type 1} → statement M
-node-of-spec = tie.close (tie.spec wide-requires node-at-requires returns)
+node-of-spec = tie.close (tie.spec (λ c κs. search needs) (λ c κs. search needs) returns)

@@ -1,41 +1,22 @@
-use Rattle.update.specs.StepLaws.{room-for, room-show, room-open, room-bring, room-join, room-mark, nodes-few, step-for, step-show, step-join, step-end}
+use Rattle.update.specs.laws.Step.{room-for, room-show, room-open, room-bring, room-join, room-mark, nodes-few, step-for, step-show, step-join, step-end}
 use borrow.Author.Needs.{needs}
 use Rattle.update.proofs.steps.step.Statement.{statement}
 use Rattle.update.proofs.steps.step.Tie as tie
-use Rattle.update.proofs.steps.step.Reads as reads
-
-enum-known-c : tie.Need-enum-known-c
-enum-known-c c = search needs
 
 show-requires : tie.Need-show-requires
 show-requires c κs = room-show _ _ (room-for _ _ _ (c .before .c .given .1) (c .before .before .before .pre .1))
 
-enum-known-c-2 : tie.Need-enum-known-c-2
-enum-known-c-2 c = search needs
-
 opened-requires : tie.Need-opened-requires
 opened-requires c κs = room-open _ _ (room-for _ _ _ (c .before .c2 .given .1) (c .before .before .before .pre .1))
-
-enum-known-c-3 : tie.Need-enum-known-c-3
-enum-known-c-3 c = search needs
 
 brought-requires : tie.Need-brought-requires
 brought-requires c κs = room-bring _ _ (room-for _ _ _ (c .before .c3 .given .1) (c .before .before .before .pre .1))
 
-enum-known-c-4 : tie.Need-enum-known-c-4
-enum-known-c-4 c = search needs
-
 add-edge-requires : tie.Need-add-edge-requires
 add-edge-requires c κs = room-join _ _ (room-for _ _ _ (c .before .c4 .given .1) (c .before .before .before .pre .1))
 
-enum-known-c-5 : tie.Need-enum-known-c-5
-enum-known-c-5 c = search needs
-
 marked-requires : tie.Need-marked-requires
 marked-requires c κs = (room-mark _ _ (room-for _ _ _ (c .before .c5 .given .1) (c .before .before .before .pre .1)), nodes-few _ (c .before .before .before .pre .0))
-
-enum-told : tie.Need-enum-told
-enum-told c = search needs
 
 returns : tie.Need-returns
 returns c = step-for _ _ _ _ (c .before .before .c .given .1) (step-show _ _ _ (c .show .ensures))
@@ -59,17 +40,17 @@ pub step-spec : {M : Type 1} → statement M
 step-spec =
     tie.close
     (tie.spec
-    enum-known-c
+    (λ c. search needs)
     show-requires
-    enum-known-c-2
+    (λ c. search needs)
     opened-requires
-    enum-known-c-3
+    (λ c. search needs)
     brought-requires
-    enum-known-c-4
+    (λ c. search needs)
     add-edge-requires
-    enum-known-c-5
+    (λ c. search needs)
     marked-requires
-    enum-told
+    (λ c. search needs)
     returns
     returns-2
     returns-3

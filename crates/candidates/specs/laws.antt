@@ -1,0 +1,13 @@
+pub mod Least
+pub mod Offers
+pub mod Skipped
+pub mod Done
+pub mod Members
+pub mod MembersLaws
+pub mod Subject
+pub mod Parts
+pub mod Goals
+pub mod Links
+pub mod Collected
+pub mod Frontiers
+pub mod All

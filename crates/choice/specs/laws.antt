@@ -1,0 +1,10 @@
+pub mod Known
+pub mod Sensitive
+pub mod Ready
+pub mod OwnRules
+pub mod RuleChoice
+pub mod Next
+pub mod Asked
+pub mod Later
+pub mod Exhausted
+pub mod Waits

@@ -1,0 +1,3 @@
+pub mod Rules
+pub mod Words
+pub mod Laws

@@ -1,0 +1,8 @@
+pub mod Header
+pub mod Records
+pub mod Edges
+pub mod Turns
+pub mod Damage
+pub mod Restored
+pub mod Proved
+pub mod RestoredPublic

@@ -1,0 +1,75 @@
+-- The header, by its tests. Assumes nothing.
+use Prim.Native.Nat.{ℕ}
+use mathlib.Core.Path.{_≡_, refl, sym, _∙_, ap}
+use mathlib.Core.Bool.{Bool, true, false, not, cond, _&&_, _||_}
+use mathlib.Core.List.{List}
+use borrow.Author.Tests.{eq-eqb, ne-eqb}
+use lib.Dec.{eqb, ltb, leb}
+use Rattle.expression.specs.declared.Role.{Role}
+use Rattle.expression.specs.Form.{isRole, isEmpty}
+use Rattle.class.specs.declared.Name.{Name}
+use Rattle.class.specs.Names.{classOf}
+use Rattle.negotiation.specs.declared.Header.{Header}
+use Rattle.damage.specs.Header.{wantedSound, otherSound, headerSound, requester, entityOf, emptySound, countSound, endSound}
+
+module _ (ns : List Name) (side : ℕ) (r : Role) where
+  by-side : (a : Bool) → a ≡ eqb side 0 → cond a (isRole r && not (eqb (classOf ns (r .name)) 0)) (isEmpty r) ≡ wantedSound ns side r
+  unfolding wantedSound
+  by-side a e = λ i. cond (e i) (isRole r && not (eqb (classOf ns (r .name)) 0)) (isEmpty r)
+
+  -- the requester wants none
+  pub wanted-none : {b : Bool} → (side ≡ 0 → ⊥) → b ≡ isEmpty r → b ≡ wantedSound ns side r
+  wanted-none h e = e ∙ by-side false (sym (ne-eqb side 0 h))
+
+  -- the mediator's role
+  pub wanted-role : {b : Bool} {k : ℕ} → side ≡ 0 → b ≡ isRole r → k ≡ classOf ns (r .name) → (b && not (eqb k 0)) ≡ wantedSound ns side r
+  wanted-role h e f = (λ i. e i && not (eqb (f i) 0)) ∙ by-side true (sym (eq-eqb side 0 h))
+
+pub header-is : (own : ℕ) (ns : List Name) (h : Header) {w : Bool} → w ≡ wantedSound ns (h .side) (h .wanted)
+    → (ltb (h .side) 2 && eqb (h .own) own && (not (eqb (h .other) 0) && not (eqb (h .other) (h .own))) && w) ≡ headerSound own ns h
+unfolding headerSound
+header-is own ns h e = λ i. ltb (h .side) 2 && eqb (h .own) own && otherSound (h .own) (h .other) && e i
+
+module _ (h : Header) where
+  pub requester-mediator : h .side ≡ 0 → h .other ≡ requester h
+  unfolding requester
+  requester-mediator e = ap (λ (b : Bool). cond b (h .other) (h .own)) (sym (eq-eqb (h .side) 0 e))
+
+  pub requester-self : (h .side ≡ 0 → ⊥) → h .own ≡ requester h
+  unfolding requester
+  requester-self e = ap (λ (b : Bool). cond b (h .other) (h .own)) (sym (ne-eqb (h .side) 0 e))
+
+  pub entity-own : (v : ℕ) → v ≡ h .side → h .own ≡ entityOf h v
+  unfolding entityOf
+  entity-own v e = ap (λ (b : Bool). cond b (h .own) (h .other)) (sym (eq-eqb v (h .side) e))
+
+  pub entity-other : (v : ℕ) → (v ≡ h .side → ⊥) → h .other ≡ entityOf h v
+  unfolding entityOf
+  entity-other v e = ap (λ (b : Bool). cond b (h .own) (h .other)) (sym (ne-eqb v (h .side) e))
+
+  pub empty-is : (edges shown : ℕ) → (eqb (h .messages) 0 && eqb (h .end) 0 && eqb (h .idle) 0 && eqb edges 0 && eqb shown 0) ≡ emptySound h edges shown
+  unfolding emptySound
+  empty-is edges shown = refl
+
+pub count-is : (n : ℕ) → (ltb 0 n && leb n 1027) ≡ countSound n
+unfolding countSound
+count-is n = refl
+
+module _ (primary end idle : ℕ) where
+  -- neither satisfied nor failed
+  unfoldable unknown : Bool
+  unknown = ((eqb end 0 || eqb end 4) && ltb idle 2) || (eqb end 3 && eqb idle 1)
+
+  by-primary : (a b : Bool) → a ≡ eqb primary 1 → b ≡ eqb primary 2 → cond a (eqb end 1 && eqb idle 0) (cond b (eqb end 2 && eqb idle 0) unknown) ≡ endSound primary end idle
+  unfolding endSound unknown
+  by-primary a b e f = λ i. cond (e i) (eqb end 1 && eqb idle 0) (cond (f i) (eqb end 2 && eqb idle 0) unknown)
+
+  pub end-success : primary ≡ 1 → (eqb end 1 && eqb idle 0) ≡ endSound primary end idle
+  end-success e = by-primary true (eqb primary 2) (sym (eq-eqb primary 1 e)) refl
+
+  pub end-failed : (primary ≡ 1 → ⊥) → primary ≡ 2 → (eqb end 2 && eqb idle 0) ≡ endSound primary end idle
+  end-failed h e = by-primary false true (sym (ne-eqb primary 1 h)) (sym (eq-eqb primary 2 e))
+
+  pub end-open : (primary ≡ 1 → ⊥) → (primary ≡ 2 → ⊥) → (((eqb end 0 || eqb end 4) && ltb idle 2) || (eqb end 3 && eqb idle 1)) ≡ endSound primary end idle
+  unfolding unknown
+  end-open h k = by-primary false false (sym (ne-eqb primary 1 h)) (sym (ne-eqb primary 2 k))

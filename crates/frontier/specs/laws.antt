@@ -1,0 +1,3 @@
+pub mod Frontier
+pub mod Queue
+pub mod QueueLaws

@@ -1,0 +1,9 @@
+pub mod Graph
+pub mod Form
+pub mod States
+pub mod Steps
+pub mod Propagated
+pub mod Cases
+pub mod Columns
+pub mod Find
+pub mod FindExact

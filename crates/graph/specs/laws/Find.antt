@@ -1,0 +1,72 @@
+-- What a search through the columns finds. Assumes nothing.
+use Prim.Native.Nat.{ℕ, _≤_, _<_}
+use native.Mathlib.Omega.{arith}
+use mathlib.Core.Path.{_≡_, refl, sym, _∙_, ap}
+use mathlib.Core.Bool.{Bool, true, false, not, _&&_, _||_}
+use lib.Dec.{eqb}
+use Rattle.expression.specs.declared.Expression.{Expression}
+use Rattle.expression.specs.Same.{same}
+use Rattle.word.specs.laws.Bools.{false-true}
+use Rattle.rt0.specs.Pool.{upTo}
+use Rattle.class.specs.Names.{firstOr}
+use Rattle.class.specs.laws.Find.{Missed, missed-fewer, first-at, first-none, any-at, any-none}
+use Rattle.graph.specs.declared.Node.{Node}
+use Rattle.graph.specs.declared.Edge.{Edge}
+use Rattle.graph.specs.declared.Nodes.{Nodes}
+use Rattle.graph.specs.declared.Edges.{Edges}
+use Rattle.graph.specs.Graph.{nodeIn}
+use Rattle.graph.specs.laws.Graph.{nodeAt, edgeAt, nodesOf, edgesOf}
+use Rattle.graph.specs.Find.{isNode, findNode, sameEdge, hasEdge}
+use Rattle.graph.specs.laws.Columns.{nodes-length, node-in}
+
+-- Nodes
+
+module _ (x : Expression) (v s : ℕ) (n : Node) where
+  -- its verifier or its subject is another one
+  pub other-ends : (not (eqb (n .verifier) v) || not (eqb (n .subject) s)) ≡ true → false ≡ isNode x v s n
+  other-ends h = go (eqb (n .verifier) v) (eqb (n .subject) s) h
+    where
+      go : (a b : Bool) → (not a || not b) ≡ true → false ≡ (a && b && same (n .expression) x)
+      go true true h = absurd (false-true h)
+      go true false h = refl
+      go false b h = refl
+
+  -- else its expression decides
+  pub same-ends : {b : Bool} → (not (eqb (n .verifier) v) || not (eqb (n .subject) s)) ≡ false → b ≡ same (n .expression) x → b ≡ isNode x v s n
+  same-ends {b} h e = go (eqb (n .verifier) v) (eqb (n .subject) s) h
+    where
+      go : (p q : Bool) → (not p || not q) ≡ false → b ≡ (p && q && same (n .expression) x)
+      go true true h = e
+      go true false h = absurd (false-true (sym h))
+      go false q h = absurd (false-true (sym h))
+
+module _ (N : Nodes) (x : Expression) (v s : ℕ) {j : ℕ} (h : Missed (isNode x v s) (nodeAt N) j) where
+  -- node i passes, by its number
+  abbrev passes : ℕ → Bool
+  passes i = isNode x v s (nodeIn (nodesOf N) i)
+
+  missed : j ≤ N .count → Missed passes (λ i. i) j
+  missed l = record { none = λ i k. ap (isNode x v s) (node-in N i (omega arith)) ∙ h .none i k }
+
+  count-first : findNode (nodesOf N) x v s ≡ firstOr passes (λ i. i) 128 (upTo (N .count) (λ i. i))
+  unfolding findNode
+  count-first = ap (λ (n : ℕ). firstOr passes (λ i. i) 128 (upTo n (λ i. i))) (nodes-length N)
+
+  -- the search has come to a node that passes
+  pub node-at : {b : Bool} → j < N .count → b ≡ isNode x v s (nodeAt N j) → b ≡ true → j ≡ findNode (nodesOf N) x v s
+  node-at l e t = sym (count-first ∙ first-at (λ i. i) 128 (N .count) (missed (omega arith)) l (ap (isNode x v s) (node-in N j l) ∙ (sym e ∙ t)))
+
+  -- the search has come to the end
+  pub node-none : j ≤ N .count → N .count ≤ j → _≡_ {A = ℕ} 128 (findNode (nodesOf N) x v s)
+  node-none k l = sym (count-first ∙ first-none (λ i. i) 128 (N .count) (missed-fewer (missed k) l))
+
+-- Edges
+
+module _ (E : Edges) (d : Edge) {j : ℕ} (h : Missed (λ e. sameEdge e d) (edgeAt E) j) where
+  pub edge-at : {b : Bool} → j < E .count → b ≡ sameEdge (edgeAt E j) d → b ≡ true → true ≡ hasEdge (edgesOf E) d
+  unfolding hasEdge edgesOf
+  edge-at l e t = any-at (E .count) h l e t
+
+  pub edge-none : E .count ≤ j → false ≡ hasEdge (edgesOf E) d
+  unfolding hasEdge edgesOf
+  edge-none l = any-none (E .count) h l

@@ -1,0 +1,8 @@
+pub mod Known
+pub mod KnownStays
+pub mod Initial
+pub mod FrontiersExact
+pub mod Wanted
+pub mod Alike
+pub mod Stops
+pub mod Own

@@ -1,0 +1,244 @@
+-- Own credentials switched on from the last backwards, and those kept: each step of the loops. Assumes nothing.
+use Prim.Native.Nat.{ℕ, _+_, _-_, _≤_, _<_}
+use native.Mathlib.Omega.{arith}
+use mathlib.Core.Path.{_≡_, refl, sym, _∙_, ap, subst}
+use mathlib.Core.Logic.{_⊎_, inl, inr, ⊎-elim}
+use mathlib.Core.Bool.{Bool, true, false, cond}
+use mathlib.Core.List.{List, [], _∷_, _++_, append-nil, List·Memᴰ, List·Memᴰ·append-cases, Memᴰ·append-left, Memᴰ·append-right}
+use borrow.Author.Tests.{ltb-true, ltb-false, lt-ltb, le-ltb}
+use lib.Dec.{ltb}
+use lib.ListN.{length, length-set, length-replicate, set, replicate}
+use lib.Seq.{getD-set-other}
+use Rattle.expression.specs.declared.Credential.{Credential}
+use Rattle.expression.specs.declared.Expression.{Expression}
+use Rattle.rt0.specs.declared.Pool.{Pool}
+use Rattle.rt0.specs.Decide.{from?}
+use Rattle.rt0.specs.laws.Laws.{same-set}
+use Rattle.rt0.specs.Pool.{upTo}
+use Rattle.rt0.specs.laws.Pool.{credentialAt, credentials}
+use Rattle.closure.specs.laws.Rules.{el}
+use Rattle.rules.specs.laws.Table.{chosen}
+use Rattle.rules.specs.laws.Exact.{chosen-mem, chosen-find}
+use Rattle.relation.specs.laws.Relation.{Relation}
+use Rattle.needed.specs.Needed.{kept, enough, needed}
+use Rattle.needed.specs.laws.Needed.{firstOf, restOf, enough-gains, kept-nil, kept-done, kept-jump, kept-all, needed-same}
+use Rattle.needed.specs.laws.Columns.{FirstOn, withOne, Grown, LastNeeded, WithRest, Keeping, Needed}
+use Rattle.needed.specs.laws.Column.{upTo-mem, upTo-find, rest-split, rest-next, rest-none, rest-mem, rest-find, first-rest, lt-or, none-on, rest-chosen, one-chosen, zeros-at, set-at, stays, came}
+
+-- One switched on
+
+-- it is below n
+pub one-on : (n i : ℕ) (was now on : List ℕ) → i < n → now ≡ set was i 1 → on ≡ now → on ≡ withOne n i was
+unfolding withOne
+one-on n i was now on l q h = rw (lt-ltb i n l) (h ∙ q)
+
+-- it is not
+pub none-new : (n i : ℕ) (was on : List ℕ) → n ≤ i → on ≡ was → on ≡ withOne n i was
+unfolding withOne
+none-new n i was on l h = rw (le-ltb i n l) h
+
+-- equal columns have the same relation
+pub same-relation : (P : Pool) (was on K L : List ℕ) → on ≡ was → L ≡ K → Relation P was K → Relation P on L
+same-relation P was on K L q h r = subst (λ (M : List ℕ). Relation P on M) (sym h) (subst (λ (x : List ℕ). Relation P x K) (sym q) r)
+
+-- Switched on from the last backwards
+
+module _ (P : Pool) (was : List ℕ) (f e : Expression) where
+  -- those on are those that were and the credentials from k on
+  pub grown-enough : (k : ℕ) (on : List ℕ) → Grown (P .count) k was on → from? (chosen P on) f e ≡ from? (chosen P was ++ restOf P k) f e
+  unfolding chosen
+  grown-enough k on g = same-set (chosen P on) (chosen P was ++ restOf P k) to fro f e
+    where
+      to : (c : Credential) → List·Memᴰ c (chosen P on) → List·Memᴰ c (chosen P was ++ restOf P k)
+      to c m =
+          let r = chosen-find P on (P .count) c m in
+          subst (λ (d : Credential). List·Memᴰ d (chosen P was ++ restOf P k)) (sym (r .3))
+          (⊎-elim (λ h. Memᴰ·append-left (restOf P k) (chosen-mem P was (P .count) (r .0) (r .1) h)) (λ h. Memᴰ·append-right (chosen P was) (rest-mem P k (r .0) h (r .1))) (g .says (r .0) (r .1) (r .2)))
+
+      fro : (c : Credential) → List·Memᴰ c (chosen P was ++ restOf P k) → List·Memᴰ c (chosen P on)
+      fro c m =
+          ⊎-elim (λ h. let r = chosen-find P was (P .count) c h in subst (λ (d : Credential). List·Memᴰ d (chosen P on)) (sym (r .3)) (chosen-mem P on (P .count) (r .0) (r .1) (g .old (r .0) (r .2))))
+          (λ h. let r = rest-find P k c h in subst (λ (d : Credential). List·Memᴰ d (chosen P on)) (sym (r .3)) (chosen-mem P on (P .count) (r .0) (r .2) (g .new (r .0) (r .1) (r .2))))
+          (List·Memᴰ·append-cases (chosen P was) m)
+
+  pub grown-start : length was ≡ 128 → Grown (P .count) (P .count + 1) was was
+  grown-start sized = record { sized = sized; says = λ i l h. inl h; old = λ i h. h; new = λ i l m. absurd (omega arith) }
+
+  grown-one : (k i : ℕ) (on : List ℕ) → i < P .count → P .count ≤ 128 → k ≡ i + 1 → Grown (P .count) k was on → Grown (P .count) i was (set on i 1)
+  grown-one k i on l small q g =
+      record {
+        sized = length-set on i 1 ∙ g .sized;
+        says = λ j m h. ⊎-elim (λ o. ⊎-elim (λ y. inl y) (λ y. inr (omega arith)) (g .says j m o)) (λ y. inr (omega arith)) (came on i j h);
+        old = λ j h. stays on i j (g .sized) (omega arith) (g .old j h);
+        new = λ j m o. ⊎-elim (λ y. getD-set-other on i j 1 0 y ∙ g .new j (above j m y) o) (λ y. y) (set-at on i j (g .sized) (omega arith));
+      }
+    where
+      above : (j : ℕ) → i ≤ j → (j ≡ i → ⊥) → k ≤ j
+      above j m y = omega (arith, y)
+
+  pub grown-add : (k i : ℕ) (on now : List ℕ) → i ≤ P .count → P .count ≤ 128 → k ≡ i + 1 → now ≡ withOne (P .count) i on → Grown (P .count) k was on → Grown (P .count) i was now
+  unfolding withOne
+  grown-add k i on now l small q z g = subst (λ (x : List ℕ). Grown (P .count) i was x) (sym z) (go (ltb i (P .count)) refl)
+    where
+      go : (b : Bool) → ltb i (P .count) ≡ b → Grown (P .count) i was (cond b (set on i 1) on)
+      go true y = grown-one k i on (ltb-true i (P .count) y) small q g
+      go false y =
+          let m : P .count ≤ i = ltb-false i (P .count) y in
+          record { sized = g .sized; says = λ j o h. ⊎-elim (λ x. inl x) (λ x. inr (omega arith)) (g .says j o h); old = g .old; new = λ j o x. absurd (omega arith) }
+
+  -- the edge does not hold yet
+  pub last-again : (i : ℕ) (on : List ℕ) {b : Bool} → Grown (P .count) i was on → b ≡ from? (chosen P on) f e → b ≡ false → from? (chosen P was ++ restOf P i) f e ≡ false
+  last-again i on g h k = sym (grown-enough i on g) ∙ (sym h ∙ k)
+
+  -- the edge holds
+  pub last-found : (a k i : ℕ) (on : List ℕ) {b : Bool} → a ≤ i → i ≤ P .count → k ≡ i + 1 → Grown (P .count) i was on → b ≡ from? (chosen P on) f e → b ≡ true → (k ≤ P .count → from? (chosen P was ++ restOf P k) f e ≡ false) → LastNeeded P was f e a i
+  last-found a k i on l m q g h y before =
+      record {
+        found = λ _. (l, sym (grown-enough i on g) ∙ (sym h ∙ y));
+        last = λ o. subst (λ (j : ℕ). from? (chosen P was ++ restOf P j) f e ≡ false) q (before (omega arith));
+        none = λ o. absurd (omega arith);
+      }
+
+  -- it never did
+  pub last-none : (a i : ℕ) → a ≤ i → i ≤ a → a ≤ P .count → P .count ≤ 128 → (i ≤ P .count → from? (chosen P was ++ restOf P i) f e ≡ false) → LastNeeded P was f e a 129
+  last-none a i l m o small before =
+      let q : i ≡ a = omega arith in
+      record {
+        found = λ x. absurd (omega arith);
+        last = λ x. absurd (omega arith);
+        none = λ _. subst (λ (j : ℕ). from? (chosen P was ++ restOf P j) f e ≡ false) q (before (omega arith));
+      }
+
+-- Those kept
+
+module _ (P : Pool) (small : P .count ≤ 128) (s : ℕ) (f e : Expression) where
+  pub keep-start : (on : List ℕ) → s ≤ P .count → FirstOn s on → Keeping P s f e (replicate 128 0) on s
+  unfolding needed
+  keep-start on l h =
+      record {
+        from = omega arith;
+        within = l;
+        sized = length-replicate {A = ℕ} 128 0;
+        on-sized = h .sized;
+        own = λ i o. absurd (let z : el (replicate 128 0) i ≡ 0 = zeros-at 128 i in omega arith);
+        says = λ i o. ⊎-elim (λ m. inl m) (λ m. absurd (let z : el on i ≡ 0 = h .others i m in omega arith)) (lt-or i s);
+        shown = h .shown;
+        kept-on = λ i o. absurd (let z : el (replicate 128 0) i ≡ 0 = zeros-at 128 i in omega arith);
+        so-far = ap (λ (ks : List Credential). kept (enough (firstOf P s) f e) ks (restOf P s)) (sym (none-on P 128));
+      }
+
+  module _ (r on : List ℕ) (a : ℕ) (k : Keeping P s f e r on a) where
+    -- those on are those shown and those kept
+    beside : (X : List Credential) → from? (chosen P on ++ X) f e ≡ enough (firstOf P s) f e (chosen P r ++ X)
+    unfolding chosen firstOf
+    beside X = same-set (chosen P on ++ X) (firstOf P s ++ (chosen P r ++ X)) to fro f e
+      where
+        one : (i : ℕ) → i < P .count → (i < s) ⊎ (el r i ≡ 1) → List·Memᴰ (credentialAt P i) (firstOf P s ++ (chosen P r ++ X))
+        one i l h =
+            ⊎-elim (λ m. Memᴰ·append-left (chosen P r ++ X) (upTo-mem s (credentialAt P) i m))
+            (λ m. Memᴰ·append-right (firstOf P s) (Memᴰ·append-left X (chosen-mem P r (P .count) i l m))) h
+
+        to : (c : Credential) → List·Memᴰ c (chosen P on ++ X) → List·Memᴰ c (firstOf P s ++ (chosen P r ++ X))
+        to c m =
+            ⊎-elim (λ h. let x = chosen-find P on (P .count) c h in subst (λ (d : Credential). List·Memᴰ d (firstOf P s ++ (chosen P r ++ X))) (sym (x .3)) (one (x .0) (x .1) (k .says (x .0) (x .2))))
+            (λ h. Memᴰ·append-right (firstOf P s) (Memᴰ·append-right (chosen P r) h)) (List·Memᴰ·append-cases (chosen P on) m)
+
+        there : (i : ℕ) (c : Credential) → i < P .count → el on i ≡ 1 → c ≡ credentialAt P i → List·Memᴰ c (chosen P on ++ X)
+        there i c l o q = subst (λ (d : Credential). List·Memᴰ d (chosen P on ++ X)) (sym q) (Memᴰ·append-left X (chosen-mem P on (P .count) i l o))
+
+        fro : (c : Credential) → List·Memᴰ c (firstOf P s ++ (chosen P r ++ X)) → List·Memᴰ c (chosen P on ++ X)
+        fro c m =
+            ⊎-elim (λ h. let x = upTo-find s (credentialAt P) c h in let l : x .0 < s = x .1 in there (x .0) c (omega (arith, k .from, k .within)) (k .shown (x .0) l) (x .2))
+            (λ h. ⊎-elim (λ y. let x = chosen-find P r (P .count) c y in there (x .0) c (x .1) (k .kept-on (x .0) (x .2)) (x .3)) (λ y. Memᴰ·append-right (chosen P on) y) (List·Memᴰ·append-cases (chosen P r) h))
+            (List·Memᴰ·append-cases (firstOf P s) m)
+
+    in-pool : (i : ℕ) → el r i ≡ 1 → (s ≤ i) × (i < P .count)
+    in-pool i o = let h = k .own i o in let l : i < a = h .1 in (h .0, omega (arith, k .within))
+
+    -- the edge holds over the pool where the needed ones are enough
+    over-pool : (q : List ℕ) {b : Bool} → chosen P q ≡ needed (firstOf P s) f e (restOf P s) → enough (firstOf P s) f e (chosen P q) ≡ b → b ≡ from? (credentials P) f e
+    over-pool q h w =
+        sym w
+        ∙ (ap (enough (firstOf P s) f e) h
+        ∙ (sym (needed-same (firstOf P s) f e (restOf P s)) ∙ ap (λ (l : List Credential). from? l f e) (sym (first-rest P s (omega (arith, k .from, k .within))))))
+
+    -- those kept are enough
+    pub keep-done : (z : ℕ) → LastNeeded P on f e a z → z ≡ P .count → Needed P s f e true r
+    keep-done z last q = record { holds = over-pool r all alone; own = in-pool; all = all }
+      where
+        alone : enough (firstOf P s) f e (chosen P r) ≡ true
+        alone =
+            ap (enough (firstOf P s) f e) (sym (append-nil (chosen P r)))
+            ∙ (sym (beside [])
+            ∙ (ap (λ (l : List Credential). from? (chosen P on ++ l) f e) (sym (rest-none P z (omega arith))) ∙ last .found (omega arith) .1))
+
+        all : chosen P r ≡ needed (firstOf P s) f e (restOf P s)
+        all = sym (k .so-far ∙ kept-done (enough (firstOf P s) f e) (enough-gains (firstOf P s) f e) (chosen P r) (restOf P a) alone)
+
+    -- none is left to be tried, and those kept are enough
+    keep-end : P .count ≤ a → enough (firstOf P s) f e (chosen P r) ≡ true → Needed P s f e true r
+    keep-end l alone = record { holds = over-pool r all alone; own = in-pool; all = all }
+      where
+        all : chosen P r ≡ needed (firstOf P s) f e (restOf P s)
+        all = sym (k .so-far ∙ (ap (kept (enough (firstOf P s) f e) (chosen P r)) (rest-none P a l) ∙ kept-nil (enough (firstOf P s) f e) (chosen P r)))
+
+    -- all are kept, and are not enough
+    pub keep-all : (z : ℕ) (q : List ℕ) → LastNeeded P on f e a z → P .count < z → WithRest (P .count) a r q → Needed P s f e false q
+    keep-all z q last l w =
+        record {
+          holds = over-pool q all (ap (enough (firstOf P s) f e) with-rest ∙ few);
+          own = λ i o. ⊎-elim (λ m. in-pool i (sym (w .before i m) ∙ o)) (λ m. ⊎-elim (λ y. (omega (arith, k .from), y)) (λ y. in-pool i (sym (w .after i y) ∙ o)) (lt-or i (P .count))) (lt-or i a);
+          all = all;
+        }
+      where
+        with-rest : chosen P q ≡ chosen P r ++ restOf P a
+        with-rest = rest-chosen P r q a (k .within) (λ i o. k .own i o .1) w
+
+        few : enough (firstOf P s) f e (chosen P r ++ restOf P a) ≡ false
+        few = sym (beside (restOf P a)) ∙ last .none l
+
+        all : chosen P q ≡ needed (firstOf P s) f e (restOf P s)
+        all = with-rest ∙ sym (k .so-far ∙ kept-all (enough (firstOf P s) f e) (enough-gains (firstOf P s) f e) (chosen P r) (restOf P a) few)
+
+    -- one more is kept
+    pub keep-next : (z : ℕ) (now : List ℕ) → LastNeeded P on f e a z → z < P .count → now ≡ set on z 1 → Keeping P s f e (set r z 1) now (z + 1)
+    keep-next z now last l q = subst (λ (x : List ℕ). Keeping P s f e (set r z 1) x (z + 1)) (sym q)
+        (record {
+          from = omega (arith, k .from, found .0);
+          within = omega arith;
+          sized = length-set r z 1 ∙ k .sized;
+          on-sized = length-set on z 1 ∙ k .on-sized;
+          own = λ i o. ⊎-elim (λ h. let m = k .own i h in let u : i < a = m .1 in (m .0, omega (arith, found .0))) (λ h. (omega (arith, k .from, found .0), omega arith)) (came r z i o);
+          says = λ i o. ⊎-elim (λ h. ⊎-elim (λ m. inl m) (λ m. inr (stays r z i (k .sized) (omega arith) m)) (k .says i h)) (λ h. inr (is-on r i (k .sized) h)) (came on z i o);
+          shown = λ i m. stays on z i (k .on-sized) (omega arith) (k .shown i m);
+          kept-on = λ i o. ⊎-elim (λ h. stays on z i (k .on-sized) (omega arith) (k .kept-on i h)) (λ h. is-on on i (k .on-sized) h) (came r z i o);
+          so-far = k .so-far ∙ jump;
+        })
+      where
+        found : (a ≤ z) × (from? (chosen P on ++ restOf P z) f e ≡ true) × (from? (chosen P on ++ restOf P (z + 1)) f e ≡ false)
+        found = (last .found (omega arith) .0, last .found (omega arith) .1, last .last l)
+
+        is-on : (x : List ℕ) (i : ℕ) → length x ≡ 128 → i ≡ z → el (set x z 1) i ≡ 1
+        is-on x i sized h = ⊎-elim (λ y. absurd (y h)) (λ y. y) (set-at x z i sized (omega arith))
+
+        G : List Credential → Bool
+        G = enough (firstOf P s) f e
+
+        jump : kept G (chosen P r) (restOf P a) ≡ kept G (chosen P (set r z 1)) (restOf P (z + 1))
+        jump =
+            ap (kept G (chosen P r)) (rest-split P a z (found .0) (omega arith) ∙ ap (λ (l : List Credential). upTo (z - a) (λ (i : ℕ). credentialAt P (a + i)) ++ l) (rest-next P z l))
+            ∙ (kept-jump G (enough-gains (firstOf P s) f e) (chosen P r) (upTo (z - a) (λ (i : ℕ). credentialAt P (a + i))) (credentialAt P z) (restOf P (z + 1))
+            (ap (λ (l : List Credential). G (chosen P r ++ l)) (sym (rest-next P z l)) ∙ (sym (beside (restOf P z)) ∙ found .1))
+            (sym (beside (restOf P (z + 1))) ∙ found .2)
+            ∙ ap (λ (ks : List Credential). kept G ks (restOf P (z + 1))) (sym (one-chosen P r z (k .sized) small l (λ i o. let m : i < a = k .own i o .1 in omega (arith, found .0)))))
+
+  -- the last one of the pool is kept
+  pub keep-last : (r on : List ℕ) (a : ℕ) → Keeping P s f e r on a → (z : ℕ) → LastNeeded P on f e a z → z + 1 ≡ P .count → Needed P s f e true (set r z 1)
+  keep-last r on a k z last q =
+      keep-end (set r z 1) (set on z 1) (z + 1) (keep-next r on a k z (set on z 1) last (omega arith) refl) (omega arith)
+      (ap (enough (firstOf P s) f e) with-one ∙ (sym (beside r on a k (restOf P z)) ∙ last .found (omega arith) .1))
+    where
+      with-one : chosen P (set r z 1) ≡ chosen P r ++ restOf P z
+      with-one =
+          one-chosen P r z (k .sized) small (omega arith) (λ i o. let m : i < a = k .own i o .1 in let y : a ≤ z = last .found (omega arith) .0 in omega arith)
+          ∙ ap (λ (l : List Credential). chosen P r ++ l) (sym (rest-next P z (omega arith) ∙ ap (λ (l : List Credential). credentialAt P z ∷ l) (rest-none P (z + 1) (omega arith))))

@@ -1,0 +1,5 @@
+pub mod State
+pub mod Within
+pub mod Layout
+pub mod Read
+pub mod Codec

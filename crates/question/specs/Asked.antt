@@ -1,0 +1,62 @@
+-- Which bytes are a question of right form within the sizes, and which numbers one that is not is refused with. Assumes nothing.
+use Prim.Native.Nat.{ℕ, _+_, _<_, _≤_}
+use mathlib.Core.Path.{_≡_}
+use mathlib.Core.Bool.{true}
+use mathlib.Core.List.{List, [], _∷_, _++_}
+use lib.ListN.{length}
+use Rattle.expression.specs.declared.Credential.{Credential}
+use Rattle.expression.specs.Credential.{wellFormedCredential, credentialBytes, isBody}
+use Rattle.question.specs.Credentials.{listed, credentialsOf}
+use mathlib.Core.Logic.{_⊎_}
+use Rattle.question.specs.Sizes.{credentialsMost, listSize, expressionSize}
+use Rattle.expression.specs.declared.Expression.{Expression}
+use Rattle.expression.specs.declared.ExpressionAnswer.the-variants.{Read}
+use Rattle.expression.specs.Bytes.{rawBytes}
+use Rattle.expression.specs.Form.{rawOf, wellFormed}
+use Rattle.question.specs.Question.{operandOf}
+
+-- a command for each credential, then the end
+abbrev pub commands : List Credential → List ℕ
+commands [] = 6 ∷ []
+commands (c ∷ C) = 1 ∷ (credentialBytes c ++ commands C)
+
+-- all credentials are well formed
+abbrev pub Formed : List Credential → Type 0
+Formed [] = Unit {0}
+Formed (c ∷ C) = (wellFormedCredential c ≡ true) × Formed C
+
+-- a list is refused 2 or 3
+abbrev pub Refusal : ℕ → Type 0
+Refusal k = (k ≡ 2) ⊎ (k ≡ 3)
+
+abbrev pub expressionBytes : Expression → List ℕ
+expressionBytes x = rawBytes (rawOf x)
+
+-- an expression of right form and of kinds 1 to 4
+pub record Askable (x : Expression) : Type 0 where
+  pub formed : wellFormed x ≡ true
+  pub kind : isBody x ≡ true
+
+-- what the lent bytes hold in an accepted call
+pub record Written (c f e : List ℕ) (C : List Credential) (x y : Expression) : Type 0 where
+  pub credentials : c ≡ commands C
+  pub first : f ≡ expressionBytes x
+  pub second : e ≡ expressionBytes y
+  pub most : length C ≤ credentialsMost
+  pub formed : Formed C
+  pub left : Askable x
+  pub right : Askable y
+
+-- the three lengths are within the sizes
+pub record Sized (c f e : ℕ) : Type 0 where
+  pub some : 0 < c
+  pub most : c ≤ listSize
+  pub first : f ≡ expressionSize
+  pub second : e ≡ expressionSize
+
+-- the lent bytes ask whether x from y over the credentials C
+pub record Asked (c f e : List ℕ) (C : List Credential) (x y : Expression) : Type 0 where
+  pub sizes : Sized (length c) (length f) (length e)
+  pub credentials : credentialsOf c ≡ listed C
+  pub first : operandOf f ≡ Read x
+  pub second : operandOf e ≡ Read y

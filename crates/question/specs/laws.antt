@@ -1,0 +1,4 @@
+pub mod Credentials
+pub mod CredentialsExact
+pub mod Question
+pub mod QuestionExact

@@ -1,0 +1,14 @@
+pub mod Reply
+pub mod Outgoing
+pub mod Carry
+pub mod Turns
+pub mod Turn
+pub mod Writing
+pub mod Moved
+pub mod Cases
+pub mod Stays
+pub mod TwoReplies
+pub mod ReplyPublic
+pub mod ReplyLength
+pub mod ReplyLegal
+pub mod Call

@@ -1,0 +1,43 @@
+-- The marked cases (a) to (j) hold: one computed proof. Assumes nothing.
+use mathlib.Core.Path.{_≡_, refl}
+use mathlib.Core.Bool.{true, false}
+use mathlib.Core.List.{[], _∷_, map}
+use Rattle.rt0.specs.Decide.{roleFrom, reaches, pass, close, closure, from?}
+use Rattle.expression.specs.Same.{sameRole, same}
+use Rattle.expression.specs.Order.{beforeOf, beforeCredential}
+use Rattle.expression.specs.Credential.{wellFormedCredential, readCredential}
+use Rattle.class.specs.laws.Names.{namesOf}
+use Rattle.class.specs.Names.{classOf}
+use Rattle.class.specs.Typing.{named as namedType, linked as linkedType, together, typeOf, credentialNumber}
+use Rattle.tables.specs.Lookup.{holds, isSensitive, otherOf, isDirect}
+use Rattle.tables.specs.Public.{lessDirect, heldOf, publicOf, hiddenOf}
+use Rattle.propagation.specs.laws.Flags.{cnt}
+use Rattle.propagation.specs.Least.{rounds, least}
+use Rattle.graph.specs.laws.Graph.{expressionFrom, nodesOf, edgesOf}
+use Rattle.graph.specs.Find.{findNode, hasEdge}
+use Rattle.graph.specs.Form.{hasRole, form, legalState}
+use Rattle.graph.specs.Propagated.{satisfiedB, failedB, completeB, stateOf as propagated}
+use Rattle.justification.specs.Justified.{solves, solved, monitors, monitored, implied, impliedIf, monitoredIf, justified}
+use Rattle.message.specs.Command.{commandBytes}
+use Rattle.negotiation.specs.State.{freshState, withNode, withEdge, withShown, withMark, withHeader, within}
+use Rattle.damage.specs.Header.{wantedSound, headerSound, requester, entityOf, emptySound, countSound, endSound}
+use Rattle.damage.specs.Records.{nodeSound, nodeFits, primarySound, credentialSound, isShown, credentialFits}
+use Rattle.needed.specs.Needed.{kept, needed}
+use Rattle.needed.specs.laws.Needed.{firstOf, restOf}
+use Rattle.update.specs.Step.{processedBy, markedState, primaryOf, verifierOf, childOf, stepped, hasRoom}
+use Rattle.update.specs.Legal.{refuse, first, isFresh, isAbsent, formedAs, showNumber, openNumber, markNumber, endNumber, joinWrong, justifiedBy, justifiedFor, joinNumber, bringWrong, bringNumber, justifiedIn, legalBy, legalNumber}
+use Rattle.update.specs.After.{endOf, isStalled, idleOf, headerAfter, afterMessage}
+use Rattle.moves.specs.Known.{holdingOf, isAcknowledged, knownOf}
+use Rattle.moves.specs.Initial.{traced, initialState}
+use Rattle.moves.specs.Frontiers.{spread, frontierOf}
+use Rattle.moves.specs.Wanted.{ordered, firstNot, chosenIn, isDone}
+use Rattle.moves.specs.Rules.{endIn, verifierRules, sensitiveRules, opponentRules}
+use Rattle.moves.specs.Move.{credentialsFor, choiceAt, movesFrom, nextMove}
+use Rattle.reply.specs.Reply.{replyFrom, replyIn, repliedState, replyBytes}
+use Rattle.reply.specs.Cases.{turn, outcome, table, answer, turns}
+
+pub marked-cases : map outcome table
+    ≡ answer true ∷ answer false ∷ answer true ∷ answer false ∷ answer true ∷ answer false ∷ answer false ∷ answer true
+    ∷ turns (turn 56 0 2 ∷ turn 25 0 3 ∷ turn 50 0 4 ∷ turn 48 1 5 ∷ []) ∷ turns (turn 56 0 2 ∷ turn 25 0 3 ∷ turn 50 0 4 ∷ turn 3 2 4 ∷ []) ∷ []
+unfolding roleFrom reaches pass close closure from? sameRole same beforeOf beforeCredential wellFormedCredential readCredential namesOf classOf namedType linkedType together typeOf credentialNumber holds isSensitive otherOf isDirect lessDirect heldOf publicOf hiddenOf cnt rounds least expressionFrom nodesOf edgesOf findNode hasEdge hasRole form legalState satisfiedB failedB completeB propagated solves solved monitors monitored implied impliedIf monitoredIf justified commandBytes freshState withNode withEdge withShown withMark withHeader within wantedSound headerSound requester entityOf emptySound countSound endSound nodeSound nodeFits primarySound credentialSound isShown credentialFits kept needed firstOf restOf processedBy markedState primaryOf verifierOf childOf stepped hasRoom refuse first isFresh isAbsent formedAs showNumber openNumber markNumber endNumber joinWrong justifiedBy justifiedFor joinNumber bringWrong bringNumber justifiedIn legalBy legalNumber endOf isStalled idleOf headerAfter afterMessage holdingOf isAcknowledged knownOf traced initialState spread frontierOf ordered verifierRules sensitiveRules opponentRules firstNot chosenIn isDone credentialsFor choiceAt movesFrom nextMove endIn replyFrom replyIn repliedState replyBytes
+marked-cases = refl

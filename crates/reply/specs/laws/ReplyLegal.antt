@@ -1,0 +1,235 @@
+-- A reply consists of legal updates, leaves a negotiation that is not damaged, and is taken at the other end (document 01, "The reply").
+-- Assumes nothing.
+use Prim.Native.Nat.{ℕ, zero, suc, _+_, _%_, _<_}
+use native.Mathlib.Omega.{arith}
+use mathlib.Core.Path.{_≡_, refl, sym, _∙_, ap, subst}
+use mathlib.Core.Bool.{Bool, true, false, not, cond, _&&_}
+use mathlib.Core.List.{List, [], _∷_, _++_, append-assoc, append-nil}
+use borrow.Author.Tests.{eq-eqb, eqb-true, eqb-false}
+use lib.Dec.{eqb, leb}
+use lib.ListN.{length}
+use Rattle.word.specs.laws.Bools.{and-parts, or-neither}
+use Rattle.expression.specs.declared.Expression.the-variants as E
+use Rattle.class.specs.declared.Name.{Name}
+use Rattle.tables.specs.Tables.{Tables}
+use Rattle.tables.specs.Accepted.{Sound}
+use Rattle.graph.specs.Propagated.{stateOf as propagated}
+use Rattle.message.specs.declared.Opening.{Opening}
+use Rattle.message.specs.declared.Command.{Command}
+use Rattle.message.specs.declared.Command.the-variants.{Open, End}
+use Rattle.message.specs.Command.{formedCommand}
+use Rattle.negotiation.specs.declared.Header.{Header}
+use Rattle.negotiation.specs.State.{State, within, withHeader}
+use Rattle.damage.specs.Header.{headerSound, emptySound, endSound}
+use Rattle.damage.specs.Damage.{graphSound, sound}
+use Rattle.damage.specs.laws.Damage.{graph-parts, sound-some}
+use Rattle.update.specs.Step.{otherSide, stepped, isMove}
+use Rattle.update.specs.After.{headerAfter, afterMessage}
+use Rattle.update.specs.laws.AfterKept.{after-sound}
+use Rattle.update.specs.Update.{Legal}
+use Rattle.take.specs.Message.{bytesOf, messageBytes, Updates, none, next, moved}
+use Rattle.take.specs.Commands as C
+use Rattle.take.specs.laws.CommandsKept.{step-header, step-still}
+use Rattle.take.specs.Take.{sends, refused, accepted, behindCommands, senderTo, takenIn}
+use Rattle.take.specs.laws.TakeKept.{going-on}
+use Rattle.take.specs.laws.TakenExactly.{carried as commands-taken}
+use Rattle.moves.specs.Initial.{initialState}
+use Rattle.moves.specs.Rules.{endIn}
+use Rattle.moves.specs.Move.{Move, nextMove}
+use Rattle.moves.specs.Carried.{carried, hasRoomFor}
+use Rattle.legality.specs.laws.Going.{Going}
+use Rattle.legality.specs.laws.Legal.{move-updates}
+use Rattle.legality.specs.laws.Kept.{updates-going, updates-header, sound-going, open-formed, open-legal, opening-going}
+use Rattle.legality.specs.Mirror.{Mirrored, Mirror}
+use Rattle.legality.specs.laws.Mirror.{mirror-state, updates-mirror, opened-mirror}
+use Rattle.reply.specs.Reply.{Replied, stopped, withMove, replyFrom, replyIn, repliedState, replyBytes}
+use Rattle.reply.specs.Mirror.{otherAfter}
+
+-- Updates
+
+updates-append : {ns : List Name} {s : ℕ} {S R U : State} {cs ds : List Command} → Updates ns s S cs R → Updates ns s R ds U → Updates ns s S (cs ++ ds) U
+updates-append none v = v
+updates-append (next {c = c} e f l u) v = next {c = c} e f l (updates-append u v)
+
+-- without an open, an edge or a mark the graph stays
+updates-still : {ns : List Name} {s : ℕ} {S U : State} {cs : List Command} → Updates ns s S cs U → moved cs ≡ false → (U .nodes ≡ S .nodes) × (U .edges ≡ S .edges)
+updates-still none h = (refl, refl)
+updates-still {s = s} (next {S = S} {c = c} {cs = cs} e f l u) h =
+    let p = or-neither (isMove c) (moved cs) h in
+    let q = updates-still u (p .1) in
+    let r = step-still S s c (p .0) in
+    (q .0 ∙ r .0, q .1 ∙ r .1)
+
+-- Move by move
+
+-- what stands behind the commands cs, in a state where s is our side
+record Behind (T : Tables) (s : ℕ) (S : State) (cs : List Command) (r : Replied) : Type 0 where
+  rest : List Command
+  commands : r .commands ≡ cs ++ rest
+  updates : Updates (T .names) s S rest (r .state)
+
+behind-none : (T : Tables) (s : ℕ) (S : State) (cs : List Command) (full : Bool) → Behind T s S cs (stopped cs S full)
+behind-none T s S cs full = record { rest = []; commands = sym (append-nil cs); updates = none }
+
+behind-more : (T : Tables) (s : ℕ) (S R : State) (cs m : List Command) (r : Replied) → Updates (T .names) s S m R → Behind T s R (cs ++ m) r → Behind T s S cs r
+behind-more T s S R cs m r u b = record { rest = m ++ b .rest; commands = b .commands ∙ append-assoc cs m (b .rest); updates = updates-append u (b .updates) }
+
+module _ (T : Tables) where
+  -- a move, and what stands behind it
+  move-behind : (more : State → List Command → Replied) (s : ℕ) (S : State) (cs : List Command) (m : Move) → S .header .side ≡ s
+      → (hasRoomFor (S .header .side) S m ≡ true → Updates (T .names) (S .header .side) S m (carried (S .header .side) S m))
+      → (Updates (T .names) s S m (carried (S .header .side) S m) → Behind T s (carried (S .header .side) S m) (cs ++ m) (more (carried (S .header .side) S m) (cs ++ m)))
+      → Behind T s S cs (withMove more S cs m)
+  move-behind more s S cs [] e h ih = behind-none T s S cs false
+  move-behind more s S cs (c ∷ ms) e h ih = go (hasRoomFor (S .header .side) S (c ∷ ms)) refl (leb (length (bytesOf (cs ++ (c ∷ ms))) + 1) 4096)
+    where
+      R : State
+      R = carried (S .header .side) S (c ∷ ms)
+
+      go : (a : Bool) → hasRoomFor (S .header .side) S (c ∷ ms) ≡ a → (b : Bool) → Behind T s S cs (cond a (cond b (more R (cs ++ (c ∷ ms))) (stopped cs S false)) (stopped cs S true))
+      go true q true = let u = subst (λ (v : ℕ). Updates (T .names) v S (c ∷ ms) R) e (h q) in behind-more T s S R cs (c ∷ ms) (more R (cs ++ (c ∷ ms))) u (ih u)
+      go true q false = behind-none T s S cs false
+      go false q b = behind-none T s S cs true
+
+  from-behind : (f s : ℕ) (S : State) (cs : List Command) → Going T S → S .header .side ≡ s → Behind T s S cs (replyFrom f T S cs)
+  unfolding replyFrom
+  from-behind zero s S cs g e = behind-none T s S cs false
+  from-behind (suc f) s S cs g e =
+      go (eqb (propagated (S .nodes) (S .edges) 0) 1)
+      (move-behind (λ U ds. replyFrom f T U ds) s S cs (nextMove (endIn T S)) e (move-updates T S g)
+      (λ u. from-behind f s (carried (S .header .side) S (nextMove (endIn T S))) (cs ++ nextMove (endIn T S)) (updates-going T u g) (ap (λ (h : Header). h .side) (updates-header u) ∙ e)))
+    where
+      go : (b : Bool) {r : Replied} → Behind T s S cs r → Behind T s S cs (cond b (stopped cs S false) r)
+      go true k = behind-none T s S cs false
+      go false k = k
+
+-- The reply
+
+-- what a reply of S is: legal updates, by which our end goes on, and which are legal at the other end, too
+record Given (T : Tables) (S : State) (r : Replied) : Type 0 where
+  updates : Updates (T .names) (S .header .side) S (r .commands) (r .state)
+  going : Going T (r .state)
+  mirror : (k : Header) → Mirrored (S .header) k → Updates (T .names) (S .header .side) (withHeader S k) (r .commands) (withHeader (r .state) k)
+
+-- while none is counted, the mediator sends
+pub first-side : (v n : ℕ) → n ≡ 0 → sends v n ≡ true → v ≡ 0
+unfolding sends
+first-side v n z h = sym (eqb-true (n % 2) v h) ∙ ap (λ (k : ℕ). k % 2) z
+
+module _ (T : Tables) (t : Sound T) (S : State) (h : sound T S ≡ true) (w : within S ≡ true) (turn : sends (S .header .side) (S .header .messages) ≡ true) where
+  abbrev s : ℕ
+  s = S .header .side
+
+  abbrev first : Opening
+  first = record { role = S .header .wanted; state = initialState (T .names) true (E.Role (S .header .wanted)) }
+
+  pub no-messages : length (S .nodes) ≡ 0 → S .header .messages ≡ 0
+  unfolding sound emptySound
+  no-messages z =
+      let m : ℕ = length (S .edges) in
+      let k : ℕ = length (S .shown) in
+      let e = sym (ap (λ (b : Bool). cond b (emptySound (S .header) m k) (graphSound (T .names) S)) (eq-eqb (length (S .nodes)) 0 z)) ∙ and-parts (headerSound (T .own) (T .names) (S .header)) _ h .1 in
+      let a = and-parts (eqb (S .header .messages) 0 && eqb (S .header .end) 0 && eqb (S .header .idle) 0 && eqb m 0) (eqb k 0) e in
+      let b = and-parts (eqb (S .header .messages) 0 && eqb (S .header .end) 0 && eqb (S .header .idle) 0) (eqb m 0) (a .0) in
+      let c = and-parts (eqb (S .header .messages) 0 && eqb (S .header .end) 0) (eqb (S .header .idle) 0) (b .0) in
+      eqb-true (S .header .messages) 0 (and-parts (eqb (S .header .messages) 0) (eqb (S .header .end) 0) (c .0) .0)
+
+  -- a reply that goes on from a graph
+  going-given : Going T S → (r : Replied) → Behind T s S [] r → Given T S r
+  going-given g r b =
+      let u : Updates (T .names) s S (r .commands) (r .state) = subst (λ (cs : List Command). Updates (T .names) s S cs (r .state)) (sym (b .commands)) (b .updates) in
+      record { updates = u; going = updates-going T u g; mirror = λ k m. updates-mirror (S .header) k m T g refl u }
+
+  -- the mediator's first reply
+  opened-given : length (S .nodes) ≡ 0 → (r : Replied) → Behind T s (stepped S s (Open first)) (Open first ∷ []) r → Given T S r
+  opened-given z r b =
+      let side : S .header .side ≡ 0 = first-side s (S .header .messages) (no-messages z) turn in
+      let f : formedCommand (Open first) ≡ true = open-formed T t S h w side z in
+      let l : Legal (T .names) s S (Open first) = open-legal T t S h w side z in
+      let g : Going T (stepped S s (Open first)) = opening-going T t S h w side z in
+      record {
+        updates = subst (λ (cs : List Command). Updates (T .names) s S cs (r .state)) (sym (b .commands)) (next {c = Open first} refl f l (b .updates));
+        going = updates-going T (b .updates) g;
+        mirror = λ k m. subst (λ (cs : List Command). Updates (T .names) s (withHeader S k) cs (withHeader (r .state) k)) (sym (b .commands)) (opened-mirror (S .header) k m T s S first refl f l g (b .updates));
+      }
+
+  given : Given T S (replyIn T S)
+  unfolding replyIn
+  given = go (eqb (length (S .nodes)) 0) refl
+    where
+      go : (b : Bool) → eqb (length (S .nodes)) 0 ≡ b → Given T S (replyFrom 4096 T (carried s S (cond b (Open first ∷ []) [])) (cond b (Open first ∷ []) []))
+      go true e =
+          let z : length (S .nodes) ≡ 0 = eqb-true (length (S .nodes)) 0 e in
+          let side : S .header .side ≡ 0 = first-side s (S .header .messages) (no-messages z) turn in
+          opened-given z (replyFrom 4096 T (stepped S s (Open first)) (Open first ∷ []))
+          (from-behind T 4096 s (stepped S s (Open first)) (Open first ∷ []) (opening-going T t S h w side z) (ap (λ (x : Header). x .side) (step-header S s (Open first))))
+      go false e =
+          let g : Going T S = sound-going T t S h w (eqb-false (length (S .nodes)) 0 e) in
+          going-given g (replyFrom 4096 T S []) (from-behind T 4096 s S [] g refl)
+
+  -- all commands of a reply are legal updates
+  pub reply-updates : Updates (T .names) (S .header .side) S (replyIn T S .commands) (replyIn T S .state)
+  reply-updates = given .updates
+
+  pub reply-going : Going T (replyIn T S .state)
+  reply-going = given .going
+
+  -- kept-sound for reply: it leaves a negotiation that is not damaged, where the count stays within its bound
+  pub reply-sound : S .header .end ≡ 0 → S .header .messages < 1027 → sound T (repliedState (replyIn T S)) ≡ true
+  unfolding repliedState
+  reply-sound going few =
+      let r : Replied = replyIn T S in
+      after-sound T (r .state) (moved (r .commands)) (r .full) (reply-going .header) (reply-going .graph) (reply-going .some) (subst (λ (x : Header). x .messages < 1027) (sym (updates-header reply-updates)) few) still
+    where
+      still : moved (replyIn T S .commands) ≡ false → (propagated (replyIn T S .state .nodes) (replyIn T S .state .edges) 0 ≡ 1 → ⊥) × (propagated (replyIn T S .state .nodes) (replyIn T S .state .edges) 0 ≡ 2 → ⊥)
+      still e =
+          let q = updates-still reply-updates e in
+          let some : length (S .nodes) ≡ 0 → ⊥ = λ z. reply-going .some (ap length (q .0) ∙ z) in
+          going-on (propagated (replyIn T S .state .nodes) (replyIn T S .state .edges) 0) (S .header .end) (S .header .idle) going
+          ((λ i. endSound (propagated (q .0 i) (q .1 i) 0) (S .header .end) (S .header .idle)) ∙ graph-parts (T .names) S (sound-some T S h some) .4)
+
+  pub reply-within : within (repliedState (replyIn T S)) ≡ true
+  unfolding repliedState afterMessage withHeader within
+  reply-within = reply-going .sizes
+
+  -- The other end
+
+  -- what the other end reaches with it
+  module _ (R : State) (m : Mirror S R) where
+    sender : senderTo R ≡ S .header .side
+    sender = ap otherSide (m .header .other-side) ∙ go (eqb (S .header .side) 0) refl
+      where
+        go : (b : Bool) → eqb (S .header .side) 0 ≡ b → otherSide (cond b 1 0) ≡ S .header .side
+        go true e = sym (eqb-true (S .header .side) 0 e)
+        go false e = omega (arith, m .header .side, eqb-false (S .header .side) 0 e)
+
+    end-legal : (ns : List Name) → Legal ns (S .header .side) (withHeader (replyIn T S .state) (R .header)) End
+    unfolding Legal withHeader
+    end-legal ns = record { some = omega (arith, reply-going .some) }
+
+    -- the commands are carried out
+    reply-carried : (b : List ℕ) → b ≡ messageBytes (replyIn T S .commands) → C.commandsFrom (length b) (T .names) (S .header .side) b 0 (withHeader S (R .header)) false ≡ C.taken (withHeader (replyIn T S .state) (R .header)) (moved (replyIn T S .commands))
+    reply-carried b e = commands-taken (T .names) (S .header .side) b (given .mirror (R .header) (m .header)) (end-legal (T .names)) (length b) 0 false e (omega (arith, ap length e))
+
+    -- another end that has the same names and holds the same graph and credentials takes the reply, where it is our turn and its negotiation has not ended
+    pub reply-legal : (U : Tables) → U .names ≡ T .names → R .header .messages ≡ S .header .messages → R .header .end ≡ 0 → takenIn (replyBytes (replyIn T S)) U R ≡ accepted (otherAfter T S R)
+    unfolding takenIn replyBytes
+    reply-legal U names count going =
+        let b : List ℕ = messageBytes (replyIn T S .commands) in
+        let x : C.Taken = C.commandsFrom (length b) (U .names) (senderTo R) b 0 R false in
+        let e : eqb (R .header .end) 0 ≡ true = eq-eqb (R .header .end) 0 going in
+        let f : sends (senderTo R) (R .header .messages) ≡ true = (λ i. sends (sender i) (count i)) ∙ turn in
+        (λ i. cond (not (e i)) (refused 22) (cond (not (f i)) (refused 21) (behindCommands x)))
+        ∙ ap behindCommands ((λ i. C.commandsFrom (length b) (names i) (sender i) b 0 (mirror-state S R m i) false) ∙ reply-carried b refl)
+
+    -- it reaches the same graph and the same credentials as we do
+    pub reply-mirror : Mirror (repliedState (replyIn T S)) (otherAfter T S R)
+    unfolding repliedState afterMessage withHeader headerAfter
+    reply-mirror =
+        let q : replyIn T S .state .header ≡ S .header = updates-header reply-updates in
+        let k : Mirrored (replyIn T S .state .header) (R .header) = subst (λ (x : Header). Mirrored x (R .header)) (sym q) (m .header) in
+        record { header = record { side = k .side; other-side = k .other-side; own = k .own; other = k .other }; nodes = refl; edges = refl; shown = refl }
+
+    pub reply-counted : R .header .messages ≡ S .header .messages → otherAfter T S R .header .messages ≡ repliedState (replyIn T S) .header .messages
+    unfolding repliedState afterMessage withHeader headerAfter
+    reply-counted count = ap (λ (n : ℕ). n + 1) (count ∙ ap (λ (x : Header). x .messages) (sym (updates-header reply-updates)))

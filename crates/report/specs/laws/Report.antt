@@ -1,0 +1,158 @@
+-- The report, test by test, and its numbers read back. Assumes nothing.
+use Prim.Native.Nat.{ℕ, _+_, _*_, _/_, _%_, _≤_, _<_}
+use mathlib.Core.Bool.{Bool, cond, true, false, _&&_, _||_}
+use mathlib.Core.List.{List}
+use lib.Dec.{ltb, eqb}
+use lib.ListN.{length, getD}
+use Rattle.graph.specs.Propagated.{stateOf, satisfiedB, failedB, completeB}
+use Rattle.damage.specs.Restored.{Standing, refusal, standing, restoreOf}
+use native.Mathlib.Omega.{arith}
+use mathlib.Core.Path.{_≡_, refl, sym, _∙_, ap, subst}
+use mathlib.Core.Logic.{⊎-elim}
+use borrow.Author.Tests.{eq-eqb, ne-eqb, lt-ltb, le-ltb, eqb-true}
+use Rattle.rt0.specs.laws.Pool.{credentials, credentialAt}
+use Rattle.rt0.specs.laws.Added.{length-upTo}
+use Rattle.word.specs.laws.Bools.{and-parts, or-cases}
+use Rattle.propagation.specs.Flags.{at}
+use Rattle.graph.specs.declared.Node.{Node}
+use Rattle.graph.specs.declared.Edge.{Edge}
+use Rattle.graph.specs.laws.Graph.{nodesOf, edgesOf, nodeAt}
+use Rattle.graph.specs.laws.Columns.{nodes-length, edges-length, node-in}
+use Rattle.graph.specs.laws.Form.{legal-few}
+use Rattle.tables.specs.declared.House.{House}
+use Rattle.tables.specs.laws.Tables.{tablesOf}
+use Rattle.negotiation.specs.declared.Negotiation.{Negotiation}
+use Rattle.negotiation.specs.State.{within}
+use Rattle.negotiation.specs.laws.State.{stateOf as stateHeld}
+use Rattle.negotiation.specs.laws.Within.{within-few}
+use Rattle.damage.specs.declared.Restored.{Restored}
+use Rattle.damage.specs.Header.{endSound}
+use Rattle.damage.specs.Damage.{sound}
+use Rattle.damage.specs.laws.Restored.{standingOf}
+use Rattle.damage.specs.laws.Damage.{graph-parts, held-graph, held-legal}
+use Rattle.report.specs.Report.{Report, reportOn, refused, reported, behindNegotiation, reportOf, packed, unpacked, answerOf}
+
+-- a report of these numbers
+abbrev pub numbered : ℕ → ℕ → ℕ → ℕ → ℕ → ℕ → ℕ → Report
+numbered s p e n m k c = record { state = s; propagated = p; end = e; nodes = n; edges = m; shown = k; messages = c }
+
+-- The numbers
+
+-- the lowest number, and the rest
+low-4 : (x y n : ℕ) → n ≡ x + y * 4 → x < 4 → (n % 4 ≡ x) × (n / 4 ≡ y)
+low-4 x y n q l = (omega arith, omega arith)
+
+low-8 : (x y n : ℕ) → n ≡ x + y * 8 → x < 8 → (n % 8 ≡ x) × (n / 8 ≡ y)
+low-8 x y n q l = (omega arith, omega arith)
+
+low-128 : (x y n : ℕ) → n ≡ x + y * 128 → x < 128 → (n % 128 ≡ x) × (n / 128 ≡ y)
+low-128 x y n q l = (omega arith, omega arith)
+
+low-256 : (x y n : ℕ) → n ≡ x + y * 256 → x < 256 → (n % 256 ≡ x) × (n / 256 ≡ y)
+low-256 x y n q l = (omega arith, omega arith)
+
+low-512 : (x y n : ℕ) → n ≡ x + y * 512 → x < 512 → (n % 512 ≡ x) × (n / 512 ≡ y)
+low-512 x y n q l = (omega arith, omega arith)
+
+-- what is packed is read back
+pub packed-back : (r : Report) → r .state < 4 → r .propagated < 4 → r .end < 8 → r .nodes < 256 → r .edges < 512 → r .shown < 128 → unpacked (packed r) ≡ r
+unfolding packed unpacked
+packed-back r a b c d e f =
+    let s6 : ℕ = r .shown + r .messages * 128 in
+    let s5 : ℕ = r .edges + s6 * 512 in
+    let s4 : ℕ = r .nodes + s5 * 256 in
+    let s3 : ℕ = r .end + s4 * 8 in
+    let s2 : ℕ = r .propagated + s3 * 4 in
+    let v1 = low-4 (r .state) s2 (packed r) refl a in
+    let v2 = low-4 (r .propagated) s3 (packed r / 4) (v1 .1) b in
+    let v3 = low-8 (r .end) s4 (packed r / 4 / 4) (v2 .1) c in
+    let v4 = low-256 (r .nodes) s5 (packed r / 4 / 4 / 8) (v3 .1) d in
+    let v5 = low-512 (r .edges) s6 (packed r / 4 / 4 / 8 / 256) (v4 .1) e in
+    let v6 = low-128 (r .shown) (r .messages) (packed r / 4 / 4 / 8 / 256 / 512) (v5 .1) f in
+    λ i. record { state = v1 .0 i; propagated = v2 .0 i; end = v3 .0 i; nodes = v4 .0 i; edges = v5 .0 i; shown = v6 .0 i; messages = v6 .1 i }
+
+-- The call
+
+module _ (tables negotiation : List ℕ) (i : ℕ) (R : Restored) (e : standingOf R ≡ restoreOf tables negotiation) where
+  -- the tables or the negotiation are refused
+  pub report-refused : (R .refusal ≡ 0 → ⊥) → R .refusal ≡ answerOf (reportOf tables negotiation i)
+  unfolding reportOf standingOf
+  report-refused h = sym (ap (λ (s : Standing). answerOf (behindNegotiation i s)) (sym e ∙ ap (λ (b : Bool). cond b (standing (tablesOf (R .house)) (stateHeld (R .negotiation))) (refusal (R .refusal))) (ne-eqb (R .refusal) 0 h)))
+
+  module _ (z : R .refusal ≡ 0) where
+    by-node : (b : Bool) → ltb i (length (nodesOf (R .negotiation .nodes))) ≡ b → answerOf (reportOf tables negotiation i) ≡ answerOf (cond b (reported (reportOn (stateHeld (R .negotiation)) i)) (refused 24))
+    unfolding reportOf standingOf stateHeld
+    by-node b q =
+        ap (λ (s : Standing). answerOf (behindNegotiation i s)) (sym e ∙ ap (λ (b : Bool). cond b (standing (tablesOf (R .house)) (stateHeld (R .negotiation))) (refusal (R .refusal))) (eq-eqb (R .refusal) 0 z))
+        ∙ ap (λ (b : Bool). answerOf (cond b (reported (reportOn (stateHeld (R .negotiation)) i)) (refused 24))) q
+
+    -- an absent node
+    pub report-absent : {k : ℕ} → k ≡ i → R .negotiation .nodes .count ≤ k → 24 ≡ answerOf (reportOf tables negotiation i)
+    report-absent ke l = sym (by-node false (le-ltb i (length (nodesOf (R .negotiation .nodes))) (omega (arith, nodes-length (R .negotiation .nodes)))))
+
+    pub report-node : {k v : ℕ} → k ≡ i → k < R .negotiation .nodes .count → v ≡ packed (reportOn (stateHeld (R .negotiation)) k) → v * 256 ≡ answerOf (reportOf tables negotiation i)
+    report-node {k} {v} ke l ve = sym (by-node true (lt-ltb i (length (nodesOf (R .negotiation .nodes))) (omega (arith, nodes-length (R .negotiation .nodes)))) ∙ sym (ap (λ (n : ℕ). n * 256) (ve ∙ ap (λ (n : ℕ). packed (reportOn (stateHeld (R .negotiation)) n)) ke)))
+
+-- In code
+
+pub pack-is : {s p e n m k c s′ p′ e′ n′ m′ k′ c′ : ℕ} → s′ ≡ s → p′ ≡ p → e′ ≡ e → n′ ≡ n → m′ ≡ m → k′ ≡ k → c′ ≡ c
+    → (s′ + (p′ + (e′ + (n′ + (m′ + (k′ + c′ * 128) * 512) * 256) * 8) * 4) * 4) ≡ packed (numbered s p e n m k c)
+unfolding packed
+pack-is a b d f g h j = λ i. a i + (b i + (d i + (f i + (g i + (h i + j i * 128) * 512) * 256) * 8) * 4) * 4
+
+-- the numbers of a negotiation as it is held
+pub report-is : (G : Negotiation) (i : ℕ) {p v : ℕ} → i < G .nodes .count → p ≡ stateOf (nodesOf (G .nodes)) (edgesOf (G .edges)) i
+    → v ≡ packed (numbered (getD (G .nodes .state) i 0) p (G .header .end) (G .nodes .count) (G .edges .count) (G .shown .count) (G .header .messages)) → v ≡ packed (reportOn (stateHeld G) i)
+unfolding reportOn stateHeld credentials
+report-is G i l e q = q ∙ ap packed (λ t. record {
+  state = sym (node-in (G .nodes) i l) t .state;
+  propagated = e t;
+  end = G .header .end;
+  nodes = sym (nodes-length (G .nodes)) t;
+  edges = sym (edges-length (G .edges)) t;
+  shown = sym (length-upTo (G .shown .count) (credentialAt (G .shown))) t;
+  messages = G .header .messages;
+})
+
+-- What a report's numbers are
+
+-- a propagated state is 0, 1 or 2
+state-few : (ns : List Node) (es : List Edge) (i : ℕ) → stateOf ns es i < 4
+unfolding stateOf
+state-few ns es i = go (at (satisfiedB ns es) i || completeB ns es i) (at (failedB ns es) i)
+  where
+    go : (a b : Bool) → cond a 1 (cond b 2 0) < 4
+    go true b = omega arith
+    go false true = omega arith
+    go false false = omega arith
+
+-- an end is 0 to 4
+end-few : (p e i : ℕ) → endSound p e i ≡ true → e < 8
+unfolding endSound
+end-few p e i h = go (eqb p 1) (eqb p 2) h
+  where
+    is : (k j : ℕ) → k < 8 → (eqb e k && eqb i j) ≡ true → e < 8
+    is k j l t = let z : e ≡ k = eqb-true e k (and-parts (eqb e k) (eqb i j) t .0) in omega arith
+
+    go : (a b : Bool) → cond a (eqb e 1 && eqb i 0) (cond b (eqb e 2 && eqb i 0) (((eqb e 0 || eqb e 4) && ltb i 2) || (eqb e 3 && eqb i 1))) ≡ true → e < 8
+    go true b t = is 1 0 (omega arith) t
+    go false true t = is 2 0 (omega arith) t
+    go false false t =
+        ⊎-elim
+        (λ q. ⊎-elim (λ a. let z : e ≡ 0 = eqb-true e 0 a in omega arith) (λ a. let z : e ≡ 4 = eqb-true e 4 a in omega arith) (or-cases (eqb e 0) (eqb e 4) (and-parts (eqb e 0 || eqb e 4) (ltb i 2) q .0)))
+        (λ q. is 3 1 (omega arith) q)
+        (or-cases ((eqb e 0 || eqb e 4) && ltb i 2) (eqb e 3 && eqb i 1) t)
+
+-- the numbers of an accepted report are the state byte, the propagated state, the end and the counts of the records held
+pub report-numbers : (H : House) (G : Negotiation) → within (stateHeld G) ≡ true → sound (tablesOf H) (stateHeld G) ≡ true → (i : ℕ) → i < G .nodes .count → unpacked (packed (reportOn (stateHeld G) i)) ≡ reportOn (stateHeld G) i
+unfolding reportOn stateHeld credentials
+report-numbers H G w h i l =
+    let c = within-few G w in
+    let g = held-graph H G w h (omega arith) in
+    packed-back (reportOn (stateHeld G) i)
+    (subst (λ (n : Node). n .state < 4) (sym (node-in (G .nodes) i l)) (legal-few (nodeAt (G .nodes) i .expression) (nodeAt (G .nodes) i .state) (held-legal H G w h (omega arith) i l)))
+    (state-few (nodesOf (G .nodes)) (edgesOf (G .edges)) i)
+    (end-few (stateOf (nodesOf (G .nodes)) (edgesOf (G .edges)) 0) (G .header .end) (G .header .idle) (graph-parts _ _ g .4))
+    (omega (arith, nodes-length (G .nodes), c .0))
+    (omega (arith, edges-length (G .edges), c .1))
+    (omega (arith, length-upTo (G .shown .count) (credentialAt (G .shown)), c .2))

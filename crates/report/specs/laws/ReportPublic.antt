@@ -1,0 +1,18 @@
+-- A report goes by the public part of the tables. Assumes nothing.
+use Prim.Native.Nat.{ℕ}
+use mathlib.Core.Path.{_≡_, sym, _∙_, ap}
+use mathlib.Core.List.{List}
+use Rattle.tables.specs.Tables.{Tables}
+use Rattle.tables.specs.Check.{accepted, readTables}
+use Rattle.tables.specs.Public.{publicOf}
+use Rattle.damage.specs.Restored.{restoreOf}
+use Rattle.damage.specs.laws.RestoredPublic.{Alike, refused, found, restore-alike}
+use Rattle.report.specs.Report.{behindNegotiation, reportOf}
+
+pub report-public : (s t : List ℕ) (T U : Tables) → readTables s ≡ accepted T → readTables t ≡ accepted U → publicOf T ≡ publicOf U → (negotiation : List ℕ) (i : ℕ) → reportOf s negotiation i ≡ reportOf t negotiation i
+unfolding reportOf
+report-public s t T U h k e negotiation i = go (restore-alike T U e s t h k negotiation)
+  where
+    go : Alike T U (restoreOf s negotiation) (restoreOf t negotiation) → behindNegotiation i (restoreOf s negotiation) ≡ behindNegotiation i (restoreOf t negotiation)
+    go (refused n a b) = ap (behindNegotiation i) a ∙ sym (ap (behindNegotiation i) b)
+    go (found S a b) = ap (behindNegotiation i) a ∙ sym (ap (behindNegotiation i) b)

@@ -1,0 +1,109 @@
+-- Two runs (document 01, "Two runs": "one claim about the whole list, not one for each call"). Assumes nothing.
+use Prim.Native.Nat.{ℕ}
+use mathlib.Core.Path.{_≡_, refl, sym, _∙_, ap}
+use mathlib.Core.Logic.{_⊎_, inl, inr, ⊎-elim}
+use mathlib.Core.Bool.{Bool, true, false}
+use mathlib.Core.List.{List, [], _∷_, List·Memᴰ}
+use Rattle.expression.specs.declared.Role.{Role}
+use Rattle.expression.specs.Same.{sameRole}
+use Rattle.expression.specs.laws.Same.{eq-sameRole}
+use Rattle.rt0.specs.laws.Lists.{any-here}
+use Rattle.word.specs.laws.Bools.{false-true}
+use Rattle.propagation.specs.laws.Flags.{not-of}
+use Rattle.record.specs.declared.Pair.{Pair}
+use Rattle.tables.specs.Tables.{Tables}
+use Rattle.tables.specs.Check.{accepted, readTables}
+use Rattle.tables.specs.Lookup.{holds, isSensitive}
+use Rattle.tables.specs.Public.{DifferOnly, publicOf}
+use Rattle.tables.specs.laws.Sound.{accepted-public}
+use Rattle.negotiation.specs.State.{State, within}
+use Rattle.negotiation.specs.Layout.{stateBytes}
+use Rattle.take.specs.laws.TakePublic.{take-public}
+use Rattle.moves.specs.laws.Known.{Differs, holding-alike, isDisclosed, Opened, open-exact}
+use Rattle.reply.specs.Reply as A
+use Rattle.reply.specs.laws.ReplyPublic.{Quiet, reply-public}
+use Rattle.report.specs.laws.ReportPublic.{report-public}
+use Rattle.begin.specs.Begin.{begun, beginOf}
+use Rattle.begin.specs.laws.Kept.{begin-alike}
+use Rattle.runs.specs.Runs.{Call, take, reply, report, takeLeft, replyLeft, reportLeft, leftBy, run, takenTo, givenTo, afterCall, after, Differing, held, policy, NoneSatisfied}
+use Rattle.runs.specs.laws.Runs.{left-after}
+use Rattle.runs.specs.laws.RunsKept.{call-keeps, calls-keep, keeps-sizes, keeps-open, begun-within}
+
+-- Where the tables differ
+
+same-or-not : (a b : Bool) → (a ≡ b) ⊎ (a ≡ b → ⊥)
+same-or-not true true = inl refl
+same-or-not true false = inr (λ e. false-true (sym e))
+same-or-not false true = inr (λ e. false-true e)
+same-or-not false false = inl refl
+
+-- a sensitive role that differs is held in one only, or its access policies differ
+differs-differing : (T U : Tables) (r : Role) → T .sensitive ≡ U .sensitive → isSensitive (T .sensitive) r ≡ true → Differs T U r → Differing T U r
+differs-differing T U r e s d = ⊎-elim (λ h. policy (λ a. d (holding-alike T U r e s h a))) (λ h. held h) (same-or-not (holds (T .own) (T .subjectStored) r) (holds (U .own) (U .subjectStored) r))
+
+stands-sensitive : (P : List Pair) (p : Pair) → List·Memᴰ p P → isSensitive P (p .role) ≡ true
+unfolding isSensitive
+stands-sensitive P p m = any-here (λ (q : Pair). sameRole (q .role) (p .role)) m (eq-sameRole (p .role) (p .role) refl)
+
+none-open : (T U : Tables) (S : State) → T .sensitive ≡ U .sensitive → NoneSatisfied T U S → isDisclosed T U S ≡ false
+none-open T U S e n = not-of (isDisclosed T U S) (λ h. shut (open-exact T U S .0 h))
+  where
+    shut : Opened T U S → ⊥
+    shut o = n (o .pair) (o .stands) (differs-differing T U (o .pair .role) e (stands-sensitive (T .sensitive) (o .pair) (o .stands)) (o .differs)) (o .acknowledged)
+
+-- One call
+
+quiet : (T U : Tables) (S : State) (o : A.Outcome) → isDisclosed T U (givenTo S o) ≡ false → Quiet T U o
+quiet T U S (A.refused k) h = tt
+quiet T U S (A.given m N) h = h
+
+module _ (T U : Tables) (e : publicOf T ≡ publicOf U) (s t : List ℕ) (h : readTables s ≡ accepted T) (k : readTables t ≡ accepted U) where
+  -- where one of two calls leaves no differing role's Ack target satisfied, they leave the same
+  pub call-alike : (S : State) (c : Call) → (isDisclosed T U (afterCall s S c) ≡ false) ⊎ (isDisclosed T U (afterCall t S c) ≡ false)
+      → (leftBy s (stateBytes S) c ≡ leftBy t (stateBytes S) c) × (afterCall s S c ≡ afterCall t S c)
+  unfolding leftBy afterCall
+  call-alike S (take message scratch) q =
+      let o = take-public s t T U h k e (stateBytes S) message scratch in
+      (ap (takeLeft (stateBytes S) message scratch) o, ap (takenTo S) o)
+  call-alike S (reply buffer scratch) q =
+      let o = reply-public T U e s t h k (stateBytes S) buffer scratch (⊎-elim (λ z. inl (quiet T U S (A.replyOf s (stateBytes S) buffer scratch) z)) (λ z. inr (quiet T U S (A.replyOf t (stateBytes S) buffer scratch) z)) q) in
+      (ap (replyLeft (stateBytes S) buffer scratch) o, ap (givenTo S) o)
+  call-alike S (report node) q = (ap (reportLeft (stateBytes S)) (report-public s t T U h k e (stateBytes S) node), refl)
+
+  -- not open at the end, not open before
+  shut-before : (w : List ℕ) (W : Tables) → readTables w ≡ accepted W → (S : State) (cs : List Call) → within S ≡ true → isDisclosed T U (after w S cs) ≡ false → isDisclosed T U S ≡ false
+  shut-before w W r S cs v z = not-of (isDisclosed T U S) (λ o. false-true (sym z ∙ calls-keep (keeps-open T U) w W r S cs (record { sizes = v; opened = o }) .opened))
+
+  -- A list of calls
+  pub calls-alike : (cs : List Call) (S : State) → within S ≡ true → (isDisclosed T U (after s S cs) ≡ false) ⊎ (isDisclosed T U (after t S cs) ≡ false)
+      → (run s (stateBytes S) cs ≡ run t (stateBytes S) cs) × (after s S cs ≡ after t S cs)
+  unfolding run after
+  calls-alike [] S w q = (refl, refl)
+  calls-alike (c ∷ cs) S w q =
+      let ws : within (afterCall s S c) ≡ true = call-keeps keeps-sizes s T h S c w in
+      let wt : within (afterCall t S c) ≡ true = call-keeps keeps-sizes t U k S c w in
+      let one = call-alike S c (⊎-elim (λ z. inl (shut-before s T h (afterCall s S c) cs ws z)) (λ z. inr (shut-before t U k (afterCall t S c) cs wt z)) q) in
+      let l : leftBy s (stateBytes S) c ≡ leftBy t (stateBytes S) c = one .0 in
+      let n : afterCall s S c ≡ afterCall t S c = one .1 in
+      let rest = calls-alike cs (afterCall s S c) ws (⊎-elim (λ z. inl z) (λ z. inr (ap (λ (N : State). isDisclosed T U (after t N cs)) n ∙ z)) q) in
+      let b : leftBy s (stateBytes S) c .negotiation ≡ stateBytes (afterCall s S c) = left-after s S c in
+      let d : leftBy t (stateBytes S) c .negotiation ≡ stateBytes (afterCall s S c) = left-after t S c ∙ sym (ap stateBytes n) in
+      let more : run s (leftBy s (stateBytes S) c .negotiation) cs ≡ run t (leftBy t (stateBytes S) c .negotiation) cs =
+      ap (λ (x : List ℕ). run s x cs) b ∙ rest .0 ∙ sym (ap (λ (x : List ℕ). run t x cs) d) in
+      (λ i. l i ∷ more i, rest .1 ∙ ap (λ (N : State). after t N cs) n)
+
+-- Two runs whose tables differ only in which sensitive roles are held and in access policies
+
+module _ (s t : List ℕ) (T U : Tables) (h : readTables s ≡ accepted T) (k : readTables t ≡ accepted U) (d : DifferOnly T U) (negotiation : List ℕ) (other entity name : ℕ) where
+  -- "Begin, given the same arguments and, but for the tables, the same buffers in both runs, answers alike and leaves the same bytes; where it
+  -- accepts, the list starts there." While in one of the runs no differing role's Ack target is satisfied, every call of the list answers alike
+  -- and leaves the same bytes in both.
+  pub two-runs : (beginOf s negotiation other entity name ≡ beginOf t negotiation other entity name)
+      × ((S : State) → beginOf s negotiation other entity name ≡ begun S → (cs : List Call) → NoneSatisfied T U (after s S cs) ⊎ NoneSatisfied T U (after t S cs)
+      → (run s (stateBytes S) cs ≡ run t (stateBytes S) cs) × (after s S cs ≡ after t S cs))
+  two-runs =
+      let e : publicOf T ≡ publicOf U = accepted-public s t T U h k .0 d in (
+        begin-alike s t negotiation other entity name h k e,
+        λ S b cs n. calls-alike T U e s t h k cs S (begun-within s negotiation other entity name T S h b)
+            (⊎-elim (λ z. inl (none-open T U (after s S cs) (d .sensitive) z)) (λ z. inr (none-open T U (after t S cs) (d .sensitive) z)) n),
+      )

@@ -1,0 +1,9 @@
+pub mod Brings
+pub mod BringsLaws
+pub mod Fields
+pub mod Filled
+pub mod Places
+pub mod Brought
+pub mod SatisfiedColumns
+pub mod FailedColumns
+pub mod Complete

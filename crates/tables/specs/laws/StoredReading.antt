@@ -1,0 +1,104 @@
+-- The credentials of a storage read so far, in columns. Assumes nothing.
+use Prim.Native.Nat.{ℕ, _+_, _<_, _≤_}
+use mathlib.Core.Path.{_≡_, refl, sym, ap, _∙_, subst}
+use mathlib.Core.Bool.{Bool, true, false, cond, _||_}
+use mathlib.Core.List.{List, []}
+use native.Mathlib.Omega.{arith}
+use borrow.Author.Tests.{eqb-true}
+use lib.Dec.{eqb}
+use lib.ListN.{length}
+use Rattle.expression.specs.declared.Credential.{Credential}
+use Rattle.expression.specs.Order.{beforeCredential}
+use Rattle.rt0.specs.declared.Pool.{Pool}
+use Rattle.rt0.specs.laws.Pool.{credentials}
+use Rattle.rt0.specs.laws.Added.{Sized, Stored, count-length}
+use Rattle.class.specs.declared.Name.{Name}
+use Rattle.class.specs.Names.{classOf}
+use Rattle.class.specs.Typing.{credentialNumber}
+use Rattle.record.specs.declared.Record.{Record}
+use Rattle.record.specs.declared.RecordAnswer.{RecordAnswer}
+use Rattle.record.specs.declared.RecordAnswer.the-variants as a
+use Rattle.record.specs.Record.{recordAt}
+use Rattle.tables.specs.declared.StoredStep.{StoredStep}
+use Rattle.tables.specs.declared.StoredStep.the-variants as y
+use Rattle.tables.specs.Sizes.{storedMost}
+use Rattle.tables.specs.Check.{orElse, suitsStorage, storedNumber}
+use Rattle.tables.specs.laws.Group.{rising, behind, Step, stop, judgedStep, pickedStep, stepOf, step-some, step-none, Going, numberBehind, going-start, going-next, going-above, going-stop, gone-past}
+use Rattle.tables.specs.laws.Groups.{credentialsOf, credentials-lawful, pickStored}
+use Rattle.tables.specs.laws.Reading.{storedStep, StoredGone}
+
+or-else-none : (k : ℕ) → k ≡ orElse k 0
+or-else-none k = go (eqb k 0) refl
+  where
+    go : (b : Bool) → eqb k 0 ≡ b → k ≡ cond b 0 k
+    go true e = eqb-true k 0 e
+    go false e = refl
+
+-- the number of a stored credential, whose head may stand in the storage or not
+module _ (ns : List Name) (subject : Bool) (c : Credential) {k m : ℕ} {b : Bool} (h : k ≡ credentialNumber ns c) (q : m ≡ classOf ns (c .head .name)) (e : b ≡ suitsStorage subject m) where
+  by-storage : (t : Bool) → b ≡ t → orElse k (cond t 0 5) ≡ storedNumber ns subject c
+  unfolding storedNumber
+  by-storage t u = λ i. orElse (h i) (cond ((sym u ∙ e ∙ ap (suitsStorage subject) q) i) 0 5)
+
+  pub stored-suits : b ≡ true → k ≡ storedNumber ns subject c
+  stored-suits u = or-else-none k ∙ by-storage true u
+
+  pub stored-other : b ≡ false → {r : ℕ} → r ≡ orElse k 5 → r ≡ storedNumber ns subject c
+  stored-other u w = w ∙ by-storage false u
+
+-- behind other credentials of the storage
+pub stored-behind : (ns : List Name) (subject : Bool) (count : ℕ) (last c : Credential) {k j r : ℕ} {b : Bool} → b ≡ beforeCredential last c → k ≡ storedNumber ns subject c
+    → j ≡ rising (eqb count 0 || b) count storedMost → r ≡ orElse k j → r ≡ numberBehind (credentialsOf subject) (storedNumber ns subject) count last c
+unfolding behind credentialsOf
+stored-behind ns subject count last c h n q e = e ∙ (λ i. orElse (n i) ((q ∙ ap (λ (u : Bool). rising (eqb count 0 || u) count storedMost) h) i))
+
+-- a record that was read, where a credential of the storage may stand
+module _ (ns : List Name) (subject : Bool) (count : ℕ) (last : Credential) {x t : RecordAnswer} {r : Record} (h : x ≡ t) (q : x ≡ a.Read r) where
+  pub stored-some : {w : StoredStep} {c : Credential} {z : Step Credential} → storedStep w ≡ pickedStep (λ c. 0) (pickStored subject r) → w ≡ y.Taken c
+      → z ≡ judgedStep (numberBehind (credentialsOf subject) (storedNumber ns subject) count last c) c → z ≡ stepOf (credentialsOf subject) (numberBehind (credentialsOf subject) (storedNumber ns subject) count last) t
+  unfolding credentialsOf
+  stored-some e u v = step-some (credentialsOf subject) (storedNumber ns subject) count last h q e (ap storedStep u) refl v
+
+  pub stored-none : {w : StoredStep} {k : ℕ} → storedStep w ≡ pickedStep (λ c. 0) (pickStored subject r) → w ≡ y.Stop k → stop 0 ≡ stepOf (credentialsOf subject) (numberBehind (credentialsOf subject) (storedNumber ns subject) count last) t
+  unfolding credentialsOf
+  stored-none e u = step-none (credentialsOf subject) (storedNumber ns subject) count last h q e (ap storedStep u)
+
+-- the credentials between two indices stand in the pool
+pub record ReadingStored (ns : List Name) (subject : Bool) (s : List ℕ) (start : ℕ) (P : Pool) (last : Credential) (at : ℕ) : Type 0 where
+  pub going : Going (credentialsOf subject) (storedNumber ns subject) s start (credentials P) last at
+  pub sized : Sized P
+
+pub stored-start : (ns : List Name) (subject : Bool) (s : List ℕ) (start : ℕ) (P : Pool) (last : Credential) → credentials P ≡ [] → Sized P → ReadingStored ns subject s start P last start
+stored-start ns subject s start P last h z =
+    record {
+      going = subst (λ (L : List Credential). Going (credentialsOf subject) (storedNumber ns subject) s start L last start) (sym h) (going-start last);
+      sized = z;
+    }
+
+module _ {ns : List Name} {subject : Bool} {s : List ℕ} {start : ℕ} {P : Pool} {last : Credential} {at : ℕ} (r : ReadingStored ns subject s start P last at) where
+  -- no byte is left
+  pub stored-past : length s ≤ at → StoredGone ns subject s start (record { refusal = 0; at = at; pool = P })
+  stored-past h = gone-past (r .going) h
+
+  module _ (more : at < length s) {x : StoredStep} (h : storedStep x ≡ stepOf (credentialsOf subject) (numberBehind (credentialsOf subject) (storedNumber ns subject) (P .count) last) (recordAt s at)) where
+    -- a credential is taken
+    pub stored-room : (c : Credential) → x ≡ y.Taken c → P .count < storedMost
+    unfolding credentialsOf
+    stored-room c e = going-above (r .going) more (credentials-lawful subject) (P .count) (count-length P) c (sym h ∙ ap storedStep e) .1
+
+    pub stored-next : (c : Credential) → x ≡ y.Taken c → {i : ℕ} {Q : Pool} → Stored i c P Q → ReadingStored ns subject s start Q c (at + 23)
+    unfolding credentialsOf
+    stored-next c e z =
+        record {
+          going = subst (λ (L : List Credential). Going (credentialsOf subject) (storedNumber ns subject) s start L c (at + 23)) (sym (z .all))
+              (going-next (r .going) more (credentials-lawful subject) (P .count) (count-length P) c (sym h ∙ ap storedStep e));
+          sized = z .sized;
+        }
+
+    -- the reading of credentials stops
+    pub stored-stop : (k : ℕ) → x ≡ y.Stop k → StoredGone ns subject s start (record { refusal = k; at = at; pool = P })
+    stored-stop k e = going-stop (r .going) more (credentials-lawful subject) (P .count) (count-length P) k (sym h ∙ ap storedStep e)
+
+-- a pool counts its credentials
+pub stored-few : (P : Pool) → length (credentials P) ≤ storedMost → P .count ≤ storedMost
+stored-few P h = omega (arith, h, count-length P)

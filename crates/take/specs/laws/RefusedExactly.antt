@@ -1,0 +1,319 @@
+-- A call is refused exactly where one of the reasons holds, in their order, and by its number. Assumes nothing.
+use Prim.Native.Nat.{ℕ, zero, suc, _+_, _≤_, _<_}
+use native.Mathlib.Omega.{arith}
+use mathlib.Core.Path.{_≡_, refl, sym, _∙_, ap, subst}
+use mathlib.Core.Logic.{_⊎_, inl, inr, ⊎-elim}
+use mathlib.Core.Bool.{Bool, true, false, not, cond, _&&_, _||_}
+use mathlib.Core.List.{List, [], _∷_, _++_, append-assoc}
+use mathlib.Core.Option.{Option}
+use mathlib.Core.Option as O
+use borrow.Author.Tests.{eqb-true, eqb-false}
+use lib.Dec.{eqb, leb}
+use lib.ListN.{length, getD, drop, length-append, length-drop, take-append-drop}
+use lib.Seq.{drop-at, drop-drop}
+use Rattle.word.specs.laws.Bools.{false-true}
+use Rattle.expression.specs.declared.Credential.{Credential}
+use Rattle.class.specs.declared.Name.{Name}
+use Rattle.class.specs.declared.Typing.{Typing}
+use Rattle.class.specs.declared.Typing.the-variants.{Unnamed, Ill, Any, Class}
+use Rattle.class.specs.Names.{classOf}
+use Rattle.class.specs.Typing.{typeOf, suits, isUnnamed, credentialNumber}
+use Rattle.message.specs.declared.Command.{Command}
+use Rattle.message.specs.declared.Command.the-variants.{Show, Open, Bring, Join, Mark, End}
+use Rattle.message.specs.declared.CommandAnswer.{CommandAnswer}
+use Rattle.message.specs.declared.CommandAnswer.the-variants.{Read, Refused}
+use Rattle.message.specs.Command.{commandAt, sizeOf, commandBytes}
+use Rattle.message.specs.laws.Command.{nothing}
+use Rattle.message.specs.laws.CommandExact.{command-length, command-room, command-refusal, command-formed, command-only, command-back}
+use Rattle.tables.specs.Tables.{Tables}
+use Rattle.tables.specs.Check.{readTables}
+use Rattle.tables.specs.Check as H
+use Rattle.tables.specs.laws.Accepted.{check-numbers}
+use Rattle.negotiation.specs.State.{State}
+use Rattle.damage.specs.Damage.{readSound}
+use Rattle.damage.specs.Restored as R
+use Rattle.update.specs.Step.{stepped, isMove}
+use Rattle.update.specs.Legal.{refuse, first, showNumber, openNumber, markNumber, endNumber, joinNumber, typeNumber, bringNumber, legalBy, legalNumber}
+use Rattle.update.specs.Update.{Legal}
+use Rattle.update.specs.laws.UpdateExact.{legal-exactly}
+use Rattle.take.specs.Commands as C
+use Rattle.take.specs.laws.Commands.{refusalOf}
+use Rattle.take.specs.Take.{sends, Outcome, refused, accepted, behindCommands, senderTo, takenIn, behindStanding, messageSize, takeOf}
+use Rattle.take.specs.Message.{bytesOf, Updates, none, next, Wrong, unreadable, illegal, Stops}
+use Rattle.take.specs.Call.{Stands, InTurn, Refusal, size, unrestored, ended, out-of-turn, stopped}
+use Rattle.take.specs.laws.TakenExactly.{size-some, taken-one, take-ended, take-out-of-turn, take-commands}
+
+-- what an answer is
+abbrev isRefused : C.Taken → Bool
+isRefused (C.refused k) = true
+isRefused (C.taken S v) = false
+
+abbrev numberTaken : C.Taken → ℕ
+numberTaken (C.refused k) = k
+numberTaken (C.taken S v) = 0
+
+abbrev isRefusal : Outcome → Bool
+isRefusal (refused k) = true
+isRefusal (accepted S) = false
+
+abbrev numberOf : Outcome → ℕ
+numberOf (refused k) = k
+numberOf (accepted S) = 0
+
+-- The commands
+
+module _ (ns : List Name) (s : ℕ) (m : List ℕ) where
+  judged-refused : (k : ℕ) (x : C.Taken) → (k ≡ 0 → ⊥) → C.judged k x ≡ C.refused k
+  judged-refused zero x z = absurd (z refl)
+  judged-refused (suc k) x z = refl
+
+  -- a command that is refused
+  refused-here : (f at : ℕ) (S : State) (v : Bool) (k : ℕ) → length m ≤ f + at → Wrong ns s m at S k → C.commandsFrom f ns s m at S v ≡ C.refused k
+  unfolding C.commandsFrom
+  refused-here zero at S v k l (unreadable e) = ap (λ (a : CommandAnswer). C.refused (refusalOf a)) (nothing m at (omega arith) ∙ e)
+  refused-here zero at S v k l (illegal c e q z) = absurd (omega (arith, l, command-room m at c e, size-some c))
+  refused-here (suc f) at S v k l (unreadable e) = ap (C.onCommand (λ size T w. C.commandsFrom f ns s m (at + size) T w) ns s S v) e
+  refused-here (suc f) at S v k l (illegal c e q z) =
+      let x : C.Taken = cond (C.isEnd c) (C.taken S v) (C.commandsFrom f ns s m (at + sizeOf c) (stepped S s c) (v || isMove c)) in
+      ap (C.onCommand (λ size T w. C.commandsFrom f ns s m (at + size) T w) ns s S v) e ∙ ap (λ (n : ℕ). C.judged n x) q ∙ judged-refused k x z
+
+  -- and those before it
+  refused-behind : {S T : State} {cs : List Command} → Updates ns s S cs T → (f at : ℕ) (v : Bool) (rest : List ℕ) (k : ℕ) → drop at m ≡ bytesOf cs ++ rest → length m ≤ f + at → Wrong ns s m (at + length (bytesOf cs)) T k → C.commandsFrom f ns s m at S v ≡ C.refused k
+  refused-behind (none {S}) f at v rest k h l w = let z : at + 0 ≡ at = omega arith in refused-here f at S v k l (subst (λ (n : ℕ). Wrong ns s m n S k) z w)
+  refused-behind (next {S} {T} {c} {cs} b g e u) zero at v rest k h l w =
+      absurd (omega (arith, l, length-drop at m, ap length h, length-append (commandBytes c ++ bytesOf cs) rest, length-append (commandBytes c) (bytesOf cs), command-length c, size-some c))
+  refused-behind (next {S} {T} {c} {cs} b g e u) (suc f) at v rest k h l w =
+      let there : drop at m ≡ commandBytes c ++ (bytesOf cs ++ rest) = h ∙ append-assoc (commandBytes c) (bytesOf cs) rest in
+      let behind : at + length (commandBytes c ++ bytesOf cs) ≡ at + sizeOf c + length (bytesOf cs) = omega (arith, length-append (commandBytes c) (bytesOf cs), command-length c) in
+      taken-one ns s m f at S v c (command-back m at c (bytesOf cs ++ rest) there g (λ q. absurd (false-true (sym b ∙ ap C.isEnd q)))) e
+      ∙ ap (λ (x : Bool). cond x (C.taken S v) (C.commandsFrom f ns s m (at + sizeOf c) (stepped S s c) (v || isMove c))) b
+      ∙ refused-behind u f (at + sizeOf c) (v || isMove c) rest k (sym (drop-drop (sizeOf c) at m) ∙ ap (drop (sizeOf c)) there ∙ drop-at (commandBytes c) (bytesOf cs ++ rest) (sizeOf c) (command-length c))
+      (omega (arith, l, size-some c)) (subst (λ (n : ℕ). Wrong ns s m n T k) behind w)
+
+  module _ (bytes : (i : ℕ) → getD m i 0 < 256) (k : ℕ) where
+    -- the commands from an index on
+    record Rest (at : ℕ) (S : State) : Type 0 where
+      before : List Command
+      led : State
+      rest : List ℕ
+      there : drop at m ≡ bytesOf before ++ rest
+      updates : Updates ns s S before led
+      wrong : Wrong ns s m (at + length (bytesOf before)) led k
+
+    rest-here : (at : ℕ) (S : State) → Wrong ns s m at S k → Rest at S
+    rest-here at S w = let z : at ≡ at + 0 = omega arith in record { before = []; led = S; rest = drop at m; there = refl; updates = none; wrong = subst (λ (n : ℕ). Wrong ns s m n S k) z w }
+
+    rest-next : (at : ℕ) (S : State) (c : Command) → C.isEnd c ≡ false → commandAt m at ≡ Read c → Legal ns s S c → Rest (at + sizeOf c) (stepped S s c) → Rest at S
+    rest-next at S c b e l r =
+        let z : at + sizeOf c + length (bytesOf (r .before)) ≡ at + length (commandBytes c ++ bytesOf (r .before)) = omega (arith, length-append (commandBytes c) (bytesOf (r .before)), command-length c) in
+        record {
+          before = c ∷ r .before;
+          led = r .led;
+          rest = r .rest;
+          there = sym (take-append-drop (sizeOf c) (drop at m)) ∙ (λ i. command-only m at c bytes e i ++ (drop-drop (sizeOf c) at m ∙ r .there) i) ∙ sym (append-assoc (commandBytes c) (bytesOf (r .before)) (r .rest));
+          updates = next b (command-formed m at c e) l (r .updates);
+          wrong = subst (λ (n : ℕ). Wrong ns s m n (r .led) k) z (r .wrong);
+        }
+
+    abbrev Leads : ℕ → Type 0
+    Leads f = (at : ℕ) (S : State) (v : Bool) → length m ≤ f + at → C.commandsFrom f ns s m at S v ≡ C.refused k → Rest at S
+
+    module _ (f : ℕ) (behind : Leads f) (at : ℕ) (S : State) (v : Bool) (enough : length m ≤ suc f + at) where
+      rest-command : (c : Command) → commandAt m at ≡ Read c → Legal ns s S c → (b : Bool) → C.isEnd c ≡ b → cond b (C.taken S v) (C.commandsFrom f ns s m (at + sizeOf c) (stepped S s c) (v || isMove c)) ≡ C.refused k → Rest at S
+      rest-command c e l true b q = absurd (false-true (ap isRefused q))
+      rest-command c e l false b q = rest-next at S c b e l (behind (at + sizeOf c) (stepped S s c) (v || isMove c) (omega (arith, enough, size-some c)) q)
+
+      rest-number : (c : Command) → commandAt m at ≡ Read c → (j : ℕ) → legalNumber ns s S c ≡ j → C.judged j (cond (C.isEnd c) (C.taken S v) (C.commandsFrom f ns s m (at + sizeOf c) (stepped S s c) (v || isMove c))) ≡ C.refused k → Rest at S
+      rest-number c e zero l q = rest-command c e (legal-exactly ns s S c .0 l) (C.isEnd c) refl q
+      rest-number c e (suc j) l q = let z : suc j ≡ k = ap numberTaken q in rest-here at S (illegal c e (l ∙ z) (λ y. omega (arith, y, z)))
+
+      rest-answer : (a : CommandAnswer) → commandAt m at ≡ a → C.onCommand (λ size U x. C.commandsFrom f ns s m (at + size) U x) ns s S v a ≡ C.refused k → Rest at S
+      rest-answer (Refused j) e q = rest-here at S (unreadable (e ∙ ap Refused (ap numberTaken q)))
+      rest-answer (Read c) e q = rest-number c e (legalNumber ns s S c) refl q
+
+    rest-all : (f : ℕ) → Leads f
+    unfolding C.commandsFrom
+    rest-all zero at S v l h = rest-here at S (unreadable (sym (nothing m at (omega arith)) ∙ ap Refused (ap numberTaken h)))
+    rest-all (suc f) at S v l h = rest-answer f (rest-all f) at S v l (commandAt m at) refl h
+
+    -- the commands of a message are refused exactly where one of them is, those before it being legal
+    pub stops-exactly : (S : State) → (C.commandsFrom (length m) ns s m 0 S false ≡ C.refused k → Stops ns s m S k) × (Stops ns s m S k → C.commandsFrom (length m) ns s m 0 S false ≡ C.refused k)
+    stops-exactly S = (
+      λ h.
+          let r = rest-all (length m) 0 S false (omega arith) h in
+          let z : 0 + length (bytesOf (r .before)) ≡ length (bytesOf (r .before)) = omega arith in
+          record { before = r .before; led = r .led; rest = r .rest; bytes = r .there; updates = r .updates; wrong = subst (λ (n : ℕ). Wrong ns s m n (r .led) k) z (r .wrong) },
+      λ r.
+          let z : length (bytesOf (r .before)) ≡ 0 + length (bytesOf (r .before)) = omega arith in
+          refused-behind (r .updates) (length m) 0 false (r .rest) k (r .bytes) (omega arith) (subst (λ (n : ℕ). Wrong ns s m n (r .led) k) z (r .wrong)),
+    )
+
+-- The call
+
+module _ (tables negotiation message scratch : List ℕ) (bytes : (i : ℕ) → getD message i 0 < 256) (k : ℕ) where
+  abbrev leadsTo : Tables → State → C.Taken
+  leadsTo T S = C.commandsFrom (length message) (T .names) (senderTo S) message 0 S false
+
+  by-commands : (T : Tables) (S : State) → Stands tables negotiation message scratch T S → InTurn S → (x : C.Taken) → leadsTo T S ≡ x → behindCommands x ≡ refused k → Refusal tables negotiation message scratch k
+  by-commands T S h t (C.refused j) e q = stopped h t (stops-exactly (T .names) (senderTo S) message bytes k S .0 (e ∙ ap C.refused (ap numberOf q)))
+  by-commands T S h t (C.taken U v) e q = absurd (false-true (ap isRefusal q))
+
+  by-turn : (T : Tables) (S : State) → Stands tables negotiation message scratch T S → S .header .end ≡ 0 → (b : Bool) → sends (senderTo S) (S .header .messages) ≡ b → cond (not b) (refused 21) (behindCommands (leadsTo T S)) ≡ refused k → Refusal tables negotiation message scratch k
+  by-turn T S h e true g q = by-commands T S h (record { going = e; turn = g }) (leadsTo T S) refl q
+  by-turn T S h e false g q = out-of-turn h e g (sym (ap numberOf q))
+
+  by-end : (T : Tables) (S : State) → Stands tables negotiation message scratch T S → (b : Bool) → eqb (S .header .end) 0 ≡ b → cond (not b) (refused 22) (cond (not (sends (senderTo S) (S .header .messages))) (refused 21) (behindCommands (leadsTo T S))) ≡ refused k → Refusal tables negotiation message scratch k
+  by-end T S h true g q = by-turn T S h (eqb-true (S .header .end) 0 g) (sends (senderTo S) (S .header .messages)) refl q
+  by-end T S h false g q = ended h (eqb-false (S .header .end) 0 g) (sym (ap numberOf q))
+
+  by-standing : messageSize (length message) (length scratch) ≡ true → (x : R.Standing) → R.restoreOf tables negotiation ≡ x → behindStanding message x ≡ refused k → Refusal tables negotiation message scratch k
+  unfolding takenIn
+  by-standing h (R.refusal j) e q = unrestored h (e ∙ ap R.refusal (ap numberOf q))
+  by-standing h (R.standing T S) e q = by-end T S (record { sized = h; restored = e }) (eqb (S .header .end) 0) refl q
+
+  by-size : (b : Bool) → messageSize (length message) (length scratch) ≡ b → cond b (behindStanding message (R.restoreOf tables negotiation)) (refused 1) ≡ refused k → Refusal tables negotiation message scratch k
+  by-size true h q = by-standing h (R.restoreOf tables negotiation) refl q
+  by-size false h q = size h (sym (ap numberOf q))
+
+  reason : takeOf tables negotiation message scratch ≡ refused k → Refusal tables negotiation message scratch k
+  unfolding takeOf
+  reason q = by-size (messageSize (length message) (length scratch)) refl q
+
+  refuses : Refusal tables negotiation message scratch k → takeOf tables negotiation message scratch ≡ refused k
+  unfolding takeOf
+  refuses (size h e) = ap (λ (b : Bool). cond b (behindStanding message (R.restoreOf tables negotiation)) (refused 1)) h ∙ ap refused (sym e)
+  refuses (unrestored h e) = λ i. cond (h i) (behindStanding message (e i)) (refused 1)
+  refuses (ended {T} {S} h z e) = take-ended tables negotiation message scratch T S h z ∙ ap refused (sym e)
+  refuses (out-of-turn {T} {S} h z g e) = take-out-of-turn tables negotiation message scratch T S h z g ∙ ap refused (sym e)
+  refuses (stopped {T} {S} h t r) = take-commands tables negotiation message scratch T S h t ∙ ap behindCommands (stops-exactly (T .names) (senderTo S) message bytes k S .1 r)
+
+  -- a call is refused with k exactly where one of the reasons holds
+  pub refused-exactly : (takeOf tables negotiation message scratch ≡ refused k → Refusal tables negotiation message scratch k) × (Refusal tables negotiation message scratch k → takeOf tables negotiation message scratch ≡ refused k)
+  refused-exactly = (reason, refuses)
+
+-- Numbers
+
+-- none, or one that a command is refused with: 2 to 5, or 23 and above
+abbrev byCommand : ℕ → Bool
+byCommand k = eqb k 0 || (leb 2 k && leb k 5) || leb 23 k
+
+refuse-by : (b : Bool) (k rest : ℕ) → byCommand k ≡ true → byCommand rest ≡ true → byCommand (refuse b k rest) ≡ true
+unfolding refuse
+refuse-by true k rest h g = h
+refuse-by false k rest h g = g
+
+first-by : (k rest : ℕ) → byCommand k ≡ true → byCommand rest ≡ true → byCommand (first k rest) ≡ true
+unfolding first
+first-by k rest h g = go (eqb k 0)
+  where
+    go : (b : Bool) → byCommand (cond b rest k) ≡ true
+    go true = g
+    go false = h
+
+cond-by : (b : Bool) (j k : ℕ) → byCommand j ≡ true → byCommand k ≡ true → byCommand (cond b j k) ≡ true
+cond-by true j k h g = h
+cond-by false j k h g = g
+
+credential-by : (ns : List Name) (c : Credential) → byCommand (credentialNumber ns c) ≡ true
+unfolding credentialNumber
+credential-by ns c =
+    let rules : Bool = suits (typeOf ns (c .body)) (classOf ns (c .head .name)) in
+    cond-by (eqb (classOf ns (c .head .name)) 0 || isUnnamed (typeOf ns (c .body))) 4 (cond rules 0 5) refl (cond-by rules 0 5 refl refl)
+
+type-by : (t : Typing) → byCommand (typeNumber t) ≡ true
+type-by Unnamed = refl
+type-by Ill = refl
+type-by Any = refl
+type-by (Class a) = refl
+
+legal-by : (ns : List Name) (s : ℕ) (S : State) (c : Command) → byCommand (legalNumber ns s S c) ≡ true
+unfolding legalNumber legalBy showNumber openNumber bringNumber joinNumber markNumber endNumber
+legal-by ns s S (Show c) = first-by (credentialNumber ns c) _ (credential-by ns c) (refuse-by _ 23 _ refl (refuse-by _ 25 _ refl (refuse-by _ 28 0 refl refl)))
+legal-by ns s S (Open o) = refuse-by _ 4 _ refl (refuse-by _ 23 0 refl refl)
+legal-by ns s S (Bring n) =
+    first-by (typeNumber (typeOf ns (n .expression))) _ (type-by (typeOf ns (n .expression)))
+    (refuse-by _ 23 _ refl (refuse-by _ 24 _ refl (refuse-by _ 25 _ refl (refuse-by _ 26 _ refl (refuse-by _ 27 _ refl (refuse-by _ 28 0 refl refl))))))
+legal-by ns s S (Join e) = refuse-by _ 23 _ refl (refuse-by _ 24 _ refl (refuse-by _ 25 _ refl (refuse-by _ 26 _ refl (refuse-by _ 27 _ refl (refuse-by _ 28 0 refl refl)))))
+legal-by ns s S (Mark i) = refuse-by _ 23 _ refl (refuse-by _ 24 _ refl (refuse-by _ 27 0 refl refl))
+legal-by ns s S End = refuse-by _ 23 0 refl refl
+
+wrong-by : {ns : List Name} {s : ℕ} {m : List ℕ} {at : ℕ} {S : State} {k : ℕ} → Wrong ns s m at S k → byCommand k ≡ true
+wrong-by {m = m} {at = at} {k = k} (unreadable e) = ⊎-elim (λ z. ap byCommand z) (λ z. ap byCommand z) (command-refusal m at k e)
+wrong-by {ns} {s} {S = S} (illegal c e q z) = sym (ap byCommand q) ∙ legal-by ns s S c
+
+abbrev numberStanding : R.Standing → ℕ
+numberStanding (R.refusal k) = k
+numberStanding (R.standing T S) = 0
+
+abbrev isUnrestored : R.Standing → Bool
+isUnrestored (R.refusal k) = true
+isUnrestored (R.standing T S) = false
+
+-- the negotiation's length is refused by 1, the tables by their number, damage by 20
+module _ (tables negotiation : List ℕ) (k : ℕ) where
+  abbrev Unrestored : Type 0
+  Unrestored = ((length negotiation ≡ 5120 → ⊥) × (k ≡ 1)) ⊎ ((readTables tables ≡ H.refused k) ⊎ (k ≡ 20))
+
+  by-state : (T : Tables) (x : Option State) → R.behindDamage T x ≡ R.refusal k → k ≡ 20
+  by-state T O.none q = sym (ap numberStanding q)
+  by-state T (O.some S) q = absurd (false-true (ap isUnrestored q))
+
+  by-tables : (x : H.Outcome) → readTables tables ≡ x → R.behindTables negotiation x ≡ R.refusal k → Unrestored
+  by-tables (H.refused j) e q = inr (inl (e ∙ ap H.refused (ap numberStanding q)))
+  by-tables (H.accepted T) e q = inr (inr (by-state T (readSound T negotiation) q))
+
+  by-length : (b : Bool) → eqb (length negotiation) 5120 ≡ b → cond b (R.behindTables negotiation (readTables tables)) (R.refusal 1) ≡ R.refusal k → Unrestored
+  by-length true e q = by-tables (readTables tables) refl q
+  by-length false e q = inl (eqb-false (length negotiation) 5120 e, sym (ap numberStanding q))
+
+  unrestored-by : R.restoreOf tables negotiation ≡ R.refusal k → Unrestored
+  unfolding R.restoreOf
+  unrestored-by h = by-length (eqb (length negotiation) 5120) refl h
+
+  unrestored-number : R.restoreOf tables negotiation ≡ R.refusal k → (k ≤ 6) ⊎ (k ≡ 20)
+  unrestored-number h = ⊎-elim (λ z. inl (omega (arith, z .1))) (λ z. ⊎-elim (λ y. inl (check-numbers tables k y .1)) (λ y. inr y) z) (unrestored-by h)
+
+module _ (tables negotiation message scratch : List ℕ) (bytes : (i : ℕ) → getD message i 0 < 256) where
+  -- 22 is given to a negotiation that has ended, and to no other
+  pub ended-only : takeOf tables negotiation message scratch ≡ refused 22 → (T : Tables) × (S : State) × Stands tables negotiation message scratch T S × (S .header .end ≡ 0 → ⊥)
+  ended-only q = go (refused-exactly tables negotiation message scratch bytes 22 .0 q)
+    where
+      go : Refusal tables negotiation message scratch 22 → (T : Tables) × (S : State) × Stands tables negotiation message scratch T S × (S .header .end ≡ 0 → ⊥)
+      go (size h e) = absurd (omega (arith, e))
+      go (unrestored h e) = absurd (⊎-elim (λ z. omega (arith, z)) (λ z. omega (arith, z)) (unrestored-number tables negotiation 22 e))
+      go (ended {T} {S} h z e) = (T, S, h, z)
+      go (out-of-turn h z g e) = absurd (omega (arith, e))
+      go (stopped h t r) = absurd (false-true (wrong-by (r .wrong)))
+
+  -- 21 to a message out of turn, and to no other
+  pub turn-only : takeOf tables negotiation message scratch ≡ refused 21 → (T : Tables) × (S : State) × Stands tables negotiation message scratch T S × (S .header .end ≡ 0) × (sends (senderTo S) (S .header .messages) ≡ false)
+  turn-only q = go (refused-exactly tables negotiation message scratch bytes 21 .0 q)
+    where
+      go : Refusal tables negotiation message scratch 21 → (T : Tables) × (S : State) × Stands tables negotiation message scratch T S × (S .header .end ≡ 0) × (sends (senderTo S) (S .header .messages) ≡ false)
+      go (size h e) = absurd (omega (arith, e))
+      go (unrestored h e) = absurd (⊎-elim (λ z. omega (arith, z)) (λ z. omega (arith, z)) (unrestored-number tables negotiation 21 e))
+      go (ended h z e) = absurd (omega (arith, e))
+      go (out-of-turn {T} {S} h z g e) = (T, S, h, z, g)
+      go (stopped h t r) = absurd (false-true (wrong-by (r .wrong)))
+
+  -- 20 to a negotiation that is damaged, and to no other
+  pub damaged-only : takeOf tables negotiation message scratch ≡ refused 20 → R.restoreOf tables negotiation ≡ R.refusal 20
+  damaged-only q = go (refused-exactly tables negotiation message scratch bytes 20 .0 q)
+    where
+      go : Refusal tables negotiation message scratch 20 → R.restoreOf tables negotiation ≡ R.refusal 20
+      go (size h e) = absurd (omega (arith, e))
+      go (unrestored h e) = e
+      go (ended h z e) = absurd (omega (arith, e))
+      go (out-of-turn h z g e) = absurd (omega (arith, e))
+      go (stopped h t r) = absurd (false-true (wrong-by (r .wrong)))
+
+  -- 1 to a length: the message's or the scratch's, the negotiation's, the tables'
+  pub length-only : takeOf tables negotiation message scratch ≡ refused 1 → (messageSize (length message) (length scratch) ≡ false) ⊎ ((length negotiation ≡ 5120 → ⊥) ⊎ (readTables tables ≡ H.refused 1))
+  length-only q = go (refused-exactly tables negotiation message scratch bytes 1 .0 q)
+    where
+      go : Refusal tables negotiation message scratch 1 → (messageSize (length message) (length scratch) ≡ false) ⊎ ((length negotiation ≡ 5120 → ⊥) ⊎ (readTables tables ≡ H.refused 1))
+      go (size h e) = inl h
+      go (unrestored h e) = inr (⊎-elim (λ z. inl (z .0)) (λ z. ⊎-elim (λ y. inr y) (λ y. absurd (omega (arith, y))) z) (unrestored-by tables negotiation 1 e))
+      go (ended h z e) = absurd (omega (arith, e))
+      go (out-of-turn h z g e) = absurd (omega (arith, e))
+      go (stopped h t r) = absurd (false-true (wrong-by (r .wrong)))

@@ -1,0 +1,231 @@
+-- A message is taken exactly where it consists of legal commands and an end, and leads where they lead. Assumes nothing.
+use Prim.Native.Nat.{ℕ, zero, suc, _+_, _≤_, _<_}
+use native.Mathlib.Omega.{arith}
+use mathlib.Core.Path.{_≡_, refl, sym, _∙_, ap, subst}
+use mathlib.Core.Bool.{Bool, true, false, not, cond, _||_, or-false, or-assoc}
+use mathlib.Core.List.{List, [], _∷_, _++_, append-nil}
+use borrow.Author.Tests.{eq-eqb, eqb-true, ne-eqb}
+use lib.Dec.{eqb}
+use lib.ListN.{length, getD, drop, length-append, length-drop, take-append-drop}
+use lib.Seq.{drop-at, drop-drop, take-all}
+use Rattle.word.specs.laws.Bools.{false-true}
+use Rattle.class.specs.declared.Name.{Name}
+use Rattle.message.specs.declared.Command.{Command}
+use Rattle.message.specs.declared.Command.the-variants.{Show, Open, Bring, Join, Mark, End}
+use Rattle.message.specs.declared.CommandAnswer.{CommandAnswer}
+use Rattle.message.specs.declared.CommandAnswer.the-variants.{Read, Refused}
+use Rattle.message.specs.Command.{commandAt, sizeOf, formedCommand, commandBytes}
+use Rattle.message.specs.laws.CommandExact.{command-length, command-formed, command-only, command-end, command-back}
+use Rattle.tables.specs.Tables.{Tables}
+use Rattle.negotiation.specs.State.{State}
+use Rattle.damage.specs.Restored as R
+use Rattle.update.specs.Step.{stepped, isMove}
+use Rattle.update.specs.Legal.{legalNumber}
+use Rattle.update.specs.After.{afterMessage}
+use Rattle.update.specs.Update.{Legal}
+use Rattle.update.specs.laws.UpdateExact.{legal-exactly}
+use Rattle.take.specs.Commands as C
+use Rattle.take.specs.Take.{sends, Outcome, refused, accepted, behindCommands, senderTo, takenIn, behindStanding, messageSize, takeOf}
+use Rattle.take.specs.Message.{messageBytes, Updates, none, next, moved, Carries}
+use Rattle.take.specs.Call.{Stands, InTurn, Accepted}
+
+-- what an answer is
+abbrev isTaken : C.Taken → Bool
+isTaken (C.refused k) = false
+isTaken (C.taken S v) = true
+
+abbrev stateTaken : State → C.Taken → State
+stateTaken S (C.refused k) = S
+stateTaken S (C.taken T v) = T
+
+abbrev movedTaken : C.Taken → Bool
+movedTaken (C.refused k) = false
+movedTaken (C.taken T v) = v
+
+abbrev isAccepted : Outcome → Bool
+isAccepted (refused k) = false
+isAccepted (accepted S) = true
+
+abbrev stateAccepted : State → Outcome → State
+stateAccepted S (refused k) = S
+stateAccepted S (accepted T) = T
+
+only-end : (c : Command) → C.isEnd c ≡ true → c ≡ End
+only-end (Show c) h = absurd (false-true h)
+only-end (Open o) h = absurd (false-true h)
+only-end (Bring n) h = absurd (false-true h)
+only-end (Join e) h = absurd (false-true h)
+only-end (Mark i) h = absurd (false-true h)
+only-end End h = refl
+
+-- a command has a byte
+pub size-some : (c : Command) → 0 < sizeOf c
+size-some (Show c) = omega arith
+size-some (Open o) = omega arith
+size-some (Bring n) = omega arith
+size-some (Join e) = omega arith
+size-some (Mark i) = omega arith
+size-some End = omega arith
+
+module _ (ns : List Name) (s : ℕ) (m : List ℕ) where
+  -- Legal commands are taken
+
+  -- one command, carried out
+  pub taken-one : (f at : ℕ) (S : State) (v : Bool) (c : Command) → commandAt m at ≡ Read c → Legal ns s S c
+      → C.commandsFrom (suc f) ns s m at S v ≡ cond (C.isEnd c) (C.taken S v) (C.commandsFrom f ns s m (at + sizeOf c) (stepped S s c) (v || isMove c))
+  unfolding C.commandsFrom
+  taken-one f at S v c e l =
+      ap (C.onCommand (λ size T w. C.commandsFrom f ns s m (at + size) T w) ns s S v) e
+      ∙ ap (λ (k : ℕ). C.judged k (cond (C.isEnd c) (C.taken S v) (C.commandsFrom f ns s m (at + sizeOf c) (stepped S s c) (v || isMove c)))) (legal-exactly ns s S c .1 l)
+
+  -- the commands from an index on
+  pub carried : {S T : State} {cs : List Command} → Updates ns s S cs T → Legal ns s T End → (f at : ℕ) (v : Bool) → drop at m ≡ messageBytes cs → length (messageBytes cs) ≤ f → C.commandsFrom f ns s m at S v ≡ C.taken T (v || moved cs)
+  unfolding commandBytes formedCommand
+  carried (none {S}) l zero at v h few = absurd (omega arith)
+  carried (none {S}) l (suc f) at v h few = taken-one f at S v End (command-back m at End [] h refl (λ q. refl)) l ∙ ap (C.taken S) (sym (or-false v))
+  carried (next {S} {T} {c} {cs} e g k u) l zero at v h few = absurd (omega (arith, length-append (commandBytes c) (messageBytes cs), command-length c, size-some c))
+  carried (next {S} {T} {c} {cs} e g k u) l (suc f) at v h few =
+      taken-one f at S v c (command-back m at c (messageBytes cs) h g (λ q. absurd (false-true (sym e ∙ ap C.isEnd q)))) k
+      ∙ ap (λ (b : Bool). cond b (C.taken S v) (C.commandsFrom f ns s m (at + sizeOf c) (stepped S s c) (v || isMove c))) e
+      ∙ carried u l f (at + sizeOf c) (v || isMove c) (sym (drop-drop (sizeOf c) at m) ∙ ap (drop (sizeOf c)) h ∙ drop-at (commandBytes c) (messageBytes cs) (sizeOf c) (command-length c))
+      (omega (arith, few, length-append (commandBytes c) (messageBytes cs), command-length c, size-some c))
+      ∙ ap (C.taken T) (or-assoc v (isMove c) (moved cs))
+
+  -- What is taken are legal commands
+
+  module _ (bytes : (i : ℕ) → getD m i 0 < 256) where
+    -- the bytes from an index on are those of commands that lead from S to T
+    record Rest (at : ℕ) (S : State) (v : Bool) (T : State) (w : Bool) : Type 0 where
+      commands : List Command
+      there : drop at m ≡ messageBytes commands
+      updates : Updates ns s S commands T
+      end : Legal ns s T End
+      moves : w ≡ (v || moved commands)
+
+    abbrev Leads : ℕ → State → Bool → Type 0
+    Leads f T w = (at : ℕ) (S : State) (v : Bool) → C.commandsFrom f ns s m at S v ≡ C.taken T w → Rest at S v T w
+
+    -- an end, the last byte
+    rest-end : (at : ℕ) (S : State) (v : Bool) → commandAt m at ≡ Read End → Legal ns s S End → Rest at S v S v
+    rest-end at S v e l =
+        let size : length (drop at m) ≤ 1 = omega (arith, length-drop at m, command-end m at e) in
+        record { commands = []; there = sym (take-all 1 (drop at m) size) ∙ command-only m at End bytes e ∙ sym (append-nil (commandBytes End)); updates = none; end = l; moves = sym (or-false v) }
+
+    -- another command, and those behind it
+    rest-next : (at : ℕ) (S : State) (v : Bool) (T : State) (w : Bool) (c : Command) → C.isEnd c ≡ false → commandAt m at ≡ Read c → Legal ns s S c → Rest (at + sizeOf c) (stepped S s c) (v || isMove c) T w → Rest at S v T w
+    rest-next at S v T w c b e l r =
+        record {
+          commands = c ∷ r .commands;
+          there = sym (take-append-drop (sizeOf c) (drop at m)) ∙ (λ i. command-only m at c bytes e i ++ (drop-drop (sizeOf c) at m ∙ r .there) i);
+          updates = next b (command-formed m at c e) l (r .updates);
+          end = r .end;
+          moves = r .moves ∙ or-assoc v (isMove c) (moved (r .commands));
+        }
+
+    module _ (f : ℕ) (T : State) (w : Bool) (behind : Leads f T w) (at : ℕ) (S : State) (v : Bool) where
+      rest-command : (c : Command) → commandAt m at ≡ Read c → Legal ns s S c → (b : Bool) → C.isEnd c ≡ b → cond b (C.taken S v) (C.commandsFrom f ns s m (at + sizeOf c) (stepped S s c) (v || isMove c)) ≡ C.taken T w → Rest at S v T w
+      rest-command c e l true b q =
+          let t : S ≡ T = ap (stateTaken S) q in
+          let u : v ≡ w = ap movedTaken q in
+          let z : c ≡ End = only-end c b in
+          subst (λ (U : State). Rest at S v U w) t (subst (Rest at S v S) u (rest-end at S v (e ∙ ap Read z) (subst (Legal ns s S) z l)))
+      rest-command c e l false b q = rest-next at S v T w c b e l (behind (at + sizeOf c) (stepped S s c) (v || isMove c) q)
+
+      rest-number : (c : Command) → commandAt m at ≡ Read c → (k : ℕ) → legalNumber ns s S c ≡ k → C.judged k (cond (C.isEnd c) (C.taken S v) (C.commandsFrom f ns s m (at + sizeOf c) (stepped S s c) (v || isMove c))) ≡ C.taken T w → Rest at S v T w
+      rest-number c e zero l q = rest-command c e (legal-exactly ns s S c .0 l) (C.isEnd c) refl q
+      rest-number c e (suc k) l q = absurd (false-true (ap isTaken q))
+
+      rest-answer : (a : CommandAnswer) → commandAt m at ≡ a → C.onCommand (λ size U x. C.commandsFrom f ns s m (at + size) U x) ns s S v a ≡ C.taken T w → Rest at S v T w
+      rest-answer (Refused k) e q = absurd (false-true (ap isTaken q))
+      rest-answer (Read c) e q = rest-number c e (legalNumber ns s S c) refl q
+
+    rest-all : (f : ℕ) (T : State) (w : Bool) → Leads f T w
+    unfolding C.commandsFrom
+    rest-all zero T w at S v h = absurd (false-true (ap isTaken h))
+    rest-all (suc f) T w at S v h = rest-answer f T w (rest-all f T w) at S v (commandAt m at) refl h
+
+    -- the commands of a message are carried out exactly where it consists of legal commands and an end
+    pub commands-exactly : (S T : State) (v : Bool)
+        → (C.commandsFrom (length m) ns s m 0 S false ≡ C.taken T v → (cs : List Command) × Carries ns s m S cs T × (v ≡ moved cs))
+        × (((cs : List Command) × Carries ns s m S cs T × (v ≡ moved cs)) → C.commandsFrom (length m) ns s m 0 S false ≡ C.taken T v)
+    commands-exactly S T v = (
+      λ h. let r = rest-all (length m) T v 0 S false h in (r .commands, record { bytes = r .there; updates = r .updates; end = r .end }, r .moves),
+      λ r. carried (r .1 .updates) (r .1 .end) (length m) 0 false (r .1 .bytes) (omega (arith, ap length (r .1 .bytes))) ∙ ap (C.taken T) (sym (r .2)),
+    )
+
+-- The call
+
+module _ (tables negotiation message scratch : List ℕ) (T : Tables) (S : State) (h : Stands tables negotiation message scratch T S) where
+  by-standing : takeOf tables negotiation message scratch ≡ takenIn message T S
+  unfolding takeOf
+  by-standing = λ i. cond (h .sized i) (behindStanding message (h .restored i)) (refused 1)
+
+  -- what a message in its turn leads to
+  abbrev pub leadsTo : C.Taken
+  leadsTo = C.commandsFrom (length message) (T .names) (senderTo S) message 0 S false
+
+  -- already ended
+  pub take-ended : (S .header .end ≡ 0 → ⊥) → takeOf tables negotiation message scratch ≡ refused 22
+  unfolding takenIn
+  take-ended e = by-standing ∙ ap (λ (b : Bool). cond (not b) (refused 22) (cond (not (sends (senderTo S) (S .header .messages))) (refused 21) (behindCommands leadsTo))) (ne-eqb (S .header .end) 0 e)
+
+  by-end : S .header .end ≡ 0 → takeOf tables negotiation message scratch ≡ cond (not (sends (senderTo S) (S .header .messages))) (refused 21) (behindCommands leadsTo)
+  unfolding takenIn
+  by-end e = by-standing ∙ ap (λ (b : Bool). cond (not b) (refused 22) (cond (not (sends (senderTo S) (S .header .messages))) (refused 21) (behindCommands leadsTo))) (eq-eqb (S .header .end) 0 e)
+
+  -- not that side's turn
+  pub take-out-of-turn : S .header .end ≡ 0 → sends (senderTo S) (S .header .messages) ≡ false → takeOf tables negotiation message scratch ≡ refused 21
+  take-out-of-turn e q = by-end e ∙ ap (λ (b : Bool). cond (not b) (refused 21) (behindCommands leadsTo)) q
+
+  -- else the commands decide
+  pub take-commands : InTurn S → takeOf tables negotiation message scratch ≡ behindCommands leadsTo
+  take-commands t = by-end (t .going) ∙ ap (λ (b : Bool). cond (not b) (refused 21) (behindCommands leadsTo)) (t .turn)
+
+  module _ (t : InTurn S) (bytes : (i : ℕ) → getD message i 0 < 256) (A : State) where
+    accepted-of : (x : C.Taken) → leadsTo ≡ x → behindCommands x ≡ accepted A → Accepted T S message A
+    accepted-of (C.refused k) e q = absurd (false-true (ap isAccepted q))
+    accepted-of (C.taken U v) e q =
+        let r = commands-exactly (T .names) (senderTo S) message bytes S U v .0 e in
+        record { commands = r .0; led = U; carries = r .1; after = sym (ap (stateAccepted A) q) ∙ ap (λ (b : Bool). afterMessage U b false) (r .2) }
+
+    -- a message in its turn is accepted exactly where it consists of legal commands and an end
+    pub taken-exactly : (takeOf tables negotiation message scratch ≡ accepted A → Accepted T S message A) × (Accepted T S message A → takeOf tables negotiation message scratch ≡ accepted A)
+    taken-exactly = (
+      λ q. accepted-of leadsTo refl (sym (take-commands t) ∙ q),
+      λ r. take-commands t ∙ ap behindCommands (commands-exactly (T .names) (senderTo S) message bytes S (r .led) (moved (r .commands)) .1 (r .commands, r .carries, refl)) ∙ ap accepted (sym (r .after)),
+    )
+
+-- what was found out on the way to the commands
+module _ (tables negotiation message scratch : List ℕ) (A : State) where
+  abbrev Ready : Type 0
+  Ready = (T : Tables) × (S : State) × Stands tables negotiation message scratch T S × InTurn S
+
+  ready-turn : (T : Tables) (S : State) → Stands tables negotiation message scratch T S → S .header .end ≡ 0 → (b : Bool) → sends (senderTo S) (S .header .messages) ≡ b → cond (not b) (refused 21) (behindCommands (C.commandsFrom (length message) (T .names) (senderTo S) message 0 S false)) ≡ accepted A → Ready
+  ready-turn T S h e true g q = (T, S, h, record { going = e; turn = g })
+  ready-turn T S h e false g q = absurd (false-true (ap isAccepted q))
+
+  ready-end : (T : Tables) (S : State) → Stands tables negotiation message scratch T S → (b : Bool) → eqb (S .header .end) 0 ≡ b → cond (not b) (refused 22) (cond (not (sends (senderTo S) (S .header .messages))) (refused 21) (behindCommands (C.commandsFrom (length message) (T .names) (senderTo S) message 0 S false))) ≡ accepted A → Ready
+  ready-end T S h true g q = ready-turn T S h (eqb-true (S .header .end) 0 g) (sends (senderTo S) (S .header .messages)) refl q
+  ready-end T S h false g q = absurd (false-true (ap isAccepted q))
+
+  ready-standing : messageSize (length message) (length scratch) ≡ true → (x : R.Standing) → R.restoreOf tables negotiation ≡ x → behindStanding message x ≡ accepted A → Ready
+  unfolding takenIn
+  ready-standing h (R.refusal k) e q = absurd (false-true (ap isAccepted q))
+  ready-standing h (R.standing T S) e q = ready-end T S (record { sized = h; restored = e }) (eqb (S .header .end) 0) refl q
+
+  ready-size : (b : Bool) → messageSize (length message) (length scratch) ≡ b → cond b (behindStanding message (R.restoreOf tables negotiation)) (refused 1) ≡ accepted A → Ready
+  ready-size true h q = ready-standing h (R.restoreOf tables negotiation) refl q
+  ready-size false h q = absurd (false-true (ap isAccepted q))
+
+  ready : takeOf tables negotiation message scratch ≡ accepted A → Ready
+  unfolding takeOf
+  ready q = ready-size (messageSize (length message) (length scratch)) refl q
+
+  -- a call accepts exactly where all stands, it is the sender's turn, and the message consists of legal commands and an end
+  pub accepted-exactly : ((i : ℕ) → getD message i 0 < 256)
+      → (takeOf tables negotiation message scratch ≡ accepted A → (T : Tables) × (S : State) × Stands tables negotiation message scratch T S × InTurn S × Accepted T S message A)
+      × (((T : Tables) × (S : State) × Stands tables negotiation message scratch T S × InTurn S × Accepted T S message A) → takeOf tables negotiation message scratch ≡ accepted A)
+  accepted-exactly bytes = (
+    λ q. let r = ready q in (r .0, r .1, r .2, r .3, taken-exactly tables negotiation message scratch (r .0) (r .1) (r .2) (r .3) bytes A .0 q),
+    λ r. taken-exactly tables negotiation message scratch (r .0) (r .1) (r .2) (r .3) bytes A .1 (r .4),
+  )
