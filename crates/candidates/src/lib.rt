@@ -1,13 +1,4 @@
 // The edges that a rule may add to a node: the first in order that is not done.
-mod all;
-mod done;
-mod frontiers;
-mod goals;
-mod links;
-mod members;
-mod parts;
-mod subject;
-
 pub use all::all_edges;
 pub use all::next_flagged;
 pub use done::better;
@@ -20,3 +11,12 @@ pub use goals::solutions;
 pub use links::link_rules;
 pub use links::mark_if;
 pub use parts::part_edges;
+
+mod all;
+mod done;
+mod frontiers;
+mod goals;
+mod links;
+mod members;
+mod parts;
+mod subject;

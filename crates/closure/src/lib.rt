@@ -2,20 +2,20 @@
 //
 // Rule i adds to row head[i]: the bits that the rows part[4 i] to part[4 i + 3] share; and, for each j in named[i] whose bit src[j] is in the
 // membership row first[i], the bits of row j. A row is two words of 64 bits. Rows 0 to 127 are those of the rules, two more are spare.
+use linked_rules::drain_links;
+use narrow::drain_narrow;
+use plain_rules::drain_plain;
+use rounds::pass;
+use single::still;
 use word::one;
 use word::test;
 ghost use mathlib.Core.Path.{_≡_};
 ghost use Prim.Native.Nat.{_<_};
 ghost use lib.ListN.{length};
 ghost use Rattle.closure.specs.laws.Rules.{rulesOf, bits, Fits, Grown, Closed, Marked};
-use linked_rules::drain_links;
 pub use looks::awake;
 pub use looks::readers;
 pub use looks::woken;
-use narrow::drain_narrow;
-use plain_rules::drain_plain;
-use rounds::pass;
-use single::still;
 
 mod linked_rules;
 mod looks;

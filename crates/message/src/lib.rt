@@ -42,30 +42,30 @@ pub enum CommandAnswer {
 }
 
 // The first bytes of commands.
-const SHOW: u8 = 1;
+pub const SHOW: u8 = 1;
 
-const OPEN: u8 = 2;
+pub const OPEN: u8 = 2;
 
-const BRING: u8 = 3;
+pub const BRING: u8 = 3;
 
-const JOIN: u8 = 4;
+pub const JOIN: u8 = 4;
 
-const MARK: u8 = 5;
+pub const MARK: u8 = 5;
 
-const END: u8 = 6;
+pub const END: u8 = 6;
 
 // The sizes of commands, first byte included.
-const SHOW_SIZE: usize = 23;
+pub const SHOW_SIZE: usize = 23;
 
-const OPEN_SIZE: usize = 6;
+pub const OPEN_SIZE: usize = 6;
 
-const BRING_SIZE: usize = 24;
+pub const BRING_SIZE: usize = 24;
 
-const JOIN_SIZE: usize = 4;
+pub const JOIN_SIZE: usize = 4;
 
-const MARK_SIZE: usize = 2;
+pub const MARK_SIZE: usize = 2;
 
-const END_SIZE: usize = 1;
+pub const END_SIZE: usize = 1;
 
 // How many bytes a command has.
 pub fn size_of(c: Command) -> usize

@@ -1,7 +1,4 @@
 // The moves of a reply. What they are stands in specs/.
-mod initial;
-mod predicates;
-
 use expression::Expression;
 use expression::Role;
 pub use initial::initial_state;
@@ -9,6 +6,9 @@ use message::Command;
 pub use predicates::stops;
 use rt0::Pool;
 use tables::House;
+
+mod initial;
+mod predicates;
 
 // Of which expressions a frontier consists.
 pub enum Predicate {

@@ -3,6 +3,7 @@
 // is justified; the one that made it so is kept; then the same again with it, for those after it.
 use closure::readers;
 use expression::Expression;
+use next::next_kept;
 use relation::relation;
 use rules::rules_of;
 ghost use mathlib.Core.Path.{_≡_};
@@ -18,7 +19,6 @@ ghost use Rattle.needed.specs.Needed.{needed as neededOf};
 ghost use Rattle.needed.specs.laws.Needed.{firstOf, restOf};
 ghost use Rattle.needed.specs.laws.Columns.{FirstOn, WithRest, Needed};
 pub use asked::relevant;
-use next::next_kept;
 
 mod asked;
 mod next;

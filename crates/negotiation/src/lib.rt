@@ -39,11 +39,11 @@ pub struct Negotiation {
 }
 
 // Where in the bytes the nodes, the edges and the credentials shown begin.
-const NODES_AT: usize = 128;
+pub const NODES_AT: usize = 128;
 
-const EDGES_AT: usize = 2944;
+pub const EDGES_AT: usize = 2944;
 
-const SHOWN_AT: usize = 3712;
+pub const SHOWN_AT: usize = 3712;
 
 impl Negotiation {
     pub const NODES: usize = 128;

@@ -5,7 +5,7 @@ use crate::NODES_AT;
 use crate::Negotiation;
 use crate::Reading;
 use crate::SHOWN_AT;
-use crate::write;
+use crate::writer::write;
 use expression::Credential;
 use expression::expression_of;
 use expression::number_at;

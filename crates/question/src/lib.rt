@@ -1,5 +1,4 @@
 // RT0 questions on bytes.
-pub use credentials::list;
 use expression::Credential;
 use expression::ExpressionAnswer;
 use expression::LENGTH;
@@ -12,6 +11,7 @@ ghost use mathlib.Core.Path.{_≡_};
 ghost use lib.ListN.{length};
 ghost use Rattle.question.specs.Sizes.{expressionSize};
 ghost use Rattle.question.specs.Question.{sized as sizedOf, operandOf, answerOf, questionOf};
+pub use credentials::list;
 
 mod credentials;
 

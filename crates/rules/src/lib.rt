@@ -3,9 +3,14 @@
 // A role's row is the index of the first credential with that head, or 128; an entity's bit is the index of the first credential with that
 // body, or 128. Row 128 stays empty, and row 129 is that of a role asked about which no credential has as its head.
 use closure::Rules;
+use digits::find_row;
+use digits::note_heads;
 use expression::Expression;
 use expression::Parts;
 use expression::Role;
+use linking::has_link;
+use linking::has_links;
+use linking::names;
 use rt0::body_at;
 use rt0::head_at;
 ghost use mathlib.Core.Path.{_≡_};
@@ -15,16 +20,11 @@ ghost use Rattle.rules.specs.laws.Table.{rowOf, third, fourth};
 ghost use Rattle.rules.specs.laws.Columns.{fourRows, firstRow, isLinked, Column, headRow, bodyFirst, PartsTo};
 ghost use Rattle.rules.specs.laws.Digits.{HeadsIn};
 ghost use Rattle.rules.specs.laws.Ruled.{Ruled};
-use digits::find_row;
 pub use digits::find_source;
 pub use digits::note_bodies;
-use digits::note_heads;
 pub use digits::open_table;
-use linking::has_link;
-use linking::has_links;
 pub use linking::linkable;
 pub use linking::name_link;
-use linking::names;
 pub use rows::row;
 pub use rows::source;
 

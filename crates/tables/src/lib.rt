@@ -25,18 +25,18 @@ mod stored;
 mod whole;
 
 // How many records of a command there may be, and how many bytes.
-const NAMES_MOST: usize = 64;
+pub const NAMES_MOST: usize = 64;
 
-const STORED_MOST: usize = 64;
+pub const STORED_MOST: usize = 64;
 
-const SENSITIVE_MOST: usize = 32;
+pub const SENSITIVE_MOST: usize = 32;
 
-const ACCESS_MOST: usize = 32;
+pub const ACCESS_MOST: usize = 32;
 
-const TABLES_MOST: usize = 4096;
+pub const TABLES_MOST: usize = 4096;
 
 // Tables out of order, repeated, self missing, or a size passed.
-const ORDER: u64 = 6;
+pub const ORDER: u64 = 6;
 
 // Pairs of roles one after the other: sensitive role i at 2 i, and its Ack or AC role at 2 i.
 pub struct Pairs {
@@ -135,7 +135,7 @@ impl House {
 }
 
 // The number of a record that was not read.
-fn refusal_of(a: RecordAnswer) -> u64
+pub fn refusal_of(a: RecordAnswer) -> u64
     ensures { λ r. ⌜ r ≡ refusalOf a ⌝ }
 {
     match a {
@@ -145,7 +145,7 @@ fn refusal_of(a: RecordAnswer) -> u64
 }
 
 // A record that comes after the others of its command where up says so, there being room for it: zero, else out of order.
-fn rising(up: bool, count: usize, most: usize) -> u64
+pub fn rising(up: bool, count: usize, most: usize) -> u64
     ensures { λ r. ⌜ r ≡ risingOf up count most ⌝ }
 {
     if up & (count < most) {
@@ -155,7 +155,7 @@ fn rising(up: bool, count: usize, most: usize) -> u64
 }
 
 // The first number that is not zero.
-fn or_else(k: u64, rest: u64) -> u64
+pub fn or_else(k: u64, rest: u64) -> u64
     ensures { λ r. ⌜ r ≡ orElse k rest ⌝ }
 {
     if k == 0 {

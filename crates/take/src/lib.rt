@@ -22,7 +22,7 @@ pub struct Taking {
 
 // What is kept beside the negotiation while commands arrive: whether an open, an edge or a mark was among them; whether what is known is stale, since
 // it does not count all credentials shown; and the column of the satisfied nodes, unless it is unsettled.
-struct Kept {
+pub struct Kept {
     moved: bool,
     stale: bool,
     sat: [u8; 128],

@@ -1,9 +1,15 @@
 // Which commands are legal, and what they lead to.
 use class::Names;
 use closure::Rules;
+use edges::bring_number;
+use edges::join_number;
 use expression::Expression;
 use message::Command;
 use negotiation::Negotiation;
+use numbers::end_number;
+use numbers::mark_number;
+use numbers::open_number;
+use numbers::show_number;
 use rt0::Pool;
 ghost use mathlib.Core.Path.{_≡_};
 ghost use mathlib.Core.Bool.{true};
@@ -16,18 +22,12 @@ pub use after::after_message;
 pub use asked::is_proved;
 pub use asked::known_of;
 pub use asked::unknown;
-use edges::bring_number;
-use edges::join_number;
 pub use justify::is_implication;
 pub use justify::is_justified;
 pub use justify::is_linking;
 pub use justify::satisfied_nodes;
 pub use keeps::is_inside;
 pub use keeps::keeps_states;
-use numbers::end_number;
-use numbers::mark_number;
-use numbers::open_number;
-use numbers::show_number;
 pub use sides::is_processed;
 pub use steps::is_move;
 pub use steps::node_of;
@@ -65,7 +65,7 @@ pub struct Known {
 }
 
 // What an implication edge asks: whether the parent is from the child.
-struct Question {
+pub struct Question {
     parent: Expression,
     child: Expression,
 }
