@@ -4,6 +4,7 @@ use mathlib.Core.Bool.{Bool, cond, _&&_, _||_}
 use mathlib.Core.List.{List}
 use lib.Dec.{eqb}
 use lib.ListN.{length}
+use Rattle.numbers.specs.Sizes.{NEGOTIATION-BYTES}
 use Rattle.rt0.specs.From.{roleOf}
 use Rattle.class.specs.declared.Name.{Name}
 use Rattle.class.specs.Names.{classOf}
@@ -11,10 +12,6 @@ use Rattle.tables.specs.Tables.{Tables}
 use Rattle.tables.specs.Check.{orElse, Outcome, refused, accepted, readTables}
 use Rattle.negotiation.specs.State.{State, freshState}
 use Rattle.negotiation.specs.Layout.{stateBytes}
-
--- "negotiation 5,120 exactly" ("Bytes")
-abbrev pub negotiationSize : ℕ
-negotiationSize = 5120
 
 -- "both zero makes us the requester"
 abbrev pub isRequester : ℕ → ℕ → Bool
@@ -59,7 +56,7 @@ behindTables other entity name (accepted T) = numbered (beginNumber T other enti
 -- "Order: 1, tables 2 to 6 record by record .., begin's role by 3 and 4, 7"; of the negotiation only the length counts
 unfoldable pub beginOf : List ℕ → List ℕ → ℕ → ℕ → ℕ → Begun
 beginOf tables negotiation other entity name =
-    cond (eqb (length negotiation) negotiationSize) (behindTables other entity name (readTables tables)) (refusal 1)
+    cond (eqb (length negotiation) NEGOTIATION-BYTES) (behindTables other entity name (readTables tables)) (refusal 1)
 
 -- "Each returns its number alone"; begin returns 0
 abbrev pub answerOf : Begun → ℕ

@@ -1,19 +1,17 @@
 // Begin: a fresh negotiation for the tables of a house.
-use class::NAME;
 use class::class_of;
-use expression::LENGTH;
-use expression::OPERAND;
 use expression::Role;
 use negotiation::Negotiation;
 use negotiation::write;
+use numbers::LENGTH;
+use numbers::NAME;
+use numbers::OPERAND;
+use numbers::OTHER;
 use tables::decode;
 ghost use mathlib.Core.Path.{_≡_};
 ghost use Prim.Native.Nat.{_≤_};
 ghost use Rattle.class.specs.laws.Names.{namesFrom, namesOf, Ascending};
 ghost use Rattle.begin.specs.Begin.{isRequester, roleNumber, otherNumber, sideOf, beginOf, answerOf, leftOf};
-
-// Why a call is refused: the other end is zero or self.
-const OTHER: u64 = 7;
 
 // Whether no role is wanted: we are the requester.
 fn is_requester(entity: u16, name: u16) -> bool

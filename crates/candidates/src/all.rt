@@ -3,6 +3,7 @@
 use crate::done::better;
 use crate::members::child_for;
 use crate::members::with_members;
+use class::SUBJECT_ALL;
 use class::class_of;
 use closure::readers;
 use expression::Expression;
@@ -39,8 +40,6 @@ ghost use Rattle.candidates.specs.laws.Offers.{folded};
 ghost use Rattle.candidates.specs.laws.Skipped.{Skipped};
 ghost use Rattle.candidates.specs.laws.Collected.{Added, Grown, Collected};
 ghost use Rattle.candidates.specs.laws.All.{isFrom, offerRole, offerRoles, Together, allEdges};
-
-const SUBJECT_ALL: u8 = 3;
 
 fn flag_of(b: bool) -> u8
     ensures { λ r. ⌜ r ≡ cond b 1 0 ⌝ }

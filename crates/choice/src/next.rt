@@ -1,11 +1,11 @@
 // The search for the next move: nodes by rising number.
 use crate::processing::choice_at;
+use graph::node_of;
 use moves::Choice;
 use moves::Found;
 use moves::Own;
 use negotiation::Negotiation;
 use states::NodeStates;
-use update::node_of;
 ghost use mathlib.Core.Path.{_≡_};
 ghost use mathlib.Core.Bool.{true};
 ghost use Prim.Native.Nat.{_≤_, _<_};

@@ -11,17 +11,19 @@ use candidates::part_edges;
 use candidates::plain_edges;
 use candidates::rest_edges;
 use candidates::solutions;
+use class::ISSUER_ALL;
+use class::ISSUER_DEF;
 use class::class_of;
 use expression::Expression;
 use expression::Role;
 use graph::Node;
+use graph::is_processed;
 use moves::Choice;
 use moves::Own;
 use negotiation::Negotiation;
 use states::NodeStates;
 use tables::RoleAnswer;
 use tables::other_of;
-use update::is_processed;
 ghost use mathlib.Core.Path.{_≡_};
 ghost use Prim.Native.Nat.{_≤_, _<_};
 ghost use Rattle.tables.specs.laws.Tables.{tablesOf};
@@ -37,10 +39,6 @@ ghost use Rattle.moves.specs.laws.Own.{Prepared};
 ghost use Rattle.choice.specs.laws.Ready.{Ready};
 ghost use Rattle.choice.specs.laws.Asked.{restEdges, Asked};
 ghost use Rattle.choice.specs.laws.Exhausted.{Exhausted};
-
-const ISSUER_DEF: u8 = 1;
-
-const ISSUER_ALL: u8 = 2;
 
 // A linked target by the rules that both sides share.
 fn linked(own: Own, n: Negotiation, states: NodeStates, i: u8, x: Node, a: Role, r: u16) -> Choice

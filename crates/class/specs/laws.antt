@@ -1,3 +1,2 @@
-pub mod Find
 pub mod Names
 pub mod Typing

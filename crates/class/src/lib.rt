@@ -2,6 +2,8 @@
 use expression::Credential;
 use expression::Expression;
 use expression::Parts;
+use numbers::CLASS;
+use numbers::NAME;
 ghost use mathlib.Core.Path.{_≡_};
 ghost use mathlib.Core.Bool.{cond};
 ghost use mathlib.Core.List.{[], _∷_};
@@ -36,11 +38,6 @@ pub const ISSUER_DEF: u8 = 1;
 pub const ISSUER_ALL: u8 = 2;
 
 pub const SUBJECT_ALL: u8 = 3;
-
-// Why a credential is refused: a name without class, or a class rule broken.
-pub const NAME: u64 = 4;
-
-pub const CLASS: u64 = 5;
 
 // The class of the name m, or zero where it has none.
 pub fn class_of<'a>(n: usize, name: &'a [u16; 64], class: &'a [u8; 64], m: u16) -> u8

@@ -12,7 +12,7 @@ use Rattle.graph.specs.Form.{form}
 use Rattle.graph.specs.Find.{hasEdge}
 use Rattle.justification.specs.InTurn.{inTurn}
 use Rattle.negotiation.specs.declared.Header.{Header}
-use Rattle.damage.specs.Header.{entityOf}
+use Rattle.negotiation.specs.Ends.{entityOf}
 
 -- how many nodes are brought once an edge is added to b of them: the next one, if the edge names it as child
 abbrev pub nextBrought : ℕ → Edge → ℕ

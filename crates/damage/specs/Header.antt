@@ -21,15 +21,6 @@ otherSound own other = not (eqb other 0) && not (eqb other own)
 unfoldable pub headerSound : ℕ → List Name → Header → Bool
 headerSound own ns h = ltb (h .side) 2 && eqb (h .own) own && otherSound (h .own) (h .other) && wantedSound ns (h .side) (h .wanted)
 
--- The two ends
-
-unfoldable pub requester : Header → ℕ
-requester h = cond (eqb (h .side) 0) (h .other) (h .own)
-
--- the entity of a verifier: our own side, or the other
-unfoldable pub entityOf : Header → ℕ → ℕ
-entityOf h v = cond (eqb v (h .side)) (h .own) (h .other)
-
 -- Count, end and idle
 
 -- without a node: count, end, idle, edges and credentials shown are none

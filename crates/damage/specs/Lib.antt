@@ -2,5 +2,4 @@ pub mod Header
 pub mod Records
 pub mod Edges
 pub mod Damage
-pub mod Restored
 pub mod laws

@@ -14,12 +14,12 @@ use Rattle.class.specs.declared.Name.{Name}
 use Rattle.class.specs.declared.Typing.{Typing}
 use Rattle.class.specs.declared.Typing.the-variants.{Unnamed, Ill, Any, Class}
 use Rattle.class.specs.Typing.{typeOf, credentialNumber}
-use Rattle.tables.specs.Lookup.{sameCredential}
 use Rattle.graph.specs.declared.Node.{Node}
 use Rattle.graph.specs.Form.{legalState}
 use Rattle.graph.specs.Find.{isNode}
 use Rattle.negotiation.specs.declared.Header.{Header}
-use Rattle.damage.specs.Header.{requester}
+use Rattle.negotiation.specs.Ends.{requester}
+use Rattle.rt0.specs.Shown.{isShown}
 
 -- every name has a class, and a linked role is well typed
 abbrev pub isTyped : Typing → Bool
@@ -45,10 +45,6 @@ primarySound h n =
 -- a credential by itself
 unfoldable pub credentialSound : List Name → Credential → Bool
 credentialSound ns c = wellFormedCredential c && eqb (credentialNumber ns c) 0
-
--- one of these
-unfoldable pub isShown : List Credential → Credential → Bool
-isShown before c = any (λ d. sameCredential d c) before
 
 -- and among those before it
 unfoldable pub credentialFits : List Name → List Credential → Credential → Bool

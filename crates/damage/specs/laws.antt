@@ -3,6 +3,5 @@ pub mod Records
 pub mod Edges
 pub mod Turns
 pub mod Damage
-pub mod Restored
 pub mod Proved
-pub mod RestoredPublic
+pub mod Going

@@ -1,11 +1,11 @@
 // The edges, but for their justification.
-use crate::header::entity_of;
 use graph::Edge;
 use graph::edge_at;
 use graph::form;
 use graph::has_edge;
 use graph::node_at;
 use negotiation::Header;
+use negotiation::entity_of;
 use word::wide;
 ghost use mathlib.Core.Path.{_≡_};
 ghost use Prim.Native.Nat.{_≤_, _<_};

@@ -4,14 +4,12 @@ use expression::Role;
 use expression::is_empty;
 use expression::is_role;
 use negotiation::Header;
+use negotiation::MEDIATOR;
+use numbers::MOST_MESSAGES;
 ghost use mathlib.Core.Path.{_≡_};
 ghost use Prim.Native.Nat.{_≤_};
 ghost use Rattle.class.specs.laws.Names.{namesFrom, namesOf, Ascending};
-ghost use Rattle.damage.specs.Header.{wantedSound, headerSound, requester as requesterOf, entityOf, emptySound, countSound, endSound};
-
-pub const MEDIATOR: u8 = 0;
-
-const MESSAGES_MOST: u16 = 1027;
+ghost use Rattle.damage.specs.Header.{wantedSound, headerSound, emptySound, countSound, endSound};
 
 // The wanted role of a side.
 fn wanted_sound<'a>(k: usize, name: &'a [u16; 64], class: &'a [u8; 64], side: u8, r: Role) -> bool
@@ -42,19 +40,6 @@ pub fn header_sound<'a>(
         & wanted_sound(k, name, class, h.side, wanted)
 }
 
-pub fn requester(h: Header) -> u16
-    ensures { λ r. ⌜ r ≡ requesterOf h ⌝ }
-{
-    if h.side == MEDIATOR { h.other } else { h.own }
-}
-
-// The entity of a verifier.
-pub fn entity_of(h: Header, v: u8) -> u16
-    ensures { λ r. ⌜ r ≡ entityOf h v ⌝ }
-{
-    if v == h.side { h.own } else { h.other }
-}
-
 // Where no node stands.
 pub fn empty_sound(h: Header, edges: usize, shown: usize) -> bool
     ensures { λ b. ⌜ b ≡ emptySound h edges shown ⌝ }
@@ -66,7 +51,7 @@ pub fn empty_sound(h: Header, edges: usize, shown: usize) -> bool
 pub fn count_sound(n: u16) -> bool
     ensures { λ b. ⌜ b ≡ countSound n ⌝ }
 {
-    (0 < n) & (n <= MESSAGES_MOST)
+    (0 < n) & (n <= MOST_MESSAGES)
 }
 
 // The end, by the propagated state of the primary.

@@ -34,23 +34,12 @@ ghost use Rattle.negotiation.specs.laws.State.{stateOf};
 ghost use Rattle.negotiation.specs.State.{within};
 ghost use Rattle.damage.specs.laws.Damage.{stateWith};
 ghost use Rattle.damage.specs.Damage.{recordsSound, edgesJustified, graphSound, sound as soundOf};
-pub use found::restore;
-pub use header::entity_of;
-pub use header::requester;
-pub use shown::is_shown;
 
 mod edges;
 mod found;
 mod header;
 mod nodes;
 mod shown;
-
-// The tables and the negotiation of a call, where the refusal is 0; else they do not count.
-pub struct Restored {
-    pub refusal: u64,
-    pub house: House,
-    pub negotiation: Negotiation,
-}
 
 // Nodes, primary and credentials, whatever the edges.
 fn records_sound<'a>(

@@ -1,6 +1,4 @@
 // The nodes.
-use crate::header::MEDIATOR;
-use crate::header::requester;
 use class::Typing;
 use class::type_of;
 use expression::Expression;
@@ -12,6 +10,9 @@ use graph::find_node;
 use graph::legal_state;
 use graph::node_at;
 use negotiation::Header;
+use negotiation::MEDIATOR;
+use negotiation::requester;
+use numbers::MOST_NODES;
 ghost use mathlib.Core.Path.{_≡_};
 ghost use mathlib.Core.List.{[]};
 ghost use Prim.Native.Nat.{_≤_, _<_};
@@ -19,9 +20,6 @@ ghost use Rattle.class.specs.laws.Names.{namesFrom, namesOf, Ascending};
 ghost use Rattle.graph.specs.laws.Graph.{nodesFrom, nodesOf, nodeAt};
 ghost use Rattle.justification.specs.InTurn.{inTurn};
 ghost use Rattle.damage.specs.Records.{isTyped, nodeSound, nodeFits, primarySound};
-
-// What find_node answers where there is none.
-const ABSENT: usize = 128;
 
 fn is_typed(t: Typing) -> bool
     ensures { λ b. ⌜ b ≡ isTyped t ⌝ }
@@ -111,7 +109,7 @@ fn node_fits<'a>(
         x.verifier,
         x.subject,
     )
-        == ABSENT
+        == MOST_NODES
 }
 
 // All nodes.

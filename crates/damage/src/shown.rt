@@ -1,60 +1,17 @@
 // The credentials shown.
 use class::credential_number;
 use expression::Credential;
-use expression::same;
-use expression::same_role;
 use expression::well_formed_credential;
 use rt0::body_at;
 use rt0::head_at;
+use rt0::is_shown;
 ghost use mathlib.Core.Path.{_≡_};
 ghost use mathlib.Core.List.{[]};
 ghost use Prim.Native.Nat.{_≤_, _<_};
 ghost use Rattle.rt0.specs.laws.Pool.{poolOf, credentialAt, credentials};
 ghost use Rattle.class.specs.laws.Names.{namesFrom, namesOf, Ascending};
-ghost use Rattle.tables.specs.Lookup.{sameCredential};
 ghost use Rattle.justification.specs.InTurn.{inTurn};
-ghost use Rattle.damage.specs.Records.{credentialSound, credentialFits, isShown};
-
-// Credential i is c.
-fn is_at<'a>(
-    n: usize,
-    heads: &'a [u16; 256],
-    kinds: &'a [u8; 256],
-    numbers: &'a [u16; 1024],
-    c: Credential,
-    i: usize,
-) -> bool
-    requires { ⌜ i < 128 ⌝ }
-    ensures { λ b. ⌜ b ≡ sameCredential (credentialAt (poolOf n (now (heads .entry)) (now (kinds .entry)) (now (numbers .entry))) i) c ⌝ }
-{
-    let head = c.head;
-    if !same_role(head_at(n, heads, kinds, numbers, i), head) {
-        return false;
-    }
-    let body = c.body;
-    same(body_at(n, heads, kinds, numbers, i), body)
-}
-
-// Whether c is one of the first n credentials.
-pub fn is_shown<'a>(
-    n: usize,
-    heads: &'a [u16; 256],
-    kinds: &'a [u8; 256],
-    numbers: &'a [u16; 1024],
-    c: Credential,
-) -> bool
-    requires { ⌜ n ≤ 128 ⌝ }
-    ensures { λ b. ⌜ b ≡ isShown (credentials (poolOf n (now (heads .entry)) (now (kinds .entry)) (now (numbers .entry)))) c ⌝ }
-{
-    let mut i = 0;
-    while i < n {
-        if is_at(n, heads, kinds, numbers, c, i) {
-            return true;
-        }
-        i += 1;
-    }
-    false
-}
+ghost use Rattle.damage.specs.Records.{credentialSound, credentialFits};
 
 // A credential by itself.
 fn credential_sound<'a>(k: usize, name: &'a [u16; 64], class: &'a [u8; 64], c: Credential) -> bool

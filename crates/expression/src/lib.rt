@@ -21,13 +21,6 @@ mod credentials;
 mod kinds;
 mod order;
 
-// Why a call is refused by its bytes: a lent length outside the sizes; an unknown, cut or missing command; an operand of wrong form.
-pub const LENGTH: u64 = 1;
-
-pub const COMMAND: u64 = 2;
-
-pub const OPERAND: u64 = 3;
-
 // A role's entity and name; both zero where a field is unused.
 pub struct Role {
     pub entity: u16,

@@ -6,9 +6,8 @@ use lib.Dec.{eqb}
 use lib.ListN.{length}
 use Rattle.expression.specs.declared.Expression.{Expression}
 use Rattle.expression.specs.Same.{same}
-use Rattle.rt0.specs.Lists.{any}
+use Rattle.rt0.specs.Lists.{any, firstOr}
 use Rattle.rt0.specs.Pool.{upTo}
-use Rattle.class.specs.Names.{firstOr}
 use Rattle.graph.specs.declared.Node.{Node}
 use Rattle.graph.specs.declared.Edge.{Edge}
 use Rattle.graph.specs.Graph.{nodeIn}

@@ -4,4 +4,5 @@ pub mod States
 pub mod Propagated
 pub mod Find
 pub mod Growth
+pub mod Processed
 pub mod laws

@@ -7,3 +7,4 @@ pub mod Cases
 pub mod Columns
 pub mod Find
 pub mod FindExact
+pub mod Processed

@@ -1,17 +1,19 @@
 // Nodes and edges read from lent columns, and searched for.
 use crate::Edge;
 use crate::Node;
+use crate::Nodes;
 use expression::Expression;
 use expression::Raw;
 use expression::expression_of;
 use expression::same;
+use numbers::MOST_NODES;
+use word::wide;
 ghost use mathlib.Core.Path.{_≡_};
 ghost use Prim.Native.Nat.{_≤_, _<_};
 ghost use Rattle.graph.specs.laws.Graph.{nodesFrom, edgesFrom, expressionFrom, nodeAt, edgeAt, nodesOf, edgesOf, edgeIn};
 ghost use Rattle.graph.specs.Graph.{nodeIn};
 ghost use Rattle.graph.specs.Find.{isNode, findNode, sameEdge, hasEdge};
-
-const NODES_MOST: usize = 128;
+ghost use mathlib.Core.Bool.{true};
 
 // The expression of node i.
 pub fn expression_at<'a>(
@@ -155,7 +157,7 @@ pub fn find_node<'a>(
         }
         i += 1;
     }
-    NODES_MOST
+    MOST_NODES
 }
 
 // Edge j.
@@ -210,4 +212,28 @@ pub fn has_edge<'a>(
         j += 1;
     }
     false
+}
+
+// Node i.
+pub fn node_of(nodes: Nodes, i: u8) -> Node
+    requires { ⌜ (i < nodes .count) × (nodes .count ≤ 128) ⌝ }
+    ensures { λ r. ⌜ r ≡ nodeIn (nodesOf nodes) i ⌝ }
+{
+    node_at(
+        nodes.count,
+        &nodes.kind,
+        &nodes.parts,
+        &nodes.n0,
+        &nodes.n1,
+        &nodes.n2,
+        &nodes.n3,
+        &nodes.n4,
+        &nodes.n5,
+        &nodes.n6,
+        &nodes.n7,
+        &nodes.subject,
+        &nodes.verifier,
+        &nodes.state,
+        wide(i),
+    )
 }

@@ -13,6 +13,7 @@ pub use find::expression_at;
 pub use find::find_node;
 pub use find::has_edge;
 pub use find::node_at;
+pub use find::node_of;
 pub use forms::CONTROL;
 pub use forms::IMPLICATION;
 pub use forms::INTERSECTION;
@@ -22,9 +23,12 @@ pub use forms::SOLUTION;
 pub use forms::form;
 pub use forms::is_named;
 pub use forms::legal_state;
+pub use processed::is_processed;
+pub use processed::marked_state;
 
 mod find;
 mod forms;
+mod processed;
 
 // A target, or a linking goal: what its verifier (0 mediator, 1 requester) wants to see proved of its subject. Bit 0 of its
 // state says that the verifier has processed it, bit 1 that the opponent has.

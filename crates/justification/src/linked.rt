@@ -14,7 +14,7 @@ ghost use mathlib.Core.Bool.{false};
 ghost use mathlib.Core.List.{[]};
 ghost use Prim.Native.Nat.{_≤_, _<_};
 ghost use lib.ListN.{getD};
-ghost use Rattle.class.specs.laws.Find.{Missed};
+ghost use Rattle.rt0.specs.laws.Find.{Missed};
 ghost use Rattle.graph.specs.laws.Graph.{nodesFrom, edgesFrom, nodesOf, edgesOf};
 ghost use Rattle.justification.specs.laws.Justified.{linkingKind, Says};
 ghost use Rattle.justification.specs.Justified.{monitored, monitoredIf};

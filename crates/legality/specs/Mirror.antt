@@ -3,7 +3,7 @@ use Prim.Native.Nat.{_<_}
 use mathlib.Core.Path.{_≡_}
 use Rattle.negotiation.specs.declared.Header.{Header}
 use Rattle.negotiation.specs.State.{State}
-use Rattle.update.specs.Step.{otherSide}
+use Rattle.negotiation.specs.Ends.{otherSide}
 
 -- one header is the other's, with the sides and the ends swapped
 pub record Mirrored (h k : Header) : Type 0 where

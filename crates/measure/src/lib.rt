@@ -2,8 +2,8 @@
 use closure::readers;
 use expression::Expression;
 use expression::ExpressionAnswer;
-use expression::LENGTH;
-use expression::OPERAND;
+use numbers::LENGTH;
+use numbers::OPERAND;
 use question::list;
 use question::operand;
 use question::sized;

@@ -1,2 +1,3 @@
 pub mod Command
+pub mod Message
 pub mod laws

@@ -3,6 +3,12 @@ use expression::Credential;
 use expression::Expression;
 use expression::Role;
 use graph::Edge;
+use numbers::CREDENTIAL_BYTES;
+use numbers::END_BYTES;
+use numbers::MARK_BYTES;
+use numbers::NEW_EDGE_BYTES;
+use numbers::OLD_EDGE_BYTES;
+use numbers::OPEN_BYTES;
 ghost use mathlib.Core.Path.{_≡_};
 ghost use Rattle.message.specs.Command.{sizeOf};
 pub use reader::read_command;
@@ -54,29 +60,16 @@ pub const MARK: u8 = 5;
 
 pub const END: u8 = 6;
 
-// The sizes of commands, first byte included.
-pub const SHOW_SIZE: usize = 23;
-
-pub const OPEN_SIZE: usize = 6;
-
-pub const BRING_SIZE: usize = 24;
-
-pub const JOIN_SIZE: usize = 4;
-
-pub const MARK_SIZE: usize = 2;
-
-pub const END_SIZE: usize = 1;
-
 // How many bytes a command has.
 pub fn size_of(c: Command) -> usize
     ensures { λ r. ⌜ r ≡ sizeOf c ⌝ }
 {
     match c {
-        Command::Show(_) => SHOW_SIZE,
-        Command::Open(_) => OPEN_SIZE,
-        Command::Bring(_) => BRING_SIZE,
-        Command::Join(_) => JOIN_SIZE,
-        Command::Mark(_) => MARK_SIZE,
-        Command::End => END_SIZE,
+        Command::Show(_) => CREDENTIAL_BYTES,
+        Command::Open(_) => OPEN_BYTES,
+        Command::Bring(_) => NEW_EDGE_BYTES,
+        Command::Join(_) => OLD_EDGE_BYTES,
+        Command::Mark(_) => MARK_BYTES,
+        Command::End => END_BYTES,
     }
 }

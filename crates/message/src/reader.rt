@@ -1,25 +1,17 @@
 // A command is read from lent bytes.
 use crate::BRING;
-use crate::BRING_SIZE;
 use crate::Command;
 use crate::CommandAnswer;
 use crate::END;
-use crate::END_SIZE;
 use crate::JOIN;
-use crate::JOIN_SIZE;
 use crate::MARK;
-use crate::MARK_SIZE;
 use crate::NewEdge;
 use crate::OPEN;
-use crate::OPEN_SIZE;
 use crate::Opening;
 use crate::SHOW;
-use crate::SHOW_SIZE;
-use expression::COMMAND;
 use expression::CredentialAnswer;
 use expression::Expression;
 use expression::ExpressionAnswer;
-use expression::OPERAND;
 use expression::Role;
 use expression::is_role;
 use expression::number_at;
@@ -28,6 +20,14 @@ use expression::read_expression;
 use expression::role_at;
 use graph::Edge;
 use graph::legal_state;
+use numbers::COMMAND;
+use numbers::CREDENTIAL_BYTES;
+use numbers::END_BYTES;
+use numbers::MARK_BYTES;
+use numbers::NEW_EDGE_BYTES;
+use numbers::OLD_EDGE_BYTES;
+use numbers::OPEN_BYTES;
+use numbers::OPERAND;
 ghost use mathlib.Core.Path.{_≡_};
 ghost use Prim.Native.Nat.{_<_, _+_};
 ghost use lib.ListN.{length};
@@ -38,7 +38,7 @@ fn show_at(s: &[u8], at: usize) -> CommandAnswer
     requires { ⌜ at < length (now s) ⌝ }
     ensures { λ r. ⌜ r ≡ showAt (now (s .entry)) at ⌝ }
 {
-    if s.len() - at < SHOW_SIZE {
+    if s.len() - at < CREDENTIAL_BYTES {
         return CommandAnswer::Refused(COMMAND);
     }
     let CredentialAnswer::Read(c) = read_credential(s, at + 1) else {
@@ -60,7 +60,7 @@ fn open_at(s: &[u8], at: usize) -> CommandAnswer
     requires { ⌜ at < length (now s) ⌝ }
     ensures { λ r. ⌜ r ≡ openAt (now (s .entry)) at ⌝ }
 {
-    if s.len() - at < OPEN_SIZE {
+    if s.len() - at < OPEN_BYTES {
         return CommandAnswer::Refused(COMMAND);
     }
     let o = Opening {
@@ -94,7 +94,7 @@ fn bring_at(s: &[u8], at: usize) -> CommandAnswer
     requires { ⌜ at < length (now s) ⌝ }
     ensures { λ r. ⌜ r ≡ bringAt (now (s .entry)) at ⌝ }
 {
-    if s.len() - at < BRING_SIZE {
+    if s.len() - at < NEW_EDGE_BYTES {
         return CommandAnswer::Refused(COMMAND);
     }
     let ExpressionAnswer::Read(expression) = read_expression(s, at + 3) else {
@@ -119,7 +119,7 @@ fn join_at(s: &[u8], at: usize) -> CommandAnswer
     requires { ⌜ at < length (now s) ⌝ }
     ensures { λ r. ⌜ r ≡ joinAt (now (s .entry)) at ⌝ }
 {
-    if s.len() - at < JOIN_SIZE {
+    if s.len() - at < OLD_EDGE_BYTES {
         return CommandAnswer::Refused(COMMAND);
     }
     let e = Edge {
@@ -139,7 +139,7 @@ fn mark_at(s: &[u8], at: usize) -> CommandAnswer
     requires { ⌜ at < length (now s) ⌝ }
     ensures { λ r. ⌜ r ≡ markAt (now (s .entry)) at ⌝ }
 {
-    if s.len() - at < MARK_SIZE {
+    if s.len() - at < MARK_BYTES {
         return CommandAnswer::Refused(COMMAND);
     }
     CommandAnswer::Read(Command::Mark(s[at + 1]))
@@ -150,7 +150,7 @@ fn end_at(s: &[u8], at: usize) -> CommandAnswer
     requires { ⌜ at < length (now s) ⌝ }
     ensures { λ r. ⌜ r ≡ endAt (now (s .entry)) at ⌝ }
 {
-    if s.len() - at == END_SIZE {
+    if s.len() - at == END_BYTES {
         CommandAnswer::Read(Command::End)
     } else {
         CommandAnswer::Refused(COMMAND)

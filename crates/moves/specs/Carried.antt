@@ -4,7 +4,7 @@ use mathlib.Core.Bool.{Bool, true, _&&_}
 use mathlib.Core.List.{List, [], _∷_}
 use Rattle.message.specs.declared.Command.{Command}
 use Rattle.negotiation.specs.State.{State}
-use Rattle.update.specs.Step.{stepped, hasRoom}
+use Rattle.applied.specs.Step.{stepped, hasRoom}
 
 -- "Each command carries the negotiation to its next state"; s is the sender's side
 abbrev pub carried : ℕ → State → List Command → State

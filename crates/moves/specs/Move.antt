@@ -12,8 +12,8 @@ use Rattle.tables.specs.Public.{keep}
 use Rattle.graph.specs.declared.Node.{Node}
 use Rattle.message.specs.declared.Command.{Command}
 use Rattle.message.specs.declared.Command.the-variants.{Show, Bring, Join, Mark}
-use Rattle.damage.specs.Records.{isShown}
-use Rattle.update.specs.Step.{processedBy}
+use Rattle.rt0.specs.Shown.{isShown}
+use Rattle.graph.specs.Processed.{processedBy}
 use Rattle.moves.specs.Initial.{initialState}
 use Rattle.moves.specs.declared.Wanted.{Wanted}
 use Rattle.moves.specs.declared.Choice.{Choice}

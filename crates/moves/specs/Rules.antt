@@ -22,7 +22,7 @@ use Rattle.graph.specs.declared.Edge.{Edge}
 use Rattle.graph.specs.Graph.{nodeIn}
 use Rattle.graph.specs.Propagated.{satisfiedB, completeB}
 use Rattle.negotiation.specs.State.{State}
-use Rattle.update.specs.Step.{otherSide}
+use Rattle.negotiation.specs.Ends.{otherSide}
 use Rattle.moves.specs.declared.Wanted.{Wanted}
 use Rattle.moves.specs.declared.Holding.the-variants.{Absent, Free, Guarded}
 use Rattle.moves.specs.declared.Known.{Known}

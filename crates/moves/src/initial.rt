@@ -1,12 +1,11 @@
 // The state in which a new node starts.
+use class::SUBJECT_ALL;
 use class::class_of;
 use expression::Expression;
 ghost use mathlib.Core.Path.{_≡_};
 ghost use Prim.Native.Nat.{_≤_};
 ghost use Rattle.class.specs.laws.Names.{namesFrom, namesOf, Ascending};
 ghost use Rattle.moves.specs.Initial.{isSubjectAll, traced, initialState};
-
-const SUBJECT_ALL: u8 = 3;
 
 pub fn is_subject_all<'a>(n: usize, names: &'a [u16; 64], classes: &'a [u8; 64], r: u16) -> bool
     requires { ⌜ (n ≤ 64) × Ascending n (now names) ⌝ }

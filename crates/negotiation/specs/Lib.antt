@@ -1,3 +1,4 @@
 pub mod State
 pub mod Layout
+pub mod Ends
 pub mod laws

@@ -3,3 +3,4 @@ pub mod Within
 pub mod Layout
 pub mod Read
 pub mod Codec
+pub mod Ends

@@ -5,16 +5,25 @@ use graph::Edge;
 use graph::Edges;
 use graph::Node;
 use graph::Nodes;
+use numbers::MOST_EDGES;
+use numbers::MOST_NODES;
+use numbers::MOST_SHOWN;
+use numbers::NEGOTIATION_BYTES;
 use rt0::Pool;
 ghost use mathlib.Core.Path.{_≡_};
 ghost use Prim.Native.Nat.{_≤_, _<_};
 ghost use Rattle.negotiation.specs.laws.State.{stateOf};
 ghost use Rattle.negotiation.specs.State.{freshState, withNode, withEdge, withShown, withMark, withHeader};
+pub use ends::MEDIATOR;
+pub use ends::REQUESTER;
+pub use ends::entity_of;
+pub use ends::requester;
 pub use reader::candidate;
 pub use reader::read;
 pub use writer::write;
 pub use writer::write_zeros;
 
+mod ends;
 mod reader;
 mod writer;
 
@@ -46,13 +55,13 @@ pub const EDGES_AT: usize = 2944;
 pub const SHOWN_AT: usize = 3712;
 
 impl Negotiation {
-    pub const NODES: usize = 128;
+    pub const NODES: usize = MOST_NODES;
 
-    pub const EDGES: usize = 256;
+    pub const EDGES: usize = MOST_EDGES;
 
-    pub const SHOWN: usize = 64;
+    pub const SHOWN: usize = MOST_SHOWN;
 
-    pub const BYTES: usize = 5120;
+    pub const BYTES: usize = NEGOTIATION_BYTES;
 
     // "A fresh negotiation holds no node, no edge and no credential."
     pub fn fresh(side: u8, own: u16, other: u16, wanted: Role) -> Self

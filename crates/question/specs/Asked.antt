@@ -8,7 +8,8 @@ use Rattle.expression.specs.declared.Credential.{Credential}
 use Rattle.expression.specs.Credential.{wellFormedCredential, credentialBytes, isBody}
 use Rattle.question.specs.Credentials.{listed, credentialsOf}
 use mathlib.Core.Logic.{_⊎_}
-use Rattle.question.specs.Sizes.{credentialsMost, listSize, expressionSize}
+use Rattle.numbers.specs.Sizes.{MOST-CREDENTIALS, MOST-CREDENTIALS-BYTES}
+use Rattle.numbers.specs.Bytes.{EXPRESSION-BYTES}
 use Rattle.expression.specs.declared.Expression.{Expression}
 use Rattle.expression.specs.declared.ExpressionAnswer.the-variants.{Read}
 use Rattle.expression.specs.Bytes.{rawBytes}
@@ -42,7 +43,7 @@ pub record Written (c f e : List ℕ) (C : List Credential) (x y : Expression) :
   pub credentials : c ≡ commands C
   pub first : f ≡ expressionBytes x
   pub second : e ≡ expressionBytes y
-  pub most : length C ≤ credentialsMost
+  pub most : length C ≤ MOST-CREDENTIALS
   pub formed : Formed C
   pub left : Askable x
   pub right : Askable y
@@ -50,9 +51,9 @@ pub record Written (c f e : List ℕ) (C : List Credential) (x y : Expression) :
 -- the three lengths are within the sizes
 pub record Sized (c f e : ℕ) : Type 0 where
   pub some : 0 < c
-  pub most : c ≤ listSize
-  pub first : f ≡ expressionSize
-  pub second : e ≡ expressionSize
+  pub most : c ≤ MOST-CREDENTIALS-BYTES
+  pub first : f ≡ EXPRESSION-BYTES
+  pub second : e ≡ EXPRESSION-BYTES
 
 -- the lent bytes ask whether x from y over the credentials C
 pub record Asked (c f e : List ℕ) (C : List Credential) (x y : Expression) : Type 0 where

@@ -4,13 +4,13 @@ use mathlib.Core.Bool.{cond}
 use mathlib.Core.List.{List, [], _∷_, _++_}
 use lib.Dec.{ltb, eqb}
 use lib.ListN.{length, getD}
+use Rattle.numbers.specs.Bytes.{CREDENTIAL-BYTES}
 use Rattle.expression.specs.declared.Credential.{Credential}
 use Rattle.expression.specs.declared.CredentialAnswer.{CredentialAnswer}
 use Rattle.expression.specs.declared.CredentialAnswer.the-variants as a
 use Rattle.expression.specs.Credential.{readCredential}
 use Rattle.question.specs.declared.Step.{Step}
 use Rattle.question.specs.declared.Step.the-variants.{Taken, End, Refused}
-use Rattle.question.specs.Sizes.{commandSize}
 
 -- "3 an operand of wrong form" ("From the input")
 abbrev pub taken : CredentialAnswer → Step
@@ -19,7 +19,7 @@ taken a.Wrong = Refused 3
 
 -- 0x01 and the 22 bytes of a credential ("Bytes"); "2 .. cut command", whatever its bytes
 unfoldable pub credentialStep : List ℕ → ℕ → Step
-credentialStep s at = cond (ltb (length s - at) commandSize) (Refused 2) (taken (readCredential s (at + 1)))
+credentialStep s at = cond (ltb (length s - at) CREDENTIAL-BYTES) (Refused 2) (taken (readCredential s (at + 1)))
 
 -- 0x06 "stands last and only there" ("Bytes"); "2 .. bytes after end"
 unfoldable pub endStep : List ℕ → ℕ → Step
@@ -48,7 +48,7 @@ after rest C (Refused k) = refused k
 -- bytes left; at zero none is left, and the end is missing.
 unfoldable pub listFrom : ℕ → List ℕ → ℕ → List Credential → Listed
 listFrom zero s at C = refused 2
-listFrom (suc n) s at C = after (listFrom n s (at + commandSize)) C (stepAt s at)
+listFrom (suc n) s at C = after (listFrom n s (at + CREDENTIAL-BYTES)) C (stepAt s at)
 
 -- "credential commands and an end (.. repeats allowed, classes not consulted)" ("RT0 and states")
 unfoldable pub credentialsOf : List ℕ → Listed

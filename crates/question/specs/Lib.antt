@@ -1,4 +1,3 @@
-pub mod Sizes
 pub mod Credentials
 pub mod Question
 pub mod Asked

@@ -4,17 +4,18 @@ use mathlib.Core.Bool.{Bool, cond, _&&_}
 use mathlib.Core.List.{List}
 use lib.Dec.{ltb, eqb, leb}
 use lib.ListN.{length}
+use Rattle.numbers.specs.Sizes.{MOST-CREDENTIALS-BYTES}
+use Rattle.numbers.specs.Bytes.{EXPRESSION-BYTES}
 use Rattle.expression.specs.declared.ExpressionAnswer.{ExpressionAnswer}
 use Rattle.expression.specs.declared.ExpressionAnswer.the-variants.{Read, Wrong}
 use Rattle.expression.specs.Form.{readOf}
 use Rattle.expression.specs.Credential.{isBody}
 use Rattle.rt0.specs.Decide.{from?}
-use Rattle.question.specs.Sizes.{listSize, expressionSize}
 use Rattle.question.specs.Credentials.{Listed, refused, listed, credentialsOf}
 
 -- credentials of "1 to 1,473 bytes", f and e of "18 bytes each" ("RT0 and states")
 unfoldable pub sized : ℕ → ℕ → ℕ → Bool
-sized c f e = ltb 0 c && leb c listSize && eqb f expressionSize && eqb e expressionSize
+sized c f e = ltb 0 c && leb c MOST-CREDENTIALS-BYTES && eqb f EXPRESSION-BYTES && eqb e EXPRESSION-BYTES
 
 -- "two expressions of kinds 1 to 4" ("RT0 and states"): a goal is none
 abbrev pub askable : ExpressionAnswer → ExpressionAnswer

@@ -1,28 +1,26 @@
 // The credential list of an RT0 question.
 use crate::Listing;
 use crate::Step;
-use expression::COMMAND;
 use expression::CredentialAnswer;
-use expression::OPERAND;
 use expression::read_credential;
+use numbers::COMMAND;
+use numbers::CREDENTIAL_BYTES;
+use numbers::OPERAND;
 use rt0::Pool;
 use rt0::store;
 ghost use mathlib.Core.Path.{_≡_};
 ghost use Prim.Native.Nat.{_≤_, _<_};
 ghost use lib.ListN.{length};
-ghost use Rattle.question.specs.Sizes.{credentialsMost, listSize};
+ghost use Rattle.numbers.specs.Sizes.{MOST-CREDENTIALS, MOST-CREDENTIALS-BYTES};
 ghost use Rattle.question.specs.Credentials.{credentialStep, endStep, stepAt, credentialsOf};
 ghost use Rattle.question.specs.laws.Credentials.{listedOf};
-
-// 0x01 and the 22 bytes of a credential.
-const COMMAND_SIZE: usize = 23;
 
 // A credential; a cut command is refused before its operands are looked at.
 fn credential_step(s: &[u8], at: usize) -> Step
     requires { ⌜ at < length (now s) ⌝ }
     ensures { λ r. ⌜ r ≡ credentialStep (now (s .entry)) at ⌝ }
 {
-    if s.len() - at < COMMAND_SIZE {
+    if s.len() - at < CREDENTIAL_BYTES {
         return Step::Refused(COMMAND);
     }
     let CredentialAnswer::Read(c) = read_credential(s, at + 1) else {
@@ -58,8 +56,8 @@ fn step(s: &[u8], at: usize) -> Step
 
 // The commands are read left to right, and the first that cannot be taken ends the reading.
 pub fn list(s: &[u8]) -> Listing
-    requires { ⌜ length (now s) ≤ listSize ⌝ }
-    ensures { λ r. ⌜ (listedOf r ≡ credentialsOf (now (s .entry))) × (r .pool .count ≤ credentialsMost) ⌝ }
+    requires { ⌜ length (now s) ≤ MOST-CREDENTIALS-BYTES ⌝ }
+    ensures { λ r. ⌜ (listedOf r ≡ credentialsOf (now (s .entry))) × (r .pool .count ≤ MOST-CREDENTIALS) ⌝ }
 {
     let mut heads = [0u16; 256];
     let mut kinds = [0u8; 256];
@@ -71,7 +69,7 @@ pub fn list(s: &[u8]) -> Listing
             Step::Taken(c) => {
                 store(&mut heads, &mut kinds, &mut numbers, count, c);
                 count += 1;
-                at += COMMAND_SIZE;
+                at += CREDENTIAL_BYTES;
             }
             Step::End => {
                 return Listing {

@@ -1,15 +1,17 @@
 // RT0 questions on bytes.
 use expression::Credential;
 use expression::ExpressionAnswer;
-use expression::LENGTH;
-use expression::OPERAND;
 use expression::is_body;
 use expression::read_expression;
+use numbers::EXPRESSION_BYTES;
+use numbers::LENGTH;
+use numbers::MOST_CREDENTIALS_BYTES;
+use numbers::OPERAND;
 use relation::from;
 use rt0::Pool;
 ghost use mathlib.Core.Path.{_≡_};
 ghost use lib.ListN.{length};
-ghost use Rattle.question.specs.Sizes.{expressionSize};
+ghost use Rattle.numbers.specs.Bytes.{EXPRESSION-BYTES};
 ghost use Rattle.question.specs.Question.{sized as sizedOf, operandOf, answerOf, questionOf};
 pub use credentials::list;
 
@@ -28,16 +30,11 @@ pub struct Listing {
     pub pool: Pool,
 }
 
-// 64 credential commands and an end.
-const LIST_SIZE: usize = 1473;
-
-const EXPRESSION_SIZE: usize = 18;
-
 // Whether the credentials, f and e have lengths within the sizes.
 pub fn sized(c: usize, f: usize, e: usize) -> bool
     ensures { λ r. ⌜ r ≡ sizedOf c f e ⌝ }
 {
-    (0 < c) & (c <= LIST_SIZE) & (f == EXPRESSION_SIZE) & (e == EXPRESSION_SIZE)
+    (0 < c) & (c <= MOST_CREDENTIALS_BYTES) & (f == EXPRESSION_BYTES) & (e == EXPRESSION_BYTES)
 }
 
 // 256 times the value: 1 for yes, 0 for no.
@@ -49,7 +46,7 @@ fn answer(yes: bool) -> u64
 
 // An expression of kinds 1 to 4.
 pub fn operand(s: &[u8]) -> ExpressionAnswer
-    requires { ⌜ length (now s) ≡ expressionSize ⌝ }
+    requires { ⌜ length (now s) ≡ EXPRESSION-BYTES ⌝ }
     ensures { λ r. ⌜ r ≡ operandOf (now (s .entry)) ⌝ }
 {
     let ExpressionAnswer::Read(x) = read_expression(s, 0) else {

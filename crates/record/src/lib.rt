@@ -1,14 +1,18 @@
 // The records of the house tables and their bytes.
 use class::Name;
-use expression::COMMAND;
 use expression::Credential;
 use expression::CredentialAnswer;
-use expression::OPERAND;
 use expression::Role;
 use expression::is_role;
 use expression::number_at;
 use expression::read_credential;
 use expression::role_at;
+use numbers::COMMAND;
+use numbers::CREDENTIAL_BYTES;
+use numbers::NAME_BYTES;
+use numbers::OPERAND;
+use numbers::PAIR_BYTES;
+use numbers::SELF_BYTES;
 ghost use mathlib.Core.Path.{_≡_};
 ghost use Prim.Native.Nat.{_<_, _+_};
 ghost use lib.ListN.{length};
@@ -35,21 +39,12 @@ pub enum RecordAnswer {
     Refused(u64),
 }
 
-// The sizes of records, first byte included.
-const OWN_SIZE: usize = 3;
-
-const NAME_SIZE: usize = 4;
-
-const STORED_SIZE: usize = 23;
-
-const PAIR_SIZE: usize = 9;
-
 // Self.
 fn own_at(s: &[u8], at: usize) -> RecordAnswer
     requires { ⌜ at < length (now s) ⌝ }
     ensures { λ r. ⌜ r ≡ ownAt (now (s .entry)) at ⌝ }
 {
-    if s.len() - at < OWN_SIZE {
+    if s.len() - at < SELF_BYTES {
         return RecordAnswer::Refused(COMMAND);
     }
     let own = number_at(s, at + 1);
@@ -71,7 +66,7 @@ fn name_at(s: &[u8], at: usize) -> RecordAnswer
     requires { ⌜ at < length (now s) ⌝ }
     ensures { λ r. ⌜ r ≡ nameAt (now (s .entry)) at ⌝ }
 {
-    if s.len() - at < NAME_SIZE {
+    if s.len() - at < NAME_BYTES {
         return RecordAnswer::Refused(COMMAND);
     }
     let n = Name {
@@ -101,7 +96,7 @@ fn stored_at(s: &[u8], at: usize, subject: bool) -> RecordAnswer
     requires { ⌜ at < length (now s) ⌝ }
     ensures { λ r. ⌜ r ≡ storedAt subject (now (s .entry)) at ⌝ }
 {
-    if s.len() - at < STORED_SIZE {
+    if s.len() - at < CREDENTIAL_BYTES {
         return RecordAnswer::Refused(COMMAND);
     }
     let CredentialAnswer::Read(c) = read_credential(s, at + 1) else {
@@ -135,7 +130,7 @@ fn pair_at(s: &[u8], at: usize, access: bool) -> RecordAnswer
     requires { ⌜ at < length (now s) ⌝ }
     ensures { λ r. ⌜ r ≡ pairAt access (now (s .entry)) at ⌝ }
 {
-    if s.len() - at < PAIR_SIZE {
+    if s.len() - at < PAIR_BYTES {
         return RecordAnswer::Refused(COMMAND);
     }
     let p = Pair {

@@ -14,12 +14,11 @@ use Rattle.class.specs.declared.Name.{Name}
 use Rattle.tables.specs.Tables.{Tables}
 use Rattle.negotiation.specs.State.{State, freshState}
 use Rattle.rt0.specs.Decide.{from?}
-use Rattle.update.specs.Step.{stepped}
-use Rattle.update.specs.Legal.{first, legalNumber}
-use Rattle.update.specs.After.{afterMessage}
+use Rattle.applied.specs.Step.{stepped, moved}
+use Rattle.legal.specs.Number.{first, legalNumber}
+use Rattle.applied.specs.After.{afterMessage}
 use Rattle.moves.specs.Carried.{carried}
 use Rattle.message.specs.declared.Command.{Command}
-use Rattle.take.specs.Message.{moved}
 use Rattle.reply.specs.Reply.{Replied, replyIn, repliedState, replyBytes}
 
 abbrev named : ℕ → ℕ → Name

@@ -1,4 +1,3 @@
 pub mod Reply
 pub mod Cases
-pub mod Mirror
 pub mod laws

@@ -11,10 +11,11 @@ use Rattle.message.specs.declared.Command.{Command}
 use Rattle.message.specs.declared.Command.the-variants.{Open}
 use Rattle.negotiation.specs.State.{State}
 use Rattle.negotiation.specs.Layout.{stateBytes, zeros}
-use Rattle.damage.specs.Restored as R
-use Rattle.update.specs.After.{afterMessage}
-use Rattle.take.specs.Message.{bytesOf, messageBytes, moved}
-use Rattle.take.specs.Take.{sends}
+use Rattle.standing.specs.Standing as R
+use Rattle.applied.specs.After.{afterMessage}
+use Rattle.message.specs.Message.{bytesOf, messageBytes}
+use Rattle.applied.specs.Step.{moved}
+use Rattle.standing.specs.Turn.{sends}
 use Rattle.moves.specs.Initial.{initialState}
 use Rattle.moves.specs.Rules.{endIn}
 use Rattle.moves.specs.Move.{Move, nextMove}

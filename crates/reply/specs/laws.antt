@@ -6,9 +6,6 @@ pub mod Turn
 pub mod Writing
 pub mod Moved
 pub mod Cases
-pub mod Stays
-pub mod TwoReplies
-pub mod ReplyPublic
 pub mod ReplyLength
 pub mod ReplyLegal
 pub mod Call

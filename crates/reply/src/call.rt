@@ -2,9 +2,9 @@
 use crate::Replying;
 use crate::turns::reply_from;
 use crate::turns::replying;
-use damage::restore;
+use applied::after_message;
+use applied::step;
 use expression::Expression;
-use expression::LENGTH;
 use expression::Role;
 use message::Command;
 use message::Opening;
@@ -14,15 +14,15 @@ use moves::initial_state;
 use negotiation::Negotiation;
 use negotiation::write;
 use negotiation::write_zeros;
+use numbers::ENDED;
+use numbers::LENGTH;
+use numbers::MOST_MESSAGE_BYTES;
+use numbers::SCRATCH_BYTES;
+use numbers::TURN;
 use sending::own_of;
+use standing::restore;
+use standing::sends;
 use tables::House;
-use take::ENDED;
-use take::MESSAGE;
-use take::SCRATCH;
-use take::TURN;
-use take::sends;
-use update::after_message;
-use update::step;
 ghost use mathlib.Core.Path.{_≡_};
 ghost use mathlib.Core.Bool.{true};
 ghost use Prim.Native.Nat.{_≤_};
@@ -39,7 +39,7 @@ ghost use Rattle.reply.specs.laws.Reply.{firstOpen, Begins, Replies};
 fn fits(reply: usize, scratch: usize) -> bool
     ensures { λ r. ⌜ r ≡ replySize reply scratch ⌝ }
 {
-    (MESSAGE <= reply) & (scratch == SCRATCH)
+    (MOST_MESSAGE_BYTES <= reply) & (scratch == SCRATCH_BYTES)
 }
 
 // The command that opens a negotiation about a role.
@@ -116,6 +116,6 @@ pub fn reply(tables: &[u8], negotiation: &mut [u8], reply: &mut [u8], scratch: &
         return t.refusal;
     }
     write(t.negotiation, negotiation);
-    write_zeros(scratch, 0, SCRATCH);
+    write_zeros(scratch, 0, SCRATCH_BYTES);
     t.at as u64 * 256
 }

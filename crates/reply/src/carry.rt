@@ -1,4 +1,5 @@
 // A move is written and carried out: first its credentials, then its command.
+use applied::step;
 use candidates::next_flagged;
 use expression::Credential;
 use message::Command;
@@ -6,9 +7,9 @@ use message::size_of;
 use message::write_command;
 use moves::Outgoing;
 use negotiation::Negotiation;
+use numbers::CREDENTIAL_BYTES;
 use rt0::Pool;
 use sending::credential_at;
-use update::step;
 use word::wide;
 ghost use mathlib.Core.Path.{_≡_};
 ghost use mathlib.Core.Bool.{true};
@@ -19,13 +20,10 @@ ghost use Rattle.rt0.specs.laws.Pool.{credentialAt};
 ghost use Rattle.rules.specs.laws.Table.{chosen};
 ghost use Rattle.negotiation.specs.laws.State.{stateOf};
 ghost use Rattle.negotiation.specs.State.{within};
-ghost use Rattle.take.specs.Message.{bytesOf};
+ghost use Rattle.message.specs.Message.{bytesOf};
 ghost use Rattle.moves.specs.laws.Own.{commandsOf};
 ghost use Rattle.moves.specs.Carried.{carried, hasRoomFor};
 ghost use Rattle.reply.specs.laws.Outgoing.{oneIf, roomBy, onAt, shows};
-
-// How many bytes a credential takes.
-const SHOW: usize = 23;
 
 // 1 where the flag is on.
 fn one_if(flag: u8) -> usize
@@ -58,7 +56,7 @@ pub fn size_of_outgoing(out: Outgoing) -> usize
 {
     let pool = out.pool;
     let c = out.command;
-    SHOW * count_on(pool, &out.on) + size_of(c)
+    CREDENTIAL_BYTES * count_on(pool, &out.on) + size_of(c)
 }
 
 // Whether a command has room among so many nodes, edges and credentials shown.
@@ -125,7 +123,7 @@ fn show_all(s: &mut [u8], from: usize, start: Negotiation, pool: Pool, on: [u8; 
         let flag = on[k];
         let next = show_at(s, at, n, pool, flag, k);
         n = next;
-        at += SHOW * one_if(flag);
+        at += CREDENTIAL_BYTES * one_if(flag);
         k = next_flagged(pool.count, &on, k + 1);
     }
     n
@@ -142,7 +140,7 @@ pub fn carry(s: &mut [u8], at: usize, n: Negotiation, out: Outgoing) -> Negotiat
     let on = out.on;
     let c = out.command;
     let m = show_all(s, at, n, pool, on);
-    let behind = at + SHOW * count_on(pool, &on);
+    let behind = at + CREDENTIAL_BYTES * count_on(pool, &on);
     write_command(s, behind, c);
     step(m, side, c)
 }

@@ -8,9 +8,9 @@ use choice::next_choice;
 use choice::resting;
 use moves::Own;
 use negotiation::Negotiation;
+use numbers::MOST_MESSAGE_BYTES;
 use sending::outgoing;
 use states::node_states;
-use take::MESSAGE;
 use word::wide;
 ghost use mathlib.Core.Path.{_≡_};
 ghost use mathlib.Core.Bool.{cond};
@@ -49,7 +49,7 @@ pub fn reply_from(own: Own, start: Negotiation, from: usize, s: &mut [u8]) -> Re
 {
     let mut n = start;
     let mut at = from;
-    let mut left = MESSAGE;
+    let mut left = MOST_MESSAGE_BYTES;
     let mut passed = 0;
     let mut waiting = 0;
     let mut last = [0u8; 128];
@@ -70,7 +70,7 @@ pub fn reply_from(own: Own, start: Negotiation, from: usize, s: &mut [u8]) -> Re
             return replying(0, n, at, true);
         }
         let size = size_of_outgoing(out);
-        if MESSAGE < at + size + 1 {
+        if MOST_MESSAGE_BYTES < at + size + 1 {
             return replying(0, n, at, false);
         }
         let next = carry(s, at, n, out);

@@ -7,7 +7,7 @@ use lib.ListN.{length}
 use Rattle.graph.specs.Graph.{nodeIn}
 use Rattle.graph.specs.Propagated.{stateOf}
 use Rattle.negotiation.specs.State.{State}
-use Rattle.damage.specs.Restored.{Standing, refusal, standing, restoreOf}
+use Rattle.standing.specs.Standing.{Standing, refusal, standing, restoreOf}
 
 -- "a node's state byte and its propagated state, ..; the end, counts of nodes, edges, shown credentials, messages accepted and replies given
 -- together"

@@ -1,6 +1,7 @@
 // The report on a node of a negotiation.
-use damage::restore;
 use negotiation::Negotiation;
+use numbers::ABSENT;
+use standing::restore;
 use states::state_of;
 ghost use mathlib.Core.Path.{_≡_};
 ghost use Prim.Native.Nat.{_*_, _≤_, _<_};
@@ -9,8 +10,6 @@ ghost use Rattle.states.specs.laws.Brings.{NodesFormed, EdgesFormed};
 ghost use Rattle.negotiation.specs.laws.State.{stateOf};
 ghost use Rattle.report.specs.laws.Report.{numbered};
 ghost use Rattle.report.specs.Report.{reportOn, reportOf, packed, answerOf};
-
-const ABSENT: u64 = 24;
 
 fn wide(x: u8) -> u64
     ensures { λ r. ⌜ (r ≡ x) × (r < 256) ⌝ }

@@ -2,4 +2,5 @@ pub mod From
 pub mod Lists
 pub mod Decide
 pub mod Pool
+pub mod Shown
 pub mod laws

@@ -2,3 +2,5 @@ pub mod Lists
 pub mod Laws
 pub mod Pool
 pub mod Added
+pub mod Find
+pub mod Shown

@@ -10,6 +10,9 @@ ghost use mathlib.Core.List.{[], _∷_, _++_};
 ghost use Prim.Native.Nat.{_<_, _+_};
 ghost use Rattle.rt0.specs.laws.Pool.{poolOf, headAt, rawAtColumns, bodyAt, credentials as credentialsOf};
 ghost use Rattle.rt0.specs.laws.Added.{Sized, Stored};
+pub use shown::is_shown;
+
+mod shown;
 
 // Credentials one after the other: head i at 2 i, the body's kind and part count at 2 i, its eight numbers at 8 i.
 pub struct Pool {

@@ -1,3 +1,6 @@
 pub mod Runs
 pub mod RunsKept
 pub mod TwoRuns
+pub mod ReplyPublic
+pub mod Stays
+pub mod TwoReplies

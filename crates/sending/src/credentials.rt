@@ -1,7 +1,6 @@
 // The credentials that go before a command.
 use crate::pool::own_pool;
 use crate::pool::part_of;
-use damage::is_shown;
 use expression::Credential;
 use expression::Expression;
 use graph::Node;
@@ -12,6 +11,7 @@ use needed::needed;
 use needed::relevant;
 use needed::with_rest;
 use rt0::Pool;
+use rt0::is_shown;
 ghost use mathlib.Core.List.{[], _∷_};
 ghost use Prim.Native.Nat.{_≤_};
 ghost use Rattle.rt0.specs.laws.Pool.{credentials};

@@ -1,9 +1,9 @@
 // The credentials shown and, behind them, own ones that are not; and what of such a pool can matter for an edge.
-use damage::is_shown;
 use expression::Credential;
 use rt0::Pool;
 use rt0::body_at;
 use rt0::head_at;
+use rt0::is_shown;
 use rt0::store;
 ghost use mathlib.Core.Path.{_≡_};
 ghost use mathlib.Core.List.{_++_};

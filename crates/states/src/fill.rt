@@ -3,6 +3,7 @@ use crate::EdgeColumns;
 use expression::Parts;
 use expression::Role;
 use expression::same_role;
+use numbers::MOST_NODES;
 use word::wide;
 ghost use mathlib.Core.Path.{_≡_};
 ghost use Prim.Native.Nat.{_≤_, _<_};
@@ -12,7 +13,7 @@ ghost use Rattle.graph.specs.laws.Graph.{nodesFrom, edgesFrom, expressionFrom, 
 ghost use Rattle.states.specs.laws.Brings.{slotIn, slotAs, slotBy, Joined, Needs, Ways};
 ghost use Rattle.states.specs.laws.Fields.{needBy, wayBy};
 
-const NODES_MOST: u8 = 128;
+const NO_NODE: u8 = MOST_NODES as u8;
 
 const NEVER: u8 = 5;
 
@@ -222,7 +223,7 @@ pub fn links<'a>(
     requires { ⌜ (n ≤ 128) × (m ≤ 256) ⌝ }
     ensures { λ r. ⌜ ((o : Nodes) → Joined (nodesOf (nodesFrom n (now (kind .entry)) (now (parts .entry)) (now (n0 .entry)) (now (n1 .entry)) (now (n2 .entry)) (now (n3 .entry)) (now (n4 .entry)) (now (n5 .entry)) (now (n6 .entry)) (now (n7 .entry)) (o .subject) (o .verifier) (o .state))) (edgesOf (edgesFrom m (now (edge .entry)) (now (parent .entry)) (now (child .entry)))) (r .from) (r .slot)) ⌝ }
 {
-    let mut from = [NODES_MOST; 256];
+    let mut from = [NO_NODE; 256];
     let mut slot = [0u16; 256];
     let mut j = 0;
     while j < m {

@@ -5,6 +5,7 @@ use mathlib.Core.Bool.{Bool, true, false, cond, not, _&&_, _||_}
 use mathlib.Core.List.{List, [], _∷_}
 use lib.Dec.{ltb, leb, eqb}
 use lib.ListN.{length}
+use Rattle.numbers.specs.Sizes.{MOST-NAMES, MOST-STORED, MOST-SENSITIVE, MOST-ACCESS, MOST-TABLES-BYTES}
 use Rattle.expression.specs.declared.Role.{Role}
 use Rattle.expression.specs.declared.Credential.{Credential}
 use Rattle.expression.specs.Form.{ascends}
@@ -19,7 +20,6 @@ use Rattle.record.specs.declared.Record.the-variants.{Own, Named, IssuerStored,
 use Rattle.record.specs.declared.RecordAnswer.{RecordAnswer}
 use Rattle.record.specs.declared.RecordAnswer.the-variants as a
 use Rattle.record.specs.Record.{recordAt, sizeOf}
-use Rattle.tables.specs.Sizes.{namesMost, storedMost, sensitiveMost, accessMost, tablesMost}
 use Rattle.tables.specs.Tables.{Tables, unread, added}
 use Rattle.tables.specs.Lookup.{holds, isSensitive}
 
@@ -81,11 +81,11 @@ above T (Access p) = all (λ (q : Pair). ascends (q .role) (p .role)) (T .access
 -- no size is passed
 unfoldable pub room : Tables → Record → Bool
 room T (Own e) = true
-room T (Named n) = ltb (length (T .names)) namesMost
-room T (IssuerStored c) = ltb (length (T .issuerStored)) storedMost
-room T (SubjectStored c) = ltb (length (T .subjectStored)) storedMost
-room T (Sensitive p) = ltb (length (T .sensitive)) sensitiveMost
-room T (Access p) = ltb (length (T .access)) accessMost
+room T (Named n) = ltb (length (T .names)) MOST-NAMES
+room T (IssuerStored c) = ltb (length (T .issuerStored)) MOST-STORED
+room T (SubjectStored c) = ltb (length (T .subjectStored)) MOST-STORED
+room T (Sensitive p) = ltb (length (T .sensitive)) MOST-SENSITIVE
+room T (Access p) = ltb (length (T .access)) MOST-ACCESS
 
 -- "6 tables out of order, repeated, self missing, or a size passed"
 unfoldable pub orderNumber : Tables → Record → ℕ
@@ -116,7 +116,7 @@ recordsFrom (suc n) s at T =
 
 -- "1 a lent length outside the sizes"
 unfoldable pub sized : ℕ → Bool
-sized n = ltb 0 n && leb n tablesMost
+sized n = ltb 0 n && leb n MOST-TABLES-BYTES
 
 -- what the bytes of tables are
 unfoldable pub readTables : List ℕ → Outcome

@@ -5,9 +5,8 @@ use mathlib.Core.List.{List}
 use Rattle.expression.specs.declared.Role.{Role}
 use Rattle.expression.specs.declared.Credential.{Credential}
 use Rattle.expression.specs.declared.Expression.the-variants as E
-use Rattle.expression.specs.Same.{sameRole, same}
-use Rattle.rt0.specs.Lists.{any}
-use Rattle.class.specs.Names.{firstOr}
+use Rattle.expression.specs.Same.{sameRole, same, sameCredential}
+use Rattle.rt0.specs.Lists.{any, firstOr}
 use Rattle.record.specs.declared.Pair.{Pair}
 use Rattle.tables.specs.declared.RoleAnswer.{RoleAnswer}
 use Rattle.tables.specs.declared.RoleAnswer.the-variants.{Found, Absent}
@@ -15,9 +14,6 @@ use Rattle.tables.specs.declared.RoleAnswer.the-variants.{Found, Absent}
 -- "the direct credential, role from self"
 abbrev pub directOf : ℕ → Role → Credential
 directOf own r = record { head = r; body = E.Entity own }
-
-abbrev pub sameCredential : Credential → Credential → Bool
-sameCredential c d = sameRole (c .head) (d .head) && same (c .body) (d .body)
 
 -- "A role is held if 0x13 has its direct credential"
 unfoldable pub holds : ℕ → List Credential → Role → Bool

@@ -3,6 +3,7 @@ use class::Name;
 use class::Names;
 use expression::Credential;
 use expression::Role;
+use numbers::ORDER;
 use record::Pair;
 use record::RecordAnswer;
 use rt0::Pool;
@@ -23,20 +24,6 @@ mod names;
 mod sensitive;
 mod stored;
 mod whole;
-
-// How many records of a command there may be, and how many bytes.
-pub const NAMES_MOST: usize = 64;
-
-pub const STORED_MOST: usize = 64;
-
-pub const SENSITIVE_MOST: usize = 32;
-
-pub const ACCESS_MOST: usize = 32;
-
-pub const TABLES_MOST: usize = 4096;
-
-// Tables out of order, repeated, self missing, or a size passed.
-pub const ORDER: u64 = 6;
 
 // Pairs of roles one after the other: sensitive role i at 2 i, and its Ack or AC role at 2 i.
 pub struct Pairs {

@@ -12,7 +12,8 @@ ghost use mathlib.Core.Path.{_≡_};
 ghost use Prim.Native.Nat.{_<_, _≤_};
 ghost use Rattle.rt0.specs.laws.Pool.{poolOf, credentialAt, credentials as credentialsOf};
 ghost use Rattle.tables.specs.laws.Tables.{pairsFrom, pairsOf};
-ghost use Rattle.tables.specs.Lookup.{directOf, sameCredential, holds as holdsOf, isSensitive, otherOf, isDirect};
+ghost use Rattle.tables.specs.Lookup.{directOf, holds as holdsOf, isSensitive, otherOf, isDirect};
+ghost use Rattle.expression.specs.Same.{sameCredential};
 
 // Whether credential i is role r from self.
 fn is_direct_at<'a>(

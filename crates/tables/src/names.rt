@@ -1,5 +1,4 @@
 // The names of the tables.
-use crate::NAMES_MOST;
 use crate::NameStep;
 use crate::NamesRead;
 use crate::columns::store_name;
@@ -7,6 +6,8 @@ use crate::refusal_of;
 use crate::rising;
 use class::Name;
 use class::Names;
+use numbers::MOST_NAMES;
+use numbers::NAME_BYTES;
 use record::Record;
 use record::RecordAnswer;
 use record::read_record;
@@ -18,14 +19,11 @@ ghost use Rattle.tables.specs.laws.Group.{numberBehind, judgedStep, pick
 ghost use Rattle.tables.specs.laws.Groups.{names as namesGroup, pickName};
 ghost use Rattle.tables.specs.laws.Reading.{nameStep, noNumber, NamesGone};
 
-// 0x11, the name and its class.
-const NAME_SIZE: usize = 4;
-
 // The name n behind others, so many, the last of which is last.
 fn judged_name(n: Name, count: usize, last: Name) -> NameStep
     ensures { λ r. ⌜ nameStep r ≡ judgedStep (numberBehind namesGroup noNumber count last n) n ⌝ }
 {
-    let k = rising((count == 0) | (last.name < n.name), count, NAMES_MOST);
+    let k = rising((count == 0) | (last.name < n.name), count, MOST_NAMES);
     if k == 0 {
         return NameStep::Taken(n);
     }
@@ -73,7 +71,7 @@ pub fn read_names(s: &[u8], start: usize) -> NamesRead
                 store_name(&mut name, &mut class, count, n);
                 count += 1;
                 last = n;
-                at += NAME_SIZE;
+                at += NAME_BYTES;
             }
             NameStep::Stop(k) => {
                 return NamesRead {

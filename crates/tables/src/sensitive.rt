@@ -1,21 +1,22 @@
 // Sensitive roles with their Ack roles, and AC records.
-use crate::ACCESS_MOST;
 use crate::PairStep;
 use crate::Pairs;
 use crate::PairsRead;
-use crate::SENSITIVE_MOST;
 use crate::columns::store_pair;
 use crate::lookup::holds;
 use crate::lookup::is_sensitive;
 use crate::or_else;
 use crate::refusal_of;
 use crate::rising;
-use class::CLASS;
-use class::NAME;
 use class::SUBJECT_ALL;
 use class::class_of;
 use expression::Role;
 use expression::ascending;
+use numbers::CLASS;
+use numbers::MOST_ACCESS;
+use numbers::MOST_SENSITIVE;
+use numbers::NAME;
+use numbers::PAIR_BYTES;
 use record::Pair;
 use record::Record;
 use record::RecordAnswer;
@@ -35,13 +36,10 @@ ghost use Rattle.tables.specs.laws.Group.{behind, numberBehind, judgedSt
 ghost use Rattle.tables.specs.laws.Groups.{pairs as pairsGroup, pairsMost, pickPair};
 ghost use Rattle.tables.specs.laws.Reading.{pairStep, tablesFor, PairsGone};
 
-// 0x14 or 0x15 and two roles.
-const PAIR_SIZE: usize = 9;
-
 fn pairs_most(access: bool) -> usize
     ensures { λ r. ⌜ r ≡ pairsMost access ⌝ }
 {
-    if access { ACCESS_MOST } else { SENSITIVE_MOST }
+    if access { MOST_ACCESS } else { MOST_SENSITIVE }
 }
 
 // Whether the role r, whose name has class k, may stand: in 0x15 we hold it and it is sensitive, in 0x14 its class is subject-all.
@@ -250,7 +248,7 @@ pub fn read_pairs<'a>(
                 store_pair(&mut first, &mut second, count, x);
                 count += 1;
                 last = x;
-                at += PAIR_SIZE;
+                at += PAIR_BYTES;
             }
             PairStep::Stop(k) => {
                 return PairsRead {

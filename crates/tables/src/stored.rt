@@ -1,11 +1,9 @@
 // The credentials of a storage.
-use crate::STORED_MOST;
 use crate::StoredRead;
 use crate::StoredStep;
 use crate::or_else;
 use crate::refusal_of;
 use crate::rising;
-use class::CLASS;
 use class::ISSUER_ALL;
 use class::ISSUER_DEF;
 use class::SUBJECT_ALL;
@@ -15,6 +13,9 @@ use expression::Credential;
 use expression::Expression;
 use expression::Role;
 use expression::before_credential;
+use numbers::CLASS;
+use numbers::CREDENTIAL_BYTES;
+use numbers::MOST_STORED;
 use record::Record;
 use record::RecordAnswer;
 use record::read_record;
@@ -29,9 +30,6 @@ ghost use Rattle.tables.specs.Check.{suitsStorage, storedNumber};
 ghost use Rattle.tables.specs.laws.Group.{numberBehind, judgedStep, pickedStep, stepOf};
 ghost use Rattle.tables.specs.laws.Groups.{credentialsOf, pickStored};
 ghost use Rattle.tables.specs.laws.Reading.{storedStep, StoredGone};
-
-// 0x12 or 0x13 and the 22 bytes of a credential.
-const STORED_SIZE: usize = 23;
 
 // Whether a head of class k may stand in a storage.
 fn suits_storage(subject: bool, k: u8) -> bool
@@ -78,7 +76,7 @@ fn judged_stored<'a>(
     let up = (count == 0) | before_credential(last, c);
     let k = or_else(
         stored_number(n, name, class, subject, c),
-        rising(up, count, STORED_MOST),
+        rising(up, count, MOST_STORED),
     );
     if k == 0 {
         return StoredStep::Taken(c);
@@ -161,7 +159,7 @@ pub fn read_stored<'a>(
                 store(&mut heads, &mut kinds, &mut numbers, count, c);
                 count += 1;
                 last = c;
-                at += STORED_SIZE;
+                at += CREDENTIAL_BYTES;
             }
             StoredStep::Stop(k) => {
                 return StoredRead {

@@ -1,9 +1,7 @@
 // The check of whole tables, and what they hold.
 use crate::Decoded;
 use crate::House;
-use crate::ORDER;
 use crate::OwnAnswer;
-use crate::TABLES_MOST;
 use crate::names::read_names;
 use crate::or_else;
 use crate::refusal_of;
@@ -11,9 +9,12 @@ use crate::sensitive::pair_number;
 use crate::sensitive::read_pairs;
 use crate::stored::read_stored;
 use crate::stored::stored_number;
-use class::NAME;
 use class::Names;
-use expression::LENGTH;
+use numbers::LENGTH;
+use numbers::MOST_TABLES_BYTES;
+use numbers::NAME;
+use numbers::ORDER;
+use numbers::SELF_BYTES;
 use record::Record;
 use record::RecordAnswer;
 use record::read_record;
@@ -32,14 +33,11 @@ ghost use Rattle.tables.specs.laws.Reading.{tablesFor};
 ghost use Rattle.tables.specs.laws.Passed.{Passed};
 ghost use Rattle.tables.specs.laws.Decoding.{firstRecord, leftNumber, withoutPairs, Housed, Decodes};
 
-// 0x10 and self.
-const OWN_SIZE: usize = 3;
-
 // Whether tables may have so many bytes.
 fn sized(n: usize) -> bool
     ensures { λ r. ⌜ r ≡ sizedOf n ⌝ }
 {
-    (0 < n) & (n <= TABLES_MOST)
+    (0 < n) & (n <= MOST_TABLES_BYTES)
 }
 
 // The first record. Where it is not self, it is out of order, and before that its names have no class.
@@ -274,7 +272,7 @@ pub fn decode(s: &[u8]) -> Decoded
     match own_of(s) {
         OwnAnswer::Refused(k) => refused(k),
         OwnAnswer::Read(own) => {
-            let a = read_names(s, OWN_SIZE);
+            let a = read_names(s, SELF_BYTES);
             let names = a.names;
             if a.refusal != 0 {
                 return refused(a.refusal);

@@ -7,10 +7,12 @@ use lib.ListN.{length}
 use Rattle.tables.specs.Tables.{Tables}
 use Rattle.message.specs.declared.Command.{Command}
 use Rattle.negotiation.specs.State.{State}
-use Rattle.damage.specs.Restored.{refusal, standing, restoreOf}
-use Rattle.update.specs.After.{afterMessage}
-use Rattle.take.specs.Take.{sends, senderTo, messageSize}
-use Rattle.take.specs.Message.{moved, Carries, Stops}
+use Rattle.standing.specs.Standing.{refusal, standing, restoreOf}
+use Rattle.applied.specs.After.{afterMessage}
+use Rattle.standing.specs.Turn.{sends, senderTo}
+use Rattle.take.specs.Take.{messageSize}
+use Rattle.applied.specs.Step.{moved}
+use Rattle.legal.specs.Updates.{Carries, Stops}
 
 -- the lengths are right, and the tables T and the undamaged state S are what the lent bytes hold
 pub record Stands (tables negotiation message scratch : List ℕ) (T : Tables) (S : State) : Type 0 where

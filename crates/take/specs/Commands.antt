@@ -1,17 +1,16 @@
 -- The commands of a message, one after another (document 01, "From the state": "A message is read one command after another from the lent bytes").
 -- Assumes nothing.
 use Prim.Native.Nat.{ℕ, zero, suc, _+_}
-use mathlib.Core.Bool.{Bool, true, false, cond, _||_}
+use mathlib.Core.Bool.{Bool, cond, _||_}
 use mathlib.Core.List.{List}
 use Rattle.class.specs.declared.Name.{Name}
-use Rattle.message.specs.declared.Command.{Command}
-use Rattle.message.specs.declared.Command.the-variants.{Show, Open, Bring, Join, Mark, End}
 use Rattle.message.specs.declared.CommandAnswer.{CommandAnswer}
 use Rattle.message.specs.declared.CommandAnswer.the-variants.{Read, Refused}
 use Rattle.message.specs.Command.{commandAt, sizeOf}
 use Rattle.negotiation.specs.State.{State}
-use Rattle.update.specs.Step.{stepped, isMove}
-use Rattle.update.specs.Legal.{legalNumber}
+use Rattle.applied.specs.Step.{stepped, isMove}
+use Rattle.legal.specs.Number.{legalNumber}
+use Rattle.message.specs.Message.{isEnd}
 
 -- a refusal number, or the state that the commands lead to, and whether an open, an edge or a mark was among them
 pub data Taken : Type 0 where
@@ -22,14 +21,6 @@ pub data Taken : Type 0 where
 abbrev pub judged : ℕ → Taken → Taken
 judged zero next = next
 judged (suc k) next = refused (suc k)
-
-abbrev pub isEnd : Command → Bool
-isEnd (Show c) = false
-isEnd (Open o) = false
-isEnd (Bring n) = false
-isEnd (Join e) = false
-isEnd (Mark i) = false
-isEnd End = true
 
 -- an end ends the message; another command is carried out, and the next is read
 abbrev pub onCommand : (ℕ → State → Bool → Taken) → List Name → ℕ → State → Bool → CommandAnswer → Taken

@@ -1,5 +1,5 @@
 -- Take a message (document 01, "Sizes", "From the state" and "The reply"). Assumes nothing.
-use Prim.Native.Nat.{ℕ, _%_}
+use Prim.Native.Nat.{ℕ}
 use mathlib.Core.Bool.{Bool, not, cond, false, _&&_}
 use mathlib.Core.List.{List}
 use lib.Dec.{eqb, leb}
@@ -7,14 +7,10 @@ use lib.ListN.{length}
 use Rattle.tables.specs.Tables.{Tables}
 use Rattle.negotiation.specs.State.{State}
 use Rattle.negotiation.specs.Layout.{stateBytes, zeros}
-use Rattle.damage.specs.Restored as R
-use Rattle.update.specs.Step.{otherSide}
-use Rattle.update.specs.After.{afterMessage}
+use Rattle.standing.specs.Standing as R
+use Rattle.applied.specs.After.{afterMessage}
 use Rattle.take.specs.Commands as C
-
--- "the mediator sends when it is even": whether side s sends once n messages are counted
-unfoldable pub sends : ℕ → ℕ → Bool
-sends s n = eqb (n % 2) s
+use Rattle.standing.specs.Turn.{sends, senderTo}
 
 -- a refusal number, or the state of the negotiation that the message leads to
 pub data Outcome : Type 0 where
@@ -25,10 +21,6 @@ pub data Outcome : Type 0 where
 abbrev pub behindCommands : C.Taken → Outcome
 behindCommands (C.refused k) = refused k
 behindCommands (C.taken S moved) = accepted (afterMessage S moved false)
-
--- the side that sends a message to us
-abbrev pub senderTo : State → ℕ
-senderTo S = otherSide (S .header .side)
 
 -- "22 already ended", "21 not that side's turn", then the commands left to right
 unfoldable pub takenIn : List ℕ → Tables → State → Outcome

@@ -1,14 +1,14 @@
 // What is kept beside the negotiation while commands arrive. It is found again only where an edge asks it and a command has come since that may
 // change it.
 use crate::Kept;
+use applied::is_inside;
+use applied::is_move;
+use applied::keeps_states;
+use legal::is_implication;
+use legal::is_linking;
+use legal::satisfied_nodes;
 use message::Command;
 use negotiation::Negotiation;
-use update::is_implication;
-use update::is_inside;
-use update::is_linking;
-use update::is_move;
-use update::keeps_states;
-use update::satisfied_nodes;
 ghost use mathlib.Core.Path.{_≡_};
 ghost use mathlib.Core.Bool.{true, false};
 ghost use Prim.Native.Nat.{_≤_};

@@ -2,13 +2,19 @@
 use crate::Taking;
 use crate::commands::take_commands;
 use crate::commands::taking;
-use damage::restore;
-use expression::LENGTH;
+use applied::after_message;
 use negotiation::Negotiation;
 use negotiation::write;
 use negotiation::write_zeros;
+use numbers::ENDED;
+use numbers::LENGTH;
+use numbers::MOST_MESSAGE_BYTES;
+use numbers::SCRATCH_BYTES;
+use numbers::TURN;
+use standing::other_side;
+use standing::restore;
+use standing::sends;
 use tables::House;
-use update::after_message;
 ghost use mathlib.Core.Path.{_≡_};
 ghost use mathlib.Core.Bool.{true};
 ghost use Prim.Native.Nat.{_≤_, _<_};
@@ -18,38 +24,14 @@ ghost use Rattle.tables.specs.laws.Decoding.{Housed};
 ghost use Rattle.negotiation.specs.laws.State.{stateOf};
 ghost use Rattle.negotiation.specs.State.{within};
 ghost use Rattle.damage.specs.Damage.{sound};
-ghost use Rattle.update.specs.Step.{otherSide};
 ghost use Rattle.take.specs.laws.Commands.{Room};
-ghost use Rattle.take.specs.Take.{sends as sendsAt, messageSize, takenIn, takeOf, answerOf, negotiationLeft, scratchLeft};
+ghost use Rattle.take.specs.Take.{messageSize, takenIn, takeOf, answerOf, negotiationLeft, scratchLeft};
 ghost use Rattle.take.specs.laws.Take.{outcomeOf};
-
-// Why a call is refused: not that side's turn, already ended.
-pub const TURN: u64 = 21;
-
-pub const ENDED: u64 = 22;
-
-// How long the scratch is, and a message at the most.
-pub const SCRATCH: usize = 4096;
-
-pub const MESSAGE: usize = 4096;
-
-fn other_side(side: u8) -> u8
-    ensures { λ r. ⌜ r ≡ otherSide side ⌝ }
-{
-    if side == 0 { 1 } else { 0 }
-}
-
-// Whether a side sends next.
-pub fn sends(side: u8, messages: u16) -> bool
-    ensures { λ r. ⌜ r ≡ sendsAt side messages ⌝ }
-{
-    messages % 2 == side as u16
-}
 
 fn fits(message: usize, scratch: usize) -> bool
     ensures { λ r. ⌜ r ≡ messageSize message scratch ⌝ }
 {
-    (1 <= message) & (message <= MESSAGE) & (scratch == SCRATCH)
+    (1 <= message) & (message <= MOST_MESSAGE_BYTES) & (scratch == SCRATCH_BYTES)
 }
 
 // What a message does to a negotiation.
@@ -93,6 +75,6 @@ pub fn take(tables: &[u8], negotiation: &mut [u8], message: &[u8], scratch: &mut
         return t.refusal;
     }
     write(t.negotiation, negotiation);
-    write_zeros(scratch, 0, SCRATCH);
+    write_zeros(scratch, 0, SCRATCH_BYTES);
     0
 }

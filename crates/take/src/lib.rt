@@ -1,9 +1,4 @@
 // Take a message.
-pub use call::ENDED;
-pub use call::MESSAGE;
-pub use call::SCRATCH;
-pub use call::TURN;
-pub use call::sends;
 pub use call::take;
 pub use commands::take_commands;
 use negotiation::Negotiation;

@@ -6,6 +6,7 @@ use mathlib.Core.List.{List}
 use borrow.Author.Tests.{eq-eqb, ne-eqb}
 use lib.Dec.{eqb}
 use lib.ListN.{length}
+use Rattle.numbers.specs.Sizes.{NEGOTIATION-BYTES}
 use Rattle.expression.specs.declared.Role.{Role}
 use Rattle.rt0.specs.From.{roleOf}
 use Rattle.class.specs.declared.Name.{Name}
@@ -18,7 +19,7 @@ use Rattle.tables.specs.laws.Check.{outcomeOf}
 use Rattle.tables.specs.laws.DecodingLaws.{outcome-refused}
 use Rattle.negotiation.specs.State.{State, freshState, within}
 use Rattle.negotiation.specs.Layout.{stateBytes}
-use Rattle.begin.specs.Begin.{negotiationSize, isRequester, roleNumber, otherNumber, beginNumber, sideOf, begunState, Begun, refusal, numbered, behindTables, beginOf, answerOf, leftOf}
+use Rattle.begin.specs.Begin.{isRequester, roleNumber, otherNumber, beginNumber, sideOf, begunState, Begun, refusal, numbered, behindTables, beginOf, answerOf, leftOf}
 
 -- The wanted role and the other end
 
@@ -71,16 +72,16 @@ or-else-second : (k m : ℕ) → k ≡ 0 → orElse k m ≡ m
 or-else-second k m z = ap (λ (b : Bool). cond b m k) (eq-eqb k 0 z)
 
 -- a negotiation of another length
-pub begin-outside : (s n : List ℕ) (other entity name : ℕ) → (length n ≡ negotiationSize → ⊥) → Leaves n (beginOf s n other entity name) 1 n
+pub begin-outside : (s n : List ℕ) (other entity name : ℕ) → (length n ≡ NEGOTIATION-BYTES → ⊥) → Leaves n (beginOf s n other entity name) 1 n
 unfolding beginOf
 begin-outside s n other entity name h =
-    leaves-refused n _ 1 (ap (λ (b : Bool). cond b (behindTables other entity name (readTables s)) (refusal 1)) (ne-eqb (length n) negotiationSize h))
+    leaves-refused n _ 1 (ap (λ (b : Bool). cond b (behindTables other entity name (readTables s)) (refusal 1)) (ne-eqb (length n) NEGOTIATION-BYTES h))
 
-module _ (s n : List ℕ) (other entity name : ℕ) (d : Decoded) (size : length n ≡ negotiationSize) (h : outcomeOf d ≡ readTables s) where
+module _ (s n : List ℕ) (other entity name : ℕ) (d : Decoded) (size : length n ≡ NEGOTIATION-BYTES) (h : outcomeOf d ≡ readTables s) where
   inside : (o : Outcome) → outcomeOf d ≡ o → beginOf s n other entity name ≡ behindTables other entity name o
   unfolding beginOf
   inside o q =
-      ap (λ (b : Bool). cond b (behindTables other entity name (readTables s)) (refusal 1)) (eq-eqb (length n) negotiationSize size)
+      ap (λ (b : Bool). cond b (behindTables other entity name (readTables s)) (refusal 1)) (eq-eqb (length n) NEGOTIATION-BYTES size)
       ∙ ap (behindTables other entity name) (sym h ∙ q)
 
   -- the tables are refused

@@ -9,6 +9,7 @@ use mathlib.Core.Option.{none, some}
 use borrow.Author.Tests.{eq-eqb, eqb-true, eqb-false, lt-ltb}
 use lib.Dec.{eqb, ltb}
 use lib.ListN.{length}
+use Rattle.numbers.specs.Sizes.{NEGOTIATION-BYTES}
 use Rattle.expression.specs.declared.Role.{Role}
 use Rattle.rt0.specs.From.{roleOf}
 use Rattle.class.specs.declared.Name.{Name}
@@ -21,7 +22,7 @@ use Rattle.negotiation.specs.Layout.{stateBytes}
 use Rattle.negotiation.specs.laws.Codec.{state-back}
 use Rattle.damage.specs.Header.{wantedSound, otherSound, headerSound, emptySound}
 use Rattle.damage.specs.Damage.{sound, ifSound, readSound}
-use Rattle.begin.specs.Begin.{negotiationSize, isRequester, roleNumber, otherNumber, beginNumber, sideOf, begunState, Begun, refusal, begun, numbered, behindTables, beginOf}
+use Rattle.begin.specs.Begin.{isRequester, roleNumber, otherNumber, beginNumber, sideOf, begunState, Begun, refusal, begun, numbered, behindTables, beginOf}
 use Rattle.begin.specs.laws.Begin.{within-fresh}
 
 -- Not damaged
@@ -92,7 +93,7 @@ module _ (tables negotiation : List ℕ) (other entity name : ℕ) {T : Tables} 
 
   begun-only : (beginNumber T other entity name ≡ 0) × (begunState T other entity name ≡ S)
   unfolding beginOf
-  begun-only = go (eqb (length negotiation) negotiationSize) h
+  begun-only = go (eqb (length negotiation) NEGOTIATION-BYTES) h
     where
       go : (b : Bool) → cond b (behindTables other entity name (readTables tables)) (refusal 1) ≡ begun S → (beginNumber T other entity name ≡ 0) × (begunState T other entity name ≡ S)
       go true e = begun-number (beginNumber T other entity name) (begunState T other entity name) (sym (ap (behindTables other entity name) t) ∙ e)
@@ -121,5 +122,5 @@ pub begin-alike : (s t negotiation : List ℕ) (other entity name : ℕ) {T U : 
 unfolding beginOf
 begin-alike s t negotiation other entity name {T} {U} p q h =
     let e = begin-public T U other entity name h in
-    ap (λ (x : Begun). cond (eqb (length negotiation) negotiationSize) x (refusal 1))
+    ap (λ (x : Begun). cond (eqb (length negotiation) NEGOTIATION-BYTES) x (refusal 1))
     (ap (behindTables other entity name) p ∙ (λ i. numbered (e .0 i) (e .1 i)) ∙ sym (ap (behindTables other entity name) q))

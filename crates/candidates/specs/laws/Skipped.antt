@@ -7,7 +7,7 @@ use mathlib.Core.Bool.{Bool, true, false}
 use borrow.Author.Tests.{eqb-true, eqb-false, ltb-true, ltb-false}
 use lib.Dec.{eqb, ltb}
 use Rattle.propagation.specs.laws.Flags.{decided}
-use Rattle.class.specs.laws.Find.{Missed}
+use Rattle.rt0.specs.laws.Find.{Missed}
 use Rattle.moves.specs.declared.Choice.{Choice}
 use Rattle.candidates.specs.laws.Offers.{turned, folded}
 

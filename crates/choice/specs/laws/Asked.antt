@@ -14,7 +14,7 @@ use Rattle.tables.specs.Public.{publicOf, hiddenOf, keep}
 use Rattle.graph.specs.declared.Node.{Node}
 use Rattle.graph.specs.Graph.{nodeIn}
 use Rattle.negotiation.specs.State.{State}
-use Rattle.update.specs.Step.{processedBy}
+use Rattle.graph.specs.Processed.{processedBy}
 use Rattle.moves.specs.declared.Wanted.{Wanted}
 use Rattle.moves.specs.declared.Choice.{Choice}
 use Rattle.moves.specs.declared.Choice.the-variants as C

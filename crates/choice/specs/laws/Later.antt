@@ -25,7 +25,8 @@ use Rattle.message.specs.declared.Command.{Command}
 use Rattle.message.specs.declared.Command.the-variants.{Show, Open, Bring, Join, Mark, End}
 use Rattle.negotiation.specs.declared.Header.{Header}
 use Rattle.negotiation.specs.State.{State, withNode, withEdge, withShown, withMark}
-use Rattle.update.specs.Step.{processedBy, markedState, primaryOf, childIn, stepped}
+use Rattle.graph.specs.Processed.{processedBy, markedState}
+use Rattle.applied.specs.Step.{primaryOf, childIn, stepped}
 use Rattle.moves.specs.declared.Wanted.{Wanted}
 use Rattle.moves.specs.declared.Choice.{Choice}
 use Rattle.moves.specs.declared.Choice.the-variants as C

@@ -22,7 +22,7 @@ use Rattle.tables.specs.Tables.{Tables}
 use Rattle.negotiation.specs.declared.Negotiation.{Negotiation}
 use Rattle.negotiation.specs.State.{State}
 use Rattle.negotiation.specs.laws.State.{stateOf}
-use Rattle.update.specs.Step.{processedBy}
+use Rattle.graph.specs.Processed.{processedBy}
 use Rattle.message.specs.declared.Command.{Command}
 use Rattle.message.specs.declared.Command.the-variants.{Show}
 use Rattle.moves.specs.declared.Choice.{Choice}

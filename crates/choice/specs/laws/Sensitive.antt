@@ -12,7 +12,7 @@ use Rattle.graph.specs.declared.Node.{Node}
 use Rattle.graph.specs.Propagated.{satisfiedB}
 use Rattle.justification.specs.laws.Justified.{Says}
 use Rattle.negotiation.specs.State.{State}
-use Rattle.update.specs.Step.{otherSide}
+use Rattle.negotiation.specs.Ends.{otherSide}
 use Rattle.moves.specs.declared.Wanted.{Wanted}
 use Rattle.moves.specs.declared.Choice.{Choice}
 use Rattle.moves.specs.declared.Choice.the-variants as C

@@ -29,7 +29,8 @@ use Rattle.graph.specs.laws.Propagated.{satisfied-exact}
 use Rattle.message.specs.declared.Command.{Command}
 use Rattle.negotiation.specs.declared.Header.{Header}
 use Rattle.negotiation.specs.State.{State}
-use Rattle.update.specs.Step.{processedBy, otherSide}
+use Rattle.graph.specs.Processed.{processedBy}
+use Rattle.negotiation.specs.Ends.{otherSide}
 use Rattle.moves.specs.declared.Wanted.{Wanted}
 use Rattle.moves.specs.declared.Choice.{Choice}
 use Rattle.moves.specs.declared.Choice.the-variants as C

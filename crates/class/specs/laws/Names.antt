@@ -10,7 +10,7 @@ use native.Mathlib.Omega.{arith}
 use mathlib.Core.Path.{_≡_, refl, sym, _∙_, ap}
 use mathlib.Core.Bool.{Bool, true, false}
 use borrow.Author.Tests.{eq-eqb, ne-eqb, eqb-true, eqb-false, ltb-true, ltb-false}
-use Rattle.class.specs.laws.Find.{first-at, first-none}
+use Rattle.rt0.specs.laws.Find.{first-at, first-none}
 use Rattle.class.specs.Names.{classOf}
 
 abbrev pub namesFrom : ℕ → List ℕ → List ℕ → Names

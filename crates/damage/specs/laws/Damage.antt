@@ -16,7 +16,8 @@ use Rattle.class.specs.declared.Name.{Name}
 use Rattle.tables.specs.Tables.{Tables}
 use Rattle.negotiation.specs.declared.Header.{Header}
 use Rattle.negotiation.specs.State.{State, within}
-use Rattle.damage.specs.Header.{headerSound, emptySound, countSound, endSound, entityOf}
+use Rattle.damage.specs.Header.{headerSound, emptySound, countSound, endSound}
+use Rattle.negotiation.specs.Ends.{entityOf}
 use Rattle.damage.specs.Records.{nodeFits, primarySound, credentialFits, nodeSound}
 use Rattle.damage.specs.Edges.{allBrought, brought, broughtFrom, placed, formed, edgeFits}
 use native.Mathlib.Omega.{arith}

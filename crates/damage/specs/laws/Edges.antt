@@ -20,7 +20,7 @@ use Rattle.graph.specs.laws.Columns.{nodes-length, edge-in}
 use Rattle.graph.specs.Form.{form}
 use Rattle.graph.specs.Find.{hasEdge}
 use Rattle.negotiation.specs.declared.Header.{Header}
-use Rattle.damage.specs.Header.{entityOf}
+use Rattle.negotiation.specs.Ends.{entityOf}
 use Rattle.damage.specs.laws.Turns.{Judged, judged-none, edges-next, edges-stop, edges-done}
 use Rattle.damage.specs.Edges.{nextBrought, broughtFrom, brought, placed, formed, edgeFits, allBrought}
 

@@ -1,6 +1,6 @@
 -- The header, by its tests. Assumes nothing.
 use Prim.Native.Nat.{ℕ}
-use mathlib.Core.Path.{_≡_, refl, sym, _∙_, ap}
+use mathlib.Core.Path.{_≡_, refl, sym, _∙_}
 use mathlib.Core.Bool.{Bool, true, false, not, cond, _&&_, _||_}
 use mathlib.Core.List.{List}
 use borrow.Author.Tests.{eq-eqb, ne-eqb}
@@ -10,7 +10,7 @@ use Rattle.expression.specs.Form.{isRole, isEmpty}
 use Rattle.class.specs.declared.Name.{Name}
 use Rattle.class.specs.Names.{classOf}
 use Rattle.negotiation.specs.declared.Header.{Header}
-use Rattle.damage.specs.Header.{wantedSound, otherSound, headerSound, requester, entityOf, emptySound, countSound, endSound}
+use Rattle.damage.specs.Header.{wantedSound, otherSound, headerSound, emptySound, countSound, endSound}
 
 module _ (ns : List Name) (side : ℕ) (r : Role) where
   by-side : (a : Bool) → a ≡ eqb side 0 → cond a (isRole r && not (eqb (classOf ns (r .name)) 0)) (isEmpty r) ≡ wantedSound ns side r
@@ -31,22 +31,6 @@ unfolding headerSound
 header-is own ns h e = λ i. ltb (h .side) 2 && eqb (h .own) own && otherSound (h .own) (h .other) && e i
 
 module _ (h : Header) where
-  pub requester-mediator : h .side ≡ 0 → h .other ≡ requester h
-  unfolding requester
-  requester-mediator e = ap (λ (b : Bool). cond b (h .other) (h .own)) (sym (eq-eqb (h .side) 0 e))
-
-  pub requester-self : (h .side ≡ 0 → ⊥) → h .own ≡ requester h
-  unfolding requester
-  requester-self e = ap (λ (b : Bool). cond b (h .other) (h .own)) (sym (ne-eqb (h .side) 0 e))
-
-  pub entity-own : (v : ℕ) → v ≡ h .side → h .own ≡ entityOf h v
-  unfolding entityOf
-  entity-own v e = ap (λ (b : Bool). cond b (h .own) (h .other)) (sym (eq-eqb v (h .side) e))
-
-  pub entity-other : (v : ℕ) → (v ≡ h .side → ⊥) → h .other ≡ entityOf h v
-  unfolding entityOf
-  entity-other v e = ap (λ (b : Bool). cond b (h .own) (h .other)) (sym (ne-eqb v (h .side) e))
-
   pub empty-is : (edges shown : ℕ) → (eqb (h .messages) 0 && eqb (h .end) 0 && eqb (h .idle) 0 && eqb edges 0 && eqb shown 0) ≡ emptySound h edges shown
   unfolding emptySound
   empty-is edges shown = refl

@@ -38,7 +38,8 @@ use Rattle.justification.specs.Justified.{monitorKind, isSolutionFor, solves, s
 use Rattle.tables.specs.Tables.{Tables}
 use Rattle.negotiation.specs.declared.Header.{Header}
 use Rattle.negotiation.specs.State.{State}
-use Rattle.damage.specs.Header.{headerSound, emptySound, countSound, endSound, requester, entityOf}
+use Rattle.damage.specs.Header.{headerSound, emptySound, countSound, endSound}
+use Rattle.negotiation.specs.Ends.{requester, entityOf}
 use Rattle.damage.specs.Records.{nodeSound, nodeFits, primarySound}
 use Rattle.damage.specs.Edges.{nextBrought, broughtFrom, brought, placed, formed, edgeFits, allBrought}
 use Rattle.damage.specs.Damage.{recordsSound, edgesJustified, graphSound, sound}

@@ -12,18 +12,17 @@ use Rattle.expression.specs.declared.Credential.{Credential}
 use Rattle.expression.specs.declared.Expression.{Expression}
 use Rattle.expression.specs.declared.Expression.the-variants as E
 use Rattle.expression.specs.Form.{wellFormed}
-use Rattle.expression.specs.Same.{same, sameRole}
+use Rattle.expression.specs.Same.{same}
 use Rattle.expression.specs.Credential.{wellFormedCredential}
 use Rattle.expression.specs.Kinds.{isRoleExpression}
 use Rattle.rt0.specs.declared.Pool.{Pool}
 use Rattle.rt0.specs.Lists.{any}
 use Rattle.word.specs.laws.Bools.{false-true}
-use Rattle.rt0.specs.laws.Pool.{headAt, bodyAt, credentials, credentialAt}
+use Rattle.rt0.specs.laws.Pool.{headAt, bodyAt, credentialAt}
 use Rattle.class.specs.declared.Name.{Name}
 use Rattle.class.specs.declared.Typing.{Typing}
 use Rattle.class.specs.Typing.{typeOf, credentialNumber}
-use Rattle.class.specs.laws.Find.{Missed, any-at, any-none}
-use Rattle.tables.specs.Lookup.{sameCredential}
+use Rattle.rt0.specs.laws.Find.{any-at, any-none}
 use Rattle.graph.specs.declared.Node.{Node}
 use Rattle.graph.specs.declared.Nodes.{Nodes}
 use Rattle.graph.specs.laws.Graph.{nodesOf, nodeAt}
@@ -33,8 +32,9 @@ use Rattle.graph.specs.Form.{legalState}
 use Rattle.graph.specs.Find.{isNode, findNode}
 use Rattle.graph.specs.laws.FindExact.{find-cases}
 use Rattle.negotiation.specs.declared.Header.{Header}
-use Rattle.damage.specs.Header.{requester}
-use Rattle.damage.specs.Records.{isTyped, nodeSound, nodeFits, primarySound, credentialSound, isShown, credentialFits}
+use Rattle.negotiation.specs.Ends.{requester}
+use Rattle.damage.specs.Records.{isTyped, nodeSound, nodeFits, primarySound, credentialSound, credentialFits}
+use Rattle.rt0.specs.Shown.{isShown}
 
 -- Nodes
 
@@ -103,22 +103,6 @@ module _ (h : Header) (n : Node) where
 pub credential-is : (ns : List Name) (c : Credential) {w : Bool} {k : ℕ} → w ≡ wellFormedCredential c → k ≡ credentialNumber ns c → (w && eqb k 0) ≡ credentialSound ns c
 unfolding credentialSound
 credential-is ns c e f = λ i. e i && eqb (f i) 0
-
--- the head, then the body
-pub other-head : (d c : Credential) {r : Role} {a : Bool} → r ≡ d .head → a ≡ sameRole r (c .head) → not a ≡ true → false ≡ sameCredential d c
-other-head d c {r} {a} h e k = ap (λ (b : Bool). b && same (d .body) (c .body)) (sym (not-true a k) ∙ e ∙ ap (λ (r : Role). sameRole r (c .head)) h)
-
-pub same-head : (d c : Credential) {r : Role} {x : Expression} {a b : Bool} → r ≡ d .head → a ≡ sameRole r (c .head) → not a ≡ false → x ≡ d .body → b ≡ same x (c .body) → b ≡ sameCredential d c
-same-head d c {r} {x} {a} {b} h e k y f = f ∙ ap (λ (z : Expression). same z (c .body)) y ∙ ap (λ (t : Bool). t && same (d .body) (c .body)) (sym (not-false a k) ∙ e ∙ ap (λ (r : Role). sameRole r (c .head)) h)
-
-module _ (P : Pool) (c : Credential) {j : ℕ} (h : Missed (λ d. sameCredential d c) (credentialAt P) j) where
-  pub shown-at : {b : Bool} → j < P .count → b ≡ sameCredential (credentialAt P j) c → b ≡ true → true ≡ isShown (credentials P) c
-  unfolding isShown credentials
-  shown-at l e t = any-at (P .count) h l e t
-
-  pub shown-none : P .count ≤ j → false ≡ isShown (credentials P) c
-  unfolding isShown credentials
-  shown-none l = any-none (P .count) h l
 
 module _ (ns : List Name) (before : List Credential) (c : Credential) where
   by-credential : (a b : Bool) → a ≡ credentialSound ns c → b ≡ isShown before c → (a && not b) ≡ credentialFits ns before c

@@ -1,13 +1,21 @@
--- Equality of roles and expressions is equality of the values. Assumes nothing.
-use mathlib.Core.Path.{_≡_, sym, ap, _∙_}
-use mathlib.Core.Bool.{true}
-use borrow.Author.Tests.{eq-eqb, eqb-true}
+-- Equality of roles, expressions and credentials is equality of the values. Assumes nothing.
+use mathlib.Core.Path.{_≡_, sym, _∙_, ap}
+use mathlib.Core.Bool.{Bool, true, false, not, _&&_}
+use borrow.Author.Tests.{eq-eqb, not-true, not-false, eqb-true}
 use lib.Dec.{eqb}
 use Rattle.expression.specs.declared.Role.{Role}
+use Rattle.expression.specs.declared.Credential.{Credential}
 use Rattle.expression.specs.declared.Expression.{Expression}
+use Rattle.expression.specs.Same.{same, sameRole, sameCredential}
 use Rattle.expression.specs.Form.{rawOf, sameRaw, expressionOf}
 use Rattle.expression.specs.laws.Laws.{and-left, and-right, same-refl, same-raw, expression-raw}
-use Rattle.expression.specs.Same.{sameRole, same}
+
+-- the head, then the body
+pub other-head : (d c : Credential) {r : Role} {a : Bool} → r ≡ d .head → a ≡ sameRole r (c .head) → not a ≡ true → false ≡ sameCredential d c
+other-head d c {r} {a} h e k = ap (λ (b : Bool). b && same (d .body) (c .body)) (sym (not-true a k) ∙ e ∙ ap (λ (r : Role). sameRole r (c .head)) h)
+
+pub same-head : (d c : Credential) {r : Role} {x : Expression} {a b : Bool} → r ≡ d .head → a ≡ sameRole r (c .head) → not a ≡ false → x ≡ d .body → b ≡ same x (c .body) → b ≡ sameCredential d c
+same-head d c {r} {x} {a} {b} h e k y f = f ∙ ap (λ (z : Expression). same z (c .body)) y ∙ ap (λ (t : Bool). t && same (d .body) (c .body)) (sym (not-false a k) ∙ e ∙ ap (λ (r : Role). sameRole r (c .head)) h)
 
 -- roles that pass the test are equal
 pub sameRole-eq : (p q : Role) → sameRole p q ≡ true → p ≡ q

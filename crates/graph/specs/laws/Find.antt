@@ -8,8 +8,8 @@ use Rattle.expression.specs.declared.Expression.{Expression}
 use Rattle.expression.specs.Same.{same}
 use Rattle.word.specs.laws.Bools.{false-true}
 use Rattle.rt0.specs.Pool.{upTo}
-use Rattle.class.specs.Names.{firstOr}
-use Rattle.class.specs.laws.Find.{Missed, missed-fewer, first-at, first-none, any-at, any-none}
+use Rattle.rt0.specs.Lists.{firstOr}
+use Rattle.rt0.specs.laws.Find.{Missed, missed-fewer, first-at, first-none, any-at, any-none}
 use Rattle.graph.specs.declared.Node.{Node}
 use Rattle.graph.specs.declared.Edge.{Edge}
 use Rattle.graph.specs.declared.Nodes.{Nodes}

@@ -11,7 +11,7 @@ use lib.ListN.{length}
 use Rattle.expression.specs.declared.Expression.{Expression}
 use Rattle.rt0.specs.laws.Lists.{any-find, any-here}
 use Rattle.word.specs.laws.Bools.{and-parts, and-both}
-use Rattle.class.specs.laws.Find.{Missed, missed-start, missed-more, missed-fewer, first-at, first-none}
+use Rattle.rt0.specs.laws.Find.{Missed, missed-start, missed-more, missed-fewer, first-at, first-none}
 use Rattle.graph.specs.declared.Node.{Node}
 use Rattle.graph.specs.declared.Edge.{Edge}
 use Rattle.graph.specs.Graph.{nodeIn}

@@ -17,7 +17,7 @@ use native.Mathlib.Omega.{arith}
 use borrow.Author.Tests.{eq-eqb, ne-eqb, lt-ltb, le-ltb}
 use lib.ListN.{getD, length}
 use Rattle.word.specs.laws.Bools.{false-true}
-use Rattle.class.specs.laws.Find.{Missed, any-at, any-none}
+use Rattle.rt0.specs.laws.Find.{Missed, any-at, any-none}
 use Rattle.graph.specs.declared.Nodes.{Nodes}
 use Rattle.graph.specs.declared.Edges.{Edges}
 use Rattle.graph.specs.laws.Graph.{nodesOf, edgesOf, nodeAt, edgeAt}

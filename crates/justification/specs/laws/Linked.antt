@@ -10,7 +10,7 @@ use lib.Dec.{eqb}
 use lib.ListN.{getD, take}
 use lib.Seq.{take-all, take-append-le}
 use Rattle.rt0.specs.Pool.{upTo}
-use Rattle.class.specs.laws.Find.{Missed, missed-fewer}
+use Rattle.rt0.specs.laws.Find.{Missed, missed-fewer}
 use Rattle.rt0.specs.laws.Added.{length-upTo}
 use Rattle.propagation.specs.Flags.{at}
 use Rattle.propagation.specs.laws.Satisfied.{graph}

@@ -24,10 +24,10 @@ use Rattle.graph.specs.Graph.{nodeIn}
 use Rattle.graph.specs.Form.{isStandard, form}
 use Rattle.message.specs.Command.{edgeKind}
 use Rattle.negotiation.specs.State.{State}
-use Rattle.damage.specs.Records.{isShown}
-use Rattle.update.specs.Step.{verifierOf}
-use Rattle.update.specs.Legal.{formedAs}
-use Rattle.update.specs.Update.{Monitored, Justifies}
+use Rattle.rt0.specs.Shown.{isShown}
+use Rattle.applied.specs.Step.{verifierOf}
+use Rattle.legal.specs.Number.{formedAs}
+use Rattle.legal.specs.Legal.{Monitored, Justifies}
 use Rattle.moves.specs.declared.Wanted.{Wanted}
 use Rattle.moves.specs.Rules.{End, endIn, childFor, suitsNode}
 use Rattle.moves.specs.Move.{ownSet, credentialsFor}

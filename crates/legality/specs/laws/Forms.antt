@@ -19,7 +19,7 @@ use Rattle.word.specs.laws.Bools.{false-true, and-both}
 use Rattle.graph.specs.declared.Node.{Node}
 use Rattle.graph.specs.Form.{isStandard, isTarget, isNamed, isMonitor, isSolution, isFirst, hasRole, isPart, sameVerifier, sameEnds, form, legalState}
 use Rattle.class.specs.declared.Name.{Name}
-use Rattle.update.specs.Step.{otherSide}
+use Rattle.negotiation.specs.Ends.{otherSide}
 use Rattle.moves.specs.Initial.{traced, initialState}
 use Rattle.moves.specs.Rules.{suitsNode}
 

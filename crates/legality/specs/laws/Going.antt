@@ -20,12 +20,13 @@ use Rattle.graph.specs.Form.{legalState}
 use Rattle.states.specs.laws.Brings.{NodesFormed, EdgesFormed}
 use Rattle.negotiation.specs.declared.Header.{Header}
 use Rattle.negotiation.specs.State.{State, within}
-use Rattle.damage.specs.Header.{otherSound, wantedSound, headerSound, entityOf}
+use Rattle.damage.specs.Header.{otherSound, wantedSound, headerSound}
+use Rattle.negotiation.specs.Ends.{entityOf}
 use Rattle.damage.specs.Records.{isTyped, nodeSound, nodeFits}
 use Rattle.damage.specs.Edges.{formed, edgeFits}
 use Rattle.damage.specs.laws.Damage.{fits-sound}
-use Rattle.update.specs.laws.Growth.{Each, Ends, turn-at, fits-parts}
-use Rattle.update.specs.laws.Kept.{GraphKept, record-parts, brought-parts, all-ends}
+use Rattle.legal.specs.laws.Growth.{Each, Ends, turn-at, fits-parts}
+use Rattle.legal.specs.laws.Kept.{GraphKept, record-parts, brought-parts, all-ends}
 use Rattle.legality.specs.laws.Proper.{Proper}
 
 -- our tables are sound, and so is the graph of the negotiation, whatever its count and end

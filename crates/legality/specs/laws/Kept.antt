@@ -29,19 +29,20 @@ use Rattle.message.specs.declared.Command.{Command}
 use Rattle.message.specs.declared.Command.the-variants.{Open}
 use Rattle.message.specs.Command.{formedCommand}
 use Rattle.negotiation.specs.State.{State, within, withNode}
-use Rattle.damage.specs.Header.{wantedSound, headerSound, requester, emptySound}
+use Rattle.damage.specs.Header.{wantedSound, headerSound, emptySound}
+use Rattle.negotiation.specs.Ends.{requester}
 use Rattle.damage.specs.Records.{isTyped, nodeSound, nodeFits, primarySound, credentialFits}
 use Rattle.damage.specs.Edges.{broughtFrom, brought, edgeFits}
 use Rattle.damage.specs.Damage.{edgesJustified, graphSound, sound}
 use Rattle.damage.specs.laws.Damage.{graph-parts, sound-some}
-use Rattle.update.specs.Step.{primaryOf, stepped}
-use Rattle.update.specs.Update.{Legal}
-use Rattle.update.specs.laws.UpdateExact.{legal-exactly}
-use Rattle.update.specs.laws.Kept.{GraphKept, records-of, brought-of}
-use Rattle.update.specs.laws.KeptStep.{step-kept}
-use Rattle.update.specs.laws.Room.{legal-room, step-within}
-use Rattle.take.specs.Message.{Updates, none, next}
-use Rattle.take.specs.laws.CommandsKept.{step-header, step-some}
+use Rattle.applied.specs.Step.{primaryOf, stepped}
+use Rattle.legal.specs.Legal.{Legal}
+use Rattle.legal.specs.laws.Exact.{legal-exactly}
+use Rattle.legal.specs.laws.Kept.{GraphKept, records-of, brought-of}
+use Rattle.legal.specs.laws.KeptStep.{step-kept}
+use Rattle.legal.specs.laws.Room.{legal-room, step-within}
+use Rattle.legal.specs.Updates.{Updates, none, next}
+use Rattle.applied.specs.laws.Step.{step-header, step-some}
 use Rattle.moves.specs.Initial.{initialState}
 use Rattle.moves.specs.Rules.{endIn}
 use Rattle.moves.specs.Move.{nextMove}

@@ -28,10 +28,11 @@ use Rattle.message.specs.declared.Command.{Command}
 use Rattle.message.specs.declared.Command.the-variants.{Show, Bring, Join, Mark}
 use Rattle.message.specs.Command.{edgeKind, formedCommand}
 use Rattle.negotiation.specs.State.{State}
-use Rattle.update.specs.Step.{processedBy, childOf, stepped, hasRoom}
-use Rattle.update.specs.Legal.{formedAs}
-use Rattle.update.specs.Update.{Justifies, Legal}
-use Rattle.take.specs.Message.{Updates, none, next}
+use Rattle.graph.specs.Processed.{processedBy}
+use Rattle.applied.specs.Step.{childOf, stepped, hasRoom}
+use Rattle.legal.specs.Number.{formedAs}
+use Rattle.legal.specs.Legal.{Justifies, Legal}
+use Rattle.legal.specs.Updates.{Updates, none, next}
 use Rattle.moves.specs.declared.Wanted.{Wanted}
 use Rattle.moves.specs.declared.Choice.{Choice}
 use Rattle.moves.specs.declared.Choice.the-variants as K

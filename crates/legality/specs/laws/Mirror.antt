@@ -19,12 +19,12 @@ use Rattle.message.specs.declared.Command.the-variants.{Show, Open, Bring, Join
 use Rattle.message.specs.Command.{formedCommand}
 use Rattle.negotiation.specs.declared.Header.{Header}
 use Rattle.negotiation.specs.State.{State, withHeader, withNode, withEdge, withShown, withMark}
-use Rattle.damage.specs.Header.{requester, entityOf}
-use Rattle.update.specs.Step.{otherSide, primaryOf, childOf, stepped}
-use Rattle.update.specs.Legal.{formedAs}
-use Rattle.update.specs.Update.{Monitored, Justifies, Legal}
-use Rattle.take.specs.Message.{Updates, none, next}
-use Rattle.take.specs.laws.CommandsKept.{step-header}
+use Rattle.negotiation.specs.Ends.{requester, entityOf, otherSide}
+use Rattle.applied.specs.Step.{primaryOf, childOf, stepped}
+use Rattle.legal.specs.Number.{formedAs}
+use Rattle.legal.specs.Legal.{Monitored, Justifies, Legal}
+use Rattle.legal.specs.Updates.{Updates, none, next}
+use Rattle.applied.specs.laws.Step.{step-header}
 use Rattle.legality.specs.laws.Going.{Going, going-node}
 use Rattle.legality.specs.laws.Kept.{step-going}
 use Rattle.legality.specs.Mirror.{Mirror, Mirrored}

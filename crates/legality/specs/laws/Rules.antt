@@ -39,10 +39,10 @@ use Rattle.graph.specs.Graph.{nodeIn}
 use Rattle.graph.specs.Form.{isStandard}
 use Rattle.graph.specs.laws.Propagated.{satisfied-exact}
 use Rattle.negotiation.specs.State.{State}
-use Rattle.damage.specs.Header.{entityOf}
-use Rattle.update.specs.Step.{verifierOf}
-use Rattle.update.specs.Legal.{formedAs}
-use Rattle.update.specs.Update.{Monitored}
+use Rattle.negotiation.specs.Ends.{entityOf}
+use Rattle.applied.specs.Step.{verifierOf}
+use Rattle.legal.specs.Number.{formedAs}
+use Rattle.legal.specs.Legal.{Monitored}
 use Rattle.moves.specs.declared.Wanted.{Wanted}
 use Rattle.moves.specs.declared.Holding.{Holding}
 use Rattle.moves.specs.declared.Holding.the-variants.{Absent, Free, Guarded}

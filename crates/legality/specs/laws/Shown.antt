@@ -9,12 +9,11 @@ use lib.Dec.{ltb}
 use lib.ListN.{length}
 use Rattle.expression.specs.declared.Credential.{Credential}
 use Rattle.expression.specs.Order.{beforeCredential}
-use Rattle.expression.specs.Same.{same, sameRole}
+use Rattle.expression.specs.Same.{same, sameRole, sameCredential}
 use Rattle.expression.specs.laws.Same.{same-eq, eq-same, sameRole-eq, eq-sameRole}
 use Rattle.rt0.specs.laws.Lists.{all-each, all-of, any-find, any-here}
 use Rattle.word.specs.laws.Bools.{false-true, and-parts, and-both}
 use Rattle.class.specs.declared.Name.{Name}
-use Rattle.tables.specs.Lookup.{sameCredential}
 use Rattle.tables.specs.Accepted.{Rising, rising-none, rising-cons}
 use Rattle.tables.specs.laws.Sorted.{rising-parts}
 use Rattle.tables.specs.Public.{keep}
@@ -24,10 +23,10 @@ use Rattle.message.specs.declared.Command.{Command}
 use Rattle.message.specs.declared.Command.the-variants.{Show}
 use Rattle.message.specs.Command.{formedCommand}
 use Rattle.negotiation.specs.State.{State, withShown}
-use Rattle.damage.specs.Records.{isShown}
-use Rattle.update.specs.Step.{stepped, hasRoom}
-use Rattle.update.specs.Update.{Legal}
-use Rattle.take.specs.Message.{Updates, next}
+use Rattle.rt0.specs.Shown.{isShown}
+use Rattle.applied.specs.Step.{stepped, hasRoom}
+use Rattle.legal.specs.Legal.{Legal}
+use Rattle.legal.specs.Updates.{Updates, next}
 use Rattle.moves.specs.Carried.{hasRoomFor}
 use Rattle.legality.specs.laws.Proper.{ProperCredential}
 use Rattle.legality.specs.laws.Stored.{Stored}

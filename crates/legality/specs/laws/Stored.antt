@@ -14,7 +14,8 @@ use Rattle.expression.specs.Order.{beforeCredential}
 use Rattle.expression.specs.Same.{sameRole}
 use Rattle.word.specs.laws.Bools.{and-parts}
 use Rattle.class.specs.declared.Name.{Name}
-use Rattle.class.specs.Names.{firstOr, classOf}
+use Rattle.rt0.specs.Lists.{firstOr}
+use Rattle.class.specs.Names.{classOf}
 use Rattle.class.specs.Typing.{credentialNumber}
 use Rattle.record.specs.declared.Pair.{Pair}
 use Rattle.record.specs.Record.{formed}

@@ -18,10 +18,19 @@ use Rattle.graph.specs.declared.Edge.{Edge}
 use Rattle.message.specs.declared.Opening.{Opening}
 use Rattle.message.specs.declared.NewEdge.{NewEdge}
 use Rattle.message.specs.declared.Command.{Command}
-use Rattle.message.specs.declared.Command.the-variants.{Open, Bring, Join, Mark, End}
+use Rattle.message.specs.declared.Command.the-variants.{Open, Bring, Join, Mark, End, Show}
 use Rattle.message.specs.declared.CommandAnswer.{CommandAnswer}
 use Rattle.message.specs.declared.CommandAnswer.the-variants.{Read, Refused}
 use Rattle.message.specs.Command.{edgeKind, formedOpening, formedNew, whole, checked, shown, showAt, openingOf, openAt, newOf, brought, bringAt, edgeOf, joinAt, markAt, endAt, byCode, commandAt, numberBytes, newBytes, commandBytes, sizeOf}
+
+-- a command has a byte
+pub size-some : (c : Command) → 0 < sizeOf c
+size-some (Show c) = omega arith
+size-some (Open o) = omega arith
+size-some (Bring n) = omega arith
+size-some (Join e) = omega arith
+size-some (Mark i) = omega arith
+size-some End = omega arith
 
 module _ (size : ℕ) (s : List ℕ) (at : ℕ) where
   -- too few bytes are left

@@ -16,7 +16,7 @@ use Rattle.expression.specs.declared.Expression.the-variants as E
 use Rattle.expression.specs.Same.{same}
 use Rattle.word.specs.laws.Bools.{and-parts, and-both}
 use Rattle.propagation.specs.Flags.{at}
-use Rattle.class.specs.laws.Find.{first-at}
+use Rattle.rt0.specs.laws.Find.{first-at}
 use Rattle.graph.specs.declared.Node.{Node}
 use Rattle.graph.specs.declared.Edge.{Edge}
 use Rattle.graph.specs.Graph.{nodeIn, blank, inState}
@@ -32,7 +32,8 @@ use Rattle.message.specs.declared.Command.the-variants.{Show, Open, Bring, Join
 use Rattle.tables.specs.Tables.{Tables}
 use Rattle.negotiation.specs.declared.Header.{Header}
 use Rattle.negotiation.specs.State.{State, within, withNode, withEdge, withShown, withMark}
-use Rattle.update.specs.Step.{stepped, markedState, primaryOf, childIn, edgeIn}
+use Rattle.applied.specs.Step.{stepped, primaryOf, childIn, edgeIn}
+use Rattle.graph.specs.Processed.{markedState}
 use Rattle.moves.specs.Known.{isAcknowledged}
 use Rattle.moves.specs.laws.Known.{isDisclosed, Opened, open-exact}
 

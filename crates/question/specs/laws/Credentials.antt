@@ -12,11 +12,12 @@ use Rattle.rt0.specs.laws.Pool.{credentials}
 use Rattle.question.specs.declared.Step.{Step}
 use Rattle.question.specs.declared.Step.the-variants.{Taken, End, Refused}
 use Rattle.question.specs.declared.Listing.{Listing}
-use Rattle.question.specs.Sizes.{commandSize, credentialsMost, listSize}
 use mathlib.Core.Path.{_≡_, refl, sym, ap, _∙_, subst}
 use mathlib.Core.Logic.{_⊎_, inl, inr, ⊎-elim}
 use native.Mathlib.Omega.{arith}
 use borrow.Author.Tests.{lt-ltb, le-ltb, ltb-false, eq-eqb, eqb-true, ne-eqb}
+use Rattle.numbers.specs.Bytes.{CREDENTIAL-BYTES}
+use Rattle.numbers.specs.Sizes.{MOST-CREDENTIALS, MOST-CREDENTIALS-BYTES}
 use Rattle.rt0.specs.declared.Pool.{Pool}
 use Rattle.rt0.specs.laws.Added.{count-length}
 use Rattle.question.specs.Credentials.{taken, credentialStep, endStep, commandStep, stepAt, Listed, refused, listed, after, listFrom, credentialsOf}
@@ -29,16 +30,16 @@ listedOf l = cond (eqb (l .refusal) 0) (listed (credentials (l .pool))) (refused
 -- The command at an index
 
 -- a command too short to be a credential
-pub cut : (s : List ℕ) (at : ℕ) → length s - at < commandSize → Refused 2 ≡ credentialStep s at
+pub cut : (s : List ℕ) (at : ℕ) → length s - at < CREDENTIAL-BYTES → Refused 2 ≡ credentialStep s at
 unfolding credentialStep
-cut s at h = sym (ap (λ (t : Bool). cond t (Refused 2) (taken (readCredential s (at + 1)))) (lt-ltb (length s - at) commandSize h))
+cut s at h = sym (ap (λ (t : Bool). cond t (Refused 2) (taken (readCredential s (at + 1)))) (lt-ltb (length s - at) CREDENTIAL-BYTES h))
 
 -- a whole credential command
-pub whole : (s : List ℕ) (at : ℕ) (r : CredentialAnswer) → commandSize ≤ length s - at → readCredential s (at + 1) ≡ r → taken r ≡ credentialStep s at
+pub whole : (s : List ℕ) (at : ℕ) (r : CredentialAnswer) → CREDENTIAL-BYTES ≤ length s - at → readCredential s (at + 1) ≡ r → taken r ≡ credentialStep s at
 unfolding credentialStep
 whole s at r h q =
     ap taken (sym q)
-    ∙ sym (ap (λ (t : Bool). cond t (Refused 2) (taken (readCredential s (at + 1)))) (le-ltb (length s - at) commandSize h))
+    ∙ sym (ap (λ (t : Bool). cond t (Refused 2) (taken (readCredential s (at + 1)))) (le-ltb (length s - at) CREDENTIAL-BYTES h))
 
 -- the end, where the test says whether it stands last
 pub last : (s : List ℕ) (at : ℕ) (t : Bool) → eqb (at + 1) (length s) ≡ t → cond t End (Refused 2) ≡ endStep s at
@@ -58,17 +59,17 @@ unknown s at code h k = sym (simp (ne-eqb code 1 h, ne-eqb code 6 k))
 
 -- what is known where a step was found: of a credential and of the end that they stand there, and that a refusal is 2 or 3
 abbrev Sure : List ℕ → ℕ → Step → Type 0
-Sure s at (Taken c) = (at + commandSize ≤ length s) × (getD s at 0 ≡ 1) × (readCredential s (at + 1) ≡ a.Read c)
+Sure s at (Taken c) = (at + CREDENTIAL-BYTES ≤ length s) × (getD s at 0 ≡ 1) × (readCredential s (at + 1) ≡ a.Read c)
 Sure s at End = (at + 1 ≡ length s) × (getD s at 0 ≡ 6)
 Sure s at (Refused k) = Refusal k
 
 sure-credential : (s : List ℕ) (at : ℕ) → getD s at 0 ≡ 1 → Sure s at (credentialStep s at)
 unfolding credentialStep
-sure-credential s at code = go (ltb (length s - at) commandSize) (readCredential s (at + 1)) refl refl
+sure-credential s at code = go (ltb (length s - at) CREDENTIAL-BYTES) (readCredential s (at + 1)) refl refl
   where
-    go : (t : Bool) (r : CredentialAnswer) → ltb (length s - at) commandSize ≡ t → readCredential s (at + 1) ≡ r → Sure s at (cond t (Refused 2) (taken r))
+    go : (t : Bool) (r : CredentialAnswer) → ltb (length s - at) CREDENTIAL-BYTES ≡ t → readCredential s (at + 1) ≡ r → Sure s at (cond t (Refused 2) (taken r))
     go true r h q = inl refl
-    go false (a.Read c) h q = (omega (arith, ltb-false (length s - at) commandSize h), code, q)
+    go false (a.Read c) h q = (omega (arith, ltb-false (length s - at) CREDENTIAL-BYTES h), code, q)
     go false a.Wrong h q = inr refl
 
 sure-end : (s : List ℕ) (at : ℕ) → getD s at 0 ≡ 6 → Sure s at (endStep s at)
@@ -96,7 +97,7 @@ sure s at = go (ltb at (length s))
     go false = inl refl
 
 -- a credential that was taken stands there, whole
-pub taken-sure : (s : List ℕ) (at : ℕ) (c : Credential) → stepAt s at ≡ Taken c → (at + commandSize ≤ length s) × (getD s at 0 ≡ 1) × (readCredential s (at + 1) ≡ a.Read c)
+pub taken-sure : (s : List ℕ) (at : ℕ) (c : Credential) → stepAt s at ≡ Taken c → (at + CREDENTIAL-BYTES ≤ length s) × (getD s at 0 ≡ 1) × (readCredential s (at + 1) ≡ a.Read c)
 taken-sure s at c h = subst (Sure s at) h (sure s at)
 
 -- an end that was found stands last
@@ -116,9 +117,9 @@ SureList (listed C) = Unit {0}
 sure-list : (n : ℕ) (s : List ℕ) (at : ℕ) (C : List Credential) → SureList (listFrom n s at C)
 unfolding listFrom
 sure-list zero s at C = inl refl
-sure-list (suc n) s at C = go (stepAt s at) (λ k h. step-refusal s at k h) (λ D. sure-list n s (at + commandSize) D)
+sure-list (suc n) s at C = go (stepAt s at) (λ k h. step-refusal s at k h) (λ D. sure-list n s (at + CREDENTIAL-BYTES) D)
   where
-    go : (x : Step) → ((k : ℕ) → x ≡ Refused k → Refusal k) → ((D : List Credential) → SureList (listFrom n s (at + commandSize) D)) → SureList (after (listFrom n s (at + commandSize)) C x)
+    go : (x : Step) → ((k : ℕ) → x ≡ Refused k → Refusal k) → ((D : List Credential) → SureList (listFrom n s (at + CREDENTIAL-BYTES) D)) → SureList (after (listFrom n s (at + CREDENTIAL-BYTES)) C x)
     go (Taken c) number rest = rest (C ++ (c ∷ []))
     go End number rest = tt
     go (Refused k) number rest = number k refl
@@ -132,7 +133,7 @@ list-refusal s k h = subst SureList h (sure-list (length s) s 0 [])
 past : (n : ℕ) (s : List ℕ) (at : ℕ) (C : List Credential) → length s ≤ at → listFrom n s at C ≡ refused 2
 unfolding listFrom stepAt
 past zero s at C h = refl
-past (suc n) s at C h = ap (λ (t : Bool). after (listFrom n s (at + commandSize)) C (cond t (commandStep s at (getD s at 0)) (Refused 2))) (le-ltb at (length s) h)
+past (suc n) s at C h = ap (λ (t : Bool). after (listFrom n s (at + CREDENTIAL-BYTES)) C (cond t (commandStep s at (getD s at 0)) (Refused 2))) (le-ltb at (length s) h)
 
 -- a listing that is not refused
 pub listed-all : (l : Listing) → l .refusal ≡ 0 → listedOf l ≡ listed (credentials (l .pool))
@@ -146,14 +147,14 @@ listed-refused l h = ap (λ (t : Bool). cond t (listed (credentials (l .pool))) 
 
 -- a listing says what the bytes mean, and its pool has at most 64 credentials
 abbrev Lists : List ℕ → Listing → Type 0
-Lists s l = (listedOf l ≡ credentialsOf s) × (l .pool .count ≤ credentialsMost)
+Lists s l = (listedOf l ≡ credentialsOf s) × (l .pool .count ≤ MOST-CREDENTIALS)
 
 abbrev listing : ℕ → Pool → Listing
 listing k P = record { refusal = k; pool = P }
 
 -- the commands before the index at have been read into the pool P
 pub record Reading (s : List ℕ) (P : Pool) (at : ℕ) : Type 0 where
-  pub counted : at ≡ commandSize * P .count
+  pub counted : at ≡ CREDENTIAL-BYTES * P .count
   pub inside : at ≤ length s
   pub fuel : ℕ
   pub enough : length s ≤ fuel + at
@@ -172,20 +173,20 @@ reading-start s P h =
     }
 
 -- a list of at most 1,473 bytes has at most 64 credentials
-pub reading-few : {s : List ℕ} {P : Pool} {at : ℕ} → Reading s P at → length s ≤ listSize → P .count ≤ credentialsMost
+pub reading-few : {s : List ℕ} {P : Pool} {at : ℕ} → Reading s P at → length s ≤ MOST-CREDENTIALS-BYTES → P .count ≤ MOST-CREDENTIALS
 reading-few r h = omega (arith, r .counted, r .inside)
 
 module _ {s : List ℕ} {P : Pool} {at : ℕ} (r : Reading s P at) (more : at < length s) where
   -- one command more
-  turn : (x : Step) → stepAt s at ≡ x → (n : ℕ) × (r .fuel ≡ suc n) × (credentialsOf s ≡ after (listFrom n s (at + commandSize)) (credentials P) x)
+  turn : (x : Step) → stepAt s at ≡ x → (n : ℕ) × (r .fuel ≡ suc n) × (credentialsOf s ≡ after (listFrom n s (at + CREDENTIAL-BYTES)) (credentials P) x)
   unfolding listFrom
   turn x h = go (r .fuel) refl
     where
-      go : (f : ℕ) → r .fuel ≡ f → (n : ℕ) × (r .fuel ≡ suc n) × (credentialsOf s ≡ after (listFrom n s (at + commandSize)) (credentials P) x)
+      go : (f : ℕ) → r .fuel ≡ f → (n : ℕ) × (r .fuel ≡ suc n) × (credentialsOf s ≡ after (listFrom n s (at + CREDENTIAL-BYTES)) (credentials P) x)
       go zero e = absurd (omega (arith, r .enough))
-      go (suc n) e = (n, e, r .rest ∙ ap (λ (f : ℕ). listFrom f s at (credentials P)) e ∙ ap (after (listFrom n s (at + commandSize)) (credentials P)) h)
+      go (suc n) e = (n, e, r .rest ∙ ap (λ (f : ℕ). listFrom f s at (credentials P)) e ∙ ap (after (listFrom n s (at + CREDENTIAL-BYTES)) (credentials P)) h)
 
-  pub reading-next : {c : Credential} {Q : Pool} → stepAt s at ≡ Taken c → credentials Q ≡ credentials P ++ (c ∷ []) → Reading s Q (at + commandSize)
+  pub reading-next : {c : Credential} {Q : Pool} → stepAt s at ≡ Taken c → credentials Q ≡ credentials P ++ (c ∷ []) → Reading s Q (at + CREDENTIAL-BYTES)
   reading-next {c} {Q} h q =
       let t = turn (Taken c) h in
       let one : Q .count ≡ P .count + 1 = sym (count-length Q) ∙ ap length q ∙ length-append (credentials P) (c ∷ []) ∙ ap (λ (n : ℕ). n + 1) (count-length P) in
@@ -194,22 +195,22 @@ module _ {s : List ℕ} {P : Pool} {at : ℕ} (r : Reading s P at) (more : at < 
         inside = taken-sure s at c h .0;
         fuel = t .0;
         enough = omega (arith, r .enough, t .1);
-        rest = t .2 ∙ ap (listFrom (t .0) s (at + commandSize)) (sym q);
+        rest = t .2 ∙ ap (listFrom (t .0) s (at + CREDENTIAL-BYTES)) (sym q);
       }
 
   -- the end: all credentials were read
-  pub list-end : stepAt s at ≡ End → length s ≤ listSize → Lists s (listing 0 P)
+  pub list-end : stepAt s at ≡ End → length s ≤ MOST-CREDENTIALS-BYTES → Lists s (listing 0 P)
   unfolding listedOf
   list-end h most = (sym (turn End h .2), reading-few r most)
 
   -- the first command that cannot be read
-  pub list-refused : {k : ℕ} → stepAt s at ≡ Refused k → length s ≤ listSize → Lists s (listing k P)
+  pub list-refused : {k : ℕ} → stepAt s at ≡ Refused k → length s ≤ MOST-CREDENTIALS-BYTES → Lists s (listing k P)
   list-refused {k} h most = (listed-refused (listing k P) (not-zero (step-refusal s at k h)) ∙ sym (turn (Refused k) h .2), reading-few r most)
     where
       not-zero : Refusal k → k ≡ 0 → ⊥
       not-zero e z = ⊎-elim (λ q. omega arith) (λ q. omega arith) e
 
 -- the end is missing
-pub list-past : {s : List ℕ} {P : Pool} {at : ℕ} → Reading s P at → length s ≤ at → length s ≤ listSize → Lists s (listing 2 P)
+pub list-past : {s : List ℕ} {P : Pool} {at : ℕ} → Reading s P at → length s ≤ at → length s ≤ MOST-CREDENTIALS-BYTES → Lists s (listing 2 P)
 unfolding listedOf
 list-past {s} {P} {at} r h most = (sym (r .rest ∙ past (r .fuel) s at (credentials P) h), reading-few r most)

@@ -9,6 +9,7 @@ use native.Mathlib.Numerals.{add-one}
 use borrow.Author.Tests.{eq-eqb}
 use lib.ListN.{length, getD, drop, length-append, take-append-drop, drop-of-length-le}
 use lib.Seq.{drop-at, drop-drop, drop-cons}
+use Rattle.numbers.specs.Bytes.{CREDENTIAL-BYTES}
 use Rattle.expression.specs.declared.Credential.{Credential}
 use Rattle.expression.specs.declared.CredentialAnswer.the-variants as a
 use Rattle.expression.specs.Credential.{wellFormedCredential, credentialBytes}
@@ -16,7 +17,6 @@ use Rattle.expression.specs.laws.Credential.{credential-only}
 use Rattle.expression.specs.laws.There.{code-there, size-there, read-there}
 use Rattle.question.specs.declared.Step.{Step}
 use Rattle.question.specs.declared.Step.the-variants.{Taken, End, Refused}
-use Rattle.question.specs.Sizes.{commandSize}
 use Rattle.question.specs.Credentials.{stepAt, listed, after, listFrom, credentialsOf}
 use Rattle.question.specs.laws.Credentials.{whole, last, at-code, taken-sure, end-sure}
 use Rattle.question.specs.Asked.{commands, Formed}
@@ -28,25 +28,25 @@ module _ (s : List ℕ) (at : ℕ) (inside : at ≤ length s) where
       sym (last s at true (eq-eqb (at + 1) (length s) (sym size)) ∙ at-code s at 6 (omega arith) (code-there s at 6 [] h))
 
 module _ (s : List ℕ) (at : ℕ) (inside : at ≤ length s) (c : Credential) (l : List ℕ) (formed : wellFormedCredential c ≡ true) (h : drop at s ≡ 1 ∷ (credentialBytes c ++ l)) where
-  fits-there : at + commandSize ≤ length s
+  fits-there : at + CREDENTIAL-BYTES ≤ length s
   fits-there = omega (arith, size-there s at inside (1 ∷ (credentialBytes c ++ l)) h, length-append (credentialBytes c) l)
 
-  rest-there : drop (at + commandSize) s ≡ l
-  rest-there = sym (drop-drop commandSize at s) ∙ ap (drop commandSize) h ∙ drop-at (credentialBytes c) l 22 refl
+  rest-there : drop (at + CREDENTIAL-BYTES) s ≡ l
+  rest-there = sym (drop-drop CREDENTIAL-BYTES at s) ∙ ap (drop CREDENTIAL-BYTES) h ∙ drop-at (credentialBytes c) l 22 refl
 
   taken-there : stepAt s at ≡ Taken c
   taken-there =
-      let fits : at + commandSize ≤ length s = fits-there in
+      let fits : at + CREDENTIAL-BYTES ≤ length s = fits-there in
       let next : drop (at + 1) s ≡ credentialBytes c ++ l = sym (drop-drop 1 at s) ∙ ap (drop 1) h in
       sym (whole s at (a.Read c) (omega arith) (read-there s (at + 1) (omega arith) c l formed next) ∙ at-code s at 1 (omega arith) (code-there s at 1 _ h))
 
 from-commands : (n : ℕ) (s : List ℕ) (at : ℕ) (C D : List Credential) → at ≤ length s → Formed C → drop at s ≡ commands C → length C < n → listFrom n s at D ≡ listed (D ++ C)
 unfolding listFrom
 from-commands zero s at C D inside formed h more = absurd (omega arith)
-from-commands (suc n) s at [] D inside formed h more = ap (after (listFrom n s (at + commandSize)) D) (end-there s at inside h) ∙ ap listed (sym (append-nil D))
+from-commands (suc n) s at [] D inside formed h more = ap (after (listFrom n s (at + CREDENTIAL-BYTES)) D) (end-there s at inside h) ∙ ap listed (sym (append-nil D))
 from-commands (suc n) s at (c ∷ C) D inside formed h more =
-    ap (after (listFrom n s (at + commandSize)) D) (taken-there s at inside c (commands C) (formed .0) h)
-    ∙ from-commands n s (at + commandSize) C (D ++ (c ∷ [])) (fits-there s at inside c (commands C) (formed .0) h) (formed .1) (rest-there s at inside c (commands C) (formed .0) h) (omega arith)
+    ap (after (listFrom n s (at + CREDENTIAL-BYTES)) D) (taken-there s at inside c (commands C) (formed .0) h)
+    ∙ from-commands n s (at + CREDENTIAL-BYTES) C (D ++ (c ∷ [])) (fits-there s at inside c (commands C) (formed .0) h) (formed .1) (rest-there s at inside c (commands C) (formed .0) h) (omega arith)
     ∙ ap listed (append-assoc D (c ∷ []) C)
 
 fewer : (C : List Credential) → length C < length (commands C)
@@ -63,7 +63,7 @@ abbrev Rest : List ℕ → ℕ → List Credential → List Credential → Type 
 Rest s at D E = (C : List Credential) × (E ≡ D ++ C) × (drop at s ≡ commands C) × Formed C
 
 module _ (s : List ℕ) (bytes : (i : ℕ) → getD s i 0 < 256) where
-  one-more : (at : ℕ) (c : Credential) (D E : List Credential) → stepAt s at ≡ Taken c → Rest s (at + commandSize) (D ++ (c ∷ [])) E → Rest s at D E
+  one-more : (at : ℕ) (c : Credential) (D E : List Credential) → stepAt s at ≡ Taken c → Rest s (at + CREDENTIAL-BYTES) (D ++ (c ∷ [])) E → Rest s at D E
   one-more at c D E h r =
       let w = taken-sure s at c h in
       let here : at < length s = omega (arith, w .0) in
@@ -77,9 +77,9 @@ module _ (s : List ℕ) (bytes : (i : ℕ) → getD s i 0 < 256) where
   to-commands : (n at : ℕ) (D E : List Credential) → listFrom n s at D ≡ listed E → Rest s at D E
   unfolding listFrom
   to-commands zero at D E h = let z : _≡_ {A = ℕ} 0 1 = cc in absurd (omega arith)
-  to-commands (suc n) at D E h = go (stepAt s at) refl h (λ F k. to-commands n (at + commandSize) F E k)
+  to-commands (suc n) at D E h = go (stepAt s at) refl h (λ F k. to-commands n (at + CREDENTIAL-BYTES) F E k)
     where
-      go : (x : Step) → stepAt s at ≡ x → after (listFrom n s (at + commandSize)) D x ≡ listed E → ((F : List Credential) → listFrom n s (at + commandSize) F ≡ listed E → Rest s (at + commandSize) F E) → Rest s at D E
+      go : (x : Step) → stepAt s at ≡ x → after (listFrom n s (at + CREDENTIAL-BYTES)) D x ≡ listed E → ((F : List Credential) → listFrom n s (at + CREDENTIAL-BYTES) F ≡ listed E → Rest s (at + CREDENTIAL-BYTES) F E) → Rest s at D E
       go (Taken c) q k again = one-more at c D E q (again (D ++ (c ∷ [])) k)
       go End q k again =
           let w = end-sure s at q in

@@ -8,6 +8,8 @@ use native.Mathlib.Omega.{arith}
 use borrow.Author.Tests.{lt-ltb, ltb-true, le-leb, leb-true, eq-eqb, eqb-true}
 use lib.Dec.{ltb, leb, eqb}
 use lib.ListN.{length}
+use Rattle.numbers.specs.Sizes.{MOST-CREDENTIALS-BYTES}
+use Rattle.numbers.specs.Bytes.{EXPRESSION-BYTES}
 use Rattle.expression.specs.declared.Credential.{Credential}
 use Rattle.expression.specs.declared.Expression.{Expression}
 use Rattle.expression.specs.declared.ExpressionAnswer.{ExpressionAnswer}
@@ -19,7 +21,6 @@ use Rattle.rt0.specs.From.{From}
 use Rattle.rt0.specs.Decide.{from?}
 use Rattle.word.specs.laws.Bools.{false-true}
 use Rattle.rt0.specs.laws.Laws.{from-exact}
-use Rattle.question.specs.Sizes.{listSize, expressionSize}
 use Rattle.question.specs.Credentials.{Listed, refused, listed, credentialsOf}
 use Rattle.question.specs.Asked.{Refusal, Sized, Asked}
 use Rattle.question.specs.laws.Credentials.{list-refusal}
@@ -38,23 +39,23 @@ operand-read s x b h k = sym (ap askable h ∙ ap (λ (t : Bool). cond t (Read x
 -- lengths within the sizes pass the test
 pub sized-true : {c f e : ℕ} → Sized c f e → sized c f e ≡ true
 unfolding sized
-sized-true {c} {f} {e} h = rw (lt-ltb 0 c (h .some), le-leb c listSize (h .most), eq-eqb f expressionSize (h .first), eq-eqb e expressionSize (h .second))
+sized-true {c} {f} {e} h = rw (lt-ltb 0 c (h .some), le-leb c MOST-CREDENTIALS-BYTES (h .most), eq-eqb f EXPRESSION-BYTES (h .first), eq-eqb e EXPRESSION-BYTES (h .second))
 
 -- lengths that pass the test are within the sizes
 pub true-sized : (c f e : ℕ) → sized c f e ≡ true → Sized c f e
 unfolding sized
 true-sized c f e h =
     let p : Bool = ltb 0 c in
-    let q : Bool = leb c listSize in
-    let r : Bool = eqb f expressionSize in
-    let t : Bool = eqb e expressionSize in
+    let q : Bool = leb c MOST-CREDENTIALS-BYTES in
+    let r : Bool = eqb f EXPRESSION-BYTES in
+    let t : Bool = eqb e EXPRESSION-BYTES in
     let three : p && q && r ≡ true = and-left (p && q && r) t h in
     let two : p && q ≡ true = and-left (p && q) r three in
     record {
       some = ltb-true 0 c (and-left p q two);
-      most = leb-true c listSize (and-right p q two);
-      first = eqb-true f expressionSize (and-right (p && q) r three);
-      second = eqb-true e expressionSize (and-right (p && q && r) t h);
+      most = leb-true c MOST-CREDENTIALS-BYTES (and-right p q two);
+      first = eqb-true f EXPRESSION-BYTES (and-right (p && q) r three);
+      second = eqb-true e EXPRESSION-BYTES (and-right (p && q && r) t h);
     }
 
 -- a length outside the sizes

@@ -6,6 +6,7 @@ use mathlib.Core.List.{List, [], _∷_}
 use native.Mathlib.Omega.{arith}
 use lib.ListN.{length, getD, length-append}
 use lib.Seq.{take-all}
+use Rattle.numbers.specs.Bytes.{CREDENTIAL-BYTES, EXPRESSION-BYTES}
 use Rattle.expression.specs.declared.Credential.{Credential}
 use Rattle.expression.specs.declared.Expression.{Expression}
 use Rattle.expression.specs.declared.ExpressionAnswer.{ExpressionAnswer}
@@ -14,7 +15,6 @@ use Rattle.expression.specs.Form.{readOf}
 use Rattle.expression.specs.Credential.{isBody, credentialBytes}
 use Rattle.expression.specs.laws.Codec.{read-write, read-only}
 use Rattle.expression.specs.laws.There.{self-paste}
-use Rattle.question.specs.Sizes.{commandSize, expressionSize}
 use Rattle.question.specs.Credentials.{credentialsOf}
 use Rattle.question.specs.Asked.{commands, Asked, expressionBytes, Askable, Written}
 use Rattle.question.specs.laws.CredentialsExact.{list-back, list-only}
@@ -35,14 +35,14 @@ askable-read (Read z) x h = go (isBody z) refl h
     go false p q = let n : _≡_ {A = ℕ} 0 1 = cc in absurd (omega arith)
 askable-read Wrong x h = let n : _≡_ {A = ℕ} 0 1 = cc in absurd (omega arith)
 
-operand-only : (s : List ℕ) (x : Expression) → ((i : ℕ) → getD s i 0 < 256) → length s ≡ expressionSize → operandOf s ≡ Read x → (s ≡ expressionBytes x) × Askable x
+operand-only : (s : List ℕ) (x : Expression) → ((i : ℕ) → getD s i 0 < 256) → length s ≡ EXPRESSION-BYTES → operandOf s ≡ Read x → (s ≡ expressionBytes x) × Askable x
 unfolding operandOf
 operand-only s x bytes size h =
     let r = askable-read (readOf s 0) x h in
     let o = read-only s 0 x bytes (omega arith) (r .0) in
-    (sym (take-all expressionSize s (omega arith)) ∙ o .0, record { formed = o .1; kind = r .1 })
+    (sym (take-all EXPRESSION-BYTES s (omega arith)) ∙ o .0, record { formed = o .1; kind = r .1 })
 
-length-commands : (C : List Credential) → length (commands C) ≡ commandSize * length C + 1
+length-commands : (C : List Credential) → length (commands C) ≡ CREDENTIAL-BYTES * length C + 1
 length-commands [] = refl
 length-commands (c ∷ C) = omega (arith, length-append (credentialBytes c) (commands C), length-commands C)
 

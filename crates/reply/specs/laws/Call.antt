@@ -18,10 +18,10 @@ use Rattle.negotiation.specs.State.{State}
 use Rattle.negotiation.specs.laws.State.{stateOf}
 use Rattle.negotiation.specs.Layout.{stateBytes, zeros}
 use Rattle.negotiation.specs.laws.Layout.{paste-whole, length-zeros}
-use Rattle.damage.specs.declared.Restored.{Restored}
+use Rattle.standing.specs.declared.Restored.{Restored}
 use Rattle.damage.specs.Damage.{readSound}
-use Rattle.damage.specs.Restored as R
-use Rattle.damage.specs.laws.Restored as RLaws
+use Rattle.standing.specs.Standing as R
+use Rattle.standing.specs.laws.Standing as RLaws
 use Rattle.reply.specs.declared.Replying.{Replying}
 use Rattle.reply.specs.Reply.{Outcome, refused, repliedIn, behindStanding, replySize, replyOf, answerOf, negotiationLeft, replyLeft, scratchLeft}
 use Rattle.reply.specs.laws.Reply.{Replies}

@@ -19,8 +19,8 @@ use Rattle.candidates.specs.laws.Skipped.{Skipped}
 use Rattle.message.specs.declared.Command.{Command}
 use Rattle.message.specs.Command.{commandBytes, sizeOf}
 use Rattle.negotiation.specs.State.{State, within}
-use Rattle.update.specs.Step.{stepped, hasRoom}
-use Rattle.take.specs.Message.{bytesOf}
+use Rattle.applied.specs.Step.{stepped, hasRoom}
+use Rattle.message.specs.Message.{bytesOf}
 use Rattle.moves.specs.declared.Outgoing.{Outgoing}
 use Rattle.moves.specs.laws.Own.{commandsOf}
 use Rattle.moves.specs.Carried.{carried, hasRoomFor}

@@ -20,13 +20,16 @@ use Rattle.graph.specs.Propagated.{satisfiedB, failedB, completeB, stateOf as p
 use Rattle.justification.specs.Justified.{solves, solved, monitors, monitored, implied, impliedIf, monitoredIf, justified}
 use Rattle.message.specs.Command.{commandBytes}
 use Rattle.negotiation.specs.State.{freshState, withNode, withEdge, withShown, withMark, withHeader, within}
-use Rattle.damage.specs.Header.{wantedSound, headerSound, requester, entityOf, emptySound, countSound, endSound}
-use Rattle.damage.specs.Records.{nodeSound, nodeFits, primarySound, credentialSound, isShown, credentialFits}
+use Rattle.damage.specs.Header.{wantedSound, headerSound, emptySound, countSound, endSound}
+use Rattle.negotiation.specs.Ends.{requester, entityOf}
+use Rattle.damage.specs.Records.{nodeSound, nodeFits, primarySound, credentialSound, credentialFits}
+use Rattle.rt0.specs.Shown.{isShown}
 use Rattle.needed.specs.Needed.{kept, needed}
 use Rattle.needed.specs.laws.Needed.{firstOf, restOf}
-use Rattle.update.specs.Step.{processedBy, markedState, primaryOf, verifierOf, childOf, stepped, hasRoom}
-use Rattle.update.specs.Legal.{refuse, first, isFresh, isAbsent, formedAs, showNumber, openNumber, markNumber, endNumber, joinWrong, justifiedBy, justifiedFor, joinNumber, bringWrong, bringNumber, justifiedIn, legalBy, legalNumber}
-use Rattle.update.specs.After.{endOf, isStalled, idleOf, headerAfter, afterMessage}
+use Rattle.graph.specs.Processed.{processedBy, markedState}
+use Rattle.applied.specs.Step.{primaryOf, verifierOf, childOf, stepped, hasRoom}
+use Rattle.legal.specs.Number.{refuse, first, isFresh, isAbsent, formedAs, showNumber, openNumber, markNumber, endNumber, joinWrong, justifiedBy, justifiedFor, joinNumber, bringWrong, bringNumber, justifiedIn, legalBy, legalNumber}
+use Rattle.applied.specs.After.{endOf, isStalled, idleOf, headerAfter, afterMessage}
 use Rattle.moves.specs.Known.{holdingOf, isAcknowledged, knownOf}
 use Rattle.moves.specs.Initial.{traced, initialState}
 use Rattle.moves.specs.Frontiers.{spread, frontierOf}

@@ -20,8 +20,8 @@ use Rattle.message.specs.declared.Command.the-variants.{Show, Open, Bring, Join
 use Rattle.message.specs.Command.{commandBytes, sizeOf}
 use Rattle.message.specs.laws.CommandExact.{command-length}
 use Rattle.negotiation.specs.State.{State}
-use Rattle.update.specs.Step.{isMove}
-use Rattle.take.specs.Message.{bytesOf, moved}
+use Rattle.applied.specs.Step.{isMove, moved}
+use Rattle.message.specs.Message.{bytesOf}
 use Rattle.moves.specs.declared.Wanted.{Wanted}
 use Rattle.moves.specs.declared.Choice.{Choice}
 use Rattle.moves.specs.declared.Choice.the-variants as K

@@ -27,9 +27,9 @@ use Rattle.negotiation.specs.declared.Negotiation.{Negotiation}
 use Rattle.negotiation.specs.State.{State, within, withShown}
 use Rattle.negotiation.specs.laws.State.{stateOf}
 use Rattle.negotiation.specs.laws.Within.{within-few}
-use Rattle.update.specs.Step.{stepped, hasRoom}
-use Rattle.update.specs.laws.Room.{step-within}
-use Rattle.take.specs.Message.{bytesOf}
+use Rattle.applied.specs.Step.{stepped, hasRoom}
+use Rattle.legal.specs.laws.Room.{step-within}
+use Rattle.message.specs.Message.{bytesOf}
 use Rattle.moves.specs.declared.Outgoing.{Outgoing}
 use Rattle.moves.specs.laws.Own.{commandsOf}
 use Rattle.moves.specs.Carried.{carried, hasRoomFor}

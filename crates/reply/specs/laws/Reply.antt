@@ -29,11 +29,11 @@ use Rattle.negotiation.specs.declared.Negotiation.{Negotiation}
 use Rattle.negotiation.specs.State.{State, within, withHeader}
 use Rattle.negotiation.specs.laws.State.{stateOf}
 use Rattle.damage.specs.Damage.{sound}
-use Rattle.update.specs.Step.{stepped, hasRoom}
-use Rattle.update.specs.After.{afterMessage}
-use Rattle.take.specs.Message.{bytesOf, messageBytes}
-use Rattle.take.specs.Take.{sends}
-use Rattle.take.specs.laws.TakeKept.{sound-count}
+use Rattle.applied.specs.Step.{stepped, hasRoom}
+use Rattle.applied.specs.After.{afterMessage}
+use Rattle.message.specs.Message.{bytesOf, messageBytes}
+use Rattle.standing.specs.Turn.{sends}
+use Rattle.damage.specs.laws.Going.{sound-count}
 use Rattle.moves.specs.Initial.{initialState}
 use Rattle.moves.specs.Carried.{carried}
 use Rattle.legality.specs.laws.Going.{Going}

@@ -1,9 +1,8 @@
 -- A reply consists of legal updates, leaves a negotiation that is not damaged, and is taken at the other end (document 01, "The reply").
 -- Assumes nothing.
 use Prim.Native.Nat.{ℕ, zero, suc, _+_, _%_, _<_}
-use native.Mathlib.Omega.{arith}
 use mathlib.Core.Path.{_≡_, refl, sym, _∙_, ap, subst}
-use mathlib.Core.Bool.{Bool, true, false, not, cond, _&&_}
+use mathlib.Core.Bool.{Bool, true, false, cond, _&&_}
 use mathlib.Core.List.{List, [], _∷_, _++_, append-assoc, append-nil}
 use borrow.Author.Tests.{eq-eqb, eqb-true, eqb-false}
 use lib.Dec.{eqb, leb}
@@ -16,23 +15,22 @@ use Rattle.tables.specs.Accepted.{Sound}
 use Rattle.graph.specs.Propagated.{stateOf as propagated}
 use Rattle.message.specs.declared.Opening.{Opening}
 use Rattle.message.specs.declared.Command.{Command}
-use Rattle.message.specs.declared.Command.the-variants.{Open, End}
+use Rattle.message.specs.declared.Command.the-variants.{Open}
 use Rattle.message.specs.Command.{formedCommand}
 use Rattle.negotiation.specs.declared.Header.{Header}
 use Rattle.negotiation.specs.State.{State, within, withHeader}
 use Rattle.damage.specs.Header.{headerSound, emptySound, endSound}
 use Rattle.damage.specs.Damage.{graphSound, sound}
 use Rattle.damage.specs.laws.Damage.{graph-parts, sound-some}
-use Rattle.update.specs.Step.{otherSide, stepped, isMove}
-use Rattle.update.specs.After.{headerAfter, afterMessage}
-use Rattle.update.specs.laws.AfterKept.{after-sound}
-use Rattle.update.specs.Update.{Legal}
-use Rattle.take.specs.Message.{bytesOf, messageBytes, Updates, none, next, moved}
-use Rattle.take.specs.Commands as C
-use Rattle.take.specs.laws.CommandsKept.{step-header, step-still}
-use Rattle.take.specs.Take.{sends, refused, accepted, behindCommands, senderTo, takenIn}
-use Rattle.take.specs.laws.TakeKept.{going-on}
-use Rattle.take.specs.laws.TakenExactly.{carried as commands-taken}
+use Rattle.applied.specs.Step.{stepped, isMove, moved}
+use Rattle.applied.specs.After.{afterMessage}
+use Rattle.legal.specs.laws.AfterKept.{after-sound}
+use Rattle.legal.specs.Legal.{Legal}
+use Rattle.message.specs.Message.{bytesOf}
+use Rattle.legal.specs.Updates.{Updates, none, next}
+use Rattle.applied.specs.laws.Step.{step-header, step-still}
+use Rattle.standing.specs.Turn.{sends}
+use Rattle.damage.specs.laws.Going.{going-on}
 use Rattle.moves.specs.Initial.{initialState}
 use Rattle.moves.specs.Rules.{endIn}
 use Rattle.moves.specs.Move.{Move, nextMove}
@@ -40,10 +38,9 @@ use Rattle.moves.specs.Carried.{carried, hasRoomFor}
 use Rattle.legality.specs.laws.Going.{Going}
 use Rattle.legality.specs.laws.Legal.{move-updates}
 use Rattle.legality.specs.laws.Kept.{updates-going, updates-header, sound-going, open-formed, open-legal, opening-going}
-use Rattle.legality.specs.Mirror.{Mirrored, Mirror}
-use Rattle.legality.specs.laws.Mirror.{mirror-state, updates-mirror, opened-mirror}
-use Rattle.reply.specs.Reply.{Replied, stopped, withMove, replyFrom, replyIn, repliedState, replyBytes}
-use Rattle.reply.specs.Mirror.{otherAfter}
+use Rattle.legality.specs.Mirror.{Mirrored}
+use Rattle.legality.specs.laws.Mirror.{updates-mirror, opened-mirror}
+use Rattle.reply.specs.Reply.{Replied, stopped, withMove, replyFrom, replyIn, repliedState}
 
 -- Updates
 
@@ -192,44 +189,6 @@ module _ (T : Tables) (t : Sound T) (S : State) (h : sound T S ≡ true) (w : wi
   unfolding repliedState afterMessage withHeader within
   reply-within = reply-going .sizes
 
-  -- The other end
-
-  -- what the other end reaches with it
-  module _ (R : State) (m : Mirror S R) where
-    sender : senderTo R ≡ S .header .side
-    sender = ap otherSide (m .header .other-side) ∙ go (eqb (S .header .side) 0) refl
-      where
-        go : (b : Bool) → eqb (S .header .side) 0 ≡ b → otherSide (cond b 1 0) ≡ S .header .side
-        go true e = sym (eqb-true (S .header .side) 0 e)
-        go false e = omega (arith, m .header .side, eqb-false (S .header .side) 0 e)
-
-    end-legal : (ns : List Name) → Legal ns (S .header .side) (withHeader (replyIn T S .state) (R .header)) End
-    unfolding Legal withHeader
-    end-legal ns = record { some = omega (arith, reply-going .some) }
-
-    -- the commands are carried out
-    reply-carried : (b : List ℕ) → b ≡ messageBytes (replyIn T S .commands) → C.commandsFrom (length b) (T .names) (S .header .side) b 0 (withHeader S (R .header)) false ≡ C.taken (withHeader (replyIn T S .state) (R .header)) (moved (replyIn T S .commands))
-    reply-carried b e = commands-taken (T .names) (S .header .side) b (given .mirror (R .header) (m .header)) (end-legal (T .names)) (length b) 0 false e (omega (arith, ap length e))
-
-    -- another end that has the same names and holds the same graph and credentials takes the reply, where it is our turn and its negotiation has not ended
-    pub reply-legal : (U : Tables) → U .names ≡ T .names → R .header .messages ≡ S .header .messages → R .header .end ≡ 0 → takenIn (replyBytes (replyIn T S)) U R ≡ accepted (otherAfter T S R)
-    unfolding takenIn replyBytes
-    reply-legal U names count going =
-        let b : List ℕ = messageBytes (replyIn T S .commands) in
-        let x : C.Taken = C.commandsFrom (length b) (U .names) (senderTo R) b 0 R false in
-        let e : eqb (R .header .end) 0 ≡ true = eq-eqb (R .header .end) 0 going in
-        let f : sends (senderTo R) (R .header .messages) ≡ true = (λ i. sends (sender i) (count i)) ∙ turn in
-        (λ i. cond (not (e i)) (refused 22) (cond (not (f i)) (refused 21) (behindCommands x)))
-        ∙ ap behindCommands ((λ i. C.commandsFrom (length b) (names i) (sender i) b 0 (mirror-state S R m i) false) ∙ reply-carried b refl)
-
-    -- it reaches the same graph and the same credentials as we do
-    pub reply-mirror : Mirror (repliedState (replyIn T S)) (otherAfter T S R)
-    unfolding repliedState afterMessage withHeader headerAfter
-    reply-mirror =
-        let q : replyIn T S .state .header ≡ S .header = updates-header reply-updates in
-        let k : Mirrored (replyIn T S .state .header) (R .header) = subst (λ (x : Header). Mirrored x (R .header)) (sym q) (m .header) in
-        record { header = record { side = k .side; other-side = k .other-side; own = k .own; other = k .other }; nodes = refl; edges = refl; shown = refl }
-
-    pub reply-counted : R .header .messages ≡ S .header .messages → otherAfter T S R .header .messages ≡ repliedState (replyIn T S) .header .messages
-    unfolding repliedState afterMessage withHeader headerAfter
-    reply-counted count = ap (λ (n : ℕ). n + 1) (count ∙ ap (λ (x : Header). x .messages) (sym (updates-header reply-updates)))
+  -- the same commands are legal updates at the other end
+  pub reply-mirrored : (h : Header) → Mirrored (S .header) h → Updates (T .names) (S .header .side) (withHeader S h) (replyIn T S .commands) (withHeader (replyIn T S .state) h)
+  reply-mirrored h m = given .mirror h m

@@ -16,8 +16,8 @@ use Rattle.message.specs.declared.Command.the-variants.{Open, End}
 use Rattle.message.specs.Command.{commandBytes}
 use Rattle.message.specs.laws.CommandExact.{command-length}
 use Rattle.negotiation.specs.State.{State}
-use Rattle.take.specs.Message.{bytesOf, messageBytes}
-use Rattle.take.specs.laws.TakenExactly.{size-some}
+use Rattle.message.specs.Message.{bytesOf, messageBytes}
+use Rattle.message.specs.laws.Command.{size-some}
 use Rattle.moves.specs.Initial.{initialState}
 use Rattle.moves.specs.Rules.{endIn}
 use Rattle.moves.specs.Move.{Move, nextMove}

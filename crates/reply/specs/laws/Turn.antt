@@ -30,10 +30,10 @@ use Rattle.negotiation.specs.declared.Negotiation.{Negotiation}
 use Rattle.negotiation.specs.State.{State}
 use Rattle.negotiation.specs.laws.State.{stateOf}
 use Rattle.negotiation.specs.laws.Within.{within-few}
-use Rattle.damage.specs.Header.{requester}
+use Rattle.negotiation.specs.Ends.{requester}
 use Rattle.damage.specs.Records.{primarySound}
-use Rattle.update.specs.laws.Kept.{record-parts}
-use Rattle.take.specs.Message.{bytesOf}
+use Rattle.legal.specs.laws.Kept.{record-parts}
+use Rattle.message.specs.Message.{bytesOf}
 use Rattle.moves.specs.declared.Choice.{Choice}
 use Rattle.moves.specs.declared.Choice.the-variants as K
 use Rattle.moves.specs.declared.Found.{Found}

@@ -9,7 +9,7 @@ use Rattle.tables.specs.Tables.{Tables}
 use Rattle.graph.specs.Propagated.{stateOf as propagated}
 use Rattle.message.specs.declared.Command.{Command}
 use Rattle.negotiation.specs.State.{State}
-use Rattle.take.specs.Message.{bytesOf}
+use Rattle.message.specs.Message.{bytesOf}
 use Rattle.moves.specs.Rules.{endIn}
 use Rattle.moves.specs.Move.{Move, nextMove}
 use Rattle.moves.specs.Carried.{carried, hasRoomFor}

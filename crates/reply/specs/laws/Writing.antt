@@ -19,7 +19,7 @@ use Rattle.message.specs.declared.Command.{Command}
 use Rattle.negotiation.specs.declared.Negotiation.{Negotiation}
 use Rattle.negotiation.specs.State.{State}
 use Rattle.negotiation.specs.laws.State.{stateOf}
-use Rattle.take.specs.Message.{bytesOf}
+use Rattle.message.specs.Message.{bytesOf}
 use Rattle.moves.specs.Rules.{endIn}
 use Rattle.moves.specs.Move.{Move, nextMove}
 use Rattle.moves.specs.Carried.{carried, hasRoomFor}

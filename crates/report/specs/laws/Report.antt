@@ -5,7 +5,7 @@ use mathlib.Core.List.{List}
 use lib.Dec.{ltb, eqb}
 use lib.ListN.{length, getD}
 use Rattle.graph.specs.Propagated.{stateOf, satisfiedB, failedB, completeB}
-use Rattle.damage.specs.Restored.{Standing, refusal, standing, restoreOf}
+use Rattle.standing.specs.Standing.{Standing, refusal, standing, restoreOf}
 use native.Mathlib.Omega.{arith}
 use mathlib.Core.Path.{_≡_, refl, sym, _∙_, ap, subst}
 use mathlib.Core.Logic.{⊎-elim}
@@ -25,10 +25,10 @@ use Rattle.negotiation.specs.declared.Negotiation.{Negotiation}
 use Rattle.negotiation.specs.State.{within}
 use Rattle.negotiation.specs.laws.State.{stateOf as stateHeld}
 use Rattle.negotiation.specs.laws.Within.{within-few}
-use Rattle.damage.specs.declared.Restored.{Restored}
+use Rattle.standing.specs.declared.Restored.{Restored}
 use Rattle.damage.specs.Header.{endSound}
 use Rattle.damage.specs.Damage.{sound}
-use Rattle.damage.specs.laws.Restored.{standingOf}
+use Rattle.standing.specs.laws.Standing.{standingOf}
 use Rattle.damage.specs.laws.Damage.{graph-parts, held-graph, held-legal}
 use Rattle.report.specs.Report.{Report, reportOn, refused, reported, behindNegotiation, reportOf, packed, unpacked, answerOf}
 

@@ -13,13 +13,14 @@ use Rattle.negotiation.specs.State.{State, within, withHeader}
 use Rattle.negotiation.specs.Layout.{stateBytes, readState}
 use Rattle.negotiation.specs.laws.Codec.{state-back, read-within}
 use Rattle.damage.specs.Damage.{sound, ifSound, readSound}
-use Rattle.damage.specs.Restored as R
-use Rattle.update.specs.After.{afterMessage}
+use Rattle.standing.specs.Standing as R
+use Rattle.applied.specs.After.{afterMessage}
 use Rattle.take.specs.Take as K
+use Rattle.standing.specs.Turn as KLaws
 use Rattle.take.specs.laws.TakeKept.{Took, took}
 use Rattle.reply.specs.Reply as A
-use Rattle.reply.specs.laws.Stays.{within-kept, OpenIn, commands-stay}
-use Rattle.reply.specs.laws.ReplyPublic.{given-within, given-open, taken-open}
+use Rattle.runs.specs.laws.Stays.{within-kept, OpenIn, commands-stay}
+use Rattle.runs.specs.laws.ReplyPublic.{given-within, given-open, taken-open}
 use Rattle.begin.specs.Begin.{begun, beginOf}
 use Rattle.begin.specs.laws.Kept.{begin-undamaged}
 use Rattle.runs.specs.Runs.{Call, take, reply, report, takenTo, givenTo, afterCall, after}
@@ -96,7 +97,7 @@ after-within S m full = refl
 taken-sizes : (W : Tables) (S N : State) → within S ≡ true → (m : List ℕ) → K.takenIn m W S ≡ K.accepted N → within N ≡ true
 taken-sizes W S N w m e =
     let t : Took m W S N = took m W S N e in
-    ap within (t .after) ∙ after-within (t .led) (t .moved) false ∙ commands-stay within-kept (length m) (W .names) (K.senderTo S) m 0 S false (t .led) (t .moved) w (t .commands)
+    ap within (t .after) ∙ after-within (t .led) (t .moved) false ∙ commands-stay within-kept (length m) (W .names) (KLaws.senderTo S) m 0 S false (t .led) (t .moved) w (t .commands)
 
 pub keeps-sizes : Keeps (λ S. within S ≡ true)
 keeps-sizes = record { sizes = λ S w. w; taken = λ W S N w m e. taken-sizes W S N w m e; given = λ W S N w m e. given-within W S N w m e }

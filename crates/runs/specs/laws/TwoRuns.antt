@@ -21,7 +21,7 @@ use Rattle.negotiation.specs.Layout.{stateBytes}
 use Rattle.take.specs.laws.TakePublic.{take-public}
 use Rattle.moves.specs.laws.Known.{Differs, holding-alike, isDisclosed, Opened, open-exact}
 use Rattle.reply.specs.Reply as A
-use Rattle.reply.specs.laws.ReplyPublic.{Quiet, reply-public}
+use Rattle.runs.specs.laws.ReplyPublic.{Quiet, reply-public}
 use Rattle.report.specs.laws.ReportPublic.{report-public}
 use Rattle.begin.specs.Begin.{begun, beginOf}
 use Rattle.begin.specs.laws.Kept.{begin-alike}

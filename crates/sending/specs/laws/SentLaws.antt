@@ -28,7 +28,7 @@ use Rattle.graph.specs.laws.Graph.{nodesOf}
 use Rattle.graph.specs.laws.Columns.{nodes-length}
 use Rattle.message.specs.declared.Command.{Command}
 use Rattle.message.specs.declared.Command.the-variants.{Bring, Join}
-use Rattle.damage.specs.Records.{isShown}
+use Rattle.rt0.specs.Shown.{isShown}
 use Rattle.needed.specs.Needed.{needed}
 use Rattle.needed.specs.laws.Column.{none-on}
 use Rattle.moves.specs.declared.Own.{Own}

@@ -7,7 +7,7 @@ use borrow.Author.Tests.{eq-eqb, ne-eqb}
 use lib.Dec.{eqb}
 use Rattle.expression.specs.declared.Credential.{Credential}
 use Rattle.tables.specs.Public.{keep}
-use Rattle.damage.specs.Records.{isShown}
+use Rattle.rt0.specs.Shown.{isShown}
 
 -- "less .. those already shown"
 unfoldable pub unshownOf : List Credential → List Credential → List Credential

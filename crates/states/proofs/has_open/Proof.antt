@@ -1,6 +1,6 @@
 use Prim.Native.Nat.{_-_}
 use native.Mathlib.Omega.{arith}
-use Rattle.class.specs.laws.Find.{Missed, missed-start, missed-more, any-at, any-none}
+use Rattle.rt0.specs.laws.Find.{Missed, missed-start, missed-more, any-at, any-none}
 use Rattle.graph.specs.laws.Graph.{edgesFrom, edgeAt, edgesOf}
 use Rattle.states.specs.laws.Complete.{isOpen}
 use Rattle.states.proofs.has_open.Statement.{statement}

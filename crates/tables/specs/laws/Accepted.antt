@@ -9,6 +9,7 @@ use borrow.Author.Tests.{ltb-true, ltb-false, leb-true, eqb-true, eqb-false}
 use lib.Dec.{ltb, leb, eqb}
 use lib.ListN.{length, getD, take, length-append}
 use lib.Seq.{take-add, take-length}
+use Rattle.numbers.specs.Sizes.{MOST-TABLES-BYTES}
 use Rattle.expression.specs.declared.Credential.{Credential}
 use Rattle.rt0.specs.Lists.{all}
 use Rattle.word.specs.laws.Bools.{false-true, and-parts}
@@ -22,7 +23,6 @@ use Rattle.record.specs.declared.RecordAnswer.{RecordAnswer}
 use Rattle.record.specs.declared.RecordAnswer.the-variants as a
 use Rattle.record.specs.Record.{formed, recordAt, recordBytes, sizeOf}
 use Rattle.record.specs.laws.RecordExact.{record-refusal, record-room, record-formed, record-only}
-use Rattle.tables.specs.Sizes.{tablesMost}
 use Rattle.tables.specs.Tables.{Tables, unread, added}
 use Rattle.tables.specs.Check.{suitsStorage, storedNumber, suitsPair, pairNumber, classNumber, none, inOrder, above, room, orderNumber, judge, Outcome, refused, accepted, judged, onRecord, recordsFrom, sized, readTables}
 use Rattle.tables.specs.laws.Check.{some-size, readFrom, from-past, from-refused, from-judged}
@@ -319,11 +319,11 @@ sized-true s T h = go (sized (length s)) refl h
     go false e q = absurd (let y : _≡_ {A = ℕ} 0 1 = cc in omega arith)
 
 -- "tables 1 to 4,096 bytes"
-pub accepted-length : (s : List ℕ) (T : Tables) → readTables s ≡ accepted T → (0 < length s) × (length s ≤ tablesMost)
+pub accepted-length : (s : List ℕ) (T : Tables) → readTables s ≡ accepted T → (0 < length s) × (length s ≤ MOST-TABLES-BYTES)
 unfolding sized
 accepted-length s T h =
-    let w = and-parts (ltb 0 (length s)) (leb (length s) tablesMost) (sized-true s T h .0) in
-    (ltb-true 0 (length s) (w .0), leb-true (length s) tablesMost (w .1))
+    let w = and-parts (ltb 0 (length s)) (leb (length s) MOST-TABLES-BYTES) (sized-true s T h .0) in
+    (ltb-true 0 (length s) (w .0), leb-true (length s) MOST-TABLES-BYTES (w .1))
 
 all-kept : (s : List ℕ) (T : Tables) → readTables s ≡ accepted T → Kept s (length s) T
 all-kept s T h =

@@ -5,6 +5,7 @@ use mathlib.Core.Bool.{cond}
 use mathlib.Core.List.{List, []}
 use lib.Dec.{ltb}
 use lib.ListN.{length}
+use Rattle.numbers.specs.Sizes.{MOST-NAMES, MOST-STORED, MOST-SENSITIVE, MOST-ACCESS}
 use Rattle.expression.specs.declared.Credential.{Credential}
 use Rattle.class.specs.declared.Name.{Name}
 use Rattle.class.specs.laws.Names.{Ascending}
@@ -16,7 +17,6 @@ use Rattle.tables.specs.declared.OwnAnswer.{OwnAnswer}
 use Rattle.tables.specs.declared.OwnAnswer.the-variants as o
 use Rattle.tables.specs.declared.House.{House}
 use Rattle.tables.specs.declared.Decoded.{Decoded}
-use Rattle.tables.specs.Sizes.{namesMost, storedMost, sensitiveMost, accessMost}
 use Rattle.tables.specs.Tables.{Tables, unread}
 use Rattle.tables.specs.Check.{orElse, classNumber, judge}
 use Rattle.tables.specs.laws.Check.{outcomeOf, readFrom}
@@ -46,12 +46,12 @@ withoutPairs own ns I S = record { own = own; names = ns; issuerStored = I; subj
 
 -- the sizes of the groups, and the order of the names
 pub record Housed (H : House) : Type 0 where
-  pub names : H .names .count ≤ namesMost
+  pub names : H .names .count ≤ MOST-NAMES
   pub ascending : Ascending (H .names .count) (H .names .name)
-  pub issuer : H .issuer .count ≤ storedMost
-  pub subject : H .subject .count ≤ storedMost
-  pub sensitive : H .sensitive .count ≤ sensitiveMost
-  pub access : H .access .count ≤ accessMost
+  pub issuer : H .issuer .count ≤ MOST-STORED
+  pub subject : H .subject .count ≤ MOST-STORED
+  pub sensitive : H .sensitive .count ≤ MOST-SENSITIVE
+  pub access : H .access .count ≤ MOST-ACCESS
 
 -- the reading from an index on, behind the records of T, leads to the decoded tables
 pub record Decodes (s : List ℕ) (at : ℕ) (T : Tables) (d : Decoded) : Type 0 where

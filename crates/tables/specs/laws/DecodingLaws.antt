@@ -7,6 +7,7 @@ use native.Mathlib.Omega.{arith}
 use borrow.Author.Tests.{lt-ltb, le-ltb, ltb-true, ltb-false, eq-eqb, eqb-true, eqb-false, ne-eqb}
 use lib.Dec.{ltb, leb, eqb}
 use lib.ListN.{length}
+use Rattle.numbers.specs.Sizes.{MOST-STORED, MOST-TABLES-BYTES}
 use Rattle.expression.specs.declared.Credential.{Credential}
 use Rattle.rt0.specs.declared.Pool.{Pool}
 use Rattle.rt0.specs.laws.Pool.{credentials}
@@ -25,7 +26,6 @@ use Rattle.record.specs.laws.RecordExact.{record-refusal, record-formed}
 use Rattle.tables.specs.declared.OwnAnswer.{OwnAnswer}
 use Rattle.tables.specs.declared.OwnAnswer.the-variants as o
 use Rattle.tables.specs.declared.Decoded.{Decoded}
-use Rattle.tables.specs.Sizes.{storedMost, tablesMost}
 use Rattle.tables.specs.Tables.{Tables, unread, withPairs}
 use Rattle.tables.specs.laws.Tables.{tablesOf}
 use Rattle.tables.specs.Check.{orElse, storedNumber, pairNumber, classNumber, inOrder, above, room, orderNumber, judge, refused, accepted, judged, numberOf, readTables, recordsFrom, sized}
@@ -39,7 +39,7 @@ use Rattle.tables.specs.laws.Decoding.{firstRecord, outOfOrder, leftNumb
 -- Refused tables
 
 -- a pool without credentials counts none
-pub empty-pool : (P : Pool) → credentials P ≡ [] → P .count ≤ storedMost
+pub empty-pool : (P : Pool) → credentials P ≡ [] → P .count ≤ MOST-STORED
 empty-pool P h = omega (arith, sym (count-length P) ∙ ap length h)
 
 pub outcome-refused : (d : Decoded) (k : ℕ) → d .refusal ≡ k → (k ≡ 0 → ⊥) → outcomeOf d ≡ refused k
@@ -245,7 +245,7 @@ module _ (s : List ℕ) {b : Bool} (h : b ≡ sized (length s)) (n : not b ≡ f
   -- a length within the sizes
   pub some-bytes : 0 < length s
   unfolding sized
-  some-bytes = ltb-true 0 (length s) (and-parts (ltb 0 (length s)) (leb (length s) tablesMost) (sym h ∙ not-true b n) .0)
+  some-bytes = ltb-true 0 (length s) (and-parts (ltb 0 (length s)) (leb (length s) MOST-TABLES-BYTES) (sym h ∙ not-true b n) .0)
 
   inside : readTables s ≡ readFrom s 0 unread
   unfolding readTables readFrom

@@ -4,6 +4,7 @@ use mathlib.Core.Path.{_≡_, refl, ap}
 use mathlib.Core.Bool.{Bool, true, false, cond, _&&_}
 use mathlib.Core.Option.{Option, none as absent, some}
 use lib.Dec.{ltb}
+use Rattle.numbers.specs.Sizes.{MOST-NAMES, MOST-STORED, MOST-SENSITIVE, MOST-ACCESS}
 use Rattle.expression.specs.declared.Credential.{Credential}
 use Rattle.expression.specs.Form.{ascends}
 use Rattle.expression.specs.Order.{beforeCredential}
@@ -12,7 +13,6 @@ use Rattle.record.specs.declared.Pair.{Pair}
 use Rattle.record.specs.declared.Record.{Record}
 use Rattle.record.specs.declared.Record.the-variants.{Own, Named, IssuerStored, SubjectStored, Sensitive, Access}
 use Rattle.record.specs.Record.{stored, paired}
-use Rattle.tables.specs.Sizes.{namesMost, storedMost, sensitiveMost, accessMost}
 use Rattle.tables.specs.laws.Chain.{less-chain, before-chain, ascends-chain}
 use Rattle.tables.specs.Tables.{withNames, withStored, withPairs}
 use Rattle.tables.specs.Check.{orElse, storedNumber, pairNumber, classNumber, inOrder, above, room, orderNumber, judge}
@@ -46,17 +46,17 @@ pickPair access (Access p) = cond access (some p) absent
 
 -- 0x11
 unfoldable pub names : Group Name
-names = record { wrap = Named; pick = pickName; put = withNames; before = λ m n. ltb (m .name) (n .name); number = λ T n. 0; most = namesMost; size = 4 }
+names = record { wrap = Named; pick = pickName; put = withNames; before = λ m n. ltb (m .name) (n .name); number = λ T n. 0; most = MOST-NAMES; size = 4 }
 
 -- 0x12 and 0x13
 unfoldable pub credentialsOf : Bool → Group Credential
 credentialsOf subject =
-    record { wrap = stored subject; pick = pickStored subject; put = withStored subject; before = beforeCredential; number = λ T c. storedNumber (T .names) subject c; most = storedMost; size = 23 }
+    record { wrap = stored subject; pick = pickStored subject; put = withStored subject; before = beforeCredential; number = λ T c. storedNumber (T .names) subject c; most = MOST-STORED; size = 23 }
 
 -- "32 sensitive roles, 32 AC records"
 abbrev pub pairsMost : Bool → ℕ
-pairsMost true = accessMost
-pairsMost false = sensitiveMost
+pairsMost true = MOST-ACCESS
+pairsMost false = MOST-SENSITIVE
 
 -- 0x14 and 0x15
 unfoldable pub pairs : Bool → Group Pair

@@ -6,8 +6,8 @@ use mathlib.Core.List.{List, [], _∷_}
 use Rattle.expression.specs.declared.Role.{Role}
 use Rattle.expression.specs.Same.{sameRole}
 use Rattle.word.specs.laws.Bools.{false-true}
-use Rattle.class.specs.Names.{firstOr}
-use Rattle.class.specs.laws.Find.{Missed, missed-more, missed-fewer, first-at, first-none, any-first}
+use Rattle.rt0.specs.Lists.{firstOr}
+use Rattle.rt0.specs.laws.Find.{Missed, missed-more, missed-fewer, first-at, first-none, any-first}
 use Rattle.record.specs.declared.Pair.{Pair}
 use Rattle.tables.specs.declared.Pairs.{Pairs}
 use Rattle.tables.specs.declared.RoleAnswer.{RoleAnswer}

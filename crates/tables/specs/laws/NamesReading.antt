@@ -7,6 +7,7 @@ use native.Mathlib.Omega.{arith}
 use borrow.Author.Tests.{ltb-true, eqb-true, eqb-false}
 use lib.Dec.{ltb, eqb}
 use lib.ListN.{length, getD}
+use Rattle.numbers.specs.Sizes.{MOST-NAMES}
 use Rattle.rt0.specs.Pool.{upTo}
 use Rattle.rt0.specs.Lists.{all}
 use Rattle.word.specs.laws.Bools.{and-parts}
@@ -16,7 +17,6 @@ use Rattle.class.specs.laws.Names.{nameAt, namesOf, Ascending}
 use Rattle.record.specs.Record.{recordAt}
 use Rattle.tables.specs.declared.NameStep.{NameStep}
 use Rattle.tables.specs.declared.NameStep.the-variants as y
-use Rattle.tables.specs.Sizes.{namesMost}
 use Rattle.tables.specs.laws.Group.{Going, numberBehind, stepOf, going-start, going-next, going-above, going-stop, gone-past, all-append}
 use Rattle.tables.specs.laws.Groups.{names, names-lawful}
 use Rattle.tables.specs.laws.Columns.{NamesSized, NamesStored, names-length}
@@ -95,5 +95,5 @@ module _ {s : List ℕ} {start : ℕ} {N : Names} {last : Name} {at : ℕ} (r : 
     }
 
 -- columns count their names
-pub names-few : (N : Names) → length (namesOf N) ≤ namesMost → N .count ≤ namesMost
+pub names-few : (N : Names) → length (namesOf N) ≤ MOST-NAMES → N .count ≤ MOST-NAMES
 names-few N h = omega (arith, h, names-length N)

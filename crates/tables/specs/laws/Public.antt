@@ -11,13 +11,13 @@ use Rattle.expression.specs.declared.Role.{Role}
 use Rattle.expression.specs.declared.Credential.{Credential}
 use Rattle.expression.specs.declared.Expression.the-variants as E
 use Rattle.expression.specs.Order.{lexLess, credentialNumbers, beforeCredential}
-use Rattle.expression.specs.Same.{sameRole, same}
+use Rattle.expression.specs.Same.{sameRole, same, sameCredential}
 use Rattle.expression.specs.laws.Same.{sameRole-eq, eq-sameRole, same-eq, eq-same}
 use Rattle.rt0.specs.laws.Lists.{all-each, all-of, any-find, any-here, map-find, map-mem}
 use Rattle.word.specs.laws.Bools.{and-parts, and-both}
 use Rattle.record.specs.declared.Pair.{Pair}
 use Rattle.tables.specs.Tables.{Tables}
-use Rattle.tables.specs.Lookup.{directOf, sameCredential, holds, isSensitive, isDirect}
+use Rattle.tables.specs.Lookup.{directOf, holds, isSensitive, isDirect}
 use Rattle.tables.specs.laws.Chain.{before-chain}
 use Rattle.tables.specs.laws.Sorted.{Strict, rising-same}
 use Rattle.tables.specs.Accepted.{Rising, rising-none, rising-cons}

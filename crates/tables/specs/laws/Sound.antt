@@ -9,6 +9,7 @@ use borrow.Author.Tests.{lt-ltb, le-leb, ne-eqb}
 use lib.Dec.{eqb}
 use lib.ListN.{length, getD, drop, length-append}
 use lib.Seq.{drop-drop, drop-at}
+use Rattle.numbers.specs.Sizes.{MOST-TABLES-BYTES}
 use Rattle.expression.specs.laws.There.{size-there}
 use Rattle.rt0.specs.Lists.{all}
 use Rattle.rt0.specs.laws.Lists.{all-each}
@@ -16,7 +17,6 @@ use Rattle.record.specs.declared.Record.{Record}
 use Rattle.record.specs.declared.Record.the-variants.{Own, Access}
 use Rattle.record.specs.Record.{formed, recordBytes, sizeOf}
 use Rattle.record.specs.laws.RecordExact.{record-length, record-back}
-use Rattle.tables.specs.Sizes.{tablesMost}
 use Rattle.tables.specs.Tables.{Tables, unread, withNames, withStored, withPairs, added}
 use Rattle.tables.specs.Check.{orElse, pairNumber, classNumber, inOrder, above, room, orderNumber, judge, refused, accepted, sized, readTables}
 use Rattle.tables.specs.laws.Check.{some-size, readFrom, from-past, from-judged}
@@ -114,20 +114,20 @@ unfolding tablesBytes recordBytes
 some-bytes T = omega arith
 
 -- sound tables are accepted from their bytes, where these are not too many
-pub sound-accepted : (T : Tables) → Sound T → length (tablesBytes T) ≤ tablesMost → readTables (tablesBytes T) ≡ accepted T
+pub sound-accepted : (T : Tables) → Sound T → length (tablesBytes T) ≤ MOST-TABLES-BYTES → readTables (tablesBytes T) ≡ accepted T
 unfolding readTables sized readFrom
 sound-accepted T k l =
     let s = tablesBytes T in
     let g = goes-all T k in
-    (λ i. cond (lt-ltb 0 (length s) (some-bytes T) i && le-leb (length s) tablesMost l i) (readFrom s 0 unread) (refused 1))
+    (λ i. cond (lt-ltb 0 (length s) (some-bytes T) i && le-leb (length s) MOST-TABLES-BYTES l i) (readFrom s 0 unread) (refused 1))
     ∙ g .same
     ∙ from-past s (g .to) T (omega (arith, size-there s (g .to) (g .inside) [] (g .there)))
 
 -- bytes are accepted exactly where they are those of sound tables, and not too many
-pub accepted-exactly : (s : List ℕ) (T : Tables) → ((i : ℕ) → getD s i 0 < 256) → (readTables s ≡ accepted T) ↔ (Sound T × (s ≡ tablesBytes T) × (length s ≤ tablesMost))
+pub accepted-exactly : (s : List ℕ) (T : Tables) → ((i : ℕ) → getD s i 0 < 256) → (readTables s ≡ accepted T) ↔ (Sound T × (s ≡ tablesBytes T) × (length s ≤ MOST-TABLES-BYTES))
 accepted-exactly s T bytes = (
   λ h. (accepted-sound s T h, accepted-bytes s T bytes h, accepted-length s T h .1),
-  λ w. ap readTables (w .1) ∙ sound-accepted T (w .0) (subst (λ (t : List ℕ). length t ≤ tablesMost) (w .1) (w .2)),
+  λ w. ap readTables (w .1) ∙ sound-accepted T (w .0) (subst (λ (t : List ℕ). length t ≤ MOST-TABLES-BYTES) (w .1) (w .2)),
 )
 
 -- two accepted tables differ only in direct credentials of sensitive roles and in AC records exactly where they have one public part

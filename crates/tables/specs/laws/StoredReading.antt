@@ -7,6 +7,7 @@ use native.Mathlib.Omega.{arith}
 use borrow.Author.Tests.{eqb-true}
 use lib.Dec.{eqb}
 use lib.ListN.{length}
+use Rattle.numbers.specs.Sizes.{MOST-STORED}
 use Rattle.expression.specs.declared.Credential.{Credential}
 use Rattle.expression.specs.Order.{beforeCredential}
 use Rattle.rt0.specs.declared.Pool.{Pool}
@@ -21,7 +22,6 @@ use Rattle.record.specs.declared.RecordAnswer.the-variants as a
 use Rattle.record.specs.Record.{recordAt}
 use Rattle.tables.specs.declared.StoredStep.{StoredStep}
 use Rattle.tables.specs.declared.StoredStep.the-variants as y
-use Rattle.tables.specs.Sizes.{storedMost}
 use Rattle.tables.specs.Check.{orElse, suitsStorage, storedNumber}
 use Rattle.tables.specs.laws.Group.{rising, behind, Step, stop, judgedStep, pickedStep, stepOf, step-some, step-none, Going, numberBehind, going-start, going-next, going-above, going-stop, gone-past}
 use Rattle.tables.specs.laws.Groups.{credentialsOf, credentials-lawful, pickStored}
@@ -48,9 +48,9 @@ module _ (ns : List Name) (subject : Bool) (c : Credential) {k m : ℕ} {b : Boo
 
 -- behind other credentials of the storage
 pub stored-behind : (ns : List Name) (subject : Bool) (count : ℕ) (last c : Credential) {k j r : ℕ} {b : Bool} → b ≡ beforeCredential last c → k ≡ storedNumber ns subject c
-    → j ≡ rising (eqb count 0 || b) count storedMost → r ≡ orElse k j → r ≡ numberBehind (credentialsOf subject) (storedNumber ns subject) count last c
+    → j ≡ rising (eqb count 0 || b) count MOST-STORED → r ≡ orElse k j → r ≡ numberBehind (credentialsOf subject) (storedNumber ns subject) count last c
 unfolding behind credentialsOf
-stored-behind ns subject count last c h n q e = e ∙ (λ i. orElse (n i) ((q ∙ ap (λ (u : Bool). rising (eqb count 0 || u) count storedMost) h) i))
+stored-behind ns subject count last c h n q e = e ∙ (λ i. orElse (n i) ((q ∙ ap (λ (u : Bool). rising (eqb count 0 || u) count MOST-STORED) h) i))
 
 -- a record that was read, where a credential of the storage may stand
 module _ (ns : List Name) (subject : Bool) (count : ℕ) (last : Credential) {x t : RecordAnswer} {r : Record} (h : x ≡ t) (q : x ≡ a.Read r) where
@@ -82,7 +82,7 @@ module _ {ns : List Name} {subject : Bool} {s : List ℕ} {start : ℕ} {P : Poo
 
   module _ (more : at < length s) {x : StoredStep} (h : storedStep x ≡ stepOf (credentialsOf subject) (numberBehind (credentialsOf subject) (storedNumber ns subject) (P .count) last) (recordAt s at)) where
     -- a credential is taken
-    pub stored-room : (c : Credential) → x ≡ y.Taken c → P .count < storedMost
+    pub stored-room : (c : Credential) → x ≡ y.Taken c → P .count < MOST-STORED
     unfolding credentialsOf
     stored-room c e = going-above (r .going) more (credentials-lawful subject) (P .count) (count-length P) c (sym h ∙ ap storedStep e) .1
 
@@ -100,5 +100,5 @@ module _ {ns : List Name} {subject : Bool} {s : List ℕ} {start : ℕ} {P : Poo
     stored-stop k e = going-stop (r .going) more (credentials-lawful subject) (P .count) (count-length P) k (sym h ∙ ap storedStep e)
 
 -- a pool counts its credentials
-pub stored-few : (P : Pool) → length (credentials P) ≤ storedMost → P .count ≤ storedMost
+pub stored-few : (P : Pool) → length (credentials P) ≤ MOST-STORED → P .count ≤ MOST-STORED
 stored-few P h = omega (arith, h, count-length P)

@@ -12,8 +12,8 @@ use Rattle.message.specs.Command.{commandAt, sizeOf}
 use Rattle.negotiation.specs.State.{State, within}
 use Rattle.negotiation.specs.laws.State.{stateOf}
 use Rattle.take.specs.declared.Taking.{Taking}
-use Rattle.update.specs.Step.{stepped, isMove, hasRoom}
-use Rattle.update.specs.Legal.{legalNumber}
+use Rattle.applied.specs.Step.{stepped, isMove, hasRoom}
+use Rattle.legal.specs.Number.{legalNumber}
 use native.Mathlib.Omega.{arith}
 use mathlib.Core.Path.{_≡_, refl, sym, _∙_, ap, subst}
 use mathlib.Core.Logic.{_⊎_, ⊎-elim}
@@ -25,9 +25,10 @@ use Rattle.states.specs.laws.Brings.{NodesFormed}
 use Rattle.message.specs.laws.Command.{nothing}
 use Rattle.message.specs.laws.CommandExact.{command-formed, command-room, command-refusal}
 use Rattle.negotiation.specs.declared.Negotiation.{Negotiation}
-use Rattle.update.specs.laws.Room.{legal-room, step-within}
-use Rattle.update.specs.laws.StepFormed.{step-formed}
-use Rattle.take.specs.Commands.{Taken, refused, taken, judged, isEnd, onCommand, commandsFrom}
+use Rattle.legal.specs.laws.Room.{legal-room, step-within}
+use Rattle.applied.specs.laws.StepFormed.{step-formed}
+use Rattle.take.specs.Commands.{Taken, refused, taken, judged, onCommand, commandsFrom}
+use Rattle.message.specs.Message.{isEnd}
 
 -- what the code's answer is
 unfoldable pub takenOf : Taking → Taken

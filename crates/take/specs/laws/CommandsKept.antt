@@ -5,7 +5,7 @@ use mathlib.Core.Path.{_≡_, refl, sym, _∙_, ap, subst}
 use mathlib.Core.Bool.{Bool, true, false, cond, _||_, or-true}
 use mathlib.Core.List.{List, [], _∷_}
 use borrow.Author.Tests.{eq-eqb}
-use lib.ListN.{length, length-append, length-set}
+use lib.ListN.{length, length-append}
 use Rattle.word.specs.laws.Bools.{false-true, or-neither, or-left}
 use Rattle.class.specs.declared.Name.{Name}
 use Rattle.class.specs.Typing.{typeOf, credentialNumber}
@@ -16,14 +16,16 @@ use Rattle.message.specs.declared.CommandAnswer.{CommandAnswer}
 use Rattle.message.specs.declared.CommandAnswer.the-variants.{Read, Refused}
 use Rattle.message.specs.Command.{commandAt, sizeOf}
 use Rattle.message.specs.laws.CommandExact.{command-formed}
-use Rattle.negotiation.specs.State.{State, within, withNode, withEdge, withShown, withMark}
-use Rattle.update.specs.Step.{primaryOf, childIn, stepped, isMove}
-use Rattle.update.specs.Legal.{refuse, typeNumber, isFresh, showNumber, bringNumber, joinNumber, markNumber, endNumber, legalBy, legalNumber}
-use Rattle.update.specs.laws.Legal.{refuse-none, first-none}
-use Rattle.update.specs.laws.Kept.{GraphKept}
-use Rattle.update.specs.laws.KeptStep.{open-kept, step-kept}
-use Rattle.update.specs.laws.Room.{legal-room, step-within}
-use Rattle.take.specs.Commands.{Taken, refused, taken, judged, isEnd, onCommand, commandsFrom}
+use Rattle.negotiation.specs.State.{State, within, withNode}
+use Rattle.applied.specs.Step.{primaryOf, stepped, isMove}
+use Rattle.legal.specs.Number.{refuse, typeNumber, isFresh, showNumber, bringNumber, joinNumber, markNumber, endNumber, legalBy, legalNumber}
+use Rattle.legal.specs.laws.Number.{refuse-none, first-none}
+use Rattle.legal.specs.laws.Kept.{GraphKept}
+use Rattle.legal.specs.laws.KeptStep.{open-kept, step-kept}
+use Rattle.legal.specs.laws.Room.{legal-room, step-within}
+use Rattle.take.specs.Commands.{Taken, refused, taken, judged, onCommand, commandsFrom}
+use Rattle.message.specs.Message.{isEnd}
+use Rattle.applied.specs.laws.Step.{step-header, step-still, step-some}
 
 -- what an accepted message leads to
 abbrev isTaken : Taken → Bool
@@ -47,35 +49,6 @@ pub record Led (ns : List Name) (S : State) (v : Bool) (T : State) (w : Bool) : 
   -- a move is not forgotten, and without one nodes and edges stay
   pub moves : v ≡ true → w ≡ true
   pub still : w ≡ false → (T .nodes ≡ S .nodes) × (T .edges ≡ S .edges)
-
--- One command
-
-pub step-header : (S : State) (s : ℕ) (c : Command) → stepped S s c .header ≡ S .header
-unfolding stepped withShown withNode withEdge withMark
-step-header S s (Show c) = refl
-step-header S s (Open o) = refl
-step-header S s (Bring n) = refl
-step-header S s (Join e) = refl
-step-header S s (Mark i) = refl
-step-header S s End = refl
-
-pub step-still : (S : State) (s : ℕ) (c : Command) → isMove c ≡ false → (stepped S s c .nodes ≡ S .nodes) × (stepped S s c .edges ≡ S .edges)
-unfolding stepped withShown
-step-still S s (Show c) h = (refl, refl)
-step-still S s (Open o) h = absurd (false-true (sym h))
-step-still S s (Bring n) h = absurd (false-true (sym h))
-step-still S s (Join e) h = absurd (false-true (sym h))
-step-still S s (Mark i) h = absurd (false-true (sym h))
-step-still S s End h = (refl, refl)
-
-pub step-some : (S : State) (s : ℕ) (c : Command) → (length (S .nodes) ≡ 0 → ⊥) → length (stepped S s c .nodes) ≡ 0 → ⊥
-unfolding stepped withShown withNode withEdge withMark
-step-some S s (Show c) some z = some z
-step-some S s (Open o) some z = omega (arith, length-append (S .nodes) (primaryOf (S .header) o ∷ []))
-step-some S s (Bring n) some z = omega (arith, length-append (S .nodes) (childIn S n ∷ []))
-step-some S s (Join e) some z = some z
-step-some S s (Mark i) some z = some (sym (length-set (S .nodes) i _) ∙ z)
-step-some S s End some z = some z
 
 -- All commands
 

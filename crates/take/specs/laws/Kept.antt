@@ -18,12 +18,12 @@ use Rattle.message.specs.declared.Command.the-variants.{Show, Open, Bring, Join
 use Rattle.negotiation.specs.declared.Negotiation.{Negotiation}
 use Rattle.negotiation.specs.State.{State, withNode, withEdge, withMark}
 use Rattle.negotiation.specs.laws.State.{stateOf}
-use Rattle.update.specs.declared.Known.{Known}
-use Rattle.update.specs.laws.Known.{Knows, knows-columns}
-use Rattle.update.specs.Step.{stepped, isMove}
-use Rattle.update.specs.laws.Judged.{isImplication, isLinking, KnownFor, SaysFor}
-use Rattle.update.specs.laws.SameStates.{Inside}
-use Rattle.update.specs.laws.KeepsStates.{keepsStates, keeps-states}
+use Rattle.legal.specs.declared.Known.{Known}
+use Rattle.legal.specs.laws.Known.{Knows, knows-columns}
+use Rattle.applied.specs.Step.{stepped, isMove}
+use Rattle.legal.specs.laws.Judged.{isImplication, isLinking, KnownFor, SaysFor}
+use Rattle.applied.specs.laws.SameStates.{Inside}
+use Rattle.applied.specs.laws.KeepsStates.{keepsStates, keeps-states}
 use Rattle.take.specs.declared.Kept.{Kept}
 
 abbrev pub isCredential : Command → Bool

@@ -7,10 +7,10 @@ use lib.ListN.{length}
 use Rattle.negotiation.specs.State.{State, within, withHeader}
 use Rattle.negotiation.specs.laws.State.{stateOf}
 use Rattle.negotiation.specs.Layout.{stateBytes, zeros}
-use Rattle.damage.specs.Restored as R
-use Rattle.damage.specs.laws.Restored as RLaws
-use Rattle.update.specs.Step.{otherSide}
-use Rattle.update.specs.After.{afterMessage}
+use Rattle.standing.specs.Standing as R
+use Rattle.standing.specs.laws.Standing as RLaws
+use Rattle.negotiation.specs.Ends.{otherSide}
+use Rattle.applied.specs.After.{afterMessage}
 use Rattle.take.specs.declared.Taking.{Taking}
 use Rattle.take.specs.Commands as C
 use Rattle.take.specs.laws.Commands as CLaws
@@ -30,13 +30,15 @@ use Rattle.tables.specs.laws.Tables.{tablesOf}
 use Rattle.negotiation.specs.declared.Header.{Header}
 use Rattle.negotiation.specs.declared.Negotiation.{Negotiation}
 use Rattle.negotiation.specs.laws.Layout.{paste-whole, length-zeros}
-use Rattle.damage.specs.declared.Restored.{Restored}
+use Rattle.standing.specs.declared.Restored.{Restored}
 use Rattle.damage.specs.Damage.{sound}
 use Rattle.damage.specs.laws.Damage.{held-nodes}
 use Rattle.take.specs.laws.Commands.{Room}
 use Rattle.take.specs.laws.CommandsKept.{Led}
-use Rattle.take.specs.laws.TakeKept.{sound-count, turn-led, led-edges}
-use Rattle.take.specs.Take.{sends, Outcome, refused, accepted, behindCommands, takenIn, behindStanding, messageSize, takeOf, answerOf, negotiationLeft, scratchLeft}
+use Rattle.damage.specs.laws.Going.{sound-count}
+use Rattle.take.specs.laws.TakeKept.{turn-led, led-edges}
+use Rattle.standing.specs.Turn.{sends}
+use Rattle.take.specs.Take.{Outcome, refused, accepted, behindCommands, takenIn, behindStanding, messageSize, takeOf, answerOf, negotiationLeft, scratchLeft}
 
 -- what the code's answer is
 unfoldable pub outcomeOf : Taking → Outcome

@@ -1,14 +1,14 @@
 -- An accepted message leaves a negotiation that is not damaged. Assumes nothing.
-use Prim.Native.Nat.{ℕ, _%_, _≤_, _<_}
+use Prim.Native.Nat.{ℕ, _%_, _<_}
 use native.Mathlib.Omega.{arith}
 use mathlib.Core.Path.{_≡_, refl, sym, _∙_, ap, subst}
 use mathlib.Core.Logic.{⊎-elim}
-use mathlib.Core.Bool.{Bool, true, false, not, cond, _&&_, _||_}
+use mathlib.Core.Bool.{Bool, true, false, not, cond}
 use mathlib.Core.List.{List}
-use borrow.Author.Tests.{eq-eqb, eqb-true, eqb-false, leb-true, ltb-true}
-use lib.Dec.{eqb, ltb, leb}
+use borrow.Author.Tests.{eqb-true, eqb-false}
+use lib.Dec.{eqb}
 use lib.ListN.{length}
-use Rattle.word.specs.laws.Bools.{and-parts, false-true}
+use Rattle.word.specs.laws.Bools.{false-true}
 use Rattle.propagation.specs.laws.Flags.{decided}
 use Rattle.class.specs.declared.Name.{Name}
 use Rattle.graph.specs.laws.Graph.{nodesOf, edgesOf}
@@ -19,34 +19,18 @@ use Rattle.negotiation.specs.declared.Header.{Header}
 use Rattle.negotiation.specs.declared.Negotiation.{Negotiation}
 use Rattle.negotiation.specs.State.{State, within, withHeader}
 use Rattle.negotiation.specs.laws.State.{stateOf}
-use Rattle.damage.specs.Header.{otherSound, wantedSound, headerSound, emptySound, countSound, endSound}
-use Rattle.damage.specs.Damage.{graphSound, sound}
+use Rattle.damage.specs.Header.{headerSound, endSound}
+use Rattle.damage.specs.Damage.{sound}
 use Rattle.damage.specs.laws.Damage.{graph-parts, sound-some, edges-formed, brought-fit}
-use Rattle.update.specs.Step.{otherSide}
-use Rattle.update.specs.After.{afterMessage}
-use Rattle.update.specs.laws.AfterKept.{after-sound}
-use Rattle.update.specs.laws.Kept.{GraphKept}
+use Rattle.negotiation.specs.Ends.{otherSide}
+use Rattle.applied.specs.After.{afterMessage}
+use Rattle.legal.specs.laws.AfterKept.{after-sound}
+use Rattle.legal.specs.laws.Kept.{GraphKept}
 use Rattle.take.specs.Commands as C
 use Rattle.take.specs.laws.CommandsKept.{Led, commands-led, opening-led}
-use Rattle.take.specs.Take.{sends, Outcome, refused, accepted, behindCommands, senderTo, takenIn}
-
--- What a header has
-
-header-parts : (own : ℕ) (ns : List Name) (h : Header) → headerSound own ns h ≡ true → (h .side < 2) × (h .own ≡ own)
-unfolding headerSound
-header-parts own ns h e =
-    let a = and-parts (ltb (h .side) 2 && eqb (h .own) own && otherSound (h .own) (h .other)) (wantedSound ns (h .side) (h .wanted)) e in
-    let b = and-parts (ltb (h .side) 2 && eqb (h .own) own) (otherSound (h .own) (h .other)) (a .0) in
-    let c = and-parts (ltb (h .side) 2) (eqb (h .own) own) (b .0) in
-    (ltb-true (h .side) 2 (c .0), eqb-true (h .own) own (c .1))
-
-empty-parts : (h : Header) (m k : ℕ) → emptySound h m k ≡ true → (h .messages ≡ 0) × (m ≡ 0) × (k ≡ 0)
-unfolding emptySound
-empty-parts h m k e =
-    let a = and-parts (eqb (h .messages) 0 && eqb (h .end) 0 && eqb (h .idle) 0 && eqb m 0) (eqb k 0) e in
-    let b = and-parts (eqb (h .messages) 0 && eqb (h .end) 0 && eqb (h .idle) 0) (eqb m 0) (a .0) in
-    let c = and-parts (eqb (h .messages) 0 && eqb (h .end) 0) (eqb (h .idle) 0) (b .0) in
-    (eqb-true (h .messages) 0 (and-parts (eqb (h .messages) 0) (eqb (h .end) 0) (c .0) .0), eqb-true m 0 (b .1), eqb-true k 0 (a .1))
+use Rattle.standing.specs.Turn.{sends, senderTo}
+use Rattle.take.specs.Take.{Outcome, refused, accepted, behindCommands, takenIn}
+use Rattle.damage.specs.laws.Going.{header-parts, empty-parts, by-nodes, no-nodes, going-on}
 
 -- while none is counted, the mediator sends
 first-sender : (v n : ℕ) → v < 2 → n ≡ 0 → sends (otherSide v) n ≡ true → (v ≡ 1) × (otherSide v ≡ 0)
@@ -58,22 +42,6 @@ first-sender v n l z h = go (eqb v 0) refl
     go false e = (omega (arith, eqb-false v 0 e), ap (λ (b : Bool). cond b 1 0) e)
 
 module _ (T : Tables) (S : State) (h : sound T S ≡ true) where
-  by-nodes : headerSound (T .own) (T .names) (S .header) ≡ true
-  unfolding sound
-  by-nodes = and-parts (headerSound (T .own) (T .names) (S .header)) _ h .0
-
-  no-nodes : length (S .nodes) ≡ 0 → emptySound (S .header) (length (S .edges)) (length (S .shown)) ≡ true
-  unfolding sound
-  no-nodes z = sym (ap (λ (b : Bool). cond b (emptySound (S .header) (length (S .edges)) (length (S .shown))) (graphSound (T .names) S)) (eq-eqb (length (S .nodes)) 0 z)) ∙ and-parts (headerSound (T .own) (T .names) (S .header)) _ h .1
-
-  -- the count is within its bound
-  pub sound-count : S .header .messages ≤ 1027
-  unfolding countSound
-  sound-count =
-      ⊎-elim (λ z. omega (arith, empty-parts (S .header) (length (S .edges)) (length (S .shown)) (no-nodes (eqb-true (length (S .nodes)) 0 z)) .0))
-      (λ z. leb-true (S .header .messages) 1027 (and-parts (ltb 0 (S .header .messages)) (leb (S .header .messages) 1027) (graph-parts (T .names) S (sound-some T S h (eqb-false (length (S .nodes)) 0 z)) .0) .1))
-      (decided (eqb (length (S .nodes)) 0))
-
   sound-kept : (length (S .nodes) ≡ 0 → ⊥) → GraphKept (T .names) S
   sound-kept z = let p = graph-parts (T .names) S (sound-some T S h z) in record { records = p .1; edges = p .2; justified = p .3 }
 
@@ -84,8 +52,8 @@ module _ (T : Tables) (S : State) (h : sound T S ≡ true) where
       where
         first : length (S .nodes) ≡ 0 → Led (T .names) S false U moved × (length (S .nodes) ≡ 0 → moved ≡ true)
         first z =
-            let e = empty-parts (S .header) (length (S .edges)) (length (S .shown)) (no-nodes z) in
-            let p = header-parts (T .own) (T .names) (S .header) by-nodes in
+            let e = empty-parts (S .header) (length (S .edges)) (length (S .shown)) (no-nodes T S h z) in
+            let p = header-parts (T .own) (T .names) (S .header) (by-nodes T S h) in
             let f = first-sender (S .header .side) (S .header .messages) (p .0) (e .0) turn in
             let l = opening-led (T .names) m S (f .0) (λ y. omega (arith, own, p .1)) z (e .1) (e .2) wi (length m) 0 false U moved (sym (ap (λ (s : ℕ). C.commandsFrom (length m) (T .names) s m 0 S false) (f .1)) ∙ q) in
             (l .0, λ y. l .1)
@@ -128,16 +96,6 @@ took m T S A h = by-end (eqb (S .header .end) 0) refl h
     by-end : (b : Bool) → eqb (S .header .end) 0 ≡ b → cond (not b) (refused 22) (cond (not (sends (senderTo S) (S .header .messages))) (refused 21) (behindCommands (C.commandsFrom (length m) (T .names) (senderTo S) m 0 S false))) ≡ accepted A → Took m T S A
     by-end true e q = by-turn (eqb-true (S .header .end) 0 e) (sends (senderTo S) (S .header .messages)) refl q
     by-end false e q = absurd (false-true (ap isAccepted q))
-
--- while it goes on, the primary is neither satisfied nor failed
-pub going-on : (p e i : ℕ) → e ≡ 0 → endSound p e i ≡ true → (p ≡ 1 → ⊥) × (p ≡ 2 → ⊥)
-unfolding endSound
-going-on p e i z h = go (eqb p 1) refl (eqb p 2) refl (sym (ap (λ (k : ℕ). endSound p k i) z) ∙ h)
-  where
-    go : (a : Bool) → eqb p 1 ≡ a → (b : Bool) → eqb p 2 ≡ b → cond a (eqb 0 1 && eqb i 0) (cond b (eqb 0 2 && eqb i 0) (((eqb 0 0 || eqb 0 4) && ltb i 2) || (eqb 0 3 && eqb i 1))) ≡ true → (p ≡ 1 → ⊥) × (p ≡ 2 → ⊥)
-    go true x b y k = absurd (false-true k)
-    go false x true y k = absurd (false-true k)
-    go false x false y k = (eqb-false p 1 x, eqb-false p 2 y)
 
 -- kept-sound for take: an accepted message leaves a negotiation that is not damaged, where the count stays within its bound
 module _ (T : Tables) (S : State) (h : sound T S ≡ true) (wi : within S ≡ true) (own : 0 < T .own) (m : List ℕ) (A : State) (k : takenIn m T S ≡ accepted A) where

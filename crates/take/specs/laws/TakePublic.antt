@@ -9,10 +9,11 @@ use Rattle.tables.specs.Tables.{Tables}
 use Rattle.tables.specs.Check.{accepted, readTables}
 use Rattle.tables.specs.Public.{Public, publicOf}
 use Rattle.negotiation.specs.State.{State}
-use Rattle.damage.specs.Restored.{restoreOf}
-use Rattle.damage.specs.laws.RestoredPublic as P
+use Rattle.standing.specs.Standing.{restoreOf}
+use Rattle.standing.specs.laws.StandingPublic as P
 use Rattle.take.specs.Commands.{commandsFrom}
-use Rattle.take.specs.Take.{Outcome, refused, sends, behindCommands, senderTo, takenIn, behindStanding, messageSize, takeOf}
+use Rattle.take.specs.Take.{Outcome, refused, behindCommands, takenIn, behindStanding, messageSize, takeOf}
+use Rattle.standing.specs.Turn.{sends, senderTo}
 
 taken-public : (m : List ℕ) (T U : Tables) (S : State) → publicOf T ≡ publicOf U → takenIn m T S ≡ takenIn m U S
 unfolding takenIn publicOf

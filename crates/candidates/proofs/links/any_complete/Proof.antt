@@ -3,7 +3,7 @@ use native.Mathlib.Omega.{arith}
 use mathlib.Core.Bool.{true}
 use mathlib.Core.Path.{_≡_}
 use borrow.Author.Needs.{needs}
-use Rattle.class.specs.laws.Find.{Missed, missed-start, missed-more, any-at, any-none}
+use Rattle.rt0.specs.laws.Find.{Missed, missed-start, missed-more, any-at, any-none}
 use Rattle.candidates.specs.laws.Skipped.{missed-skip}
 use Rattle.candidates.specs.laws.Links.{isMonitor, isCompleteAt, complete-skip, complete-goal, child-inside}
 use Rattle.candidates.proofs.links.any_complete.Statement.{statement}

@@ -1,7 +1,7 @@
 use Prim.Native.Nat.{_-_}
 use native.Mathlib.Omega.{arith}
 use Rattle.rt0.specs.laws.Pool.{poolOf}
-use Rattle.class.specs.laws.Find.{Missed, missed-start, missed-more, any-at, any-none}
+use Rattle.rt0.specs.laws.Find.{Missed, missed-start, missed-more, any-at, any-none}
 use Rattle.candidates.specs.laws.Subject.{isSubjectAt, hasSubject}
 use Rattle.candidates.proofs.subject.has_subject.Statement.{statement}
 use Rattle.candidates.proofs.subject.has_subject.Tie as tie

@@ -1,6 +1,6 @@
 use Prim.Native.Nat.{_-_, _≤_}
 use native.Mathlib.Omega.{arith}
-use Rattle.class.specs.laws.Find.{Missed, missed-start, missed-more}
+use Rattle.rt0.specs.laws.Find.{Missed, missed-start, missed-more}
 use Rattle.graph.specs.laws.Graph.{nodesFrom, nodeAt}
 use Rattle.graph.specs.Find.{isNode}
 use Rattle.graph.specs.laws.Find.{node-at, node-none}

@@ -1,6 +1,6 @@
 use Prim.Native.Nat.{_-_}
 use native.Mathlib.Omega.{arith}
-use Rattle.class.specs.laws.Find.{Missed, missed-start, missed-more}
+use Rattle.rt0.specs.laws.Find.{Missed, missed-start, missed-more}
 use Rattle.graph.specs.laws.Graph.{edgesFrom, edgeAt}
 use Rattle.graph.specs.Find.{sameEdge}
 use Rattle.graph.specs.laws.Find.{edge-at, edge-none}

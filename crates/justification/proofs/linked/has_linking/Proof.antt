@@ -4,7 +4,7 @@ use mathlib.Core.Path.{refl, sym}
 use borrow.Author.Tests.{ne-eqb}
 use lib.ListN.{getD}
 use Rattle.word.specs.laws.Bools.{false-true}
-use Rattle.class.specs.laws.Find.{Missed, missed-start, missed-more, missed-fewer}
+use Rattle.rt0.specs.laws.Find.{Missed, missed-start, missed-more, missed-fewer}
 use Rattle.justification.specs.laws.Justified.{linkingKind}
 use Rattle.justification.proofs.linked.has_linking.Statement.{statement}
 use Rattle.justification.proofs.linked.has_linking.Tie as tie

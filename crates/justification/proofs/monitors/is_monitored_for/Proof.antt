@@ -1,6 +1,6 @@
 use borrow.Author.Needs.{needs}
 use Rattle.justification.specs.Justified.{monitors}
-use Rattle.class.specs.laws.Find.{Missed, missed-start, missed-more}
+use Rattle.rt0.specs.laws.Find.{Missed, missed-start, missed-more}
 use Rattle.graph.specs.laws.Graph.{nodesFrom, edgesFrom, nodesOf, edgesOf, edgeAt}
 use Prim.Native.Nat.{_-_}
 use native.Mathlib.Omega.{arith}

@@ -4,7 +4,7 @@ use borrow.Author.Needs.{needs}
 use native.Mathlib.Omega.{arith}
 use Prim.Native.Nat.{_-_}
 use Rattle.graph.specs.laws.Graph.{nodesFrom, edgesFrom, nodesOf, edgesOf, edgeAt}
-use Rattle.class.specs.laws.Find.{Missed, missed-start, missed-more}
+use Rattle.rt0.specs.laws.Find.{Missed, missed-start, missed-more}
 use Rattle.justification.proofs.monitors.is_solved.Statement.{statement}
 use Rattle.justification.proofs.monitors.is_solved.Tie as tie
 

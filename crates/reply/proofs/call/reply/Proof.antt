@@ -1,5 +1,5 @@
 use Rattle.reply.specs.laws.Call.{reply-size, size-parts, reply-unrestored, restored-sound, reply-refused, reply-given}
-use Rattle.damage.specs.laws.Restored.{restored-length}
+use Rattle.standing.specs.laws.Standing.{restored-length}
 use native.Mathlib.Omega.{arith}
 use borrow.Author.Needs.{needs}
 use Rattle.reply.proofs.call.reply.Statement.{statement}

@@ -3,7 +3,7 @@ use native.Mathlib.Omega.{arith}
 use mathlib.Core.Bool.{not}
 use borrow.Author.Needs.{needs}
 use Rattle.rt0.specs.laws.Pool.{poolOf, credentials}
-use Rattle.damage.specs.Records.{isShown}
+use Rattle.rt0.specs.Shown.{isShown}
 use Rattle.sending.specs.laws.Unshown.{unshownOf, isNew}
 use Rattle.sending.specs.laws.Behind.{Behind, behind-start, behind-next, behind-all}
 use Rattle.sending.proofs.pool.own_pool.Statement.{statement}

@@ -2,8 +2,9 @@ use Prim.Native.Nat.{_-_}
 use native.Mathlib.Omega.{arith}
 use Rattle.expression.specs.declared.Credential.{Credential}
 use Rattle.rt0.specs.laws.Pool.{poolOf, credentialAt, credentials}
-use Rattle.class.specs.laws.Find.{Missed, missed-start, missed-more, any-at, any-none}
-use Rattle.tables.specs.Lookup.{directOf, sameCredential, holds}
+use Rattle.rt0.specs.laws.Find.{Missed, missed-start, missed-more, any-at, any-none}
+use Rattle.tables.specs.Lookup.{directOf, holds}
+use Rattle.expression.specs.Same.{sameCredential}
 use Rattle.tables.proofs.lookup.holds.Statement.{statement}
 use Rattle.tables.proofs.lookup.holds.Tie as tie
 

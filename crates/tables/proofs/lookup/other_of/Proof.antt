@@ -1,7 +1,7 @@
 use borrow.Author.Needs.{needs}
 use Prim.Native.Nat.{_-_}
 use native.Mathlib.Omega.{arith}
-use Rattle.class.specs.laws.Find.{Missed, missed-start}
+use Rattle.rt0.specs.laws.Find.{Missed, missed-start}
 use Rattle.tables.specs.laws.Tables.{pairsFrom, pairAt}
 use Rattle.tables.specs.laws.Lookup.{isOf, missed-pair, other-at, other-none}
 use Rattle.tables.proofs.lookup.other_of.Statement.{statement}

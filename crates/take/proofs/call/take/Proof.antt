@@ -1,5 +1,5 @@
 use native.Mathlib.Omega.{arith}
-use Rattle.damage.specs.laws.Restored.{restored-own, restored-length}
+use Rattle.standing.specs.laws.Standing.{restored-own, restored-length}
 use Rattle.take.specs.laws.Take.{take-size, size-parts, take-unrestored, take-refused, take-accepted}
 use borrow.Author.Needs.{needs}
 use Rattle.take.proofs.call.take.Statement.{statement}

@@ -1,4 +1,4 @@
-use Rattle.update.specs.laws.JudgedLaws.{legal-judged}
+use Rattle.legal.specs.laws.JudgedLaws.{legal-judged}
 use borrow.Author.Needs.{needs}
 use Rattle.take.proofs.commands.judge.Statement.{statement}
 use Rattle.take.proofs.commands.judge.Tie as tie

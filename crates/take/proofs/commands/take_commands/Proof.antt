@@ -1,5 +1,5 @@
 use Rattle.negotiation.specs.laws.Within.{within-few}
-use Rattle.update.specs.laws.Room.{legal-room}
+use Rattle.legal.specs.laws.Room.{legal-room}
 use Rattle.take.specs.laws.Kept.{Keeps, keeps-start, current-left, current-made, current-by, known-for, keeps-next, moved-next}
 use Rattle.take.specs.laws.Commands.{Reading, stop-left, reading-start, reading-past, reading-unread, reading-stop, reading-next, reading-room}
 use Prim.Native.Nat.{_-_}

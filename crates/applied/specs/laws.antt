@@ -1,0 +1,5 @@
+pub mod After
+pub mod KeepsStates
+pub mod SameStates
+pub mod Step
+pub mod StepFormed

@@ -1,0 +1,4 @@
+pub mod Legal
+pub mod Number
+pub mod Updates
+pub mod laws

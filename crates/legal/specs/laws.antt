@@ -1,0 +1,14 @@
+pub mod AfterKept
+pub mod Edge
+pub mod Exact
+pub mod Growth
+pub mod Judged
+pub mod JudgedLaws
+pub mod Kept
+pub mod KeptBring
+pub mod KeptStep
+pub mod Known
+pub mod Marked
+pub mod NewChild
+pub mod Number
+pub mod Room

@@ -1,0 +1,4 @@
+pub mod Refusals
+pub mod Sizes
+pub mod Bytes
+pub mod Answer

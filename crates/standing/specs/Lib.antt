@@ -1,0 +1,3 @@
+pub mod Standing
+pub mod Turn
+pub mod laws

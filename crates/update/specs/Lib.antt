@@ -1,6 +1,0 @@
-pub mod Limits
-pub mod Step
-pub mod Legal
-pub mod After
-pub mod Update
-pub mod laws
