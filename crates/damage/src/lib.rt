@@ -36,7 +36,6 @@ ghost use Rattle.damage.specs.laws.Damage.{stateWith};
 ghost use Rattle.damage.specs.Damage.{recordsSound, edgesJustified, graphSound, sound as soundOf};
 
 mod edges;
-mod found;
 mod header;
 mod nodes;
 mod shown;

@@ -1,15 +1,15 @@
 // Which commands are legal.
 use class::Names;
 use closure::Rules;
+use commands::end_number;
+use commands::mark_number;
+use commands::open_number;
+use commands::show_number;
 use edges::bring_number;
 use edges::join_number;
 use expression::Expression;
 use message::Command;
 use negotiation::Negotiation;
-use numbers::end_number;
-use numbers::mark_number;
-use numbers::open_number;
-use numbers::show_number;
 use rt0::Pool;
 ghost use mathlib.Core.Path.{_≡_};
 ghost use mathlib.Core.Bool.{true};
@@ -27,9 +27,9 @@ pub use justify::is_linking;
 pub use justify::satisfied_nodes;
 
 mod asked;
+mod commands;
 mod edges;
 mod justify;
-mod numbers;
 
 // What the credentials of a pool prove: made once, asked many times.
 pub struct Known {

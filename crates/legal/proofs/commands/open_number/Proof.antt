@@ -4,8 +4,8 @@ use mathlib.Core.Path.{refl, sym, _∙_, ap}
 use Rattle.legal.specs.Number.{openNumber}
 use Rattle.legal.specs.laws.Number.{stops, passes, fresh-yes, fresh-no}
 use borrow.Author.Needs.{needs}
-use Rattle.legal.proofs.numbers.open_number.Statement.{statement}
-use Rattle.legal.proofs.numbers.open_number.Tie as tie
+use Rattle.legal.proofs.commands.open_number.Statement.{statement}
+use Rattle.legal.proofs.commands.open_number.Tie as tie
 
 returns : tie.Need-returns
 unfolding openNumber

@@ -3,8 +3,8 @@ use Rattle.legal.specs.Number.{showNumber}
 use Rattle.negotiation.specs.laws.State.{stateOf}
 use Rattle.legal.specs.laws.Number.{first-stops, first-passes, stops, passes, fresh-yes, fresh-no, shown-full, shown-room}
 use borrow.Author.Needs.{needs}
-use Rattle.legal.proofs.numbers.show_number.Statement.{statement}
-use Rattle.legal.proofs.numbers.show_number.Tie as tie
+use Rattle.legal.proofs.commands.show_number.Statement.{statement}
+use Rattle.legal.proofs.commands.show_number.Tie as tie
 
 returns : tie.Need-returns
 unfolding showNumber stateOf

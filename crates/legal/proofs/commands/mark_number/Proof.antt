@@ -5,8 +5,8 @@ use mathlib.Core.Path.{refl, sym, _∙_, ap}
 use Rattle.legal.specs.Number.{markNumber}
 use Rattle.legal.specs.laws.Number.{stops, passes, fresh-yes, fresh-no, absent-yes, absent-no}
 use borrow.Author.Needs.{needs}
-use Rattle.legal.proofs.numbers.mark_number.Statement.{statement}
-use Rattle.legal.proofs.numbers.mark_number.Tie as tie
+use Rattle.legal.proofs.commands.mark_number.Statement.{statement}
+use Rattle.legal.proofs.commands.mark_number.Tie as tie
 
 returns : tie.Need-returns
 unfolding markNumber stateOf

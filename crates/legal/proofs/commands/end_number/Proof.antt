@@ -1,8 +1,8 @@
 use mathlib.Core.Path.{refl}
 use Rattle.legal.specs.Number.{endNumber}
 use Rattle.legal.specs.laws.Number.{stops, passes, fresh-yes, fresh-no}
-use Rattle.legal.proofs.numbers.end_number.Statement.{statement}
-use Rattle.legal.proofs.numbers.end_number.Tie as tie
+use Rattle.legal.proofs.commands.end_number.Statement.{statement}
+use Rattle.legal.proofs.commands.end_number.Tie as tie
 
 returns : tie.Need-returns
 unfolding endNumber
