@@ -1,5 +1,5 @@
 -- Begin (document 01, "The reply", "From the input"). Assumes nothing.
-use Prim.Native.Nat.{ℕ, zero, suc}
+use Prim.Native.Nat.{ℕ}
 use mathlib.Core.Bool.{Bool, cond, _&&_, _||_}
 use mathlib.Core.List.{List}
 use lib.Dec.{eqb}
@@ -9,9 +9,11 @@ use Rattle.rt0.specs.From.{roleOf}
 use Rattle.class.specs.declared.Name.{Name}
 use Rattle.class.specs.Names.{classOf}
 use Rattle.tables.specs.Tables.{Tables}
-use Rattle.tables.specs.Check.{orElse, Outcome, refused, accepted, readTables}
+use Rattle.tables.specs.Check.{orElse, readTables}
 use Rattle.negotiation.specs.State.{State, freshState}
 use Rattle.negotiation.specs.Layout.{stateBytes}
+use Rattle.numbers.specs.Answer.{Answer, refused, accepted, onward, judged, left}
+use Rattle.numbers.specs.Refusals.{LENGTH, OPERAND, NAME, OTHER}
 
 -- "both zero makes us the requester"
 abbrev pub isRequester : ℕ → ℕ → Bool
@@ -21,12 +23,12 @@ isRequester entity name = eqb entity 0 && eqb name 0
 unfoldable pub roleNumber : List Name → ℕ → ℕ → ℕ
 roleNumber ns entity name =
     cond (isRequester entity name) 0
-    (cond (eqb entity 0 || eqb name 0) 3
-    (cond (eqb (classOf ns name) 0) 4 0))
+    (cond (eqb entity 0 || eqb name 0) OPERAND
+    (cond (eqb (classOf ns name) 0) NAME 0))
 
 -- "7 at begin: other end is zero or self", or zero
 unfoldable pub otherNumber : ℕ → ℕ → ℕ
-otherNumber own other = cond (eqb other 0 || eqb other own) 7 0
+otherNumber own other = cond (eqb other 0 || eqb other own) OTHER 0
 
 -- "begin's role by 3 and 4, 7"
 unfoldable pub beginNumber : Tables → ℕ → ℕ → ℕ → ℕ
@@ -41,29 +43,14 @@ unfoldable pub begunState : Tables → ℕ → ℕ → ℕ → State
 begunState T other entity name = freshState (sideOf entity name) (T .own) other (roleOf entity name)
 
 -- a refusal number, or the state of the fresh negotiation
-pub data Begun : Type 0 where
-  refusal : ℕ → Begun
-  begun : State → Begun
-
-abbrev pub numbered : ℕ → State → Begun
-numbered zero S = begun S
-numbered (suc k) S = refusal (suc k)
-
-abbrev pub behindTables : ℕ → ℕ → ℕ → Outcome → Begun
-behindTables other entity name (refused k) = refusal k
-behindTables other entity name (accepted T) = numbered (beginNumber T other entity name) (begunState T other entity name)
+abbrev pub behindTables : ℕ → ℕ → ℕ → Answer Tables → Answer State
+behindTables other entity name a = onward (λ T. judged (beginNumber T other entity name) (accepted (begunState T other entity name))) a
 
 -- "Order: 1, tables 2 to 6 record by record .., begin's role by 3 and 4, 7"; of the negotiation only the length counts
-unfoldable pub beginOf : List ℕ → List ℕ → ℕ → ℕ → ℕ → Begun
+unfoldable pub beginOf : List ℕ → List ℕ → ℕ → ℕ → ℕ → Answer State
 beginOf tables negotiation other entity name =
-    cond (eqb (length negotiation) NEGOTIATION-BYTES) (behindTables other entity name (readTables tables)) (refusal 1)
-
--- "Each returns its number alone"; begin returns 0
-abbrev pub answerOf : Begun → ℕ
-answerOf (refusal k) = k
-answerOf (begun S) = 0
+    cond (eqb (length negotiation) NEGOTIATION-BYTES) (behindTables other entity name (readTables tables)) (refused LENGTH)
 
 -- "begin sets the negotiation only"; refused, "no buffer changes"
-abbrev pub leftOf : List ℕ → Begun → List ℕ
-leftOf negotiation (refusal k) = negotiation
-leftOf negotiation (begun S) = stateBytes S
+abbrev pub leftOf : List ℕ → Answer State → List ℕ
+leftOf negotiation a = left stateBytes negotiation a

@@ -1,11 +1,12 @@
 // The calls for a host in C. Each answers one number, 256 times a value plus a refusal number.
 ghost use mathlib.Core.Path.{_≡_};
-ghost use Rattle.begin.specs.Begin.{beginOf, answerOf, leftOf};
-ghost use Rattle.question.specs.Question.{questionOf};
-ghost use Rattle.reply.specs.Reply.{replyOf, answerOf as replyAnswer, negotiationLeft as replyNegotiation, replyLeft, scratchLeft as replyScratch};
-ghost use Rattle.report.specs.Report.{reportOf, answerOf as reportAnswer};
+ghost use Rattle.begin.specs.Begin.{beginOf, leftOf};
+ghost use Rattle.question.specs.Question.{yesOrNo, questionOf};
+ghost use Rattle.reply.specs.Reply.{replyOf, negotiationLeft as replyNegotiation, replyLeft, scratchLeft as replyScratch, lengthOf};
+ghost use Rattle.report.specs.Report.{reportOf, packed};
 ghost use Rattle.tables.specs.Check.{checkOf};
-ghost use Rattle.take.specs.Take.{takeOf, answerOf as takeAnswer, negotiationLeft, scratchLeft};
+ghost use Rattle.take.specs.Take.{takeOf, negotiationLeft, scratchLeft};
+ghost use Rattle.numbers.specs.Answer.{answerOf, noValue};
 
 // The check of house tables: 0 where they are accepted, or a refusal number.
 #[no_mangle]
@@ -25,7 +26,7 @@ pub extern "C" fn lavutremo_begin(
     entity: u16,
     name: u16,
 ) -> u64
-    ensures answered { λ r. ⌜ r ≡ answerOf (beginOf (now (tables .entry)) (now (negotiation .entry)) other entity name) ⌝ }
+    ensures answered { λ r. ⌜ r ≡ answerOf noValue (beginOf (now (tables .entry)) (now (negotiation .entry)) other entity name) ⌝ }
     ensures left { λ _. ⌜ now (negotiation .exit) ≡ leftOf (now (negotiation .entry)) (beginOf (now (tables .entry)) (now (negotiation .entry)) other entity name) ⌝ }
 {
     begin::begin(tables, negotiation, other, entity, name)
@@ -39,7 +40,7 @@ pub extern "C" fn lavutremo_take(
     message: &[u8],
     scratch: &mut [u8],
 ) -> u64
-    ensures answered { λ r. ⌜ r ≡ takeAnswer (takeOf (now (tables .entry)) (now (negotiation .entry)) (now (message .entry)) (now (scratch .entry))) ⌝ }
+    ensures answered { λ r. ⌜ r ≡ answerOf noValue (takeOf (now (tables .entry)) (now (negotiation .entry)) (now (message .entry)) (now (scratch .entry))) ⌝ }
     ensures left { λ _. ⌜ now (negotiation .exit) ≡ negotiationLeft (now (negotiation .entry)) (takeOf (now (tables .entry)) (now (negotiation .entry)) (now (message .entry)) (now (scratch .entry))) ⌝ }
     ensures cleared { λ _. ⌜ now (scratch .exit) ≡ scratchLeft (now (scratch .entry)) (takeOf (now (tables .entry)) (now (negotiation .entry)) (now (message .entry)) (now (scratch .entry))) ⌝ }
 {
@@ -55,7 +56,7 @@ pub extern "C" fn lavutremo_reply(
     reply: &mut [u8],
     scratch: &mut [u8],
 ) -> u64
-    ensures answered { λ r. ⌜ r ≡ replyAnswer (replyOf (now (tables .entry)) (now (negotiation .entry)) (now (reply .entry)) (now (scratch .entry))) ⌝ }
+    ensures answered { λ r. ⌜ r ≡ answerOf lengthOf (replyOf (now (tables .entry)) (now (negotiation .entry)) (now (reply .entry)) (now (scratch .entry))) ⌝ }
     ensures left { λ _. ⌜ now (negotiation .exit) ≡ replyNegotiation (now (negotiation .entry)) (replyOf (now (tables .entry)) (now (negotiation .entry)) (now (reply .entry)) (now (scratch .entry))) ⌝ }
     ensures written { λ _. ⌜ now (reply .exit) ≡ replyLeft (now (reply .entry)) (replyOf (now (tables .entry)) (now (negotiation .entry)) (now (reply .entry)) (now (scratch .entry))) ⌝ }
     ensures cleared { λ _. ⌜ now (scratch .exit) ≡ replyScratch (now (scratch .entry)) (replyOf (now (tables .entry)) (now (negotiation .entry)) (now (reply .entry)) (now (scratch .entry))) ⌝ }
@@ -66,7 +67,7 @@ pub extern "C" fn lavutremo_reply(
 // The report on a node of a negotiation: 256 times its numbers in one, or a refusal number. Nothing changes.
 #[no_mangle]
 pub extern "C" fn lavutremo_report(tables: &[u8], negotiation: &[u8], node: u8) -> u64
-    ensures { λ r. ⌜ r ≡ reportAnswer (reportOf (now (tables .entry)) (now (negotiation .entry)) node) ⌝ }
+    ensures { λ r. ⌜ r ≡ answerOf packed (reportOf (now (tables .entry)) (now (negotiation .entry)) node) ⌝ }
 {
     report::report(tables, negotiation, node)
 }
@@ -74,7 +75,7 @@ pub extern "C" fn lavutremo_report(tables: &[u8], negotiation: &[u8], node: u8) 
 // Whether f is from e in RT0 over the lent credentials: 256 for yes, 0 for no, or a refusal number.
 #[no_mangle]
 pub extern "C" fn lavutremo_question(credentials: &[u8], f: &[u8], e: &[u8]) -> u64
-    ensures { λ r. ⌜ r ≡ questionOf (now (credentials .entry)) (now (f .entry)) (now (e .entry)) ⌝ }
+    ensures { λ r. ⌜ r ≡ answerOf yesOrNo (questionOf (now (credentials .entry)) (now (f .entry)) (now (e .entry))) ⌝ }
 {
     question::question(credentials, f, e)
 }

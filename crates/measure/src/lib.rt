@@ -19,8 +19,9 @@ ghost use Rattle.closure.specs.laws.Rules.{rulesOf};
 ghost use Rattle.rules.specs.laws.Table.{chosen};
 ghost use Rattle.relation.specs.laws.Relation.{Relation};
 ghost use Rattle.rules.specs.laws.Ruled.{Ruled};
-ghost use Rattle.question.specs.Question.{questionOf};
+ghost use Rattle.question.specs.Question.{yesOrNo, questionOf};
 ghost use Rattle.measure.specs.laws.Repeated.{countOf, repeatedOf};
+ghost use Rattle.numbers.specs.Answer.{answerOf};
 
 // How many of so many askings whether f is from e answer yes.
 fn ask_times<'a>(
@@ -117,7 +118,7 @@ fn from_times(pool: Pool, f: Expression, e: Expression, times: u32) -> u64
 // Makes the relation once and asks so many times: 256 times the number of yes, or the refusal number of the question.
 #[no_mangle]
 pub extern "C" fn measure_questions(credentials: &[u8], f: &[u8], e: &[u8], times: u32) -> u64
-    ensures { λ r. ⌜ r ≡ repeatedOf times (questionOf (now (credentials .entry)) (now (f .entry)) (now (e .entry))) ⌝ }
+    ensures { λ r. ⌜ r ≡ repeatedOf times (answerOf yesOrNo (questionOf (now (credentials .entry)) (now (f .entry)) (now (e .entry)))) ⌝ }
 {
     if !sized(credentials.len(), f.len(), e.len()) {
         return LENGTH;

@@ -6,10 +6,10 @@ pub data Answer (A : Type 0) : Type 0 where
   refused : ℕ → Answer A
   accepted : A → Answer A
 
--- refused with a number that is not zero, else accepted
-abbrev pub numbered : {A : Type 0} → ℕ → A → Answer A
-numbered zero x = accepted x
-numbered (suc k) x = refused (suc k)
+-- refused with a number that is not zero, else gone on with
+abbrev pub judged : {A : Type 0} → ℕ → Answer A → Answer A
+judged zero next = next
+judged (suc k) next = refused (suc k)
 
 -- what is accepted is gone on with
 abbrev pub onward : {A B : Type 0} → (A → Answer B) → Answer A → Answer B

@@ -6,7 +6,7 @@ use mathlib.Core.List.{List, [], _∷_, _++_}
 use lib.ListN.{length}
 use Rattle.expression.specs.declared.Credential.{Credential}
 use Rattle.expression.specs.Credential.{wellFormedCredential, credentialBytes, isBody}
-use Rattle.question.specs.Credentials.{listed, credentialsOf}
+use Rattle.question.specs.Credentials.{credentialsOf}
 use mathlib.Core.Logic.{_⊎_}
 use Rattle.numbers.specs.Sizes.{MOST-CREDENTIALS, MOST-CREDENTIALS-BYTES}
 use Rattle.numbers.specs.Bytes.{EXPRESSION-BYTES}
@@ -15,6 +15,7 @@ use Rattle.expression.specs.declared.ExpressionAnswer.the-variants.{Read}
 use Rattle.expression.specs.Bytes.{rawBytes}
 use Rattle.expression.specs.Form.{rawOf, wellFormed}
 use Rattle.question.specs.Question.{operandOf}
+use Rattle.numbers.specs.Answer.{accepted}
 
 -- a command for each credential, then the end
 abbrev pub commands : List Credential → List ℕ
@@ -58,6 +59,6 @@ pub record Sized (c f e : ℕ) : Type 0 where
 -- the lent bytes ask whether x from y over the credentials C
 pub record Asked (c f e : List ℕ) (C : List Credential) (x y : Expression) : Type 0 where
   pub sizes : Sized (length c) (length f) (length e)
-  pub credentials : credentialsOf c ≡ listed C
+  pub credentials : credentialsOf c ≡ accepted C
   pub first : operandOf f ≡ Read x
   pub second : operandOf e ≡ Read y

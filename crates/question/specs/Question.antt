@@ -1,5 +1,5 @@
 -- The answer to an RT0 question (document 01, "RT0 and states", "From the input"). Assumes nothing.
-use Prim.Native.Nat.{ℕ, _*_}
+use Prim.Native.Nat.{ℕ}
 use mathlib.Core.Bool.{Bool, cond, _&&_}
 use mathlib.Core.List.{List}
 use lib.Dec.{ltb, eqb, leb}
@@ -10,8 +10,11 @@ use Rattle.expression.specs.declared.ExpressionAnswer.{ExpressionAnswer}
 use Rattle.expression.specs.declared.ExpressionAnswer.the-variants.{Read, Wrong}
 use Rattle.expression.specs.Form.{readOf}
 use Rattle.expression.specs.Credential.{isBody}
+use Rattle.expression.specs.declared.Credential.{Credential}
 use Rattle.rt0.specs.Decide.{from?}
-use Rattle.question.specs.Credentials.{Listed, refused, listed, credentialsOf}
+use Rattle.question.specs.Credentials.{credentialsOf}
+use Rattle.numbers.specs.Answer.{Answer, refused, accepted}
+use Rattle.numbers.specs.Refusals.{LENGTH, OPERAND}
 
 -- credentials of "1 to 1,473 bytes", f and e of "18 bytes each" ("RT0 and states")
 unfoldable pub sized : ℕ → ℕ → ℕ → Bool
@@ -26,18 +29,18 @@ askable Wrong = Wrong
 unfoldable pub operandOf : List ℕ → ExpressionAnswer
 operandOf s = askable (readOf s 0)
 
--- "the answer is yes or no" ("RT0 and states"): 256 times 1 or 0, plus the number 0 of an accepted call
-unfoldable pub answerOf : Bool → ℕ
-answerOf b = 256 * cond b 1 0
+-- "the answer is yes or no" ("RT0 and states"): the value is 1 or 0
+abbrev pub yesOrNo : Bool → ℕ
+yesOrNo b = cond b 1 0
 
 -- "the commands are checked before the expressions", then f, then e: "3 an operand of wrong form";
 -- a refused call "returns its number alone" ("From the state")
-abbrev pub answered : Listed → ExpressionAnswer → ExpressionAnswer → ℕ
-answered (refused k) f e = k
-answered (listed C) Wrong e = 3
-answered (listed C) (Read x) Wrong = 3
-answered (listed C) (Read x) (Read y) = answerOf (from? C x y)
+abbrev pub answered : Answer (List Credential) → ExpressionAnswer → ExpressionAnswer → Answer Bool
+answered (refused k) f e = refused k
+answered (accepted C) Wrong e = refused OPERAND
+answered (accepted C) (Read x) Wrong = refused OPERAND
+answered (accepted C) (Read x) (Read y) = accepted (from? C x y)
 
 -- the whole call; "1 a lent length outside the sizes" ("From the input") comes before all else
-unfoldable pub questionOf : List ℕ → List ℕ → List ℕ → ℕ
-questionOf c f e = cond (sized (length c) (length f) (length e)) (answered (credentialsOf c) (operandOf f) (operandOf e)) 1
+unfoldable pub questionOf : List ℕ → List ℕ → List ℕ → Answer Bool
+questionOf c f e = cond (sized (length c) (length f) (length e)) (answered (credentialsOf c) (operandOf f) (operandOf e)) (refused LENGTH)

@@ -12,8 +12,9 @@ use rt0::Pool;
 ghost use mathlib.Core.Path.{_≡_};
 ghost use lib.ListN.{length};
 ghost use Rattle.numbers.specs.Bytes.{EXPRESSION-BYTES};
-ghost use Rattle.question.specs.Question.{sized as sizedOf, operandOf, answerOf, questionOf};
+ghost use Rattle.question.specs.Question.{sized as sizedOf, operandOf, yesOrNo, questionOf};
 pub use credentials::list;
+ghost use Rattle.numbers.specs.Answer.{answerOf};
 
 mod credentials;
 
@@ -39,7 +40,7 @@ pub fn sized(c: usize, f: usize, e: usize) -> bool
 
 // 256 times the value: 1 for yes, 0 for no.
 fn answer(yes: bool) -> u64
-    ensures { λ r. ⌜ r ≡ answerOf yes ⌝ }
+    ensures { λ r. ⌜ r ≡ yesOrNo yes * 256 ⌝ }
 {
     if yes { 256 } else { 0 }
 }
@@ -61,7 +62,7 @@ pub fn operand(s: &[u8]) -> ExpressionAnswer
 
 // Whether "f from e" over the lent credentials: 256 for yes, 0 for no, or a refusal number.
 pub fn question(credentials: &[u8], f: &[u8], e: &[u8]) -> u64
-    ensures { λ r. ⌜ r ≡ questionOf (now (credentials .entry)) (now (f .entry)) (now (e .entry)) ⌝ }
+    ensures { λ r. ⌜ r ≡ answerOf yesOrNo (questionOf (now (credentials .entry)) (now (f .entry)) (now (e .entry))) ⌝ }
 {
     if !sized(credentials.len(), f.len(), e.len()) {
         return LENGTH;

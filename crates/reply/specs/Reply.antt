@@ -1,5 +1,5 @@
 -- The reply (document 01, "The reply"). Assumes nothing.
-use Prim.Native.Nat.{ℕ, zero, suc, _+_, _*_}
+use Prim.Native.Nat.{ℕ, zero, suc, _+_}
 use mathlib.Core.Bool.{Bool, true, false, not, cond, _&&_}
 use mathlib.Core.List.{List, [], _∷_, _++_}
 use lib.Dec.{eqb, leb}
@@ -20,6 +20,9 @@ use Rattle.moves.specs.Initial.{initialState}
 use Rattle.moves.specs.Rules.{endIn}
 use Rattle.moves.specs.Move.{Move, nextMove}
 use Rattle.moves.specs.Carried.{carried, hasRoomFor}
+use Rattle.numbers.specs.Answer.{Answer, refused, accepted, onward, left}
+use Rattle.numbers.specs.Refusals.{LENGTH, TURN, ENDED}
+use Rattle.numbers.specs.Sizes.{MOST-MESSAGE-BYTES, LEAST-REPLY-BYTES, SCRATCH-BYTES}
 
 -- the commands so far, the state that they lead to, and whether it stopped on a size
 pub record Replied : Type 0 where
@@ -36,7 +39,7 @@ abbrev pub withMove : (State → List Command → Replied) → State → List Co
 withMove next S cs [] = stopped cs S false
 withMove next S cs (c ∷ ms) =
     cond (hasRoomFor (S .header .side) S (c ∷ ms))
-    (cond (leb (length (bytesOf (cs ++ (c ∷ ms))) + 1) 4096) (next (carried (S .header .side) S (c ∷ ms)) (cs ++ (c ∷ ms))) (stopped cs S false))
+    (cond (leb (length (bytesOf (cs ++ (c ∷ ms))) + 1) MOST-MESSAGE-BYTES) (next (carried (S .header .side) S (c ∷ ms)) (cs ++ (c ∷ ms))) (stopped cs S false))
     (stopped cs S true)
 
 -- "The reply stops when no move remains, the primary is satisfied, .." The first number is at least that of the moves left.
@@ -50,7 +53,7 @@ opening T S = cond (eqb (length (S .nodes)) 0) (Open (record { role = S .header 
 
 -- a move has two bytes or more, so there are fewer than 4,096
 unfoldable pub replyIn : Tables → State → Replied
-replyIn T S = replyFrom 4096 T (carried (S .header .side) S (opening T S)) (opening T S)
+replyIn T S = replyFrom MOST-MESSAGE-BYTES T (carried (S .header .side) S (opening T S)) (opening T S)
 
 -- what the reply leaves: "success, failed, stalled, full, in that order"
 unfoldable pub repliedState : Replied → State
@@ -63,42 +66,33 @@ replyBytes r = messageBytes (r .commands)
 -- The call
 
 -- a refusal number, or the message and the state of the negotiation behind it
-pub data Outcome : Type 0 where
-  refused : ℕ → Outcome
-  given : List ℕ → State → Outcome
-
-unfoldable pub repliedIn : Tables → State → Outcome
+unfoldable pub repliedIn : Tables → State → Answer (List ℕ × State)
 repliedIn T S =
-    cond (not (eqb (S .header .end) 0)) (refused 22)
-    (cond (not (sends (S .header .side) (S .header .messages))) (refused 21)
-    (given (replyBytes (replyIn T S)) (repliedState (replyIn T S))))
+    cond (not (eqb (S .header .end) 0)) (refused ENDED)
+    (cond (not (sends (S .header .side) (S .header .messages))) (refused TURN)
+    (accepted (replyBytes (replyIn T S), repliedState (replyIn T S))))
 
-abbrev pub behindStanding : R.Standing → Outcome
-behindStanding (R.refusal k) = refused k
-behindStanding (R.standing T S) = repliedIn T S
+abbrev pub behindStanding : Answer (Tables × State) → Answer (List ℕ × State)
+behindStanding a = onward (λ x. repliedIn (x .0) (x .1)) a
 
 -- "reply buffer 4,096 or more", "scratch 4,096 exactly"
 unfoldable pub replySize : ℕ → ℕ → Bool
-replySize reply scratch = leb 4096 reply && eqb scratch 4096
+replySize reply scratch = leb LEAST-REPLY-BYTES reply && eqb scratch SCRATCH-BYTES
 
 -- "Order: 1, tables 2 to 6 record by record .., 20, 22, 21"
-unfoldable pub replyOf : List ℕ → List ℕ → List ℕ → List ℕ → Outcome
-replyOf tables negotiation reply scratch = cond (replySize (length reply) (length scratch)) (behindStanding (R.restoreOf tables negotiation)) (refused 1)
+unfoldable pub replyOf : List ℕ → List ℕ → List ℕ → List ℕ → Answer (List ℕ × State)
+replyOf tables negotiation reply scratch = cond (replySize (length reply) (length scratch)) (behindStanding (R.restoreOf tables negotiation)) (refused LENGTH)
 
--- "the length returned": 256 times it
-abbrev pub answerOf : Outcome → ℕ
-answerOf (refused k) = k
-answerOf (given m S) = length m * 256
+-- "the length returned"
+abbrev pub lengthOf : List ℕ × State → ℕ
+lengthOf x = length (x .0)
 
 -- "After acceptance, take changes the negotiation, reply also its message bytes, both set the scratch to zero"
-abbrev pub negotiationLeft : List ℕ → Outcome → List ℕ
-negotiationLeft before (refused k) = before
-negotiationLeft before (given m S) = stateBytes S
+abbrev pub negotiationLeft : List ℕ → Answer (List ℕ × State) → List ℕ
+negotiationLeft before a = left (λ x. stateBytes (x .1)) before a
 
-abbrev pub replyLeft : List ℕ → Outcome → List ℕ
-replyLeft before (refused k) = before
-replyLeft before (given m S) = m ++ drop (length m) before
+abbrev pub replyLeft : List ℕ → Answer (List ℕ × State) → List ℕ
+replyLeft before a = left (λ x. x .0 ++ drop (length (x .0)) before) before a
 
-abbrev pub scratchLeft : List ℕ → Outcome → List ℕ
-scratchLeft before (refused k) = before
-scratchLeft before (given m S) = zeros (length before)
+abbrev pub scratchLeft : List ℕ → Answer (List ℕ × State) → List ℕ
+scratchLeft before a = left (λ x. zeros (length before)) before a

@@ -7,7 +7,9 @@ use lib.ListN.{length}
 use Rattle.graph.specs.Graph.{nodeIn}
 use Rattle.graph.specs.Propagated.{stateOf}
 use Rattle.negotiation.specs.State.{State}
-use Rattle.standing.specs.Standing.{Standing, refusal, standing, restoreOf}
+use Rattle.standing.specs.Standing.{restoreOf}
+use Rattle.numbers.specs.Answer.{Answer, refused, accepted, onward}
+use Rattle.numbers.specs.Refusals.{ABSENT}
 
 -- "a node's state byte and its propagated state, ..; the end, counts of nodes, edges, shown credentials, messages accepted and replies given
 -- together"
@@ -33,18 +35,12 @@ reportOn S i =
       messages = S .header .messages;
     }
 
--- a refusal number, or the report
-pub data Reported : Type 0 where
-  refused : ℕ → Reported
-  reported : Report → Reported
-
 -- "24 no such node"
-abbrev pub behindNegotiation : ℕ → Standing → Reported
-behindNegotiation i (refusal k) = refused k
-behindNegotiation i (standing T S) = cond (ltb i (length (S .nodes))) (reported (reportOn S i)) (refused 24)
+abbrev pub behindNegotiation : ℕ → Answer (Tables × State) → Answer Report
+behindNegotiation i a = onward (λ x. cond (ltb i (length (x .1 .nodes))) (accepted (reportOn (x .1) i)) (refused ABSENT)) a
 
 -- "Report is lent the tables too and looks only at 1, tables 2 to 6, 20 and an absent node (24)"
-unfoldable pub reportOf : List ℕ → List ℕ → ℕ → Reported
+unfoldable pub reportOf : List ℕ → List ℕ → ℕ → Answer Report
 reportOf tables negotiation i = behindNegotiation i (restoreOf tables negotiation)
 
 -- The answer
@@ -65,8 +61,3 @@ unpacked v =
       shown = v / 4 / 4 / 8 / 256 / 512 % 128;
       messages = v / 4 / 4 / 8 / 256 / 512 / 128;
     }
-
--- a refusal number alone, or 256 times the value
-abbrev pub answerOf : Reported → ℕ
-answerOf (refused k) = k
-answerOf (reported r) = packed r * 256

@@ -9,7 +9,8 @@ ghost use Rattle.graph.specs.laws.Graph.{nodesOf, edgesOf};
 ghost use Rattle.states.specs.laws.Brings.{NodesFormed, EdgesFormed};
 ghost use Rattle.negotiation.specs.laws.State.{stateOf};
 ghost use Rattle.report.specs.laws.Report.{numbered};
-ghost use Rattle.report.specs.Report.{reportOn, reportOf, packed, answerOf};
+ghost use Rattle.report.specs.Report.{reportOn, reportOf, packed};
+ghost use Rattle.numbers.specs.Answer.{answerOf};
 
 fn wide(x: u8) -> u64
     ensures { λ r. ⌜ (r ≡ x) × (r < 256) ⌝ }
@@ -73,7 +74,7 @@ fn report_on(n: Negotiation, i: usize) -> u64
 
 // The report on a node, or a refusal number.
 pub fn report(tables: &[u8], negotiation: &[u8], node: u8) -> u64
-    ensures { λ r. ⌜ r ≡ answerOf (reportOf (now (tables .entry)) (now (negotiation .entry)) node) ⌝ }
+    ensures { λ r. ⌜ r ≡ answerOf packed (reportOf (now (tables .entry)) (now (negotiation .entry)) node) ⌝ }
 {
     let r = restore(tables, negotiation);
     if r.refusal != 0 {

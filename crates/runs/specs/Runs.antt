@@ -1,4 +1,6 @@
 -- The calls of a run, what each leaves, and where the tables of two runs differ (document 01, "Two runs"). Assumes nothing.
+use Rattle.report.specs.Report.{packed}
+use Rattle.reply.specs.Reply.{lengthOf}
 use Prim.Native.Nat.{ℕ}
 use mathlib.Core.Path.{_≡_}
 use mathlib.Core.Bool.{true}
@@ -13,6 +15,7 @@ use Rattle.take.specs.Take as K
 use Rattle.moves.specs.Known.{isAcknowledged}
 use Rattle.reply.specs.Reply as A
 use Rattle.report.specs.Report as B
+use Rattle.numbers.specs.Answer.{Answer, refused, accepted, answerOf, noValue}
 
 -- "its arguments, and what its other buffers hold at its start, belong to the list": a message and the scratch, a reply buffer and the scratch,
 -- a node
@@ -28,18 +31,18 @@ pub record Left : Type 0 where
   pub others : List (List ℕ)
 
 -- take leaves its message as it was
-unfoldable pub takeLeft : List ℕ → List ℕ → List ℕ → K.Outcome → Left
+unfoldable pub takeLeft : List ℕ → List ℕ → List ℕ → Answer State → Left
 takeLeft negotiation message scratch o =
-    record { answer = K.answerOf o; negotiation = K.negotiationLeft negotiation o; others = message ∷ K.scratchLeft scratch o ∷ [] }
+    record { answer = answerOf noValue o; negotiation = K.negotiationLeft negotiation o; others = message ∷ K.scratchLeft scratch o ∷ [] }
 
 -- "A reply is its length and bytes"
-unfoldable pub replyLeft : List ℕ → List ℕ → List ℕ → A.Outcome → Left
+unfoldable pub replyLeft : List ℕ → List ℕ → List ℕ → Answer (List ℕ × State) → Left
 replyLeft negotiation buffer scratch o =
-    record { answer = A.answerOf o; negotiation = A.negotiationLeft negotiation o; others = A.replyLeft buffer o ∷ A.scratchLeft scratch o ∷ [] }
+    record { answer = answerOf lengthOf o; negotiation = A.negotiationLeft negotiation o; others = A.replyLeft buffer o ∷ A.scratchLeft scratch o ∷ [] }
 
 -- "states and counts are all that report gives"; it changes no buffer
-unfoldable pub reportLeft : List ℕ → B.Reported → Left
-reportLeft negotiation o = record { answer = B.answerOf o; negotiation = negotiation; others = [] }
+unfoldable pub reportLeft : List ℕ → Answer Report → Left
+reportLeft negotiation o = record { answer = answerOf packed o; negotiation = negotiation; others = [] }
 
 -- "Each call is lent its run's tables and negotiation"
 unfoldable pub leftBy : List ℕ → List ℕ → Call → Left
@@ -55,13 +58,13 @@ run tables negotiation (c ∷ cs) = leftBy tables negotiation c ∷ run tables (
 -- The graph
 
 -- what a message accepted or a reply given leads to
-abbrev pub takenTo : State → K.Outcome → State
-takenTo S (K.refused k) = S
-takenTo S (K.accepted N) = N
+abbrev pub takenTo : State → Answer State → State
+takenTo S (refused k) = S
+takenTo S (accepted N) = N
 
-abbrev pub givenTo : State → A.Outcome → State
-givenTo S (A.refused k) = S
-givenTo S (A.given m N) = N
+abbrev pub givenTo : State → Answer (List ℕ × State) → State
+givenTo S (refused k) = S
+givenTo S (accepted (m, N)) = N
 
 unfoldable pub afterCall : List ℕ → State → Call → State
 afterCall tables S (take message scratch) = takenTo S (K.takeOf tables (stateBytes S) message scratch)

@@ -7,24 +7,21 @@ use mathlib.Core.Option.{Option, none, some}
 use lib.Dec.{eqb}
 use lib.ListN.{length}
 use Rattle.tables.specs.Tables.{Tables}
-use Rattle.tables.specs.Check.{Outcome, refused, accepted, readTables}
+use Rattle.tables.specs.Check.{readTables}
 use Rattle.negotiation.specs.State.{State}
 use Rattle.damage.specs.Damage.{readSound}
+use Rattle.numbers.specs.Answer.{Answer, refused, accepted, onward}
+use Rattle.numbers.specs.Refusals.{LENGTH, DAMAGED}
+use Rattle.numbers.specs.Sizes.{NEGOTIATION-BYTES}
 
--- a refusal number, or the tables and the negotiation's state
-pub data Standing : Type 0 where
-  refusal : ℕ → Standing
-  standing : Tables → State → Standing
+-- the tables and the negotiation's state, or "20 negotiation damaged"
+abbrev pub behindDamage : Tables → Option State → Answer (Tables × State)
+behindDamage T none = refused DAMAGED
+behindDamage T (some S) = accepted (T, S)
 
--- "20 negotiation damaged"
-abbrev pub behindDamage : Tables → Option State → Standing
-behindDamage T none = refusal 20
-behindDamage T (some S) = standing T S
-
-abbrev pub behindTables : List ℕ → Outcome → Standing
-behindTables negotiation (refused k) = refusal k
-behindTables negotiation (accepted T) = behindDamage T (readSound T negotiation)
+abbrev pub behindTables : List ℕ → Answer Tables → Answer (Tables × State)
+behindTables negotiation a = onward (λ T. behindDamage T (readSound T negotiation)) a
 
 -- "negotiation 5,120 exactly"
-unfoldable pub restoreOf : List ℕ → List ℕ → Standing
-restoreOf tables negotiation = cond (eqb (length negotiation) 5120) (behindTables negotiation (readTables tables)) (refusal 1)
+unfoldable pub restoreOf : List ℕ → List ℕ → Answer (Tables × State)
+restoreOf tables negotiation = cond (eqb (length negotiation) NEGOTIATION-BYTES) (behindTables negotiation (readTables tables)) (refused LENGTH)

@@ -22,6 +22,8 @@ use Rattle.record.specs.declared.RecordAnswer.the-variants as a
 use Rattle.record.specs.Record.{recordAt, sizeOf}
 use Rattle.tables.specs.Tables.{Tables, unread, added}
 use Rattle.tables.specs.Lookup.{holds, isSensitive}
+use Rattle.numbers.specs.Answer.{Answer, refused, accepted, judged, answerOf, noValue}
+use Rattle.numbers.specs.Refusals.{LENGTH, NAME, CLASS, ORDER}
 
 -- the first number that is not zero
 abbrev pub orElse : ℕ → ℕ → ℕ
@@ -34,7 +36,7 @@ suitsStorage false k = eqb k 1 || eqb k 2
 
 -- 4 or 5 of a stored credential
 unfoldable pub storedNumber : List Name → Bool → Credential → ℕ
-storedNumber ns subject c = orElse (credentialNumber ns c) (cond (suitsStorage subject (classOf ns (c .head .name))) 0 5)
+storedNumber ns subject c = orElse (credentialNumber ns c) (cond (suitsStorage subject (classOf ns (c .head .name))) 0 CLASS)
 
 -- "Sensitive roles have class 3. An AC record needs the direct credential, role from self, in 0x13, and the role in 0x14."
 abbrev pub suitsPair : Bool → Tables → Role → Bool
@@ -44,8 +46,8 @@ suitsPair false T r = eqb (classOf (T .names) (r .name)) 3
 -- 4 or 5 of a sensitive role and its Ack or AC role
 unfoldable pub pairNumber : Bool → Tables → Pair → ℕ
 pairNumber access T p =
-    cond (eqb (classOf (T .names) (p .role .name)) 0 || eqb (classOf (T .names) (p .other .name)) 0) 4
-    (cond (suitsPair access T (p .role)) 0 5)
+    cond (eqb (classOf (T .names) (p .role .name)) 0 || eqb (classOf (T .names) (p .other .name)) 0) NAME
+    (cond (suitsPair access T (p .role)) 0 CLASS)
 
 -- "4 a name without class", "5 a class rule broken", or zero
 unfoldable pub classNumber : Tables → Record → ℕ
@@ -89,27 +91,18 @@ room T (Access p) = ltb (length (T .access)) MOST-ACCESS
 
 -- "6 tables out of order, repeated, self missing, or a size passed"
 unfoldable pub orderNumber : Tables → Record → ℕ
-orderNumber T r = cond (inOrder T r && above T r && room T r) 0 6
+orderNumber T r = cond (inOrder T r && above T r && room T r) 0 ORDER
 
 -- a record behind those of T: the first of 4, 5 and 6 that it earns, or zero
 unfoldable pub judge : Tables → Record → ℕ
 judge T r = orElse (classNumber T r) (orderNumber T r)
 
--- a refusal number, or the tables
-pub data Outcome : Type 0 where
-  refused : ℕ → Outcome
-  accepted : Tables → Outcome
-
-abbrev pub judged : ℕ → Outcome → Outcome
-judged zero next = next
-judged (suc k) next = refused (suc k)
-
-abbrev pub onRecord : (ℕ → Tables → Outcome) → Tables → RecordAnswer → Outcome
+abbrev pub onRecord : (ℕ → Tables → Answer Tables) → Tables → RecordAnswer → Answer Tables
 onRecord next T (a.Refused k) = refused k
 onRecord next T (a.Read r) = judged (judge T r) (next (sizeOf r) (added T r))
 
 -- the records from an index on, behind those of T. The first number is at least that of the bytes left.
-unfoldable pub recordsFrom : ℕ → List ℕ → ℕ → Tables → Outcome
+unfoldable pub recordsFrom : ℕ → List ℕ → ℕ → Tables → Answer Tables
 recordsFrom zero s at T = accepted T
 recordsFrom (suc n) s at T =
     cond (ltb at (length s)) (onRecord (λ size U. recordsFrom n s (at + size) U) T (recordAt s at)) (accepted T)
@@ -119,13 +112,9 @@ unfoldable pub sized : ℕ → Bool
 sized n = ltb 0 n && leb n MOST-TABLES-BYTES
 
 -- what the bytes of tables are
-unfoldable pub readTables : List ℕ → Outcome
-readTables s = cond (sized (length s)) (recordsFrom (length s) s 0 unread) (refused 1)
-
-abbrev pub numberOf : Outcome → ℕ
-numberOf (refused k) = k
-numberOf (accepted T) = 0
+unfoldable pub readTables : List ℕ → Answer Tables
+readTables s = cond (sized (length s)) (recordsFrom (length s) s 0 unread) (refused LENGTH)
 
 -- the answer of the check: zero, or the refusal number
 unfoldable pub checkOf : List ℕ → ℕ
-checkOf s = numberOf (readTables s)
+checkOf s = answerOf noValue (readTables s)

@@ -11,23 +11,15 @@ use Rattle.negotiation.specs.State.{State}
 use Rattle.applied.specs.Step.{stepped, isMove}
 use Rattle.legal.specs.Number.{legalNumber}
 use Rattle.message.specs.Message.{isEnd}
+use Rattle.numbers.specs.Answer.{Answer, refused, accepted, judged}
+use Rattle.numbers.specs.Refusals.{COMMAND}
 
--- a refusal number, or the state that the commands lead to, and whether an open, an edge or a mark was among them
-pub data Taken : Type 0 where
-  refused : ℕ → Taken
-  taken : State → Bool → Taken
-
--- a command that is judged
-abbrev pub judged : ℕ → Taken → Taken
-judged zero next = next
-judged (suc k) next = refused (suc k)
-
--- an end ends the message; another command is carried out, and the next is read
-abbrev pub onCommand : (ℕ → State → Bool → Taken) → List Name → ℕ → State → Bool → CommandAnswer → Taken
+-- the state that commands lead to, and whether an open, an edge or a mark was among them: an end ends the message; another command is carried out, and the next is read
+abbrev pub onCommand : (ℕ → State → Bool → Answer (State × Bool)) → List Name → ℕ → State → Bool → CommandAnswer → Answer (State × Bool)
 onCommand next ns s S moved (Refused k) = refused k
-onCommand next ns s S moved (Read c) = judged (legalNumber ns s S c) (cond (isEnd c) (taken S moved) (next (sizeOf c) (stepped S s c) (moved || isMove c)))
+onCommand next ns s S moved (Read c) = judged (legalNumber ns s S c) (cond (isEnd c) (accepted (S, moved)) (next (sizeOf c) (stepped S s c) (moved || isMove c)))
 
 -- the commands from an index on, sent by side s. The first number is at least that of the bytes left.
-unfoldable pub commandsFrom : ℕ → List Name → ℕ → List ℕ → ℕ → State → Bool → Taken
-commandsFrom zero ns s m at S moved = refused 2
+unfoldable pub commandsFrom : ℕ → List Name → ℕ → List ℕ → ℕ → State → Bool → Answer (State × Bool)
+commandsFrom zero ns s m at S moved = refused COMMAND
 commandsFrom (suc f) ns s m at S moved = onCommand (λ size T v. commandsFrom f ns s m (at + size) T v) ns s S moved (commandAt m at)

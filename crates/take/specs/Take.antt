@@ -11,47 +11,36 @@ use Rattle.standing.specs.Standing as R
 use Rattle.applied.specs.After.{afterMessage}
 use Rattle.take.specs.Commands as C
 use Rattle.standing.specs.Turn.{sends, senderTo}
-
--- a refusal number, or the state of the negotiation that the message leads to
-pub data Outcome : Type 0 where
-  refused : ℕ → Outcome
-  accepted : State → Outcome
+use Rattle.numbers.specs.Refusals.{LENGTH, TURN, ENDED}
+use Rattle.numbers.specs.Sizes.{MOST-MESSAGE-BYTES, SCRATCH-BYTES}
+use Rattle.numbers.specs.Answer.{Answer, refused, accepted, onward, left}
 
 -- the end is judged after the message
-abbrev pub behindCommands : C.Taken → Outcome
-behindCommands (C.refused k) = refused k
-behindCommands (C.taken S moved) = accepted (afterMessage S moved false)
+abbrev pub behindCommands : Answer (State × Bool) → Answer State
+behindCommands a = onward (λ x. accepted (afterMessage (x .0) (x .1) false)) a
 
 -- "22 already ended", "21 not that side's turn", then the commands left to right
-unfoldable pub takenIn : List ℕ → Tables → State → Outcome
+unfoldable pub takenIn : List ℕ → Tables → State → Answer State
 takenIn message T S =
-    cond (not (eqb (S .header .end) 0)) (refused 22)
-    (cond (not (sends (senderTo S) (S .header .messages))) (refused 21)
+    cond (not (eqb (S .header .end) 0)) (refused ENDED)
+    (cond (not (sends (senderTo S) (S .header .messages))) (refused TURN)
     (behindCommands (C.commandsFrom (length message) (T .names) (senderTo S) message 0 S false)))
 
-abbrev pub behindStanding : List ℕ → R.Standing → Outcome
-behindStanding message (R.refusal k) = refused k
-behindStanding message (R.standing T S) = takenIn message T S
+abbrev pub behindStanding : List ℕ → Answer (Tables × State) → Answer State
+behindStanding message a = onward (λ x. takenIn message (x .0) (x .1)) a
 
 -- "message 1 to 4,096", "scratch 4,096 exactly"
 unfoldable pub messageSize : ℕ → ℕ → Bool
-messageSize message scratch = leb 1 message && leb message 4096 && eqb scratch 4096
+messageSize message scratch = leb 1 message && leb message MOST-MESSAGE-BYTES && eqb scratch SCRATCH-BYTES
 
 -- "Order: 1, tables 2 to 6 record by record .., 20, 22, 21, then commands left to right, each by rising number"
-unfoldable pub takeOf : List ℕ → List ℕ → List ℕ → List ℕ → Outcome
+unfoldable pub takeOf : List ℕ → List ℕ → List ℕ → List ℕ → Answer State
 takeOf tables negotiation message scratch =
-    cond (messageSize (length message) (length scratch)) (behindStanding message (R.restoreOf tables negotiation)) (refused 1)
-
--- "Calls: check tables, begin, take a message (these return 0)"
-abbrev pub answerOf : Outcome → ℕ
-answerOf (refused k) = k
-answerOf (accepted S) = 0
+    cond (messageSize (length message) (length scratch)) (behindStanding message (R.restoreOf tables negotiation)) (refused LENGTH)
 
 -- "Each returns its number alone; no buffer changes. .. After acceptance, take changes the negotiation .. set the scratch to zero"
-abbrev pub negotiationLeft : List ℕ → Outcome → List ℕ
-negotiationLeft before (refused k) = before
-negotiationLeft before (accepted S) = stateBytes S
+abbrev pub negotiationLeft : List ℕ → Answer State → List ℕ
+negotiationLeft before a = left stateBytes before a
 
-abbrev pub scratchLeft : List ℕ → Outcome → List ℕ
-scratchLeft before (refused k) = before
-scratchLeft before (accepted S) = zeros (length before)
+abbrev pub scratchLeft : List ℕ → Answer State → List ℕ
+scratchLeft before a = left (λ S. zeros (length before)) before a

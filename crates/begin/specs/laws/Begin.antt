@@ -14,12 +14,13 @@ use Rattle.class.specs.laws.Names.{namesOf}
 use Rattle.class.specs.Names.{classOf}
 use Rattle.tables.specs.declared.Decoded.{Decoded}
 use Rattle.tables.specs.laws.Tables.{tablesOf}
-use Rattle.tables.specs.Check.{orElse, Outcome, refused, accepted, readTables}
+use Rattle.tables.specs.Check.{orElse, readTables}
 use Rattle.tables.specs.laws.Check.{outcomeOf}
 use Rattle.tables.specs.laws.DecodingLaws.{outcome-refused}
 use Rattle.negotiation.specs.State.{State, freshState, within}
 use Rattle.negotiation.specs.Layout.{stateBytes}
-use Rattle.begin.specs.Begin.{isRequester, roleNumber, otherNumber, beginNumber, sideOf, begunState, Begun, refusal, numbered, behindTables, beginOf, answerOf, leftOf}
+use Rattle.begin.specs.Begin.{isRequester, roleNumber, otherNumber, beginNumber, sideOf, begunState, behindTables, beginOf, leftOf}
+use Rattle.numbers.specs.Answer.{Answer, refused, accepted, answerOf, noValue}
 
 -- The wanted role and the other end
 
@@ -52,15 +53,15 @@ side-by entity name h b e = λ i. cond ((sym e ∙ h) i) 1 0
 -- The call
 
 -- the answer and the bytes that a call leaves
-abbrev pub Leaves : List ℕ → Begun → ℕ → List ℕ → Type 0
-Leaves n x r b = (r ≡ answerOf x) × (b ≡ leftOf n x)
+abbrev pub Leaves : List ℕ → Answer State → ℕ → List ℕ → Type 0
+Leaves n x r b = (r ≡ answerOf noValue x) × (b ≡ leftOf n x)
 
 -- a refused call leaves the bytes as they were
-leaves-refused : (n : List ℕ) (x : Begun) (k : ℕ) → x ≡ refusal k → Leaves n x k n
-leaves-refused n x k h = (sym (ap answerOf h), sym (ap (leftOf n) h))
+leaves-refused : (n : List ℕ) (x : Answer State) (k : ℕ) → x ≡ refused k → Leaves n x k n
+leaves-refused n x k h = (sym (ap (answerOf noValue) h), sym (ap (leftOf n) h))
 
 -- a number that is not zero refuses
-numbered-refused : (k : ℕ) (S : State) → (k ≡ 0 → ⊥) → numbered k S ≡ refusal k
+numbered-refused : (k : ℕ) (S : State) → (k ≡ 0 → ⊥) → numbered k S ≡ refused k
 numbered-refused zero S z = absurd (z refl)
 numbered-refused (suc k) S z = refl
 
@@ -75,13 +76,13 @@ or-else-second k m z = ap (λ (b : Bool). cond b m k) (eq-eqb k 0 z)
 pub begin-outside : (s n : List ℕ) (other entity name : ℕ) → (length n ≡ NEGOTIATION-BYTES → ⊥) → Leaves n (beginOf s n other entity name) 1 n
 unfolding beginOf
 begin-outside s n other entity name h =
-    leaves-refused n _ 1 (ap (λ (b : Bool). cond b (behindTables other entity name (readTables s)) (refusal 1)) (ne-eqb (length n) NEGOTIATION-BYTES h))
+    leaves-refused n _ 1 (ap (λ (b : Bool). cond b (behindTables other entity name (readTables s)) (refused 1)) (ne-eqb (length n) NEGOTIATION-BYTES h))
 
 module _ (s n : List ℕ) (other entity name : ℕ) (d : Decoded) (size : length n ≡ NEGOTIATION-BYTES) (h : outcomeOf d ≡ readTables s) where
-  inside : (o : Outcome) → outcomeOf d ≡ o → beginOf s n other entity name ≡ behindTables other entity name o
+  inside : (o : Answer Tables) → outcomeOf d ≡ o → beginOf s n other entity name ≡ behindTables other entity name o
   unfolding beginOf
   inside o q =
-      ap (λ (b : Bool). cond b (behindTables other entity name (readTables s)) (refusal 1)) (eq-eqb (length n) NEGOTIATION-BYTES size)
+      ap (λ (b : Bool). cond b (behindTables other entity name (readTables s)) (refused 1)) (eq-eqb (length n) NEGOTIATION-BYTES size)
       ∙ ap (behindTables other entity name) (sym h ∙ q)
 
   -- the tables are refused
@@ -115,7 +116,7 @@ module _ (s n : List ℕ) (other entity name : ℕ) (d : Decoded) (size : length
       unfolding begunState tablesOf
       begin-fresh z e f w =
           let q = numbers 0 (second ∙ z) in
-          (sym (ap answerOf q), w ∙ ap stateBytes (f ∙ ap (λ (x : ℕ). freshState x (d .house .own) other (roleOf entity name)) e) ∙ sym (ap (leftOf n) q))
+          (sym (ap (answerOf noValue) q), w ∙ ap stateBytes (f ∙ ap (λ (x : ℕ). freshState x (d .house .own) other (roleOf entity name)) e) ∙ sym (ap (leftOf n) q))
 
 -- a fresh negotiation is within the sizes
 pub within-fresh : (S : State) (side own other : ℕ) (wanted : Role) → S ≡ freshState side own other wanted → within S ≡ true

@@ -15,15 +15,16 @@ use Rattle.rt0.specs.From.{roleOf}
 use Rattle.class.specs.declared.Name.{Name}
 use Rattle.class.specs.Names.{classOf}
 use Rattle.tables.specs.Tables.{Tables}
-use Rattle.tables.specs.Check.{orElse, accepted, readTables}
+use Rattle.tables.specs.Check.{orElse, readTables}
 use Rattle.tables.specs.Public.{Public, publicOf}
 use Rattle.negotiation.specs.State.{State, freshState}
 use Rattle.negotiation.specs.Layout.{stateBytes}
 use Rattle.negotiation.specs.laws.Codec.{state-back}
 use Rattle.damage.specs.Header.{wantedSound, otherSound, headerSound, emptySound}
 use Rattle.damage.specs.Damage.{sound, ifSound, readSound}
-use Rattle.begin.specs.Begin.{isRequester, roleNumber, otherNumber, beginNumber, sideOf, begunState, Begun, refusal, begun, numbered, behindTables, beginOf}
+use Rattle.begin.specs.Begin.{isRequester, roleNumber, otherNumber, beginNumber, sideOf, begunState, behindTables, beginOf}
 use Rattle.begin.specs.laws.Begin.{within-fresh}
+use Rattle.numbers.specs.Answer.{Answer, refused, accepted}
 
 -- Not damaged
 
@@ -86,8 +87,8 @@ begun-sound T other entity name h =
 -- Over bytes
 
 -- an accepted begin makes the state of its tables
-module _ (tables negotiation : List ℕ) (other entity name : ℕ) {T : Tables} {S : State} (h : beginOf tables negotiation other entity name ≡ begun S) (t : readTables tables ≡ accepted T) where
-  begun-number : (k : ℕ) (U : State) → numbered k U ≡ begun S → (k ≡ 0) × (U ≡ S)
+module _ (tables negotiation : List ℕ) (other entity name : ℕ) {T : Tables} {S : State} (h : beginOf tables negotiation other entity name ≡ accepted S) (t : readTables tables ≡ accepted T) where
+  begun-number : (k : ℕ) (U : State) → numbered k U ≡ accepted S → (k ≡ 0) × (U ≡ S)
   begun-number zero U e = (refl, cc)
   begun-number (suc k) U e = absurd (let z : _≡_ {A = ℕ} 0 1 = cc in omega arith)
 
@@ -95,7 +96,7 @@ module _ (tables negotiation : List ℕ) (other entity name : ℕ) {T : Tables} 
   unfolding beginOf
   begun-only = go (eqb (length negotiation) NEGOTIATION-BYTES) h
     where
-      go : (b : Bool) → cond b (behindTables other entity name (readTables tables)) (refusal 1) ≡ begun S → (beginNumber T other entity name ≡ 0) × (begunState T other entity name ≡ S)
+      go : (b : Bool) → cond b (behindTables other entity name (readTables tables)) (refused 1) ≡ accepted S → (beginNumber T other entity name ≡ 0) × (begunState T other entity name ≡ S)
       go true e = begun-number (beginNumber T other entity name) (begunState T other entity name) (sym (ap (behindTables other entity name) t) ∙ e)
       go false e = absurd (let z : _≡_ {A = ℕ} 0 1 = cc in omega arith)
 
@@ -122,5 +123,5 @@ pub begin-alike : (s t negotiation : List ℕ) (other entity name : ℕ) {T U : 
 unfolding beginOf
 begin-alike s t negotiation other entity name {T} {U} p q h =
     let e = begin-public T U other entity name h in
-    ap (λ (x : Begun). cond (eqb (length negotiation) NEGOTIATION-BYTES) x (refusal 1))
+    ap (λ (x : Answer State). cond (eqb (length negotiation) NEGOTIATION-BYTES) x (refused 1))
     (ap (behindTables other entity name) p ∙ (λ i. numbered (e .0 i) (e .1 i)) ∙ sym (ap (behindTables other entity name) q))

@@ -21,7 +21,7 @@ use Rattle.message.specs.Message.{messageBytes}
 use Rattle.applied.specs.Step.{moved}
 use Rattle.take.specs.Commands as C
 use Rattle.standing.specs.Turn.{sends, senderTo}
-use Rattle.take.specs.Take.{refused, accepted, behindCommands, takenIn}
+use Rattle.take.specs.Take.{behindCommands, takenIn}
 use Rattle.take.specs.laws.TakenExactly.{carried as commands-taken}
 use Rattle.legality.specs.laws.Kept.{updates-header}
 use Rattle.legality.specs.Mirror.{Mirrored, Mirror}
@@ -29,6 +29,7 @@ use Rattle.legality.specs.laws.Mirror.{mirror-state}
 use Rattle.reply.specs.Reply.{replyIn, repliedState, replyBytes}
 use Rattle.exchange.specs.Mirror.{otherAfter}
 use Rattle.reply.specs.laws.ReplyLegal.{reply-going, reply-updates, reply-mirrored}
+use Rattle.numbers.specs.Answer.{Answer, refused, accepted}
 
 -- what the other end reaches with it
 module _ (T : Tables) (t : Sound T) (S : State) (h : sound T S ≡ true) (w : within S ≡ true) (turn : sends (S .header .side) (S .header .messages) ≡ true) (R : State) (m : Mirror S R) where
@@ -44,7 +45,7 @@ module _ (T : Tables) (t : Sound T) (S : State) (h : sound T S ≡ true) (w : wi
   end-legal ns = record { some = omega (arith, reply-going T t S h w turn .some) }
 
   -- the commands are carried out
-  reply-carried : (b : List ℕ) → b ≡ messageBytes (replyIn T S .commands) → C.commandsFrom (length b) (T .names) (S .header .side) b 0 (withHeader S (R .header)) false ≡ C.taken (withHeader (replyIn T S .state) (R .header)) (moved (replyIn T S .commands))
+  reply-carried : (b : List ℕ) → b ≡ messageBytes (replyIn T S .commands) → C.commandsFrom (length b) (T .names) (S .header .side) b 0 (withHeader S (R .header)) false ≡ accepted (withHeader (replyIn T S .state) (R .header), moved (replyIn T S .commands))
   reply-carried b e = commands-taken (T .names) (S .header .side) b (reply-mirrored T t S h w turn (R .header) (m .header)) (end-legal (T .names)) (length b) 0 false e (omega (arith, ap length e))
 
   -- another end that has the same names and holds the same graph and credentials takes the reply, where it is our turn and its negotiation has not ended
@@ -52,7 +53,7 @@ module _ (T : Tables) (t : Sound T) (S : State) (h : sound T S ≡ true) (w : wi
   unfolding takenIn replyBytes
   reply-legal U names count going =
       let b : List ℕ = messageBytes (replyIn T S .commands) in
-      let x : C.Taken = C.commandsFrom (length b) (U .names) (senderTo R) b 0 R false in
+      let x : Answer (State × Bool) = C.commandsFrom (length b) (U .names) (senderTo R) b 0 R false in
       let e : eqb (R .header .end) 0 ≡ true = eq-eqb (R .header .end) 0 going in
       let f : sends (senderTo R) (R .header .messages) ≡ true = (λ i. sends (sender i) (count i)) ∙ turn in
       (λ i. cond (not (e i)) (refused 22) (cond (not (f i)) (refused 21) (behindCommands x)))

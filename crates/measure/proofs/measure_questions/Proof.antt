@@ -8,20 +8,20 @@ use lib.ListN.{length}
 use Rattle.rt0.specs.laws.Pool.{credentials}
 use Rattle.expression.specs.declared.ExpressionAnswer.{ExpressionAnswer}
 use Rattle.expression.specs.declared.ExpressionAnswer.the-variants.{Read}
-use Rattle.question.specs.Credentials.{listed}
 use Rattle.question.specs.laws.Credentials.{listed-all, listed-refused, list-refusal}
-use Rattle.question.specs.Question.{sized, operandOf, answered, questionOf}
+use Rattle.question.specs.Question.{sized, operandOf, yesOrNo, answered, questionOf}
 use Rattle.question.specs.laws.Question.{true-sized, question-outside, question-inside}
 use Rattle.measure.specs.laws.RepeatedLaws.{count-most, repeated-refused, repeated-answer}
 use borrow.Author.Needs.{needs}
 use Rattle.measure.proofs.measure_questions.Statement.{statement}
 use Rattle.measure.proofs.measure_questions.Tie as tie
+use Rattle.numbers.specs.Answer.{accepted, answerOf}
 
 abbrev Inside : tie.Start → Type 0
 Inside s = sized (length (s .args .credentials .now)) (length (s .args .f .now)) (length (s .args .e .now)) ≡ true
 
 abbrev answerAt : tie.Start → ℕ
-answerAt s = questionOf (s .args .credentials .now) (s .args .f .now) (s .args .e .now)
+answerAt s = answerOf yesOrNo (questionOf (s .args .credentials .now) (s .args .f .now) (s .args .e .now))
 
 -- the lengths are within the sizes
 inside : (c : tie.Else1) → Inside (c .before .before .before .before .before)
@@ -29,12 +29,12 @@ inside c = sym (c .before .sized .ensures) ∙ not-false _ (c .if1 .left)
 
 -- the credentials were read
 with-list : (c : tie.Else2) {p q : ExpressionAnswer} → operandOf (c .before .before .before .before .before .before .before .before .args .f .now) ≡ p → operandOf (c .before .before .before .before .before .before .before .before .args .e .now) ≡ q
-    → answered (listed (credentials (c .before .before .list .result .pool))) p q ≡ answerAt (c .before .before .before .before .before .before .before .before)
+    → answerOf yesOrNo (answered (accepted (credentials (c .before .before .list .result .pool))) p q) ≡ answerAt (c .before .before .before .before .before .before .before .before)
 with-list c h k = question-inside _ _ _ _ _ _ (inside (c .before .before .before)) (sym (c .before .before .list .ensures .0) ∙ listed-all (c .before .before .list .result) (c .if2 .left)) h k
 
 -- and f
 with-first : (c : tie.After-known-told) {q : ExpressionAnswer} → operandOf (c .before .before .before .before .before .before .before .before .before .before .before .before .args .e .now) ≡ q
-    → answered (listed (credentials (c .before .before .before .before .before .before .list .result .pool))) (Read (c .before .x .given .0 .0)) q ≡ answerAt (c .before .before .before .before .before .before .before .before .before .before .before .before)
+    → answerOf yesOrNo (answered (accepted (credentials (c .before .before .before .before .before .before .list .result .pool))) (Read (c .before .x .given .0 .0)) q) ≡ answerAt (c .before .before .before .before .before .before .before .before .before .before .before .before)
 with-first c k = with-list (c .before .before .before .before) (sym (c .before .before .before .operand .ensures) ∙ c .before .x .given .1) k
 
 returns : tie.Need-returns

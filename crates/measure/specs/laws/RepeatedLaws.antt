@@ -5,7 +5,7 @@ use mathlib.Core.Logic.{⊎-elim}
 use mathlib.Core.Bool.{Bool, true, false}
 use native.Mathlib.Omega.{arith}
 use Rattle.word.specs.laws.Bools.{false-true}
-use Rattle.question.specs.Question.{answerOf}
+use Rattle.question.specs.Question.{yesOrNo}
 use Rattle.question.specs.laws.Question.{Refused}
 use Rattle.measure.specs.laws.Repeated.{countOf, repeatedOf}
 
@@ -40,10 +40,10 @@ repeated-refused t n q h e = subst (λ (m : ℕ). n ≡ repeatedOf t m) e (⊎-e
     once m k own = subst (λ (x : ℕ). x ≡ repeatedOf t x) (sym k) own
 
 -- an answer
-pub repeated-answer : (t r q : ℕ) (b : Bool) → r ≡ countOf b t → answerOf b ≡ q → r * 256 ≡ repeatedOf t q
-unfolding repeatedOf countOf answerOf
+pub repeated-answer : (t r q : ℕ) (b : Bool) → r ≡ countOf b t → yesOrNo b * 256 ≡ q → r * 256 ≡ repeatedOf t q
+unfolding repeatedOf countOf
 repeated-answer t r q b h e = ap (λ (x : ℕ). x * 256) h ∙ by b ∙ ap (repeatedOf t) e
   where
-    by : (a : Bool) → countOf a t * 256 ≡ repeatedOf t (answerOf a)
+    by : (a : Bool) → countOf a t * 256 ≡ repeatedOf t (yesOrNo a * 256)
     by true = refl
     by false = omega arith

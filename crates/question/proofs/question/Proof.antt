@@ -1,24 +1,24 @@
 use mathlib.Core.Path.{_≡_, refl, sym, ap, _∙_}
-use mathlib.Core.Bool.{true}
+use mathlib.Core.Bool.{Bool, true}
 use borrow.Author.Tests.{not-true, not-false}
-use Prim.Native.Nat.{ℕ}
+use Prim.Native.Nat.{ℕ, _*_}
 use lib.ListN.{length}
 use Rattle.rt0.specs.laws.Pool.{credentials}
 use Rattle.expression.specs.declared.ExpressionAnswer.{ExpressionAnswer}
 use Rattle.expression.specs.declared.ExpressionAnswer.the-variants.{Read}
-use Rattle.question.specs.Credentials.{listed}
 use Rattle.question.specs.laws.Credentials.{listed-all, listed-refused}
-use Rattle.question.specs.Question.{sized, operandOf, answerOf, answered, questionOf}
+use Rattle.question.specs.Question.{sized, operandOf, yesOrNo, answered, questionOf}
 use Rattle.question.specs.laws.Question.{true-sized, question-outside, question-inside}
 use borrow.Author.Needs.{needs}
 use Rattle.question.proofs.question.Statement.{statement}
 use Rattle.question.proofs.question.Tie as tie
+use Rattle.numbers.specs.Answer.{accepted, answerOf}
 
 abbrev Inside : tie.Start → Type 0
 Inside s = sized (length (s .args .credentials .now)) (length (s .args .f .now)) (length (s .args .e .now)) ≡ true
 
 abbrev answerAt : tie.Start → ℕ
-answerAt s = questionOf (s .args .credentials .now) (s .args .f .now) (s .args .e .now)
+answerAt s = answerOf yesOrNo (questionOf (s .args .credentials .now) (s .args .f .now) (s .args .e .now))
 
 -- the lengths are within the sizes
 inside : (c : tie.Else1) → Inside (c .before .before .before .before .before)
@@ -26,12 +26,12 @@ inside c = sym (c .before .sized .ensures) ∙ not-false _ (c .if1 .left)
 
 -- the credentials were read
 with-list : (c : tie.Else2) {p q : ExpressionAnswer} → operandOf (c .before .before .before .before .before .before .before .before .args .f .now) ≡ p → operandOf (c .before .before .before .before .before .before .before .before .args .e .now) ≡ q
-    → answered (listed (credentials (c .before .before .list .result .pool))) p q ≡ answerAt (c .before .before .before .before .before .before .before .before)
+    → answerOf yesOrNo (answered (accepted (credentials (c .before .before .list .result .pool))) p q) ≡ answerAt (c .before .before .before .before .before .before .before .before)
 with-list c h k = question-inside _ _ _ _ _ _ (inside (c .before .before .before)) (sym (c .before .before .list .ensures .0) ∙ listed-all (c .before .before .list .result) (c .if2 .left)) h k
 
 -- and f
 with-first : (c : tie.After-known-told) {q : ExpressionAnswer} → operandOf (c .before .before .before .before .before .before .before .before .before .before .before .before .args .e .now) ≡ q
-    → answered (listed (credentials (c .before .before .before .before .before .before .list .result .pool))) (Read (c .before .x .given .0 .0)) q ≡ answerAt (c .before .before .before .before .before .before .before .before .before .before .before .before)
+    → answerOf yesOrNo (answered (accepted (credentials (c .before .before .before .before .before .before .list .result .pool))) (Read (c .before .x .given .0 .0)) q) ≡ answerAt (c .before .before .before .before .before .before .before .before .before .before .before .before)
 with-first c k = with-list (c .before .before .before .before) (sym (c .before .before .before .operand .ensures) ∙ c .before .x .given .1) k
 
 returns : tie.Need-returns
@@ -56,7 +56,7 @@ returns-4 : tie.Need-returns-4
 returns-4 c = with-first (c .before .before .before) (sym (c .before .before .operand2 .ensures) ∙ c .enum-told2 .given .1)
 
 returns-5 : tie.Need-returns-5
-returns-5 c = c .answer .ensures ∙ ap answerOf (c .before .from .ensures) ∙ with-first (c .before .before .before .before .before .before) (sym (c .before .before .before .before .before .operand2 .ensures) ∙ c .before .before .before .y .given .1)
+returns-5 c = c .answer .ensures ∙ ap (λ (b : Bool). yesOrNo b * 256) (c .before .from .ensures) ∙ with-first (c .before .before .before .before .before .before) (sym (c .before .before .before .before .before .operand2 .ensures) ∙ c .before .before .before .y .given .1)
 
 pub question-spec : {M : Type 1} → statement M
 question-spec =

@@ -20,12 +20,13 @@ use Rattle.numbers.specs.Bytes.{CREDENTIAL-BYTES}
 use Rattle.numbers.specs.Sizes.{MOST-CREDENTIALS, MOST-CREDENTIALS-BYTES}
 use Rattle.rt0.specs.declared.Pool.{Pool}
 use Rattle.rt0.specs.laws.Added.{count-length}
-use Rattle.question.specs.Credentials.{taken, credentialStep, endStep, commandStep, stepAt, Listed, refused, listed, after, listFrom, credentialsOf}
+use Rattle.question.specs.Credentials.{taken, credentialStep, endStep, commandStep, stepAt, after, listFrom, credentialsOf}
 use Rattle.question.specs.Asked.{Refusal}
+use Rattle.numbers.specs.Answer.{Answer, refused, accepted}
 
 -- what a listing says: its refusal number, or its pool's credentials where that is zero
-unfoldable pub listedOf : Listing → Listed
-listedOf l = cond (eqb (l .refusal) 0) (listed (credentials (l .pool))) (refused (l .refusal))
+unfoldable pub listedOf : Listing → Answer (List Credential)
+listedOf l = cond (eqb (l .refusal) 0) (accepted (credentials (l .pool))) (refused (l .refusal))
 
 -- The command at an index
 
@@ -110,9 +111,9 @@ step-refusal s at k h = subst (Sure s at) h (sure s at)
 
 -- The list
 
-abbrev SureList : Listed → Type 0
+abbrev SureList : Answer (List Credential) → Type 0
 SureList (refused k) = Refusal k
-SureList (listed C) = Unit {0}
+SureList (accepted C) = Unit {0}
 
 sure-list : (n : ℕ) (s : List ℕ) (at : ℕ) (C : List Credential) → SureList (listFrom n s at C)
 unfolding listFrom
@@ -136,14 +137,14 @@ past zero s at C h = refl
 past (suc n) s at C h = ap (λ (t : Bool). after (listFrom n s (at + CREDENTIAL-BYTES)) C (cond t (commandStep s at (getD s at 0)) (Refused 2))) (le-ltb at (length s) h)
 
 -- a listing that is not refused
-pub listed-all : (l : Listing) → l .refusal ≡ 0 → listedOf l ≡ listed (credentials (l .pool))
+pub listed-all : (l : Listing) → l .refusal ≡ 0 → listedOf l ≡ accepted (credentials (l .pool))
 unfolding listedOf
-listed-all l h = ap (λ (t : Bool). cond t (listed (credentials (l .pool))) (refused (l .refusal))) (eq-eqb (l .refusal) 0 h)
+listed-all l h = ap (λ (t : Bool). cond t (accepted (credentials (l .pool))) (refused (l .refusal))) (eq-eqb (l .refusal) 0 h)
 
 -- a listing that is refused
 pub listed-refused : (l : Listing) → (l .refusal ≡ 0 → ⊥) → listedOf l ≡ refused (l .refusal)
 unfolding listedOf
-listed-refused l h = ap (λ (t : Bool). cond t (listed (credentials (l .pool))) (refused (l .refusal))) (ne-eqb (l .refusal) 0 h)
+listed-refused l h = ap (λ (t : Bool). cond t (accepted (credentials (l .pool))) (refused (l .refusal))) (ne-eqb (l .refusal) 0 h)
 
 -- a listing says what the bytes mean, and its pool has at most 64 credentials
 abbrev Lists : List ℕ → Listing → Type 0

@@ -1,5 +1,5 @@
 -- What an answer says of the question, and that every question has one of five answers. Assumes nothing.
-use Prim.Native.Nat.{ℕ, _<_}
+use Prim.Native.Nat.{ℕ, _<_, _*_}
 use mathlib.Core.Path.{_≡_, refl, sym, ap, _∙_, subst}
 use mathlib.Core.Logic.{_⊎_, inl, inr, ⊎-elim}
 use mathlib.Core.Bool.{Bool, true, false, cond, _&&_}
@@ -21,10 +21,12 @@ use Rattle.rt0.specs.From.{From}
 use Rattle.rt0.specs.Decide.{from?}
 use Rattle.word.specs.laws.Bools.{false-true}
 use Rattle.rt0.specs.laws.Laws.{from-exact}
-use Rattle.question.specs.Credentials.{Listed, refused, listed, credentialsOf}
+use Rattle.question.specs.Credentials.{credentialsOf}
 use Rattle.question.specs.Asked.{Refusal, Sized, Asked}
 use Rattle.question.specs.laws.Credentials.{list-refusal}
-use Rattle.question.specs.Question.{sized, askable, operandOf, answerOf, answered, questionOf}
+use Rattle.question.specs.Question.{sized, askable, operandOf, yesOrNo, answered, questionOf}
+use Rattle.numbers.specs.Answer.{Answer, refused, accepted, answerOf}
+use Rattle.numbers.specs.Refusals.{LENGTH}
 
 -- bytes of wrong form
 pub operand-wrong : (s : List ℕ) → readOf s 0 ≡ Wrong → Wrong ≡ operandOf s
@@ -59,19 +61,23 @@ true-sized c f e h =
     }
 
 -- a length outside the sizes
-pub question-outside : (c f e : List ℕ) → sized (length c) (length f) (length e) ≡ false → 1 ≡ questionOf c f e
+pub question-outside : (c f e : List ℕ) → sized (length c) (length f) (length e) ≡ false → 1 ≡ answerOf yesOrNo (questionOf c f e)
 unfolding questionOf
-question-outside c f e h = sym (ap (λ (t : Bool). cond t (answered (credentialsOf c) (operandOf f) (operandOf e)) 1) h)
+question-outside c f e h = sym (ap (λ (t : Bool). answerOf yesOrNo (cond t (answered (credentialsOf c) (operandOf f) (operandOf e)) (refused LENGTH))) h)
 
 -- lengths within the sizes: the answer by what the bytes are read as
-pub question-inside : (c f e : List ℕ) (l : Listed) (p q : ExpressionAnswer) → sized (length c) (length f) (length e) ≡ true → credentialsOf c ≡ l → operandOf f ≡ p
+pub question-read : (c f e : List ℕ) (l : Answer (List Credential)) (p q : ExpressionAnswer) → sized (length c) (length f) (length e) ≡ true → credentialsOf c ≡ l → operandOf f ≡ p
     → operandOf e ≡ q → answered l p q ≡ questionOf c f e
 unfolding questionOf
-question-inside c f e l p q h u v w = λ i. cond (sym h i) (answered (sym u i) (sym v i) (sym w i)) 1
+question-read c f e l p q h u v w = λ i. cond (sym h i) (answered (sym u i) (sym v i) (sym w i)) (refused LENGTH)
+
+pub question-inside : (c f e : List ℕ) (l : Answer (List Credential)) (p q : ExpressionAnswer) → sized (length c) (length f) (length e) ≡ true → credentialsOf c ≡ l → operandOf f ≡ p
+    → operandOf e ≡ q → answerOf yesOrNo (answered l p q) ≡ answerOf yesOrNo (questionOf c f e)
+question-inside c f e l p q h u v w = ap (answerOf yesOrNo) (question-read c f e l p q h u v w)
 
 -- the answer to a question that is asked in right form
-pub question-asked : {c f e : List ℕ} {C : List Credential} {x y : Expression} → Asked c f e C x y → questionOf c f e ≡ answerOf (from? C x y)
-question-asked {c} {f} {e} h = sym (question-inside c f e _ _ _ (sized-true (h .sizes)) (h .credentials) (h .first) (h .second))
+pub question-asked : {c f e : List ℕ} {C : List Credential} {x y : Expression} → Asked c f e C x y → questionOf c f e ≡ accepted (from? C x y)
+question-asked {c} {f} {e} h = sym (question-read c f e _ _ _ (sized-true (h .sizes)) (h .credentials) (h .first) (h .second))
 
 -- a refusal number
 abbrev pub Refused : ℕ → Type 0
@@ -79,31 +85,30 @@ Refused n = (n ≡ 1) ⊎ Refusal n
 
 -- the question that the lent bytes ask has the answer n
 abbrev pub Answered : List ℕ → List ℕ → List ℕ → ℕ → Type 0
-Answered c f e n = (C : List Credential) × (x : Expression) × (y : Expression) × Asked c f e C x y × (n ≡ answerOf (from? C x y))
+Answered c f e n = (C : List Credential) × (x : Expression) × (y : Expression) × Asked c f e C x y × (n ≡ yesOrNo (from? C x y) * 256)
 
 -- every call is refused or answers a question
-pub question-cases : (c f e : List ℕ) → Refused (questionOf c f e) ⊎ Answered c f e (questionOf c f e)
+pub question-cases : (c f e : List ℕ) → Refused (answerOf yesOrNo (questionOf c f e)) ⊎ Answered c f e (answerOf yesOrNo (questionOf c f e))
 unfolding questionOf
 question-cases c f e = size (sized (length c) (length f) (length e)) refl
   where
-    read : (l : Listed) (p q : ExpressionAnswer) → sized (length c) (length f) (length e) ≡ true → credentialsOf c ≡ l → operandOf f ≡ p → operandOf e ≡ q
-        → Refused (answered l p q) ⊎ Answered c f e (answered l p q)
+    read : (l : Answer (List Credential)) (p q : ExpressionAnswer) → sized (length c) (length f) (length e) ≡ true → credentialsOf c ≡ l → operandOf f ≡ p → operandOf e ≡ q
+        → Refused (answerOf yesOrNo (answered l p q)) ⊎ Answered c f e (answerOf yesOrNo (answered l p q))
     read (refused k) p q h l a b = inl (inr (list-refusal c k l))
-    read (listed C) Wrong q h l a b = inl (inr (inr refl))
-    read (listed C) (Read x) Wrong h l a b = inl (inr (inr refl))
-    read (listed C) (Read x) (Read y) h l a b = inr (C, x, y, record { sizes = true-sized (length c) (length f) (length e) h; credentials = l; first = a; second = b }, refl)
+    read (accepted C) Wrong q h l a b = inl (inr (inr refl))
+    read (accepted C) (Read x) Wrong h l a b = inl (inr (inr refl))
+    read (accepted C) (Read x) (Read y) h l a b = inr (C, x, y, record { sizes = true-sized (length c) (length f) (length e) h; credentials = l; first = a; second = b }, refl)
 
-    size : (t : Bool) → sized (length c) (length f) (length e) ≡ t → (let n : ℕ = cond t (answered (credentialsOf c) (operandOf f) (operandOf e)) 1 in Refused n ⊎ Answered c f e n)
+    size : (t : Bool) → sized (length c) (length f) (length e) ≡ t → (let n : ℕ = answerOf yesOrNo (cond t (answered (credentialsOf c) (operandOf f) (operandOf e)) (refused LENGTH)) in Refused n ⊎ Answered c f e n)
     size true h = read (credentialsOf c) (operandOf f) (operandOf e) h refl refl refl
     size false h = inl (inl refl)
 
-yes-or-no : (b : Bool) → ((b ≡ true) × (answerOf b ≡ 256)) ⊎ ((b ≡ false) × (answerOf b ≡ 0))
-unfolding answerOf
+yes-or-no : (b : Bool) → ((b ≡ true) × (yesOrNo b * 256 ≡ 256)) ⊎ ((b ≡ false) × (yesOrNo b * 256 ≡ 0))
 yes-or-no true = inl (refl, refl)
 yes-or-no false = inr (refl, refl)
 
 -- the answer is no, yes or one of three refusal numbers
-pub question-numbers : (c f e : List ℕ) (n : ℕ) → questionOf c f e ≡ n → (n ≡ 0) ⊎ ((n ≡ 256) ⊎ ((n ≡ 1) ⊎ ((n ≡ 2) ⊎ (n ≡ 3))))
+pub question-numbers : (c f e : List ℕ) (n : ℕ) → answerOf yesOrNo (questionOf c f e) ≡ n → (n ≡ 0) ⊎ ((n ≡ 256) ⊎ ((n ≡ 1) ⊎ ((n ≡ 2) ⊎ (n ≡ 3))))
 question-numbers c f e n h =
     ⊎-elim (λ r. inr (inr (subst Refused h r)))
     (λ w. ⊎-elim (λ y. inr (inl (sym h ∙ w .4 ∙ y .1))) (λ y. inl (sym h ∙ w .4 ∙ y .1)) (yes-or-no (from? (w .0) (w .1) (w .2)))) (question-cases c f e)
@@ -112,13 +117,13 @@ refused-number : (n : ℕ) → Refused n → (0 < n) × (n < 4)
 refused-number n h = ⊎-elim (λ e. (omega arith, omega arith)) (λ r. ⊎-elim (λ e. (omega arith, omega arith)) (λ e. (omega arith, omega arith)) r) h
 
 -- yes is answered only where the relation holds
-pub question-yes : (c f e : List ℕ) → questionOf c f e ≡ 256 → (C : List Credential) × (x : Expression) × (y : Expression) × Asked c f e C x y × From C x y
+pub question-yes : (c f e : List ℕ) → answerOf yesOrNo (questionOf c f e) ≡ 256 → (C : List Credential) × (x : Expression) × (y : Expression) × Asked c f e C x y × From C x y
 question-yes c f e h =
     ⊎-elim (λ r. absurd (omega (arith, refused-number _ r)))
     (λ w. (w .0, w .1, w .2, w .3, from-exact (w .0) (w .1) (w .2) .0 (⊎-elim (λ y. y .0) (λ y. absurd (omega (arith, w .4, y .1))) (yes-or-no (from? (w .0) (w .1) (w .2)))))) (question-cases c f e)
 
 -- no is answered only where it does not
-pub question-no : (c f e : List ℕ) → questionOf c f e ≡ 0 → (C : List Credential) × (x : Expression) × (y : Expression) × Asked c f e C x y × (From C x y → ⊥)
+pub question-no : (c f e : List ℕ) → answerOf yesOrNo (questionOf c f e) ≡ 0 → (C : List Credential) × (x : Expression) × (y : Expression) × Asked c f e C x y × (From C x y → ⊥)
 question-no c f e h =
     ⊎-elim (λ r. absurd (omega (arith, refused-number _ r)))
     (λ w. (w .0, w .1, w .2, w .3, λ k. ⊎-elim (λ y. omega (arith, w .4, y .1)) (λ y. false-true (sym (y .0) ∙ from-exact (w .0) (w .1) (w .2) .1 k)) (yes-or-no (from? (w .0) (w .1) (w .2))))) (question-cases c f e)

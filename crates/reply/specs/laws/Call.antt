@@ -23,48 +23,49 @@ use Rattle.damage.specs.Damage.{readSound}
 use Rattle.standing.specs.Standing as R
 use Rattle.standing.specs.laws.Standing as RLaws
 use Rattle.reply.specs.declared.Replying.{Replying}
-use Rattle.reply.specs.Reply.{Outcome, refused, repliedIn, behindStanding, replySize, replyOf, answerOf, negotiationLeft, replyLeft, scratchLeft}
+use Rattle.reply.specs.Reply.{repliedIn, behindStanding, replySize, replyOf, negotiationLeft, replyLeft, scratchLeft, lengthOf}
 use Rattle.reply.specs.laws.Reply.{Replies}
+use Rattle.numbers.specs.Answer.{Answer, refused, accepted, answerOf}
 
 -- Tables that stand are sound
 
-abbrev isStanding : R.Standing → Bool
-isStanding (R.refusal k) = false
-isStanding (R.standing T S) = true
+abbrev isStanding : Answer (Tables × State) → Bool
+isStanding (refused k) = false
+isStanding (accepted (T, S)) = true
 
-abbrev tablesIn : Tables → R.Standing → Tables
-tablesIn T (R.refusal k) = T
-tablesIn T (R.standing U S) = U
+abbrev tablesIn : Tables → Answer (Tables × State) → Tables
+tablesIn T (refused k) = T
+tablesIn T (accepted (U, S)) = U
 
-standing-sound : (tables negotiation : List ℕ) (T : Tables) (S : State) → R.restoreOf tables negotiation ≡ R.standing T S → Sound T
+standing-sound : (tables negotiation : List ℕ) (T : Tables) (S : State) → R.restoreOf tables negotiation ≡ accepted (T, S) → Sound T
 unfolding R.restoreOf
 standing-sound tables negotiation T S e = by-length (eqb (length negotiation) 5120) e
   where
-    by-damage : (U : Tables) (o : Option State) → C.readTables tables ≡ C.accepted U → R.behindDamage U o ≡ R.standing T S → Sound T
+    by-damage : (U : Tables) (o : Option State) → C.readTables tables ≡ accepted U → R.behindDamage U o ≡ accepted (T, S) → Sound T
     by-damage U none q h = absurd (false-true (ap isStanding h))
     by-damage U (some W) q h = subst Sound (ap (tablesIn T) h) (accepted-sound tables U q)
 
-    by-tables : (o : C.Outcome) → C.readTables tables ≡ o → R.behindTables negotiation o ≡ R.standing T S → Sound T
-    by-tables (C.refused k) q h = absurd (false-true (ap isStanding h))
-    by-tables (C.accepted U) q h = by-damage U (readSound U negotiation) q h
+    by-tables : (o : Answer Tables) → C.readTables tables ≡ o → R.behindTables negotiation o ≡ accepted (T, S) → Sound T
+    by-tables (refused k) q h = absurd (false-true (ap isStanding h))
+    by-tables (accepted U) q h = by-damage U (readSound U negotiation) q h
 
-    by-length : (b : Bool) → cond b (R.behindTables negotiation (C.readTables tables)) (R.refusal 1) ≡ R.standing T S → Sound T
+    by-length : (b : Bool) → cond b (R.behindTables negotiation (C.readTables tables)) (refused 1) ≡ accepted (T, S) → Sound T
     by-length true h = by-tables (C.readTables tables) refl h
     by-length false h = absurd (false-true (ap isStanding h))
 
 -- The buffers
 
 -- what a call leaves
-abbrev Leaves : List ℕ → List ℕ → List ℕ → Outcome → ℕ → List ℕ → List ℕ → List ℕ → Type 0
-Leaves negotiation reply scratch o r n p s = (r ≡ answerOf o) × ((n ≡ negotiationLeft negotiation o) × ((p ≡ replyLeft reply o) × (s ≡ scratchLeft scratch o)))
+abbrev Leaves : List ℕ → List ℕ → List ℕ → Answer (List ℕ × State) → ℕ → List ℕ → List ℕ → List ℕ → Type 0
+Leaves negotiation reply scratch o r n p s = (r ≡ answerOf lengthOf o) × ((n ≡ negotiationLeft negotiation o) × ((p ≡ replyLeft reply o) × (s ≡ scratchLeft scratch o)))
 
 module _ (tables negotiation reply scratch : List ℕ) where
-  by-size : (b : Bool) → replySize (length reply) (length scratch) ≡ b → (s : R.Standing) → R.restoreOf tables negotiation ≡ s → replyOf tables negotiation reply scratch ≡ cond b (behindStanding s) (refused 1)
+  by-size : (b : Bool) → replySize (length reply) (length scratch) ≡ b → (s : Answer (Tables × State)) → R.restoreOf tables negotiation ≡ s → replyOf tables negotiation reply scratch ≡ cond b (behindStanding s) (refused 1)
   unfolding replyOf
   by-size b x s y = λ i. cond (x i) (behindStanding (y i)) (refused 1)
 
   refuses : (k : ℕ) {p : List ℕ} → replyOf tables negotiation reply scratch ≡ refused k → p ≡ reply → Leaves negotiation reply scratch (replyOf tables negotiation reply scratch) k negotiation p scratch
-  refuses k {p} e q = subst (λ (o : Outcome). Leaves negotiation reply scratch o k negotiation p scratch) (sym e) (refl, (refl, (q, refl)))
+  refuses k {p} e q = subst (λ (o : Answer (List ℕ × State)). Leaves negotiation reply scratch o k negotiation p scratch) (sym e) (refl, (refl, (q, refl)))
 
   module _ {b : Bool} (be : b ≡ replySize (length reply) (length scratch)) where
     -- a length
@@ -85,19 +86,19 @@ module _ (tables negotiation reply scratch : List ℕ) where
         -- the tables or the negotiation
         pub reply-unrestored : (r .refusal ≡ 0 → ⊥) → Leaves negotiation reply scratch (replyOf tables negotiation reply scratch) (r .refusal) negotiation reply scratch
         unfolding RLaws.standingOf
-        reply-unrestored h = refuses (r .refusal) (by-size true sized (R.refusal (r .refusal)) (sym re ∙ ap (λ (b : Bool). cond b (R.standing (tablesOf (r .house)) (stateOf (r .negotiation))) (R.refusal (r .refusal))) (ne-eqb (r .refusal) 0 h))) refl
+        reply-unrestored h = refuses (r .refusal) (by-size true sized (refused (r .refusal)) (sym re ∙ ap (λ (b : Bool). cond b (accepted (tablesOf (r .house), stateOf (r .negotiation))) (refused (r .refusal))) (ne-eqb (r .refusal) 0 h))) refl
 
         module _ (rz : r .refusal ≡ 0) where
-          stands : R.restoreOf tables negotiation ≡ R.standing (tablesOf (r .house)) (stateOf (r .negotiation))
+          stands : R.restoreOf tables negotiation ≡ accepted (tablesOf (r .house), stateOf (r .negotiation))
           unfolding RLaws.standingOf
-          stands = sym re ∙ ap (λ (b : Bool). cond b (R.standing (tablesOf (r .house)) (stateOf (r .negotiation))) (R.refusal (r .refusal))) (eq-eqb (r .refusal) 0 rz)
+          stands = sym re ∙ ap (λ (b : Bool). cond b (accepted (tablesOf (r .house), stateOf (r .negotiation))) (refused (r .refusal))) (eq-eqb (r .refusal) 0 rz)
 
           pub restored-sound : Sound (tablesOf (r .house))
           restored-sound = standing-sound tables negotiation (tablesOf (r .house)) (stateOf (r .negotiation)) stands
 
           module _ (t : Replying) {p : List ℕ} (te : Replies (tablesOf (r .house)) (stateOf (r .negotiation)) reply t p) where
             is-outcome : replyOf tables negotiation reply scratch ≡ repliedIn (tablesOf (r .house)) (stateOf (r .negotiation))
-            is-outcome = by-size true sized (R.standing (tablesOf (r .house)) (stateOf (r .negotiation))) stands
+            is-outcome = by-size true sized (accepted (tablesOf (r .house), stateOf (r .negotiation))) stands
 
             -- the end or the turn
             pub reply-refused : (t .refusal ≡ 0 → ⊥) → Leaves negotiation reply scratch (replyOf tables negotiation reply scratch) (t .refusal) negotiation p scratch
@@ -107,5 +108,5 @@ module _ (tables negotiation reply scratch : List ℕ) where
                 → Leaves negotiation reply scratch (replyOf tables negotiation reply scratch) (t .at * 256) n p s
             reply-given {n} {s} tz ne se =
                 let l : length scratch ≡ 4096 = size-parts .1 in
-                subst (λ (o : Outcome). Leaves negotiation reply scratch o (t .at * 256) n p s) (sym (is-outcome ∙ te .gives tz))
+                subst (λ (o : Answer (List ℕ × State)). Leaves negotiation reply scratch o (t .at * 256) n p s) (sym (is-outcome ∙ te .gives tz))
                 (ap (λ (k : ℕ). k * 256) (te .size tz), (ne, (te .written tz, se ∙ paste-whole scratch (zeros 4096) (length-zeros 4096 ∙ sym l) ∙ ap zeros (sym l))))

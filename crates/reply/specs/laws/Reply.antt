@@ -39,7 +39,7 @@ use Rattle.moves.specs.Carried.{carried}
 use Rattle.legality.specs.laws.Going.{Going}
 use Rattle.legality.specs.laws.Kept.{sound-going, opening-going, updates-header}
 use Rattle.reply.specs.declared.Replying.{Replying}
-use Rattle.reply.specs.Reply.{Replied, opening, replyIn, repliedState, replyBytes, refused, given, repliedIn}
+use Rattle.reply.specs.Reply.{Replied, opening, replyIn, repliedState, replyBytes, repliedIn}
 use Rattle.reply.specs.laws.Outgoing.{bytes-append, one-length}
 use Rattle.reply.specs.laws.Carry.{paste-length, pasted-behind}
 use Rattle.reply.specs.laws.Turns.{behind, restFrom, from-rest, bytes-behind}
@@ -47,6 +47,7 @@ use Rattle.reply.specs.laws.Turn.{going-ready}
 use Rattle.reply.specs.laws.Writing.{Gives}
 use Rattle.reply.specs.laws.Moved.{reply-moved}
 use Rattle.reply.specs.laws.ReplyLegal.{first-side, no-messages, reply-updates}
+use Rattle.numbers.specs.Answer.{refused, accepted}
 
 -- The open
 
@@ -166,7 +167,7 @@ pasted-front d xs = let z : 0 + length xs ≡ length xs = omega arith in λ i. t
 -- the code's answer is what a reply in this state comes to
 pub record Replies (T : Tables) (S : State) (d₀ : List ℕ) (r : Replying) (d : List ℕ) : Type 0 where
   pub refuses : (r .refusal ≡ 0 → ⊥) → (repliedIn T S ≡ refused (r .refusal)) × (d ≡ d₀)
-  pub gives : r .refusal ≡ 0 → repliedIn T S ≡ given (replyBytes (replyIn T S)) (stateOf (r .negotiation))
+  pub gives : r .refusal ≡ 0 → repliedIn T S ≡ accepted (replyBytes (replyIn T S), stateOf (r .negotiation))
   pub written : r .refusal ≡ 0 → d ≡ replyBytes (replyIn T S) ++ drop (length (replyBytes (replyIn T S))) d₀
   pub size : r .refusal ≡ 0 → r .at ≡ length (replyBytes (replyIn T S))
   pub few : r .refusal ≡ 0 → r .at ≤ 4096
@@ -174,9 +175,9 @@ pub record Replies (T : Tables) (S : State) (d₀ : List ℕ) (r : Replying) (d 
 
 module _ (T : Tables) (n : Negotiation) where
   by-tests : (a b : Bool) → not (eqb (n .header .end) 0) ≡ a → not (sends (n .header .side) (n .header .messages)) ≡ b
-      → repliedIn T (stateOf n) ≡ cond a (refused 22) (cond b (refused 21) (given (replyBytes (replyIn T (stateOf n))) (repliedState (replyIn T (stateOf n)))))
+      → repliedIn T (stateOf n) ≡ cond a (refused 22) (cond b (refused 21) (accepted (replyBytes (replyIn T (stateOf n)), repliedState (replyIn T (stateOf n)))))
   unfolding repliedIn stateOf
-  by-tests a b x y = λ i. cond (x i) (refused 22) (cond (y i) (refused 21) (given (replyBytes (replyIn T (stateOf n))) (repliedState (replyIn T (stateOf n)))))
+  by-tests a b x y = λ i. cond (x i) (refused 22) (cond (y i) (refused 21) (accepted (replyBytes (replyIn T (stateOf n)), repliedState (replyIn T (stateOf n)))))
 
   not-given : (d : List ℕ) (r : Replying) (k : ℕ) → repliedIn T (stateOf n) ≡ refused k → (k ≡ 0 → ⊥) → r .refusal ≡ k → Replies T (stateOf n) d r d
   not-given d r k q z e =
@@ -239,7 +240,7 @@ module _ (T : Tables) (n : Negotiation) where
               ∙ ap (pasted d₀ 0) (bytes-append (A .commands) (End ∷ []) ∙ ap (λ (l : List ℕ). bytesOf (A .commands) ++ l) (append-nil (commandBytes End)) ∙ sym (message-end (A .commands))) in
               record {
                 refuses = λ h. absurd (h e);
-                gives = λ h. by-tests false false (ap not (eq-eqb (n .header .end) 0 z)) (ap not in-turn) ∙ ap (given (replyBytes A)) (sym state);
+                gives = λ h. by-tests false false (ap not (eq-eqb (n .header .end) 0 z)) (ap not in-turn) ∙ ap (λ (x : State). accepted (replyBytes A, x)) (sym state);
                 written = λ h. written ∙ pasted-front d₀ (messageBytes (A .commands));
                 size = λ h. omega (arith, se, size, all);
                 few = λ h. omega (arith, se, g .most);

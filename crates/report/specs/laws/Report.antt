@@ -5,7 +5,7 @@ use mathlib.Core.List.{List}
 use lib.Dec.{ltb, eqb}
 use lib.ListN.{length, getD}
 use Rattle.graph.specs.Propagated.{stateOf, satisfiedB, failedB, completeB}
-use Rattle.standing.specs.Standing.{Standing, refusal, standing, restoreOf}
+use Rattle.standing.specs.Standing.{restoreOf}
 use native.Mathlib.Omega.{arith}
 use mathlib.Core.Path.{_≡_, refl, sym, _∙_, ap, subst}
 use mathlib.Core.Logic.{⊎-elim}
@@ -30,7 +30,8 @@ use Rattle.damage.specs.Header.{endSound}
 use Rattle.damage.specs.Damage.{sound}
 use Rattle.standing.specs.laws.Standing.{standingOf}
 use Rattle.damage.specs.laws.Damage.{graph-parts, held-graph, held-legal}
-use Rattle.report.specs.Report.{Report, reportOn, refused, reported, behindNegotiation, reportOf, packed, unpacked, answerOf}
+use Rattle.report.specs.Report.{Report, reportOn, behindNegotiation, reportOf, packed, unpacked}
+use Rattle.numbers.specs.Answer.{Answer, refused, accepted, answerOf}
 
 -- a report of these numbers
 abbrev pub numbered : ℕ → ℕ → ℕ → ℕ → ℕ → ℕ → ℕ → Report
@@ -75,22 +76,22 @@ packed-back r a b c d e f =
 
 module _ (tables negotiation : List ℕ) (i : ℕ) (R : Restored) (e : standingOf R ≡ restoreOf tables negotiation) where
   -- the tables or the negotiation are refused
-  pub report-refused : (R .refusal ≡ 0 → ⊥) → R .refusal ≡ answerOf (reportOf tables negotiation i)
+  pub report-refused : (R .refusal ≡ 0 → ⊥) → R .refusal ≡ answerOf packed (reportOf tables negotiation i)
   unfolding reportOf standingOf
-  report-refused h = sym (ap (λ (s : Standing). answerOf (behindNegotiation i s)) (sym e ∙ ap (λ (b : Bool). cond b (standing (tablesOf (R .house)) (stateHeld (R .negotiation))) (refusal (R .refusal))) (ne-eqb (R .refusal) 0 h)))
+  report-refused h = sym (ap (λ (s : Answer (Tables × State)). answerOf packed (behindNegotiation i s)) (sym e ∙ ap (λ (b : Bool). cond b (accepted (tablesOf (R .house), stateHeld (R .negotiation))) (refused (R .refusal))) (ne-eqb (R .refusal) 0 h)))
 
   module _ (z : R .refusal ≡ 0) where
-    by-node : (b : Bool) → ltb i (length (nodesOf (R .negotiation .nodes))) ≡ b → answerOf (reportOf tables negotiation i) ≡ answerOf (cond b (reported (reportOn (stateHeld (R .negotiation)) i)) (refused 24))
+    by-node : (b : Bool) → ltb i (length (nodesOf (R .negotiation .nodes))) ≡ b → answerOf packed (reportOf tables negotiation i) ≡ answerOf packed (cond b (accepted (reportOn (stateHeld (R .negotiation)) i)) (refused 24))
     unfolding reportOf standingOf stateHeld
     by-node b q =
-        ap (λ (s : Standing). answerOf (behindNegotiation i s)) (sym e ∙ ap (λ (b : Bool). cond b (standing (tablesOf (R .house)) (stateHeld (R .negotiation))) (refusal (R .refusal))) (eq-eqb (R .refusal) 0 z))
-        ∙ ap (λ (b : Bool). answerOf (cond b (reported (reportOn (stateHeld (R .negotiation)) i)) (refused 24))) q
+        ap (λ (s : Answer (Tables × State)). answerOf packed (behindNegotiation i s)) (sym e ∙ ap (λ (b : Bool). cond b (accepted (tablesOf (R .house), stateHeld (R .negotiation))) (refused (R .refusal))) (eq-eqb (R .refusal) 0 z))
+        ∙ ap (λ (b : Bool). answerOf packed (cond b (accepted (reportOn (stateHeld (R .negotiation)) i)) (refused 24))) q
 
     -- an absent node
-    pub report-absent : {k : ℕ} → k ≡ i → R .negotiation .nodes .count ≤ k → 24 ≡ answerOf (reportOf tables negotiation i)
+    pub report-absent : {k : ℕ} → k ≡ i → R .negotiation .nodes .count ≤ k → 24 ≡ answerOf packed (reportOf tables negotiation i)
     report-absent ke l = sym (by-node false (le-ltb i (length (nodesOf (R .negotiation .nodes))) (omega (arith, nodes-length (R .negotiation .nodes)))))
 
-    pub report-node : {k v : ℕ} → k ≡ i → k < R .negotiation .nodes .count → v ≡ packed (reportOn (stateHeld (R .negotiation)) k) → v * 256 ≡ answerOf (reportOf tables negotiation i)
+    pub report-node : {k v : ℕ} → k ≡ i → k < R .negotiation .nodes .count → v ≡ packed (reportOn (stateHeld (R .negotiation)) k) → v * 256 ≡ answerOf packed (reportOf tables negotiation i)
     report-node {k} {v} ke l ve = sym (by-node true (lt-ltb i (length (nodesOf (R .negotiation .nodes))) (omega (arith, nodes-length (R .negotiation .nodes)))) ∙ sym (ap (λ (n : ℕ). n * 256) (ve ∙ ap (λ (n : ℕ). packed (reportOn (stateHeld (R .negotiation)) n)) ke)))
 
 -- In code

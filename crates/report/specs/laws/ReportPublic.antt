@@ -3,11 +3,12 @@ use Prim.Native.Nat.{ℕ}
 use mathlib.Core.Path.{_≡_, sym, _∙_, ap}
 use mathlib.Core.List.{List}
 use Rattle.tables.specs.Tables.{Tables}
-use Rattle.tables.specs.Check.{accepted, readTables}
+use Rattle.tables.specs.Check.{readTables}
 use Rattle.tables.specs.Public.{publicOf}
 use Rattle.standing.specs.Standing.{restoreOf}
 use Rattle.standing.specs.laws.StandingPublic.{Alike, refused, found, restore-alike}
 use Rattle.report.specs.Report.{behindNegotiation, reportOf}
+use Rattle.numbers.specs.Answer.{refused, accepted}
 
 pub report-public : (s t : List ℕ) (T U : Tables) → readTables s ≡ accepted T → readTables t ≡ accepted U → publicOf T ≡ publicOf U → (negotiation : List ℕ) (i : ℕ) → reportOf s negotiation i ≡ reportOf t negotiation i
 unfolding reportOf

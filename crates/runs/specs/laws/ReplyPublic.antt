@@ -10,8 +10,7 @@ use lib.Dec.{eqb}
 use lib.ListN.{length}
 use Rattle.tables.specs.Tables.{Tables}
 use Rattle.word.specs.laws.Bools.{false-true}
-use Rattle.tables.specs.Check as C
-use Rattle.tables.specs.Check.{accepted, readTables}
+use Rattle.tables.specs.Check.{readTables}
 use Rattle.tables.specs.Public.{publicOf}
 use Rattle.negotiation.specs.State.{State, within, withHeader}
 use Rattle.negotiation.specs.laws.Codec.{read-within}
@@ -26,9 +25,10 @@ use Rattle.take.specs.Take as KLaws
 use Rattle.take.specs.laws.TakeKept.{Took, took}
 use Rattle.moves.specs.Known.{isAcknowledged}
 use Rattle.moves.specs.laws.Known.{isDisclosed}
-use Rattle.reply.specs.Reply.{Replied, replyIn, repliedState, replyBytes, Outcome, refused, given, repliedIn, behindStanding, replySize, replyOf}
+use Rattle.reply.specs.Reply.{Replied, replyIn, repliedState, replyBytes, repliedIn, behindStanding, replySize, replyOf}
 use Rattle.runs.specs.laws.Stays.{Stays, within-kept, OpenIn, open-kept, reply-stays, commands-stay}
 use Rattle.runs.specs.laws.TwoReplies.{replies-alike}
+use Rattle.numbers.specs.Answer.{Answer, refused, accepted}
 
 -- A message leaves the graph, and the header's side and other end
 
@@ -49,25 +49,25 @@ open-replied T U r = after-open T U (r .state) (moved (r .commands)) (r .full)
 
 -- What a call finds is within the sizes
 
-abbrev stateFound : State → R.Standing → State
-stateFound S (R.refusal k) = S
-stateFound S (R.standing T A) = A
+abbrev stateFound : State → Answer (Tables × State) → State
+stateFound S (refused k) = S
+stateFound S (accepted (T, A)) = A
 
-abbrev isFound : R.Standing → Bool
-isFound (R.refusal k) = false
-isFound (R.standing T A) = true
+abbrev isFound : Answer (Tables × State) → Bool
+isFound (refused k) = false
+isFound (accepted (T, A)) = true
 
-pub restored-within : (s negotiation : List ℕ) (T W : Tables) (S : State) → readTables s ≡ accepted T → R.restoreOf s negotiation ≡ R.standing W S → within S ≡ true
+pub restored-within : (s negotiation : List ℕ) (T W : Tables) (S : State) → readTables s ≡ accepted T → R.restoreOf s negotiation ≡ accepted (W, S) → within S ≡ true
 unfolding R.restoreOf readSound
 restored-within s negotiation T W S h a =
     let b : Bool = eqb (length negotiation) 5120 in
-    go b (readState negotiation) refl (sym (ap (λ (o : C.Outcome). cond b (R.behindTables negotiation o) (R.refusal 1)) h) ∙ a)
+    go b (readState negotiation) refl (sym (ap (λ (o : Answer Tables). cond b (R.behindTables negotiation o) (refused 1)) h) ∙ a)
   where
-    found : (b : Bool) (A : State) → readState negotiation ≡ some A → R.behindDamage T (cond b (some A) none) ≡ R.standing W S → within S ≡ true
+    found : (b : Bool) (A : State) → readState negotiation ≡ some A → R.behindDamage T (cond b (some A) none) ≡ accepted (W, S) → within S ≡ true
     found true A q k = ap within (sym (ap (stateFound S) k)) ∙ read-within negotiation A q
     found false A q k = absurd (false-true (ap isFound k))
 
-    go : (b : Bool) (x : Option State) → readState negotiation ≡ x → cond b (R.behindDamage T (ifSound T x)) (R.refusal 1) ≡ R.standing W S → within S ≡ true
+    go : (b : Bool) (x : Option State) → readState negotiation ≡ x → cond b (R.behindDamage T (ifSound T x)) (refused 1) ≡ accepted (W, S) → within S ≡ true
     go false x q k = absurd (false-true (ap isFound k))
     go true none q k = absurd (false-true (ap isFound k))
     go true (some A) q k = found (sound T A) A q k
@@ -75,19 +75,19 @@ restored-within s negotiation T W S h a =
 -- The call
 
 -- no differing role's Ack target is satisfied in what the call leaves; a refusal leaves what was there
-abbrev pub Quiet : Tables → Tables → Outcome → Type 0
+abbrev pub Quiet : Tables → Tables → Answer (List ℕ × State) → Type 0
 Quiet T U (refused k) = Unit {0}
-Quiet T U (given m S) = isDisclosed T U S ≡ false
+Quiet T U (accepted (m, S)) = isDisclosed T U S ≡ false
 
 module _ (T U : Tables) (e : publicOf T ≡ publicOf U) where
   pub replied-alike : (S : State) → within S ≡ true → Quiet T U (repliedIn T S) ⊎ Quiet T U (repliedIn U S) → repliedIn T S ≡ repliedIn U S
   unfolding repliedIn
   replied-alike S w h = go (not (eqb (S .header .end) 0)) (not (K.sends (S .header .side) (S .header .messages))) h
     where
-      by : Tables → Outcome
-      by W = given (replyBytes (replyIn W S)) (repliedState (replyIn W S))
+      by : Tables → Answer (List ℕ × State)
+      by W = accepted (replyBytes (replyIn W S), repliedState (replyIn W S))
 
-      chosen : Bool → Bool → Outcome → Outcome
+      chosen : Bool → Bool → Answer (List ℕ × State) → Answer (List ℕ × State)
       chosen b d o = cond b (refused 22) (cond d (refused 21) o)
 
       shut : (W : Tables) → Quiet T U (by W) → isDisclosed T U (replyIn W S .state) ≡ false
@@ -96,7 +96,7 @@ module _ (T U : Tables) (e : publicOf T ≡ publicOf U) where
       go : (b d : Bool) → Quiet T U (chosen b d (by T)) ⊎ Quiet T U (chosen b d (by U)) → chosen b d (by T) ≡ chosen b d (by U)
       go true d k = refl
       go false true k = refl
-      go false false k = ap (λ (r : Replied). given (replyBytes r) (repliedState r)) (replies-alike T U e S w (⊎-elim (λ q. inl (shut T q)) (λ q. inr (shut U q)) k))
+      go false false k = ap (λ (r : Replied). accepted (replyBytes r, repliedState r)) (replies-alike T U e S w (⊎-elim (λ q. inl (shut T q)) (λ q. inr (shut U q)) k))
 
   -- Two calls for a reply whose tables differ only in which sensitive roles are held and in access policies: where one of them leaves no differing
   -- role's Ack target satisfied, they have one outcome
@@ -106,14 +106,14 @@ module _ (T U : Tables) (e : publicOf T ≡ publicOf U) where
   unfolding replyOf
   reply-public s t h k negotiation reply scratch q = sized (replySize (length reply) (length scratch)) (R.restoreOf s negotiation) (R.restoreOf t negotiation) (P.restore-alike T U e s t h k negotiation) (λ S a. restored-within s negotiation T T S h a) q
     where
-      both : (x y : R.Standing) → P.Alike T U x y → ((S : State) → x ≡ R.standing T S → within S ≡ true) → Quiet T U (behindStanding x) ⊎ Quiet T U (behindStanding y) → behindStanding x ≡ behindStanding y
+      both : (x y : Answer (Tables × State)) → P.Alike T U x y → ((S : State) → x ≡ accepted (T, S) → within S ≡ true) → Quiet T U (behindStanding x) ⊎ Quiet T U (behindStanding y) → behindStanding x ≡ behindStanding y
       both x y (P.refused n a b) w c = ap behindStanding a ∙ sym (ap behindStanding b)
       both x y (P.found S a b) w c =
           ap behindStanding a
-          ∙ replied-alike S (w S a) (⊎-elim (λ z. inl (subst (λ (v : R.Standing). Quiet T U (behindStanding v)) a z)) (λ z. inr (subst (λ (v : R.Standing). Quiet T U (behindStanding v)) b z)) c)
+          ∙ replied-alike S (w S a) (⊎-elim (λ z. inl (subst (λ (v : Answer (Tables × State)). Quiet T U (behindStanding v)) a z)) (λ z. inr (subst (λ (v : Answer (Tables × State)). Quiet T U (behindStanding v)) b z)) c)
           ∙ sym (ap behindStanding b)
 
-      sized : (c : Bool) (x y : R.Standing) → P.Alike T U x y → ((S : State) → x ≡ R.standing T S → within S ≡ true)
+      sized : (c : Bool) (x y : Answer (Tables × State)) → P.Alike T U x y → ((S : State) → x ≡ accepted (T, S) → within S ≡ true)
           → Quiet T U (cond c (behindStanding x) (refused 1)) ⊎ Quiet T U (cond c (behindStanding y) (refused 1)) → cond c (behindStanding x) (refused 1) ≡ cond c (behindStanding y) (refused 1)
       sized true x y l w c = both x y l w c
       sized false x y l w c = refl
@@ -122,38 +122,38 @@ module _ (T U : Tables) (e : publicOf T ≡ publicOf U) where
 
 -- what every command with room keeps, and the end of a message
 module _ {P : State → Type 0} (k : Stays P) (after : (S : State) (m full : Bool) → P S → P (afterMessage S m full)) (W : Tables) (S A : State) (h : P S) where
-  given-kept : (m : List ℕ) → repliedIn W S ≡ given m A → P A
+  given-kept : (m : List ℕ) → repliedIn W S ≡ accepted (m, A) → P A
   unfolding repliedIn repliedState
   given-kept m e = go (not (eqb (S .header .end) 0)) (not (K.sends (S .header .side) (S .header .messages))) e
     where
-      left : Outcome → State
+      left : Answer (List ℕ × State) → State
       left (refused n) = S
-      left (given m B) = B
+      left (accepted (m, B)) = B
 
-      isGiven : Outcome → Bool
+      isGiven : Answer (List ℕ × State) → Bool
       isGiven (refused n) = false
-      isGiven (given m B) = true
+      isGiven (accepted (m, B)) = true
 
       r : Replied
       r = replyIn W S
 
-      go : (b d : Bool) → cond b (refused 22) (cond d (refused 21) (given (replyBytes r) (repliedState r))) ≡ given m A → P A
+      go : (b d : Bool) → cond b (refused 22) (cond d (refused 21) (accepted (replyBytes r, repliedState r))) ≡ accepted (m, A) → P A
       go true d q = absurd (false-true (ap isGiven q))
       go false true q = absurd (false-true (ap isGiven q))
       go false false q = subst P (ap left q) (after (r .state) (moved (r .commands)) (r .full) (reply-stays k W S h))
 
-  taken-kept : (m : List ℕ) → KLaws.takenIn m W S ≡ KLaws.accepted A → P A
+  taken-kept : (m : List ℕ) → KLaws.takenIn m W S ≡ accepted A → P A
   taken-kept m e =
       let t : Took m W S A = took m W S A e in
       subst P (sym (t .after)) (after (t .led) (t .moved) false (commands-stay k (length m) (W .names) (K.senderTo S) m 0 S false (t .led) (t .moved) h (t .commands)))
 
--- a reply given keeps the sizes, as a message taken does
-pub given-within : (W : Tables) (S A : State) → within S ≡ true → (m : List ℕ) → repliedIn W S ≡ given m A → within A ≡ true
+-- a reply accepted (keeps, the) sizes, as a message taken does
+pub given-within : (W : Tables) (S A : State) → within S ≡ true → (m : List ℕ) → repliedIn W S ≡ accepted (m, A) → within A ≡ true
 given-within W S A w = given-kept within-kept (λ B m full v. after-within B m full ∙ v) W S A w
 
 -- both keep an Ack target of a differing role satisfied
-pub given-open : (T U W : Tables) (S A : State) → OpenIn T U S → (m : List ℕ) → repliedIn W S ≡ given m A → OpenIn T U A
+pub given-open : (T U W : Tables) (S A : State) → OpenIn T U S → (m : List ℕ) → repliedIn W S ≡ accepted (m, A) → OpenIn T U A
 given-open T U W S A h = given-kept (open-kept T U) (after-both T U) W S A h
 
-pub taken-open : (T U W : Tables) (S A : State) → OpenIn T U S → (m : List ℕ) → KLaws.takenIn m W S ≡ KLaws.accepted A → OpenIn T U A
+pub taken-open : (T U W : Tables) (S A : State) → OpenIn T U S → (m : List ℕ) → KLaws.takenIn m W S ≡ accepted A → OpenIn T U A
 taken-open T U W S A h = taken-kept (open-kept T U) (after-both T U) W S A h

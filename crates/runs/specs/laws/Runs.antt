@@ -7,19 +7,20 @@ use Rattle.negotiation.specs.Layout.{stateBytes}
 use Rattle.take.specs.Take as K
 use Rattle.reply.specs.Reply as A
 use Rattle.runs.specs.Runs.{Call, take, reply, report, takeLeft, replyLeft, reportLeft, leftBy, run, takenTo, givenTo, afterCall, after, Left}
+use Rattle.numbers.specs.Answer.{Answer, refused, accepted}
 
 -- the negotiation that the last of them left
 unfoldable pub lastOf : List ℕ → List Left → List ℕ
 lastOf negotiation [] = negotiation
 lastOf negotiation (x ∷ xs) = lastOf (x .negotiation) xs
 
-taken-bytes : (S : State) (o : K.Outcome) → K.negotiationLeft (stateBytes S) o ≡ stateBytes (takenTo S o)
-taken-bytes S (K.refused k) = refl
-taken-bytes S (K.accepted N) = refl
+taken-bytes : (S : State) (o : Answer State) → K.negotiationLeft (stateBytes S) o ≡ stateBytes (takenTo S o)
+taken-bytes S (refused k) = refl
+taken-bytes S (accepted N) = refl
 
-given-bytes : (S : State) (o : A.Outcome) → A.negotiationLeft (stateBytes S) o ≡ stateBytes (givenTo S o)
-given-bytes S (A.refused k) = refl
-given-bytes S (A.given m N) = refl
+given-bytes : (S : State) (o : Answer (List ℕ × State)) → A.negotiationLeft (stateBytes S) o ≡ stateBytes (givenTo S o)
+given-bytes S (refused k) = refl
+given-bytes S (accepted (m, N)) = refl
 
 -- one call
 pub left-after : (tables : List ℕ) (S : State) (c : Call) → leftBy tables (stateBytes S) c .negotiation ≡ stateBytes (afterCall tables S c)

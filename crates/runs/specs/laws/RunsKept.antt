@@ -21,24 +21,25 @@ use Rattle.take.specs.laws.TakeKept.{Took, took}
 use Rattle.reply.specs.Reply as A
 use Rattle.runs.specs.laws.Stays.{within-kept, OpenIn, commands-stay}
 use Rattle.runs.specs.laws.ReplyPublic.{given-within, given-open, taken-open}
-use Rattle.begin.specs.Begin.{begun, beginOf}
+use Rattle.begin.specs.Begin.{beginOf}
 use Rattle.begin.specs.laws.Kept.{begin-undamaged}
 use Rattle.runs.specs.Runs.{Call, take, reply, report, takenTo, givenTo, afterCall, after}
+use Rattle.numbers.specs.Answer.{Answer, refused, accepted}
 
 -- What a call finds in the bytes of a state
 
 -- a refusal, or that state
-pub data Finds (T : Tables) (S : State) (x : R.Standing) : Type 0 where
-  refused : (k : ℕ) → x ≡ R.refusal k → Finds T S x
-  found : x ≡ R.standing T S → Finds T S x
+pub data Finds (T : Tables) (S : State) (x : Answer (Tables × State)) : Type 0 where
+  refused : (k : ℕ) → x ≡ refused k → Finds T S x
+  found : x ≡ accepted (T, S) → Finds T S x
 
-pub finds : (tables : List ℕ) (T : Tables) (S : State) → C.readTables tables ≡ C.accepted T → within S ≡ true → Finds T S (R.restoreOf tables (stateBytes S))
+pub finds : (tables : List ℕ) (T : Tables) (S : State) → C.readTables tables ≡ accepted T → within S ≡ true → Finds T S (R.restoreOf tables (stateBytes S))
 unfolding R.restoreOf readSound
 finds tables T S h w =
     let b : Bool = eqb (length (stateBytes S)) 5120 in
-    go b (sound T S) (ap (λ (o : C.Outcome). cond b (R.behindTables (stateBytes S) o) (R.refusal 1)) h ∙ ap (λ (x : Option State). cond b (R.behindDamage T (ifSound T x)) (R.refusal 1)) (state-back S w))
+    go b (sound T S) (ap (λ (o : Answer Tables). cond b (R.behindTables (stateBytes S) o) (refused 1)) h ∙ ap (λ (x : Option State). cond b (R.behindDamage T (ifSound T x)) (refused 1)) (state-back S w))
   where
-    go : {x : R.Standing} (b c : Bool) → x ≡ cond b (R.behindDamage T (cond c (some S) none)) (R.refusal 1) → Finds T S x
+    go : {x : Answer (Tables × State)} (b c : Bool) → x ≡ cond b (R.behindDamage T (cond c (some S) none)) (refused 1) → Finds T S x
     go true true e = found e
     go true false e = refused 20 e
     go false c e = refused 1 e
@@ -47,35 +48,35 @@ finds tables T S h w =
 
 pub record Keeps (P : State → Type 0) : Type 0 where
   pub sizes : (S : State) → P S → within S ≡ true
-  pub taken : (W : Tables) (S N : State) → P S → (m : List ℕ) → K.takenIn m W S ≡ K.accepted N → P N
-  pub given : (W : Tables) (S N : State) → P S → (m : List ℕ) → A.repliedIn W S ≡ A.given m N → P N
+  pub taken : (W : Tables) (S N : State) → P S → (m : List ℕ) → K.takenIn m W S ≡ accepted N → P N
+  pub given : (W : Tables) (S N : State) → P S → (m : List ℕ) → A.repliedIn W S ≡ accepted (m, N) → P N
 
-module _ {P : State → Type 0} (k : Keeps P) (tables : List ℕ) (T : Tables) (h : C.readTables tables ≡ C.accepted T) where
+module _ {P : State → Type 0} (k : Keeps P) (tables : List ℕ) (T : Tables) (h : C.readTables tables ≡ accepted T) where
   take-keeps : (S : State) (message scratch : List ℕ) → P S → P (takenTo S (K.takeOf tables (stateBytes S) message scratch))
   unfolding K.takeOf
   take-keeps S message scratch p = sized (K.messageSize (length message) (length scratch)) (R.restoreOf tables (stateBytes S)) (finds tables T S h (k .sizes S p))
     where
-      led : (o : K.Outcome) → K.takenIn message T S ≡ o → P (takenTo S o)
-      led (K.refused n) e = p
-      led (K.accepted N) e = k .taken T S N p message e
+      led : (o : Answer State) → K.takenIn message T S ≡ o → P (takenTo S o)
+      led (refused n) e = p
+      led (accepted N) e = k .taken T S N p message e
 
-      sized : (b : Bool) (x : R.Standing) → Finds T S x → P (takenTo S (cond b (K.behindStanding message x) (K.refused 1)))
+      sized : (b : Bool) (x : Answer (Tables × State)) → Finds T S x → P (takenTo S (cond b (K.behindStanding message x) (refused 1)))
       sized false x f = p
-      sized true x (refused n e) = subst (λ (v : R.Standing). P (takenTo S (K.behindStanding message v))) (sym e) p
-      sized true x (found e) = subst (λ (v : R.Standing). P (takenTo S (K.behindStanding message v))) (sym e) (led (K.takenIn message T S) refl)
+      sized true x (refused n e) = subst (λ (v : Answer (Tables × State)). P (takenTo S (K.behindStanding message v))) (sym e) p
+      sized true x (found e) = subst (λ (v : Answer (Tables × State)). P (takenTo S (K.behindStanding message v))) (sym e) (led (K.takenIn message T S) refl)
 
   reply-keeps : (S : State) (buffer scratch : List ℕ) → P S → P (givenTo S (A.replyOf tables (stateBytes S) buffer scratch))
   unfolding A.replyOf
   reply-keeps S buffer scratch p = sized (A.replySize (length buffer) (length scratch)) (R.restoreOf tables (stateBytes S)) (finds tables T S h (k .sizes S p))
     where
-      led : (o : A.Outcome) → A.repliedIn T S ≡ o → P (givenTo S o)
-      led (A.refused n) e = p
-      led (A.given m N) e = k .given T S N p m e
+      led : (o : Answer (List ℕ × State)) → A.repliedIn T S ≡ o → P (givenTo S o)
+      led (refused n) e = p
+      led (accepted (m, N)) e = k .given T S N p m e
 
-      sized : (b : Bool) (x : R.Standing) → Finds T S x → P (givenTo S (cond b (A.behindStanding x) (A.refused 1)))
+      sized : (b : Bool) (x : Answer (Tables × State)) → Finds T S x → P (givenTo S (cond b (A.behindStanding x) (refused 1)))
       sized false x f = p
-      sized true x (refused n e) = subst (λ (v : R.Standing). P (givenTo S (A.behindStanding v))) (sym e) p
-      sized true x (found e) = subst (λ (v : R.Standing). P (givenTo S (A.behindStanding v))) (sym e) (led (A.repliedIn T S) refl)
+      sized true x (refused n e) = subst (λ (v : Answer (Tables × State)). P (givenTo S (A.behindStanding v))) (sym e) p
+      sized true x (found e) = subst (λ (v : Answer (Tables × State)). P (givenTo S (A.behindStanding v))) (sym e) (led (A.repliedIn T S) refl)
 
   pub call-keeps : (S : State) (c : Call) → P S → P (afterCall tables S c)
   unfolding afterCall
@@ -94,7 +95,7 @@ after-within : (S : State) (m full : Bool) → within (afterMessage S m full) �
 unfolding within afterMessage withHeader
 after-within S m full = refl
 
-taken-sizes : (W : Tables) (S N : State) → within S ≡ true → (m : List ℕ) → K.takenIn m W S ≡ K.accepted N → within N ≡ true
+taken-sizes : (W : Tables) (S N : State) → within S ≡ true → (m : List ℕ) → K.takenIn m W S ≡ accepted N → within N ≡ true
 taken-sizes W S N w m e =
     let t : Took m W S N = took m W S N e in
     ap within (t .after) ∙ after-within (t .led) (t .moved) false ∙ commands-stay within-kept (length m) (W .names) (KLaws.senderTo S) m 0 S false (t .led) (t .moved) w (t .commands)
@@ -115,7 +116,7 @@ abbrev stateIn : State → Option State → State
 stateIn S none = S
 stateIn S (some N) = N
 
-pub begun-within : (tables negotiation : List ℕ) (other entity name : ℕ) (T : Tables) (S : State) → C.readTables tables ≡ C.accepted T → beginOf tables negotiation other entity name ≡ begun S → within S ≡ true
+pub begun-within : (tables negotiation : List ℕ) (other entity name : ℕ) (T : Tables) (S : State) → C.readTables tables ≡ accepted T → beginOf tables negotiation other entity name ≡ accepted S → within S ≡ true
 unfolding readSound
 begun-within tables negotiation other entity name T S h e = go (readState (stateBytes S)) refl (begin-undamaged tables negotiation other entity name e h)
   where

@@ -23,7 +23,7 @@ use Rattle.applied.specs.Step.{stepped, hasRoom, isMove}
 use Rattle.legal.specs.Number.{legalNumber}
 use Rattle.legal.specs.laws.Room.{legal-room, step-within}
 use Rattle.message.specs.Message.{bytesOf, isEnd}
-use Rattle.take.specs.Commands.{Taken, refused, taken, judged, onCommand, commandsFrom}
+use Rattle.take.specs.Commands.{onCommand, commandsFrom}
 use Rattle.moves.specs.laws.Known.{isDisclosed}
 use Rattle.moves.specs.laws.KnownStays.{open-step}
 use Rattle.moves.specs.Initial.{initialState}
@@ -31,6 +31,7 @@ use Rattle.moves.specs.Rules.{endIn}
 use Rattle.moves.specs.Move.{Move, nextMove}
 use Rattle.moves.specs.Carried.{carried, hasRoomFor}
 use Rattle.reply.specs.Reply.{Replied, stopped, withMove, replyFrom, opening, replyIn}
+use Rattle.numbers.specs.Answer.{Answer, refused, accepted, judged}
 
 -- every command that has room keeps P
 pub record Stays (P : State → Type 0) : Type 0 where
@@ -59,16 +60,16 @@ opening-room W S = go (eqb (length (S .nodes)) 0) refl
     go true q = let z : length (S .nodes) ≡ 0 = eqb-true (length (S .nodes)) 0 q in and-both (ltb (length (S .nodes)) 128) true (lt-ltb (length (S .nodes)) 128 (omega (arith, z))) refl
     go false q = refl
 
--- a message is refused or taken to one state
-abbrev stateIn : State → Taken → State
+-- a message is refused or accepted (to, one) state
+abbrev stateIn : State → Answer (State × Bool) → State
 stateIn S (refused n) = S
-stateIn S (taken A v) = A
+stateIn S (accepted (A, v)) = A
 
-abbrev number : Taken → ℕ
+abbrev number : Answer (State × Bool) → ℕ
 number (refused n) = 0
-number (taken A v) = 1
+number (accepted (A, v)) = 1
 
-refused-taken : {n : ℕ} {A : State} {v : Bool} → refused n ≡ taken A v → ⊥
+refused-taken : {n : ℕ} {A : State} {v : Bool} → refused n ≡ accepted (A, v) → ⊥
 refused-taken e = let z : _≡_ {A = ℕ} 0 1 = ap number e in omega (arith, z)
 
 module _ {P : State → Type 0} (k : Stays P) where
@@ -112,24 +113,24 @@ module _ {P : State → Type 0} (k : Stays P) where
 
   -- A message taken
 
-  judged-stays : (n : ℕ) (t : Taken) (A : State) (v : Bool) → (n ≡ 0 → t ≡ taken A v → P A) → judged n t ≡ taken A v → P A
+  judged-stays : (n : ℕ) (t : Answer (State × Bool)) (A : State) (v : Bool) → (n ≡ 0 → t ≡ accepted (A, v) → P A) → judged n t ≡ accepted (A, v) → P A
   judged-stays zero t A v ih e = ih refl e
   judged-stays (suc n) t A v ih e = absurd (refused-taken e)
 
-  command-stays : (next : ℕ → State → Bool → Taken) (ns : List Name) (s : ℕ) (S : State) (moved : Bool) (a : CommandAnswer) (A : State) (v : Bool)
-      → ((size : ℕ) (R : State) (m : Bool) → P R → next size R m ≡ taken A v → P A)
-      → P S → onCommand next ns s S moved a ≡ taken A v → P A
+  command-stays : (next : ℕ → State → Bool → Answer (State × Bool)) (ns : List Name) (s : ℕ) (S : State) (moved : Bool) (a : CommandAnswer) (A : State) (v : Bool)
+      → ((size : ℕ) (R : State) (m : Bool) → P R → next size R m ≡ accepted (A, v) → P A)
+      → P S → onCommand next ns s S moved a ≡ accepted (A, v) → P A
   command-stays next ns s S moved (Refused n) A v ih h e = absurd (refused-taken e)
   command-stays next ns s S moved (Read c) A v ih h e =
-      judged-stays (legalNumber ns s S c) (cond (isEnd c) (taken S moved) (next (sizeOf c) (stepped S s c) (moved || isMove c))) A v
+      judged-stays (legalNumber ns s S c) (cond (isEnd c) (accepted (S, moved)) (next (sizeOf c) (stepped S s c) (moved || isMove c))) A v
       (λ l q. go (isEnd c) (λ p. ih (sizeOf c) (stepped S s c) (moved || isMove c) (k .step S s c (legal-room S ns s c l) h) p) q) e
     where
-      go : (b : Bool) → (next (sizeOf c) (stepped S s c) (moved || isMove c) ≡ taken A v → P A)
-          → cond b (taken S moved) (next (sizeOf c) (stepped S s c) (moved || isMove c)) ≡ taken A v → P A
+      go : (b : Bool) → (next (sizeOf c) (stepped S s c) (moved || isMove c) ≡ accepted (A, v) → P A)
+          → cond b (accepted (S, moved)) (next (sizeOf c) (stepped S s c) (moved || isMove c)) ≡ accepted (A, v) → P A
       go true more q = subst P (ap (stateIn S) q) h
       go false more q = more q
 
-  pub commands-stay : (f : ℕ) (ns : List Name) (s : ℕ) (m : List ℕ) (at : ℕ) (S : State) (moved : Bool) (A : State) (v : Bool) → P S → commandsFrom f ns s m at S moved ≡ taken A v → P A
+  pub commands-stay : (f : ℕ) (ns : List Name) (s : ℕ) (m : List ℕ) (at : ℕ) (S : State) (moved : Bool) (A : State) (v : Bool) → P S → commandsFrom f ns s m at S moved ≡ accepted (A, v) → P A
   unfolding commandsFrom
   commands-stay zero ns s m at S moved A v h e = absurd (refused-taken e)
   commands-stay (suc f) ns s m at S moved A v h e =

@@ -12,7 +12,7 @@ use Rattle.word.specs.laws.Bools.{false-true}
 use Rattle.propagation.specs.laws.Flags.{not-of}
 use Rattle.record.specs.declared.Pair.{Pair}
 use Rattle.tables.specs.Tables.{Tables}
-use Rattle.tables.specs.Check.{accepted, readTables}
+use Rattle.tables.specs.Check.{readTables}
 use Rattle.tables.specs.Lookup.{holds, isSensitive}
 use Rattle.tables.specs.Public.{DifferOnly, publicOf}
 use Rattle.tables.specs.laws.Sound.{accepted-public}
@@ -23,11 +23,12 @@ use Rattle.moves.specs.laws.Known.{Differs, holding-alike, isDisclosed, Opened,
 use Rattle.reply.specs.Reply as A
 use Rattle.runs.specs.laws.ReplyPublic.{Quiet, reply-public}
 use Rattle.report.specs.laws.ReportPublic.{report-public}
-use Rattle.begin.specs.Begin.{begun, beginOf}
+use Rattle.begin.specs.Begin.{beginOf}
 use Rattle.begin.specs.laws.Kept.{begin-alike}
 use Rattle.runs.specs.Runs.{Call, take, reply, report, takeLeft, replyLeft, reportLeft, leftBy, run, takenTo, givenTo, afterCall, after, Differing, held, policy, NoneSatisfied}
 use Rattle.runs.specs.laws.Runs.{left-after}
 use Rattle.runs.specs.laws.RunsKept.{call-keeps, calls-keep, keeps-sizes, keeps-open, begun-within}
+use Rattle.numbers.specs.Answer.{Answer, refused, accepted}
 
 -- Where the tables differ
 
@@ -53,9 +54,9 @@ none-open T U S e n = not-of (isDisclosed T U S) (λ h. shut (open-exact T U S .
 
 -- One call
 
-quiet : (T U : Tables) (S : State) (o : A.Outcome) → isDisclosed T U (givenTo S o) ≡ false → Quiet T U o
-quiet T U S (A.refused k) h = tt
-quiet T U S (A.given m N) h = h
+quiet : (T U : Tables) (S : State) (o : Answer (List ℕ × State)) → isDisclosed T U (givenTo S o) ≡ false → Quiet T U o
+quiet T U S (refused k) h = tt
+quiet T U S (accepted (m, N)) h = h
 
 module _ (T U : Tables) (e : publicOf T ≡ publicOf U) (s t : List ℕ) (h : readTables s ≡ accepted T) (k : readTables t ≡ accepted U) where
   -- where one of two calls leaves no differing role's Ack target satisfied, they leave the same
@@ -99,7 +100,7 @@ module _ (s t : List ℕ) (T U : Tables) (h : readTables s ≡ accepted T) (k : 
   -- accepts, the list starts there." While in one of the runs no differing role's Ack target is satisfied, every call of the list answers alike
   -- and leaves the same bytes in both.
   pub two-runs : (beginOf s negotiation other entity name ≡ beginOf t negotiation other entity name)
-      × ((S : State) → beginOf s negotiation other entity name ≡ begun S → (cs : List Call) → NoneSatisfied T U (after s S cs) ⊎ NoneSatisfied T U (after t S cs)
+      × ((S : State) → beginOf s negotiation other entity name ≡ accepted S → (cs : List Call) → NoneSatisfied T U (after s S cs) ⊎ NoneSatisfied T U (after t S cs)
       → (run s (stateBytes S) cs ≡ run t (stateBytes S) cs) × (after s S cs ≡ after t S cs))
   two-runs =
       let e : publicOf T ≡ publicOf U = accepted-public s t T U h k .0 d in (

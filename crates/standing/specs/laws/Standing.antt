@@ -6,7 +6,7 @@ use mathlib.Core.Option.{Option, none, some}
 use lib.Dec.{eqb}
 use lib.ListN.{length}
 use Rattle.tables.specs.laws.Tables.{tablesOf}
-use Rattle.tables.specs.Check.{Outcome, refused, accepted, readTables}
+use Rattle.tables.specs.Check.{readTables}
 use Rattle.negotiation.specs.State.{State, within}
 use Rattle.negotiation.specs.laws.State.{stateOf}
 use Rattle.standing.specs.declared.Restored.{Restored}
@@ -24,11 +24,12 @@ use Rattle.negotiation.specs.declared.Reading.{Reading}
 use Rattle.negotiation.specs.Layout.{readState}
 use Rattle.negotiation.specs.laws.Layout.{readingOf}
 use Rattle.negotiation.specs.laws.Codec.{read-within}
-use Rattle.standing.specs.Standing.{Standing, refusal, standing, behindDamage, behindTables, restoreOf}
+use Rattle.standing.specs.Standing.{behindDamage, behindTables, restoreOf}
+use Rattle.numbers.specs.Answer.{Answer, refused, accepted}
 
 -- what the code's answer is
-unfoldable pub standingOf : Restored → Standing
-standingOf r = cond (eqb (r .refusal) 0) (standing (tablesOf (r .house)) (stateOf (r .negotiation))) (refusal (r .refusal))
+unfoldable pub standingOf : Restored → Answer (Tables × State)
+standingOf r = cond (eqb (r .refusal) 0) (accepted (tablesOf (r .house), stateOf (r .negotiation))) (refused (r .refusal))
 
 -- what an accepted call can rely on
 pub record Kept (r : Restored) : Type 0 where
@@ -40,9 +41,9 @@ pub record Kept (r : Restored) : Type 0 where
 kept-refused : (r : Restored) → (r .refusal ≡ 0 → ⊥) → Kept r
 kept-refused r h = record { housed = λ z. absurd (h z); within-sizes = λ z. absurd (h z); is-sound = λ z. absurd (h z) }
 
-standing-refused : (r : Restored) → (r .refusal ≡ 0 → ⊥) → standingOf r ≡ refusal (r .refusal)
+standing-refused : (r : Restored) → (r .refusal ≡ 0 → ⊥) → standingOf r ≡ refused (r .refusal)
 unfolding standingOf
-standing-refused r h = ap (λ (b : Bool). cond b (standing (tablesOf (r .house)) (stateOf (r .negotiation))) (refusal (r .refusal))) (ne-eqb (r .refusal) 0 h)
+standing-refused r h = ap (λ (b : Bool). cond b (accepted (tablesOf (r .house), stateOf (r .negotiation))) (refused (r .refusal))) (ne-eqb (r .refusal) 0 h)
 
 -- a state that is read is within the sizes
 pub state-within : (s : List ℕ) (R : Reading) → readingOf R ≡ readState s → not (R .ok) ≡ false → within (stateOf (R .negotiation)) ≡ true
@@ -50,13 +51,13 @@ unfolding readingOf
 state-within s R re ok = read-within s (stateOf (R .negotiation)) (sym re ∙ ap (λ (b : Bool). cond b (some (stateOf (R .negotiation))) none) (not-false (R .ok) ok))
 
 module _ (tables negotiation : List ℕ) where
-  by-length : (b : Bool) → eqb (length negotiation) 5120 ≡ b → restoreOf tables negotiation ≡ cond b (behindTables negotiation (readTables tables)) (refusal 1)
+  by-length : (b : Bool) → eqb (length negotiation) 5120 ≡ b → restoreOf tables negotiation ≡ cond b (behindTables negotiation (readTables tables)) (refused 1)
   unfolding restoreOf
-  by-length b e = ap (λ (b : Bool). cond b (behindTables negotiation (readTables tables)) (refusal 1)) e
+  by-length b e = ap (λ (b : Bool). cond b (behindTables negotiation (readTables tables)) (refused 1)) e
 
-  -- a refusal that the meaning has
-  gives : (r : Restored) (k : ℕ) → r .refusal ≡ k → (k ≡ 0 → ⊥) → restoreOf tables negotiation ≡ refusal k → (standingOf r ≡ restoreOf tables negotiation) × Kept r
-  gives r k e z h = (standing-refused r (λ w. z (sym e ∙ w)) ∙ ap refusal e ∙ sym h, kept-refused r (λ w. z (sym e ∙ w)))
+  -- a refused that the meaning has
+  gives : (r : Restored) (k : ℕ) → r .refusal ≡ k → (k ≡ 0 → ⊥) → restoreOf tables negotiation ≡ refused k → (standingOf r ≡ restoreOf tables negotiation) × Kept r
+  gives r k e z h = (standing-refused r (λ w. z (sym e ∙ w)) ∙ ap refused e ∙ sym h, kept-refused r (λ w. z (sym e ∙ w)))
 
   pub restore-outside : (r : Restored) → (length negotiation ≡ 5120 → ⊥) → r .refusal ≡ 1 → (standingOf r ≡ restoreOf tables negotiation) × Kept r
   restore-outside r h e = gives r 1 e (λ z. omega arith) (by-length false (ne-eqb (length negotiation) 5120 h))
@@ -90,7 +91,7 @@ module _ (tables negotiation : List ℕ) where
         pub restore-damaged : (r : Restored) → not b ≡ true → r .refusal ≡ 20 → (standingOf r ≡ restoreOf tables negotiation) × Kept r
         restore-damaged r h e = gives r 20 e (λ z. omega arith) (by-state none (ap (ifSound (tablesOf (d .house))) held ∙ ap (λ (t : Bool). cond t (some (stateOf (R .negotiation))) none) (sym be ∙ not-true b h)))
 
-        pub restore-sound : not b ≡ false → Housed (d .house) → (standingOf (record { refusal = 0; house = d .house; negotiation = R .negotiation }) ≡ restoreOf tables negotiation) × Kept (record { refusal = 0; house = d .house; negotiation = R .negotiation })
+        pub restore-sound : not b ≡ false → Housed (d .house) → (standingOf (record { refused = 0; house = d .house; negotiation = R .negotiation }) ≡ restoreOf tables negotiation) × Kept (record { refused = 0; house = d .house; negotiation = R .negotiation })
         unfolding standingOf
         restore-sound h hd = (
           sym (by-state (some (stateOf (R .negotiation))) (ap (ifSound (tablesOf (d .house))) held ∙ ap (λ (t : Bool). cond t (some (stateOf (R .negotiation))) none) (sym be ∙ not-false b h))),
@@ -99,15 +100,15 @@ module _ (tables negotiation : List ℕ) where
 
 -- The house of accepted tables is an entity
 
-abbrev isStanding : Standing → Bool
-isStanding (refusal k) = false
-isStanding (standing T S) = true
+abbrev isStanding : Answer (Tables × State) → Bool
+isStanding (refused k) = false
+isStanding (accepted (T, S)) = true
 
-abbrev ownIn : Standing → ℕ
-ownIn (refusal k) = 0
-ownIn (standing T S) = T .own
+abbrev ownIn : Answer (Tables × State) → ℕ
+ownIn (refused k) = 0
+ownIn (accepted (T, S)) = T .own
 
-behind-own : (tables negotiation : List ℕ) (o : Outcome) → readTables tables ≡ o → isStanding (behindTables negotiation o) ≡ true → 0 < ownIn (behindTables negotiation o)
+behind-own : (tables negotiation : List ℕ) (o : Answer Tables) → readTables tables ≡ o → isStanding (behindTables negotiation o) ≡ true → 0 < ownIn (behindTables negotiation o)
 behind-own tables negotiation (refused k) e h = absurd (false-true h)
 behind-own tables negotiation (accepted T) e h = go (readSound T negotiation) h
   where
@@ -116,22 +117,22 @@ behind-own tables negotiation (accepted T) e h = go (readSound T negotiation) h
     go (some S) k = accepted-sound tables T e .own
 
 module _ (tables negotiation : List ℕ) (r : Restored) (e : standingOf r ≡ restoreOf tables negotiation) (z : r .refusal ≡ 0) where
-  restored-standing : standing (tablesOf (r .house)) (stateOf (r .negotiation)) ≡ restoreOf tables negotiation
+  restored-standing : accepted (tablesOf (r .house), stateOf (r .negotiation)) ≡ restoreOf tables negotiation
   unfolding standingOf
-  restored-standing = sym (ap (λ (b : Bool). cond b (standing (tablesOf (r .house)) (stateOf (r .negotiation))) (refusal (r .refusal))) (eq-eqb (r .refusal) 0 z)) ∙ e
+  restored-standing = sym (ap (λ (b : Bool). cond b (accepted (tablesOf (r .house), stateOf (r .negotiation))) (refused (r .refusal))) (eq-eqb (r .refusal) 0 z)) ∙ e
 
   pub restored-length : length negotiation ≡ 5120
   unfolding restoreOf
   restored-length = go (eqb (length negotiation) 5120) refl (sym (ap isStanding restored-standing))
     where
-      go : (b : Bool) → eqb (length negotiation) 5120 ≡ b → isStanding (cond b (behindTables negotiation (readTables tables)) (refusal 1)) ≡ true → length negotiation ≡ 5120
+      go : (b : Bool) → eqb (length negotiation) 5120 ≡ b → isStanding (cond b (behindTables negotiation (readTables tables)) (refused 1)) ≡ true → length negotiation ≡ 5120
       go true x h = eqb-true (length negotiation) 5120 x
       go false x h = absurd (false-true h)
 
   pub restored-own : 0 < r .house .own
   unfolding restoreOf tablesOf
-  restored-own = subst (λ (x : Standing). 0 < ownIn x) (sym restored-standing) (go (eqb (length negotiation) 5120) (sym (ap isStanding restored-standing)))
+  restored-own = subst (λ (x : Answer (Tables × State)). 0 < ownIn x) (sym restored-standing) (go (eqb (length negotiation) 5120) (sym (ap isStanding restored-standing)))
     where
-      go : (b : Bool) → isStanding (cond b (behindTables negotiation (readTables tables)) (refusal 1)) ≡ true → 0 < ownIn (cond b (behindTables negotiation (readTables tables)) (refusal 1))
+      go : (b : Bool) → isStanding (cond b (behindTables negotiation (readTables tables)) (refused 1)) ≡ true → 0 < ownIn (cond b (behindTables negotiation (readTables tables)) (refused 1))
       go true h = behind-own tables negotiation (readTables tables) refl h
       go false h = absurd (false-true h)

@@ -7,13 +7,14 @@ use mathlib.Core.Option.{Option, none, some}
 use lib.Dec.{eqb}
 use lib.ListN.{length}
 use Rattle.tables.specs.Tables.{Tables}
-use Rattle.tables.specs.Check.{Outcome, accepted, readTables}
+use Rattle.tables.specs.Check.{readTables}
 use Rattle.tables.specs.Public.{Public, publicOf}
 use Rattle.negotiation.specs.State.{State}
 use Rattle.negotiation.specs.Layout.{readState}
 use Rattle.damage.specs.Header.{headerSound, emptySound}
 use Rattle.damage.specs.Damage.{graphSound, sound, ifSound, readSound}
-use Rattle.standing.specs.Standing.{Standing, refusal, standing, behindDamage, behindTables, restoreOf}
+use Rattle.standing.specs.Standing.{behindDamage, behindTables, restoreOf}
+use Rattle.numbers.specs.Answer.{Answer, refused, accepted}
 
 pub sound-public : (T U : Tables) (S : State) → publicOf T ≡ publicOf U → sound T S ≡ sound U S
 unfolding sound publicOf
@@ -21,11 +22,11 @@ sound-public T U S e =
     ap (λ (P : Public). headerSound (P .own) (P .names) (S .header) && cond (eqb (length (S .nodes)) 0) (emptySound (S .header) (length (S .edges)) (length (S .shown))) (graphSound (P .names) S)) e
 
 -- two calls whose tables have one public part: both are refused, with one number, or both find the same state
-pub data Alike (T U : Tables) (x y : Standing) : Type 0 where
-  refused : (k : ℕ) → x ≡ refusal k → y ≡ refusal k → Alike T U x y
-  found : (S : State) → x ≡ standing T S → y ≡ standing U S → Alike T U x y
+pub data Alike (T U : Tables) (x y : Answer (Tables × State)) : Type 0 where
+  refused : (k : ℕ) → x ≡ refused k → y ≡ refused k → Alike T U x y
+  found : (S : State) → x ≡ accepted (T, S) → y ≡ accepted (U, S) → Alike T U x y
 
-alike-by : (T U : Tables) {x y v w : Standing} → v ≡ x → w ≡ y → Alike T U x y → Alike T U v w
+alike-by : (T U : Tables) {x y v w : Answer (Tables × State)} → v ≡ x → w ≡ y → Alike T U x y → Alike T U v w
 alike-by T U p q (refused k a b) = refused k (p ∙ a) (q ∙ b)
 alike-by T U p q (found S a b) = found S (p ∙ a) (q ∙ b)
 
@@ -38,7 +39,7 @@ module _ (T U : Tables) (e : publicOf T ≡ publicOf U) where
       go true q = found S (ap (λ (b : Bool). behindDamage T (cond b (some S) none)) q) (ap (λ (b : Bool). behindDamage U (cond b (some S) none)) (sym (sound-public T U S e) ∙ q))
       go false q = refused 20 (ap (λ (b : Bool). behindDamage T (cond b (some S) none)) q) (ap (λ (b : Bool). behindDamage U (cond b (some S) none)) (sym (sound-public T U S e) ∙ q))
 
-  alike-length : (b : Bool) (negotiation : List ℕ) → Alike T U (cond b (behindTables negotiation (accepted T)) (refusal 1)) (cond b (behindTables negotiation (accepted U)) (refusal 1))
+  alike-length : (b : Bool) (negotiation : List ℕ) → Alike T U (cond b (behindTables negotiation (accepted T)) (refused 1)) (cond b (behindTables negotiation (accepted U)) (refused 1))
   unfolding readSound
   alike-length true negotiation = alike-sound (readState negotiation)
   alike-length false negotiation = refused 1 refl refl
@@ -47,4 +48,4 @@ module _ (T U : Tables) (e : publicOf T ≡ publicOf U) where
   unfolding restoreOf
   restore-alike s t h k negotiation =
       let b : Bool = eqb (length negotiation) 5120 in
-      alike-by T U (ap (λ (o : Outcome). cond b (behindTables negotiation o) (refusal 1)) h) (ap (λ (o : Outcome). cond b (behindTables negotiation o) (refusal 1)) k) (alike-length b negotiation)
+      alike-by T U (ap (λ (o : Answer Tables). cond b (behindTables negotiation o) (refused 1)) h) (ap (λ (o : Answer Tables). cond b (behindTables negotiation o) (refused 1)) k) (alike-length b negotiation)

@@ -24,11 +24,12 @@ use Rattle.record.specs.declared.RecordAnswer.the-variants as a
 use Rattle.record.specs.Record.{formed, recordAt, recordBytes, sizeOf}
 use Rattle.record.specs.laws.RecordExact.{record-refusal, record-room, record-formed, record-only}
 use Rattle.tables.specs.Tables.{Tables, unread, added}
-use Rattle.tables.specs.Check.{suitsStorage, storedNumber, suitsPair, pairNumber, classNumber, none, inOrder, above, room, orderNumber, judge, Outcome, refused, accepted, judged, onRecord, recordsFrom, sized, readTables}
+use Rattle.tables.specs.Check.{suitsStorage, storedNumber, suitsPair, pairNumber, classNumber, none, inOrder, above, room, orderNumber, judge, onRecord, recordsFrom, sized, readTables}
 use Rattle.tables.specs.laws.Check.{some-size, readFrom, from-past, from-refused, from-judged}
 use Rattle.tables.specs.Accepted.{rising-none, Records, Sound}
 use Rattle.tables.specs.laws.Sorted.{rising-add}
 use Rattle.tables.specs.Bytes.{bytesOf, tablesBytes}
+use Rattle.numbers.specs.Answer.{Answer, refused, accepted, judged}
 
 -- The records of one command
 
@@ -389,7 +390,7 @@ unfolding recordsFrom
 from-numbers zero s at T k h = absurd (let y : _≡_ {A = ℕ} 0 1 = cc in omega arith)
 from-numbers (suc n) s at T k h = go (ltb at (length s)) (recordAt s at) refl h (λ m U. from-numbers n s m U k)
   where
-    by-judge : (m : ℕ) (o : Outcome) → m ≤ 6 → judged m o ≡ refused k → (o ≡ refused k → OneToSix k) → OneToSix k
+    by-judge : (m : ℕ) (o : Answer Tables) → m ≤ 6 → judged m o ≡ refused k → (o ≡ refused k → OneToSix k) → OneToSix k
     by-judge zero o l q again = again q
     by-judge (suc m) o l q again = let e : suc m ≡ k = cc in (omega arith, omega arith)
 

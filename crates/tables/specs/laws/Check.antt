@@ -15,10 +15,11 @@ use Rattle.tables.specs.laws.Tables.{tablesOf}
 use mathlib.Core.Path.{_≡_, refl, sym, ap, _∙_}
 use native.Mathlib.Omega.{arith}
 use borrow.Author.Tests.{lt-ltb, le-ltb}
-use Rattle.tables.specs.Check.{judge, Outcome, refused, accepted, judged, onRecord, recordsFrom}
+use Rattle.tables.specs.Check.{judge, onRecord, recordsFrom}
+use Rattle.numbers.specs.Answer.{Answer, refused, accepted, judged}
 
 -- what decoded tables say
-unfoldable pub outcomeOf : Decoded → Outcome
+unfoldable pub outcomeOf : Decoded → Answer Tables
 outcomeOf d = cond (eqb (d .refusal) 0) (accepted (tablesOf (d .house))) (refused (d .refusal))
 
 -- a record has at least three bytes
@@ -38,7 +39,7 @@ records-past (suc n) s at T h =
     ap (λ (t : Bool). cond t (onRecord (λ size U. recordsFrom n s (at + size) U) T (recordAt s at)) (accepted T)) (le-ltb at (length s) h)
 
 -- what comes after a record is the same where it is the same for each size that a record has
-same-next : (f g : ℕ → Tables → Outcome) (T : Tables) → ((r : Record) (U : Tables) → f (sizeOf r) U ≡ g (sizeOf r) U) → (x : RecordAnswer) → onRecord f T x ≡ onRecord g T x
+same-next : (f g : ℕ → Tables → Answer Tables) (T : Tables) → ((r : Record) (U : Tables) → f (sizeOf r) U ≡ g (sizeOf r) U) → (x : RecordAnswer) → onRecord f T x ≡ onRecord g T x
 same-next f g T h (a.Refused k) = refl
 same-next f g T h (a.Read r) = ap (judged (judge T r)) (h r (added T r))
 
@@ -48,12 +49,12 @@ unfolding recordsFrom
 records-enough zero m s at T h k = sym (records-past m s at T (omega arith))
 records-enough (suc n) zero s at T h k = records-past (suc n) s at T (omega arith)
 records-enough (suc n) (suc m) s at T h k =
-    ap (λ (x : Outcome). cond (ltb at (length s)) x (accepted T))
+    ap (λ (x : Answer Tables). cond (ltb at (length s)) x (accepted T))
     (same-next (λ size U. recordsFrom n s (at + size) U) (λ size U. recordsFrom m s (at + size) U) T
     (λ r U. records-enough n m s (at + sizeOf r) U (omega (arith, some-size r)) (omega (arith, some-size r))) (recordAt s at))
 
 -- the records from an index on
-unfoldable pub readFrom : List ℕ → ℕ → Tables → Outcome
+unfoldable pub readFrom : List ℕ → ℕ → Tables → Answer Tables
 readFrom s at T = recordsFrom (length s) s at T
 
 -- no byte is left

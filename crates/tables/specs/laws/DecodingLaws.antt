@@ -28,13 +28,14 @@ use Rattle.tables.specs.declared.OwnAnswer.the-variants as o
 use Rattle.tables.specs.declared.Decoded.{Decoded}
 use Rattle.tables.specs.Tables.{Tables, unread, withPairs}
 use Rattle.tables.specs.laws.Tables.{tablesOf}
-use Rattle.tables.specs.Check.{orElse, storedNumber, pairNumber, classNumber, inOrder, above, room, orderNumber, judge, refused, accepted, judged, numberOf, readTables, recordsFrom, sized}
+use Rattle.tables.specs.Check.{orElse, storedNumber, pairNumber, classNumber, inOrder, above, room, orderNumber, judge, readTables, recordsFrom, sized}
 use Rattle.tables.specs.laws.Check.{outcomeOf, readFrom, from-past, from-refused, from-judged}
 use Rattle.tables.specs.laws.Group.{Group, Open, Gone, refusalOf, judged-refused, some-refusal}
 use Rattle.tables.specs.laws.Groups.{names, credentialsOf, pairs}
 use Rattle.tables.specs.laws.Reading.{noNumber, tablesFor}
 use Rattle.tables.specs.laws.Passed.{rankOf, Passed, Ranked, passed-next}
 use Rattle.tables.specs.laws.Decoding.{firstRecord, outOfOrder, leftNumber, withoutPairs, Housed, Decodes}
+use Rattle.numbers.specs.Answer.{refused, accepted, answerOf, noValue, judged}
 
 -- Refused tables
 
@@ -265,10 +266,10 @@ module _ (s : List ℕ) {b : Bool} (h : b ≡ sized (length s)) (n : not b ≡ f
   passed-first {x} {own} e q = passed-own s own some-bytes (sym q ∙ e)
 
 -- the number of decoded tables
-pub number-outcome : (d : Decoded) → d .refusal ≡ numberOf (outcomeOf d)
+pub number-outcome : (d : Decoded) → d .refusal ≡ answerOf noValue (outcomeOf d)
 unfolding outcomeOf
 number-outcome d = go (eqb (d .refusal) 0) refl
   where
-    go : (b : Bool) → eqb (d .refusal) 0 ≡ b → d .refusal ≡ numberOf (cond b (accepted (tablesOf (d .house))) (refused (d .refusal)))
+    go : (b : Bool) → eqb (d .refusal) 0 ≡ b → d .refusal ≡ answerOf noValue (cond b (accepted (tablesOf (d .house))) (refused (d .refusal)))
     go true e = eqb-true (d .refusal) 0 e
     go false e = refl

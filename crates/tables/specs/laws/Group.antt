@@ -17,8 +17,9 @@ use Rattle.record.specs.declared.RecordAnswer.the-variants as a
 use Rattle.record.specs.Record.{recordAt, sizeOf}
 use Rattle.record.specs.laws.RecordExact.{record-refusal}
 use Rattle.tables.specs.Tables.{Tables, added}
-use Rattle.tables.specs.Check.{orElse, none, inOrder, judge, Outcome, refused, judged}
+use Rattle.tables.specs.Check.{orElse, none, inOrder, judge}
 use Rattle.tables.specs.laws.Check.{readFrom, from-refused, from-judged}
+use Rattle.numbers.specs.Answer.{Answer, refused, judged}
 
 -- a command: its records, their order, the rules of 4 and 5 for them, and how many there may be
 pub record Group (A : Type 0) : Type 0 where
@@ -174,7 +175,7 @@ pub record Gone {A : Type 0} (G : Group A) (num : A → ℕ) (s : List ℕ) (sta
   pub stop : refusal ≡ 0 → at < length s → (x : A) → recordAt s at ≡ a.Read (G .wrap x) → ⊥
 
 -- a number that is not zero refuses
-pub judged-refused : (k : ℕ) (o : Outcome) → (k ≡ 0 → ⊥) → judged k o ≡ refused k
+pub judged-refused : (k : ℕ) (o : Answer Tables) → (k ≡ 0 → ⊥) → judged k o ≡ refused k
 judged-refused zero o h = absurd (h refl)
 judged-refused (suc k) o h = refl
 

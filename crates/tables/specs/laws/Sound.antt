@@ -18,7 +18,7 @@ use Rattle.record.specs.declared.Record.the-variants.{Own, Access}
 use Rattle.record.specs.Record.{formed, recordBytes, sizeOf}
 use Rattle.record.specs.laws.RecordExact.{record-length, record-back}
 use Rattle.tables.specs.Tables.{Tables, unread, withNames, withStored, withPairs, added}
-use Rattle.tables.specs.Check.{orElse, pairNumber, classNumber, inOrder, above, room, orderNumber, judge, refused, accepted, sized, readTables}
+use Rattle.tables.specs.Check.{orElse, pairNumber, classNumber, inOrder, above, room, orderNumber, judge, sized, readTables}
 use Rattle.tables.specs.laws.Check.{some-size, readFrom, from-past, from-judged}
 use Rattle.tables.specs.laws.Group.{Group, Lawful}
 use Rattle.tables.specs.laws.Groups.{names, credentialsOf, pairs, names-lawful, credentials-lawful, pairs-lawful}
@@ -28,6 +28,7 @@ use Rattle.tables.specs.Bytes.{bytesOf, tablesBytes}
 use Rattle.tables.specs.laws.Accepted.{accepted-length, accepted-sound, accepted-bytes}
 use Rattle.tables.specs.Public.{DifferOnly, publicOf}
 use Rattle.tables.specs.laws.Public.{differ-public, public-differ}
+use Rattle.numbers.specs.Answer.{refused, accepted}
 
 -- each element of an ascending list comes after all before it
 rising-middle : {A : Type 0} {before : A → A → Bool} (L : List A) (x : A) (M : List A) → Rising before (L ++ (x ∷ M)) → all (λ y. before y x) L ≡ true

@@ -27,12 +27,13 @@ use Rattle.message.specs.laws.CommandExact.{command-formed, command-room, comma
 use Rattle.negotiation.specs.declared.Negotiation.{Negotiation}
 use Rattle.legal.specs.laws.Room.{legal-room, step-within}
 use Rattle.applied.specs.laws.StepFormed.{step-formed}
-use Rattle.take.specs.Commands.{Taken, refused, taken, judged, onCommand, commandsFrom}
+use Rattle.take.specs.Commands.{onCommand, commandsFrom}
 use Rattle.message.specs.Message.{isEnd}
+use Rattle.numbers.specs.Answer.{Answer, refused, accepted, judged}
 
 -- what the code's answer is
-unfoldable pub takenOf : Taking → Taken
-takenOf r = cond (eqb (r .refusal) 0) (taken (stateOf (r .negotiation)) (r .moved)) (refused (r .refusal))
+unfoldable pub takenOf : Taking → Answer (State × Bool)
+takenOf r = cond (eqb (r .refusal) 0) (accepted (stateOf (r .negotiation), r .moved)) (refused (r .refusal))
 
 -- the number of a command that was not read
 abbrev pub refusalOf : CommandAnswer → ℕ
@@ -78,7 +79,7 @@ module _ (ns : List Name) (s : ℕ) (m : List ℕ) where
     answers-refused : (t : Taking) (k : ℕ) → t .refusal ≡ k → (k ≡ 0 → ⊥) → commandsFrom (length m) ns s m 0 S₀ false ≡ refused k → (takenOf t ≡ commandsFrom (length m) ns s m 0 S₀ false) × Room t
     unfolding takenOf
     answers-refused t k e z q = (
-      ap (λ (b : Bool). cond b (taken (stateOf (t .negotiation)) (t .moved)) (refused (t .refusal))) (ne-eqb (t .refusal) 0 (λ w. z (sym e ∙ w))) ∙ ap refused e ∙ sym q,
+      ap (λ (b : Bool). cond b (accepted (stateOf (t .negotiation), t .moved)) (refused (t .refusal))) (ne-eqb (t .refusal) 0 (λ w. z (sym e ∙ w))) ∙ ap refused e ∙ sym q,
       record { sizes = λ w. absurd (z (sym e ∙ w)); formed = λ w. absurd (z (sym e ∙ w)) },
     )
 
@@ -102,12 +103,12 @@ module _ (ns : List Name) (s : ℕ) (m : List ℕ) where
           (r .same ∙ step-one .2 ∙ ap (onCommand (λ size T w. commandsFrom (step-one .0) ns s m (at + size) T w) ns s (stateOf n) v) h)
 
       module _ {c : Command} (h : a ≡ Read c) {k : ℕ} (ke : k ≡ legalNumber ns s (stateOf n) c) where
-        by-number : commandsFrom (length m) ns s m 0 S₀ false ≡ judged k (cond (isEnd c) (taken (stateOf n) v) (commandsFrom (step-one .0) ns s m (at + sizeOf c) (stepped (stateOf n) s c) (v || isMove c)))
+        by-number : commandsFrom (length m) ns s m 0 S₀ false ≡ judged k (cond (isEnd c) (accepted (stateOf n, v)) (commandsFrom (step-one .0) ns s m (at + sizeOf c) (stepped (stateOf n) s c) (v || isMove c)))
         by-number =
             r .same ∙ step-one .2 ∙ ap (onCommand (λ size T w. commandsFrom (step-one .0) ns s m (at + size) T w) ns s (stateOf n) v) h
-            ∙ ap (λ (i : ℕ). judged i (cond (isEnd c) (taken (stateOf n) v) (commandsFrom (step-one .0) ns s m (at + sizeOf c) (stepped (stateOf n) s c) (v || isMove c)))) (sym ke)
+            ∙ ap (λ (i : ℕ). judged i (cond (isEnd c) (accepted (stateOf n, v)) (commandsFrom (step-one .0) ns s m (at + sizeOf c) (stepped (stateOf n) s c) (v || isMove c)))) (sym ke)
 
-        judged-refused : (i : ℕ) (x : Taken) → (i ≡ 0 → ⊥) → judged i x ≡ refused i
+        judged-refused : (i : ℕ) (x : Answer (State × Bool)) → (i ≡ 0 → ⊥) → judged i x ≡ refused i
         judged-refused zero x z = absurd (z refl)
         judged-refused (suc i) x z = refl
 
@@ -116,16 +117,16 @@ module _ (ns : List Name) (s : ℕ) (m : List ℕ) where
         reading-illegal t z e = answers-refused t k e z (by-number ∙ judged-refused k _ z)
 
         module _ (z : k ≡ 0) {b : Bool} (be : b ≡ isEnd c) where
-          by-end : commandsFrom (length m) ns s m 0 S₀ false ≡ cond b (taken (stateOf n) v) (commandsFrom (step-one .0) ns s m (at + sizeOf c) (stepped (stateOf n) s c) (v || isMove c))
+          by-end : commandsFrom (length m) ns s m 0 S₀ false ≡ cond b (accepted (stateOf n, v)) (commandsFrom (step-one .0) ns s m (at + sizeOf c) (stepped (stateOf n) s c) (v || isMove c))
           by-end =
-              by-number ∙ ap (λ (i : ℕ). judged i (cond (isEnd c) (taken (stateOf n) v) (commandsFrom (step-one .0) ns s m (at + sizeOf c) (stepped (stateOf n) s c) (v || isMove c)))) z
-              ∙ ap (λ (d : Bool). cond d (taken (stateOf n) v) (commandsFrom (step-one .0) ns s m (at + sizeOf c) (stepped (stateOf n) s c) (v || isMove c))) (sym be)
+              by-number ∙ ap (λ (i : ℕ). judged i (cond (isEnd c) (accepted (stateOf n, v)) (commandsFrom (step-one .0) ns s m (at + sizeOf c) (stepped (stateOf n) s c) (v || isMove c)))) z
+              ∙ ap (λ (d : Bool). cond d (accepted (stateOf n, v)) (commandsFrom (step-one .0) ns s m (at + sizeOf c) (stepped (stateOf n) s c) (v || isMove c))) (sym be)
 
           -- the end
           pub reading-end : (t : Taking) → b ≡ true → t .refusal ≡ 0 → t .moved ≡ v → t .negotiation ≡ n → (takenOf t ≡ commandsFrom (length m) ns s m 0 S₀ false) × Room t
           unfolding takenOf
           reading-end t q e w x = (
-            ap (λ (d : Bool). cond d (taken (stateOf (t .negotiation)) (t .moved)) (refused (t .refusal))) (eq-eqb (t .refusal) 0 e) ∙ (λ i. taken (stateOf (x i)) (w i)) ∙ sym (by-end ∙ ap (λ (d : Bool). cond d (taken (stateOf n) v) (commandsFrom (step-one .0) ns s m (at + sizeOf c) (stepped (stateOf n) s c) (v || isMove c))) q),
+            ap (λ (d : Bool). cond d (accepted (stateOf (t .negotiation), t .moved)) (refused (t .refusal))) (eq-eqb (t .refusal) 0 e) ∙ (λ i. accepted (stateOf (x i), w i)) ∙ sym (by-end ∙ ap (λ (d : Bool). cond d (accepted (stateOf n, v)) (commandsFrom (step-one .0) ns s m (at + sizeOf c) (stepped (stateOf n) s c) (v || isMove c))) q),
             record { sizes = λ y. subst (λ (g : Negotiation). within (stateOf g) ≡ true) (sym x) (r .sizes); formed = λ y. subst (λ (g : Negotiation). NodesFormed (nodesOf (g .nodes))) (sym x) (r .formed) },
           )
 
@@ -138,7 +139,7 @@ module _ (ns : List Name) (s : ℕ) (m : List ℕ) where
               record {
                 fuel = step-one .0;
                 enough = omega (arith, r .enough, step-one .1, size-some c, de);
-                same = by-end ∙ ap (λ (t : Bool). cond t (taken (stateOf n) v) (commandsFrom (step-one .0) ns s m (at + sizeOf c) (stepped (stateOf n) s c) (v || isMove c))) q
+                same = by-end ∙ ap (λ (t : Bool). cond t (accepted (stateOf n, v)) (commandsFrom (step-one .0) ns s m (at + sizeOf c) (stepped (stateOf n) s c) (v || isMove c))) q
                     ∙ (λ i. commandsFrom (step-one .0) ns s m (at + sym de i) (sym e i) (sym ve i));
                 sizes = ap within e ∙ wide;
                 formed = subst (λ (S : State). NodesFormed (S .nodes)) (sym e) (step-formed (stateOf n) s c (r .formed) room (command-formed m at c (sym ae ∙ h)));

@@ -23,22 +23,23 @@ use Rattle.legal.specs.laws.Number.{refuse-none, first-none}
 use Rattle.legal.specs.laws.Kept.{GraphKept}
 use Rattle.legal.specs.laws.KeptStep.{open-kept, step-kept}
 use Rattle.legal.specs.laws.Room.{legal-room, step-within}
-use Rattle.take.specs.Commands.{Taken, refused, taken, judged, onCommand, commandsFrom}
+use Rattle.take.specs.Commands.{onCommand, commandsFrom}
 use Rattle.message.specs.Message.{isEnd}
 use Rattle.applied.specs.laws.Step.{step-header, step-still, step-some}
+use Rattle.numbers.specs.Answer.{Answer, refused, accepted, judged}
 
 -- what an accepted message leads to
-abbrev isTaken : Taken → Bool
+abbrev isTaken : Answer (State × Bool) → Bool
 isTaken (refused k) = false
-isTaken (taken S v) = true
+isTaken (accepted (S, v)) = true
 
-abbrev stateTaken : State → Taken → State
+abbrev stateTaken : State → Answer (State × Bool) → State
 stateTaken S (refused k) = S
-stateTaken S (taken T v) = T
+stateTaken S (accepted (T, v)) = T
 
-abbrev movedTaken : Taken → Bool
+abbrev movedTaken : Answer (State × Bool) → Bool
 movedTaken (refused k) = false
-movedTaken (taken T v) = v
+movedTaken (accepted (T, v)) = v
 
 -- what commands leave of a state with a node
 pub record Led (ns : List Name) (S : State) (v : Bool) (T : State) (w : Bool) : Type 0 where
@@ -54,7 +55,7 @@ pub record Led (ns : List Name) (S : State) (v : Bool) (T : State) (w : Bool) : 
 
 module _ (ns : List Name) (s : ℕ) (m : List ℕ) where
   abbrev After : ℕ → ℕ → State → Bool → State → Bool → Type 0
-  After f at S v T w = commandsFrom f ns s m at S v ≡ taken T w
+  After f at S v T w = commandsFrom f ns s m at S v ≡ accepted (T, w)
 
   -- what stands behind one command
   follows : (S : State) (v : Bool) (c : Command) (T : State) (w : Bool) → Led ns (stepped S s c) (v || isMove c) T w → Led ns S v T w
@@ -81,7 +82,7 @@ module _ (ns : List Name) (s : ℕ) (m : List ℕ) where
 
   -- one command, and those behind it
   module _ (f : ℕ) (T : State) (w : Bool) (next : Leads f T w) (at : ℕ) (S : State) (v : Bool) (g : GraphKept ns S) (some : length (S .nodes) ≡ 0 → ⊥) (wi : within S ≡ true) where
-    led-end : (c : Command) → commandAt m at ≡ Read c → legalNumber ns s S c ≡ 0 → (b : Bool) → cond b (taken S v) (commandsFrom f ns s m (at + sizeOf c) (stepped S s c) (v || isMove c)) ≡ taken T w → Led ns S v T w
+    led-end : (c : Command) → commandAt m at ≡ Read c → legalNumber ns s S c ≡ 0 → (b : Bool) → cond b (accepted (S, v)) (commandsFrom f ns s m (at + sizeOf c) (stepped S s c) (v || isMove c)) ≡ accepted (T, w) → Led ns S v T w
     led-end c e l true q =
         let t : S ≡ T = ap (stateTaken S) q in
         let u : v ≡ w = ap movedTaken q in
@@ -90,11 +91,11 @@ module _ (ns : List Name) (s : ℕ) (m : List ℕ) where
         follows S v c T w
         (next (at + sizeOf c) (stepped S s c) (v || isMove c) (step-kept ns s S c g some (command-formed m at c e) l) (step-some S s c some) (step-within S wi s c (legal-room S ns s c l)) q)
 
-    led-number : (c : Command) → commandAt m at ≡ Read c → (k : ℕ) → legalNumber ns s S c ≡ k → judged k (cond (isEnd c) (taken S v) (commandsFrom f ns s m (at + sizeOf c) (stepped S s c) (v || isMove c))) ≡ taken T w → Led ns S v T w
+    led-number : (c : Command) → commandAt m at ≡ Read c → (k : ℕ) → legalNumber ns s S c ≡ k → judged k (cond (isEnd c) (accepted (S, v)) (commandsFrom f ns s m (at + sizeOf c) (stepped S s c) (v || isMove c))) ≡ accepted (T, w) → Led ns S v T w
     led-number c e zero l q = led-end c e l (isEnd c) q
     led-number c e (suc k) l q = absurd (false-true (ap isTaken q))
 
-    led-answer : (a : CommandAnswer) → commandAt m at ≡ a → onCommand (λ size U x. commandsFrom f ns s m (at + size) U x) ns s S v a ≡ taken T w → Led ns S v T w
+    led-answer : (a : CommandAnswer) → commandAt m at ≡ a → onCommand (λ size U x. commandsFrom f ns s m (at + size) U x) ns s S v a ≡ accepted (T, w) → Led ns S v T w
     led-answer (Refused k) e q = absurd (false-true (ap isTaken q))
     led-answer (Read c) e q = led-number c e (legalNumber ns s S c) refl q
 
@@ -127,22 +128,22 @@ module _ (ns : List Name) (m : List ℕ) (S : State) (side : S .header .side ≡
 
   -- what stands behind the first command
   abbrev Behind : ℕ → ℕ → Bool → State → Bool → Command → Type 0
-  Behind f at v T w c = commandAt m at ≡ Read c → legalNumber ns 0 S c ≡ 0 → cond (isEnd c) (taken S v) (commandsFrom f ns 0 m (at + sizeOf c) (stepped S 0 c) (v || isMove c)) ≡ taken T w → Led ns S v T w × (w ≡ true)
+  Behind f at v T w c = commandAt m at ≡ Read c → legalNumber ns 0 S c ≡ 0 → cond (isEnd c) (accepted (S, v)) (commandsFrom f ns 0 m (at + sizeOf c) (stepped S 0 c) (v || isMove c)) ≡ accepted (T, w) → Led ns S v T w × (w ≡ true)
 
   behind-open : (f at : ℕ) (v : Bool) (T : State) (w : Bool) (o : Opening) → Behind f at v T w (Open o)
   behind-open f at v T w o e l q =
       let k = commands-led ns 0 m f T w (at + sizeOf (Open o)) (stepped S 0 (Open o)) (v || true) (open-kept ns S o side no-node no-edge no-shown own (command-formed m at (Open o) e) l) (opened-some o) (step-within S wi 0 (Open o) (legal-room S ns 0 (Open o) l)) q in
       (follows ns 0 m S v (Open o) T w k, k .moves (or-true v))
 
-  pub opening-led : (f at : ℕ) (v : Bool) (T : State) (w : Bool) → commandsFrom f ns 0 m at S v ≡ taken T w → Led ns S v T w × (w ≡ true)
+  pub opening-led : (f at : ℕ) (v : Bool) (T : State) (w : Bool) → commandsFrom f ns 0 m at S v ≡ accepted (T, w) → Led ns S v T w × (w ≡ true)
   unfolding commandsFrom isFresh
   opening-led zero at v T w h = absurd (false-true (ap isTaken h))
   opening-led (suc f) at v T w h = by-answer (commandAt m at) refl h
     where
-      by-number : (c : Command) → commandAt m at ≡ Read c → (k : ℕ) → legalNumber ns 0 S c ≡ k → judged k (cond (isEnd c) (taken S v) (commandsFrom f ns 0 m (at + sizeOf c) (stepped S 0 c) (v || isMove c))) ≡ taken T w → Led ns S v T w × (w ≡ true)
+      by-number : (c : Command) → commandAt m at ≡ Read c → (k : ℕ) → legalNumber ns 0 S c ≡ k → judged k (cond (isEnd c) (accepted (S, v)) (commandsFrom f ns 0 m (at + sizeOf c) (stepped S 0 c) (v || isMove c))) ≡ accepted (T, w) → Led ns S v T w × (w ≡ true)
       by-number c e zero l q = let o = fresh-open ns 0 S (eq-eqb (length (S .nodes)) 0 no-node) c l in subst (Behind f at v T w) (sym (o .1)) (behind-open f at v T w (o .0)) e l q
       by-number c e (suc k) l q = absurd (false-true (ap isTaken q))
 
-      by-answer : (a : CommandAnswer) → commandAt m at ≡ a → onCommand (λ size U x. commandsFrom f ns 0 m (at + size) U x) ns 0 S v a ≡ taken T w → Led ns S v T w × (w ≡ true)
+      by-answer : (a : CommandAnswer) → commandAt m at ≡ a → onCommand (λ size U x. commandsFrom f ns 0 m (at + size) U x) ns 0 S v a ≡ accepted (T, w) → Led ns S v T w × (w ≡ true)
       by-answer (Refused k) e q = absurd (false-true (ap isTaken q))
       by-answer (Read c) e q = by-number c e (legalNumber ns 0 S c) refl q

@@ -27,7 +27,6 @@ use Rattle.message.specs.laws.Command.{nothing, size-some}
 use Rattle.message.specs.laws.CommandExact.{command-length, command-room, command-refusal, command-formed, command-only, command-back}
 use Rattle.tables.specs.Tables.{Tables}
 use Rattle.tables.specs.Check.{readTables}
-use Rattle.tables.specs.Check as H
 use Rattle.tables.specs.laws.Accepted.{check-numbers}
 use Rattle.negotiation.specs.State.{State}
 use Rattle.damage.specs.Damage.{readSound}
@@ -40,48 +39,49 @@ use Rattle.take.specs.Commands as C
 use Rattle.message.specs.Message as CLaws
 use Rattle.take.specs.laws.Commands.{refusalOf}
 use Rattle.standing.specs.Turn.{sends, senderTo}
-use Rattle.take.specs.Take.{Outcome, refused, accepted, behindCommands, takenIn, behindStanding, messageSize, takeOf}
+use Rattle.take.specs.Take.{behindCommands, takenIn, behindStanding, messageSize, takeOf}
 use Rattle.message.specs.Message.{bytesOf}
 use Rattle.legal.specs.Updates.{Updates, none, next, Wrong, unreadable, illegal, Stops}
 use Rattle.take.specs.Call.{Stands, InTurn, Refusal, size, unrestored, ended, out-of-turn, stopped}
 use Rattle.take.specs.laws.TakenExactly.{taken-one, take-ended, take-out-of-turn, take-commands}
+use Rattle.numbers.specs.Answer.{Answer, refused, accepted, judged}
 
 -- what an answer is
-abbrev isRefused : C.Taken → Bool
-isRefused (C.refused k) = true
-isRefused (C.taken S v) = false
+abbrev isRefused : Answer (State × Bool) → Bool
+isRefused (refused k) = true
+isRefused (accepted (S, v)) = false
 
-abbrev numberTaken : C.Taken → ℕ
-numberTaken (C.refused k) = k
-numberTaken (C.taken S v) = 0
+abbrev numberTaken : Answer (State × Bool) → ℕ
+numberTaken (refused k) = k
+numberTaken (accepted (S, v)) = 0
 
-abbrev isRefusal : Outcome → Bool
+abbrev isRefusal : Answer State → Bool
 isRefusal (refused k) = true
 isRefusal (accepted S) = false
 
-abbrev numberOf : Outcome → ℕ
+abbrev numberOf : Answer State → ℕ
 numberOf (refused k) = k
 numberOf (accepted S) = 0
 
 -- The commands
 
 module _ (ns : List Name) (s : ℕ) (m : List ℕ) where
-  judged-refused : (k : ℕ) (x : C.Taken) → (k ≡ 0 → ⊥) → C.judged k x ≡ C.refused k
+  judged-refused : (k : ℕ) (x : Answer (State × Bool)) → (k ≡ 0 → ⊥) → judged k x ≡ refused k
   judged-refused zero x z = absurd (z refl)
   judged-refused (suc k) x z = refl
 
   -- a command that is refused
-  refused-here : (f at : ℕ) (S : State) (v : Bool) (k : ℕ) → length m ≤ f + at → Wrong ns s m at S k → C.commandsFrom f ns s m at S v ≡ C.refused k
+  refused-here : (f at : ℕ) (S : State) (v : Bool) (k : ℕ) → length m ≤ f + at → Wrong ns s m at S k → C.commandsFrom f ns s m at S v ≡ refused k
   unfolding C.commandsFrom
-  refused-here zero at S v k l (unreadable e) = ap (λ (a : CommandAnswer). C.refused (refusalOf a)) (nothing m at (omega arith) ∙ e)
+  refused-here zero at S v k l (unreadable e) = ap (λ (a : CommandAnswer). refused (refusalOf a)) (nothing m at (omega arith) ∙ e)
   refused-here zero at S v k l (illegal c e q z) = absurd (omega (arith, l, command-room m at c e, size-some c))
   refused-here (suc f) at S v k l (unreadable e) = ap (C.onCommand (λ size T w. C.commandsFrom f ns s m (at + size) T w) ns s S v) e
   refused-here (suc f) at S v k l (illegal c e q z) =
-      let x : C.Taken = cond (CLaws.isEnd c) (C.taken S v) (C.commandsFrom f ns s m (at + sizeOf c) (stepped S s c) (v || isMove c)) in
-      ap (C.onCommand (λ size T w. C.commandsFrom f ns s m (at + size) T w) ns s S v) e ∙ ap (λ (n : ℕ). C.judged n x) q ∙ judged-refused k x z
+      let x : Answer (State × Bool) = cond (CLaws.isEnd c) (accepted (S, v)) (C.commandsFrom f ns s m (at + sizeOf c) (stepped S s c) (v || isMove c)) in
+      ap (C.onCommand (λ size T w. C.commandsFrom f ns s m (at + size) T w) ns s S v) e ∙ ap (λ (n : ℕ). judged n x) q ∙ judged-refused k x z
 
   -- and those before it
-  refused-behind : {S T : State} {cs : List Command} → Updates ns s S cs T → (f at : ℕ) (v : Bool) (rest : List ℕ) (k : ℕ) → drop at m ≡ bytesOf cs ++ rest → length m ≤ f + at → Wrong ns s m (at + length (bytesOf cs)) T k → C.commandsFrom f ns s m at S v ≡ C.refused k
+  refused-behind : {S T : State} {cs : List Command} → Updates ns s S cs T → (f at : ℕ) (v : Bool) (rest : List ℕ) (k : ℕ) → drop at m ≡ bytesOf cs ++ rest → length m ≤ f + at → Wrong ns s m (at + length (bytesOf cs)) T k → C.commandsFrom f ns s m at S v ≡ refused k
   refused-behind (none {S}) f at v rest k h l w = let z : at + 0 ≡ at = omega arith in refused-here f at S v k l (subst (λ (n : ℕ). Wrong ns s m n S k) z w)
   refused-behind (next {S} {T} {c} {cs} b g e u) zero at v rest k h l w =
       absurd (omega (arith, l, length-drop at m, ap length h, length-append (commandBytes c ++ bytesOf cs) rest, length-append (commandBytes c) (bytesOf cs), command-length c, size-some c))
@@ -89,7 +89,7 @@ module _ (ns : List Name) (s : ℕ) (m : List ℕ) where
       let there : drop at m ≡ commandBytes c ++ (bytesOf cs ++ rest) = h ∙ append-assoc (commandBytes c) (bytesOf cs) rest in
       let behind : at + length (commandBytes c ++ bytesOf cs) ≡ at + sizeOf c + length (bytesOf cs) = omega (arith, length-append (commandBytes c) (bytesOf cs), command-length c) in
       taken-one ns s m f at S v c (command-back m at c (bytesOf cs ++ rest) there g (λ q. absurd (false-true (sym b ∙ ap CLaws.isEnd q)))) e
-      ∙ ap (λ (x : Bool). cond x (C.taken S v) (C.commandsFrom f ns s m (at + sizeOf c) (stepped S s c) (v || isMove c))) b
+      ∙ ap (λ (x : Bool). cond x (accepted (S, v)) (C.commandsFrom f ns s m (at + sizeOf c) (stepped S s c) (v || isMove c))) b
       ∙ refused-behind u f (at + sizeOf c) (v || isMove c) rest k (sym (drop-drop (sizeOf c) at m) ∙ ap (drop (sizeOf c)) there ∙ drop-at (commandBytes c) (bytesOf cs ++ rest) (sizeOf c) (command-length c))
       (omega (arith, l, size-some c)) (subst (λ (n : ℕ). Wrong ns s m n T k) behind w)
 
@@ -119,18 +119,18 @@ module _ (ns : List Name) (s : ℕ) (m : List ℕ) where
         }
 
     abbrev Leads : ℕ → Type 0
-    Leads f = (at : ℕ) (S : State) (v : Bool) → length m ≤ f + at → C.commandsFrom f ns s m at S v ≡ C.refused k → Rest at S
+    Leads f = (at : ℕ) (S : State) (v : Bool) → length m ≤ f + at → C.commandsFrom f ns s m at S v ≡ refused k → Rest at S
 
     module _ (f : ℕ) (behind : Leads f) (at : ℕ) (S : State) (v : Bool) (enough : length m ≤ suc f + at) where
-      rest-command : (c : Command) → commandAt m at ≡ Read c → Legal ns s S c → (b : Bool) → CLaws.isEnd c ≡ b → cond b (C.taken S v) (C.commandsFrom f ns s m (at + sizeOf c) (stepped S s c) (v || isMove c)) ≡ C.refused k → Rest at S
+      rest-command : (c : Command) → commandAt m at ≡ Read c → Legal ns s S c → (b : Bool) → CLaws.isEnd c ≡ b → cond b (accepted (S, v)) (C.commandsFrom f ns s m (at + sizeOf c) (stepped S s c) (v || isMove c)) ≡ refused k → Rest at S
       rest-command c e l true b q = absurd (false-true (ap isRefused q))
       rest-command c e l false b q = rest-next at S c b e l (behind (at + sizeOf c) (stepped S s c) (v || isMove c) (omega (arith, enough, size-some c)) q)
 
-      rest-number : (c : Command) → commandAt m at ≡ Read c → (j : ℕ) → legalNumber ns s S c ≡ j → C.judged j (cond (CLaws.isEnd c) (C.taken S v) (C.commandsFrom f ns s m (at + sizeOf c) (stepped S s c) (v || isMove c))) ≡ C.refused k → Rest at S
+      rest-number : (c : Command) → commandAt m at ≡ Read c → (j : ℕ) → legalNumber ns s S c ≡ j → judged j (cond (CLaws.isEnd c) (accepted (S, v)) (C.commandsFrom f ns s m (at + sizeOf c) (stepped S s c) (v || isMove c))) ≡ refused k → Rest at S
       rest-number c e zero l q = rest-command c e (legal-exactly ns s S c .0 l) (CLaws.isEnd c) refl q
       rest-number c e (suc j) l q = let z : suc j ≡ k = ap numberTaken q in rest-here at S (illegal c e (l ∙ z) (λ y. omega (arith, y, z)))
 
-      rest-answer : (a : CommandAnswer) → commandAt m at ≡ a → C.onCommand (λ size U x. C.commandsFrom f ns s m (at + size) U x) ns s S v a ≡ C.refused k → Rest at S
+      rest-answer : (a : CommandAnswer) → commandAt m at ≡ a → C.onCommand (λ size U x. C.commandsFrom f ns s m (at + size) U x) ns s S v a ≡ refused k → Rest at S
       rest-answer (Refused j) e q = rest-here at S (unreadable (e ∙ ap Refused (ap numberTaken q)))
       rest-answer (Read c) e q = rest-number c e (legalNumber ns s S c) refl q
 
@@ -140,7 +140,7 @@ module _ (ns : List Name) (s : ℕ) (m : List ℕ) where
     rest-all (suc f) at S v l h = rest-answer f (rest-all f) at S v l (commandAt m at) refl h
 
     -- the commands of a message are refused exactly where one of them is, those before it being legal
-    pub stops-exactly : (S : State) → (C.commandsFrom (length m) ns s m 0 S false ≡ C.refused k → Stops ns s m S k) × (Stops ns s m S k → C.commandsFrom (length m) ns s m 0 S false ≡ C.refused k)
+    pub stops-exactly : (S : State) → (C.commandsFrom (length m) ns s m 0 S false ≡ refused k → Stops ns s m S k) × (Stops ns s m S k → C.commandsFrom (length m) ns s m 0 S false ≡ refused k)
     stops-exactly S = (
       λ h.
           let r = rest-all (length m) 0 S false (omega arith) h in
@@ -154,12 +154,12 @@ module _ (ns : List Name) (s : ℕ) (m : List ℕ) where
 -- The call
 
 module _ (tables negotiation message scratch : List ℕ) (bytes : (i : ℕ) → getD message i 0 < 256) (k : ℕ) where
-  abbrev leadsTo : Tables → State → C.Taken
+  abbrev leadsTo : Tables → State → Answer (State × Bool)
   leadsTo T S = C.commandsFrom (length message) (T .names) (senderTo S) message 0 S false
 
-  by-commands : (T : Tables) (S : State) → Stands tables negotiation message scratch T S → InTurn S → (x : C.Taken) → leadsTo T S ≡ x → behindCommands x ≡ refused k → Refusal tables negotiation message scratch k
-  by-commands T S h t (C.refused j) e q = stopped h t (stops-exactly (T .names) (senderTo S) message bytes k S .0 (e ∙ ap C.refused (ap numberOf q)))
-  by-commands T S h t (C.taken U v) e q = absurd (false-true (ap isRefusal q))
+  by-commands : (T : Tables) (S : State) → Stands tables negotiation message scratch T S → InTurn S → (x : Answer (State × Bool)) → leadsTo T S ≡ x → behindCommands x ≡ refused k → Refusal tables negotiation message scratch k
+  by-commands T S h t (refused j) e q = stopped h t (stops-exactly (T .names) (senderTo S) message bytes k S .0 (e ∙ ap refused (ap numberOf q)))
+  by-commands T S h t (accepted (U, v)) e q = absurd (false-true (ap isRefusal q))
 
   by-turn : (T : Tables) (S : State) → Stands tables negotiation message scratch T S → S .header .end ≡ 0 → (b : Bool) → sends (senderTo S) (S .header .messages) ≡ b → cond (not b) (refused 21) (behindCommands (leadsTo T S)) ≡ refused k → Refusal tables negotiation message scratch k
   by-turn T S h e true g q = by-commands T S h (record { going = e; turn = g }) (leadsTo T S) refl q
@@ -169,10 +169,10 @@ module _ (tables negotiation message scratch : List ℕ) (bytes : (i : ℕ) → 
   by-end T S h true g q = by-turn T S h (eqb-true (S .header .end) 0 g) (sends (senderTo S) (S .header .messages)) refl q
   by-end T S h false g q = ended h (eqb-false (S .header .end) 0 g) (sym (ap numberOf q))
 
-  by-standing : messageSize (length message) (length scratch) ≡ true → (x : R.Standing) → R.restoreOf tables negotiation ≡ x → behindStanding message x ≡ refused k → Refusal tables negotiation message scratch k
+  by-standing : messageSize (length message) (length scratch) ≡ true → (x : Answer (Tables × State)) → R.restoreOf tables negotiation ≡ x → behindStanding message x ≡ refused k → Refusal tables negotiation message scratch k
   unfolding takenIn
-  by-standing h (R.refusal j) e q = unrestored h (e ∙ ap R.refusal (ap numberOf q))
-  by-standing h (R.standing T S) e q = by-end T S (record { sized = h; restored = e }) (eqb (S .header .end) 0) refl q
+  by-standing h (refused j) e q = unrestored h (e ∙ ap refused (ap numberOf q))
+  by-standing h (accepted (T, S)) e q = by-end T S (record { sized = h; restored = e }) (eqb (S .header .end) 0) refl q
 
   by-size : (b : Bool) → messageSize (length message) (length scratch) ≡ b → cond b (behindStanding message (R.restoreOf tables negotiation)) (refused 1) ≡ refused k → Refusal tables negotiation message scratch k
   by-size true h q = by-standing h (R.restoreOf tables negotiation) refl q
@@ -244,36 +244,36 @@ wrong-by : {ns : List Name} {s : ℕ} {m : List ℕ} {at : ℕ} {S : State} {k :
 wrong-by {m = m} {at = at} {k = k} (unreadable e) = ⊎-elim (λ z. ap byCommand z) (λ z. ap byCommand z) (command-refusal m at k e)
 wrong-by {ns} {s} {S = S} (illegal c e q z) = sym (ap byCommand q) ∙ legal-by ns s S c
 
-abbrev numberStanding : R.Standing → ℕ
-numberStanding (R.refusal k) = k
-numberStanding (R.standing T S) = 0
+abbrev numberStanding : Answer (Tables × State) → ℕ
+numberStanding (refused k) = k
+numberStanding (accepted (T, S)) = 0
 
-abbrev isUnrestored : R.Standing → Bool
-isUnrestored (R.refusal k) = true
-isUnrestored (R.standing T S) = false
+abbrev isUnrestored : Answer (Tables × State) → Bool
+isUnrestored (refused k) = true
+isUnrestored (accepted (T, S)) = false
 
 -- the negotiation's length is refused by 1, the tables by their number, damage by 20
 module _ (tables negotiation : List ℕ) (k : ℕ) where
   abbrev Unrestored : Type 0
-  Unrestored = ((length negotiation ≡ 5120 → ⊥) × (k ≡ 1)) ⊎ ((readTables tables ≡ H.refused k) ⊎ (k ≡ 20))
+  Unrestored = ((length negotiation ≡ 5120 → ⊥) × (k ≡ 1)) ⊎ ((readTables tables ≡ refused k) ⊎ (k ≡ 20))
 
-  by-state : (T : Tables) (x : Option State) → R.behindDamage T x ≡ R.refusal k → k ≡ 20
+  by-state : (T : Tables) (x : Option State) → R.behindDamage T x ≡ refused k → k ≡ 20
   by-state T O.none q = sym (ap numberStanding q)
   by-state T (O.some S) q = absurd (false-true (ap isUnrestored q))
 
-  by-tables : (x : H.Outcome) → readTables tables ≡ x → R.behindTables negotiation x ≡ R.refusal k → Unrestored
-  by-tables (H.refused j) e q = inr (inl (e ∙ ap H.refused (ap numberStanding q)))
-  by-tables (H.accepted T) e q = inr (inr (by-state T (readSound T negotiation) q))
+  by-tables : (x : Answer Tables) → readTables tables ≡ x → R.behindTables negotiation x ≡ refused k → Unrestored
+  by-tables (refused j) e q = inr (inl (e ∙ ap refused (ap numberStanding q)))
+  by-tables (accepted T) e q = inr (inr (by-state T (readSound T negotiation) q))
 
-  by-length : (b : Bool) → eqb (length negotiation) 5120 ≡ b → cond b (R.behindTables negotiation (readTables tables)) (R.refusal 1) ≡ R.refusal k → Unrestored
+  by-length : (b : Bool) → eqb (length negotiation) 5120 ≡ b → cond b (R.behindTables negotiation (readTables tables)) (refused 1) ≡ refused k → Unrestored
   by-length true e q = by-tables (readTables tables) refl q
   by-length false e q = inl (eqb-false (length negotiation) 5120 e, sym (ap numberStanding q))
 
-  unrestored-by : R.restoreOf tables negotiation ≡ R.refusal k → Unrestored
+  unrestored-by : R.restoreOf tables negotiation ≡ refused k → Unrestored
   unfolding R.restoreOf
   unrestored-by h = by-length (eqb (length negotiation) 5120) refl h
 
-  unrestored-number : R.restoreOf tables negotiation ≡ R.refusal k → (k ≤ 6) ⊎ (k ≡ 20)
+  unrestored-number : R.restoreOf tables negotiation ≡ refused k → (k ≤ 6) ⊎ (k ≡ 20)
   unrestored-number h = ⊎-elim (λ z. inl (omega (arith, z .1))) (λ z. ⊎-elim (λ y. inl (check-numbers tables k y .1)) (λ y. inr y) z) (unrestored-by h)
 
 module _ (tables negotiation message scratch : List ℕ) (bytes : (i : ℕ) → getD message i 0 < 256) where
@@ -300,10 +300,10 @@ module _ (tables negotiation message scratch : List ℕ) (bytes : (i : ℕ) → 
       go (stopped h t r) = absurd (false-true (wrong-by (r .wrong)))
 
   -- 20 to a negotiation that is damaged, and to no other
-  pub damaged-only : takeOf tables negotiation message scratch ≡ refused 20 → R.restoreOf tables negotiation ≡ R.refusal 20
+  pub damaged-only : takeOf tables negotiation message scratch ≡ refused 20 → R.restoreOf tables negotiation ≡ refused 20
   damaged-only q = go (refused-exactly tables negotiation message scratch bytes 20 .0 q)
     where
-      go : Refusal tables negotiation message scratch 20 → R.restoreOf tables negotiation ≡ R.refusal 20
+      go : Refusal tables negotiation message scratch 20 → R.restoreOf tables negotiation ≡ refused 20
       go (size h e) = absurd (omega (arith, e))
       go (unrestored h e) = e
       go (ended h z e) = absurd (omega (arith, e))
@@ -311,10 +311,10 @@ module _ (tables negotiation message scratch : List ℕ) (bytes : (i : ℕ) → 
       go (stopped h t r) = absurd (false-true (wrong-by (r .wrong)))
 
   -- 1 to a length: the message's or the scratch's, the negotiation's, the tables'
-  pub length-only : takeOf tables negotiation message scratch ≡ refused 1 → (messageSize (length message) (length scratch) ≡ false) ⊎ ((length negotiation ≡ 5120 → ⊥) ⊎ (readTables tables ≡ H.refused 1))
+  pub length-only : takeOf tables negotiation message scratch ≡ refused 1 → (messageSize (length message) (length scratch) ≡ false) ⊎ ((length negotiation ≡ 5120 → ⊥) ⊎ (readTables tables ≡ refused 1))
   length-only q = go (refused-exactly tables negotiation message scratch bytes 1 .0 q)
     where
-      go : Refusal tables negotiation message scratch 1 → (messageSize (length message) (length scratch) ≡ false) ⊎ ((length negotiation ≡ 5120 → ⊥) ⊎ (readTables tables ≡ H.refused 1))
+      go : Refusal tables negotiation message scratch 1 → (messageSize (length message) (length scratch) ≡ false) ⊎ ((length negotiation ≡ 5120 → ⊥) ⊎ (readTables tables ≡ refused 1))
       go (size h e) = inl h
       go (unrestored h e) = inr (⊎-elim (λ z. inl (z .0)) (λ z. ⊎-elim (λ y. inr y) (λ y. absurd (omega (arith, y))) z) (unrestored-by tables negotiation 1 e))
       go (ended h z e) = absurd (omega (arith, e))

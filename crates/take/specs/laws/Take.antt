@@ -38,10 +38,11 @@ use Rattle.take.specs.laws.CommandsKept.{Led}
 use Rattle.damage.specs.laws.Going.{sound-count}
 use Rattle.take.specs.laws.TakeKept.{turn-led, led-edges}
 use Rattle.standing.specs.Turn.{sends}
-use Rattle.take.specs.Take.{Outcome, refused, accepted, behindCommands, takenIn, behindStanding, messageSize, takeOf, answerOf, negotiationLeft, scratchLeft}
+use Rattle.take.specs.Take.{behindCommands, takenIn, behindStanding, messageSize, takeOf, negotiationLeft, scratchLeft}
+use Rattle.numbers.specs.Answer.{Answer, refused, accepted, answerOf, noValue}
 
 -- what the code's answer is
-unfoldable pub outcomeOf : Taking → Outcome
+unfoldable pub outcomeOf : Taking → Answer State
 outcomeOf r = cond (eqb (r .refusal) 0) (accepted (stateOf (r .negotiation))) (refused (r .refusal))
 
 -- A negotiation and a message
@@ -59,7 +60,7 @@ no-room : (r : Taking) (k : ℕ) → r .refusal ≡ k → (k ≡ 0 → ⊥) → 
 no-room r k e z = record { sizes = λ w. absurd (z (sym e ∙ w)); formed = λ w. absurd (z (sym e ∙ w)) }
 
 module _ (m : List ℕ) (H : House) (n : Negotiation) where
-  by-tests : (a b : Bool) → not (eqb (n .header .end) 0) ≡ a → not (sends (otherSide (n .header .side)) (n .header .messages)) ≡ b → (t : C.Taken) → C.commandsFrom (length m) (namesOf (H .names)) (otherSide (n .header .side)) m 0 (stateOf n) false ≡ t
+  by-tests : (a b : Bool) → not (eqb (n .header .end) 0) ≡ a → not (sends (otherSide (n .header .side)) (n .header .messages)) ≡ b → (t : Answer (State × Bool)) → C.commandsFrom (length m) (namesOf (H .names)) (otherSide (n .header .side)) m 0 (stateOf n) false ≡ t
       → takenIn m (tablesOf H) (stateOf n) ≡ cond a (refused 22) (cond b (refused 21) (behindCommands t))
   unfolding takenIn tablesOf stateOf
   by-tests a b x y t z = λ i. cond (x i) (refused 22) (cond (y i) (refused 21) (behindCommands (z i)))
@@ -84,14 +85,14 @@ module _ (m : List ℕ) (H : House) (n : Negotiation) where
       pub taken-refused : (r : Taking) → r ≡ t → (t .refusal ≡ 0 → ⊥) → (outcomeOf r ≡ takenIn m (tablesOf H) (stateOf n)) × Room r
       unfolding CLaws.takenOf
       taken-refused r q h = (
-        outcome-refused r (t .refusal) (ap (λ (x : Taking). x .refusal) q) h ∙ sym (by-commands ∙ ap (λ (b : Bool). behindCommands (cond b (C.taken (stateOf (t .negotiation)) (t .moved)) (C.refused (t .refusal)))) (ne-eqb (t .refusal) 0 h)),
+        outcome-refused r (t .refusal) (ap (λ (x : Taking). x .refusal) q) h ∙ sym (by-commands ∙ ap (λ (b : Bool). behindCommands (cond b (accepted (stateOf (t .negotiation), t .moved)) (refused (t .refusal)))) (ne-eqb (t .refusal) 0 h)),
         no-room r (t .refusal) (ap (λ (x : Taking). x .refusal) q) h,
       )
 
       module _ (tz : t .refusal ≡ 0) where
-        is-taken : CLaws.takenOf t ≡ C.taken (stateOf (t .negotiation)) (t .moved)
+        is-taken : CLaws.takenOf t ≡ accepted (stateOf (t .negotiation), t .moved)
         unfolding CLaws.takenOf
-        is-taken = ap (λ (b : Bool). cond b (C.taken (stateOf (t .negotiation)) (t .moved)) (C.refused (t .refusal))) (eq-eqb (t .refusal) 0 tz)
+        is-taken = ap (λ (b : Bool). cond b (accepted (stateOf (t .negotiation), t .moved)) (refused (t .refusal))) (eq-eqb (t .refusal) 0 tz)
 
         -- all are carried out
         pub taken-after : (a : Negotiation) (r : Taking) → Room t → stateOf a ≡ afterMessage (stateOf (t .negotiation)) (t .moved) false → r .refusal ≡ 0 → r .negotiation ≡ a → (outcomeOf r ≡ takenIn m (tablesOf H) (stateOf n)) × Room r
@@ -128,16 +129,16 @@ start-formed H n w h = ⊎-elim
 -- The buffers
 
 -- what a call leaves
-abbrev Leaves : List ℕ → List ℕ → Outcome → ℕ → List ℕ → List ℕ → Type 0
-Leaves negotiation scratch o r n s = (r ≡ answerOf o) × ((n ≡ negotiationLeft negotiation o) × (s ≡ scratchLeft scratch o))
+abbrev Leaves : List ℕ → List ℕ → Answer State → ℕ → List ℕ → List ℕ → Type 0
+Leaves negotiation scratch o r n s = (r ≡ answerOf noValue o) × ((n ≡ negotiationLeft negotiation o) × (s ≡ scratchLeft scratch o))
 
 module _ (tables negotiation message scratch : List ℕ) where
-  by-size : (b : Bool) → messageSize (length message) (length scratch) ≡ b → (s : R.Standing) → R.restoreOf tables negotiation ≡ s → takeOf tables negotiation message scratch ≡ cond b (behindStanding message s) (refused 1)
+  by-size : (b : Bool) → messageSize (length message) (length scratch) ≡ b → (s : Answer (Tables × State)) → R.restoreOf tables negotiation ≡ s → takeOf tables negotiation message scratch ≡ cond b (behindStanding message s) (refused 1)
   unfolding takeOf
   by-size b x s y = λ i. cond (x i) (behindStanding message (y i)) (refused 1)
 
   refuses : (k : ℕ) → takeOf tables negotiation message scratch ≡ refused k → Leaves negotiation scratch (takeOf tables negotiation message scratch) k negotiation scratch
-  refuses k e = subst (λ (o : Outcome). Leaves negotiation scratch o k negotiation scratch) (sym e) (refl, (refl, refl))
+  refuses k e = subst (λ (o : Answer State). Leaves negotiation scratch o k negotiation scratch) (sym e) (refl, (refl, refl))
 
   module _ {b : Bool} (be : b ≡ messageSize (length message) (length scratch)) where
     pub take-size : not b ≡ true → Leaves negotiation scratch (takeOf tables negotiation message scratch) 1 negotiation scratch
@@ -157,12 +158,12 @@ module _ (tables negotiation message scratch : List ℕ) where
       module _ (r : Restored) (re : RLaws.standingOf r ≡ R.restoreOf tables negotiation) where
         pub take-unrestored : (r .refusal ≡ 0 → ⊥) → Leaves negotiation scratch (takeOf tables negotiation message scratch) (r .refusal) negotiation scratch
         unfolding RLaws.standingOf
-        take-unrestored h = refuses (r .refusal) (by-size true sized (R.refusal (r .refusal)) (sym re ∙ ap (λ (b : Bool). cond b (R.standing (tablesOf (r .house)) (stateOf (r .negotiation))) (R.refusal (r .refusal))) (ne-eqb (r .refusal) 0 h)))
+        take-unrestored h = refuses (r .refusal) (by-size true sized (refused (r .refusal)) (sym re ∙ ap (λ (b : Bool). cond b (accepted (tablesOf (r .house), stateOf (r .negotiation))) (refused (r .refusal))) (ne-eqb (r .refusal) 0 h)))
 
         module _ (rz : r .refusal ≡ 0) (t : Taking) (te : outcomeOf t ≡ takenIn message (tablesOf (r .house)) (stateOf (r .negotiation))) where
           is-outcome : takeOf tables negotiation message scratch ≡ outcomeOf t
           unfolding RLaws.standingOf
-          is-outcome = by-size true sized (R.standing (tablesOf (r .house)) (stateOf (r .negotiation))) (sym re ∙ ap (λ (b : Bool). cond b (R.standing (tablesOf (r .house)) (stateOf (r .negotiation))) (R.refusal (r .refusal))) (eq-eqb (r .refusal) 0 rz)) ∙ sym te
+          is-outcome = by-size true sized (accepted (tablesOf (r .house), stateOf (r .negotiation))) (sym re ∙ ap (λ (b : Bool). cond b (accepted (tablesOf (r .house), stateOf (r .negotiation))) (refused (r .refusal))) (eq-eqb (r .refusal) 0 rz)) ∙ sym te
 
           pub take-refused : (t .refusal ≡ 0 → ⊥) → Leaves negotiation scratch (takeOf tables negotiation message scratch) (t .refusal) negotiation scratch
           take-refused h = refuses (t .refusal) (is-outcome ∙ outcome-refused t (t .refusal) refl h)
@@ -170,4 +171,4 @@ module _ (tables negotiation message scratch : List ℕ) where
           pub take-accepted : {n s : List ℕ} → t .refusal ≡ 0 → n ≡ stateBytes (stateOf (t .negotiation)) → s ≡ pasted scratch 0 (zeros (4096 - 0)) → Leaves negotiation scratch (takeOf tables negotiation message scratch) 0 n s
           take-accepted {n} {s} tz ne se =
               let l : length scratch ≡ 4096 = size-parts .2 in
-              subst (λ (o : Outcome). Leaves negotiation scratch o 0 n s) (sym (is-outcome ∙ outcome-accepted t tz)) (refl, (ne, se ∙ paste-whole scratch (zeros 4096) (length-zeros 4096 ∙ sym l) ∙ ap zeros (sym l)))
+              subst (λ (o : Answer State). Leaves negotiation scratch o 0 n s) (sym (is-outcome ∙ outcome-accepted t tz)) (refl, (ne, se ∙ paste-whole scratch (zeros 4096) (length-zeros 4096 ∙ sym l) ∙ ap zeros (sym l)))

@@ -29,8 +29,9 @@ use Rattle.legal.specs.laws.Kept.{GraphKept}
 use Rattle.take.specs.Commands as C
 use Rattle.take.specs.laws.CommandsKept.{Led, commands-led, opening-led}
 use Rattle.standing.specs.Turn.{sends, senderTo}
-use Rattle.take.specs.Take.{Outcome, refused, accepted, behindCommands, takenIn}
+use Rattle.take.specs.Take.{behindCommands, takenIn}
 use Rattle.damage.specs.laws.Going.{header-parts, empty-parts, by-nodes, no-nodes, going-on}
+use Rattle.numbers.specs.Answer.{Answer, refused, accepted}
 
 -- while none is counted, the mediator sends
 first-sender : (v n : ℕ) → v < 2 → n ≡ 0 → sends (otherSide v) n ≡ true → (v ≡ 1) × (otherSide v ≡ 0)
@@ -47,7 +48,7 @@ module _ (T : Tables) (S : State) (h : sound T S ≡ true) where
 
   -- what the commands of a message in turn lead to
   module _ (wi : within S ≡ true) (own : 0 < T .own) (m : List ℕ) (turn : sends (senderTo S) (S .header .messages) ≡ true) where
-    pub turn-led : (U : State) (moved : Bool) → C.commandsFrom (length m) (T .names) (senderTo S) m 0 S false ≡ C.taken U moved → Led (T .names) S false U moved × (length (S .nodes) ≡ 0 → moved ≡ true)
+    pub turn-led : (U : State) (moved : Bool) → C.commandsFrom (length m) (T .names) (senderTo S) m 0 S false ≡ accepted (U, moved) → Led (T .names) S false U moved × (length (S .nodes) ≡ 0 → moved ≡ true)
     turn-led U moved q = ⊎-elim (λ z. first (eqb-true (length (S .nodes)) 0 z)) (λ z. let some = eqb-false (length (S .nodes)) 0 z in (commands-led (T .names) (senderTo S) m (length m) U moved 0 S false (sound-kept some) some wi q, λ y. absurd (some y))) (decided (eqb (length (S .nodes)) 0))
       where
         first : length (S .nodes) ≡ 0 → Led (T .names) S false U moved × (length (S .nodes) ≡ 0 → moved ≡ true)
@@ -65,11 +66,11 @@ led-edges ns S v n w l some = edges-formed (n .header) (n .nodes) (n .edges) som
 
 -- What an accepted message was
 
-abbrev isAccepted : Outcome → Bool
+abbrev isAccepted : Answer State → Bool
 isAccepted (refused k) = false
 isAccepted (accepted A) = true
 
-abbrev stateIn : State → Outcome → State
+abbrev stateIn : State → Answer State → State
 stateIn S (refused k) = S
 stateIn S (accepted A) = A
 
@@ -78,16 +79,16 @@ pub record Took (m : List ℕ) (T : Tables) (S A : State) : Type 0 where
   pub turn : sends (senderTo S) (S .header .messages) ≡ true
   pub led : State
   pub moved : Bool
-  pub commands : C.commandsFrom (length m) (T .names) (senderTo S) m 0 S false ≡ C.taken led moved
+  pub commands : C.commandsFrom (length m) (T .names) (senderTo S) m 0 S false ≡ accepted (led, moved)
   pub after : A ≡ afterMessage led moved false
 
 pub took : (m : List ℕ) (T : Tables) (S A : State) → takenIn m T S ≡ accepted A → Took m T S A
 unfolding takenIn
 took m T S A h = by-end (eqb (S .header .end) 0) refl h
   where
-    by-commands : S .header .end ≡ 0 → sends (senderTo S) (S .header .messages) ≡ true → (t : C.Taken) → C.commandsFrom (length m) (T .names) (senderTo S) m 0 S false ≡ t → behindCommands t ≡ accepted A → Took m T S A
-    by-commands x y (C.refused k) e q = absurd (false-true (ap isAccepted q))
-    by-commands x y (C.taken U moved) e q = record { going = x; turn = y; led = U; moved = moved; commands = e; after = sym (ap (stateIn S) q) }
+    by-commands : S .header .end ≡ 0 → sends (senderTo S) (S .header .messages) ≡ true → (t : Answer (State × Bool)) → C.commandsFrom (length m) (T .names) (senderTo S) m 0 S false ≡ t → behindCommands t ≡ accepted A → Took m T S A
+    by-commands x y (refused k) e q = absurd (false-true (ap isAccepted q))
+    by-commands x y (accepted (U, moved)) e q = record { going = x; turn = y; led = U; moved = moved; commands = e; after = sym (ap (stateIn S) q) }
 
     by-turn : S .header .end ≡ 0 → (b : Bool) → sends (senderTo S) (S .header .messages) ≡ b → cond (not b) (refused 21) (behindCommands (C.commandsFrom (length m) (T .names) (senderTo S) m 0 S false)) ≡ accepted A → Took m T S A
     by-turn x true e q = by-commands x e (C.commandsFrom (length m) (T .names) (senderTo S) m 0 S false) refl q

@@ -6,14 +6,15 @@ use mathlib.Core.List.{List}
 use lib.Dec.{eqb}
 use lib.ListN.{length}
 use Rattle.tables.specs.Tables.{Tables}
-use Rattle.tables.specs.Check.{accepted, readTables}
+use Rattle.tables.specs.Check.{readTables}
 use Rattle.tables.specs.Public.{Public, publicOf}
 use Rattle.negotiation.specs.State.{State}
 use Rattle.standing.specs.Standing.{restoreOf}
 use Rattle.standing.specs.laws.StandingPublic as P
 use Rattle.take.specs.Commands.{commandsFrom}
-use Rattle.take.specs.Take.{Outcome, refused, behindCommands, takenIn, behindStanding, messageSize, takeOf}
+use Rattle.take.specs.Take.{behindCommands, takenIn, behindStanding, messageSize, takeOf}
 use Rattle.standing.specs.Turn.{sends, senderTo}
+use Rattle.numbers.specs.Answer.{Answer, refused, accepted}
 
 taken-public : (m : List ℕ) (T U : Tables) (S : State) → publicOf T ≡ publicOf U → takenIn m T S ≡ takenIn m U S
 unfolding takenIn publicOf
@@ -24,7 +25,7 @@ pub take-public : (s t : List ℕ) (T U : Tables) → readTables s ≡ accepted 
     → (negotiation message scratch : List ℕ) → takeOf s negotiation message scratch ≡ takeOf t negotiation message scratch
 unfolding takeOf
 take-public s t T U h k e negotiation message scratch =
-    ap (λ (o : Outcome). cond (messageSize (length message) (length scratch)) o (refused 1)) (go (P.restore-alike T U e s t h k negotiation))
+    ap (λ (o : Answer State). cond (messageSize (length message) (length scratch)) o (refused 1)) (go (P.restore-alike T U e s t h k negotiation))
   where
     go : P.Alike T U (restoreOf s negotiation) (restoreOf t negotiation) → behindStanding message (restoreOf s negotiation) ≡ behindStanding message (restoreOf t negotiation)
     go (P.refused n a b) = ap (behindStanding message) a ∙ sym (ap (behindStanding message) b)

@@ -27,30 +27,31 @@ use Rattle.legal.specs.laws.Exact.{legal-exactly}
 use Rattle.take.specs.Commands as C
 use Rattle.message.specs.Message as CLaws
 use Rattle.standing.specs.Turn.{sends, senderTo}
-use Rattle.take.specs.Take.{Outcome, refused, accepted, behindCommands, takenIn, behindStanding, messageSize, takeOf}
+use Rattle.take.specs.Take.{behindCommands, takenIn, behindStanding, messageSize, takeOf}
 use Rattle.message.specs.Message.{messageBytes}
 use Rattle.legal.specs.Updates.{Updates, none, next, Carries}
 use Rattle.take.specs.Call.{Stands, InTurn, Accepted}
 use Rattle.message.specs.laws.Command.{size-some}
+use Rattle.numbers.specs.Answer.{Answer, refused, accepted, judged}
 
 -- what an answer is
-abbrev isTaken : C.Taken → Bool
-isTaken (C.refused k) = false
-isTaken (C.taken S v) = true
+abbrev isTaken : Answer (State × Bool) → Bool
+isTaken (refused k) = false
+isTaken (accepted (S, v)) = true
 
-abbrev stateTaken : State → C.Taken → State
-stateTaken S (C.refused k) = S
-stateTaken S (C.taken T v) = T
+abbrev stateTaken : State → Answer (State × Bool) → State
+stateTaken S (refused k) = S
+stateTaken S (accepted (T, v)) = T
 
-abbrev movedTaken : C.Taken → Bool
-movedTaken (C.refused k) = false
-movedTaken (C.taken T v) = v
+abbrev movedTaken : Answer (State × Bool) → Bool
+movedTaken (refused k) = false
+movedTaken (accepted (T, v)) = v
 
-abbrev isAccepted : Outcome → Bool
+abbrev isAccepted : Answer State → Bool
 isAccepted (refused k) = false
 isAccepted (accepted S) = true
 
-abbrev stateAccepted : State → Outcome → State
+abbrev stateAccepted : State → Answer State → State
 stateAccepted S (refused k) = S
 stateAccepted S (accepted T) = T
 
@@ -67,24 +68,24 @@ module _ (ns : List Name) (s : ℕ) (m : List ℕ) where
 
   -- one command, carried out
   pub taken-one : (f at : ℕ) (S : State) (v : Bool) (c : Command) → commandAt m at ≡ Read c → Legal ns s S c
-      → C.commandsFrom (suc f) ns s m at S v ≡ cond (CLaws.isEnd c) (C.taken S v) (C.commandsFrom f ns s m (at + sizeOf c) (stepped S s c) (v || isMove c))
+      → C.commandsFrom (suc f) ns s m at S v ≡ cond (CLaws.isEnd c) (accepted (S, v)) (C.commandsFrom f ns s m (at + sizeOf c) (stepped S s c) (v || isMove c))
   unfolding C.commandsFrom
   taken-one f at S v c e l =
       ap (C.onCommand (λ size T w. C.commandsFrom f ns s m (at + size) T w) ns s S v) e
-      ∙ ap (λ (k : ℕ). C.judged k (cond (CLaws.isEnd c) (C.taken S v) (C.commandsFrom f ns s m (at + sizeOf c) (stepped S s c) (v || isMove c)))) (legal-exactly ns s S c .1 l)
+      ∙ ap (λ (k : ℕ). judged k (cond (CLaws.isEnd c) (accepted (S, v)) (C.commandsFrom f ns s m (at + sizeOf c) (stepped S s c) (v || isMove c)))) (legal-exactly ns s S c .1 l)
 
   -- the commands from an index on
-  pub carried : {S T : State} {cs : List Command} → Updates ns s S cs T → Legal ns s T End → (f at : ℕ) (v : Bool) → drop at m ≡ messageBytes cs → length (messageBytes cs) ≤ f → C.commandsFrom f ns s m at S v ≡ C.taken T (v || moved cs)
+  pub carried : {S T : State} {cs : List Command} → Updates ns s S cs T → Legal ns s T End → (f at : ℕ) (v : Bool) → drop at m ≡ messageBytes cs → length (messageBytes cs) ≤ f → C.commandsFrom f ns s m at S v ≡ accepted (T, v || moved cs)
   unfolding commandBytes formedCommand
   carried (none {S}) l zero at v h few = absurd (omega arith)
-  carried (none {S}) l (suc f) at v h few = taken-one f at S v End (command-back m at End [] h refl (λ q. refl)) l ∙ ap (C.taken S) (sym (or-false v))
+  carried (none {S}) l (suc f) at v h few = taken-one f at S v End (command-back m at End [] h refl (λ q. refl)) l ∙ ap (λ (b : Bool). accepted (S, b)) (sym (or-false v))
   carried (next {S} {T} {c} {cs} e g k u) l zero at v h few = absurd (omega (arith, length-append (commandBytes c) (messageBytes cs), command-length c, size-some c))
   carried (next {S} {T} {c} {cs} e g k u) l (suc f) at v h few =
       taken-one f at S v c (command-back m at c (messageBytes cs) h g (λ q. absurd (false-true (sym e ∙ ap CLaws.isEnd q)))) k
-      ∙ ap (λ (b : Bool). cond b (C.taken S v) (C.commandsFrom f ns s m (at + sizeOf c) (stepped S s c) (v || isMove c))) e
+      ∙ ap (λ (b : Bool). cond b (accepted (S, v)) (C.commandsFrom f ns s m (at + sizeOf c) (stepped S s c) (v || isMove c))) e
       ∙ carried u l f (at + sizeOf c) (v || isMove c) (sym (drop-drop (sizeOf c) at m) ∙ ap (drop (sizeOf c)) h ∙ drop-at (commandBytes c) (messageBytes cs) (sizeOf c) (command-length c))
       (omega (arith, few, length-append (commandBytes c) (messageBytes cs), command-length c, size-some c))
-      ∙ ap (C.taken T) (or-assoc v (isMove c) (moved cs))
+      ∙ ap (λ (b : Bool). accepted (T, b)) (or-assoc v (isMove c) (moved cs))
 
   -- What is taken are legal commands
 
@@ -98,7 +99,7 @@ module _ (ns : List Name) (s : ℕ) (m : List ℕ) where
       moves : w ≡ (v || moved commands)
 
     abbrev Leads : ℕ → State → Bool → Type 0
-    Leads f T w = (at : ℕ) (S : State) (v : Bool) → C.commandsFrom f ns s m at S v ≡ C.taken T w → Rest at S v T w
+    Leads f T w = (at : ℕ) (S : State) (v : Bool) → C.commandsFrom f ns s m at S v ≡ accepted (T, w) → Rest at S v T w
 
     -- an end, the last byte
     rest-end : (at : ℕ) (S : State) (v : Bool) → commandAt m at ≡ Read End → Legal ns s S End → Rest at S v S v
@@ -118,7 +119,7 @@ module _ (ns : List Name) (s : ℕ) (m : List ℕ) where
         }
 
     module _ (f : ℕ) (T : State) (w : Bool) (behind : Leads f T w) (at : ℕ) (S : State) (v : Bool) where
-      rest-command : (c : Command) → commandAt m at ≡ Read c → Legal ns s S c → (b : Bool) → CLaws.isEnd c ≡ b → cond b (C.taken S v) (C.commandsFrom f ns s m (at + sizeOf c) (stepped S s c) (v || isMove c)) ≡ C.taken T w → Rest at S v T w
+      rest-command : (c : Command) → commandAt m at ≡ Read c → Legal ns s S c → (b : Bool) → CLaws.isEnd c ≡ b → cond b (accepted (S, v)) (C.commandsFrom f ns s m (at + sizeOf c) (stepped S s c) (v || isMove c)) ≡ accepted (T, w) → Rest at S v T w
       rest-command c e l true b q =
           let t : S ≡ T = ap (stateTaken S) q in
           let u : v ≡ w = ap movedTaken q in
@@ -126,11 +127,11 @@ module _ (ns : List Name) (s : ℕ) (m : List ℕ) where
           subst (λ (U : State). Rest at S v U w) t (subst (Rest at S v S) u (rest-end at S v (e ∙ ap Read z) (subst (Legal ns s S) z l)))
       rest-command c e l false b q = rest-next at S v T w c b e l (behind (at + sizeOf c) (stepped S s c) (v || isMove c) q)
 
-      rest-number : (c : Command) → commandAt m at ≡ Read c → (k : ℕ) → legalNumber ns s S c ≡ k → C.judged k (cond (CLaws.isEnd c) (C.taken S v) (C.commandsFrom f ns s m (at + sizeOf c) (stepped S s c) (v || isMove c))) ≡ C.taken T w → Rest at S v T w
+      rest-number : (c : Command) → commandAt m at ≡ Read c → (k : ℕ) → legalNumber ns s S c ≡ k → judged k (cond (CLaws.isEnd c) (accepted (S, v)) (C.commandsFrom f ns s m (at + sizeOf c) (stepped S s c) (v || isMove c))) ≡ accepted (T, w) → Rest at S v T w
       rest-number c e zero l q = rest-command c e (legal-exactly ns s S c .0 l) (CLaws.isEnd c) refl q
       rest-number c e (suc k) l q = absurd (false-true (ap isTaken q))
 
-      rest-answer : (a : CommandAnswer) → commandAt m at ≡ a → C.onCommand (λ size U x. C.commandsFrom f ns s m (at + size) U x) ns s S v a ≡ C.taken T w → Rest at S v T w
+      rest-answer : (a : CommandAnswer) → commandAt m at ≡ a → C.onCommand (λ size U x. C.commandsFrom f ns s m (at + size) U x) ns s S v a ≡ accepted (T, w) → Rest at S v T w
       rest-answer (Refused k) e q = absurd (false-true (ap isTaken q))
       rest-answer (Read c) e q = rest-number c e (legalNumber ns s S c) refl q
 
@@ -141,11 +142,11 @@ module _ (ns : List Name) (s : ℕ) (m : List ℕ) where
 
     -- the commands of a message are carried out exactly where it consists of legal commands and an end
     pub commands-exactly : (S T : State) (v : Bool)
-        → (C.commandsFrom (length m) ns s m 0 S false ≡ C.taken T v → (cs : List Command) × Carries ns s m S cs T × (v ≡ moved cs))
-        × (((cs : List Command) × Carries ns s m S cs T × (v ≡ moved cs)) → C.commandsFrom (length m) ns s m 0 S false ≡ C.taken T v)
+        → (C.commandsFrom (length m) ns s m 0 S false ≡ accepted (T, v) → (cs : List Command) × Carries ns s m S cs T × (v ≡ moved cs))
+        × (((cs : List Command) × Carries ns s m S cs T × (v ≡ moved cs)) → C.commandsFrom (length m) ns s m 0 S false ≡ accepted (T, v))
     commands-exactly S T v = (
       λ h. let r = rest-all (length m) T v 0 S false h in (r .commands, record { bytes = r .there; updates = r .updates; end = r .end }, r .moves),
-      λ r. carried (r .1 .updates) (r .1 .end) (length m) 0 false (r .1 .bytes) (omega (arith, ap length (r .1 .bytes))) ∙ ap (C.taken T) (sym (r .2)),
+      λ r. carried (r .1 .updates) (r .1 .end) (length m) 0 false (r .1 .bytes) (omega (arith, ap length (r .1 .bytes))) ∙ ap (λ (b : Bool). accepted (T, b)) (sym (r .2)),
     )
 
 -- The call
@@ -156,7 +157,7 @@ module _ (tables negotiation message scratch : List ℕ) (T : Tables) (S : State
   by-standing = λ i. cond (h .sized i) (behindStanding message (h .restored i)) (refused 1)
 
   -- what a message in its turn leads to
-  abbrev pub leadsTo : C.Taken
+  abbrev pub leadsTo : Answer (State × Bool)
   leadsTo = C.commandsFrom (length message) (T .names) (senderTo S) message 0 S false
 
   -- already ended
@@ -177,9 +178,9 @@ module _ (tables negotiation message scratch : List ℕ) (T : Tables) (S : State
   take-commands t = by-end (t .going) ∙ ap (λ (b : Bool). cond (not b) (refused 21) (behindCommands leadsTo)) (t .turn)
 
   module _ (t : InTurn S) (bytes : (i : ℕ) → getD message i 0 < 256) (A : State) where
-    accepted-of : (x : C.Taken) → leadsTo ≡ x → behindCommands x ≡ accepted A → Accepted T S message A
-    accepted-of (C.refused k) e q = absurd (false-true (ap isAccepted q))
-    accepted-of (C.taken U v) e q =
+    accepted-of : (x : Answer (State × Bool)) → leadsTo ≡ x → behindCommands x ≡ accepted A → Accepted T S message A
+    accepted-of (refused k) e q = absurd (false-true (ap isAccepted q))
+    accepted-of (accepted (U, v)) e q =
         let r = commands-exactly (T .names) (senderTo S) message bytes S U v .0 e in
         record { commands = r .0; led = U; carries = r .1; after = sym (ap (stateAccepted A) q) ∙ ap (λ (b : Bool). afterMessage U b false) (r .2) }
 
@@ -203,10 +204,10 @@ module _ (tables negotiation message scratch : List ℕ) (A : State) where
   ready-end T S h true g q = ready-turn T S h (eqb-true (S .header .end) 0 g) (sends (senderTo S) (S .header .messages)) refl q
   ready-end T S h false g q = absurd (false-true (ap isAccepted q))
 
-  ready-standing : messageSize (length message) (length scratch) ≡ true → (x : R.Standing) → R.restoreOf tables negotiation ≡ x → behindStanding message x ≡ accepted A → Ready
+  ready-standing : messageSize (length message) (length scratch) ≡ true → (x : Answer (Tables × State)) → R.restoreOf tables negotiation ≡ x → behindStanding message x ≡ accepted A → Ready
   unfolding takenIn
-  ready-standing h (R.refusal k) e q = absurd (false-true (ap isAccepted q))
-  ready-standing h (R.standing T S) e q = ready-end T S (record { sized = h; restored = e }) (eqb (S .header .end) 0) refl q
+  ready-standing h (refused k) e q = absurd (false-true (ap isAccepted q))
+  ready-standing h (accepted (T, S)) e q = ready-end T S (record { sized = h; restored = e }) (eqb (S .header .end) 0) refl q
 
   ready-size : (b : Bool) → messageSize (length message) (length scratch) ≡ b → cond b (behindStanding message (R.restoreOf tables negotiation)) (refused 1) ≡ accepted A → Ready
   ready-size true h q = ready-standing h (R.restoreOf tables negotiation) refl q
