@@ -13,6 +13,7 @@ use Rattle.class.specs.declared.Name.{Name}
 use Rattle.class.specs.declared.Typing.{Typing}
 use Rattle.class.specs.declared.Typing.the-variants.{Unnamed, Ill, Any, Class}
 use Rattle.class.specs.Names.{classOf}
+use Rattle.numbers.specs.Refusals.{NAME, CLASS}
 
 -- a role, by the class of its name; zero where the name has none
 unfoldable pub named : ℕ → Typing
@@ -61,5 +62,5 @@ isUnnamed (Class a) = false
 -- a credential: "4 a name without class", "5 a class rule broken" ("From the input"), or zero
 unfoldable pub credentialNumber : List Name → Credential → ℕ
 credentialNumber ns c =
-    cond (eqb (classOf ns (c .head .name)) 0 || isUnnamed (typeOf ns (c .body))) 4
-    (cond (suits (typeOf ns (c .body)) (classOf ns (c .head .name))) 0 5)
+    cond (eqb (classOf ns (c .head .name)) 0 || isUnnamed (typeOf ns (c .body))) NAME
+    (cond (suits (typeOf ns (c .body)) (classOf ns (c .head .name))) 0 CLASS)

@@ -8,6 +8,7 @@ use Rattle.expression.specs.Form.{isRole, isEmpty}
 use Rattle.class.specs.declared.Name.{Name}
 use Rattle.class.specs.Names.{classOf}
 use Rattle.negotiation.specs.declared.Header.{Header}
+use Rattle.numbers.specs.Sizes.{MOST-MESSAGES}
 
 -- the wanted role: of the mediator (side 0) a role whose name has a class, of the requester none
 unfoldable pub wantedSound : List Name → ℕ → Role → Bool
@@ -29,7 +30,7 @@ emptySound h edges shown = eqb (h .messages) 0 && eqb (h .end) 0 && eqb (h .idle
 
 -- with one: "a count above 1,027, or zero with a node"
 unfoldable pub countSound : ℕ → Bool
-countSound n = ltb 0 n && leb n 1027
+countSound n = ltb 0 n && leb n MOST-MESSAGES
 
 -- "an end that the node states contradict": 1 exactly where the primary is satisfied, 2 exactly where it is failed; 3 goes with idle 1,
 -- 1 and 2 with idle 0, 0 and 4 with either

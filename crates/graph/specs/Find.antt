@@ -11,6 +11,7 @@ use Rattle.rt0.specs.Pool.{upTo}
 use Rattle.graph.specs.declared.Node.{Node}
 use Rattle.graph.specs.declared.Edge.{Edge}
 use Rattle.graph.specs.Graph.{nodeIn}
+use Rattle.numbers.specs.Sizes.{MOST-NODES}
 
 -- a node of expression x, verifier v and subject s
 abbrev pub isNode : Expression → ℕ → ℕ → Node → Bool
@@ -18,7 +19,7 @@ isNode x v s n = eqb (n .verifier) v && eqb (n .subject) s && same (n .expressio
 
 -- the least number of such a node; 128, which is no node's number, where there is none
 unfoldable pub findNode : List Node → Expression → ℕ → ℕ → ℕ
-findNode ns x v s = firstOr (λ i. isNode x v s (nodeIn ns i)) (λ i. i) 128 (upTo (length ns) (λ i. i))
+findNode ns x v s = firstOr (λ i. isNode x v s (nodeIn ns i)) (λ i. i) MOST-NODES (upTo (length ns) (λ i. i))
 
 -- edges are the same by kind, parent and child
 abbrev pub sameEdge : Edge → Edge → Bool

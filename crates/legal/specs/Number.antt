@@ -31,6 +31,7 @@ use Rattle.negotiation.specs.Ends.{entityOf}
 use Rattle.rt0.specs.Shown.{isShown}
 use Rattle.graph.specs.Processed.{processedBy}
 use Rattle.applied.specs.Step.{parentIn, childIn}
+use Rattle.numbers.specs.Refusals.{NAME, CLASS, OPENING, ABSENT, PRESENT, UNJUSTIFIED, PROCESSED, FULL}
 
 -- refused with k where b holds, else judged further
 unfoldable pub refuse : Bool → ℕ → ℕ → ℕ
@@ -56,29 +57,29 @@ formedAs h k p c = form k (entityOf h (p .verifier)) p c
 unfoldable pub showNumber : List Name → State → Credential → ℕ
 showNumber ns S c =
     first (credentialNumber ns c)
-    (refuse (isFresh S) 23
-    (refuse (isShown (S .shown) c) 25
-    (refuse (leb MOST-SHOWN (length (S .shown))) 28
+    (refuse (isFresh S) OPENING
+    (refuse (isShown (S .shown) c) PRESENT
+    (refuse (leb MOST-SHOWN (length (S .shown))) FULL
     0)))
 
 -- 0x02
 unfoldable pub openNumber : List Name → State → Opening → ℕ
 openNumber ns S o =
-    refuse (eqb (classOf ns (o .role .name)) 0) 4
-    (refuse (not (isFresh S)) 23
+    refuse (eqb (classOf ns (o .role .name)) 0) NAME
+    (refuse (not (isFresh S)) OPENING
     0)
 
 -- 0x05
 unfoldable pub markNumber : ℕ → State → ℕ → ℕ
 markNumber s S i =
-    refuse (isFresh S) 23
-    (refuse (isAbsent S i) 24
-    (refuse (processedBy s (nodeIn (S .nodes) i)) 27
+    refuse (isFresh S) OPENING
+    (refuse (isAbsent S i) ABSENT
+    (refuse (processedBy s (nodeIn (S .nodes) i)) PROCESSED
     0))
 
 -- 0x06
 unfoldable pub endNumber : State → ℕ
-endNumber S = refuse (isFresh S) 23 0
+endNumber S = refuse (isFresh S) OPENING 0
 
 -- 0x04: "edge form wrong", the node itself, or "already present"
 unfoldable pub joinWrong : State → Edge → Bool
@@ -100,18 +101,18 @@ justifiedFor S k p x b =
 -- the last is whether the edge is justified
 unfoldable pub joinNumber : ℕ → State → Edge → Bool → ℕ
 joinNumber s S e justifies =
-    refuse (isFresh S) 23
-    (refuse (isAbsent S (e .parent) || isAbsent S (e .child)) 24
-    (refuse (joinWrong S e) 25
-    (refuse (not justifies) 26
-    (refuse (processedBy s (nodeIn (S .nodes) (e .parent))) 27
-    (refuse (leb MOST-EDGES (length (S .edges))) 28
+    refuse (isFresh S) OPENING
+    (refuse (isAbsent S (e .parent) || isAbsent S (e .child)) ABSENT
+    (refuse (joinWrong S e) PRESENT
+    (refuse (not justifies) UNJUSTIFIED
+    (refuse (processedBy s (nodeIn (S .nodes) (e .parent))) PROCESSED
+    (refuse (leb MOST-EDGES (length (S .edges))) FULL
     0)))))
 
 -- "4 a name without class", "5 a class rule broken"
 abbrev pub typeNumber : Typing → ℕ
-typeNumber Unnamed = 4
-typeNumber Ill = 5
+typeNumber Unnamed = NAME
+typeNumber Ill = CLASS
 typeNumber Any = 0
 typeNumber (Class a) = 0
 
@@ -124,12 +125,12 @@ bringWrong S n =
 unfoldable pub bringNumber : List Name → ℕ → State → NewEdge → Bool → ℕ
 bringNumber ns s S n justifies =
     first (typeNumber (typeOf ns (n .expression)))
-    (refuse (isFresh S) 23
-    (refuse (isAbsent S (n .parent)) 24
-    (refuse (bringWrong S n) 25
-    (refuse (not justifies) 26
-    (refuse (processedBy s (nodeIn (S .nodes) (n .parent))) 27
-    (refuse (leb MOST-NODES (length (S .nodes)) || leb MOST-EDGES (length (S .edges))) 28
+    (refuse (isFresh S) OPENING
+    (refuse (isAbsent S (n .parent)) ABSENT
+    (refuse (bringWrong S n) PRESENT
+    (refuse (not justifies) UNJUSTIFIED
+    (refuse (processedBy s (nodeIn (S .nodes) (n .parent))) PROCESSED
+    (refuse (leb MOST-NODES (length (S .nodes)) || leb MOST-EDGES (length (S .edges))) FULL
     0))))))
 
 -- whether the edge that a command adds is justified

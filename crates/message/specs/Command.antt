@@ -21,6 +21,8 @@ use Rattle.message.specs.declared.Command.{Command}
 use Rattle.message.specs.declared.Command.the-variants.{Show, Open, Bring, Join, Mark, End}
 use Rattle.message.specs.declared.CommandAnswer.{CommandAnswer}
 use Rattle.message.specs.declared.CommandAnswer.the-variants.{Read, Refused}
+use Rattle.numbers.specs.Refusals.{COMMAND, OPERAND}
+use Rattle.numbers.specs.Bytes.{CREDENTIAL-BYTES, OPEN-BYTES, NEW-EDGE-BYTES, OLD-EDGE-BYTES, MARK-BYTES, END-BYTES}
 
 -- "Edge kinds: 1 implication, .., 6 control"
 abbrev pub edgeKind : ℕ → Bool
@@ -45,26 +47,26 @@ formedCommand End = true
 
 -- "2 .. cut command" ("From the input"), whatever its bytes
 abbrev pub whole : ℕ → List ℕ → ℕ → CommandAnswer → CommandAnswer
-whole size s at r = cond (ltb (length s - at) size) (Refused 2) r
+whole size s at r = cond (ltb (length s - at) size) (Refused COMMAND) r
 
 -- "3 an operand of wrong form, an illegal initial state"
 abbrev pub checked : Bool → Command → CommandAnswer
-checked b c = cond b (Read c) (Refused 3)
+checked b c = cond b (Read c) (Refused OPERAND)
 
 abbrev pub shown : CredentialAnswer → CommandAnswer
 shown (a.Read c) = Read (Show c)
-shown a.Wrong = Refused 3
+shown a.Wrong = Refused OPERAND
 
 -- "0x01 credential, 23 bytes: issuer, name, body"
 unfoldable pub showAt : List ℕ → ℕ → CommandAnswer
-showAt s at = whole 23 s at (shown (readCredential s (at + 1)))
+showAt s at = whole CREDENTIAL-BYTES s at (shown (readCredential s (at + 1)))
 
 abbrev pub openingOf : List ℕ → ℕ → Opening
 openingOf s at = record { role = roleAt s (at + 1); state = getD s (at + 5) 0 }
 
 -- "0x02 open, 6: role, state"
 unfoldable pub openAt : List ℕ → ℕ → CommandAnswer
-openAt s at = whole 6 s at (checked (formedOpening (openingOf s at)) (Open (openingOf s at)))
+openAt s at = whole OPEN-BYTES s at (checked (formedOpening (openingOf s at)) (Open (openingOf s at)))
 
 abbrev pub newOf : List ℕ → ℕ → Expression → NewEdge
 newOf s at child =
@@ -72,26 +74,26 @@ newOf s at child =
 
 abbrev pub brought : List ℕ → ℕ → ExpressionAnswer → CommandAnswer
 brought s at (e.Read child) = checked (formedNew (newOf s at child)) (Bring (newOf s at child))
-brought s at e.Wrong = Refused 3
+brought s at e.Wrong = Refused OPERAND
 
 -- "0x03 edge with a new child, 24: edge kind, parent, child's expression, child's subject, state"
 unfoldable pub bringAt : List ℕ → ℕ → CommandAnswer
-bringAt s at = whole 24 s at (brought s at (readOf s (at + 3)))
+bringAt s at = whole NEW-EDGE-BYTES s at (brought s at (readOf s (at + 3)))
 
 abbrev pub edgeOf : List ℕ → ℕ → Edge
 edgeOf s at = record { kind = getD s (at + 1) 0; parent = getD s (at + 2) 0; child = getD s (at + 3) 0 }
 
 -- "0x04 edge between old nodes, 4: edge kind, parent, child"
 unfoldable pub joinAt : List ℕ → ℕ → CommandAnswer
-joinAt s at = whole 4 s at (checked (edgeKind (getD s (at + 1) 0)) (Join (edgeOf s at)))
+joinAt s at = whole OLD-EDGE-BYTES s at (checked (edgeKind (getD s (at + 1) 0)) (Join (edgeOf s at)))
 
 -- "0x05 mark, 2: node"
 unfoldable pub markAt : List ℕ → ℕ → CommandAnswer
-markAt s at = whole 2 s at (Read (Mark (getD s (at + 1) 0)))
+markAt s at = whole MARK-BYTES s at (Read (Mark (getD s (at + 1) 0)))
 
 -- "0x06 end, 1: stands last and only there"; "2 .. bytes after end"
 unfoldable pub endAt : List ℕ → ℕ → CommandAnswer
-endAt s at = cond (eqb (length s - at) 1) (Read End) (Refused 2)
+endAt s at = cond (eqb (length s - at) END-BYTES) (Read End) (Refused COMMAND)
 
 -- the command by its first byte; "2 unknown command"
 abbrev pub byCode : ℕ → List ℕ → ℕ → CommandAnswer
@@ -102,7 +104,7 @@ byCode code s at =
     (cond (eqb code 4) (joinAt s at)
     (cond (eqb code 5) (markAt s at)
     (cond (eqb code 6) (endAt s at)
-    (Refused 2))))))
+    (Refused COMMAND))))))
 
 -- the command at an index; "2 .. missing end" where nothing stands there
 unfoldable pub commandAt : List ℕ → ℕ → CommandAnswer
@@ -132,9 +134,9 @@ commandBytes End = 6 ∷ []
 
 -- how many they are
 abbrev pub sizeOf : Command → ℕ
-sizeOf (Show c) = 23
-sizeOf (Open o) = 6
-sizeOf (Bring n) = 24
-sizeOf (Join g) = 4
-sizeOf (Mark n) = 2
-sizeOf End = 1
+sizeOf (Show c) = CREDENTIAL-BYTES
+sizeOf (Open o) = OPEN-BYTES
+sizeOf (Bring n) = NEW-EDGE-BYTES
+sizeOf (Join g) = OLD-EDGE-BYTES
+sizeOf (Mark n) = MARK-BYTES
+sizeOf End = END-BYTES

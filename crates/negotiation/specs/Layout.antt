@@ -14,6 +14,7 @@ use Rattle.graph.specs.declared.Node.{Node}
 use Rattle.graph.specs.declared.Edge.{Edge}
 use Rattle.negotiation.specs.declared.Header.{Header}
 use Rattle.negotiation.specs.State.{State}
+use Rattle.numbers.specs.Sizes.{MOST-NODES, MOST-EDGES, MOST-SHOWN}
 
 -- Writing
 
@@ -87,9 +88,9 @@ unfoldable pub candidateOf : List ℕ → State
 candidateOf s =
     record {
       header = headerFrom s;
-      nodes = upTo (few 128 (getD s 14 0)) (λ (i : ℕ). nodeFrom s (128 + i * 22));
-      edges = upTo (few 256 (numberAt s 15)) (λ (j : ℕ). edgeFrom s (2944 + j * 3));
-      shown = upTo (few 64 (getD s 17 0)) (λ (k : ℕ). credentialFrom s (3712 + k * 22));
+      nodes = upTo (few MOST-NODES (getD s 14 0)) (λ (i : ℕ). nodeFrom s (128 + i * 22));
+      edges = upTo (few MOST-EDGES (numberAt s 15)) (λ (j : ℕ). edgeFrom s (2944 + j * 3));
+      shown = upTo (few MOST-SHOWN (getD s 17 0)) (λ (k : ℕ). credentialFrom s (3712 + k * 22));
     }
 
 unfoldable pub sameBytes : List ℕ → List ℕ → Bool

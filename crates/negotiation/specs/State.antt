@@ -10,6 +10,7 @@ use Rattle.graph.specs.declared.Node.{Node}
 use Rattle.graph.specs.declared.Edge.{Edge}
 use Rattle.graph.specs.Graph.{nodeIn, inState}
 use Rattle.negotiation.specs.declared.Header.{Header}
+use Rattle.numbers.specs.Sizes.{MOST-NODES, MOST-EDGES, MOST-SHOWN}
 
 pub record State : Type 0 where
   pub header : Header
@@ -46,4 +47,4 @@ withHeader S h = record { header = h; nodes = S .nodes; edges = S .edges; shown 
 
 -- "A graph has at most 128 nodes and 256 edges, and a negotiation at most 64 credentials shown so far"
 unfoldable pub within : State → Bool
-within S = leb (length (S .nodes)) 128 && leb (length (S .edges)) 256 && leb (length (S .shown)) 64
+within S = leb (length (S .nodes)) MOST-NODES && leb (length (S .edges)) MOST-EDGES && leb (length (S .shown)) MOST-SHOWN

@@ -16,6 +16,7 @@ use Rattle.expression.specs.Bytes.{rawBytes}
 use Rattle.expression.specs.Form.{rawOf, wellFormed}
 use Rattle.question.specs.Question.{operandOf}
 use Rattle.numbers.specs.Answer.{accepted}
+use Rattle.numbers.specs.Refusals.{COMMAND, OPERAND}
 
 -- a command for each credential, then the end
 abbrev pub commands : List Credential → List ℕ
@@ -29,7 +30,7 @@ Formed (c ∷ C) = (wellFormedCredential c ≡ true) × Formed C
 
 -- a list is refused 2 or 3
 abbrev pub Refusal : ℕ → Type 0
-Refusal k = (k ≡ 2) ⊎ (k ≡ 3)
+Refusal k = (k ≡ COMMAND) ⊎ (k ≡ OPERAND)
 
 abbrev pub expressionBytes : Expression → List ℕ
 expressionBytes x = rawBytes (rawOf x)

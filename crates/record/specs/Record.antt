@@ -16,6 +16,8 @@ use Rattle.record.specs.declared.Record.{Record}
 use Rattle.record.specs.declared.Record.the-variants.{Own, Named, IssuerStored, SubjectStored, Sensitive, Access}
 use Rattle.record.specs.declared.RecordAnswer.{RecordAnswer}
 use Rattle.record.specs.declared.RecordAnswer.the-variants.{Read, Refused}
+use Rattle.numbers.specs.Refusals.{COMMAND, OPERAND}
+use Rattle.numbers.specs.Bytes.{CREDENTIAL-BYTES, SELF-BYTES, NAME-BYTES, PAIR-BYTES}
 
 -- names "run from 1"; "a class byte" is 1 to 3
 abbrev pub formedName : Name → Bool
@@ -45,36 +47,36 @@ paired false p = Sensitive p
 
 -- "2 .. cut command" ("From the input"), whatever its bytes
 abbrev pub whole : ℕ → List ℕ → ℕ → RecordAnswer → RecordAnswer
-whole size s at r = cond (ltb (length s - at) size) (Refused 2) r
+whole size s at r = cond (ltb (length s - at) size) (Refused COMMAND) r
 
 -- "3 an operand of wrong form"
 abbrev pub checked : Bool → Record → RecordAnswer
-checked b r = cond b (Read r) (Refused 3)
+checked b r = cond b (Read r) (Refused OPERAND)
 
 -- "0x10 self (one number, once)"
 unfoldable pub ownAt : List ℕ → ℕ → RecordAnswer
-ownAt s at = whole 3 s at (checked (ltb 0 (numberAt s (at + 1))) (Own (numberAt s (at + 1))))
+ownAt s at = whole SELF-BYTES s at (checked (ltb 0 (numberAt s (at + 1))) (Own (numberAt s (at + 1))))
 
 abbrev pub nameOf : List ℕ → ℕ → Name
 nameOf s at = record { name = numberAt s at; class = getD s (at + 2) 0 }
 
 -- "0x11 name, class byte"
 unfoldable pub nameAt : List ℕ → ℕ → RecordAnswer
-nameAt s at = whole 4 s at (checked (formedName (nameOf s (at + 1))) (Named (nameOf s (at + 1))))
+nameAt s at = whole NAME-BYTES s at (checked (formedName (nameOf s (at + 1))) (Named (nameOf s (at + 1))))
 
 abbrev pub storedOf : Bool → CredentialAnswer → RecordAnswer
 storedOf subject (a.Read c) = Read (stored subject c)
-storedOf subject a.Wrong = Refused 3
+storedOf subject a.Wrong = Refused OPERAND
 
 -- "(operands of 0x01)"
 unfoldable pub storedAt : Bool → List ℕ → ℕ → RecordAnswer
-storedAt subject s at = whole 23 s at (storedOf subject (readCredential s (at + 1)))
+storedAt subject s at = whole CREDENTIAL-BYTES s at (storedOf subject (readCredential s (at + 1)))
 
 abbrev pub pairOf : List ℕ → ℕ → Pair
 pairOf s at = record { role = roleAt s at; other = roleAt s (at + 4) }
 
 unfoldable pub pairAt : Bool → List ℕ → ℕ → RecordAnswer
-pairAt access s at = whole 9 s at (checked (formedPair (pairOf s (at + 1))) (paired access (pairOf s (at + 1))))
+pairAt access s at = whole PAIR-BYTES s at (checked (formedPair (pairOf s (at + 1))) (paired access (pairOf s (at + 1))))
 
 -- the record by its first byte; "2 unknown command"
 abbrev pub byCode : ℕ → List ℕ → ℕ → RecordAnswer
@@ -85,7 +87,7 @@ byCode code s at =
     (cond (eqb code 19) (storedAt true s at)
     (cond (eqb code 20) (pairAt false s at)
     (cond (eqb code 21) (pairAt true s at)
-    (Refused 2))))))
+    (Refused COMMAND))))))
 
 -- the record at an index
 unfoldable pub recordAt : List ℕ → ℕ → RecordAnswer
@@ -106,9 +108,9 @@ recordBytes (Access p) = 21 ∷ (roleBytes (p .role) ++ roleBytes (p .other))
 
 -- how many they are
 abbrev pub sizeOf : Record → ℕ
-sizeOf (Own e) = 3
-sizeOf (Named n) = 4
-sizeOf (IssuerStored c) = 23
-sizeOf (SubjectStored c) = 23
-sizeOf (Sensitive p) = 9
-sizeOf (Access p) = 9
+sizeOf (Own e) = SELF-BYTES
+sizeOf (Named n) = NAME-BYTES
+sizeOf (IssuerStored c) = CREDENTIAL-BYTES
+sizeOf (SubjectStored c) = CREDENTIAL-BYTES
+sizeOf (Sensitive p) = PAIR-BYTES
+sizeOf (Access p) = PAIR-BYTES

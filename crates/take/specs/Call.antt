@@ -14,6 +14,7 @@ use Rattle.take.specs.Take.{messageSize}
 use Rattle.applied.specs.Step.{moved}
 use Rattle.legal.specs.Updates.{Carries, Stops}
 use Rattle.numbers.specs.Answer.{refused, accepted}
+use Rattle.numbers.specs.Refusals.{LENGTH, TURN, ENDED}
 
 -- the lengths are right, and the tables T and the undamaged state S are what the lent bytes hold
 pub record Stands (tables negotiation message scratch : List ℕ) (T : Tables) (S : State) : Type 0 where
@@ -35,12 +36,12 @@ pub record Accepted (T : Tables) (S : State) (message : List ℕ) (A : State) : 
 -- why a call is refused with k, in the order of "From the state"
 pub data Refusal (tables negotiation message scratch : List ℕ) (k : ℕ) : Type 0 where
   -- "1 a lent length outside the sizes"
-  size : messageSize (length message) (length scratch) ≡ false → k ≡ 1 → Refusal tables negotiation message scratch k
+  size : messageSize (length message) (length scratch) ≡ false → k ≡ LENGTH → Refusal tables negotiation message scratch k
   -- the negotiation's length 1, the tables 1 to 6, "20 negotiation damaged"
   unrestored : messageSize (length message) (length scratch) ≡ true → restoreOf tables negotiation ≡ refused k → Refusal tables negotiation message scratch k
   -- "22 already ended"
-  ended : {T : Tables} {S : State} → Stands tables negotiation message scratch T S → (S .header .end ≡ 0 → ⊥) → k ≡ 22 → Refusal tables negotiation message scratch k
+  ended : {T : Tables} {S : State} → Stands tables negotiation message scratch T S → (S .header .end ≡ 0 → ⊥) → k ≡ ENDED → Refusal tables negotiation message scratch k
   -- "21 not that side's turn"
-  out-of-turn : {T : Tables} {S : State} → Stands tables negotiation message scratch T S → S .header .end ≡ 0 → sends (senderTo S) (S .header .messages) ≡ false → k ≡ 21 → Refusal tables negotiation message scratch k
+  out-of-turn : {T : Tables} {S : State} → Stands tables negotiation message scratch T S → S .header .end ≡ 0 → sends (senderTo S) (S .header .messages) ≡ false → k ≡ TURN → Refusal tables negotiation message scratch k
   -- a command
   stopped : {T : Tables} {S : State} → Stands tables negotiation message scratch T S → InTurn S → Stops (T .names) (senderTo S) message S k → Refusal tables negotiation message scratch k

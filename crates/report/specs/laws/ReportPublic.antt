@@ -6,14 +6,14 @@ use Rattle.tables.specs.Tables.{Tables}
 use Rattle.tables.specs.Check.{readTables}
 use Rattle.tables.specs.Public.{publicOf}
 use Rattle.standing.specs.Standing.{restoreOf}
-use Rattle.standing.specs.laws.StandingPublic.{Alike, refused, found, restore-alike}
+use Rattle.standing.specs.laws.StandingPublic.{Alike, both-refused, both-found, restore-alike}
 use Rattle.report.specs.Report.{behindNegotiation, reportOf}
-use Rattle.numbers.specs.Answer.{refused, accepted}
+use Rattle.numbers.specs.Answer.{accepted}
 
 pub report-public : (s t : List ℕ) (T U : Tables) → readTables s ≡ accepted T → readTables t ≡ accepted U → publicOf T ≡ publicOf U → (negotiation : List ℕ) (i : ℕ) → reportOf s negotiation i ≡ reportOf t negotiation i
 unfolding reportOf
 report-public s t T U h k e negotiation i = go (restore-alike T U e s t h k negotiation)
   where
     go : Alike T U (restoreOf s negotiation) (restoreOf t negotiation) → behindNegotiation i (restoreOf s negotiation) ≡ behindNegotiation i (restoreOf t negotiation)
-    go (refused n a b) = ap (behindNegotiation i) a ∙ sym (ap (behindNegotiation i) b)
-    go (found S a b) = ap (behindNegotiation i) a ∙ sym (ap (behindNegotiation i) b)
+    go (both-refused n a b) = ap (behindNegotiation i) a ∙ sym (ap (behindNegotiation i) b)
+    go (both-found S a b) = ap (behindNegotiation i) a ∙ sym (ap (behindNegotiation i) b)

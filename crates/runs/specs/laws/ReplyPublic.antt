@@ -107,8 +107,8 @@ module _ (T U : Tables) (e : publicOf T ≡ publicOf U) where
   reply-public s t h k negotiation reply scratch q = sized (replySize (length reply) (length scratch)) (R.restoreOf s negotiation) (R.restoreOf t negotiation) (P.restore-alike T U e s t h k negotiation) (λ S a. restored-within s negotiation T T S h a) q
     where
       both : (x y : Answer (Tables × State)) → P.Alike T U x y → ((S : State) → x ≡ accepted (T, S) → within S ≡ true) → Quiet T U (behindStanding x) ⊎ Quiet T U (behindStanding y) → behindStanding x ≡ behindStanding y
-      both x y (P.refused n a b) w c = ap behindStanding a ∙ sym (ap behindStanding b)
-      both x y (P.found S a b) w c =
+      both x y (P.both-refused n a b) w c = ap behindStanding a ∙ sym (ap behindStanding b)
+      both x y (P.both-found S a b) w c =
           ap behindStanding a
           ∙ replied-alike S (w S a) (⊎-elim (λ z. inl (subst (λ (v : Answer (Tables × State)). Quiet T U (behindStanding v)) a z)) (λ z. inr (subst (λ (v : Answer (Tables × State)). Quiet T U (behindStanding v)) b z)) c)
           ∙ sym (ap behindStanding b)

@@ -23,26 +23,26 @@ sound-public T U S e =
 
 -- two calls whose tables have one public part: both are refused, with one number, or both find the same state
 pub data Alike (T U : Tables) (x y : Answer (Tables × State)) : Type 0 where
-  refused : (k : ℕ) → x ≡ refused k → y ≡ refused k → Alike T U x y
-  found : (S : State) → x ≡ accepted (T, S) → y ≡ accepted (U, S) → Alike T U x y
+  both-refused : (k : ℕ) → x ≡ refused k → y ≡ refused k → Alike T U x y
+  both-found : (S : State) → x ≡ accepted (T, S) → y ≡ accepted (U, S) → Alike T U x y
 
 alike-by : (T U : Tables) {x y v w : Answer (Tables × State)} → v ≡ x → w ≡ y → Alike T U x y → Alike T U v w
-alike-by T U p q (refused k a b) = refused k (p ∙ a) (q ∙ b)
-alike-by T U p q (found S a b) = found S (p ∙ a) (q ∙ b)
+alike-by T U p q (both-refused k a b) = both-refused k (p ∙ a) (q ∙ b)
+alike-by T U p q (both-found S a b) = both-found S (p ∙ a) (q ∙ b)
 
 module _ (T U : Tables) (e : publicOf T ≡ publicOf U) where
   alike-sound : (x : Option State) → Alike T U (behindDamage T (ifSound T x)) (behindDamage U (ifSound U x))
-  alike-sound none = refused 20 refl refl
+  alike-sound none = both-refused 20 refl refl
   alike-sound (some S) = go (sound T S) refl
     where
       go : (b : Bool) → sound T S ≡ b → Alike T U (behindDamage T (cond (sound T S) (some S) none)) (behindDamage U (cond (sound U S) (some S) none))
-      go true q = found S (ap (λ (b : Bool). behindDamage T (cond b (some S) none)) q) (ap (λ (b : Bool). behindDamage U (cond b (some S) none)) (sym (sound-public T U S e) ∙ q))
-      go false q = refused 20 (ap (λ (b : Bool). behindDamage T (cond b (some S) none)) q) (ap (λ (b : Bool). behindDamage U (cond b (some S) none)) (sym (sound-public T U S e) ∙ q))
+      go true q = both-found S (ap (λ (b : Bool). behindDamage T (cond b (some S) none)) q) (ap (λ (b : Bool). behindDamage U (cond b (some S) none)) (sym (sound-public T U S e) ∙ q))
+      go false q = both-refused 20 (ap (λ (b : Bool). behindDamage T (cond b (some S) none)) q) (ap (λ (b : Bool). behindDamage U (cond b (some S) none)) (sym (sound-public T U S e) ∙ q))
 
   alike-length : (b : Bool) (negotiation : List ℕ) → Alike T U (cond b (behindTables negotiation (accepted T)) (refused 1)) (cond b (behindTables negotiation (accepted U)) (refused 1))
   unfolding readSound
   alike-length true negotiation = alike-sound (readState negotiation)
-  alike-length false negotiation = refused 1 refl refl
+  alike-length false negotiation = both-refused 1 refl refl
 
   pub restore-alike : (s t : List ℕ) → readTables s ≡ accepted T → readTables t ≡ accepted U → (negotiation : List ℕ) → Alike T U (restoreOf s negotiation) (restoreOf t negotiation)
   unfolding restoreOf

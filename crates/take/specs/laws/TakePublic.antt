@@ -28,5 +28,5 @@ take-public s t T U h k e negotiation message scratch =
     ap (λ (o : Answer State). cond (messageSize (length message) (length scratch)) o (refused 1)) (go (P.restore-alike T U e s t h k negotiation))
   where
     go : P.Alike T U (restoreOf s negotiation) (restoreOf t negotiation) → behindStanding message (restoreOf s negotiation) ≡ behindStanding message (restoreOf t negotiation)
-    go (P.refused n a b) = ap (behindStanding message) a ∙ sym (ap (behindStanding message) b)
-    go (P.found S a b) = ap (behindStanding message) a ∙ taken-public message T U S e ∙ sym (ap (behindStanding message) b)
+    go (P.both-refused n a b) = ap (behindStanding message) a ∙ sym (ap (behindStanding message) b)
+    go (P.both-found S a b) = ap (behindStanding message) a ∙ taken-public message T U S e ∙ sym (ap (behindStanding message) b)
