@@ -10,6 +10,7 @@ use numbers::OPERAND;
 use relation::from;
 use rt0::Pool;
 ghost use mathlib.Core.Path.{_≡_};
+ghost use Prim.Native.Nat.{_*_};
 ghost use lib.ListN.{length};
 ghost use Rattle.numbers.specs.Bytes.{EXPRESSION-BYTES};
 ghost use Rattle.question.specs.Question.{sized as sizedOf, operandOf, yesOrNo, questionOf};
