@@ -5,6 +5,10 @@ use lib.ListN.{length, getD}
 use lib.Seq.{paste}
 use Rattle.expression.specs.declared.Raw.{Raw}
 
+-- a number as two bytes
+abbrev pub numberBytes : ℕ → List ℕ
+numberBytes n = n / 256 ∷ n % 256 ∷ []
+
 -- two bytes, high byte first
 abbrev pub numberAt : List ℕ → ℕ → ℕ
 numberAt s at = getD s at 0 * 256 + getD s (at + 1) 0

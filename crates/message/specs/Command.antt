@@ -1,5 +1,5 @@
 -- The commands of a message and their bytes (document 01, "Bytes"). Assumes nothing.
-use Prim.Native.Nat.{ℕ, _+_, _-_, _/_, _%_}
+use Prim.Native.Nat.{ℕ, _+_, _-_}
 use mathlib.Core.Bool.{Bool, true, cond, _&&_}
 use mathlib.Core.List.{List, [], _∷_, _++_}
 use lib.Dec.{ltb, eqb}
@@ -10,7 +10,7 @@ use Rattle.expression.specs.declared.ExpressionAnswer.{ExpressionAnswer}
 use Rattle.expression.specs.declared.ExpressionAnswer.the-variants as e
 use Rattle.expression.specs.declared.CredentialAnswer.{CredentialAnswer}
 use Rattle.expression.specs.declared.CredentialAnswer.the-variants as a
-use Rattle.expression.specs.Bytes.{numberAt, rawBytes}
+use Rattle.expression.specs.Bytes.{numberAt, rawBytes, numberBytes}
 use Rattle.expression.specs.Form.{rawOf, readOf, isRole, wellFormed}
 use Rattle.expression.specs.Credential.{wellFormedCredential, roleAt, readCredential, roleBytes, credentialBytes}
 use Rattle.graph.specs.declared.Edge.{Edge}
@@ -109,10 +109,6 @@ byCode code s at =
 -- the command at an index; "2 .. missing end" where nothing stands there
 unfoldable pub commandAt : List ℕ → ℕ → CommandAnswer
 commandAt s at = whole 1 s at (byCode (getD s at 0) s at)
-
--- a number as two bytes
-abbrev pub numberBytes : ℕ → List ℕ
-numberBytes n = n / 256 ∷ n % 256 ∷ []
 
 abbrev pub openingBytes : Opening → List ℕ
 openingBytes o = roleBytes (o .role) ++ (o .state ∷ [])

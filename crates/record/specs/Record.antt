@@ -1,5 +1,5 @@
 -- The records of the house tables and their bytes (document 01, "Bytes"). Assumes nothing.
-use Prim.Native.Nat.{ℕ, _+_, _-_, _/_, _%_}
+use Prim.Native.Nat.{ℕ, _+_, _-_}
 use mathlib.Core.Bool.{Bool, true, false, cond, _&&_}
 use mathlib.Core.List.{List, [], _∷_, _++_}
 use lib.Dec.{ltb, eqb}
@@ -7,7 +7,7 @@ use lib.ListN.{length, getD}
 use Rattle.expression.specs.declared.Credential.{Credential}
 use Rattle.expression.specs.declared.CredentialAnswer.{CredentialAnswer}
 use Rattle.expression.specs.declared.CredentialAnswer.the-variants as a
-use Rattle.expression.specs.Bytes.{numberAt}
+use Rattle.expression.specs.Bytes.{numberAt, numberBytes}
 use Rattle.expression.specs.Form.{isRole}
 use Rattle.expression.specs.Credential.{wellFormedCredential, roleAt, readCredential, roleBytes, credentialBytes}
 use Rattle.class.specs.declared.Name.{Name}
@@ -92,10 +92,6 @@ byCode code s at =
 -- the record at an index
 unfoldable pub recordAt : List ℕ → ℕ → RecordAnswer
 recordAt s at = byCode (getD s at 0) s at
-
--- a number as two bytes
-abbrev pub numberBytes : ℕ → List ℕ
-numberBytes n = n / 256 ∷ n % 256 ∷ []
 
 -- the bytes of a record
 unfoldable pub recordBytes : Record → List ℕ

@@ -10,7 +10,7 @@ ghost use mathlib.Core.Bool.{true};
 ghost use Prim.Native.Nat.{_<_, _≤_, _+_};
 ghost use lib.ListN.{length};
 ghost use Rattle.rt0.specs.laws.Pool.{poolOf};
-ghost use Rattle.rules.specs.laws.Table.{anyTo};
+ghost use Rattle.word.specs.laws.Search.{anyTo};
 ghost use Rattle.rules.specs.laws.Columns.{Column, headRow, Able, NamedRow, NamedLink, NamesTo, isNamed, hasLink, linkSource, SameLink, copied};
 ghost use Rattle.rules.specs.laws.Digits.{BodiesIn};
 

@@ -1,2 +1,3 @@
 pub mod Bit
 pub mod Bools
+pub mod Search

@@ -9,8 +9,13 @@ use Rattle.graph.specs.Propagated.{stateOf as propagated}
 use Rattle.negotiation.specs.declared.Header.{Header}
 use Rattle.negotiation.specs.declared.Negotiation.{Negotiation}
 use Rattle.negotiation.specs.laws.State.{stateOf}
-use Rattle.negotiation.specs.State.{withHeader}
+use Rattle.negotiation.specs.State.{withHeader, State, within}
 use Rattle.applied.specs.After.{endOf, isStalled, idleOf, headerAfter, afterMessage}
+use Rattle.applied.specs.Step.{moved}
+
+pub after-within : (S : State) (m full : Bool) → within (afterMessage S m full) ≡ within S
+unfolding within afterMessage withHeader
+after-within S m full = refl
 
 module _ (p : ℕ) (s f : Bool) where
   by-tests : (a b c d : Bool) → eqb p 1 ≡ a → eqb p 2 ≡ b → s ≡ c → f ≡ d → endOf p s f ≡ cond a 1 (cond b 2 (cond c 3 (cond d 4 0)))

@@ -15,10 +15,9 @@ use Rattle.expression.specs.declared.Parts.{Parts}
 use Rattle.expression.specs.declared.Expression.{Expression}
 use Rattle.expression.specs.declared.Expression.the-variants as E
 use Rattle.expression.specs.Kinds.{isEntity}
-use Rattle.word.specs.laws.Bools.{false-true}
+use Rattle.word.specs.laws.Bools.{false-true, bool-iff}
 use Rattle.rt0.specs.From.{rolesOf}
 use Rattle.propagation.specs.Flags.{at}
-use Rattle.propagation.specs.laws.Flags.{bool-iff}
 use Rattle.graph.specs.declared.Node.{Node}
 use Rattle.graph.specs.declared.Edge.{Edge}
 use Rattle.graph.specs.Graph.{nodeIn, blank, inState}
@@ -91,7 +90,6 @@ module _ (ns : List Node) (es : List Edge) (e : Edge) where
             (idle .part (sym (ap (λ (d : Edge). intersectionKind (d .kind)) q) ∙ w a m .child .passes) (sym (ap (λ (d : Edge). nodeIn ns (d .parent) .state) q) ∙ z) (subst (Satisfied ns es) (ap (λ (d : Edge). d .child) q) (h a m))) in
             absurd (false-true (sym n ∙ satisfied-exact ns es i .1 g)))
             (List·Memᴰ·append-cases es (w a m .child .edge))
-
         go : (b : Bool) → at (satisfiedB ns es) i ≡ b → Satisfied ns es i
         go true n = satisfied-exact ns es i .0 n
         go false n =

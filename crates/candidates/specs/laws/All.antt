@@ -155,12 +155,10 @@ module _ (d : Wanted → Bool) (P : Pool) (F : List ℕ) (n : Node) (r : ℕ) wh
       other x e z =
           subst (λ (c : Choice). Best d (λ w. Q w ⊎ Leads P n r k w) c) (sym (offer-none d n r b x z))
           (best-same (λ w q. inl q) (λ w y. ⊎-elim (λ q. q) (λ l. absurd (other-entity e z (l .body))) y) B)
-
       entity : (a : ℕ) → bodyAt P k ≡ E.Entity a → Best d (λ w. Q w ⊎ Leads P n r k w) (better d b (childFor 1 n (E.Role (roleOf a r)) (n .subject)))
       entity a e =
           best-next (childFor 1 n (E.Role (roleOf a r)) (n .subject)) (λ w q. inl q) (inr (record { member = a; body = e; edge = refl }))
           (λ w y. ⊎-elim (λ q. inl q) (λ l. inr (l .edge ∙ ap (λ (c : ℕ). childFor 1 n (E.Role (roleOf c r)) (n .subject)) (entity-eq (sym (l .body) ∙ e)))) y) B
-
       go : (x : Expression) → bodyAt P k ≡ x → Best d (λ w. Q w ⊎ Leads P n r k w) (offerRole d n r b x)
       go (E.Entity a) e = subst (λ (c : Choice). Best d (λ w. Q w ⊎ Leads P n r k w) c) (offer-entity d n r b refl refl refl) (entity a e)
       go (E.Role a) e = other (E.Role a) e refl
@@ -222,7 +220,6 @@ module _ {P : Pool} {on stop F : List ℕ} {r : ℕ} {pred : Expression → Bool
           let o = map-find (λ b. E.Role (roleOf b r)) (allMembers (credentials P) a) (g .1) in
           let w = frontier-stopped S (h (o .0)) (subst (λ (y : Expression). Frontier pred (chosen P on) y x) (o .2) (g .2)) in
           record { at = w .at; below = chain-below (w .chain); flagged = C .complete (o .0) (w .at) (member-flagged a T (o .1)) (w .chain); ends = w .ends; body = w .body }
-
       fro : (x : Expression) → Member P stop all x → List·Memᴰ x (frontierOf pred (chosen P on) (rolesFor (credentials P) a r))
       fro x m =
           let s = C .sound (m .at) (m .flagged) in

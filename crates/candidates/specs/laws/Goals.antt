@@ -136,6 +136,5 @@ module _ (n : Node) (r : ℕ) (Q : Pairs) (P : Pool) (on : List ℕ) where
     where
       first : Choice
       first = folded (Q .count) (offer d (isNamedPair Q r) (pairEdge Q n)) C.Nothing
-
       both : Best d (λ w. (⊥ ⊎ Among (Q .count) (isNamedPair Q r) (Is (pairEdge Q n)) w) ⊎ Among (P .count) (isNamedHead P on r) (Is (headEdge P n)) w) (folded (P .count) (offer d (isNamedHead P on r) (headEdge P n)) first)
       both = offers-best d (isNamedHead P on r) (headEdge P n) (λ w. ⊥ ⊎ Among (Q .count) (isNamedPair Q r) (Is (pairEdge Q n)) w) first (P .count) (offers-best d (isNamedPair Q r) (pairEdge Q n) (λ w. ⊥) C.Nothing (Q .count) (best-start (λ v z. z)))

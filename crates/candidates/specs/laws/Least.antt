@@ -55,7 +55,6 @@ module _ {d : Wanted → Bool} where
           apart : (v : Wanted) → v ≡ w → (b : Bool) → equals w u ≡ b → (equals v u ≡ true) ⊎ (precedes u v ≡ true)
           apart v e true z = inl (ap (λ (x : Wanted). equals x u) e ∙ z)
           apart v e false z = inr (ap (precedes u) e ∙ precedes-total w u k z)
-
       go : (a b : Bool) → precedes w u ≡ a → d w ≡ b → Best d R (cond a (cond b (C.Edge u) (C.Edge w)) (C.Edge u))
       go true true k m = some u (f u q) n (λ v r o. ⊎-elim (λ s. l v s o) (λ e. absurd (false-true (sym o ∙ (ap d e ∙ m)))) (g v r))
       go true false k m =
@@ -119,6 +118,5 @@ module _ {k v : ℕ} (vs : List Wanted) (U : Uniform k v vs) where
     where
       first-mem-of : {x : Wanted} → First d (ordered vs) x → List·Memᴰ x vs
       first-mem-of h = ordered-first vs (alike-one d vs pairs) h .there
-
       one : (x : Wanted) → List·Memᴰ x vs → equals w x ≡ true → w ≡ x
       one x o e = let p = pairs w x m o in let q = equals-parts w x e in λ i. record { kind = p .0 i; verifier = p .1 i; expression = q .0 i; subject = q .1 i; direct = p .2 i }

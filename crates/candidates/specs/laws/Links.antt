@@ -15,11 +15,11 @@ use Rattle.expression.specs.declared.Expression.the-variants as E
 use Rattle.rt0.specs.Pool.{upTo}
 use Rattle.rt0.specs.Lists.{any}
 use Rattle.rt0.specs.laws.Lists.{any-find, any-here, map-find, map-mem}
-use Rattle.word.specs.laws.Bools.{false-true, and-parts, and-both, or-neither}
+use Rattle.word.specs.laws.Bools.{false-true, and-parts, and-both, or-neither, bool-iff}
 use Rattle.tables.specs.Public.{keep}
 use Rattle.tables.specs.laws.Public.{keep-find, keep-mem}
 use Rattle.propagation.specs.Flags.{at}
-use Rattle.propagation.specs.laws.Flags.{flag, decided, bool-iff, flag-zeros, flag-same, flag-grows, flag-cases}
+use Rattle.propagation.specs.laws.Flags.{flag, decided, flag-zeros, flag-same, flag-grows, flag-cases}
 use Rattle.graph.specs.declared.Node.{Node}
 use Rattle.graph.specs.declared.Edge.{Edge}
 use Rattle.graph.specs.declared.Nodes.{Nodes}
@@ -358,7 +358,6 @@ any-complete o N E ne ee i = bool-iff (any (isCompleteAt N E i) (upTo (E .count)
   where
     both : (g : ℕ) → completeB (o .state .nodes) (o .state .edges) g ≡ completeB (nodesOf N) (edgesOf E) g
     both g = λ t. completeB (ne t) (ee t) g
-
     to : any (isCompleteAt N E i) (upTo (E .count) (λ j. j)) ≡ true → any (completeB (o .state .nodes) (o .state .edges)) (childrenBy o 2 i) ≡ true
     to h =
         let w = any-find (isCompleteAt N E i) (upTo (E .count) (λ j. j)) h in
@@ -369,7 +368,6 @@ any-complete o N E ne ee i = bool-iff (any (isCompleteAt N E i) (upTo (E .count)
         let z : j ≡ u .0 = u .2 in
         let l : u .0 < E .count = u .1 in
         any-here (completeB (o .state .nodes) (o .state .edges)) (child-mem o N E ne ee 2 i j (omega (arith, z, l)) (eqb-true (getD (E .kind) j 0) 2 (p .0)) (eqb-true (getD (E .parent) j 0) i (p .1))) (both (getD (E .child) j 0) ∙ q .1)
-
     fro : any (completeB (o .state .nodes) (o .state .edges)) (childrenBy o 2 i) ≡ true → any (isCompleteAt N E i) (upTo (E .count) (λ j. j)) ≡ true
     fro h =
         let w = any-find (completeB (o .state .nodes) (o .state .edges)) (childrenBy o 2 i) h in

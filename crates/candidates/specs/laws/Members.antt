@@ -93,14 +93,12 @@ module _ {P : Pool} {on stop found : List ℕ} {e : Role} {pred : Expression →
     where
       K : List Credential
       K = keep (λ (c : Credential). same (E.Role (c .head)) (E.Role e)) (chosen P on)
-
       to : (x : Expression) → List·Memᴰ x (frontierOf pred (chosen P on) (bodiesOf (chosen P on) (E.Role e))) → Member P stop found x
       to x m =
           let f = frontier-find pred (chosen P on) (bodiesOf (chosen P on) (E.Role e)) m in
           let b = map-find (λ (c : Credential). c .body) K (f .1) in
           let c = keep-find (λ (c : Credential). same (E.Role (c .head)) (E.Role e)) (chosen P on) (b .1) in
           stopped-member S R (body-stopped S (b .0) (c .0) (role-eq (same-eq (E.Role (b .0 .head)) (E.Role e) (c .1))) (subst (λ (y : Expression). Frontier pred (chosen P on) y x) (b .2) (f .2)))
-
       fro : (x : Expression) → Member P stop found x → List·Memᴰ x (frontierOf pred (chosen P on) (bodiesOf (chosen P on) (E.Role e)))
       fro x m =
           let b = stopped-body S (member-stopped S R m) in

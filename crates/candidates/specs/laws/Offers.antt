@@ -70,7 +70,6 @@ module _ {d : Wanted → Bool} (is : ℕ → Bool) (L : ℕ → Wanted → Type 
       to w (inl (inl q)) = inl q
       to w (inl (inr x)) = let l = x .below in inr (record { at = x .at; below = omega arith; passes = x .passes; leads = x .leads })
       to w (inr x) = inr (record { at = m; below = omega arith; passes = e; leads = x })
-
       fro : (w : Wanted) → Q w ⊎ Among (suc m) is L w → (Q w ⊎ Among m is L w) ⊎ L m w
       fro w (inl q) = inl (inl q)
       fro w (inr x) = last (x .at) (x .below) (x .passes) (x .leads)
@@ -82,7 +81,6 @@ module _ {d : Wanted → Bool} (is : ℕ → Bool) (L : ℕ → Wanted → Type 
       to : (w : Wanted) → Q w ⊎ Among m is L w → Q w ⊎ Among (suc m) is L w
       to w (inl q) = inl q
       to w (inr x) = let l = x .below in inr (record { at = x .at; below = omega arith; passes = x .passes; leads = x .leads })
-
       fro : (w : Wanted) → Q w ⊎ Among (suc m) is L w → Q w ⊎ Among m is L w
       fro w (inl q) = inl q
       fro w (inr x) = other (x .at) (x .below) (x .passes) (x .leads)

@@ -16,9 +16,9 @@ use Rattle.rt0.specs.Pool.{upTo}
 use Rattle.rt0.specs.laws.Pool.{bodyAt}
 use Rattle.rt0.specs.Lists.{any}
 use Rattle.rt0.specs.laws.Lists.{any-find, any-here}
-use Rattle.word.specs.laws.Bools.{and-parts, and-both}
+use Rattle.word.specs.laws.Bools.{and-parts, and-both, bool-iff}
 use Rattle.tables.specs.Public.{keep}
-use Rattle.propagation.specs.laws.Flags.{flag, bool-iff}
+use Rattle.propagation.specs.laws.Flags.{flag}
 use Rattle.frontier.specs.laws.Frontier.{Reaches}
 use Rattle.graph.specs.declared.Node.{Node}
 use Rattle.needed.specs.laws.Column.{upTo-mem, upTo-find}
@@ -72,7 +72,6 @@ module _ {P : Pool} {stop found : List ℕ} {xs : List Expression} (D : Reads P 
           any-here (same (E.Entity s))
           (D .fro (E.Entity s) (record { at = u .0; below = u .1; flagged = ap (flag found) (sym z) ∙ q .0; ends = ap (flag stop) (sym z) ∙ q .1; body = ap (bodyAt P) (sym z) ∙ b }))
           (eq-same (E.Entity s) (E.Entity s) refl)
-
       fro : any (same (E.Entity s)) xs ≡ true → any (isSubjectAt P stop found s) (upTo (P .count) (λ k. k)) ≡ true
       fro h =
           let w = any-find (same (E.Entity s)) xs h in
@@ -90,10 +89,8 @@ module _ {P : Pool} {stop found : List ℕ} {xs : List Expression} (D : Reads P 
     where
       one : Wanted
       one = childFor 1 n (E.Entity (n .subject)) (n .subject)
-
       others : Choice
       others = folded (P .count) (offer d (isMember P stop found false n) (memberEdge P n)) C.Nothing
-
       go : (a b : Bool) → a ≡ b → cond a (better d C.Nothing one) others ≡ firstNot d C.Nothing (cond b (one ∷ []) (implications n (keep (λ x. not (isEntity x)) xs)))
       go a true e = ap (λ (x : Bool). cond x (better d C.Nothing one) others) e
       go a false e = ap (λ (x : Bool). cond x (better d C.Nothing one) others) e ∙ (members-first D false n d refl ∙ ap (λ (ws : List Wanted). firstNot d C.Nothing (ordered ws)) (no-entities n xs))

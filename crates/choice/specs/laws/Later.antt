@@ -73,7 +73,6 @@ module _ {ns ns′ : List Node} {es es′ : List Edge} (g : More ns es ns′ es�
           let c : ℕ = childNumber ns w in
           ⊎-elim (λ z. or-left (eqb i c) (hasEdge es′ (edge i w c)) z) (λ z. or-right (eqb i c) (hasEdge es′ (edge i w c)) (F.has-exact es′ (edge i w c) .1 (g .edges (edge i w c) (F.has-exact es (edge i w c) .0 z))))
           (or-cases (eqb i c) (hasEdge es (edge i w c)) k)
-
       go : (b : Bool) → childStands ns w ≡ b → cond b (eqb i (childNumber ns w) || hasEdge es (edge i w (childNumber ns w))) false ≡ true
           → cond (childStands ns′ w) (eqb i (childNumber ns′ w) || hasEdge es′ (edge i w (childNumber ns′ w))) false ≡ true
       go true q k =
@@ -126,7 +125,6 @@ marked-processed s n = go (eqb (n .verifier) s)
   where
     t : ℕ
     t = n .state
-
     go : (b : Bool) → cond b (eqb (cond b (bitOr t 1) (bitOr t 2) % 2) 1) (eqb (cond b (bitOr t 1) (bitOr t 2) / 2 % 2) 1) ≡ true
     go true = sym (ap (λ (k : ℕ). eqb (k % 2) 1) (div-one (bitOr t 1))) ∙ (bit-or t 1 0 ∙ or-right (bitAt t 0) (bitAt 1 0) refl)
     go false = bit-or t 2 1 ∙ or-right (bitAt t 1) (bitAt 2 1) refl
@@ -153,10 +151,8 @@ step-open S (Mark k) i l h = go (eqb i k) refl
   where
     s : ℕ
     s = S .header .side
-
     marked : Node
     marked = inState (markedState s (nodeIn (S .nodes) k)) (nodeIn (S .nodes) k)
-
     go : (b : Bool) → eqb i k ≡ b → processedBy s (nodeIn (S .nodes) i) ≡ false
     go true e =
         let same : nodeIn (set (S .nodes) k marked) i ≡ marked = ap (nodeIn (set (S .nodes) k marked)) (eqb-true i k e) ∙ getD-set-same (S .nodes) k marked blank (omega (arith, l, eqb-true i k e)) in

@@ -161,25 +161,20 @@ passed-skip T n {q} {i} {r} R P S =
   where
     N : Nodes
     N = n .nodes
-
     Idle : ℕ → Type 0
     Idle j = choiceAt (endIn T (stateOf n)) j (nodeIn (nodesOf N) j) ≡ C.Nothing
-
     processed : (j : ℕ) → nodeIn (nodesOf N) j ≡ nodeAt N j → isUnprocessed (n .header .side) (getD (N .verifier) j 0) (getD (N .state) j 0) ≡ false → Idle j
     processed j e h =
         let p : processedBy (n .header .side) (nodeAt N j) ≡ true = open-not (n .header .side) (nodeAt N j) h in
         ap (choiceAt (endIn T (stateOf n)) j) e ∙ sym (at-processed T (stateOf n) j (nodeAt N j) {p = true} (sym p) refl refl)
-
     resting : (j : ℕ) → nodeIn (nodesOf N) j ≡ nodeAt N j → (ltb j q && eqb (getD (N .kind) j 0) 2) ≡ true → Idle j
     resting j e h =
         let p = and-parts (ltb j q) (eqb (getD (N .kind) j 0) 2) h in
         R .none j (ltb-true j q (p .0)) (ap (λ (x : Node). isRoleExpression (x .expression)) e ∙ role-kind _ (eqb-true (getD (N .kind) j 0) 2 (p .1)))
-
     by-test : (j : ℕ) → nodeIn (nodesOf N) j ≡ nodeAt N j → (a b : Bool) → isUnprocessed (n .header .side) (getD (N .verifier) j 0) (getD (N .state) j 0) ≡ a → (ltb j q && eqb (getD (N .kind) j 0) 2) ≡ b → (a && not b) ≡ false → Idle j
     by-test j e false b x y h = processed j e x
     by-test j e true true x y h = resting j e y
     by-test j e true false x y h = absurd (false-true (sym h))
-
     skipped : (j : ℕ) → i ≤ j → j < r → Idle j
     skipped j l h =
         let w = S .within in

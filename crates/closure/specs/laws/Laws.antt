@@ -202,10 +202,8 @@ module _ (K : List ℕ) (r h w : ℕ) (u : h < 2) (l : r * 2 + h < length K) whe
     where
       z : t / 64 < 2
       z = omega (arith, bits-low (take K (r * 2 + h) w) q t b)
-
       c : bitAt (el (take K (r * 2 + h) w) (q * 2 + t / 64)) (t % 64) ≡ true
       c = bits-word (take K (r * 2 + h) w) q t (t / 64) refl b
-
       go : (x : Bool) → eqb (q * 2 + t / 64) (r * 2 + h) ≡ x → (bits K q t ≡ true) ⊎ ((q ≡ r) × (t / 64 ≡ h) × (bitAt w (t % 64) ≡ true))
       go true e =
           let i : q * 2 + t / 64 ≡ r * 2 + h = eqb-true (q * 2 + t / 64) (r * 2 + h) e in
@@ -236,7 +234,6 @@ module _ (K : List ℕ) (r h w : ℕ) (u : h < 2) (l : r * 2 + h < length K) whe
         where
           c : bitAt (el K (q * 2 + t / 64)) (t % 64) ≡ true
           c = bits-word K q t (t / 64) refl b
-
           up : (x : Bool) → eqb (q * 2 + t / 64) (r * 2 + h) ≡ x → bitAt (el (take K (r * 2 + h) w) (q * 2 + t / 64)) (t % 64) ≡ true
           up true e =
               let i : q * 2 + t / 64 ≡ r * 2 + h = eqb-true (q * 2 + t / 64) (r * 2 + h) e in
@@ -366,7 +363,6 @@ module _ (X : Rules) (on : List ℕ) (own : Bool) (M : List ℕ) where
       few true true a b = omega arith
       few true false a b = omega arith
       few false t a b = omega arith
-
       go : (g : ℕ) → g < h + 1 → r ≡ false → t ≡ false → (x : Bool) → eqb g h ≡ x → Quiet X own M i (InWord g) K′
       go g k p q true e = subst (λ (x : ℕ). Quiet X own M i (InWord x) K′) (sym (eqb-true g h e)) (turn .still q)
       go g k p q false e = subst (λ (x : List ℕ). Quiet X own M i (InWord g) x) (turn .same q) (inv .still p g (omega (arith, eqb-false g h e)))
@@ -558,13 +554,11 @@ rule-full X on own M K i lo hi fits size within full e =
   where
     r : ℕ
     r = el (X .head) i
-
     in′ : (s : ℕ) → s / 64 < X .words → bits (lo ∷ hi ∷ []) 0 s ≡ true → bits K r s ≡ true
     in′ s z b = go (ltb s 64) refl
       where
         l : s < 128
         l = bits-low (lo ∷ hi ∷ []) 0 s b
-
         go : (t : Bool) → ltb s 64 ≡ t → bits K r s ≡ true
         go true q =
             let y : s < 64 = ltb-true s 64 q in
@@ -656,12 +650,10 @@ module _ (X : Rules) (on : List ℕ) (own : Bool) (M : List ℕ) (i : ℕ) (K : 
         where
           keep : (s : ℕ) → s / 64 ≡ 0 → bitAt (bitOr m k) (s % 64) ≡ true → bits K (el (X .head) i) s ≡ true
           keep s h q = old-row old s row h (sym (ap (λ (x : ℕ). bitAt x (s % 64)) same) ∙ or-left (bitOr m k) old (s % 64) q)
-
           low : (j : ℕ) → bits (X .named) i j ≡ true → j / 64 ≡ 0
           low j n = ⊎-elim (λ h. h)
               (λ h. absurd (false-true (sym (bit-zero (j % 64)) ∙ (sym (ap (λ (x : ℕ). bitAt x (j % 64)) none) ∙ bits-word (X .named) i j 1 h n))))
               (half X i 0 K M j (bits-low (X .named) i j n))
-
           via : (j s : ℕ) → s / 64 ≡ 0 → bits (X .named) i j ≡ true → bits (memRows own K M) (el (X .first) i) (el (X .src) j) ≡ true → bits K j s ≡ true → bitAt k (s % 64) ≡ true
           via j s h n p v =
               let l : j / 64 ≡ 0 = low j n in

@@ -208,6 +208,7 @@ module _ (T : Tables) (S : State) where
 
 -- a negotiation as it is held, by the tables of a house
 module _ (H : House) (G : Negotiation) where
+
   module _ {a : Bool} (ae : a ≡ headerSound (H .own) (namesOf (H .names)) (G .header)) where
     pub sound-header : not a ≡ true → false ≡ sound (tablesOf H) (stateHeld G)
     unfolding tablesOf stateHeld

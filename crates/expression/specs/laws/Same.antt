@@ -1,5 +1,5 @@
 -- Equality of roles, expressions and credentials is equality of the values. Assumes nothing.
-use mathlib.Core.Path.{_≡_, sym, _∙_, ap}
+use mathlib.Core.Path.{_≡_, sym, _∙_, ap, refl}
 use mathlib.Core.Bool.{Bool, true, false, not, _&&_}
 use borrow.Author.Tests.{eq-eqb, not-true, not-false, eqb-true}
 use lib.Dec.{eqb}
@@ -9,6 +9,7 @@ use Rattle.expression.specs.declared.Expression.{Expression}
 use Rattle.expression.specs.Same.{same, sameRole, sameCredential}
 use Rattle.expression.specs.Form.{rawOf, sameRaw, expressionOf}
 use Rattle.expression.specs.laws.Laws.{and-left, and-right, same-refl, same-raw, expression-raw}
+use Rattle.word.specs.laws.Bools.{and-parts, and-both}
 
 -- the head, then the body
 pub other-head : (d c : Credential) {r : Role} {a : Bool} → r ≡ d .head → a ≡ sameRole r (c .head) → not a ≡ true → false ≡ sameCredential d c
@@ -39,3 +40,13 @@ same-eq x y h = sym (expression-raw x) ∙ (ap expressionOf (same-raw (rawOf x) 
 pub eq-same : (x y : Expression) → x ≡ y → same x y ≡ true
 unfolding same
 eq-same x y h = ap (λ (z : Expression). sameRaw (rawOf x) (rawOf z)) (sym h) ∙ same-refl (rawOf x)
+
+pub sameCredential-eq : (d c : Credential) → sameCredential d c ≡ true → d ≡ c
+sameCredential-eq d c h =
+    let p = and-parts (sameRole (d .head) (c .head)) (same (d .body) (c .body)) h in
+    let a : d .head ≡ c .head = sameRole-eq (d .head) (c .head) (p .0) in
+    let b : d .body ≡ c .body = same-eq (d .body) (c .body) (p .1) in
+    λ i. record { head = a i; body = b i }
+
+pub sameCredential-refl : (c : Credential) → sameCredential c c ≡ true
+sameCredential-refl c = and-both (sameRole (c .head) (c .head)) (same (c .body) (c .body)) (eq-sameRole (c .head) (c .head) refl) (eq-same (c .body) (c .body) refl)

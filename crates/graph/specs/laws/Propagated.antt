@@ -93,7 +93,6 @@ module _ (ns : List Node) (es : List Edge) where
     where
       more : (s t : ℕ → Bool) → ((i : ℕ) → s i ≡ true → t i ≡ true) → (i : ℕ) → anyChild ns es implicationKind s i ≡ true → anyChild ns es implicationKind t i ≡ true
       more s t h i g = let r = any-child implicationKind s i g in child-any implicationKind t i (r .1) (h (r .0) (r .2))
-
       go : (s t : ℕ → Bool) → ((i : ℕ) → s i ≡ true → t i ≡ true) → (i : ℕ) (x : Expression) → satisfiedAs ns es s i (nodeIn ns i .state) x ≡ true → satisfiedAs ns es t i (nodeIn ns i .state) x ≡ true
       go s t h i (E.Entity a) g = refl
       go s t h i (E.Role a) g = more s t h i g
@@ -110,7 +109,6 @@ module _ (ns : List Node) (es : List Edge) where
     where
       implied : isStandard (nodeIn ns i .expression) ≡ true → anyChild ns es implicationKind s i ≡ true → Satisfied ns es i
       implied e g = let r = any-child implicationKind s i g in standard e (r .1) (ih (r .0) (r .2))
-
       go : (x : Expression) → nodeIn ns i .expression ≡ x → satisfiedAs ns es s i (nodeIn ns i .state) x ≡ true → Satisfied ns es i
       go (E.Entity a) e g = trivial e
       go (E.Role a) e g = implied (ap isStandard e) g
@@ -154,7 +152,6 @@ module _ (ns : List Node) (es : List Edge) where
       more s t h i p g =
           let r = and-parts (eqb p 3) (allChildren ns es implicationKind s i) g in
           and-both (eqb p 3) (allChildren ns es implicationKind t i) (r .0) (children-all implicationKind t i (λ c k. h c (all-children implicationKind s i (r .1) c k)))
-
       go : (s t : ℕ → Bool) → ((i : ℕ) → s i ≡ true → t i ≡ true) → (i : ℕ) (x : Expression) → failedAs ns es s i (nodeIn ns i .state) x ≡ true → failedAs ns es t i (nodeIn ns i .state) x ≡ true
       go s t h i (E.Entity a) g = absurd (false-true g)
       go s t h i (E.Role a) g = more s t h i (nodeIn ns i .state) g
@@ -170,7 +167,6 @@ module _ (ns : List Node) (es : List Edge) where
       unimplied e g =
           let r = and-parts (eqb (nodeIn ns i .state) 3) (allChildren ns es implicationKind s i) g in
           failed-standard e (eqb-true (nodeIn ns i .state) 3 (r .0)) (λ c k. ih c (all-children implicationKind s i (r .1) c k))
-
       go : (x : Expression) → nodeIn ns i .expression ≡ x → failedAs ns es s i (nodeIn ns i .state) x ≡ true → Failed ns es i
       go (E.Entity a) e g = absurd (false-true g)
       go (E.Role a) e g = unimplied (ap isStandard e) g
@@ -225,7 +221,6 @@ module _ (ns : List Node) (es : List Edge) where
             processed = eqb-true (nodeIn ns i .state) 3 (p .0);
             solved = λ c k. ⊎-elim (λ b. inl (satisfied-exact c .0 b)) (λ b. inr (failed-exact c .0 b)) (or-cases (at (satisfiedB ns es) c) (at (failedB ns es) c) (all-children solutionKind settled i (p .1) c k));
           }
-
       back : Complete ns es i → completeAs ns es i (nodeIn ns i .state) (nodeIn ns i .expression) ≡ true
       back h =
           ap (completeAs ns es i (nodeIn ns i .state)) (h .goal)

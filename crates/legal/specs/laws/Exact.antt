@@ -13,8 +13,8 @@ use Rattle.expression.specs.declared.Role.{Role}
 use Rattle.expression.specs.declared.Credential.{Credential}
 use Rattle.expression.specs.declared.Expression.{Expression}
 use Rattle.expression.specs.declared.Expression.the-variants as E
-use Rattle.expression.specs.Same.{same, sameRole, sameCredential}
-use Rattle.expression.specs.laws.Same.{same-eq, eq-same, sameRole-eq, eq-sameRole}
+use Rattle.expression.specs.Same.{same, sameCredential}
+use Rattle.expression.specs.laws.Same.{same-eq, eq-same, sameCredential-refl, sameCredential-eq}
 use Rattle.rt0.specs.Lists.{any}
 use Rattle.rt0.specs.laws.Lists.{any-find, any-here}
 use Rattle.word.specs.laws.Bools.{false-true, and-parts, and-both, or-cases, or-left, or-right, or-neither}
@@ -112,16 +112,6 @@ module _ (S : State) where
   of-stands : (i : ℕ) → i < length (S .nodes) → isAbsent S i ≡ false
   unfolding isAbsent
   of-stands i h = lt-leb (length (S .nodes)) i h
-
-sameCredential-eq : (d c : Credential) → sameCredential d c ≡ true → d ≡ c
-sameCredential-eq d c h =
-    let p = and-parts (sameRole (d .head) (c .head)) (same (d .body) (c .body)) h in
-    let a : d .head ≡ c .head = sameRole-eq (d .head) (c .head) (p .0) in
-    let b : d .body ≡ c .body = same-eq (d .body) (c .body) (p .1) in
-    λ i. record { head = a i; body = b i }
-
-sameCredential-refl : (c : Credential) → sameCredential c c ≡ true
-sameCredential-refl c = and-both (sameRole (c .head) (c .head)) (same (c .body) (c .body)) (eq-sameRole (c .head) (c .head) refl) (eq-same (c .body) (c .body) refl)
 
 -- a credential is among those shown exactly where the test says so
 module _ (C : List Credential) (c : Credential) where

@@ -13,7 +13,7 @@ use Rattle.expression.specs.declared.Expression.{Expression}
 use Rattle.rt0.specs.Lists.{any}
 use Rattle.rt0.specs.Decide.{from? as fromOf}
 use Rattle.propagation.specs.Flags.{at}
-use Rattle.propagation.specs.laws.Flags.{bool-iff}
+use Rattle.word.specs.laws.Bools.{bool-iff}
 use Rattle.graph.specs.declared.Node.{Node}
 use Rattle.graph.specs.declared.Edge.{Edge}
 use Rattle.graph.specs.Graph.{nodeIn, blank}

@@ -194,19 +194,14 @@ module _ (T : Tables) (S : State) (g : Going T S) where
     where
       o : End
       o = endIn T S
-
       n : Node
       n = nodeIn (S .nodes) i
-
       done : Wanted → Bool
       done w = isDone (S .nodes) (S .edges) i w
-
       edge : processedBy (S .header .side) n ≡ false → (w : Wanted) → List·Memᴰ w (planAt o i n .wanted) → done w ≡ false → Goes T S (moveFor o i n (K.Edge w))
       edge free w m d room = carried-updates (edge-updates T S g i l free w (credentialsFor o n w) (plan-fit T S g i l w m .fit) d room)
-
       mark : processedBy (S .header .side) n ≡ false → Goes T S (moveFor o i n K.Mark)
       mark free room = next {c = Mark i} refl refl (record { node = l; unprocessed = free }) none
-
       go : (b : Bool) → processedBy (S .header .side) n ≡ b → Goes T S (moveFor o i n (cond b K.Nothing (firstNot done (markIf (planAt o i n .marks)) (planAt o i n .wanted))))
       go true e = λ room. none
       go false e = first-cases (λ c. Goes T S (moveFor o i n c)) done (markIf (planAt o i n .marks)) (planAt o i n .wanted) (edge e) (mark-cases (λ c. Goes T S (moveFor o i n c)) (planAt o i n .marks) (mark e) (λ room. none))
@@ -233,6 +228,5 @@ move-updates T S g = by-node
   where
     at-node : (j : ℕ) → j < length (S .nodes) → Goes T S (moveFor (endIn T S) (0 + j) (nodeIn (S .nodes) j) (choiceAt (endIn T S) (0 + j) (nodeIn (S .nodes) j)))
     at-node j l = let e : j ≡ 0 + j = omega arith in subst (λ (k : ℕ). Goes T S (moveFor (endIn T S) k (nodeIn (S .nodes) j) (choiceAt (endIn T S) k (nodeIn (S .nodes) j)))) e (choice-goes T S g j l)
-
     by-node : Goes T S (movesFrom (endIn T S) 0 (S .nodes))
     by-node = moves-cases (endIn T S) (Goes T S) (λ room. none) 0 (S .nodes) at-node

@@ -129,7 +129,6 @@ module _ (T : Tables) (S : State) (g : Going T S) where
       policy : List·Memᴰ (directOf (T .own) r) (T .subjectStored) → (a : RoleAnswer) → otherOf (T .access) r ≡ a → HeldBy T r (policyOf a)
       policy m (A.Found q) e = (m, access-proper T (g .tables) r q e)
       policy m A.Absent e = m
-
       go : (b : Bool) → any (sameRole r) (heldOf (T .own) (T .sensitive) (T .subjectStored)) ≡ b → HeldBy T r (cond b (policyOf (otherOf (T .access) r)) Absent)
       go true e =
           let w = any-find (sameRole r) (heldOf (T .own) (T .sensitive) (T .subjectStored)) e in
@@ -356,14 +355,12 @@ module _ (T : Tables) (S : State) (g : Going T S) (i : ℕ) (l : i < length (S .
       where
         here : KnownRight T k
         here = h k (List·Memᴰ·head refl)
-
         rest : AllFit T S i (implications n (keep (λ x. not (isEntity x)) (sensFrontier (endIn T S) (bodiesOf C (E.Role a)))))
         rest =
             implications-fit C (less-stored T (g .tables)) subject-own (standard e refl) (keep (λ x. not (isEntity x)) (sensFrontier (endIn T S) (bodiesOf C (E.Role a))))
             (λ x m.
             frontier-reached (T .names) C (n .expression) (less-stored T (g .tables)) (sens (T .sensitive)) (bodiesOf C (E.Role a)) (bodies-reached (T .names) C (n .expression) (less-stored T (g .tables)) (E.Role a) (from-node C e)) x
             (keep-find (λ x. not (isEntity x)) (sensFrontier (endIn T S) (bodiesOf C (E.Role a))) m .0))
-
         go : (b : Bool) → sameRole (k .role) a ≡ b → AllFit T S i (ownRules (endIn T S) i n a ks .wanted)
             → AllFit T S i (cond b (sensitiveRules (endIn T S) i n (controlEdge (endIn T S) n (k .ack)) (implications n (keep (λ x. not (isEntity x)) (sensFrontier (endIn T S) (bodiesOf C (E.Role a))))) (k .known)) (ownRules (endIn T S) i n a ks) .wanted)
         go true z ih = sensitive-fit a e q (controlEdge (endIn T S) n (k .ack)) _ (control-fit (standard e refl) (k .ack) (here .ack)) rest (k .known) (subst (λ (r : Role). KnownBy T r (k .known)) (sameRole-eq (k .role) a z) (here .known))

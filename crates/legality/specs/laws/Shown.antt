@@ -9,10 +9,10 @@ use lib.Dec.{ltb}
 use lib.ListN.{length}
 use Rattle.expression.specs.declared.Credential.{Credential}
 use Rattle.expression.specs.Order.{beforeCredential}
-use Rattle.expression.specs.Same.{same, sameRole, sameCredential}
-use Rattle.expression.specs.laws.Same.{same-eq, eq-same, sameRole-eq, eq-sameRole}
+use Rattle.expression.specs.Same.{sameCredential}
+use Rattle.expression.specs.laws.Same.{sameCredential-eq, sameCredential-refl}
 use Rattle.rt0.specs.laws.Lists.{all-each, all-of, any-find, any-here}
-use Rattle.word.specs.laws.Bools.{false-true, and-parts, and-both}
+use Rattle.word.specs.laws.Bools.{false-true, and-parts}
 use Rattle.class.specs.declared.Name.{Name}
 use Rattle.tables.specs.Accepted.{Rising, rising-none, rising-cons}
 use Rattle.tables.specs.laws.Sorted.{rising-parts}
@@ -59,24 +59,13 @@ sub-showable h s =
       fresh = λ c m. s .fresh c (sub-mem h c m);
     }
 
--- a credential is among those shown exactly where the test says so
-credential-eq : (d c : Credential) → sameCredential d c ≡ true → d ≡ c
-credential-eq d c h =
-    let p = and-parts (sameRole (d .head) (c .head)) (same (d .body) (c .body)) h in
-    let a : d .head ≡ c .head = sameRole-eq (d .head) (c .head) (p .0) in
-    let b : d .body ≡ c .body = same-eq (d .body) (c .body) (p .1) in
-    λ i. record { head = a i; body = b i }
-
-credential-same : (c : Credential) → sameCredential c c ≡ true
-credential-same c = and-both (sameRole (c .head) (c .head)) (same (c .body) (c .body)) (eq-sameRole (c .head) (c .head) refl) (eq-same (c .body) (c .body) refl)
-
 pub shown-mem : (C : List Credential) (c : Credential) → isShown C c ≡ true → List·Memᴰ c C
 unfolding isShown
-shown-mem C c h = let w = any-find (λ d. sameCredential d c) C h in subst (λ (d : Credential). List·Memᴰ d C) (credential-eq (w .0) c (w .2)) (w .1)
+shown-mem C c h = let w = any-find (λ d. sameCredential d c) C h in subst (λ (d : Credential). List·Memᴰ d C) (sameCredential-eq (w .0) c (w .2)) (w .1)
 
 pub mem-shown : (C : List Credential) (c : Credential) → List·Memᴰ c C → isShown C c ≡ true
 unfolding isShown
-mem-shown C c m = any-here (λ d. sameCredential d c) m (credential-same c)
+mem-shown C c m = any-here (λ d. sameCredential d c) m (sameCredential-refl c)
 
 -- "less .. those already shown"
 pub unshown-showable : (ns : List Name) (shown C : List Credential) → Stored ns C → Showable ns shown (keep (λ c. not (isShown shown c)) C)

@@ -10,7 +10,7 @@ use lib.ListN.{length, getD}
 use Rattle.expression.specs.declared.Credential.{Credential}
 use Rattle.expression.specs.declared.CredentialAnswer.{CredentialAnswer}
 use Rattle.expression.specs.declared.ExpressionAnswer.the-variants as e
-use Rattle.expression.specs.Bytes.{numberAt, rawBytes, pasted}
+use Rattle.expression.specs.Bytes.{numberAt, rawBytes, pasted, numberBytes}
 use Rattle.expression.specs.Form.{rawOf, readOf}
 use Rattle.expression.specs.laws.Codec.{paste-paste}
 use Rattle.expression.specs.Credential.{roleAt, readCredential, credentialBytes}
@@ -21,7 +21,7 @@ use Rattle.message.specs.declared.Command.{Command}
 use Rattle.message.specs.declared.Command.the-variants.{Open, Bring, Join, Mark, End, Show}
 use Rattle.message.specs.declared.CommandAnswer.{CommandAnswer}
 use Rattle.message.specs.declared.CommandAnswer.the-variants.{Read, Refused}
-use Rattle.message.specs.Command.{edgeKind, formedOpening, formedNew, whole, checked, shown, showAt, openingOf, openAt, newOf, brought, bringAt, edgeOf, joinAt, markAt, endAt, byCode, commandAt, numberBytes, newBytes, commandBytes, sizeOf}
+use Rattle.message.specs.Command.{edgeKind, formedOpening, formedNew, whole, checked, shown, showAt, openingOf, openAt, newOf, brought, bringAt, edgeOf, joinAt, markAt, endAt, byCode, commandAt, newBytes, commandBytes, sizeOf}
 
 -- a command has a byte
 pub size-some : (c : Command) → 0 < sizeOf c

@@ -1,30 +1,29 @@
 -- Commands are read from their own bytes and from no others, and refused by two numbers. Assumes nothing.
-use Prim.Native.Nat.{ℕ, suc, _+_, _-_, _*_, _/_, _%_, _<_, _≤_}
+use Prim.Native.Nat.{ℕ, suc, _+_, _-_, _<_, _≤_}
 use mathlib.Core.Path.{_≡_, refl, sym, ap, _∙_, subst}
 use mathlib.Core.Logic.{_⊎_, inl, inr}
 use mathlib.Core.Bool.{Bool, true, false, cond, _&&_}
 use mathlib.Core.List.{List, [], _∷_, _++_, append-assoc}
 use native.Mathlib.Omega.{arith}
-use native.Mathlib.Nat.{add-assoc, div-add-mod'}
+use native.Mathlib.Nat.{add-assoc}
 use native.Mathlib.Numerals.{add-one}
 use borrow.Author.Tests.{ltb-false, eqb-true}
 use lib.Dec.{ltb, eqb}
 use lib.ListN.{length, getD, take, drop, length-append, length-drop, drop-of-length-le}
 use lib.Seq.{drop-cons, drop-drop, take-add, take-at, take-length, length-take-le, drop-append-seam}
-use Rattle.expression.specs.declared.Role.{Role}
 use Rattle.expression.specs.declared.Expression.{Expression}
 use Rattle.expression.specs.declared.ExpressionAnswer.{ExpressionAnswer}
 use Rattle.expression.specs.declared.ExpressionAnswer.the-variants as e
 use Rattle.expression.specs.declared.Credential.{Credential}
 use Rattle.expression.specs.declared.CredentialAnswer.{CredentialAnswer}
 use Rattle.expression.specs.declared.CredentialAnswer.the-variants as a
-use Rattle.expression.specs.Bytes.{numberAt, rawAt, rawBytes, pasted}
+use Rattle.expression.specs.Bytes.{numberAt, rawAt, rawBytes, pasted, numberBytes}
 use Rattle.expression.specs.Form.{rawOf, readOf, wellFormed}
 use Rattle.expression.specs.laws.Laws.{canonical}
 use Rattle.expression.specs.laws.Codec.{next-byte, high-byte, low-byte, read-only, read-write}
-use Rattle.expression.specs.Credential.{wellFormedCredential, pickCredential, roleAt, credentialOf, readCredential, roleBytes, credentialBytes}
+use Rattle.expression.specs.Credential.{wellFormedCredential, readCredential, credentialBytes}
 use Rattle.expression.specs.laws.Credential.{credential-only}
-use Rattle.expression.specs.laws.There.{self-paste, byte-there, code-there, size-there, read-there}
+use Rattle.expression.specs.laws.There.{self-paste, byte-there, code-there, size-there, read-there, Bytes, read-formed, skip, role-there, number-there}
 use Rattle.graph.specs.declared.Edge.{Edge}
 use Rattle.message.specs.declared.Opening.{Opening}
 use Rattle.message.specs.declared.NewEdge.{NewEdge}
@@ -32,11 +31,8 @@ use Rattle.message.specs.declared.Command.{Command}
 use Rattle.message.specs.declared.Command.the-variants.{Show, Open, Bring, Join, Mark, End}
 use Rattle.message.specs.declared.CommandAnswer.{CommandAnswer}
 use Rattle.message.specs.declared.CommandAnswer.the-variants.{Read, Refused}
-use Rattle.message.specs.Command.{edgeKind, formedOpening, formedNew, formedCommand, whole, checked, shown, showAt, openingOf, openAt, newOf, brought, bringAt, edgeOf, joinAt, markAt, endAt, byCode, commandAt, numberBytes, openingBytes, newBytes, edgeBytes, commandBytes, sizeOf}
+use Rattle.message.specs.Command.{edgeKind, formedOpening, formedNew, formedCommand, whole, checked, shown, showAt, openingOf, openAt, newOf, brought, bringAt, edgeOf, joinAt, markAt, endAt, byCode, commandAt, openingBytes, newBytes, edgeBytes, commandBytes, sizeOf}
 use Rattle.message.specs.laws.Command.{show-full, open-full, bring-full, join-full, mark-full, end-last, at-code}
-
-abbrev Bytes : List ℕ → Type 0
-Bytes s = (i : ℕ) → getD s i 0 < 256
 
 -- a command has this first byte, this test of its form and these operands
 record Has (code : ℕ) (good : Bool) (l : List ℕ) (c : Command) : Type 0 where
@@ -118,22 +114,6 @@ module _ (s : List ℕ) (at : ℕ) where
       next-byte 2 s at 1 (omega arith)
       ∙ ap (λ (l : List ℕ). getD s (at + 1) 0 ∷ l) (next-byte 1 s at 2 (omega arith))
       ∙ ap (λ (l : List ℕ). getD s (at + 1) 0 ∷ getD s (at + 2) 0 ∷ l) (next-byte 0 s at 3 (omega arith))
-
--- a credential that is read is well formed
-credential-formed : (h : Role) (x : ExpressionAnswer) (c : Credential) → credentialOf h x ≡ a.Read c → wellFormedCredential c ≡ true
-credential-formed h (e.Read b) c k = go (wellFormedCredential r) refl k
-  where
-    r : Credential
-    r = record { head = h; body = b }
-
-    go : (t : Bool) → wellFormedCredential r ≡ t → pickCredential t (a.Read r) a.Wrong ≡ a.Read c → wellFormedCredential c ≡ true
-    go true p q = let same : r ≡ c = cc in ap wellFormedCredential (sym same) ∙ p
-    go false p q = let z : _≡_ {A = ℕ} 0 1 = cc in absurd (omega arith)
-credential-formed h e.Wrong c k = let z : _≡_ {A = ℕ} 0 1 = cc in absurd (omega arith)
-
-read-formed : (s : List ℕ) (at : ℕ) (c : Credential) → readCredential s at ≡ a.Read c → wellFormedCredential c ≡ true
-unfolding readCredential
-read-formed s at c h = credential-formed (roleAt s at) (readOf s (at + 4)) c h
 
 abbrev isEnd : Command → Bool
 isEnd (Show c) = false
@@ -250,22 +230,8 @@ command-only s at c bytes h = subst (Sure s at) h (sure s at) .2 bytes
 pub command-end : (s : List ℕ) (at : ℕ) → commandAt s at ≡ Read End → length s ≡ at + 1
 command-end s at h = subst (Sure s at) h (sure s at) .3 refl
 
--- Commands read back
-
-skip : (s : List ℕ) (at n : ℕ) (l : List ℕ) → drop at s ≡ l → drop (at + n) s ≡ drop n l
-skip s at n l h = sym (drop-drop n at s) ∙ ap (drop n) h
-
 begins : (s : List ℕ) (at code : ℕ) (l : List ℕ) → drop at s ≡ code ∷ l → at < length s
 begins s at code l h = omega (arith, length-drop at s, ap length h)
-
-number-there : (s : List ℕ) (at n : ℕ) (l : List ℕ) → drop at s ≡ numberBytes n ++ l → n ≡ numberAt s at
-number-there s at n l h =
-    let high : getD s at 0 ≡ n / 256 = code-there s at (n / 256) _ h in
-    let low : getD s (at + 1) 0 ≡ n % 256 = byte-there s at 1 (numberBytes n ++ l) h in
-    sym ((λ i. high i * 256 + low i) ∙ div-add-mod' n 256)
-
-role-there : (s : List ℕ) (at : ℕ) (r : Role) (l : List ℕ) → drop at s ≡ roleBytes r ++ l → r ≡ roleAt s at
-role-there s at r l h = λ i. record { entity = number-there s at (r .entity) (numberBytes (r .name) ++ l) h i; name = number-there s (at + 2) (r .name) l (skip s at 2 (roleBytes r ++ l) h) i }
 
 expression-there : (s : List ℕ) (at : ℕ) (x : Expression) (l : List ℕ) → at + 18 ≤ length s → wellFormed x ≡ true → drop at s ≡ rawBytes (rawOf x) ++ l → readOf s at ≡ e.Read x
 expression-there s at x l room formed h =

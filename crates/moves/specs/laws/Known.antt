@@ -11,13 +11,13 @@ use Rattle.expression.specs.Same.{sameRole}
 use Rattle.expression.specs.laws.Same.{sameRole-eq, eq-sameRole}
 use Rattle.rt0.specs.Lists.{any}
 use Rattle.rt0.specs.laws.Lists.{any-find, any-here}
-use Rattle.word.specs.laws.Bools.{and-parts, and-both, false-true, or-neither}
+use Rattle.word.specs.laws.Bools.{and-parts, and-both, false-true, or-neither, bool-iff}
 use Rattle.record.specs.declared.Pair.{Pair}
 use Rattle.tables.specs.Tables.{Tables}
 use Rattle.tables.specs.Lookup.{holds, isSensitive, otherOf}
 use Rattle.tables.specs.Public.{Hidden, heldOf, hiddenOf}
 use Rattle.tables.specs.laws.Public.{held-mem, held-find}
-use Rattle.propagation.specs.laws.Flags.{bool-iff, not-of}
+use Rattle.propagation.specs.laws.Flags.{not-of}
 use Rattle.negotiation.specs.State.{State}
 use Rattle.moves.specs.declared.Holding.{Holding}
 use Rattle.moves.specs.declared.Holding.the-variants.{Absent, Free, Guarded}
@@ -111,7 +111,6 @@ open-exact T U S = (there, back)
   where
     test : Pair → Bool
     test p = differing (hiddenOf T) (hiddenOf U) p && isAcknowledged S (p .other)
-
     there : any test (T .sensitive) ≡ true → Opened T U S
     there h =
         let r = any-find test (T .sensitive) h in
@@ -123,7 +122,6 @@ open-exact T U S = (there, back)
           differs = λ e. not-true (sameHolding (holdingOf (hiddenOf T) (p .role)) (holdingOf (hiddenOf U) (p .role))) (q .0) (eq-same-holding _ _ e);
           acknowledged = q .1;
         }
-
     back : Opened T U S → any test (T .sensitive) ≡ true
     back o =
         let p : Pair = o .pair in

@@ -119,14 +119,11 @@ more-mark ns es i s full =
   where
     here : (k : ℕ) → k < length ns → k ≡ i → nodeIn (set ns i (inState s (nodeIn ns i))) k ≡ inState s (nodeIn ns k)
     here k l e = ap (nodeIn (set ns i (inState s (nodeIn ns i)))) e ∙ getD-set-same ns i (inState s (nodeIn ns i)) blank (omega arith) ∙ ap (λ (n : ℕ). inState s (nodeIn ns n)) (sym e)
-
     other : (k : ℕ) → (k ≡ i → ⊥) → nodeIn (set ns i (inState s (nodeIn ns i))) k ≡ nodeIn ns k
     other k o = getD-set-other ns i k (inState s (nodeIn ns i)) blank o
-
     like : (k : ℕ) → k < length ns → (b : Bool) → eqb k i ≡ b → Alike (nodeIn (set ns i (inState s (nodeIn ns i))) k) (nodeIn ns k)
     like k l true q = let e = here k l (eqb-true k i q) in record { expression = ap (λ (x : Node). x .expression) e; subject = ap (λ (x : Node). x .subject) e; verifier = ap (λ (x : Node). x .verifier) e }
     like k l false q = alike-eq (other k (eqb-false k i q))
-
     done : (k : ℕ) → FullyProcessed ns k → (b : Bool) → eqb k i ≡ b → FullyProcessed (set ns i (inState s (nodeIn ns i))) k
     done k p true q = ap (λ (x : Node). x .state) (here k (processed-inside ns k p) (eqb-true k i q)) ∙ full (ap (λ (n : ℕ). nodeIn ns n .state) (sym (eqb-true k i q)) ∙ p)
     done k p false q = ap (λ (x : Node). x .state) (other k (eqb-false k i q)) ∙ p

@@ -19,7 +19,7 @@ use Rattle.rt0.specs.laws.Pool.{bodyAt}
 use Rattle.class.specs.declared.Name.{Name}
 use Rattle.record.specs.declared.Pair.{Pair}
 use Rattle.tables.specs.Lookup.{isSensitive}
-use Rattle.propagation.specs.laws.Flags.{flag, decided}
+use Rattle.propagation.specs.laws.Flags.{flag, decided, flag-is}
 use Rattle.frontier.specs.laws.Frontier.{Stops}
 use Rattle.moves.specs.declared.Predicate.{Predicate}
 use Rattle.moves.specs.declared.Predicate.the-variants.{Oppo, Simp, Sens}
@@ -76,10 +76,6 @@ module _ (ns : List Name) (P : List Pair) where
 pub record Told (pred : Expression → Bool) (P : Pool) (i : ℕ) (r : List ℕ) : Type 0 where
   pub sized : length r ≡ 128
   pub says : (j : ℕ) → j < i → flag r j ≡ pred (bodyAt P j)
-
-flag-is : (b : Bool) → eqb (cond b 1 0) 1 ≡ b
-flag-is true = refl
-flag-is false = refl
 
 module _ (pred : Expression → Bool) (P : Pool) where
   pub told-start : (r : List ℕ) → length r ≡ 128 → Told pred P 0 r

@@ -18,13 +18,12 @@ use Rattle.expression.specs.laws.Same.{same-eq, eq-same}
 use Rattle.expression.specs.Order.{leads, lexLess, rawNumbers, beforeOf, beforeCredential}
 use Rattle.rt0.specs.Lists.{any, all}
 use Rattle.rt0.specs.laws.Lists.{any-find, any-here, all-each, all-of}
-use Rattle.word.specs.laws.Bools.{false-true, or-cases, or-left, or-right, and-parts, and-both, or-neither}
+use Rattle.word.specs.laws.Bools.{false-true, or-cases, or-left, or-right, and-parts, and-both, or-neither, bool-iff}
 use Rattle.tables.specs.laws.Chain.{before-chain}
 use Rattle.tables.specs.laws.Sorted.{Strict, rising-parts}
 use Rattle.tables.specs.Accepted.{Rising, rising-none, rising-cons}
 use Rattle.tables.specs.Public.{keep}
 use Rattle.tables.specs.laws.Public.{before-self}
-use Rattle.propagation.specs.laws.Flags.{bool-iff}
 use Rattle.moves.specs.declared.Wanted.{Wanted}
 use Rattle.moves.specs.Wanted.{precedes, equals, inserted, ordered}
 
@@ -174,7 +173,6 @@ inserted-all f v (w ∷ ws) h k = go (precedes v w) (equals v w) (inserted-all f
   where
     p : (f w ≡ true) × (all f ws ≡ true)
     p = and-parts (f w) (all f ws) k
-
     go : (a b : Bool) → all f (inserted v ws) ≡ true → all f (cond a (v ∷ w ∷ ws) (cond b (w ∷ ws) (w ∷ inserted v ws))) ≡ true
     go true b ih = and-both (f v) (all f (w ∷ ws)) h k
     go false true ih = k
@@ -249,7 +247,6 @@ ordered-same vs v = bool-iff (any (equals v) (ordered vs)) (any (equals v) vs) t
   where
     to : any (equals v) (ordered vs) ≡ true → any (equals v) vs ≡ true
     to h = let w = any-find (equals v) (ordered vs) h in any-here (equals v) (ordered-find vs (w .1)) (w .2)
-
     fro : any (equals v) vs ≡ true → any (equals v) (ordered vs) ≡ true
     fro h = let w = any-find (equals v) vs h in let r = ordered-mem vs (w .1) in any-here (equals v) (r .1) (equals-chain v (w .0) (r .0) (w .2) (r .2))
 
@@ -339,7 +336,6 @@ module _ {d : Wanted → Bool} where
               f .1,
               ⊎-elim (λ e. e) (λ p. ⊎-elim (λ e. equals-sym w v e) (λ q. absurd (false-true (sym (precedes-self w) ∙ precedes-chain w v w p q))) (l .least w (k .there) (k .fails))) (k .least v (l .there) (l .fails)),
             )
-
         none : all d (ordered vs) ≡ true → (w : Wanted) × First d (ordered vs) w × (equals v w ≡ true)
         none h =
             let o = ordered-mem vs (l .there) in
@@ -351,6 +347,5 @@ module _ {d : Wanted → Bool} where
       where
         to : all d (ordered vs) ≡ true → all d vs ≡ true
         to h = all-of d vs (λ v m. let o = ordered-mem vs m in A .alike v (o .0) m (ordered-find vs (o .1)) (o .2) ∙ all-each d (o .1) h)
-
         fro : all d vs ≡ true → all d (ordered vs) ≡ true
         fro h = all-of d (ordered vs) (λ v m. all-each d (ordered-find vs m) h)

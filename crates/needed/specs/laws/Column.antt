@@ -8,7 +8,7 @@ use mathlib.Core.Bool.{Bool, true, false, cond}
 use mathlib.Core.List.{List, [], _∷_, _++_, append-assoc, append-nil, List·Memᴰ, List·Memᴰ·head, List·Memᴰ·not-nil, List·Memᴰ·eq-of-singleton, List·Memᴰ·append-cases, Memᴰ·append-left, Memᴰ·append-right}
 use borrow.Author.Tests.{eqb-true, eqb-false, eq-eqb, ne-eqb, ltb-true, ltb-false}
 use lib.Dec.{eqb, ltb}
-use lib.ListN.{getD, length, length-set, length-replicate, set, replicate}
+use lib.ListN.{length, length-set, length-replicate, set, replicate}
 use lib.Seq.{getD-set-same, getD-set-other}
 use Rattle.expression.specs.declared.Credential.{Credential}
 use Rattle.rt0.specs.declared.Pool.{Pool}
@@ -19,6 +19,7 @@ use Rattle.closure.specs.laws.Rules.{el}
 use Rattle.rules.specs.laws.Table.{chosen, chosenTo}
 use Rattle.needed.specs.laws.Needed.{firstOf, restOf}
 use Rattle.needed.specs.laws.Columns.{FirstOn, WithRest}
+use Rattle.word.specs.laws.Search.{zeros}
 
 -- Lists by their numbers
 
@@ -98,11 +99,6 @@ lt-or i k = go (ltb i k) refl
     go true q = inl (ltb-true i k q)
     go false q = inr (ltb-false i k q)
 
-pub zeros-at : (n i : ℕ) → _≡_ {A = ℕ} (getD (replicate n 0) i 0) 0
-zeros-at zero i = refl
-zeros-at (suc n) zero = refl
-zeros-at (suc n) (suc i) = zeros-at n i
-
 -- Those chosen by a column
 
 module _ (P : Pool) where
@@ -134,7 +130,7 @@ module _ (P : Pool) where
   unfolding chosen
   none-on n =
       let z : P .count ≡ 0 + P .count = omega arith in
-      ap (chosenTo P (replicate n 0)) z ∙ none-chosen (replicate n 0) 0 (P .count) (λ i l o. let y : el (replicate n 0) i ≡ 0 = zeros-at n i in omega arith)
+      ap (chosenTo P (replicate n 0)) z ∙ none-chosen (replicate n 0) 0 (P .count) (λ i l o. let y : el (replicate n 0) i ≡ 0 = zeros n i in omega arith)
 
   -- a column whose ones are below a
   chosen-below : (r : List ℕ) (a : ℕ) → a ≤ P .count → ((i : ℕ) → el r i ≡ 1 → i < a) → chosen P r ≡ chosenTo P r a
@@ -155,7 +151,7 @@ module _ (P : Pool) where
   -- those from a on, and no others
   pub rest-alone : (q : List ℕ) (a : ℕ) → a ≤ P .count → WithRest (P .count) a (replicate 128 0) q → chosen P q ≡ restOf P a
   rest-alone q a l w =
-      rest-chosen (replicate 128 0) q a l (λ i o. absurd (let z : _≡_ {A = ℕ} (el (replicate 128 0) i) 0 = zeros-at 128 i in omega arith)) w
+      rest-chosen (replicate 128 0) q a l (λ i o. absurd (let z : _≡_ {A = ℕ} (el (replicate 128 0) i) 0 = zeros 128 i in omega arith)) w
       ∙ ap (λ (l : List Credential). l ++ restOf P a) (none-on 128)
 
   -- with one more, after all others
@@ -194,7 +190,7 @@ came l k i h = go (eqb i k) refl
     go false q = inl (sym (getD-set-other l k i 1 0 (eqb-false i k q)) ∙ h)
 
 pub first-start : FirstOn 0 (replicate 128 0)
-first-start = record { sized = length-replicate {A = ℕ} 128 0; shown = λ i l. absurd (omega arith); others = λ i l. zeros-at 128 i }
+first-start = record { sized = length-replicate {A = ℕ} 128 0; shown = λ i l. absurd (omega arith); others = λ i l. zeros 128 i }
 
 pub first-add : (s : ℕ) (on : List ℕ) → s < 128 → FirstOn s on → FirstOn (s + 1) (set on s 1)
 first-add s on l h =

@@ -21,9 +21,10 @@ use Rattle.word.specs.laws.Bools.{false-true, or-cases}
 use Rattle.rt0.specs.laws.Pool.{headAt, bodyAt}
 use Rattle.rules.specs.laws.Exact.{four-all}
 use Rattle.closure.specs.laws.Rules.{el}
-use Rattle.needed.specs.laws.Column.{zeros-at, came, stays}
+use Rattle.needed.specs.laws.Column.{came, stays}
 use Rattle.needed.specs.laws.Relevant.{asks, ClosedFor}
 use Rattle.needed.specs.laws.Flags.{headIn, isNamed, Raised, Marked, Work, Followed, Passed}
+use Rattle.word.specs.laws.Search.{zeros}
 
 -- A flag
 
@@ -65,14 +66,12 @@ module _ {H : List ℕ} {t : Role → Bool} {r : List ℕ} where
     where
       here : (j : ℕ) → j ≡ i → v ≡ 1 → el (set q i v) j ≡ 1
       here j e h = ap (el (set q i v)) e ∙ getD-set-same q i v 0 (omega (arith, m .sized)) ∙ h
-
       at : (j : ℕ) → el q j ≡ 1 → (j ≡ i → v ≡ 1) → el (set q i v) j ≡ 1
       at j h k = pick (eqb j i) refl
         where
           pick : (b : Bool) → eqb j i ≡ b → el (set q i v) j ≡ 1
           pick true e = here j (eqb-true j i e) (k (eqb-true j i e))
           pick false e = getD-set-other q i j v 0 (eqb-false j i e) ∙ h
-
       go : {j : ℕ} (b : Bool) → eqb j i ≡ b → j < i + 1 → t (headIn H j) ≡ true → el (set q i v) j ≡ 1
       go {j} true e k h = here j (eqb-true j i e) (s .told (subst (λ (x : ℕ). t (headIn H x) ≡ true) (eqb-true j i e) h))
       go {j} false e k h = getD-set-other q i j v 0 (eqb-false j i e) ∙ m .all j (omega (arith, eqb-false j i e)) h
@@ -126,16 +125,13 @@ module _ {H : List ℕ} {n : ℕ} where
       choose : (G : Role → Type 0) (t : Bool) {y z : Role} → G y → G z → G (cond t y z)
       choose G true g h = g
       choose G false g h = h
-
       each : (i : ℕ) → i < n → (o : Role) → List·Memᴰ o (rolesOf p) → sameRole o (headIn H i) ≡ true → el w i ≡ 1
       each i l = four-all p G first (λ h. d .grows i (c .grows i (b .all i l h))) (choose G (eqb (p .count) 2) first third′) (choose G (eqb (p .count) 2) first (choose G (eqb (p .count) 3) first (d .all i l)))
         where
           G : Role → Type 0
           G o = sameRole o (headIn H i) ≡ true → el w i ≡ 1
-
           first : G (p .first)
           first h = d .grows i (c .grows i (b .grows i (a .all i l h)))
-
           third′ : G (p .third)
           third′ h = d .grows i (c .all i l h)
 
@@ -173,10 +169,8 @@ module _ {P : Pool} {r : List ℕ} where
         where
           was : el q k ≡ 1
           was = ap (λ (z : List ℕ). el z k) (sym (f .same d .0)) ∙ o
-
           is : el ended k ≡ 1 → el over k ≡ 1
           is z = ap (λ (z : List ℕ). el z k) (f .same d .1) ∙ z
-
           at : (t : Bool) → eqb k j ≡ t → el over k ≡ 1
           at true e = let z : k ≡ j = eqb-true k j e in is (ap (el ended) z ∙ f .same d .2 (ap (el q) (sym z) ∙ was))
           at false e = is (p .still c k (omega (arith, eqb-false k j e)) was)
@@ -191,7 +185,7 @@ module _ {P : Pool} {r : List ℕ} where
   work-start m = record { sized = m .sized; done-sized = length-replicate {A = ℕ} 128 0; followed = λ j h. absurd (none j h) }
     where
       none : (j : ℕ) → el (replicate 128 0) j ≡ 1 → ⊥
-      none j h = let z : el (replicate 128 0) j ≡ 0 = zeros-at 128 j in omega arith
+      none j h = let z : el (replicate 128 0) j ≡ 0 = zeros 128 j in omega arith
 
   pub pass-again : {q ended u over : List ℕ} {a b : Bool} {k n : ℕ} → Passed P r q ended a k → Passed P q u over b n → Passed P r u over true 0
   pass-again p s = record { work = s .work; grows = λ i h. s .grows i (p .grows i h); still = λ h. absurd (false-true (sym h)) }

@@ -23,7 +23,8 @@ use Rattle.relation.specs.laws.Relation.{Relation}
 use Rattle.needed.specs.Needed.{kept, enough, needed}
 use Rattle.needed.specs.laws.Needed.{firstOf, restOf, enough-gains, kept-nil, kept-done, kept-jump, kept-all, needed-same}
 use Rattle.needed.specs.laws.Columns.{FirstOn, withOne, Grown, LastNeeded, WithRest, Keeping, Needed}
-use Rattle.needed.specs.laws.Column.{upTo-mem, upTo-find, rest-split, rest-next, rest-none, rest-mem, rest-find, first-rest, lt-or, none-on, rest-chosen, one-chosen, zeros-at, set-at, stays, came}
+use Rattle.needed.specs.laws.Column.{upTo-mem, upTo-find, rest-split, rest-next, rest-none, rest-mem, rest-find, first-rest, lt-or, none-on, rest-chosen, one-chosen, set-at, stays, came}
+use Rattle.word.specs.laws.Search.{zeros}
 
 -- One switched on
 
@@ -54,7 +55,6 @@ module _ (P : Pool) (was : List ℕ) (f e : Expression) where
           let r = chosen-find P on (P .count) c m in
           subst (λ (d : Credential). List·Memᴰ d (chosen P was ++ restOf P k)) (sym (r .3))
           (⊎-elim (λ h. Memᴰ·append-left (restOf P k) (chosen-mem P was (P .count) (r .0) (r .1) h)) (λ h. Memᴰ·append-right (chosen P was) (rest-mem P k (r .0) h (r .1))) (g .says (r .0) (r .1) (r .2)))
-
       fro : (c : Credential) → List·Memᴰ c (chosen P was ++ restOf P k) → List·Memᴰ c (chosen P on)
       fro c m =
           ⊎-elim (λ h. let r = chosen-find P was (P .count) c h in subst (λ (d : Credential). List·Memᴰ d (chosen P on)) (sym (r .3)) (chosen-mem P on (P .count) (r .0) (r .1) (g .old (r .0) (r .2))))
@@ -120,10 +120,10 @@ module _ (P : Pool) (small : P .count ≤ 128) (s : ℕ) (f e : Expression) wher
         within = l;
         sized = length-replicate {A = ℕ} 128 0;
         on-sized = h .sized;
-        own = λ i o. absurd (let z : el (replicate 128 0) i ≡ 0 = zeros-at 128 i in omega arith);
+        own = λ i o. absurd (let z : el (replicate 128 0) i ≡ 0 = zeros 128 i in omega arith);
         says = λ i o. ⊎-elim (λ m. inl m) (λ m. absurd (let z : el on i ≡ 0 = h .others i m in omega arith)) (lt-or i s);
         shown = h .shown;
-        kept-on = λ i o. absurd (let z : el (replicate 128 0) i ≡ 0 = zeros-at 128 i in omega arith);
+        kept-on = λ i o. absurd (let z : el (replicate 128 0) i ≡ 0 = zeros 128 i in omega arith);
         so-far = ap (λ (ks : List Credential). kept (enough (firstOf P s) f e) ks (restOf P s)) (sym (none-on P 128));
       }
 
@@ -137,15 +137,12 @@ module _ (P : Pool) (small : P .count ≤ 128) (s : ℕ) (f e : Expression) wher
         one i l h =
             ⊎-elim (λ m. Memᴰ·append-left (chosen P r ++ X) (upTo-mem s (credentialAt P) i m))
             (λ m. Memᴰ·append-right (firstOf P s) (Memᴰ·append-left X (chosen-mem P r (P .count) i l m))) h
-
         to : (c : Credential) → List·Memᴰ c (chosen P on ++ X) → List·Memᴰ c (firstOf P s ++ (chosen P r ++ X))
         to c m =
             ⊎-elim (λ h. let x = chosen-find P on (P .count) c h in subst (λ (d : Credential). List·Memᴰ d (firstOf P s ++ (chosen P r ++ X))) (sym (x .3)) (one (x .0) (x .1) (k .says (x .0) (x .2))))
             (λ h. Memᴰ·append-right (firstOf P s) (Memᴰ·append-right (chosen P r) h)) (List·Memᴰ·append-cases (chosen P on) m)
-
         there : (i : ℕ) (c : Credential) → i < P .count → el on i ≡ 1 → c ≡ credentialAt P i → List·Memᴰ c (chosen P on ++ X)
         there i c l o q = subst (λ (d : Credential). List·Memᴰ d (chosen P on ++ X)) (sym q) (Memᴰ·append-left X (chosen-mem P on (P .count) i l o))
-
         fro : (c : Credential) → List·Memᴰ c (firstOf P s ++ (chosen P r ++ X)) → List·Memᴰ c (chosen P on ++ X)
         fro c m =
             ⊎-elim (λ h. let x = upTo-find s (credentialAt P) c h in let l : x .0 < s = x .1 in there (x .0) c (omega (arith, k .from, k .within)) (k .shown (x .0) l) (x .2))
@@ -171,7 +168,6 @@ module _ (P : Pool) (small : P .count ≤ 128) (s : ℕ) (f e : Expression) wher
             ap (enough (firstOf P s) f e) (sym (append-nil (chosen P r)))
             ∙ (sym (beside [])
             ∙ (ap (λ (l : List Credential). from? (chosen P on ++ l) f e) (sym (rest-none P z (omega arith))) ∙ last .found (omega arith) .1))
-
         all : chosen P r ≡ needed (firstOf P s) f e (restOf P s)
         all = sym (k .so-far ∙ kept-done (enough (firstOf P s) f e) (enough-gains (firstOf P s) f e) (chosen P r) (restOf P a) alone)
 
@@ -193,10 +189,8 @@ module _ (P : Pool) (small : P .count ≤ 128) (s : ℕ) (f e : Expression) wher
       where
         with-rest : chosen P q ≡ chosen P r ++ restOf P a
         with-rest = rest-chosen P r q a (k .within) (λ i o. k .own i o .1) w
-
         few : enough (firstOf P s) f e (chosen P r ++ restOf P a) ≡ false
         few = sym (beside (restOf P a)) ∙ last .none l
-
         all : chosen P q ≡ needed (firstOf P s) f e (restOf P s)
         all = with-rest ∙ sym (k .so-far ∙ kept-all (enough (firstOf P s) f e) (enough-gains (firstOf P s) f e) (chosen P r) (restOf P a) few)
 
@@ -217,13 +211,10 @@ module _ (P : Pool) (small : P .count ≤ 128) (s : ℕ) (f e : Expression) wher
       where
         found : (a ≤ z) × (from? (chosen P on ++ restOf P z) f e ≡ true) × (from? (chosen P on ++ restOf P (z + 1)) f e ≡ false)
         found = (last .found (omega arith) .0, last .found (omega arith) .1, last .last l)
-
         is-on : (x : List ℕ) (i : ℕ) → length x ≡ 128 → i ≡ z → el (set x z 1) i ≡ 1
         is-on x i sized h = ⊎-elim (λ y. absurd (y h)) (λ y. y) (set-at x z i sized (omega arith))
-
         G : List Credential → Bool
         G = enough (firstOf P s) f e
-
         jump : kept G (chosen P r) (restOf P a) ≡ kept G (chosen P (set r z 1)) (restOf P (z + 1))
         jump =
             ap (kept G (chosen P r)) (rest-split P a z (found .0) (omega arith) ∙ ap (λ (l : List Credential). upTo (z - a) (λ (i : ℕ). credentialAt P (a + i)) ++ l) (rest-next P z l))

@@ -15,9 +15,9 @@ use Rattle.expression.specs.laws.Same.{sameRole-eq, eq-sameRole}
 use Rattle.rt0.specs.declared.Pool.{Pool}
 use Rattle.rt0.specs.From.{roleOf, rolesOf}
 use Rattle.rt0.specs.laws.Lists.{any-here}
-use Rattle.word.specs.laws.Bools.{or-left, or-right}
+use Rattle.word.specs.laws.Bools.{or-left, or-right, bool-iff}
 use Rattle.rt0.specs.Decide.{from?}
-use Rattle.rt0.specs.laws.Laws.{Reach, here, step, link, each, reach, more, sound, complete, bool-iff}
+use Rattle.rt0.specs.laws.Laws.{Reach, here, step, link, each, reach, more, sound, complete}
 use Rattle.rt0.specs.laws.Pool.{headAt, credentialAt, credentials}
 use Rattle.rules.specs.laws.Exact.{unreach}
 use Rattle.needed.specs.Needed.{kept, enough, needed}
@@ -107,13 +107,10 @@ module _ {R : Role → Type 0} where
       where
         smaller : Closed f (shown ++ (ks ++ cs)) R
         smaller = closed-sub (λ x m. ⊎-elim (λ u. Memᴰ·append-left (ks ++ (c ∷ cs)) u) (λ u. Memᴰ·append-right shown (⊎-elim (λ w. Memᴰ·append-left (c ∷ cs) w) (λ w. Memᴰ·append-right ks (List·Memᴰ·tail w)) (List·Memᴰ·append-cases ks u))) (List·Memᴰ·append-cases shown m)) k
-
         moved : Closed f (shown ++ ((ks ++ (c ∷ [])) ++ cs)) R
         moved = subst (λ (l : List Credential). Closed f (shown ++ l) R) (sym (append-assoc ks (c ∷ []) cs)) k
-
         both : enough shown f e (ks ++ cs) ≡ enough less f e (ks ++ ds)
         both = from-relevant f e smaller (reduced-append fewer (reduced-append (reduced-same ks) d))
-
         go : (b : Bool) → enough shown f e (ks ++ cs) ≡ b
             → (enough shown f e (ks ++ cs) ≡ true → kept (enough less f e) ks ds ≡ kept (enough shown f e) ks cs)
             → kept (enough less f e) (ks ++ (c ∷ [])) ds ≡ kept (enough shown f e) (ks ++ (c ∷ [])) cs

@@ -8,7 +8,8 @@ use borrow.Author.Tests.{eqb-true, eqb-false}
 use lib.Dec.{eqb}
 use lib.ListN.{getD, length, set, length-set, replicate, length-replicate}
 use lib.Seq.{getD-set-same, getD-set-other}
-use Rattle.propagation.specs.laws.Flags.{decided, zeros}
+use Rattle.propagation.specs.laws.Flags.{decided}
+use Rattle.word.specs.laws.Search.{zeros}
 
 -- head[v] is the number of the last edge from v plus one, next[j] that of the last edge before j from the same node plus one; 0: none
 pub record Chained (m : ℕ) (from head next : List ℕ) : Type 0 where

@@ -5,10 +5,11 @@ use mathlib.Core.Bool.{Bool, true, false, not, _&&_, _||_}
 use mathlib.Core.List.{List}
 use lib.Dec.{eqb, ltb}
 use lib.ListN.{getD, length}
-use Rattle.propagation.specs.laws.Flags.{anyTo, cnt, flag}
+use Rattle.propagation.specs.laws.Flags.{cnt, flag}
 use Rattle.propagation.specs.Flags.{at}
 use Rattle.propagation.specs.Least.{Rule, least}
 use Rattle.propagation.specs.laws.Satisfied.{Graph, fromAt, slotAt, nodeAt}
+use Rattle.word.specs.laws.Search.{anyTo}
 
 -- edge j brings node i a child, and passes the test
 abbrev pub brings : Graph → (ℕ → Bool) → ℕ → ℕ → Bool

@@ -9,13 +9,14 @@ use mathlib.Core.List.{List}
 use borrow.Author.Tests.{eqb-true, eqb-false, eq-eqb, ne-eqb, ltb-true, ltb-false, lt-ltb, le-ltb, not-true}
 use lib.Dec.{eqb, ltb}
 use lib.ListN.{getD, length, set, length-set, replicate, length-replicate}
-use Rattle.word.specs.laws.Bools.{false-true, or-cases, or-left, or-right, and-parts, and-both}
-use Rattle.propagation.specs.laws.Flags.{bool-iff, not-of, decided, anyTo, anyTo-find, anyTo-here, cnt, cnt-le, cnt-one, flag, flag-same, flag-other, flag-grows, flag-cases, flag-zeros}
+use Rattle.word.specs.laws.Bools.{false-true, or-cases, or-left, or-right, and-parts, and-both, bool-iff}
+use Rattle.propagation.specs.laws.Flags.{not-of, decided, anyTo-find, cnt, cnt-le, cnt-one, flag, flag-same, flag-other, flag-grows, flag-cases, flag-zeros}
 use Rattle.propagation.specs.Flags.{at}
 use Rattle.propagation.specs.laws.Least.{Monotone, least-closed, least-below}
 use Rattle.propagation.specs.laws.Satisfied.{Graph, fromAt, slotAt, nodeAt}
 use Rattle.propagation.specs.laws.Work.{Beyond}
 use Rattle.propagation.specs.laws.Failed.{brings, childOf, failsBy, failedRule, failedOf, Sound, sameB, Touched, Swept}
+use Rattle.word.specs.laws.Search.{anyTo, anyTo-here}
 
 -- The rule
 

@@ -10,7 +10,8 @@ use lib.Dec.{eqb, ltb}
 use lib.ListN.{getD, length, set, length-set, replicate, length-replicate}
 use lib.Seq.{getD-set-same, getD-set-other}
 use Rattle.word.specs.laws.Bools.{false-true, and-parts, and-both}
-use Rattle.propagation.specs.laws.Flags.{not-of, decided, one, cnt, cnt-le, cnt-one, cnt-some, cnt-next, flag, flag-same, flag-other, flag-cases, zeros, flag-zeros}
+use Rattle.propagation.specs.laws.Flags.{not-of, decided, one, cnt, cnt-le, cnt-one, cnt-some, cnt-next, flag, flag-same, flag-other, flag-cases, flag-zeros}
+use Rattle.word.specs.laws.Search.{zeros}
 use Rattle.propagation.specs.Flags.{at}
 use Rattle.propagation.specs.laws.Satisfied.{Graph, fromAt, slotAt, nodeAt}
 use Rattle.propagation.specs.laws.Failed.{brings, childOf, failsBy, failedOf, Sound}

@@ -1,22 +1,22 @@
 -- Tests by number, flags in a column, and how many numbers pass a test. Assumes nothing.
-use Prim.Native.Nat.{ℕ, zero, suc, _+_, _≤_, _<_}
+use Prim.Native.Nat.{ℕ, _+_, _≤_, _<_, zero, suc}
 use native.Mathlib.Omega.{arith}
-use native.Mathlib.Numerals.{add-one}
 use mathlib.Core.Path.{_≡_, refl, sym, _∙_, ap}
-use mathlib.Core.Logic.{_⊎_, inl, inr, ⊎-elim}
-use mathlib.Core.Bool.{Bool, true, false, _&&_, _||_}
+use mathlib.Core.Logic.{⊎-elim, _⊎_, inl, inr}
+use mathlib.Core.Bool.{Bool, true, false, cond, _&&_}
 use mathlib.Core.List.{List, [], _∷_}
 use borrow.Author.Tests.{eqb-true, eqb-false, eq-eqb}
 use lib.Dec.{eqb}
-use lib.ListN.{getD, length, set, replicate}
+use lib.ListN.{length, set, getD, replicate}
 use lib.Seq.{getD-set-same, getD-set-other}
-use Rattle.word.specs.laws.Bools.{false-true, or-cases, or-left, or-right, and-parts, and-both}
+use Rattle.word.specs.laws.Bools.{false-true, or-cases, and-parts, and-both}
+use native.Mathlib.Numerals.{add-one}
 use Rattle.propagation.specs.Flags.{at, tab}
+use Rattle.word.specs.laws.Search.{zeros, anyTo}
 
-pub bool-iff : (a b : Bool) → (a ≡ true → b ≡ true) → (b ≡ true → a ≡ true) → a ≡ b
-bool-iff true b f g = sym (f refl)
-bool-iff false true f g = g refl
-bool-iff false false f g = refl
+pub flag-is : (b : Bool) → eqb (cond b 1 0) 1 ≡ b
+flag-is true = refl
+flag-is false = refl
 
 pub not-of : (a : Bool) → (a ≡ true → ⊥) → a ≡ false
 not-of true h = absurd (h refl)
@@ -26,11 +26,6 @@ pub decided : (a : Bool) → (a ≡ true) ⊎ (a ≡ false)
 decided true = inl refl
 decided false = inr refl
 
--- the test holds somewhere below n; everywhere below n
-abbrev pub anyTo : ℕ → (ℕ → Bool) → Bool
-anyTo zero f = false
-anyTo (suc n) f = anyTo n f || f n
-
 abbrev pub allTo : ℕ → (ℕ → Bool) → Bool
 allTo zero f = true
 allTo (suc n) f = allTo n f && f n
@@ -39,14 +34,6 @@ pub anyTo-find : (n : ℕ) (f : ℕ → Bool) → anyTo n f ≡ true → (i : �
 anyTo-find zero f h = absurd (false-true h)
 anyTo-find (suc n) f h =
     ⊎-elim (λ k. let r = anyTo-find n f k in let l : r .0 < n = r .1 in (r .0, omega arith, r .2)) (λ k. (n, omega arith, k)) (or-cases (anyTo n f) (f n) h)
-
-pub anyTo-here : (n : ℕ) (f : ℕ → Bool) (i : ℕ) → i < n → f i ≡ true → anyTo n f ≡ true
-anyTo-here zero f i l h = absurd (omega arith)
-anyTo-here (suc n) f i l h = go (eqb i n) refl (λ k. anyTo-here n f i k h)
-  where
-    go : (b : Bool) → eqb i n ≡ b → (i < n → anyTo n f ≡ true) → (anyTo n f || f n) ≡ true
-    go true e ih = or-right (anyTo n f) (f n) (sym (ap f (eqb-true i n e)) ∙ h)
-    go false e ih = or-left (anyTo n f) (f n) (ih (omega (arith, eqb-false i n e)))
 
 pub allTo-each : (n : ℕ) (f : ℕ → Bool) → allTo n f ≡ true → (i : ℕ) → i < n → f i ≡ true
 allTo-each zero f h i l = absurd (omega arith)
@@ -115,7 +102,6 @@ cnt-more (suc k) s t h j l p q = go (eqb j k) refl (λ r. cnt-more k s t (λ i l
     last true false f l = absurd (false-true (f refl))
     last false true f l = omega arith
     last false false f l = omega arith
-
     go : (b : Bool) → eqb j k ≡ b → (j < k → cnt k s + 1 ≤ cnt k t) → cnt k s + one (s k) + 1 ≤ cnt k t + one (t k)
     go true e ih =
         let z : s k ≡ false = sym (ap s (eqb-true j k e)) ∙ p in
@@ -133,7 +119,6 @@ cnt-one (suc k) s t j l p q o = go (eqb j k) refl (λ r. cnt-one k s t j r p q o
     same : (n : ℕ) → n ≤ j → cnt n t ≡ cnt n s
     same zero h = refl
     same (suc n) h = let e : t n ≡ s n = o n (λ z. omega arith) in let r = same n (omega arith) in rw (e, r) refl
-
     go : (b : Bool) → eqb j k ≡ b → (j < k → cnt k t ≡ cnt k s + 1) → cnt k t + one (t k) ≡ cnt k s + one (s k) + 1
     go true e ih =
         let i : j ≡ k = eqb-true j k e in
@@ -179,11 +164,6 @@ flag-grows l i j h t = ⊎-elim (λ e. ap (flag (set l i 1)) (eqb-true j i e) �
 -- a flag that stands after one was set stood before, or is this one
 pub flag-cases : (l : List ℕ) (i j : ℕ) → flag (set l i 1) j ≡ true → (j ≡ i) ⊎ (flag l j ≡ true)
 flag-cases l i j t = ⊎-elim (λ e. inl (eqb-true j i e)) (λ e. inr (sym (flag-other l i j (eqb-false j i e)) ∙ t)) (decided (eqb j i))
-
-pub zeros : (n i : ℕ) → _≡_ {A = ℕ} (getD (replicate n 0) i 0) 0
-zeros zero i = refl
-zeros (suc n) zero = refl
-zeros (suc n) (suc i) = zeros n i
 
 pub flag-zeros : (n i : ℕ) → flag (replicate n 0) i ≡ false
 flag-zeros n i = ap (λ (x : ℕ). eqb x 1) (zeros n i)

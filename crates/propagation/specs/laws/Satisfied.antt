@@ -4,8 +4,9 @@ use mathlib.Core.Bool.{Bool, _&&_}
 use mathlib.Core.List.{List}
 use lib.Dec.{eqb, ltb}
 use lib.ListN.{getD}
-use Rattle.propagation.specs.laws.Flags.{anyTo, allTo}
+use Rattle.propagation.specs.laws.Flags.{allTo}
 use Rattle.propagation.specs.Least.{Rule, least}
+use Rattle.word.specs.laws.Search.{anyTo}
 
 -- Edge j leads from node from[j] into slot slot[j]. Node i has the slots i * 4 to i * 4 + 3, and node[i] says what it asks of them.
 pub record Graph : Type 0 where

@@ -6,10 +6,11 @@ use mathlib.Core.Bool.{Bool, true, _&&_}
 use borrow.Author.Tests.{eqb-true, eq-eqb, ltb-true, lt-ltb}
 use lib.Dec.{eqb, ltb}
 use Rattle.word.specs.laws.Bools.{and-parts, and-both}
-use Rattle.propagation.specs.laws.Flags.{anyTo-find, anyTo-here, allTo-each, allTo-of}
+use Rattle.propagation.specs.laws.Flags.{anyTo-find, allTo-each, allTo-of}
 use Rattle.propagation.specs.Flags.{at}
 use Rattle.propagation.specs.laws.Least.{Monotone, least-mono}
 use Rattle.propagation.specs.laws.Satisfied.{Graph, fromAt, slotAt, nodeAt, filledBy, satisfiedRule, satisfiedOf}
+use Rattle.word.specs.laws.Search.{anyTo-here}
 
 pub filled-find : (m : ℕ) (G : Graph) (s : ℕ → Bool) (k : ℕ) → filledBy m G s k ≡ true → (j : ℕ) × (j < m) × (slotAt G j ≡ k) × (s (fromAt G j) ≡ true)
 unfolding filledBy

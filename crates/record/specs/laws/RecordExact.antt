@@ -1,38 +1,31 @@
 -- Records are read from their own bytes and from no others, and refused by two numbers. Assumes nothing.
-use Prim.Native.Nat.{ℕ, suc, _+_, _-_, _*_, _/_, _%_, _<_, _≤_}
+use Prim.Native.Nat.{ℕ, suc, _+_, _-_, _/_, _%_, _<_, _≤_}
 use mathlib.Core.Path.{_≡_, refl, sym, ap, _∙_, subst}
 use mathlib.Core.Logic.{_⊎_, inl, inr}
 use mathlib.Core.Bool.{Bool, true, false, cond}
 use mathlib.Core.List.{List, [], _∷_, _++_}
 use native.Mathlib.Omega.{arith}
-use native.Mathlib.Nat.{add-assoc, div-add-mod'}
+use native.Mathlib.Nat.{add-assoc}
 use native.Mathlib.Numerals.{add-one}
 use borrow.Author.Tests.{ltb-false, eqb-true}
 use lib.Dec.{ltb, eqb}
 use lib.ListN.{length, getD, take, drop, length-append}
-use lib.Seq.{drop-drop, drop-cons}
-use Rattle.expression.specs.declared.Role.{Role}
-use Rattle.expression.specs.declared.ExpressionAnswer.{ExpressionAnswer}
-use Rattle.expression.specs.declared.ExpressionAnswer.the-variants as e
+use lib.Seq.{drop-cons}
 use Rattle.expression.specs.declared.Credential.{Credential}
 use Rattle.expression.specs.declared.CredentialAnswer.{CredentialAnswer}
 use Rattle.expression.specs.declared.CredentialAnswer.the-variants as a
-use Rattle.expression.specs.Bytes.{numberAt}
-use Rattle.expression.specs.Form.{readOf}
-use Rattle.expression.specs.Credential.{wellFormedCredential, pickCredential, roleAt, credentialOf, readCredential, roleBytes, credentialBytes}
+use Rattle.expression.specs.Bytes.{numberAt, numberBytes}
+use Rattle.expression.specs.Credential.{wellFormedCredential, roleAt, readCredential, roleBytes, credentialBytes}
 use Rattle.expression.specs.laws.Credential.{credential-only}
-use Rattle.expression.specs.laws.There.{byte-there, code-there, size-there, read-there}
+use Rattle.expression.specs.laws.There.{byte-there, code-there, size-there, read-there, Bytes, number-there, skip, role-there, read-formed}
 use Rattle.class.specs.declared.Name.{Name}
 use Rattle.record.specs.declared.Pair.{Pair}
 use Rattle.record.specs.declared.Record.{Record}
 use Rattle.record.specs.declared.Record.the-variants.{Own, Named, IssuerStored, SubjectStored, Sensitive, Access}
 use Rattle.record.specs.declared.RecordAnswer.{RecordAnswer}
 use Rattle.record.specs.declared.RecordAnswer.the-variants.{Read, Refused}
-use Rattle.record.specs.Record.{formedName, formedPair, formed, stored, paired, whole, checked, ownAt, nameOf, nameAt, storedOf, storedAt, pairOf, pairAt, recordAt, numberBytes, recordBytes, sizeOf}
+use Rattle.record.specs.Record.{formedName, formedPair, formed, stored, paired, whole, checked, ownAt, nameOf, nameAt, storedOf, storedAt, pairOf, pairAt, recordAt, recordBytes, sizeOf}
 use Rattle.record.specs.laws.Record.{own-full, name-full, stored-full, pair-full, at-code}
-
-abbrev Bytes : List ℕ → Type 0
-Bytes s = (i : ℕ) → getD s i 0 < 256
 
 -- a record has this first byte, this test of its form and these operands
 record Has (code : ℕ) (good : Bool) (l : List ℕ) (r : Record) : Type 0 where
@@ -102,22 +95,6 @@ module _ (s : List ℕ) where
 
   pair-only : Bytes s → (at : ℕ) → at + 8 ≤ length s → take 8 (drop at s) ≡ pairBytes (pairOf s at)
   pair-only bytes at h = role-only bytes 4 at (omega arith) ∙ ap (λ (l : List ℕ). roleBytes (roleAt s at) ++ l) (role-only bytes 0 (at + 4) (omega arith))
-
--- a credential that is read is well formed
-credential-formed : (h : Role) (x : ExpressionAnswer) (c : Credential) → credentialOf h x ≡ a.Read c → wellFormedCredential c ≡ true
-credential-formed h (e.Read b) c k = go (wellFormedCredential r) refl k
-  where
-    r : Credential
-    r = record { head = h; body = b }
-
-    go : (t : Bool) → wellFormedCredential r ≡ t → pickCredential t (a.Read r) a.Wrong ≡ a.Read c → wellFormedCredential c ≡ true
-    go true p q = let same : r ≡ c = cc in ap wellFormedCredential (sym same) ∙ p
-    go false p q = let z : _≡_ {A = ℕ} 0 1 = cc in absurd (omega arith)
-credential-formed h e.Wrong c k = let z : _≡_ {A = ℕ} 0 1 = cc in absurd (omega arith)
-
-read-formed : (s : List ℕ) (at : ℕ) (c : Credential) → readCredential s at ≡ a.Read c → wellFormedCredential c ≡ true
-unfolding readCredential
-read-formed s at c h = credential-formed (roleAt s at) (readOf s (at + 4)) c h
 
 -- what is known where an answer was found: of a record that it has room and right form and that its bytes stand there, and that a
 -- refusal is 2 or 3
@@ -202,18 +179,6 @@ pub record-only : (s : List ℕ) (at : ℕ) (r : Record) → ((i : ℕ) → getD
 record-only s at r bytes inside h = subst (Sure s at) h (sure s at) .2 bytes
 
 -- Records read back
-
-skip : (s : List ℕ) (at n : ℕ) (l : List ℕ) → drop at s ≡ l → drop (at + n) s ≡ drop n l
-skip s at n l h = sym (drop-drop n at s) ∙ ap (drop n) h
-
-number-there : (s : List ℕ) (at n : ℕ) (l : List ℕ) → drop at s ≡ numberBytes n ++ l → n ≡ numberAt s at
-number-there s at n l h =
-    let high : getD s at 0 ≡ n / 256 = code-there s at (n / 256) _ h in
-    let low : getD s (at + 1) 0 ≡ n % 256 = byte-there s at 1 (numberBytes n ++ l) h in
-    sym ((λ i. high i * 256 + low i) ∙ div-add-mod' n 256)
-
-role-there : (s : List ℕ) (at : ℕ) (r : Role) (l : List ℕ) → drop at s ≡ roleBytes r ++ l → r ≡ roleAt s at
-role-there s at r l h = λ i. record { entity = number-there s at (r .entity) (numberBytes (r .name) ++ l) h i; name = number-there s (at + 2) (r .name) l (skip s at 2 (roleBytes r ++ l) h) i }
 
 module _ (s : List ℕ) (at : ℕ) (l : List ℕ) (inside : at ≤ length s) where
   own-back : (n : ℕ) → drop at s ≡ (16 ∷ numberBytes n) ++ l → ltb 0 n ≡ true → Read (Own n) ≡ ownAt s at

@@ -2,7 +2,7 @@
 use Prim.Native.Nat.{ℕ, _+_, _*_, _≤_, _<_}
 use native.Mathlib.Omega.{arith}
 use mathlib.Core.Path.{_≡_, refl, sym, _∙_, ap, subst}
-use mathlib.Core.Bool.{Bool, true, false, _&&_, _||_}
+use mathlib.Core.Bool.{Bool, true, false, _||_}
 use mathlib.Core.List.{List}
 use borrow.Author.Tests.{eqb-true, eq-eqb, ne-eqb, le-ltb}
 use lib.Dec.{eqb}
@@ -15,7 +15,6 @@ use Rattle.expression.specs.Same.{same}
 use Rattle.expression.specs.laws.Same.{same-eq, eq-same}
 use Rattle.rt0.specs.declared.Pool.{Pool}
 use Rattle.rt0.specs.From.{roleOf}
-use Rattle.rt0.specs.laws.Laws.{bool-iff}
 use Rattle.rt0.specs.laws.Pool.{bodyAt, rawAtColumns}
 use Rattle.closure.specs.laws.Rules.{el, bits}
 use Rattle.rules.specs.laws.Table.{rowOf}
@@ -24,6 +23,7 @@ use Rattle.rules.specs.laws.Column.{linked-kind}
 use Rattle.rules.specs.laws.Ruled.{false-of}
 use Rattle.relation.specs.laws.Relation.{ownRole, ownLink, atOnce}
 use Rattle.relation.specs.laws.Question.{ownBit, startsAt}
+use Rattle.word.specs.laws.Bools.{no-and, bool-iff}
 
 -- The body is e
 
@@ -109,10 +109,6 @@ module _ (P : Pool) (K : List ℕ) (i : ℕ) (e : Expression) where
       go (E.Intersection p) n = refl
       go (E.Goal m) n = refl
 
-  no-right : (a b : Bool) → b ≡ false → false ≡ (a && b)
-  no-right true b h = sym h
-  no-right false b h = refl
-
   -- none does where e is no role, or its entity has no bit
   pub own-none : (s : ℕ) → s ≡ ownBit P e → 128 ≤ s → false ≡ ownLink P K e (bodyAt P i)
   unfolding bits
@@ -120,11 +116,10 @@ module _ (P : Pool) (K : List ℕ) (i : ℕ) (e : Expression) where
     where
       role : (a : Role) (m : ℕ) (e : Expression) → s ≡ ownBit P e → false ≡ ownRole P K a m e
       role a m (E.Entity b) q = refl
-      role a m (E.Role r) q = no-right (eqb (r .name) m) _ (rw (← q, le-ltb s 128 l))
+      role a m (E.Role r) q = no-and (eqb (r .name) m) _ (rw (← q, le-ltb s 128 l))
       role a m (E.Linked p n) q = refl
       role a m (E.Intersection p) q = refl
       role a m (E.Goal n) q = refl
-
       over : (x : Expression) → false ≡ ownLink P K e x
       over (E.Entity b) = refl
       over (E.Role p) = refl
@@ -138,7 +133,6 @@ module _ (P : Pool) (K : List ℕ) (i : ℕ) (e : Expression) where
     where
       first : f ≡ rowOf P A
       first = g ∙ ap (firstRow P) (body-link h)
-
       go : (e : Expression) → el (P .numbers) (i * 8 + 2) ≡ rawOf e .n1 → s ≡ ownBit P e → t ≡ ownRole P K A (el (P .numbers) (i * 8 + 2)) e
       go (E.Entity b) n q = absurd (omega arith)
       go (E.Role r) n q = rw (eq-eqb (r .name) (el (P .numbers) (i * 8 + 2)) (sym n), ← q, ← first) k

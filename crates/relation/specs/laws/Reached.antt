@@ -3,9 +3,9 @@ use Prim.Native.Nat.{ℕ, zero, suc, _≤_, _<_}
 use native.Mathlib.Omega.{arith}
 use mathlib.Core.Path.{_≡_, refl, sym, _∙_, ap, subst}
 use mathlib.Core.Logic.{_⊎_, inl, inr, ⊎-elim}
-use mathlib.Core.Bool.{Bool, true, false, _&&_, not}
+use mathlib.Core.Bool.{Bool, true, false, not}
 use mathlib.Core.List.{List, List·Memᴰ}
-use borrow.Author.Tests.{eqb-true, eq-eqb, ne-eqb, le-ltb}
+use borrow.Author.Tests.{eqb-true, eq-eqb, ne-eqb, le-ltb, not-false, not-true}
 use lib.Dec.{eqb}
 use lib.ListN.{getD, replicate, length-replicate}
 use Rattle.expression.specs.declared.Role.{Role}
@@ -17,15 +17,16 @@ use Rattle.expression.specs.Same.{same}
 use Rattle.expression.specs.laws.Same.{same-eq, eq-same}
 use Rattle.rt0.specs.declared.Pool.{Pool}
 use Rattle.rt0.specs.From.{roleOf, rolesOf, From, reflexive, transitive, credential, linking, intersection}
-use Rattle.word.specs.laws.Bools.{false-true, and-parts, and-both}
+use Rattle.word.specs.laws.Bools.{false-true, and-parts, and-both, no-and}
 use Rattle.rt0.specs.Decide.{from?}
 use Rattle.rt0.specs.laws.Laws as R
 use Rattle.rt0.specs.laws.Laws.{Reach, reach, sound, complete, decides}
 use Rattle.rt0.specs.laws.Pool.{headAt, credentials}
 use Rattle.closure.specs.declared.Rules.{Rules}
 use Rattle.closure.specs.laws.Rules.{bits, Closed}
-use Rattle.rules.specs.laws.Table.{anyTo, rowOf, bitOf, rowFor, chosen, third, fourth}
-use Rattle.rules.specs.laws.Search.{anyTo-here, first-found}
+use Rattle.word.specs.laws.Search.{anyTo, anyTo-here}
+use Rattle.rules.specs.laws.Table.{rowOf, bitOf, rowFor, chosen, third, fourth}
+use Rattle.rules.specs.laws.Search.{first-found}
 use Rattle.rules.specs.laws.Exact.{chosen-all, bit-cases, row-for, unreach, four-all, all-four}
 use Rattle.rules.specs.laws.Columns.{PartsTo}
 use Rattle.rules.specs.laws.Column.{no-bits}
@@ -55,14 +56,6 @@ why {C} e (R.step {c = c} m h) q = transitive (credential m) (unreach (subst (λ
 why {C} e (R.link {a = a} {n = n} {b = b} h₁ h₂) q = inr (b, unreach h₁, unreach (subst (λ (y : Expression). Reach C (E.Role (roleOf b n)) y) q h₂))
 why {C} e (R.each h) q = inr (λ p k. unreach (subst (λ (y : Expression). Reach C (E.Role p) y) q (h p k)))
 
-so : (b : Bool) → not b ≡ false → b ≡ true
-so true h = refl
-so false h = absurd (false-true (sym h))
-
-not-so : (b : Bool) → not b ≡ true → b ≡ false
-not-so true h = absurd (false-true h)
-not-so false h = refl
-
 is-from : (C : List Credential) (x e : Expression) → x ≡ e → From C x e
 is-from C x e q = subst (λ (y : Expression). From C x y) q reflexive
 
@@ -89,22 +82,16 @@ pub meet-no : (C : List Credential) (p : Parts) (e : Expression) {t u : Bool} �
     → u ≡ from? C (E.Role a) e → not u ≡ true → false ≡ from? C (E.Intersection p) e
 meet-no C p e {t} {u} h k a one g n = decides C (E.Intersection p) e false (λ z. absurd (false-true z))
     (λ z. absurd (⊎-elim (λ q. false-true (sym k ∙ (h ∙ eq-same (E.Intersection p) e q)))
-    (λ q. false-true (sym (not-so u n) ∙ (g ∙ complete C (E.Role a) e (one (λ (o : Role). From C (E.Role o) e) (all-four p (λ (o : Role). From C (E.Role o) e) q)))))
+    (λ q. false-true (sym (not-true u n) ∙ (g ∙ complete C (E.Role a) e (one (λ (o : Role). From C (E.Role o) e) (all-four p (λ (o : Role). From C (E.Role o) e) q)))))
     (why e (reach z) refl)))
 
 -- an intersection is from e where its roles are
 pub meet-all : (C : List Credential) (p : Parts) (e : Expression) {t a b c d : Bool} → t ≡ same (E.Intersection p) e → t ≡ false → a ≡ from? C (E.Role (p .first)) e → not a ≡ false → b ≡ from? C (E.Role (p .second)) e → not b ≡ false
     → c ≡ from? C (E.Role (third p)) e → not c ≡ false → d ≡ from? C (E.Role (fourth p)) e → d ≡ from? C (E.Intersection p) e
 meet-all C p e {t} {a} {b} {c} {d} h k ha ka hb kb hc kc hd = decides C (E.Intersection p) e d
-    (λ z. intersection (λ o m. four-all p (λ (o : Role). From C (E.Role o) e) (sound C _ e (sym ha ∙ so a ka)) (sound C _ e (sym hb ∙ so b kb)) (sound C _ e (sym hc ∙ so c kc)) (sound C _ e (sym hd ∙ z)) o m))
+    (λ z. intersection (λ o m. four-all p (λ (o : Role). From C (E.Role o) e) (sound C _ e (sym ha ∙ not-false a ka)) (sound C _ e (sym hb ∙ not-false b kb)) (sound C _ e (sym hc ∙ not-false c kc)) (sound C _ e (sym hd ∙ z)) o m))
     (λ z. ⊎-elim (λ q. absurd (false-true (sym k ∙ (h ∙ eq-same (E.Intersection p) e q))))
     (λ q. hd ∙ complete C (E.Role (fourth p)) e (all-four p (λ (o : Role). From C (E.Role o) e) q .3)) (why e (reach z) refl))
-
--- Whether a head leads on, test by test
-
-no-and : (a b : Bool) → b ≡ false → false ≡ (a && b)
-no-and true b h = sym h
-no-and false b h = refl
 
 module _ (P : Pool) (K L : List ℕ) (z r m j : ℕ) where
   pub leads-name : (headAt P j .name ≡ m → ⊥) → false ≡ leadsAt P K L z r m j
@@ -113,7 +100,7 @@ module _ (P : Pool) (K L : List ℕ) (z r m j : ℕ) where
 
   pub leads-bit : {b : Bool} → b ≡ bits L j z → not b ≡ true → false ≡ leadsAt P K L z r m j
   unfolding leadsAt
-  leads-bit {b} h k = no-and (eqb (headAt P j .name) m) _ (rw (sym h ∙ not-so b k) refl)
+  leads-bit {b} h k = no-and (eqb (headAt P j .name) m) _ (rw (sym h ∙ not-true b k) refl)
 
   pub leads-source : (s : ℕ) → s ≡ bitOf P (headAt P j .entity) → 128 ≤ s → false ≡ leadsAt P K L z r m j
   unfolding leadsAt bits
@@ -124,7 +111,7 @@ module _ (P : Pool) (K L : List ℕ) (z r m j : ℕ) where
 
   pub leads-is : {b t : Bool} (s : ℕ) → headAt P j .name ≡ m → b ≡ bits L j z → not b ≡ false → s ≡ bitOf P (headAt P j .entity) → t ≡ bits K r s → t ≡ leadsAt P K L z r m j
   unfolding leadsAt
-  leads-is {b} {t} s n h k q g = rw (eq-eqb (headAt P j .name) m n, sym h ∙ so b k, ← q) g
+  leads-is {b} {t} s n h k q g = rw (eq-eqb (headAt P j .name) m n, sym h ∙ not-false b k, ← q) g
 
 module _ (P : Pool) (on : List ℕ) (small : P .count ≤ 128) (e : Expression) (z : ℕ) (L : List ℕ) (ans : Answers P on e z L) where
   -- the row of a role is that of a head, where the rows have its bit, or the role is e
@@ -152,7 +139,7 @@ module _ (P : Pool) (on : List ℕ) (small : P .count ≤ 128) (e : Expression) 
       (λ k. ⊎-elim (λ w. let y : rowOf P p < P .count = w .0 in absurd (omega arith)) (λ w. h ∙ eq-same (E.Role p) e (w .1)) (row-answers p k))
 
   module _ (K : List ℕ) (rel : Relation P on K) (a : Role) (m : ℕ) where
-    -- a link is from e where it is so at once
+    -- a link is from e where it is not-false at once
     pub link-once : {t : Bool} → t ≡ atOnce P K e (E.Linked a m) → t ≡ true → true ≡ from? (chosen P on) (E.Linked a m) e
     link-once h k = sym (complete (chosen P on) (E.Linked a m) e (once-says P on small K rel e (E.Linked a m) (sym h ∙ k)))
 
@@ -179,7 +166,6 @@ module _ (P : Pool) (on : List ℕ) (small : P .count ≤ 128) (e : Expression) 
       where
         is : u ≡ anyTo (P .count) (leadsAt P K L z (rowOf P a) m)
         is = subst (λ (x : ℕ). u ≡ anyTo (P .count) (leadsAt P K L z x m)) q g
-
         via : (b : ℕ) → From (chosen P on) (E.Role a) (E.Entity b) → From (chosen P on) (E.Role (roleOf b m)) e → u ≡ true
         via b h₁ h₂ =
             let k₁ = rel .all a b (in-body P on small b (reach h₁)) h₁ in

@@ -26,32 +26,23 @@ use Rattle.reply.specs.declared.Replying.{Replying}
 use Rattle.reply.specs.Reply.{repliedIn, behindStanding, replySize, replyOf, negotiationLeft, replyLeft, scratchLeft, lengthOf}
 use Rattle.reply.specs.laws.Reply.{Replies}
 use Rattle.numbers.specs.Answer.{Answer, refused, accepted, answerOf}
+use Rattle.numbers.specs.laws.Answer.{isAccepted, firstOf}
 
 -- Tables that stand are sound
-
-abbrev isStanding : Answer (Tables × State) → Bool
-isStanding (refused k) = false
-isStanding (accepted (T, S)) = true
-
-abbrev tablesIn : Tables → Answer (Tables × State) → Tables
-tablesIn T (refused k) = T
-tablesIn T (accepted (U, S)) = U
 
 standing-sound : (tables negotiation : List ℕ) (T : Tables) (S : State) → R.restoreOf tables negotiation ≡ accepted (T, S) → Sound T
 unfolding R.restoreOf
 standing-sound tables negotiation T S e = by-length (eqb (length negotiation) 5120) e
   where
     by-damage : (U : Tables) (o : Option State) → C.readTables tables ≡ accepted U → R.behindDamage U o ≡ accepted (T, S) → Sound T
-    by-damage U none q h = absurd (false-true (ap isStanding h))
-    by-damage U (some W) q h = subst Sound (ap (tablesIn T) h) (accepted-sound tables U q)
-
+    by-damage U none q h = absurd (false-true (ap isAccepted h))
+    by-damage U (some W) q h = subst Sound (ap (firstOf T) h) (accepted-sound tables U q)
     by-tables : (o : Answer Tables) → C.readTables tables ≡ o → R.behindTables negotiation o ≡ accepted (T, S) → Sound T
-    by-tables (refused k) q h = absurd (false-true (ap isStanding h))
+    by-tables (refused k) q h = absurd (false-true (ap isAccepted h))
     by-tables (accepted U) q h = by-damage U (readSound U negotiation) q h
-
     by-length : (b : Bool) → cond b (R.behindTables negotiation (C.readTables tables)) (refused 1) ≡ accepted (T, S) → Sound T
     by-length true h = by-tables (C.readTables tables) refl h
-    by-length false h = absurd (false-true (ap isStanding h))
+    by-length false h = absurd (false-true (ap isAccepted h))
 
 -- The buffers
 

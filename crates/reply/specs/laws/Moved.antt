@@ -1,5 +1,5 @@
 -- Every move of a reply ends in an edge or a mark, so an open, an edge or a mark was sent as soon as a byte was. Assumes nothing.
-use Prim.Native.Nat.{ℕ, zero, suc, _+_, _<_}
+use Prim.Native.Nat.{ℕ, zero, suc, _+_}
 use native.Mathlib.Omega.{arith}
 use mathlib.Core.Path.{_≡_, refl, sym, _∙_, ap, subst}
 use mathlib.Core.Logic.{_⊎_, inl, inr, ⊎-elim}
@@ -16,8 +16,8 @@ use Rattle.graph.specs.declared.Edge.{Edge}
 use Rattle.message.specs.declared.NewEdge.{NewEdge}
 use Rattle.message.specs.declared.Opening.{Opening}
 use Rattle.message.specs.declared.Command.{Command}
-use Rattle.message.specs.declared.Command.the-variants.{Show, Open, Bring, Join, Mark, End}
-use Rattle.message.specs.Command.{commandBytes, sizeOf}
+use Rattle.message.specs.declared.Command.the-variants.{Show, Open, Bring, Join}
+use Rattle.message.specs.Command.{commandBytes}
 use Rattle.message.specs.laws.CommandExact.{command-length}
 use Rattle.negotiation.specs.State.{State}
 use Rattle.applied.specs.Step.{isMove, moved}
@@ -32,6 +32,7 @@ use Rattle.moves.specs.Carried.{carried}
 use Rattle.reply.specs.Reply.{Replied, opening, replyIn}
 use Rattle.reply.specs.laws.Turns.{Next, stops, goes, nextIn, behind, goOn, restFrom, from-rest}
 use Rattle.reply.specs.laws.Writing.{next-fits}
+use Rattle.message.specs.laws.Command.{size-some}
 
 -- no command, or an open, an edge or a mark among them
 abbrev Moves : List Command → Type 0
@@ -98,14 +99,6 @@ reply-moves T S =
     let U : State = carried (S .header .side) S (opening T S) in
     let k : ℕ = length (bytesOf (opening T S)) in
     subst (λ (r : Replied). Moves (r .commands)) (sym (from-rest 4096 T U (opening T S))) (moves-append (opening T S) (restFrom 4096 T U k .commands) (opening-moves T S) (rest-moves 4096 T U k))
-
-size-some : (c : Command) → 0 < sizeOf c
-size-some (Show c) = omega arith
-size-some (Open o) = omega arith
-size-some (Bring n) = omega arith
-size-some (Join e) = omega arith
-size-some (Mark i) = omega arith
-size-some End = omega arith
 
 moved-bytes : (cs : List Command) → Moves cs → moved cs ≡ not (eqb (length (bytesOf cs)) 0)
 moved-bytes [] m = refl

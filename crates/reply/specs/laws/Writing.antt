@@ -71,11 +71,9 @@ next-fits T S at m h = by-primary (eqb (propagated (S .nodes) (S .edges) 0) 1) (
         }
     by-room x true false r f q e = absurd (false-true (ap isGoing e))
     by-room x false fits r f q e = absurd (false-true (ap isGoing e))
-
     by-move : (x : Move) → x ≡ nextMove (endIn T S) → behindMove S at x ≡ goes m → Fits T S at m
     by-move [] q e = absurd (false-true (ap isGoing e))
     by-move (c ∷ ms) q e = by-room (c ∷ ms) (hasRoomFor (S .header .side) S (c ∷ ms)) (fitsBehind at (c ∷ ms)) refl refl q e
-
     by-primary : (b : Bool) (x : Move) → x ≡ nextMove (endIn T S) → cond b (stops false) (behindMove S at x) ≡ goes m → Fits T S at m
     by-primary true x q e = absurd (false-true (ap isGoing e))
     by-primary false x q e = by-move x q e

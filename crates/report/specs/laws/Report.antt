@@ -134,7 +134,6 @@ end-few p e i h = go (eqb p 1) (eqb p 2) h
   where
     is : (k j : ℕ) → k < 8 → (eqb e k && eqb i j) ≡ true → e < 8
     is k j l t = let z : e ≡ k = eqb-true e k (and-parts (eqb e k) (eqb i j) t .0) in omega arith
-
     go : (a b : Bool) → cond a (eqb e 1 && eqb i 0) (cond b (eqb e 2 && eqb i 0) (((eqb e 0 || eqb e 4) && ltb i 2) || (eqb e 3 && eqb i 1))) ≡ true → e < 8
     go true b t = is 1 0 (omega arith) t
     go false true t = is 2 0 (omega arith) t

@@ -19,7 +19,7 @@ use Rattle.expression.specs.Same.{same, sameRole}
 use Rattle.expression.specs.laws.Same.{same-eq, eq-same, sameRole-eq, eq-sameRole}
 use Rattle.rt0.specs.From.{roleOf, rolesOf, From, reflexive, transitive, credential, linking, intersection}
 use Rattle.rt0.specs.laws.Lists.{any-find, any-here, all-each, all-of, map-find, map-mem}
-use Rattle.word.specs.laws.Bools.{false-true, or-cases, or-left, or-right, and-parts, and-both}
+use Rattle.word.specs.laws.Bools.{false-true, or-cases, or-left, or-right, and-parts, and-both, bool-iff}
 use Rattle.rt0.specs.Decide.{Fact, says, roleFrom, via, reaches, learn, found, pass, unknowns, close, ask, start, entityFirst, entities, sources, closure, from?}
 
 -- More credentials
@@ -273,11 +273,6 @@ pub from-exact : (C : List Credential) (f e : Expression) → (from? C f e ≡ t
 from-exact C f e = (sound C f e, complete C f e)
 
 -- What a caller uses
-
-pub bool-iff : (a b : Bool) → (a ≡ true → b ≡ true) → (b ≡ true → a ≡ true) → a ≡ b
-bool-iff true b f g = sym (f refl)
-bool-iff false true f g = g refl
-bool-iff false false f g = refl
 
 -- an answer that is right is the decision
 pub decides : (C : List Credential) (f e : Expression) (b : Bool) → (b ≡ true → From C f e) → (From C f e → b ≡ true) → b ≡ from? C f e

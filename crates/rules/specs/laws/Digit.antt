@@ -17,8 +17,9 @@ use Rattle.word.specs.laws.Bools.{false-true, and-parts, and-both}
 use Rattle.rt0.specs.laws.Pool.{headAt}
 use Rattle.closure.specs.laws.Rules.{el, bits, Within, Marked}
 use Rattle.closure.specs.laws.Laws.{bit-is}
-use Rattle.rules.specs.laws.Table.{anyTo, isHead, rowOf, isBody, bitOf}
-use Rattle.rules.specs.laws.Search.{anyTo-here, first-at, first-none}
+use Rattle.word.specs.laws.Search.{anyTo, anyTo-here}
+use Rattle.rules.specs.laws.Table.{isHead, rowOf, isBody, bitOf}
+use Rattle.rules.specs.laws.Search.{first-at, first-none}
 use Rattle.rules.specs.laws.Digits.{Held, shared, Noted, NoneBelow, HeadsIn, BodiesIn, Open}
 
 -- a test that holds at no index below k holds nowhere
@@ -139,6 +140,7 @@ none-held lo hi r i none l a b h = go (ltb i 64) refl
     go false q = let m : 64 ≤ i = ltb-false i 64 q in let z : i / 64 ≡ 1 = omega arith in false-true (sym (none .high i h z) ∙ b z)
 
 module _ (P : Pool) (small : P .count ≤ 128) where
+
   module _ (p : Role) (E N : List ℕ) (lo hi r : ℕ) (tables : HeadsIn P (P .count) E N) (low : lo ≡ bitAnd (shared E (p .entity) 0) (shared N (p .name) 0))
       (high : hi ≡ bitAnd (shared E (p .entity) 1) (shared N (p .name) 1)) (none : NoneBelow lo hi r) where
     no-head : (i : ℕ) → i < P .count → i < r → isHead P p i ≡ false

@@ -25,7 +25,8 @@ use Rattle.rt0.specs.Pool.{upTo}
 use Rattle.closure.specs.declared.Rules.{Rules}
 use Rattle.closure.specs.laws.Rules.{el, bits, Takes, memOf, Used, Model, Within}
 use Rattle.rules.specs.laws.Table.{isHead, rowOf, isBody, bitOf, rowFor, chosenTo, chosen, third, fourth, Unnamed, Row, entity, goal, role, linked, intersection as meet, Compiled}
-use Rattle.rules.specs.laws.Search.{anyTo-here, any-cases, first-found, first-none}
+use Rattle.word.specs.laws.Search.{anyTo-here}
+use Rattle.rules.specs.laws.Search.{any-cases, first-found, first-none}
 
 -- what is reached is from
 pub unreach : {C : List Credential} {x y : Expression} → Reach C x y → From C x y
@@ -143,7 +144,6 @@ module _ (p : Parts) (G : Role → Type 0) where
     where
       hit : {b c : Role} → b ≡ c → G c → G b
       hit q g = rw q g
-
       go : (t u : Bool) → G (cond t (p .first) (p .third)) → G (cond t (p .first) (cond u (p .first) (p .fourth)))
           → List·Memᴰ a (p .first ∷ p .second ∷ cond t [] (p .third ∷ cond u [] (p .fourth ∷ []))) → G a
       go true u h₂ h₃ m = ⊎-elim (λ q. hit q g₀) (λ k. ⊎-elim (λ q. hit q g₁) (λ k. absurd (List·Memᴰ·not-nil k)) (List·Memᴰ·cases-cons k)) (List·Memᴰ·cases-cons m)

@@ -7,17 +7,9 @@ use mathlib.Core.Logic.{_⊎_, inl, inr}
 use mathlib.Core.Bool.{Bool, true, false, _||_, cond}
 use borrow.Author.Tests.{eqb-true, eqb-false}
 use lib.Dec.{eqb}
-use Rattle.word.specs.laws.Bools.{false-true, or-left, or-right}
-use Rattle.rules.specs.laws.Table.{anyTo, firstTo}
-
--- a test that holds at an index below n holds somewhere below n
-pub anyTo-here : (n : ℕ) (f : ℕ → Bool) (i : ℕ) → i < n → f i ≡ true → anyTo n f ≡ true
-anyTo-here zero f i l h = absurd (omega arith)
-anyTo-here (suc n) f i l h = go (eqb i n) refl (λ k. anyTo-here n f i k h)
-  where
-    go : (b : Bool) → eqb i n ≡ b → (i < n → anyTo n f ≡ true) → (anyTo n f || f n) ≡ true
-    go true e ih = or-right (anyTo n f) (f n) (sym (ap f (eqb-true i n e)) ∙ h)
-    go false e ih = or-left (anyTo n f) (f n) (ih (omega (arith, eqb-false i n e)))
+use Rattle.word.specs.laws.Bools.{false-true}
+use Rattle.word.specs.laws.Search.{anyTo, anyTo-here}
+use Rattle.rules.specs.laws.Table.{firstTo}
 
 -- a test holds somewhere or nowhere
 pub any-cases : (n : ℕ) (f : ℕ → Bool) → (anyTo n f ≡ true) ⊎ (anyTo n f ≡ false)

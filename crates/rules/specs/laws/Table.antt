@@ -1,7 +1,7 @@
 -- Rows and bits of a pool: a role's row is the first credential with that head, an entity's bit the first with that body. Assumes nothing.
 use Prim.Native.Nat.{ℕ, zero, suc, _+_, _*_, _<_}
 use mathlib.Core.Path.{_≡_}
-use mathlib.Core.Bool.{Bool, true, false, _&&_, _||_, cond}
+use mathlib.Core.Bool.{Bool, true, false, _&&_, cond}
 use mathlib.Core.List.{List, [], _∷_, _++_}
 use lib.Dec.{eqb}
 use Rattle.expression.specs.declared.Role.{Role}
@@ -14,11 +14,7 @@ use Rattle.rt0.specs.declared.Pool.{Pool}
 use Rattle.rt0.specs.laws.Pool.{headAt, bodyAt, credentialAt}
 use Rattle.closure.specs.declared.Rules.{Rules}
 use Rattle.closure.specs.laws.Rules.{el, bits, Fits}
-
--- the test f holds somewhere below n
-abbrev pub anyTo : ℕ → (ℕ → Bool) → Bool
-anyTo zero f = false
-anyTo (suc n) f = anyTo n f || f n
+use Rattle.word.specs.laws.Search.{anyTo}
 
 -- the first number below n that passes the test, or 128
 abbrev pub firstTo : ℕ → (ℕ → Bool) → ℕ

@@ -29,16 +29,14 @@ use Rattle.reply.specs.Reply.{Replied, replyIn, repliedState, replyBytes, repli
 use Rattle.runs.specs.laws.Stays.{Stays, within-kept, OpenIn, open-kept, reply-stays, commands-stay}
 use Rattle.runs.specs.laws.TwoReplies.{replies-alike}
 use Rattle.numbers.specs.Answer.{Answer, refused, accepted}
+use Rattle.applied.specs.laws.After.{after-within}
+use Rattle.numbers.specs.laws.Answer.{secondOf, isAccepted}
 
 -- A message leaves the graph, and the header's side and other end
 
 after-open : (T U : Tables) (S : State) (m full : Bool) → isDisclosed T U (afterMessage S m full) ≡ isDisclosed T U S
 unfolding isDisclosed isAcknowledged afterMessage headerAfter withHeader
 after-open T U S m full = refl
-
-after-within : (S : State) (m full : Bool) → within (afterMessage S m full) ≡ within S
-unfolding within afterMessage withHeader
-after-within S m full = refl
 
 after-both : (T U : Tables) (S : State) (m full : Bool) → OpenIn T U S → OpenIn T U (afterMessage S m full)
 after-both T U S m full h = record { sizes = after-within S m full ∙ h .sizes; opened = after-open T U S m full ∙ h .opened }
@@ -49,14 +47,6 @@ open-replied T U r = after-open T U (r .state) (moved (r .commands)) (r .full)
 
 -- What a call finds is within the sizes
 
-abbrev stateFound : State → Answer (Tables × State) → State
-stateFound S (refused k) = S
-stateFound S (accepted (T, A)) = A
-
-abbrev isFound : Answer (Tables × State) → Bool
-isFound (refused k) = false
-isFound (accepted (T, A)) = true
-
 pub restored-within : (s negotiation : List ℕ) (T W : Tables) (S : State) → readTables s ≡ accepted T → R.restoreOf s negotiation ≡ accepted (W, S) → within S ≡ true
 unfolding R.restoreOf readSound
 restored-within s negotiation T W S h a =
@@ -64,12 +54,11 @@ restored-within s negotiation T W S h a =
     go b (readState negotiation) refl (sym (ap (λ (o : Answer Tables). cond b (R.behindTables negotiation o) (refused 1)) h) ∙ a)
   where
     found : (b : Bool) (A : State) → readState negotiation ≡ some A → R.behindDamage T (cond b (some A) none) ≡ accepted (W, S) → within S ≡ true
-    found true A q k = ap within (sym (ap (stateFound S) k)) ∙ read-within negotiation A q
-    found false A q k = absurd (false-true (ap isFound k))
-
+    found true A q k = ap within (sym (ap (secondOf S) k)) ∙ read-within negotiation A q
+    found false A q k = absurd (false-true (ap isAccepted k))
     go : (b : Bool) (x : Option State) → readState negotiation ≡ x → cond b (R.behindDamage T (ifSound T x)) (refused 1) ≡ accepted (W, S) → within S ≡ true
-    go false x q k = absurd (false-true (ap isFound k))
-    go true none q k = absurd (false-true (ap isFound k))
+    go false x q k = absurd (false-true (ap isAccepted k))
+    go true none q k = absurd (false-true (ap isAccepted k))
     go true (some A) q k = found (sound T A) A q k
 
 -- The call
@@ -86,13 +75,10 @@ module _ (T U : Tables) (e : publicOf T ≡ publicOf U) where
     where
       by : Tables → Answer (List ℕ × State)
       by W = accepted (replyBytes (replyIn W S), repliedState (replyIn W S))
-
       chosen : Bool → Bool → Answer (List ℕ × State) → Answer (List ℕ × State)
       chosen b d o = cond b (refused 22) (cond d (refused 21) o)
-
       shut : (W : Tables) → Quiet T U (by W) → isDisclosed T U (replyIn W S .state) ≡ false
       shut W q = sym (open-replied T U (replyIn W S)) ∙ q
-
       go : (b d : Bool) → Quiet T U (chosen b d (by T)) ⊎ Quiet T U (chosen b d (by U)) → chosen b d (by T) ≡ chosen b d (by U)
       go true d k = refl
       go false true k = refl
@@ -112,7 +98,6 @@ module _ (T U : Tables) (e : publicOf T ≡ publicOf U) where
           ap behindStanding a
           ∙ replied-alike S (w S a) (⊎-elim (λ z. inl (subst (λ (v : Answer (Tables × State)). Quiet T U (behindStanding v)) a z)) (λ z. inr (subst (λ (v : Answer (Tables × State)). Quiet T U (behindStanding v)) b z)) c)
           ∙ sym (ap behindStanding b)
-
       sized : (c : Bool) (x y : Answer (Tables × State)) → P.Alike T U x y → ((S : State) → x ≡ accepted (T, S) → within S ≡ true)
           → Quiet T U (cond c (behindStanding x) (refused 1)) ⊎ Quiet T U (cond c (behindStanding y) (refused 1)) → cond c (behindStanding x) (refused 1) ≡ cond c (behindStanding y) (refused 1)
       sized true x y l w c = both x y l w c
@@ -129,14 +114,11 @@ module _ {P : State → Type 0} (k : Stays P) (after : (S : State) (m full : Boo
       left : Answer (List ℕ × State) → State
       left (refused n) = S
       left (accepted (m, B)) = B
-
       isGiven : Answer (List ℕ × State) → Bool
       isGiven (refused n) = false
       isGiven (accepted (m, B)) = true
-
       r : Replied
       r = replyIn W S
-
       go : (b d : Bool) → cond b (refused 22) (cond d (refused 21) (accepted (replyBytes r, repliedState r))) ≡ accepted (m, A) → P A
       go true d q = absurd (false-true (ap isGiven q))
       go false true q = absurd (false-true (ap isGiven q))

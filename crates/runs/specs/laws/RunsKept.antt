@@ -9,12 +9,11 @@ use lib.ListN.{length}
 use Rattle.word.specs.laws.Bools.{false-true}
 use Rattle.tables.specs.Tables.{Tables}
 use Rattle.tables.specs.Check as C
-use Rattle.negotiation.specs.State.{State, within, withHeader}
+use Rattle.negotiation.specs.State.{State, within}
 use Rattle.negotiation.specs.Layout.{stateBytes, readState}
 use Rattle.negotiation.specs.laws.Codec.{state-back, read-within}
 use Rattle.damage.specs.Damage.{sound, ifSound, readSound}
 use Rattle.standing.specs.Standing as R
-use Rattle.applied.specs.After.{afterMessage}
 use Rattle.take.specs.Take as K
 use Rattle.standing.specs.Turn as KLaws
 use Rattle.take.specs.laws.TakeKept.{Took, took}
@@ -25,6 +24,7 @@ use Rattle.begin.specs.Begin.{beginOf}
 use Rattle.begin.specs.laws.Kept.{begin-undamaged}
 use Rattle.runs.specs.Runs.{Call, take, reply, report, takenTo, givenTo, afterCall, after}
 use Rattle.numbers.specs.Answer.{Answer, refused, accepted}
+use Rattle.applied.specs.laws.After.{after-within}
 
 -- What a call finds in the bytes of a state
 
@@ -59,7 +59,6 @@ module _ {P : State → Type 0} (k : Keeps P) (tables : List ℕ) (T : Tables) (
       led : (o : Answer State) → K.takenIn message T S ≡ o → P (takenTo S o)
       led (refused n) e = p
       led (accepted N) e = k .taken T S N p message e
-
       sized : (b : Bool) (x : Answer (Tables × State)) → Finds T S x → P (takenTo S (cond b (K.behindStanding message x) (refused 1)))
       sized false x f = p
       sized true x (refused n e) = subst (λ (v : Answer (Tables × State)). P (takenTo S (K.behindStanding message v))) (sym e) p
@@ -72,7 +71,6 @@ module _ {P : State → Type 0} (k : Keeps P) (tables : List ℕ) (T : Tables) (
       led : (o : Answer (List ℕ × State)) → A.repliedIn T S ≡ o → P (givenTo S o)
       led (refused n) e = p
       led (accepted (m, N)) e = k .given T S N p m e
-
       sized : (b : Bool) (x : Answer (Tables × State)) → Finds T S x → P (givenTo S (cond b (A.behindStanding x) (refused 1)))
       sized false x f = p
       sized true x (refused n e) = subst (λ (v : Answer (Tables × State)). P (givenTo S (A.behindStanding v))) (sym e) p
@@ -90,10 +88,6 @@ module _ {P : State → Type 0} (k : Keeps P) (tables : List ℕ) (T : Tables) (
   calls-keep S (c ∷ cs) p = calls-keep (afterCall tables S c) cs (call-keeps S c p)
 
 -- The sizes, and a satisfied Ack target
-
-after-within : (S : State) (m full : Bool) → within (afterMessage S m full) ≡ within S
-unfolding within afterMessage withHeader
-after-within S m full = refl
 
 taken-sizes : (W : Tables) (S N : State) → within S ≡ true → (m : List ℕ) → K.takenIn m W S ≡ accepted N → within N ≡ true
 taken-sizes W S N w m e =
@@ -123,7 +117,6 @@ begun-within tables negotiation other entity name T S h e = go (readState (state
     whole : (b : Bool) (N : State) → readState (stateBytes S) ≡ some N → cond b (some N) none ≡ some S → within S ≡ true
     whole true N q z = sym (ap (λ (o : Option State). within (stateIn S o)) z) ∙ read-within (stateBytes S) N q
     whole false N q z = absurd (false-true (ap isSome z))
-
     go : (x : Option State) → readState (stateBytes S) ≡ x → ifSound T x ≡ some S → within S ≡ true
     go none q z = absurd (false-true (ap isSome z))
     go (some N) q z = whole (sound T N) N q z

@@ -32,6 +32,7 @@ use Rattle.moves.specs.Move.{Move, nextMove}
 use Rattle.moves.specs.Carried.{carried, hasRoomFor}
 use Rattle.reply.specs.Reply.{Replied, stopped, withMove, replyFrom, opening, replyIn}
 use Rattle.numbers.specs.Answer.{Answer, refused, accepted, judged}
+use Rattle.numbers.specs.laws.Answer.{firstOf}
 
 -- every command that has room keeps P
 pub record Stays (P : State → Type 0) : Type 0 where
@@ -55,15 +56,9 @@ opening-room W S = go (eqb (length (S .nodes)) 0) refl
   where
     first : Command
     first = Open (record { role = S .header .wanted; state = initialState (W .names) true (E.Role (S .header .wanted)) })
-
     go : (b : Bool) → eqb (length (S .nodes)) 0 ≡ b → hasRoomFor (S .header .side) S (cond b (first ∷ []) []) ≡ true
     go true q = let z : length (S .nodes) ≡ 0 = eqb-true (length (S .nodes)) 0 q in and-both (ltb (length (S .nodes)) 128) true (lt-ltb (length (S .nodes)) 128 (omega (arith, z))) refl
     go false q = refl
-
--- a message is refused or accepted (to, one) state
-abbrev stateIn : State → Answer (State × Bool) → State
-stateIn S (refused n) = S
-stateIn S (accepted (A, v)) = A
 
 abbrev number : Answer (State × Bool) → ℕ
 number (refused n) = 0
@@ -127,7 +122,7 @@ module _ {P : State → Type 0} (k : Stays P) where
     where
       go : (b : Bool) → (next (sizeOf c) (stepped S s c) (moved || isMove c) ≡ accepted (A, v) → P A)
           → cond b (accepted (S, moved)) (next (sizeOf c) (stepped S s c) (moved || isMove c)) ≡ accepted (A, v) → P A
-      go true more q = subst P (ap (stateIn S) q) h
+      go true more q = subst P (ap (firstOf S) q) h
       go false more q = more q
 
   pub commands-stay : (f : ℕ) (ns : List Name) (s : ℕ) (m : List ℕ) (at : ℕ) (S : State) (moved : Bool) (A : State) (v : Bool) → P S → commandsFrom f ns s m at S moved ≡ accepted (A, v) → P A

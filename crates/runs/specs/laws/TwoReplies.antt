@@ -44,10 +44,8 @@ module _ (T U : Tables) (e : publicOf T ≡ publicOf U) where
     where
       chosen : Bool → Bool → Replied → Replied
       chosen b d r = cond b (cond d r (stopped cs S false)) (stopped cs S true)
-
       R : State
       R = carried (S .header .side) S (c ∷ ms)
-
       go : (b : Bool) → hasRoomFor (S .header .side) S (c ∷ ms) ≡ b → (d : Bool)
           → Shut (chosen b d (next R (cs ++ (c ∷ ms)))) (chosen b d (then R (cs ++ (c ∷ ms))))
           → chosen b d (next R (cs ++ (c ∷ ms))) ≡ chosen b d (then R (cs ++ (c ∷ ms)))
@@ -67,13 +65,11 @@ module _ (T U : Tables) (e : publicOf T ≡ publicOf U) where
     where
       by : Tables → Bool → Move → Replied
       by W b m = cond b (stopped cs S false) (withMove (λ R ds. replyFrom f W R ds) S cs m)
-
       same-move : (b : Bool) (m : Move)
           → ((R : State) (ds : List Command) → within R ≡ true → Shut (replyFrom f T R ds) (replyFrom f U R ds) → replyFrom f T R ds ≡ replyFrom f U R ds)
           → Shut (by T b m) (by U b m) → by T b m ≡ by U b m
       same-move true m ih k = refl
       same-move false m ih k = with-alike (λ R ds. replyFrom f T R ds) (λ R ds. replyFrom f U R ds) S cs m ih w k
-
       go : (b : Bool) (m n : Move) → m ≡ n
           → ((R : State) (ds : List Command) → within R ≡ true → Shut (replyFrom f T R ds) (replyFrom f U R ds) → replyFrom f T R ds ≡ replyFrom f U R ds)
           → Shut (by T b m) (by U b n) → by T b m ≡ by U b n

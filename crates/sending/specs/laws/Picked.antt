@@ -14,7 +14,7 @@ use Rattle.rt0.specs.declared.Pool.{Pool}
 use Rattle.rt0.specs.laws.Pool.{credentialAt, credentials}
 use Rattle.rt0.specs.Pool.{upTo}
 use Rattle.closure.specs.laws.Rules.{el}
-use Rattle.propagation.specs.laws.Flags.{decided}
+use Rattle.propagation.specs.laws.Flags.{decided, flag-is}
 use Rattle.rules.specs.laws.Table.{chosenTo, chosen}
 use Rattle.rules.specs.laws.Exact.{chosen-all}
 use Rattle.tables.specs.Public.{keep}
@@ -32,10 +32,6 @@ keep-append f (x ∷ xs) ys = go (f x) (keep-append f xs ys)
 pub record Picked (f : Credential → Bool) (P : Pool) (i : ℕ) (on : List ℕ) : Type 0 where
   pub sized : length on ≡ 128
   pub says : (j : ℕ) → j < i → eqb (el on j) 1 ≡ f (credentialAt P j)
-
-flag-is : (b : Bool) → eqb (cond b 1 0) 1 ≡ b
-flag-is true = refl
-flag-is false = refl
 
 -- 1 where a test fails
 module _ {a b : Bool} (e : a ≡ b) where

@@ -26,6 +26,7 @@ use Rattle.negotiation.specs.laws.Layout.{readingOf}
 use Rattle.negotiation.specs.laws.Codec.{read-within}
 use Rattle.standing.specs.Standing.{behindDamage, behindTables, restoreOf}
 use Rattle.numbers.specs.Answer.{Answer, refused, accepted}
+use Rattle.numbers.specs.laws.Answer.{isAccepted}
 
 -- what the code's answer is
 unfoldable pub standingOf : Restored → Answer (Tables × State)
@@ -100,19 +101,15 @@ module _ (tables negotiation : List ℕ) where
 
 -- The house of accepted tables is an entity
 
-abbrev isStanding : Answer (Tables × State) → Bool
-isStanding (refused k) = false
-isStanding (accepted (T, S)) = true
-
 abbrev ownIn : Answer (Tables × State) → ℕ
 ownIn (refused k) = 0
 ownIn (accepted (T, S)) = T .own
 
-behind-own : (tables negotiation : List ℕ) (o : Answer Tables) → readTables tables ≡ o → isStanding (behindTables negotiation o) ≡ true → 0 < ownIn (behindTables negotiation o)
+behind-own : (tables negotiation : List ℕ) (o : Answer Tables) → readTables tables ≡ o → isAccepted (behindTables negotiation o) ≡ true → 0 < ownIn (behindTables negotiation o)
 behind-own tables negotiation (refused k) e h = absurd (false-true h)
 behind-own tables negotiation (accepted T) e h = go (readSound T negotiation) h
   where
-    go : (x : Option State) → isStanding (behindDamage T x) ≡ true → 0 < ownIn (behindDamage T x)
+    go : (x : Option State) → isAccepted (behindDamage T x) ≡ true → 0 < ownIn (behindDamage T x)
     go none k = absurd (false-true k)
     go (some S) k = accepted-sound tables T e .own
 
@@ -123,16 +120,16 @@ module _ (tables negotiation : List ℕ) (r : Restored) (e : standingOf r ≡ re
 
   pub restored-length : length negotiation ≡ 5120
   unfolding restoreOf
-  restored-length = go (eqb (length negotiation) 5120) refl (sym (ap isStanding restored-standing))
+  restored-length = go (eqb (length negotiation) 5120) refl (sym (ap isAccepted restored-standing))
     where
-      go : (b : Bool) → eqb (length negotiation) 5120 ≡ b → isStanding (cond b (behindTables negotiation (readTables tables)) (refused 1)) ≡ true → length negotiation ≡ 5120
+      go : (b : Bool) → eqb (length negotiation) 5120 ≡ b → isAccepted (cond b (behindTables negotiation (readTables tables)) (refused 1)) ≡ true → length negotiation ≡ 5120
       go true x h = eqb-true (length negotiation) 5120 x
       go false x h = absurd (false-true h)
 
   pub restored-own : 0 < r .house .own
   unfolding restoreOf tablesOf
-  restored-own = subst (λ (x : Answer (Tables × State)). 0 < ownIn x) (sym restored-standing) (go (eqb (length negotiation) 5120) (sym (ap isStanding restored-standing)))
+  restored-own = subst (λ (x : Answer (Tables × State)). 0 < ownIn x) (sym restored-standing) (go (eqb (length negotiation) 5120) (sym (ap isAccepted restored-standing)))
     where
-      go : (b : Bool) → isStanding (cond b (behindTables negotiation (readTables tables)) (refused 1)) ≡ true → 0 < ownIn (cond b (behindTables negotiation (readTables tables)) (refused 1))
+      go : (b : Bool) → isAccepted (cond b (behindTables negotiation (readTables tables)) (refused 1)) ≡ true → 0 < ownIn (cond b (behindTables negotiation (readTables tables)) (refused 1))
       go true h = behind-own tables negotiation (readTables tables) refl h
       go false h = absurd (false-true h)

@@ -105,7 +105,6 @@ module _ (N : Nodes) (E : Edges) {sat failed : List ℕ} (t : Settled (nodesOf N
     where
       solved : Bool
       solved = allChildren (nodesOf N) (edgesOf E) solutionKind (λ c. at (satisfiedB (nodesOf N) (edgesOf E)) c || at (failedB (nodesOf N) (edgesOf E)) c) i
-
       go : (a b c d : Bool) → (not a && not b && not c && not d && eqb (getD (N .state) i 0) 3 && solved) ≡ completeAs (nodesOf N) (edgesOf E) i (getD (N .state) i 0) (byKind a b c d (rawIn N i))
       go true b c d = refl
       go false true c d = refl

@@ -16,7 +16,7 @@ use Rattle.expression.specs.Form.{wellFormed}
 use Rattle.expression.specs.Same.{same}
 use Rattle.expression.specs.laws.Same.{same-eq}
 use Rattle.rt0.specs.laws.Lists.{any-find}
-use Rattle.word.specs.laws.Bools.{false-true, and-parts}
+use Rattle.word.specs.laws.Bools.{false-true, and-parts, bool-iff}
 use Rattle.rt0.specs.From.{rolesOf}
 use Rattle.graph.specs.declared.Node.{Node}
 use Rattle.graph.specs.declared.Edge.{Edge}
@@ -27,7 +27,7 @@ use Rattle.graph.specs.laws.States.{processed-inside, failed-inside}
 use Rattle.graph.specs.Propagated.{failedB}
 use Rattle.graph.specs.laws.Propagated.{failed-exact}
 use Rattle.propagation.specs.Flags.{at}
-use Rattle.propagation.specs.laws.Flags.{bool-iff, decided, not-of}
+use Rattle.propagation.specs.laws.Flags.{decided, not-of}
 use Rattle.propagation.specs.laws.Least.{least-into}
 use Rattle.propagation.specs.laws.Satisfied.{Graph, graph, nodeAt}
 use Rattle.propagation.specs.laws.Failed.{childOf, failsBy, failedRule, failedOf}
@@ -82,7 +82,6 @@ module _ {ns : List Node} {es : List Edge} {F S W : List ℕ} (nf : NodesFormed 
       where
         by : {x : Expression} → nodeIn ns i .expression ≡ x → failsBy (wayAs (nodeIn ns i .state) x) (alive i) (hit i) ≡ true
         by e = ap (λ (w : ℕ). failsBy w (alive i) (hit i)) (sym (way-at i b e)) ∙ h
-
         unimplied : {x : Expression} → nodeIn ns i .expression ≡ x → isStandard x ≡ true → failsBy (cond (eqb (nodeIn ns i .state) 3) 1 0) (alive i) (hit i) ≡ true → Failed ns es i
         unimplied e t f =
             let r = fails-one (eqb (nodeIn ns i .state) 3) (alive i) (hit i) f in
@@ -95,7 +94,6 @@ module _ {ns : List Node} {es : List Edge} {F S W : List ℕ} (nf : NodesFormed 
             let v : getD S (q .0) 0 ≡ i * 4 + 0 = q .3 in
             ⊎-elim (λ u. ih c u)
             (λ u. absurd (false-true (sym (r .1) ∙ child-here (length es) G (λ f. not (s f)) i (q .0) (q .1) (omega arith) (omega (arith, k .inside, nf .few)) (ap (λ (f : ℕ). not (s f)) z ∙ ap not u)))) (decided (s c)))
-
         go : (x : Expression) → nodeIn ns i .expression ≡ x → Failed ns es i
         go (E.Entity a) e = absurd (fails-zero (alive i) (hit i) (by e))
         go (E.Role a) e = unimplied e refl (by e)

@@ -12,7 +12,7 @@ use Rattle.expression.specs.declared.Parts.{Parts}
 use Rattle.expression.specs.declared.Expression.{Expression}
 use Rattle.expression.specs.declared.Expression.the-variants as E
 use Rattle.expression.specs.Form.{wellFormed}
-use Rattle.word.specs.laws.Bools.{false-true}
+use Rattle.word.specs.laws.Bools.{false-true, bool-iff}
 use Rattle.rt0.specs.From.{rolesOf}
 use Rattle.graph.specs.declared.Node.{Node}
 use Rattle.graph.specs.declared.Edge.{Edge}
@@ -23,7 +23,6 @@ use Rattle.graph.specs.laws.States.{processed-inside, satisfied-inside}
 use Rattle.graph.specs.Propagated.{satisfiedB}
 use Rattle.graph.specs.laws.Propagated.{satisfied-exact}
 use Rattle.propagation.specs.Flags.{at}
-use Rattle.propagation.specs.laws.Flags.{bool-iff}
 use Rattle.propagation.specs.laws.Least.{least-closed, least-into}
 use Rattle.propagation.specs.laws.Satisfied.{Graph, graph, nodeAt, filledBy, satisfiedRule, satisfiedOf}
 use Rattle.propagation.specs.laws.SatisfiedLaws.{filled-find, filled-here, satisfied-parts, satisfied-of, satisfied-mono}
@@ -61,14 +60,12 @@ module _ {ns : List Node} {es : List Edge} {F S N : List ℕ} (nf : NodesFormed 
       where
         rule : (nodeAt G i < 5) × ((k : ℕ) → k < nodeAt G i → filledBy m G s (i * 4 + k) ≡ true)
         rule = satisfied-parts m G s i h
-
         one : {x : Expression} → nodeIn ns i .expression ≡ x → isStandard x ≡ true → needAs (nodeIn ns i .state) x ≡ 1 → Satisfied ns (take m es) i
         one {x} e t n =
             let z : nodeAt G i ≡ 1 = need-at i b e ∙ n in
             let r = filler i 0 (omega arith) (rule .1 0 (omega arith)) in
             let y : isStandard (nodeIn ns i .expression) ≡ true = ap isStandard e ∙ t in
             standard y (implied y (omega arith) (r .1)) (r .2)
-
         full : (p : Parts) → nodeIn ns i .expression ≡ E.Intersection p → (t : Bool) → eqb (nodeIn ns i .state) 3 ≡ t → nodeAt G i ≡ cond t (p .count) 5 → Satisfied ns (take m es) i
         full p e true q z =
             let f : FullyProcessed ns i = eqb-true (nodeIn ns i .state) 3 q in
@@ -82,7 +79,6 @@ module _ {ns : List Node} {es : List Edge} {F S N : List ℕ} (nf : NodesFormed 
             (r .0, record { child = k .0; role = slot-role p o (v .0) (nodeIn ns (r .0) .expression) w (k .1) ∙ ap (λ (y : Role). E.Role y) (v .2) }, r .2) in
             intersection e f (λ a u. part a u .0) (λ a u. part a u .1) (λ a u. part a u .2)
         full p e false q z = absurd (omega (arith, rule .0))
-
         go : (x : Expression) → nodeIn ns i .expression ≡ x → Satisfied ns (take m es) i
         go (E.Entity a) e = trivial e
         go (E.Role a) e = one e refl refl

@@ -126,7 +126,6 @@ passed T r h = go (eqb (classNumber T r) 0) refl h
     tests true true false k = absurd (let z : _≡_ {A = ℕ} 6 0 = k in omega arith)
     tests true false l k = absurd (let z : _≡_ {A = ℕ} 6 0 = k in omega arith)
     tests false u l k = absurd (let z : _≡_ {A = ℕ} 6 0 = k in omega arith)
-
     go : (b : Bool) → eqb (classNumber T r) 0 ≡ b → cond b (cond (inOrder T r && above T r && room T r) 0 6) (classNumber T r) ≡ 0 → Passed T r
     go true e k =
         let w = tests (inOrder T r) (above T r) (room T r) k in
@@ -283,7 +282,6 @@ module _ (s : List ℕ) where
         by-number : (r : Record) → recordAt s at ≡ a.Read r → (k : ℕ) → judge T r ≡ k → Next at T
         by-number r e zero q = record { r = r; read = e; good = q; rest = sym (from-judged s at T more r 0 e q) ∙ h }
         by-number r e (suc k) q = let z = sym (from-judged s at T more r (suc k) e q) ∙ h in absurd (let y : _≡_ {A = ℕ} 0 1 = cc in omega arith)
-
         go : (x : RecordAnswer) → recordAt s at ≡ x → Next at T
         go (a.Refused k) e = let z = sym (from-refused s at T more k e) ∙ h in absurd (let y : _≡_ {A = ℕ} 0 1 = cc in omega arith)
         go (a.Read r) e = by-number r e (judge T r) refl
@@ -393,7 +391,6 @@ from-numbers (suc n) s at T k h = go (ltb at (length s)) (recordAt s at) refl h 
     by-judge : (m : ℕ) (o : Answer Tables) → m ≤ 6 → judged m o ≡ refused k → (o ≡ refused k → OneToSix k) → OneToSix k
     by-judge zero o l q again = again q
     by-judge (suc m) o l q again = let e : suc m ≡ k = cc in (omega arith, omega arith)
-
     go : (b : Bool) (x : RecordAnswer) → recordAt s at ≡ x → cond b (onRecord (λ size U. recordsFrom n s (at + size) U) T x) (accepted T) ≡ refused k
         → ((m : ℕ) (U : Tables) → recordsFrom n s m U ≡ refused k → OneToSix k) → OneToSix k
     go true (a.Refused m) e q again = let z : m ≡ k = cc in ⊎-elim (λ w. (omega arith, omega arith)) (λ w. (omega arith, omega arith)) (record-refusal s at m e)

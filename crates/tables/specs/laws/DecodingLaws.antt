@@ -4,7 +4,7 @@ use mathlib.Core.Path.{_≡_, refl, sym, ap, _∙_, subst}
 use mathlib.Core.Bool.{Bool, true, false, cond, not, _&&_}
 use mathlib.Core.List.{List, []}
 use native.Mathlib.Omega.{arith}
-use borrow.Author.Tests.{lt-ltb, le-ltb, ltb-true, ltb-false, eq-eqb, eqb-true, eqb-false, ne-eqb}
+use borrow.Author.Tests.{lt-ltb, le-ltb, ltb-true, ltb-false, eq-eqb, eqb-true, eqb-false, ne-eqb, not-false, not-true}
 use lib.Dec.{ltb, leb, eqb}
 use lib.ListN.{length}
 use Rattle.numbers.specs.Sizes.{MOST-STORED, MOST-TABLES-BYTES}
@@ -12,7 +12,7 @@ use Rattle.expression.specs.declared.Credential.{Credential}
 use Rattle.rt0.specs.declared.Pool.{Pool}
 use Rattle.rt0.specs.laws.Pool.{credentials}
 use Rattle.rt0.specs.laws.Added.{count-length}
-use Rattle.word.specs.laws.Bools.{and-parts, false-true}
+use Rattle.word.specs.laws.Bools.{and-parts}
 use Rattle.class.specs.declared.Name.{Name}
 use Rattle.class.specs.Names.{classOf}
 use Rattle.class.specs.Typing.{credentialNumber}
@@ -227,30 +227,22 @@ class-same own ns I S P Q (Access p) = refl
 
 -- The whole
 
-not-false : (b : Bool) → not b ≡ true → b ≡ false
-not-false true h = absurd (false-true h)
-not-false false h = refl
-
-not-true : (b : Bool) → not b ≡ false → b ≡ true
-not-true true h = refl
-not-true false h = absurd (false-true (sym h))
-
 -- a length outside the sizes
 pub tables-outside : (s : List ℕ) (d : Decoded) {b : Bool} → b ≡ sized (length s) → not b ≡ true → d .refusal ≡ 1 → outcomeOf d ≡ readTables s
 unfolding readTables
 tables-outside s d {b} h n e =
     outcome-refused d 1 e (λ z. omega arith)
-    ∙ sym (ap (λ (t : Bool). cond t (recordsFrom (length s) s 0 unread) (refused 1)) (sym h ∙ not-false b n))
+    ∙ sym (ap (λ (t : Bool). cond t (recordsFrom (length s) s 0 unread) (refused 1)) (sym h ∙ not-true b n))
 
 module _ (s : List ℕ) {b : Bool} (h : b ≡ sized (length s)) (n : not b ≡ false) where
   -- a length within the sizes
   pub some-bytes : 0 < length s
   unfolding sized
-  some-bytes = ltb-true 0 (length s) (and-parts (ltb 0 (length s)) (leb (length s) MOST-TABLES-BYTES) (sym h ∙ not-true b n) .0)
+  some-bytes = ltb-true 0 (length s) (and-parts (ltb 0 (length s)) (leb (length s) MOST-TABLES-BYTES) (sym h ∙ not-false b n) .0)
 
   inside : readTables s ≡ readFrom s 0 unread
   unfolding readTables readFrom
-  inside = ap (λ (t : Bool). cond t (recordsFrom (length s) s 0 unread) (refused 1)) (sym h ∙ not-true b n)
+  inside = ap (λ (t : Bool). cond t (recordsFrom (length s) s 0 unread) (refused 1)) (sym h ∙ not-false b n)
 
   -- the first record is refused
   pub tables-refused : (d : Decoded) {x : OwnAnswer} {k : ℕ} → x ≡ firstRecord (recordAt s 0) → x ≡ o.Refused k → d .refusal ≡ k → outcomeOf d ≡ readTables s

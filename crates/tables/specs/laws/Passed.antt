@@ -49,7 +49,6 @@ passed-next {A} {G} {k} ranked {num} {s} {start} {L} {at} {T} first p g = record
         let still : at ≡ start = g .still (ap none e) in
         ap (λ (U : Tables). inOrder U r) first ∙ p .out (subst (λ (j : ℕ). j < length s) still more) r (subst (λ (j : ℕ). recordAt s j ≡ a.Read r) still h) l
     earlier (x ∷ M) e more r h l = ranked .blocks T (x ∷ M) r (p .begun) refl l
-
     by-rank : at < length s → (r : Record) → recordAt s at ≡ a.Read r → rankOf r < suc k → (b : Bool) → eqb (rankOf r) k ≡ b → inOrder (G .put T L) r ≡ false
     by-rank more r h l true e = let x = ranked .own r (eqb-true (rankOf r) k e) in absurd (g .stop refl more (x .0) (h ∙ ap a.Read (x .1)))
     by-rank more r h l false e = earlier L refl more r h (omega (arith, eqb-false (rankOf r) k e))
@@ -78,7 +77,6 @@ names-ranked = record { own = own; same = λ T L. refl; blocks = blocks }
     own (SubjectStored c) h = absurd (omega arith)
     own (Sensitive p) h = absurd (omega arith)
     own (Access p) h = absurd (omega arith)
-
     blocks : (T : Tables) (L : List Name) (r : Record) → eqb (T .own) 0 ≡ false → none L ≡ false → rankOf r < 1 → inOrder (names .put T L) r ≡ false
     blocks T L (Own e) o n h = o
     blocks T L (Named m) o n h = absurd (omega arith)
@@ -98,7 +96,6 @@ issuer-ranked = record { own = own; same = λ T L. refl; blocks = blocks }
     own (SubjectStored c) h = absurd (omega arith)
     own (Sensitive p) h = absurd (omega arith)
     own (Access p) h = absurd (omega arith)
-
     blocks : (T : Tables) (L : List Credential) (r : Record) → eqb (T .own) 0 ≡ false → none L ≡ false → rankOf r < 2 → inOrder (credentialsOf false .put T L) r ≡ false
     blocks T L (Own e) o n h = o
     blocks T L (Named m) o n h = fails-first (not (eqb (T .own) 0) && none L && none (T .subjectStored) && none (T .sensitive)) (none (T .access)) (fails-first (not (eqb (T .own) 0) && none L && none (T .subjectStored)) (none (T .sensitive)) (fails-first (not (eqb (T .own) 0) && none L) (none (T .subjectStored)) (fails-last (not (eqb (T .own) 0)) (none L) n)))
@@ -118,7 +115,6 @@ subject-ranked = record { own = own; same = λ T L. refl; blocks = blocks }
     own (SubjectStored c) h = (c, refl)
     own (Sensitive p) h = absurd (omega arith)
     own (Access p) h = absurd (omega arith)
-
     blocks : (T : Tables) (L : List Credential) (r : Record) → eqb (T .own) 0 ≡ false → none L ≡ false → rankOf r < 3 → inOrder (credentialsOf true .put T L) r ≡ false
     blocks T L (Own e) o n h = o
     blocks T L (Named m) o n h = fails-first (not (eqb (T .own) 0) && none (T .issuerStored) && none L && none (T .sensitive)) (none (T .access)) (fails-first (not (eqb (T .own) 0) && none (T .issuerStored) && none L) (none (T .sensitive)) (fails-last (not (eqb (T .own) 0) && none (T .issuerStored)) (none L) n))
@@ -138,7 +134,6 @@ sensitive-ranked = record { own = own; same = λ T L. refl; blocks = blocks }
     own (SubjectStored c) h = absurd (omega arith)
     own (Sensitive p) h = (p, refl)
     own (Access p) h = absurd (omega arith)
-
     blocks : (T : Tables) (L : List Pair) (r : Record) → eqb (T .own) 0 ≡ false → none L ≡ false → rankOf r < 4 → inOrder (pairs false .put T L) r ≡ false
     blocks T L (Own e) o n h = o
     blocks T L (Named m) o n h = fails-first (not (eqb (T .own) 0) && none (T .issuerStored) && none (T .subjectStored) && none L) (none (T .access)) (fails-last (not (eqb (T .own) 0) && none (T .issuerStored) && none (T .subjectStored)) (none L) n)
@@ -158,7 +153,6 @@ access-ranked = record { own = own; same = λ T L. refl; blocks = blocks }
     own (SubjectStored c) h = absurd (omega arith)
     own (Sensitive p) h = absurd (omega arith)
     own (Access p) h = (p, refl)
-
     blocks : (T : Tables) (L : List Pair) (r : Record) → eqb (T .own) 0 ≡ false → none L ≡ false → rankOf r < 5 → inOrder (pairs true .put T L) r ≡ false
     blocks T L (Own e) o n h = o
     blocks T L (Named m) o n h = fails-last (not (eqb (T .own) 0) && none (T .issuerStored) && none (T .subjectStored) && none (T .sensitive)) (none L) n

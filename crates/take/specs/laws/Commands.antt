@@ -5,7 +5,6 @@ use mathlib.Core.List.{List}
 use lib.Dec.{eqb}
 use Rattle.class.specs.declared.Name.{Name}
 use Rattle.message.specs.declared.Command.{Command}
-use Rattle.message.specs.declared.Command.the-variants.{Show, Open, Bring, Join, Mark, End}
 use Rattle.message.specs.declared.CommandAnswer.{CommandAnswer}
 use Rattle.message.specs.declared.CommandAnswer.the-variants.{Read, Refused}
 use Rattle.message.specs.Command.{commandAt, sizeOf}
@@ -22,7 +21,7 @@ use lib.ListN.{length}
 use Rattle.word.specs.laws.Bools.{false-true}
 use Rattle.graph.specs.laws.Graph.{nodesOf}
 use Rattle.states.specs.laws.Brings.{NodesFormed}
-use Rattle.message.specs.laws.Command.{nothing}
+use Rattle.message.specs.laws.Command.{nothing, size-some}
 use Rattle.message.specs.laws.CommandExact.{command-formed, command-room, command-refusal}
 use Rattle.negotiation.specs.declared.Negotiation.{Negotiation}
 use Rattle.legal.specs.laws.Room.{legal-room, step-within}
@@ -44,15 +43,6 @@ refusalOf (Refused k) = k
 pub record Room (r : Taking) : Type 0 where
   pub sizes : r .refusal ≡ 0 → within (stateOf (r .negotiation)) ≡ true
   pub formed : r .refusal ≡ 0 → NodesFormed (nodesOf (r .negotiation .nodes))
-
--- a command has a byte
-size-some : (c : Command) → 0 < sizeOf c
-size-some (Show c) = omega arith
-size-some (Open o) = omega arith
-size-some (Bring n) = omega arith
-size-some (Join e) = omega arith
-size-some (Mark i) = omega arith
-size-some End = omega arith
 
 -- The loop
 

@@ -27,17 +27,9 @@ use Rattle.take.specs.Commands.{onCommand, commandsFrom}
 use Rattle.message.specs.Message.{isEnd}
 use Rattle.applied.specs.laws.Step.{step-header, step-still, step-some}
 use Rattle.numbers.specs.Answer.{Answer, refused, accepted, judged}
+use Rattle.numbers.specs.laws.Answer.{isAccepted, firstOf}
 
--- what an accepted message leads to
-abbrev isTaken : Answer (State × Bool) → Bool
-isTaken (refused k) = false
-isTaken (accepted (S, v)) = true
-
-abbrev stateTaken : State → Answer (State × Bool) → State
-stateTaken S (refused k) = S
-stateTaken S (accepted (T, v)) = T
-
-abbrev movedTaken : Answer (State × Bool) → Bool
+abbrev pub movedTaken : Answer (State × Bool) → Bool
 movedTaken (refused k) = false
 movedTaken (accepted (T, v)) = v
 
@@ -84,7 +76,7 @@ module _ (ns : List Name) (s : ℕ) (m : List ℕ) where
   module _ (f : ℕ) (T : State) (w : Bool) (next : Leads f T w) (at : ℕ) (S : State) (v : Bool) (g : GraphKept ns S) (some : length (S .nodes) ≡ 0 → ⊥) (wi : within S ≡ true) where
     led-end : (c : Command) → commandAt m at ≡ Read c → legalNumber ns s S c ≡ 0 → (b : Bool) → cond b (accepted (S, v)) (commandsFrom f ns s m (at + sizeOf c) (stepped S s c) (v || isMove c)) ≡ accepted (T, w) → Led ns S v T w
     led-end c e l true q =
-        let t : S ≡ T = ap (stateTaken S) q in
+        let t : S ≡ T = ap (firstOf S) q in
         let u : v ≡ w = ap movedTaken q in
         subst (λ (U : State). Led ns S v U w) t (subst (Led ns S v S) u (record { graph = g; some = some; header = refl; sizes = wi; moves = λ x. x; still = λ x. (refl, refl) }))
     led-end c e l false q =
@@ -93,15 +85,15 @@ module _ (ns : List Name) (s : ℕ) (m : List ℕ) where
 
     led-number : (c : Command) → commandAt m at ≡ Read c → (k : ℕ) → legalNumber ns s S c ≡ k → judged k (cond (isEnd c) (accepted (S, v)) (commandsFrom f ns s m (at + sizeOf c) (stepped S s c) (v || isMove c))) ≡ accepted (T, w) → Led ns S v T w
     led-number c e zero l q = led-end c e l (isEnd c) q
-    led-number c e (suc k) l q = absurd (false-true (ap isTaken q))
+    led-number c e (suc k) l q = absurd (false-true (ap isAccepted q))
 
     led-answer : (a : CommandAnswer) → commandAt m at ≡ a → onCommand (λ size U x. commandsFrom f ns s m (at + size) U x) ns s S v a ≡ accepted (T, w) → Led ns S v T w
-    led-answer (Refused k) e q = absurd (false-true (ap isTaken q))
+    led-answer (Refused k) e q = absurd (false-true (ap isAccepted q))
     led-answer (Read c) e q = led-number c e (legalNumber ns s S c) refl q
 
   pub commands-led : (f : ℕ) (T : State) (w : Bool) → Leads f T w
   unfolding commandsFrom
-  commands-led zero T w at S v g some wi h = absurd (false-true (ap isTaken h))
+  commands-led zero T w at S v g some wi h = absurd (false-true (ap isAccepted h))
   commands-led (suc f) T w at S v g some wi h = led-answer f T w (commands-led f T w) at S v g some wi (commandAt m at) refl h
 
 -- The first message
@@ -137,13 +129,12 @@ module _ (ns : List Name) (m : List ℕ) (S : State) (side : S .header .side ≡
 
   pub opening-led : (f at : ℕ) (v : Bool) (T : State) (w : Bool) → commandsFrom f ns 0 m at S v ≡ accepted (T, w) → Led ns S v T w × (w ≡ true)
   unfolding commandsFrom isFresh
-  opening-led zero at v T w h = absurd (false-true (ap isTaken h))
+  opening-led zero at v T w h = absurd (false-true (ap isAccepted h))
   opening-led (suc f) at v T w h = by-answer (commandAt m at) refl h
     where
       by-number : (c : Command) → commandAt m at ≡ Read c → (k : ℕ) → legalNumber ns 0 S c ≡ k → judged k (cond (isEnd c) (accepted (S, v)) (commandsFrom f ns 0 m (at + sizeOf c) (stepped S 0 c) (v || isMove c))) ≡ accepted (T, w) → Led ns S v T w × (w ≡ true)
       by-number c e zero l q = let o = fresh-open ns 0 S (eq-eqb (length (S .nodes)) 0 no-node) c l in subst (Behind f at v T w) (sym (o .1)) (behind-open f at v T w (o .0)) e l q
-      by-number c e (suc k) l q = absurd (false-true (ap isTaken q))
-
+      by-number c e (suc k) l q = absurd (false-true (ap isAccepted q))
       by-answer : (a : CommandAnswer) → commandAt m at ≡ a → onCommand (λ size U x. commandsFrom f ns 0 m (at + size) U x) ns 0 S v a ≡ accepted (T, w) → Led ns S v T w × (w ≡ true)
-      by-answer (Refused k) e q = absurd (false-true (ap isTaken q))
+      by-answer (Refused k) e q = absurd (false-true (ap isAccepted q))
       by-answer (Read c) e q = by-number c e (legalNumber ns 0 S c) refl q

@@ -45,23 +45,7 @@ use Rattle.legal.specs.Updates.{Updates, none, next, Wrong, unreadable, illegal
 use Rattle.take.specs.Call.{Stands, InTurn, Refusal, size, unrestored, ended, out-of-turn, stopped}
 use Rattle.take.specs.laws.TakenExactly.{taken-one, take-ended, take-out-of-turn, take-commands}
 use Rattle.numbers.specs.Answer.{Answer, refused, accepted, judged}
-
--- what an answer is
-abbrev isRefused : Answer (State × Bool) → Bool
-isRefused (refused k) = true
-isRefused (accepted (S, v)) = false
-
-abbrev numberTaken : Answer (State × Bool) → ℕ
-numberTaken (refused k) = k
-numberTaken (accepted (S, v)) = 0
-
-abbrev isRefusal : Answer State → Bool
-isRefusal (refused k) = true
-isRefusal (accepted S) = false
-
-abbrev numberOf : Answer State → ℕ
-numberOf (refused k) = k
-numberOf (accepted S) = 0
+use Rattle.numbers.specs.laws.Answer.{isRefused, numberOf}
 
 -- The commands
 
@@ -128,15 +112,15 @@ module _ (ns : List Name) (s : ℕ) (m : List ℕ) where
 
       rest-number : (c : Command) → commandAt m at ≡ Read c → (j : ℕ) → legalNumber ns s S c ≡ j → judged j (cond (CLaws.isEnd c) (accepted (S, v)) (C.commandsFrom f ns s m (at + sizeOf c) (stepped S s c) (v || isMove c))) ≡ refused k → Rest at S
       rest-number c e zero l q = rest-command c e (legal-exactly ns s S c .0 l) (CLaws.isEnd c) refl q
-      rest-number c e (suc j) l q = let z : suc j ≡ k = ap numberTaken q in rest-here at S (illegal c e (l ∙ z) (λ y. omega (arith, y, z)))
+      rest-number c e (suc j) l q = let z : suc j ≡ k = ap numberOf q in rest-here at S (illegal c e (l ∙ z) (λ y. omega (arith, y, z)))
 
       rest-answer : (a : CommandAnswer) → commandAt m at ≡ a → C.onCommand (λ size U x. C.commandsFrom f ns s m (at + size) U x) ns s S v a ≡ refused k → Rest at S
-      rest-answer (Refused j) e q = rest-here at S (unreadable (e ∙ ap Refused (ap numberTaken q)))
+      rest-answer (Refused j) e q = rest-here at S (unreadable (e ∙ ap Refused (ap numberOf q)))
       rest-answer (Read c) e q = rest-number c e (legalNumber ns s S c) refl q
 
     rest-all : (f : ℕ) → Leads f
     unfolding C.commandsFrom
-    rest-all zero at S v l h = rest-here at S (unreadable (sym (nothing m at (omega arith)) ∙ ap Refused (ap numberTaken h)))
+    rest-all zero at S v l h = rest-here at S (unreadable (sym (nothing m at (omega arith)) ∙ ap Refused (ap numberOf h)))
     rest-all (suc f) at S v l h = rest-answer f (rest-all f) at S v l (commandAt m at) refl h
 
     -- the commands of a message are refused exactly where one of them is, those before it being legal
@@ -159,7 +143,7 @@ module _ (tables negotiation message scratch : List ℕ) (bytes : (i : ℕ) → 
 
   by-commands : (T : Tables) (S : State) → Stands tables negotiation message scratch T S → InTurn S → (x : Answer (State × Bool)) → leadsTo T S ≡ x → behindCommands x ≡ refused k → Refusal tables negotiation message scratch k
   by-commands T S h t (refused j) e q = stopped h t (stops-exactly (T .names) (senderTo S) message bytes k S .0 (e ∙ ap refused (ap numberOf q)))
-  by-commands T S h t (accepted (U, v)) e q = absurd (false-true (ap isRefusal q))
+  by-commands T S h t (accepted (U, v)) e q = absurd (false-true (ap isRefused q))
 
   by-turn : (T : Tables) (S : State) → Stands tables negotiation message scratch T S → S .header .end ≡ 0 → (b : Bool) → sends (senderTo S) (S .header .messages) ≡ b → cond (not b) (refused 21) (behindCommands (leadsTo T S)) ≡ refused k → Refusal tables negotiation message scratch k
   by-turn T S h e true g q = by-commands T S h (record { going = e; turn = g }) (leadsTo T S) refl q
@@ -244,30 +228,22 @@ wrong-by : {ns : List Name} {s : ℕ} {m : List ℕ} {at : ℕ} {S : State} {k :
 wrong-by {m = m} {at = at} {k = k} (unreadable e) = ⊎-elim (λ z. ap byCommand z) (λ z. ap byCommand z) (command-refusal m at k e)
 wrong-by {ns} {s} {S = S} (illegal c e q z) = sym (ap byCommand q) ∙ legal-by ns s S c
 
-abbrev numberStanding : Answer (Tables × State) → ℕ
-numberStanding (refused k) = k
-numberStanding (accepted (T, S)) = 0
-
-abbrev isUnrestored : Answer (Tables × State) → Bool
-isUnrestored (refused k) = true
-isUnrestored (accepted (T, S)) = false
-
 -- the negotiation's length is refused by 1, the tables by their number, damage by 20
 module _ (tables negotiation : List ℕ) (k : ℕ) where
   abbrev Unrestored : Type 0
   Unrestored = ((length negotiation ≡ 5120 → ⊥) × (k ≡ 1)) ⊎ ((readTables tables ≡ refused k) ⊎ (k ≡ 20))
 
   by-state : (T : Tables) (x : Option State) → R.behindDamage T x ≡ refused k → k ≡ 20
-  by-state T O.none q = sym (ap numberStanding q)
-  by-state T (O.some S) q = absurd (false-true (ap isUnrestored q))
+  by-state T O.none q = sym (ap numberOf q)
+  by-state T (O.some S) q = absurd (false-true (ap isRefused q))
 
   by-tables : (x : Answer Tables) → readTables tables ≡ x → R.behindTables negotiation x ≡ refused k → Unrestored
-  by-tables (refused j) e q = inr (inl (e ∙ ap refused (ap numberStanding q)))
+  by-tables (refused j) e q = inr (inl (e ∙ ap refused (ap numberOf q)))
   by-tables (accepted T) e q = inr (inr (by-state T (readSound T negotiation) q))
 
   by-length : (b : Bool) → eqb (length negotiation) 5120 ≡ b → cond b (R.behindTables negotiation (readTables tables)) (refused 1) ≡ refused k → Unrestored
   by-length true e q = by-tables (readTables tables) refl q
-  by-length false e q = inl (eqb-false (length negotiation) 5120 e, sym (ap numberStanding q))
+  by-length false e q = inl (eqb-false (length negotiation) 5120 e, sym (ap numberOf q))
 
   unrestored-by : R.restoreOf tables negotiation ≡ refused k → Unrestored
   unfolding R.restoreOf

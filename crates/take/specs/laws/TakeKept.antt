@@ -32,6 +32,7 @@ use Rattle.standing.specs.Turn.{sends, senderTo}
 use Rattle.take.specs.Take.{behindCommands, takenIn}
 use Rattle.damage.specs.laws.Going.{header-parts, empty-parts, by-nodes, no-nodes, going-on}
 use Rattle.numbers.specs.Answer.{Answer, refused, accepted}
+use Rattle.numbers.specs.laws.Answer.{isAccepted, valueOr}
 
 -- while none is counted, the mediator sends
 first-sender : (v n : ℕ) → v < 2 → n ≡ 0 → sends (otherSide v) n ≡ true → (v ≡ 1) × (otherSide v ≡ 0)
@@ -66,14 +67,6 @@ led-edges ns S v n w l some = edges-formed (n .header) (n .nodes) (n .edges) som
 
 -- What an accepted message was
 
-abbrev isAccepted : Answer State → Bool
-isAccepted (refused k) = false
-isAccepted (accepted A) = true
-
-abbrev stateIn : State → Answer State → State
-stateIn S (refused k) = S
-stateIn S (accepted A) = A
-
 pub record Took (m : List ℕ) (T : Tables) (S A : State) : Type 0 where
   pub going : S .header .end ≡ 0
   pub turn : sends (senderTo S) (S .header .messages) ≡ true
@@ -88,12 +81,10 @@ took m T S A h = by-end (eqb (S .header .end) 0) refl h
   where
     by-commands : S .header .end ≡ 0 → sends (senderTo S) (S .header .messages) ≡ true → (t : Answer (State × Bool)) → C.commandsFrom (length m) (T .names) (senderTo S) m 0 S false ≡ t → behindCommands t ≡ accepted A → Took m T S A
     by-commands x y (refused k) e q = absurd (false-true (ap isAccepted q))
-    by-commands x y (accepted (U, moved)) e q = record { going = x; turn = y; led = U; moved = moved; commands = e; after = sym (ap (stateIn S) q) }
-
+    by-commands x y (accepted (U, moved)) e q = record { going = x; turn = y; led = U; moved = moved; commands = e; after = sym (ap (valueOr S) q) }
     by-turn : S .header .end ≡ 0 → (b : Bool) → sends (senderTo S) (S .header .messages) ≡ b → cond (not b) (refused 21) (behindCommands (C.commandsFrom (length m) (T .names) (senderTo S) m 0 S false)) ≡ accepted A → Took m T S A
     by-turn x true e q = by-commands x e (C.commandsFrom (length m) (T .names) (senderTo S) m 0 S false) refl q
     by-turn x false e q = absurd (false-true (ap isAccepted q))
-
     by-end : (b : Bool) → eqb (S .header .end) 0 ≡ b → cond (not b) (refused 22) (cond (not (sends (senderTo S) (S .header .messages))) (refused 21) (behindCommands (C.commandsFrom (length m) (T .names) (senderTo S) m 0 S false))) ≡ accepted A → Took m T S A
     by-end true e q = by-turn (eqb-true (S .header .end) 0 e) (sends (senderTo S) (S .header .messages)) refl q
     by-end false e q = absurd (false-true (ap isAccepted q))

@@ -33,27 +33,8 @@ use Rattle.legal.specs.Updates.{Updates, none, next, Carries}
 use Rattle.take.specs.Call.{Stands, InTurn, Accepted}
 use Rattle.message.specs.laws.Command.{size-some}
 use Rattle.numbers.specs.Answer.{Answer, refused, accepted, judged}
-
--- what an answer is
-abbrev isTaken : Answer (State × Bool) → Bool
-isTaken (refused k) = false
-isTaken (accepted (S, v)) = true
-
-abbrev stateTaken : State → Answer (State × Bool) → State
-stateTaken S (refused k) = S
-stateTaken S (accepted (T, v)) = T
-
-abbrev movedTaken : Answer (State × Bool) → Bool
-movedTaken (refused k) = false
-movedTaken (accepted (T, v)) = v
-
-abbrev isAccepted : Answer State → Bool
-isAccepted (refused k) = false
-isAccepted (accepted S) = true
-
-abbrev stateAccepted : State → Answer State → State
-stateAccepted S (refused k) = S
-stateAccepted S (accepted T) = T
+use Rattle.numbers.specs.laws.Answer.{isAccepted, firstOf, valueOr}
+use Rattle.take.specs.laws.CommandsKept.{movedTaken}
 
 only-end : (c : Command) → CLaws.isEnd c ≡ true → c ≡ End
 only-end (Show c) h = absurd (false-true h)
@@ -121,7 +102,7 @@ module _ (ns : List Name) (s : ℕ) (m : List ℕ) where
     module _ (f : ℕ) (T : State) (w : Bool) (behind : Leads f T w) (at : ℕ) (S : State) (v : Bool) where
       rest-command : (c : Command) → commandAt m at ≡ Read c → Legal ns s S c → (b : Bool) → CLaws.isEnd c ≡ b → cond b (accepted (S, v)) (C.commandsFrom f ns s m (at + sizeOf c) (stepped S s c) (v || isMove c)) ≡ accepted (T, w) → Rest at S v T w
       rest-command c e l true b q =
-          let t : S ≡ T = ap (stateTaken S) q in
+          let t : S ≡ T = ap (firstOf S) q in
           let u : v ≡ w = ap movedTaken q in
           let z : c ≡ End = only-end c b in
           subst (λ (U : State). Rest at S v U w) t (subst (Rest at S v S) u (rest-end at S v (e ∙ ap Read z) (subst (Legal ns s S) z l)))
@@ -129,15 +110,15 @@ module _ (ns : List Name) (s : ℕ) (m : List ℕ) where
 
       rest-number : (c : Command) → commandAt m at ≡ Read c → (k : ℕ) → legalNumber ns s S c ≡ k → judged k (cond (CLaws.isEnd c) (accepted (S, v)) (C.commandsFrom f ns s m (at + sizeOf c) (stepped S s c) (v || isMove c))) ≡ accepted (T, w) → Rest at S v T w
       rest-number c e zero l q = rest-command c e (legal-exactly ns s S c .0 l) (CLaws.isEnd c) refl q
-      rest-number c e (suc k) l q = absurd (false-true (ap isTaken q))
+      rest-number c e (suc k) l q = absurd (false-true (ap isAccepted q))
 
       rest-answer : (a : CommandAnswer) → commandAt m at ≡ a → C.onCommand (λ size U x. C.commandsFrom f ns s m (at + size) U x) ns s S v a ≡ accepted (T, w) → Rest at S v T w
-      rest-answer (Refused k) e q = absurd (false-true (ap isTaken q))
+      rest-answer (Refused k) e q = absurd (false-true (ap isAccepted q))
       rest-answer (Read c) e q = rest-number c e (legalNumber ns s S c) refl q
 
     rest-all : (f : ℕ) (T : State) (w : Bool) → Leads f T w
     unfolding C.commandsFrom
-    rest-all zero T w at S v h = absurd (false-true (ap isTaken h))
+    rest-all zero T w at S v h = absurd (false-true (ap isAccepted h))
     rest-all (suc f) T w at S v h = rest-answer f T w (rest-all f T w) at S v (commandAt m at) refl h
 
     -- the commands of a message are carried out exactly where it consists of legal commands and an end
@@ -182,7 +163,7 @@ module _ (tables negotiation message scratch : List ℕ) (T : Tables) (S : State
     accepted-of (refused k) e q = absurd (false-true (ap isAccepted q))
     accepted-of (accepted (U, v)) e q =
         let r = commands-exactly (T .names) (senderTo S) message bytes S U v .0 e in
-        record { commands = r .0; led = U; carries = r .1; after = sym (ap (stateAccepted A) q) ∙ ap (λ (b : Bool). afterMessage U b false) (r .2) }
+        record { commands = r .0; led = U; carries = r .1; after = sym (ap (valueOr A) q) ∙ ap (λ (b : Bool). afterMessage U b false) (r .2) }
 
     -- a message in its turn is accepted exactly where it consists of legal commands and an end
     pub taken-exactly : (takeOf tables negotiation message scratch ≡ accepted A → Accepted T S message A) × (Accepted T S message A → takeOf tables negotiation message scratch ≡ accepted A)

@@ -3,6 +3,17 @@ use mathlib.Core.Path.{_≡_, refl, sym}
 use mathlib.Core.Logic.{_⊎_, inl, inr}
 use mathlib.Core.Bool.{Bool, true, false, _&&_, _||_}
 
+pub bool-iff : (a b : Bool) → (a ≡ true → b ≡ true) → (b ≡ true → a ≡ true) → a ≡ b
+bool-iff true b f g = sym (f refl)
+bool-iff false true f g = g refl
+bool-iff false false f g = refl
+
+-- Whether a head leads on, test by test
+
+pub no-and : (a b : Bool) → b ≡ false → false ≡ (a && b)
+no-and true b h = sym h
+no-and false b h = refl
+
 pub false-true : false ≡ true → ⊥
 false-true h = let z : _≡_ {A = Bool} true false = sym h in absurd (mathlib.Core.Bool.true≢false z)
 

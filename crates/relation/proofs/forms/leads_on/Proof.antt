@@ -4,7 +4,7 @@ use mathlib.Core.Path.{_≡_, refl}
 use mathlib.Core.Bool.{false}
 use lib.ListN.{length-replicate}
 use Rattle.rt0.specs.laws.Pool.{poolOf}
-use Rattle.rules.specs.laws.Table.{anyTo}
+use Rattle.word.specs.laws.Search.{anyTo}
 use Rattle.rules.specs.laws.Search.{found-at, not-at, nowhere}
 use Rattle.relation.specs.laws.Question.{leadsAt}
 use Rattle.relation.proofs.forms.leads_on.Statement.{statement}

@@ -4,7 +4,7 @@ use mathlib.Core.Path.{_≡_, refl}
 use mathlib.Core.Bool.{false}
 use Rattle.rt0.specs.declared.Pool.{Pool}
 use Rattle.rt0.specs.laws.Pool.{poolOf}
-use Rattle.rules.specs.laws.Table.{anyTo}
+use Rattle.word.specs.laws.Search.{anyTo}
 use Rattle.rules.specs.laws.Columns.{hasLink}
 use Rattle.rules.specs.laws.Search.{found-at, not-at, nowhere}
 use Rattle.rules.proofs.linking.has_links.Statement.{statement}

@@ -4,7 +4,8 @@ use mathlib.Core.Path.{_≡_, refl}
 use mathlib.Core.Bool.{false}
 use Rattle.rt0.specs.declared.Pool.{Pool}
 use Rattle.rt0.specs.laws.Pool.{poolOf}
-use Rattle.rules.specs.laws.Table.{anyTo, isBody, bitOf}
+use Rattle.word.specs.laws.Search.{anyTo}
+use Rattle.rules.specs.laws.Table.{isBody, bitOf}
 use Rattle.rules.specs.laws.Search.{first-at, first-nowhere, not-at}
 use Rattle.rules.proofs.rows.source.Statement.{statement}
 use Rattle.rules.proofs.rows.source.Tie as tie
