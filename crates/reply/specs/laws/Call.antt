@@ -21,7 +21,7 @@ use Rattle.negotiation.specs.laws.Layout.{paste-whole, length-zeros}
 use Rattle.standing.specs.declared.Restored.{Restored}
 use Rattle.damage.specs.Damage.{readSound}
 use Rattle.standing.specs.Standing as R
-use Rattle.standing.specs.laws.Standing as RLaws
+use Rattle.standing.specs.laws.Standing.{standingOf}
 use Rattle.reply.specs.declared.Replying.{Replying}
 use Rattle.reply.specs.Reply.{repliedIn, behindStanding, replySize, replyOf, negotiationLeft, replyLeft, scratchLeft, lengthOf}
 use Rattle.reply.specs.laws.Reply.{Replies}
@@ -73,15 +73,15 @@ module _ (tables negotiation reply scratch : List ℕ) where
           let p = and-parts (leb 4096 (length reply)) (eqb (length scratch) 4096) sized in
           (leb-true 4096 (length reply) (p .0), eqb-true (length scratch) 4096 (p .1))
 
-      module _ (r : Restored) (re : RLaws.standingOf r ≡ R.restoreOf tables negotiation) where
+      module _ (r : Restored) (re : standingOf r ≡ R.restoreOf tables negotiation) where
         -- the tables or the negotiation
         pub reply-unrestored : (r .refusal ≡ 0 → ⊥) → Leaves negotiation reply scratch (replyOf tables negotiation reply scratch) (r .refusal) negotiation reply scratch
-        unfolding RLaws.standingOf
+        unfolding standingOf
         reply-unrestored h = refuses (r .refusal) (by-size true sized (refused (r .refusal)) (sym re ∙ ap (λ (b : Bool). cond b (accepted (tablesOf (r .house), stateOf (r .negotiation))) (refused (r .refusal))) (ne-eqb (r .refusal) 0 h))) refl
 
         module _ (rz : r .refusal ≡ 0) where
           stands : R.restoreOf tables negotiation ≡ accepted (tablesOf (r .house), stateOf (r .negotiation))
-          unfolding RLaws.standingOf
+          unfolding standingOf
           stands = sym re ∙ ap (λ (b : Bool). cond b (accepted (tablesOf (r .house), stateOf (r .negotiation))) (refused (r .refusal))) (eq-eqb (r .refusal) 0 rz)
 
           pub restored-sound : Sound (tablesOf (r .house))

@@ -21,7 +21,7 @@ use Rattle.standing.specs.laws.StandingPublic as P
 use Rattle.applied.specs.After.{headerAfter, afterMessage}
 use Rattle.applied.specs.Step.{moved}
 use Rattle.standing.specs.Turn as K
-use Rattle.take.specs.Take as KLaws
+use Rattle.take.specs.Take.{takenIn}
 use Rattle.take.specs.laws.TakeKept.{Took, took}
 use Rattle.moves.specs.Known.{isAcknowledged}
 use Rattle.moves.specs.laws.Known.{isDisclosed}
@@ -124,12 +124,12 @@ module _ {P : State → Type 0} (k : Stays P) (after : (S : State) (m full : Boo
       go false true q = absurd (false-true (ap isGiven q))
       go false false q = subst P (ap left q) (after (r .state) (moved (r .commands)) (r .full) (reply-stays k W S h))
 
-  taken-kept : (m : List ℕ) → KLaws.takenIn m W S ≡ accepted A → P A
+  taken-kept : (m : List ℕ) → takenIn m W S ≡ accepted A → P A
   taken-kept m e =
       let t : Took m W S A = took m W S A e in
       subst P (sym (t .after)) (after (t .led) (t .moved) false (commands-stay k (length m) (W .names) (K.senderTo S) m 0 S false (t .led) (t .moved) h (t .commands)))
 
--- a reply accepted (keeps, the) sizes, as a message taken does
+-- a reply given keeps the sizes, as a message taken does
 pub given-within : (W : Tables) (S A : State) → within S ≡ true → (m : List ℕ) → repliedIn W S ≡ accepted (m, A) → within A ≡ true
 given-within W S A w = given-kept within-kept (λ B m full v. after-within B m full ∙ v) W S A w
 
@@ -137,5 +137,5 @@ given-within W S A w = given-kept within-kept (λ B m full v. after-within B m f
 pub given-open : (T U W : Tables) (S A : State) → OpenIn T U S → (m : List ℕ) → repliedIn W S ≡ accepted (m, A) → OpenIn T U A
 given-open T U W S A h = given-kept (open-kept T U) (after-both T U) W S A h
 
-pub taken-open : (T U W : Tables) (S A : State) → OpenIn T U S → (m : List ℕ) → KLaws.takenIn m W S ≡ accepted A → OpenIn T U A
+pub taken-open : (T U W : Tables) (S A : State) → OpenIn T U S → (m : List ℕ) → takenIn m W S ≡ accepted A → OpenIn T U A
 taken-open T U W S A h = taken-kept (open-kept T U) (after-both T U) W S A h

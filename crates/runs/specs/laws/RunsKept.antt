@@ -15,7 +15,7 @@ use Rattle.negotiation.specs.laws.Codec.{state-back, read-within}
 use Rattle.damage.specs.Damage.{sound, ifSound, readSound}
 use Rattle.standing.specs.Standing as R
 use Rattle.take.specs.Take as K
-use Rattle.standing.specs.Turn as KLaws
+use Rattle.standing.specs.Turn.{senderTo}
 use Rattle.take.specs.laws.TakeKept.{Took, took}
 use Rattle.reply.specs.Reply as A
 use Rattle.runs.specs.laws.Stays.{within-kept, OpenIn, commands-stay}
@@ -92,7 +92,7 @@ module _ {P : State → Type 0} (k : Keeps P) (tables : List ℕ) (T : Tables) (
 taken-sizes : (W : Tables) (S N : State) → within S ≡ true → (m : List ℕ) → K.takenIn m W S ≡ accepted N → within N ≡ true
 taken-sizes W S N w m e =
     let t : Took m W S N = took m W S N e in
-    ap within (t .after) ∙ after-within (t .led) (t .moved) false ∙ commands-stay within-kept (length m) (W .names) (KLaws.senderTo S) m 0 S false (t .led) (t .moved) w (t .commands)
+    ap within (t .after) ∙ after-within (t .led) (t .moved) false ∙ commands-stay within-kept (length m) (W .names) (senderTo S) m 0 S false (t .led) (t .moved) w (t .commands)
 
 pub keeps-sizes : Keeps (λ S. within S ≡ true)
 keeps-sizes = record { sizes = λ S w. w; taken = λ W S N w m e. taken-sizes W S N w m e; given = λ W S N w m e. given-within W S N w m e }

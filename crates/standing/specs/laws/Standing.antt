@@ -56,7 +56,7 @@ module _ (tables negotiation : List ℕ) where
   unfolding restoreOf
   by-length b e = ap (λ (b : Bool). cond b (behindTables negotiation (readTables tables)) (refused 1)) e
 
-  -- a refused that the meaning has
+  -- a refusal that the meaning has
   gives : (r : Restored) (k : ℕ) → r .refusal ≡ k → (k ≡ 0 → ⊥) → restoreOf tables negotiation ≡ refused k → (standingOf r ≡ restoreOf tables negotiation) × Kept r
   gives r k e z h = (standing-refused r (λ w. z (sym e ∙ w)) ∙ ap refused e ∙ sym h, kept-refused r (λ w. z (sym e ∙ w)))
 

@@ -36,7 +36,7 @@ use Rattle.legal.specs.Number.{refuse, first, showNumber, openNumber, markNumbe
 use Rattle.legal.specs.Legal.{Legal}
 use Rattle.legal.specs.laws.Exact.{legal-exactly}
 use Rattle.take.specs.Commands as C
-use Rattle.message.specs.Message as CLaws
+use Rattle.message.specs.Message.{isEnd}
 use Rattle.take.specs.laws.Commands.{refusalOf}
 use Rattle.standing.specs.Turn.{sends, senderTo}
 use Rattle.take.specs.Take.{behindCommands, takenIn, behindStanding, messageSize, takeOf}
@@ -61,7 +61,7 @@ module _ (ns : List Name) (s : ℕ) (m : List ℕ) where
   refused-here zero at S v k l (illegal c e q z) = absurd (omega (arith, l, command-room m at c e, size-some c))
   refused-here (suc f) at S v k l (unreadable e) = ap (C.onCommand (λ size T w. C.commandsFrom f ns s m (at + size) T w) ns s S v) e
   refused-here (suc f) at S v k l (illegal c e q z) =
-      let x : Answer (State × Bool) = cond (CLaws.isEnd c) (accepted (S, v)) (C.commandsFrom f ns s m (at + sizeOf c) (stepped S s c) (v || isMove c)) in
+      let x : Answer (State × Bool) = cond (isEnd c) (accepted (S, v)) (C.commandsFrom f ns s m (at + sizeOf c) (stepped S s c) (v || isMove c)) in
       ap (C.onCommand (λ size T w. C.commandsFrom f ns s m (at + size) T w) ns s S v) e ∙ ap (λ (n : ℕ). judged n x) q ∙ judged-refused k x z
 
   -- and those before it
@@ -72,7 +72,7 @@ module _ (ns : List Name) (s : ℕ) (m : List ℕ) where
   refused-behind (next {S} {T} {c} {cs} b g e u) (suc f) at v rest k h l w =
       let there : drop at m ≡ commandBytes c ++ (bytesOf cs ++ rest) = h ∙ append-assoc (commandBytes c) (bytesOf cs) rest in
       let behind : at + length (commandBytes c ++ bytesOf cs) ≡ at + sizeOf c + length (bytesOf cs) = omega (arith, length-append (commandBytes c) (bytesOf cs), command-length c) in
-      taken-one ns s m f at S v c (command-back m at c (bytesOf cs ++ rest) there g (λ q. absurd (false-true (sym b ∙ ap CLaws.isEnd q)))) e
+      taken-one ns s m f at S v c (command-back m at c (bytesOf cs ++ rest) there g (λ q. absurd (false-true (sym b ∙ ap isEnd q)))) e
       ∙ ap (λ (x : Bool). cond x (accepted (S, v)) (C.commandsFrom f ns s m (at + sizeOf c) (stepped S s c) (v || isMove c))) b
       ∙ refused-behind u f (at + sizeOf c) (v || isMove c) rest k (sym (drop-drop (sizeOf c) at m) ∙ ap (drop (sizeOf c)) there ∙ drop-at (commandBytes c) (bytesOf cs ++ rest) (sizeOf c) (command-length c))
       (omega (arith, l, size-some c)) (subst (λ (n : ℕ). Wrong ns s m n T k) behind w)
@@ -90,7 +90,7 @@ module _ (ns : List Name) (s : ℕ) (m : List ℕ) where
     rest-here : (at : ℕ) (S : State) → Wrong ns s m at S k → Rest at S
     rest-here at S w = let z : at ≡ at + 0 = omega arith in record { before = []; led = S; rest = drop at m; there = refl; updates = none; wrong = subst (λ (n : ℕ). Wrong ns s m n S k) z w }
 
-    rest-next : (at : ℕ) (S : State) (c : Command) → CLaws.isEnd c ≡ false → commandAt m at ≡ Read c → Legal ns s S c → Rest (at + sizeOf c) (stepped S s c) → Rest at S
+    rest-next : (at : ℕ) (S : State) (c : Command) → isEnd c ≡ false → commandAt m at ≡ Read c → Legal ns s S c → Rest (at + sizeOf c) (stepped S s c) → Rest at S
     rest-next at S c b e l r =
         let z : at + sizeOf c + length (bytesOf (r .before)) ≡ at + length (commandBytes c ++ bytesOf (r .before)) = omega (arith, length-append (commandBytes c) (bytesOf (r .before)), command-length c) in
         record {
@@ -106,12 +106,12 @@ module _ (ns : List Name) (s : ℕ) (m : List ℕ) where
     Leads f = (at : ℕ) (S : State) (v : Bool) → length m ≤ f + at → C.commandsFrom f ns s m at S v ≡ refused k → Rest at S
 
     module _ (f : ℕ) (behind : Leads f) (at : ℕ) (S : State) (v : Bool) (enough : length m ≤ suc f + at) where
-      rest-command : (c : Command) → commandAt m at ≡ Read c → Legal ns s S c → (b : Bool) → CLaws.isEnd c ≡ b → cond b (accepted (S, v)) (C.commandsFrom f ns s m (at + sizeOf c) (stepped S s c) (v || isMove c)) ≡ refused k → Rest at S
+      rest-command : (c : Command) → commandAt m at ≡ Read c → Legal ns s S c → (b : Bool) → isEnd c ≡ b → cond b (accepted (S, v)) (C.commandsFrom f ns s m (at + sizeOf c) (stepped S s c) (v || isMove c)) ≡ refused k → Rest at S
       rest-command c e l true b q = absurd (false-true (ap isRefused q))
       rest-command c e l false b q = rest-next at S c b e l (behind (at + sizeOf c) (stepped S s c) (v || isMove c) (omega (arith, enough, size-some c)) q)
 
-      rest-number : (c : Command) → commandAt m at ≡ Read c → (j : ℕ) → legalNumber ns s S c ≡ j → judged j (cond (CLaws.isEnd c) (accepted (S, v)) (C.commandsFrom f ns s m (at + sizeOf c) (stepped S s c) (v || isMove c))) ≡ refused k → Rest at S
-      rest-number c e zero l q = rest-command c e (legal-exactly ns s S c .0 l) (CLaws.isEnd c) refl q
+      rest-number : (c : Command) → commandAt m at ≡ Read c → (j : ℕ) → legalNumber ns s S c ≡ j → judged j (cond (isEnd c) (accepted (S, v)) (C.commandsFrom f ns s m (at + sizeOf c) (stepped S s c) (v || isMove c))) ≡ refused k → Rest at S
+      rest-number c e zero l q = rest-command c e (legal-exactly ns s S c .0 l) (isEnd c) refl q
       rest-number c e (suc j) l q = let z : suc j ≡ k = ap numberOf q in rest-here at S (illegal c e (l ∙ z) (λ y. omega (arith, y, z)))
 
       rest-answer : (a : CommandAnswer) → commandAt m at ≡ a → C.onCommand (λ size U x. C.commandsFrom f ns s m (at + size) U x) ns s S v a ≡ refused k → Rest at S

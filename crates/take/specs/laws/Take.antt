@@ -8,12 +8,12 @@ use Rattle.negotiation.specs.State.{State, within, withHeader}
 use Rattle.negotiation.specs.laws.State.{stateOf}
 use Rattle.negotiation.specs.Layout.{stateBytes, zeros}
 use Rattle.standing.specs.Standing as R
-use Rattle.standing.specs.laws.Standing as RLaws
+use Rattle.standing.specs.laws.Standing.{standingOf}
 use Rattle.negotiation.specs.Ends.{otherSide}
 use Rattle.applied.specs.After.{afterMessage}
 use Rattle.take.specs.declared.Taking.{Taking}
 use Rattle.take.specs.Commands as C
-use Rattle.take.specs.laws.Commands as CLaws
+use Rattle.take.specs.laws.Commands.{takenOf}
 use native.Mathlib.Omega.{arith}
 use mathlib.Core.Path.{_≡_, refl, sym, _∙_, ap, subst}
 use mathlib.Core.Logic.{⊎-elim}
@@ -77,21 +77,21 @@ module _ (m : List ℕ) (H : House) (n : Negotiation) where
     pub taken-turn : (r : Taking) → not b ≡ true → r .refusal ≡ 21 → (outcomeOf r ≡ takenIn m (tablesOf H) (stateOf n)) × Room r
     taken-turn r h e = (outcome-refused r 21 e (λ z. omega arith) ∙ sym (by-tests false true (ap not (eq-eqb (n .header .end) 0 z)) (ap not (sym sent) ∙ h) _ refl), no-room r 21 e (λ z. omega arith))
 
-    module _ (bh : not b ≡ false) (t : Taking) (te : CLaws.takenOf t ≡ C.commandsFrom (length m) (namesOf (H .names)) s m 0 (stateOf n) false) where
-      by-commands : takenIn m (tablesOf H) (stateOf n) ≡ behindCommands (CLaws.takenOf t)
-      by-commands = by-tests false false (ap not (eq-eqb (n .header .end) 0 z)) (ap not (sym sent) ∙ bh) (CLaws.takenOf t) (ap (λ (k : ℕ). C.commandsFrom (length m) (namesOf (H .names)) k m 0 (stateOf n) false) (sym se) ∙ sym te)
+    module _ (bh : not b ≡ false) (t : Taking) (te : takenOf t ≡ C.commandsFrom (length m) (namesOf (H .names)) s m 0 (stateOf n) false) where
+      by-commands : takenIn m (tablesOf H) (stateOf n) ≡ behindCommands (takenOf t)
+      by-commands = by-tests false false (ap not (eq-eqb (n .header .end) 0 z)) (ap not (sym sent) ∙ bh) (takenOf t) (ap (λ (k : ℕ). C.commandsFrom (length m) (namesOf (H .names)) k m 0 (stateOf n) false) (sym se) ∙ sym te)
 
       -- a command is refused
       pub taken-refused : (r : Taking) → r ≡ t → (t .refusal ≡ 0 → ⊥) → (outcomeOf r ≡ takenIn m (tablesOf H) (stateOf n)) × Room r
-      unfolding CLaws.takenOf
+      unfolding takenOf
       taken-refused r q h = (
         outcome-refused r (t .refusal) (ap (λ (x : Taking). x .refusal) q) h ∙ sym (by-commands ∙ ap (λ (b : Bool). behindCommands (cond b (accepted (stateOf (t .negotiation), t .moved)) (refused (t .refusal)))) (ne-eqb (t .refusal) 0 h)),
         no-room r (t .refusal) (ap (λ (x : Taking). x .refusal) q) h,
       )
 
       module _ (tz : t .refusal ≡ 0) where
-        is-taken : CLaws.takenOf t ≡ accepted (stateOf (t .negotiation), t .moved)
-        unfolding CLaws.takenOf
+        is-taken : takenOf t ≡ accepted (stateOf (t .negotiation), t .moved)
+        unfolding takenOf
         is-taken = ap (λ (b : Bool). cond b (accepted (stateOf (t .negotiation), t .moved)) (refused (t .refusal))) (eq-eqb (t .refusal) 0 tz)
 
         -- all are carried out
@@ -155,14 +155,14 @@ module _ (tables negotiation message scratch : List ℕ) where
           let q = and-parts (leb 1 (length message)) (leb (length message) 4096) (p .0) in
           (leb-true 1 (length message) (q .0), leb-true (length message) 4096 (q .1), eqb-true (length scratch) 4096 (p .1))
 
-      module _ (r : Restored) (re : RLaws.standingOf r ≡ R.restoreOf tables negotiation) where
+      module _ (r : Restored) (re : standingOf r ≡ R.restoreOf tables negotiation) where
         pub take-unrestored : (r .refusal ≡ 0 → ⊥) → Leaves negotiation scratch (takeOf tables negotiation message scratch) (r .refusal) negotiation scratch
-        unfolding RLaws.standingOf
+        unfolding standingOf
         take-unrestored h = refuses (r .refusal) (by-size true sized (refused (r .refusal)) (sym re ∙ ap (λ (b : Bool). cond b (accepted (tablesOf (r .house), stateOf (r .negotiation))) (refused (r .refusal))) (ne-eqb (r .refusal) 0 h)))
 
         module _ (rz : r .refusal ≡ 0) (t : Taking) (te : outcomeOf t ≡ takenIn message (tablesOf (r .house)) (stateOf (r .negotiation))) where
           is-outcome : takeOf tables negotiation message scratch ≡ outcomeOf t
-          unfolding RLaws.standingOf
+          unfolding standingOf
           is-outcome = by-size true sized (accepted (tablesOf (r .house), stateOf (r .negotiation))) (sym re ∙ ap (λ (b : Bool). cond b (accepted (tablesOf (r .house), stateOf (r .negotiation))) (refused (r .refusal))) (eq-eqb (r .refusal) 0 rz)) ∙ sym te
 
           pub take-refused : (t .refusal ≡ 0 → ⊥) → Leaves negotiation scratch (takeOf tables negotiation message scratch) (t .refusal) negotiation scratch

@@ -25,7 +25,7 @@ use Rattle.applied.specs.After.{afterMessage}
 use Rattle.legal.specs.Legal.{Legal}
 use Rattle.legal.specs.laws.Exact.{legal-exactly}
 use Rattle.take.specs.Commands as C
-use Rattle.message.specs.Message as CLaws
+use Rattle.message.specs.Message.{isEnd}
 use Rattle.standing.specs.Turn.{sends, senderTo}
 use Rattle.take.specs.Take.{behindCommands, takenIn, behindStanding, messageSize, takeOf}
 use Rattle.message.specs.Message.{messageBytes}
@@ -36,7 +36,7 @@ use Rattle.numbers.specs.Answer.{Answer, refused, accepted, judged}
 use Rattle.numbers.specs.laws.Answer.{isAccepted, firstOf, valueOr}
 use Rattle.take.specs.laws.CommandsKept.{movedTaken}
 
-only-end : (c : Command) → CLaws.isEnd c ≡ true → c ≡ End
+only-end : (c : Command) → isEnd c ≡ true → c ≡ End
 only-end (Show c) h = absurd (false-true h)
 only-end (Open o) h = absurd (false-true h)
 only-end (Bring n) h = absurd (false-true h)
@@ -49,11 +49,11 @@ module _ (ns : List Name) (s : ℕ) (m : List ℕ) where
 
   -- one command, carried out
   pub taken-one : (f at : ℕ) (S : State) (v : Bool) (c : Command) → commandAt m at ≡ Read c → Legal ns s S c
-      → C.commandsFrom (suc f) ns s m at S v ≡ cond (CLaws.isEnd c) (accepted (S, v)) (C.commandsFrom f ns s m (at + sizeOf c) (stepped S s c) (v || isMove c))
+      → C.commandsFrom (suc f) ns s m at S v ≡ cond (isEnd c) (accepted (S, v)) (C.commandsFrom f ns s m (at + sizeOf c) (stepped S s c) (v || isMove c))
   unfolding C.commandsFrom
   taken-one f at S v c e l =
       ap (C.onCommand (λ size T w. C.commandsFrom f ns s m (at + size) T w) ns s S v) e
-      ∙ ap (λ (k : ℕ). judged k (cond (CLaws.isEnd c) (accepted (S, v)) (C.commandsFrom f ns s m (at + sizeOf c) (stepped S s c) (v || isMove c)))) (legal-exactly ns s S c .1 l)
+      ∙ ap (λ (k : ℕ). judged k (cond (isEnd c) (accepted (S, v)) (C.commandsFrom f ns s m (at + sizeOf c) (stepped S s c) (v || isMove c)))) (legal-exactly ns s S c .1 l)
 
   -- the commands from an index on
   pub carried : {S T : State} {cs : List Command} → Updates ns s S cs T → Legal ns s T End → (f at : ℕ) (v : Bool) → drop at m ≡ messageBytes cs → length (messageBytes cs) ≤ f → C.commandsFrom f ns s m at S v ≡ accepted (T, v || moved cs)
@@ -62,7 +62,7 @@ module _ (ns : List Name) (s : ℕ) (m : List ℕ) where
   carried (none {S}) l (suc f) at v h few = taken-one f at S v End (command-back m at End [] h refl (λ q. refl)) l ∙ ap (λ (b : Bool). accepted (S, b)) (sym (or-false v))
   carried (next {S} {T} {c} {cs} e g k u) l zero at v h few = absurd (omega (arith, length-append (commandBytes c) (messageBytes cs), command-length c, size-some c))
   carried (next {S} {T} {c} {cs} e g k u) l (suc f) at v h few =
-      taken-one f at S v c (command-back m at c (messageBytes cs) h g (λ q. absurd (false-true (sym e ∙ ap CLaws.isEnd q)))) k
+      taken-one f at S v c (command-back m at c (messageBytes cs) h g (λ q. absurd (false-true (sym e ∙ ap isEnd q)))) k
       ∙ ap (λ (b : Bool). cond b (accepted (S, v)) (C.commandsFrom f ns s m (at + sizeOf c) (stepped S s c) (v || isMove c))) e
       ∙ carried u l f (at + sizeOf c) (v || isMove c) (sym (drop-drop (sizeOf c) at m) ∙ ap (drop (sizeOf c)) h ∙ drop-at (commandBytes c) (messageBytes cs) (sizeOf c) (command-length c))
       (omega (arith, few, length-append (commandBytes c) (messageBytes cs), command-length c, size-some c))
@@ -89,7 +89,7 @@ module _ (ns : List Name) (s : ℕ) (m : List ℕ) where
         record { commands = []; there = sym (take-all 1 (drop at m) size) ∙ command-only m at End bytes e ∙ sym (append-nil (commandBytes End)); updates = none; end = l; moves = sym (or-false v) }
 
     -- another command, and those behind it
-    rest-next : (at : ℕ) (S : State) (v : Bool) (T : State) (w : Bool) (c : Command) → CLaws.isEnd c ≡ false → commandAt m at ≡ Read c → Legal ns s S c → Rest (at + sizeOf c) (stepped S s c) (v || isMove c) T w → Rest at S v T w
+    rest-next : (at : ℕ) (S : State) (v : Bool) (T : State) (w : Bool) (c : Command) → isEnd c ≡ false → commandAt m at ≡ Read c → Legal ns s S c → Rest (at + sizeOf c) (stepped S s c) (v || isMove c) T w → Rest at S v T w
     rest-next at S v T w c b e l r =
         record {
           commands = c ∷ r .commands;
@@ -100,7 +100,7 @@ module _ (ns : List Name) (s : ℕ) (m : List ℕ) where
         }
 
     module _ (f : ℕ) (T : State) (w : Bool) (behind : Leads f T w) (at : ℕ) (S : State) (v : Bool) where
-      rest-command : (c : Command) → commandAt m at ≡ Read c → Legal ns s S c → (b : Bool) → CLaws.isEnd c ≡ b → cond b (accepted (S, v)) (C.commandsFrom f ns s m (at + sizeOf c) (stepped S s c) (v || isMove c)) ≡ accepted (T, w) → Rest at S v T w
+      rest-command : (c : Command) → commandAt m at ≡ Read c → Legal ns s S c → (b : Bool) → isEnd c ≡ b → cond b (accepted (S, v)) (C.commandsFrom f ns s m (at + sizeOf c) (stepped S s c) (v || isMove c)) ≡ accepted (T, w) → Rest at S v T w
       rest-command c e l true b q =
           let t : S ≡ T = ap (firstOf S) q in
           let u : v ≡ w = ap movedTaken q in
@@ -108,8 +108,8 @@ module _ (ns : List Name) (s : ℕ) (m : List ℕ) where
           subst (λ (U : State). Rest at S v U w) t (subst (Rest at S v S) u (rest-end at S v (e ∙ ap Read z) (subst (Legal ns s S) z l)))
       rest-command c e l false b q = rest-next at S v T w c b e l (behind (at + sizeOf c) (stepped S s c) (v || isMove c) q)
 
-      rest-number : (c : Command) → commandAt m at ≡ Read c → (k : ℕ) → legalNumber ns s S c ≡ k → judged k (cond (CLaws.isEnd c) (accepted (S, v)) (C.commandsFrom f ns s m (at + sizeOf c) (stepped S s c) (v || isMove c))) ≡ accepted (T, w) → Rest at S v T w
-      rest-number c e zero l q = rest-command c e (legal-exactly ns s S c .0 l) (CLaws.isEnd c) refl q
+      rest-number : (c : Command) → commandAt m at ≡ Read c → (k : ℕ) → legalNumber ns s S c ≡ k → judged k (cond (isEnd c) (accepted (S, v)) (C.commandsFrom f ns s m (at + sizeOf c) (stepped S s c) (v || isMove c))) ≡ accepted (T, w) → Rest at S v T w
+      rest-number c e zero l q = rest-command c e (legal-exactly ns s S c .0 l) (isEnd c) refl q
       rest-number c e (suc k) l q = absurd (false-true (ap isAccepted q))
 
       rest-answer : (a : CommandAnswer) → commandAt m at ≡ a → C.onCommand (λ size U x. C.commandsFrom f ns s m (at + size) U x) ns s S v a ≡ accepted (T, w) → Rest at S v T w
