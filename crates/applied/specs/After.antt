@@ -2,7 +2,7 @@
 use Prim.Native.Nat.{ℕ, _+_}
 use mathlib.Core.Bool.{Bool, not, cond, _&&_}
 use lib.Dec.{eqb}
-use Rattle.graph.specs.Propagated.{stateOf}
+use Rattle.graph.specs.Propagated.{propagatedState}
 use Rattle.negotiation.specs.declared.Header.{Header}
 use Rattle.negotiation.specs.State.{State, withHeader}
 
@@ -34,4 +34,4 @@ headerAfter primary moved full h =
 
 -- moved: an open, an edge or a mark was among the commands; full: a reply stopped on a size
 unfoldable pub afterMessage : State → Bool → Bool → State
-afterMessage S moved full = withHeader S (headerAfter (stateOf (S .nodes) (S .edges) 0) moved full (S .header))
+afterMessage S moved full = withHeader S (headerAfter (propagatedState (S .nodes) (S .edges) 0) moved full (S .header))

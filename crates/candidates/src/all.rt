@@ -5,7 +5,7 @@ use crate::members::child_for;
 use crate::members::with_members;
 use class::SUBJECT_ALL;
 use class::class_of;
-use closure::readers;
+use closure::dependents;
 use expression::Expression;
 use expression::Role;
 use frontier::reached;
@@ -14,7 +14,7 @@ use graph::IMPLICATION;
 use graph::Node;
 use graph::Nodes;
 use moves::Choice;
-use moves::Own;
+use moves::Preparation;
 use relation::ask;
 use relation::relation;
 use rt0::Pool;
@@ -35,7 +35,7 @@ ghost use Rattle.graph.specs.laws.Graph.{nodesOf, edgesOf};
 ghost use Rattle.moves.specs.declared.Choice.the-variants as C;
 ghost use Rattle.moves.specs.laws.Own.{Prepared};
 ghost use Rattle.moves.specs.laws.Stops.{Told};
-ghost use Rattle.moves.specs.Wanted.{isDone, firstNot};
+ghost use Rattle.moves.specs.Candidates.{isDone, firstNot};
 ghost use Rattle.candidates.specs.laws.Offers.{folded};
 ghost use Rattle.candidates.specs.laws.Skipped.{Skipped};
 ghost use Rattle.candidates.specs.laws.Collected.{Added, Grown, Collected};
@@ -147,7 +147,7 @@ fn members(pool: Pool, a: Role) -> [u8; 128]
 {
     let m = pool.count;
     let rules = rules_of(m, &pool.heads, &pool.kinds, &pool.numbers);
-    let deps = readers(m, &rules.part, &rules.first, &rules.named);
+    let deps = dependents(m, &rules.part, &rules.first, &rules.named);
     let on = [1u8; 128];
     let rows = relation(
         m,
@@ -353,7 +353,15 @@ fn with_frontiers<'a>(
 }
 
 // The first edge in order that is not done.
-pub fn all_edges(own: Own, nodes: Nodes, edges: Edges, i: u8, n: Node, a: Role, r: u16) -> Choice
+pub fn all_edges(
+    own: Preparation,
+    nodes: Nodes,
+    edges: Edges,
+    i: u8,
+    n: Node,
+    a: Role,
+    r: u16,
+) -> Choice
     requires { ⌜ Prepared own × (nodes .count ≤ 128) × (edges .count ≤ 256) ⌝ }
     ensures { λ c. ⌜ c ≡ firstNot (isDone (nodesOf nodes) (edgesOf edges) i) C.Nothing (allEdges (tablesOf (own .house)) n a r) ⌝ }
 {

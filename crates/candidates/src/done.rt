@@ -6,17 +6,17 @@ use graph::Edges;
 use graph::Nodes;
 use graph::find_node;
 use graph::has_edge;
+use moves::Candidate;
 use moves::Choice;
-use moves::Wanted;
 use word::wide;
 ghost use mathlib.Core.Path.{_≡_};
 ghost use Prim.Native.Nat.{_≤_};
 ghost use Rattle.graph.specs.laws.Graph.{nodesOf, edgesOf};
-ghost use Rattle.moves.specs.Wanted.{precedes as precedesOf, isDone};
+ghost use Rattle.moves.specs.Candidates.{precedes as precedesOf, isDone};
 ghost use Rattle.candidates.specs.laws.Least.{improves as improvesOf, better as betterOf, orElse};
 
 // Whether an edge into node i stands already, or would join it to itself.
-pub fn is_done(nodes: Nodes, edges: Edges, i: u8, w: Wanted) -> bool
+pub fn is_done(nodes: Nodes, edges: Edges, i: u8, w: Candidate) -> bool
     requires { ⌜ (nodes .count ≤ 128) × (edges .count ≤ 256) ⌝ }
     ensures { λ r. ⌜ r ≡ isDone (nodesOf nodes) (edgesOf edges) i w ⌝ }
 {
@@ -55,7 +55,7 @@ pub fn is_done(nodes: Nodes, edges: Edges, i: u8, w: Wanted) -> bool
 }
 
 // By the child's expression, then its subject.
-fn precedes(v: Wanted, w: Wanted) -> bool
+fn precedes(v: Candidate, w: Candidate) -> bool
     ensures { λ r. ⌜ r ≡ precedesOf v w ⌝ }
 {
     let x = v.expression;
@@ -70,7 +70,7 @@ fn precedes(v: Wanted, w: Wanted) -> bool
 }
 
 // Whether an edge comes before what is chosen.
-fn improves(best: Choice, w: Wanted) -> bool
+fn improves(best: Choice, w: Candidate) -> bool
     ensures { λ r. ⌜ r ≡ improvesOf best w ⌝ }
 {
     match best {
@@ -81,7 +81,7 @@ fn improves(best: Choice, w: Wanted) -> bool
 }
 
 // The lesser of what is chosen and an edge into node i, unless that is done.
-pub fn better(nodes: Nodes, edges: Edges, i: u8, best: Choice, w: Wanted) -> Choice
+pub fn better(nodes: Nodes, edges: Edges, i: u8, best: Choice, w: Candidate) -> Choice
     requires { ⌜ (nodes .count ≤ 128) × (edges .count ≤ 256) ⌝ }
     ensures { λ r. ⌜ r ≡ betterOf (isDone (nodesOf nodes) (edgesOf edges) i) best w ⌝ }
 {

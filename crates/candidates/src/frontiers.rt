@@ -4,7 +4,7 @@ use crate::subject::to_subject;
 use expression::Role;
 use graph::Node;
 use moves::Choice;
-use moves::Own;
+use moves::Preparation;
 use negotiation::Negotiation;
 ghost use mathlib.Core.Path.{_≡_};
 ghost use mathlib.Core.Bool.{false, not};
@@ -18,12 +18,12 @@ ghost use Rattle.tables.specs.Public.{publicOf, keep};
 ghost use Rattle.graph.specs.laws.Graph.{nodesOf, edgesOf};
 ghost use Rattle.moves.specs.declared.Choice.the-variants as C;
 ghost use Rattle.moves.specs.Frontiers.{bodiesOf, frontierOf, oppo, simp, sens};
-ghost use Rattle.moves.specs.Wanted.{isDone, firstNot};
+ghost use Rattle.moves.specs.Candidates.{isDone, firstNot};
 ghost use Rattle.moves.specs.Rules.{implications, toSubject};
 ghost use Rattle.moves.specs.laws.Own.{Prepared};
 
 // The verifier's: the oppo frontier of the bodies of 0x12.
-pub fn issuer_edges(own: Own, n: Negotiation, i: u8, x: Node, a: Role) -> Choice
+pub fn issuer_edges(own: Preparation, n: Negotiation, i: u8, x: Node, a: Role) -> Choice
     requires { ⌜ Prepared own × (n .nodes .count ≤ 128) × (n .edges .count ≤ 256) ⌝ }
     ensures { λ c. ⌜ c ≡ firstNot (isDone (nodesOf (n .nodes)) (edgesOf (n .edges)) i) C.Nothing (implications x (frontierOf (oppo (tablesOf (own .house) .names)) (tablesOf (own .house) .issuerStored) (bodiesOf (tablesOf (own .house) .issuerStored) (E.Role a)))) ⌝ }
 {
@@ -47,7 +47,7 @@ pub fn issuer_edges(own: Own, n: Negotiation, i: u8, x: Node, a: Role) -> Choice
 }
 
 // Rule (4) of a sensitive role: the sens frontiers of the bodies of its other credentials, less entities.
-pub fn rest_edges(own: Own, n: Negotiation, i: u8, x: Node, a: Role) -> Choice
+pub fn rest_edges(own: Preparation, n: Negotiation, i: u8, x: Node, a: Role) -> Choice
     requires { ⌜ Prepared own × (n .nodes .count ≤ 128) × (n .edges .count ≤ 256) ⌝ }
     ensures { λ c. ⌜ c ≡ firstNot (isDone (nodesOf (n .nodes)) (edgesOf (n .edges)) i) C.Nothing (implications x (keep (λ y. not (isEntity y)) (frontierOf (sens (tablesOf (own .house) .sensitive)) (publicOf (tablesOf (own .house)) .subjectStored) (bodiesOf (publicOf (tablesOf (own .house)) .subjectStored) (E.Role a))))) ⌝ }
 {
@@ -70,7 +70,7 @@ pub fn rest_edges(own: Own, n: Negotiation, i: u8, x: Node, a: Role) -> Choice
 }
 
 // A role about us that is not sensitive: its sens frontier.
-pub fn plain_edges(own: Own, n: Negotiation, i: u8, x: Node, a: Role) -> Choice
+pub fn plain_edges(own: Preparation, n: Negotiation, i: u8, x: Node, a: Role) -> Choice
     requires { ⌜ Prepared own × (n .nodes .count ≤ 128) × (n .edges .count ≤ 256) × (isSensitive (tablesOf (own .house) .sensitive) a ≡ false) ⌝ }
     ensures { λ c. ⌜ c ≡ firstNot (isDone (nodesOf (n .nodes)) (edgesOf (n .edges)) i) C.Nothing (toSubject x (frontierOf (sens (tablesOf (own .house) .sensitive)) (publicOf (tablesOf (own .house)) .subjectStored) (E.Role a ∷ []))) ⌝ }
 {
@@ -82,7 +82,7 @@ pub fn plain_edges(own: Own, n: Negotiation, i: u8, x: Node, a: Role) -> Choice
 }
 
 // A role about another: its simp frontier.
-pub fn other_edges(own: Own, n: Negotiation, i: u8, x: Node, a: Role) -> Choice
+pub fn other_edges(own: Preparation, n: Negotiation, i: u8, x: Node, a: Role) -> Choice
     requires { ⌜ Prepared own × (n .nodes .count ≤ 128) × (n .edges .count ≤ 256) ⌝ }
     ensures { λ c. ⌜ c ≡ firstNot (isDone (nodesOf (n .nodes)) (edgesOf (n .edges)) i) C.Nothing (toSubject x (frontierOf simp (publicOf (tablesOf (own .house)) .subjectStored) (E.Role a ∷ []))) ⌝ }
 {

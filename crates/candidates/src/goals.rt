@@ -8,7 +8,7 @@ use graph::Node;
 use graph::Nodes;
 use graph::SOLUTION;
 use moves::Choice;
-use moves::Own;
+use moves::Preparation;
 use rt0::head_at;
 ghost use mathlib.Core.Path.{_≡_};
 ghost use Prim.Native.Nat.{_≤_, _<_};
@@ -18,7 +18,7 @@ ghost use Rattle.tables.specs.laws.Tables.{pairsFrom, pairsOf};
 ghost use Rattle.tables.specs.laws.Decoding.{Housed};
 ghost use Rattle.graph.specs.laws.Graph.{nodesOf, edgesOf};
 ghost use Rattle.moves.specs.declared.Choice.the-variants as C;
-ghost use Rattle.moves.specs.Wanted.{isDone, ordered, firstNot};
+ghost use Rattle.moves.specs.Candidates.{isDone, ordered, firstNot};
 ghost use Rattle.candidates.specs.laws.Offers.{folded, offer};
 ghost use Rattle.candidates.specs.laws.Goals.{isNamedPair, pairEdge, isNamedHead, headEdge, solutionEdge, namedRoles};
 ghost use mathlib.Core.List.{map};
@@ -129,7 +129,7 @@ fn with_heads<'a>(
 }
 
 // "any A.r2 ∈ sensitiveRoles or A.r2 defined by a credential".
-pub fn solutions(own: Own, nodes: Nodes, edges: Edges, i: u8, n: Node, r: u16) -> Choice
+pub fn solutions(own: Preparation, nodes: Nodes, edges: Edges, i: u8, n: Node, r: u16) -> Choice
     requires { ⌜ Housed (own .house) × (nodes .count ≤ 128) × (edges .count ≤ 256) ⌝ }
     ensures { λ c. ⌜ c ≡ firstNot (isDone (nodesOf nodes) (edgesOf edges) i) C.Nothing (ordered (map (solutionEdge n) (namedRoles r (pairsOf (own .house .sensitive)) (chosen (own .house .subject) (own .visible))))) ⌝ }
 {

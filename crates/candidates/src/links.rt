@@ -23,9 +23,9 @@ ghost use Rattle.rt0.specs.Lists.{any};
 ghost use Rattle.rt0.specs.Pool.{upTo};
 ghost use Rattle.graph.specs.laws.Graph.{nodesOf, edgesOf, edgesFrom, nodeAt};
 ghost use Rattle.states.specs.laws.Brings.{EdgesFormed};
-ghost use Rattle.states.specs.laws.Complete.{Settled};
+ghost use Rattle.states.specs.laws.Complete.{StateColumns};
 ghost use Rattle.moves.specs.declared.Choice.the-variants as C;
-ghost use Rattle.moves.specs.Wanted.{isDone, markIf};
+ghost use Rattle.moves.specs.Candidates.{isDone, markIf};
 ghost use Rattle.candidates.specs.laws.Offers.{folded, offer};
 ghost use Rattle.candidates.specs.laws.Skipped.{First};
 ghost use Rattle.candidates.specs.laws.Links.{Monitoring, entityIn, isNamedAt, isSolution, isSolved, solutionEdge, solvedEdge, isMonitor, isCompleteAt, Linked};
@@ -233,7 +233,7 @@ fn any_complete<'a>(
     failed: &'a [u8; 128],
     i: u8,
 ) -> bool
-    requires { ⌜ (nodes .count ≤ 128) × (edges .count ≤ 256) × EdgesFormed (nodesOf nodes) (edgesOf edges) × Settled (nodesOf nodes) (edgesOf edges) (now sat) (now failed) ⌝ }
+    requires { ⌜ (nodes .count ≤ 128) × (edges .count ≤ 256) × EdgesFormed (nodesOf nodes) (edgesOf edges) × StateColumns (nodesOf nodes) (edgesOf edges) (now sat) (now failed) ⌝ }
     ensures { λ b. ⌜ b ≡ any (isCompleteAt nodes edges i) (upTo (edges .count) (λ j. j)) ⌝ }
 {
     let m = edges.count;
@@ -287,7 +287,7 @@ pub fn link_rules(
     a: Role,
     r: u16,
 ) -> Choice
-    requires { ⌜ (nodes .count ≤ 128) × (edges .count ≤ 256) × EdgesFormed (nodesOf nodes) (edgesOf edges) × Settled (nodesOf nodes) (edgesOf edges) (states .satisfied) (states .failed) ⌝ }
+    requires { ⌜ (nodes .count ≤ 128) × (edges .count ≤ 256) × EdgesFormed (nodesOf nodes) (edgesOf edges) × StateColumns (nodesOf nodes) (edgesOf edges) (states .satisfied) (states .failed) ⌝ }
     ensures { λ c. ⌜ Linked nodes edges (states .satisfied) i n a r c ⌝ }
 {
     let goal = child_for(MONITOR, n, Expression::Goal(r), n.subject);

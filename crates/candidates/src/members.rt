@@ -9,25 +9,25 @@ use graph::Edges;
 use graph::IMPLICATION;
 use graph::Node;
 use graph::Nodes;
+use moves::Candidate;
 use moves::Choice;
-use moves::Wanted;
 use rt0::Pool;
 use rt0::body_at;
 ghost use mathlib.Core.Path.{_≡_};
 ghost use Prim.Native.Nat.{_≤_, _<_};
 ghost use Rattle.rt0.specs.laws.Pool.{poolOf};
 ghost use Rattle.graph.specs.laws.Graph.{nodesOf, edgesOf};
-ghost use Rattle.moves.specs.Wanted.{isDone};
+ghost use Rattle.moves.specs.Candidates.{isDone};
 ghost use Rattle.moves.specs.Rules.{childFor};
 ghost use Rattle.candidates.specs.laws.Offers.{folded, offer};
 ghost use Rattle.candidates.specs.laws.Members.{admits as admitsOf, isMember, isStopped, memberEdge, Extended};
 ghost use Rattle.candidates.specs.laws.Skipped.{Skipped};
 
 // An edge into node n, to a child of its verifier.
-pub fn child_for(kind: u8, n: Node, x: Expression, b: u16) -> Wanted
+pub fn child_for(kind: u8, n: Node, x: Expression, b: u16) -> Candidate
     ensures { λ r. ⌜ r ≡ childFor kind n x b ⌝ }
 {
-    Wanted {
+    Candidate {
         kind,
         verifier: n.verifier,
         expression: x,

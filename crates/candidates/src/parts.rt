@@ -14,7 +14,7 @@ ghost use Prim.Native.Nat.{_≤_};
 ghost use Rattle.rt0.specs.From.{rolesOf};
 ghost use Rattle.graph.specs.laws.Graph.{nodesOf, edgesOf};
 ghost use Rattle.moves.specs.declared.Choice.the-variants as C;
-ghost use Rattle.moves.specs.Wanted.{isDone, firstNot};
+ghost use Rattle.moves.specs.Candidates.{isDone, firstNot};
 ghost use Rattle.moves.specs.Rules.{partEdges};
 ghost use Rattle.candidates.specs.laws.Least.{better as betterOf};
 ghost use Rattle.candidates.specs.laws.Parts.{partEdge};

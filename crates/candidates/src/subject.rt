@@ -17,8 +17,8 @@ ghost use mathlib.Core.Path.{_≡_};
 ghost use Prim.Native.Nat.{_≤_, _<_};
 ghost use Rattle.rt0.specs.laws.Pool.{poolOf};
 ghost use Rattle.graph.specs.laws.Graph.{nodesOf, edgesOf};
-ghost use Rattle.moves.specs.Wanted.{isDone};
-ghost use Rattle.candidates.specs.laws.Subject.{isSubjectAt, hasSubject, Aimed};
+ghost use Rattle.moves.specs.Candidates.{isDone};
+ghost use Rattle.candidates.specs.laws.Subject.{isSubjectAt, hasSubject, SubjectLeads};
 
 // Whether credential k was found, and its body is a stop and the entity s.
 fn is_subject_at<'a>(
@@ -76,7 +76,7 @@ pub fn to_subject<'a>(
     e: Role,
 ) -> Choice
     requires { ⌜ (pool .count ≤ 128) × (nodes .count ≤ 128) × (edges .count ≤ 256) ⌝ }
-    ensures { λ r. ⌜ Aimed (isDone (nodesOf nodes) (edgesOf edges) i) pool (now (on .entry)) (now (stop .entry)) n e r ⌝ }
+    ensures { λ r. ⌜ SubjectLeads (isDone (nodesOf nodes) (edgesOf edges) i) pool (now (on .entry)) (now (stop .entry)) n e r ⌝ }
 {
     let m = pool.count;
     let found = reached(m, &pool.heads, &pool.kinds, &pool.numbers, on, stop, e);

@@ -3,7 +3,7 @@ use crate::processing::choice_at;
 use graph::node_of;
 use moves::Choice;
 use moves::Found;
-use moves::Own;
+use moves::Preparation;
 use negotiation::Negotiation;
 use states::NodeStates;
 ghost use mathlib.Core.Path.{_≡_};
@@ -12,13 +12,13 @@ ghost use Prim.Native.Nat.{_≤_, _<_};
 ghost use Rattle.tables.specs.laws.Tables.{tablesOf};
 ghost use Rattle.graph.specs.laws.Graph.{nodesOf, edgesOf};
 ghost use Rattle.states.specs.laws.Brings.{NodesFormed, EdgesFormed};
-ghost use Rattle.states.specs.laws.Complete.{Settled};
+ghost use Rattle.states.specs.laws.Complete.{StateColumns};
 ghost use Rattle.negotiation.specs.laws.State.{stateOf};
 ghost use Rattle.negotiation.specs.State.{within};
 ghost use Rattle.moves.specs.Rules.{endIn};
 ghost use Rattle.moves.specs.Move.{nextMove};
 ghost use Rattle.moves.specs.laws.Own.{Prepared, foundMove};
-ghost use Rattle.choice.specs.laws.Next.{isNothing, isUnprocessed, openAt, Passed, Resting};
+ghost use Rattle.choice.specs.laws.Next.{isNothing, isUnprocessed, openAt, NothingBefore, Resting};
 ghost use Rattle.choice.specs.laws.Exhausted.{Exhausted};
 ghost use Rattle.candidates.specs.laws.Skipped.{Skipped};
 
@@ -87,16 +87,16 @@ fn next_open<'a>(
 // "Nodes are tried by rising number": the first at which there is something to do. The edges of rule (4) of sensitive roles are done below `passed`, and
 // there is nothing to do at role targets below `rests`.
 pub fn next_choice(
-    own: Own,
+    own: Preparation,
     n: Negotiation,
     states: NodeStates,
     passed: usize,
     rests: usize,
 ) -> Found
-    requires { ⌜ Prepared own × (within (stateOf n) ≡ true) × (0 < n .nodes .count) × NodesFormed (nodesOf (n .nodes)) × EdgesFormed (nodesOf (n .nodes)) (edgesOf (n .edges)) × Settled (nodesOf (n .nodes)) (edgesOf (n .edges)) (states .satisfied) (states .failed) × Exhausted (tablesOf (own .house)) (stateOf n) passed × Resting (tablesOf (own .house)) (stateOf n) rests ⌝ }
+    requires { ⌜ Prepared own × (within (stateOf n) ≡ true) × (0 < n .nodes .count) × NodesFormed (nodesOf (n .nodes)) × EdgesFormed (nodesOf (n .nodes)) (edgesOf (n .edges)) × StateColumns (nodesOf (n .nodes)) (edgesOf (n .edges)) (states .satisfied) (states .failed) × Exhausted (tablesOf (own .house)) (stateOf n) passed × Resting (tablesOf (own .house)) (stateOf n) rests ⌝ }
     ensures found { λ r. ⌜ nextMove (endIn (tablesOf (own .house)) (stateOf n)) ≡ foundMove (endIn (tablesOf (own .house)) (stateOf n)) r ⌝ }
     ensures standing { λ r. ⌜ r .node < n .nodes .count ⌝ }
-    ensures idle { λ r. ⌜ Passed (endIn (tablesOf (own .house)) (stateOf n)) (r .node) ⌝ }
+    ensures idle { λ r. ⌜ NothingBefore (endIn (tablesOf (own .house)) (stateOf n)) (r .node) ⌝ }
 {
     let h = n.header;
     let nodes = n.nodes;

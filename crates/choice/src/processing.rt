@@ -19,7 +19,7 @@ use expression::Role;
 use graph::Node;
 use graph::is_processed;
 use moves::Choice;
-use moves::Own;
+use moves::Preparation;
 use negotiation::Negotiation;
 use states::NodeStates;
 use tables::RoleAnswer;
@@ -32,7 +32,7 @@ ghost use Rattle.graph.specs.laws.Graph.{nodesOf, edgesOf};
 ghost use Rattle.graph.specs.Graph.{nodeIn};
 ghost use Rattle.expression.specs.declared.Expression.the-variants as E;
 ghost use Rattle.moves.specs.declared.Choice.the-variants as C;
-ghost use Rattle.moves.specs.Wanted.{firstNot, chosenIn, isDone};
+ghost use Rattle.moves.specs.Candidates.{firstNot, chosenIn, isDone};
 ghost use Rattle.moves.specs.Rules.{endIn, linkRules, verifierRules, ownRules, opponentRules};
 ghost use Rattle.moves.specs.Move.{choiceAt};
 ghost use Rattle.moves.specs.laws.Own.{Prepared};
@@ -41,7 +41,15 @@ ghost use Rattle.choice.specs.laws.Asked.{restEdges, Asked};
 ghost use Rattle.choice.specs.laws.Exhausted.{Exhausted};
 
 // A linked target by the rules that both sides share.
-fn linked(own: Own, n: Negotiation, states: NodeStates, i: u8, x: Node, a: Role, r: u16) -> Choice
+fn linked(
+    own: Preparation,
+    n: Negotiation,
+    states: NodeStates,
+    i: u8,
+    x: Node,
+    a: Role,
+    r: u16,
+) -> Choice
     requires { ⌜ Ready own n states ⌝ }
     ensures { λ c. ⌜ c ≡ chosenIn (isDone (nodesOf (n .nodes)) (edgesOf (n .edges)) i) (linkRules (endIn (tablesOf (own .house)) (stateOf n)) i x a r) ⌝ }
 {
@@ -52,7 +60,7 @@ fn linked(own: Own, n: Negotiation, states: NodeStates, i: u8, x: Node, a: Role,
 
 // 5.3: a linked target, by the class of its first name.
 fn verifier_link(
-    own: Own,
+    own: Preparation,
     n: Negotiation,
     states: NodeStates,
     i: u8,
@@ -79,7 +87,7 @@ fn verifier_link(
 
 // 5.3, Verifier-Side Processing.
 fn verifier_rules(
-    own: Own,
+    own: Preparation,
     n: Negotiation,
     states: NodeStates,
     i: u8,
@@ -101,7 +109,7 @@ fn verifier_rules(
 }
 
 // The edges of rule (4) at node i, unless they are known to be done.
-fn rest_of(own: Own, n: Negotiation, i: u8, x: Node, a: Role, passed: usize) -> Choice
+fn rest_of(own: Preparation, n: Negotiation, i: u8, x: Node, a: Role, passed: usize) -> Choice
     requires { ⌜ Prepared own × (n .nodes .count ≤ 128) × (n .edges .count ≤ 256) × (i < passed → firstNot (isDone (nodesOf (n .nodes)) (edgesOf (n .edges)) i) C.Nothing (restEdges (tablesOf (own .house)) x a) ≡ C.Nothing) ⌝ }
     ensures { λ c. ⌜ c ≡ firstNot (isDone (nodesOf (n .nodes)) (edgesOf (n .edges)) i) C.Nothing (restEdges (tablesOf (own .house)) x a) ⌝ }
 {
@@ -113,7 +121,7 @@ fn rest_of(own: Own, n: Negotiation, i: u8, x: Node, a: Role, passed: usize) -> 
 
 // A role about us: by whether it is sensitive, and what is known of it.
 fn own_rules(
-    own: Own,
+    own: Preparation,
     n: Negotiation,
     states: NodeStates,
     i: u8,
@@ -143,7 +151,7 @@ fn own_rules(
 
 // A role target, by whether it is about us.
 fn opponent_role(
-    own: Own,
+    own: Preparation,
     n: Negotiation,
     states: NodeStates,
     i: u8,
@@ -163,7 +171,7 @@ fn opponent_role(
 
 // 5.4, Opponent-Side Processing.
 fn opponent_rules(
-    own: Own,
+    own: Preparation,
     n: Negotiation,
     states: NodeStates,
     i: u8,
@@ -187,7 +195,7 @@ fn opponent_rules(
 
 // What is to be done at node i: nothing where our side has processed it. The edges of rule (4) of sensitive roles are done below `passed`.
 pub fn choice_at(
-    own: Own,
+    own: Preparation,
     n: Negotiation,
     states: NodeStates,
     i: u8,

@@ -8,10 +8,10 @@ use expression::Role;
 use graph::CONTROL;
 use graph::IMPLICATION;
 use graph::Node;
+use moves::Candidate;
 use moves::Choice;
 use moves::Holding;
 use moves::Known;
-use moves::Wanted;
 use negotiation::Negotiation;
 use word::wide;
 ghost use mathlib.Core.Path.{_≡_};
@@ -20,12 +20,12 @@ ghost use Prim.Native.Nat.{_≤_, _<_};
 ghost use Rattle.graph.specs.laws.Graph.{nodesOf, edgesOf};
 ghost use Rattle.justification.specs.laws.Justified.{Says};
 ghost use Rattle.negotiation.specs.laws.State.{stateOf};
-ghost use Rattle.moves.specs.Wanted.{isDone};
+ghost use Rattle.moves.specs.Candidates.{isDone};
 ghost use Rattle.candidates.specs.laws.Least.{orElse};
 ghost use Rattle.choice.specs.laws.Sensitive.{alone as aloneOf, controlFor, ownFor, policyChoice, holdingChoice, knownChoice};
 
 // An edge into node i, unless it is done.
-fn alone(n: Negotiation, i: u8, w: Wanted) -> Choice
+fn alone(n: Negotiation, i: u8, w: Candidate) -> Choice
     requires { ⌜ (n .nodes .count ≤ 128) × (n .edges .count ≤ 256) ⌝ }
     ensures { λ c. ⌜ c ≡ aloneOf (isDone (nodesOf (n .nodes)) (edgesOf (n .edges)) i) w ⌝ }
 {
@@ -35,7 +35,7 @@ fn alone(n: Negotiation, i: u8, w: Wanted) -> Choice
 }
 
 // "a control edge T ← ⟨O : e ← V⟩".
-fn control_edge(n: Negotiation, x: Node, r: Role) -> Wanted
+fn control_edge(n: Negotiation, x: Node, r: Role) -> Candidate
     ensures { λ w. ⌜ w ≡ controlFor (stateOf n) x r ⌝ }
 {
     let h = n.header;
@@ -43,7 +43,7 @@ fn control_edge(n: Negotiation, x: Node, r: Role) -> Wanted
     if x.verifier == 0 {
         verifier = 1;
     }
-    Wanted {
+    Candidate {
         kind: CONTROL,
         verifier,
         expression: Expression::Role(r),
@@ -53,10 +53,10 @@ fn control_edge(n: Negotiation, x: Node, r: Role) -> Wanted
 }
 
 // "the implication edge T ← ⟨V : O ← O⟩", with the direct credential.
-fn own_edge(x: Node) -> Wanted
+fn own_edge(x: Node) -> Candidate
     ensures { λ w. ⌜ w ≡ ownFor x ⌝ }
 {
-    Wanted {
+    Candidate {
         kind: IMPLICATION,
         verifier: x.verifier,
         expression: Expression::Entity(x.subject),

@@ -2,27 +2,27 @@
 //
 // Rule i adds to row head[i]: the bits that the rows part[4 i] to part[4 i + 3] share; and, for each j in named[i] whose bit src[j] is in the
 // membership row first[i], the bits of row j. A row is two words of 64 bits. Rows 0 to 127 are those of the rules, two more are spare.
-use linked_rules::drain_links;
-use narrow::drain_narrow;
-use plain_rules::drain_plain;
+use linked_rules::run_linked;
+use plain_rules::run_plain;
 use rounds::pass;
 use single::still;
 use word::one;
 use word::test;
+use word_worklist::run_word;
 ghost use mathlib.Core.Path.{_≡_};
 ghost use Prim.Native.Nat.{_<_};
 ghost use lib.ListN.{length};
 ghost use Rattle.closure.specs.laws.Rules.{rulesOf, bits, Fits, Grown, Closed, Marked};
-pub use looks::awake;
-pub use looks::readers;
-pub use looks::woken;
+pub use worklist::dependents;
+pub use worklist::readers_of_row;
+pub use worklist::readers_of_rows;
 
 mod linked_rules;
-mod looks;
-mod narrow;
 mod plain_rules;
 mod rounds;
 mod single;
+mod word_worklist;
+mod worklist;
 
 pub struct Rules {
     pub count: usize,
@@ -69,7 +69,7 @@ pub fn mark<'a>(rows: &'a mut [u64; 260], r: usize, s: usize)
 }
 
 // Rows grow by the rules, most of the way. What is left out, a pass finds.
-fn drain<'a>(
+fn run_worklist<'a>(
     n: usize,
     words: usize,
     head: &'a [usize; 128],
@@ -89,7 +89,7 @@ fn drain<'a>(
     ensures { λ u. ⌜ Grown (rulesOf n words (now (head .entry)) (now (part .entry)) (now (first .entry)) (now (named .entry)) (now (src .entry))) (now (on .entry)) own (now (mem .entry)) (now (rows .entry)) (now (rows .exit)) ⌝ }
 {
     if deps[258] | deps[259] == 0 {
-        drain_plain(
+        run_plain(
             n,
             words,
             head,
@@ -109,7 +109,7 @@ fn drain<'a>(
     }
     if n <= 64 {
         if 0 < words {
-            drain_narrow(
+            run_word(
                 n,
                 words,
                 head,
@@ -127,7 +127,7 @@ fn drain<'a>(
             return;
         }
     }
-    drain_links(
+    run_linked(
         n,
         words,
         head,
@@ -165,7 +165,7 @@ pub fn close<'a>(
     requires { ⌜ Fits (rulesOf n words (now head) (now part) (now first) (now named) (now src)) × (length (now rows) ≡ 260) ⌝ }
     ensures { λ u. ⌜ Closed (rulesOf n words (now (head .entry)) (now (part .entry)) (now (first .entry)) (now (named .entry)) (now (src .entry))) (now (on .entry)) own (now (mem .entry)) (now (rows .entry)) (now (rows .exit)) ⌝ }
 {
-    drain(
+    run_worklist(
         n,
         words,
         head,

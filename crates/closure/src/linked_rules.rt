@@ -2,11 +2,11 @@
 use crate::Dirty;
 use crate::Work;
 use crate::bit;
-use crate::looks::also;
-use crate::looks::least;
-use crate::looks::rest;
 use crate::mark;
 use crate::rounds::rule;
+use crate::worklist::also;
+use crate::worklist::least;
+use crate::worklist::rest;
 use word::one;
 ghost use mathlib.Core.Path.{_≡_};
 ghost use Prim.Native.Nat.{_<_, _≤_};
@@ -26,7 +26,7 @@ fn member<'a>(vals: &'a [u64; 260], mem: &'a [u64; 260], own: bool, r: usize, s:
 }
 
 // Row r takes in row j, in word h, one of those in use: whether it grew.
-fn pour_word<'a>(words: usize, j: usize, r: usize, h: usize, rows: &'a mut [u64; 260]) -> bool
+fn add_word<'a>(words: usize, j: usize, r: usize, h: usize, rows: &'a mut [u64; 260]) -> bool
     requires { ⌜ (words ≤ 2) × (j < 130) × (r < 130) × (h < words) × (length (now rows) ≡ 260) ⌝ }
     ensures { λ g. ⌜ Poured words j r (now (rows .entry)) (now (rows .exit)) ⌝ }
 {
@@ -38,18 +38,18 @@ fn pour_word<'a>(words: usize, j: usize, r: usize, h: usize, rows: &'a mut [u64;
 }
 
 // Row r takes in row j, in each word in use: whether it grew.
-fn pour<'a>(words: usize, j: usize, r: usize, rows: &'a mut [u64; 260]) -> bool
+fn add_row<'a>(words: usize, j: usize, r: usize, rows: &'a mut [u64; 260]) -> bool
     requires { ⌜ (words ≤ 2) × (j < 130) × (r < 130) × (length (now rows) ≡ 260) ⌝ }
     ensures { λ g. ⌜ Poured words j r (now (rows .entry)) (now (rows .exit)) ⌝ }
 {
     if words == 0 {
         return false;
     }
-    let a = pour_word(words, j, r, 0, rows);
+    let a = add_word(words, j, r, 0, rows);
     if words == 1 {
         return a;
     }
-    let b = pour_word(words, j, r, 1, rows);
+    let b = add_word(words, j, r, 1, rows);
     a | b
 }
 
@@ -85,7 +85,7 @@ fn link<'a>(
     if !member(rows, mem, own, first[i], src[j]) {
         return false;
     }
-    pour(words, j, head[i], rows)
+    add_row(words, j, head[i], rows)
 }
 
 // Rule i along its links to the rows of the sets lo and hi: whether its row grew.
@@ -321,7 +321,7 @@ fn touched(w: Work, r: usize, lo: u64, hi: u64, link_lo: u64, link_hi: u64) -> W
 }
 
 // As drain_plain; but a rule that names rows goes only to those that grew and those of new members.
-pub fn drain_links<'a>(
+pub fn run_linked<'a>(
     n: usize,
     words: usize,
     head: &'a [usize; 128],

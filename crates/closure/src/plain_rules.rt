@@ -1,9 +1,9 @@
 // A worklist for rules that name no rows.
 use crate::Dirty;
-use crate::looks::least;
-use crate::looks::rest;
 use crate::rounds::rule;
 use crate::single::meets;
+use crate::worklist::least;
+use crate::worklist::rest;
 ghost use mathlib.Core.Path.{_≡_};
 ghost use Prim.Native.Nat.{_<_};
 ghost use lib.ListN.{length};
@@ -60,7 +60,7 @@ fn plain<'a>(
 }
 
 // Rules that name no rows are run, those of the sets lo and hi first, and then those that read a row that grew.
-pub fn drain_plain<'a>(
+pub fn run_plain<'a>(
     n: usize,
     words: usize,
     head: &'a [usize; 128],

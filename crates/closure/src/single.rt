@@ -1,8 +1,8 @@
 // Rules whose bits are all in the first word of a row.
-use crate::narrow::filled;
-use crate::narrow::gathered;
 use crate::rounds::held;
 use crate::rounds::meet;
+use crate::word_worklist::filled;
+use crate::word_worklist::gathered;
 ghost use mathlib.Core.Path.{_≡_};
 ghost use Prim.Native.Nat.{_<_};
 ghost use lib.ListN.{length};

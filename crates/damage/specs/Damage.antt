@@ -6,7 +6,7 @@ use mathlib.Core.Option.{Option, none, some}
 use lib.Dec.{eqb}
 use lib.ListN.{length}
 use Rattle.graph.specs.Graph.{nodeIn}
-use Rattle.graph.specs.Propagated.{stateOf}
+use Rattle.graph.specs.Propagated.{propagatedState}
 use Rattle.justification.specs.InTurn.{inTurn}
 use Rattle.justification.specs.Justified.{justified}
 use Rattle.class.specs.declared.Name.{Name}
@@ -32,7 +32,7 @@ graphSound ns S =
     && recordsSound ns S
     && allBrought (S .header) (S .nodes) (S .edges)
     && edgesJustified S
-    && endSound (stateOf (S .nodes) (S .edges) 0) (S .header .end) (S .header .idle)
+    && endSound (propagatedState (S .nodes) (S .edges) 0) (S .header .end) (S .header .idle)
 
 -- a negotiation that is not damaged
 unfoldable pub sound : Tables → State → Bool

@@ -73,5 +73,5 @@ module _ (ns : List Node) (es : List Edge) where
   completeB i = completeAs i (nodeIn ns i .state) (nodeIn ns i .expression)
 
   -- "its propagated state, 0 unknown or incomplete, 1 satisfied or complete, 2 failed"
-  unfoldable pub stateOf : ℕ → ℕ
-  stateOf i = cond (at satisfiedB i || completeB i) 1 (cond (at failedB i) 2 0)
+  unfoldable pub propagatedState : ℕ → ℕ
+  propagatedState i = cond (at satisfiedB i || completeB i) 1 (cond (at failedB i) 2 0)

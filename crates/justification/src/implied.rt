@@ -1,5 +1,5 @@
 // Implication edges of kind 1.
-use closure::readers;
+use closure::dependents;
 use expression::Expression;
 use graph::IMPLICATION;
 use graph::expression_at;
@@ -328,7 +328,7 @@ pub fn edges_implied<'a>(
 {
     let used = children(m, edge, parent, child);
     let x = rules_of(q, heads, kinds, numbers);
-    let deps = readers(q, &x.part, &x.first, &x.named);
+    let deps = dependents(q, &x.part, &x.first, &x.named);
     let on = [1u8; 128];
     let mem = relation(
         q,

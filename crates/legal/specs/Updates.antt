@@ -33,7 +33,7 @@ pub data Wrong (ns : List Name) (s : ℕ) (m : List ℕ) (at : ℕ) (S : State) 
   illegal : (c : Command) → commandAt m at ≡ Read c → legalNumber ns s S c ≡ k → (k ≡ 0 → ⊥) → Wrong ns s m at S k
 
 -- the message m begins with commands that lead from S on, and the one behind them is refused with k
-pub record Stops (ns : List Name) (s : ℕ) (m : List ℕ) (S : State) (k : ℕ) : Type 0 where
+pub record RefusedAt (ns : List Name) (s : ℕ) (m : List ℕ) (S : State) (k : ℕ) : Type 0 where
   pub before : List Command
   pub led : State
   pub rest : List ℕ

@@ -7,8 +7,8 @@ pub mod JudgedLaws
 pub mod Kept
 pub mod KeptBring
 pub mod KeptStep
-pub mod Known
 pub mod Marked
 pub mod NewChild
 pub mod Number
 pub mod Room
+pub mod Proved

@@ -1,10 +1,10 @@
 // What the credentials of a pool prove, made once and asked many times.
-use crate::Known;
-use crate::Question;
+use crate::Implication;
+use crate::Proved;
 use crate::justify::is_implication;
 use crate::justify::node_in;
 use closure::Rules;
-use closure::readers;
+use closure::dependents;
 use expression::Expression;
 use graph::Edge;
 use graph::Nodes;
@@ -24,14 +24,14 @@ ghost use Rattle.closure.specs.laws.Rules.{rulesOf};
 ghost use Rattle.graph.specs.laws.Graph.{nodesOf};
 ghost use Rattle.message.specs.declared.Command.the-variants as C;
 ghost use Rattle.negotiation.specs.laws.State.{stateOf};
-ghost use Rattle.legal.specs.laws.Known.{Knows};
-ghost use Rattle.legal.specs.laws.Judged.{noQuestion, questionIn, KnownFor, Proves};
+ghost use Rattle.legal.specs.laws.Proved.{ProvedBy};
+ghost use Rattle.legal.specs.laws.Judged.{noImplication, implicationIn, ProvedFor, Proves};
 
 // Of no credential, and not to be asked.
-pub fn unknown() -> Known
+pub fn nothing_proved() -> Proved
     ensures { λ r. ⌜ credentialsOf (r .pool) ≡ [] ⌝ }
 {
-    Known {
+    Proved {
         pool: Pool::empty(),
         rules: Rules {
             count: 0,
@@ -48,15 +48,15 @@ pub fn unknown() -> Known
 }
 
 // Of the credentials shown.
-pub fn known_of(n: Negotiation) -> Known
+pub fn proved_by(n: Negotiation) -> Proved
     requires { ⌜ n .shown .count ≤ 128 ⌝ }
-    ensures known { λ r. ⌜ Knows (r .pool) (r .rules) (r .rows) ⌝ }
+    ensures known { λ r. ⌜ ProvedBy (r .pool) (r .rules) (r .rows) ⌝ }
     ensures same { λ r. ⌜ r .pool ≡ n .shown ⌝ }
 {
     let pool = n.shown;
     let count = pool.count;
     let rules = rules_of(count, &pool.heads, &pool.kinds, &pool.numbers);
-    let deps = readers(count, &rules.part, &rules.first, &rules.named);
+    let deps = dependents(count, &rules.part, &rules.first, &rules.named);
     let on = [1u8; 128];
     let rows = relation(
         count,
@@ -72,7 +72,7 @@ pub fn known_of(n: Negotiation) -> Known
         &deps,
         &on,
     );
-    Known {
+    Proved {
         pool,
         rules,
         deps,
@@ -81,7 +81,7 @@ pub fn known_of(n: Negotiation) -> Known
 }
 
 // Whether f is from e, by the columns of what is known.
-fn is_known<'a>(
+fn is_from<'a>(
     n: usize,
     heads: &'a [u16; 256],
     kinds: &'a [u8; 256],
@@ -97,7 +97,7 @@ fn is_known<'a>(
     f: Expression,
     e: Expression,
 ) -> bool
-    requires { ⌜ Knows (poolOf n (now heads) (now kinds) (now numbers)) (rulesOf n words (now head) (now part) (now first) (now named) (now src)) (now rows) ⌝ }
+    requires { ⌜ ProvedBy (poolOf n (now heads) (now kinds) (now numbers)) (rulesOf n words (now head) (now part) (now first) (now named) (now src)) (now rows) ⌝ }
     ensures { λ r. ⌜ r ≡ fromOf (credentialsOf (poolOf n (now (heads .entry)) (now (kinds .entry)) (now (numbers .entry)))) f e ⌝ }
 {
     let on = [1u8; 128];
@@ -120,48 +120,48 @@ fn is_known<'a>(
     )
 }
 
-fn no_question() -> Question
-    ensures { λ r. ⌜ r ≡ noQuestion ⌝ }
+fn no_implication() -> Implication
+    ensures { λ r. ⌜ r ≡ noImplication ⌝ }
 {
-    Question {
+    Implication {
         parent: Expression::Goal(0),
         child: Expression::Goal(0),
     }
 }
 
-fn bring_question(nodes: Nodes, b: NewEdge) -> Question
+fn bring_implication(nodes: Nodes, b: NewEdge) -> Implication
     requires { ⌜ nodes .count ≤ 128 ⌝ }
-    ensures { λ r. ⌜ r ≡ questionIn (nodesOf nodes) (C.Bring b) ⌝ }
+    ensures { λ r. ⌜ r ≡ implicationIn (nodesOf nodes) (C.Bring b) ⌝ }
 {
     let p = node_in(nodes, b.parent);
     let parent = p.expression;
     let child = b.expression;
-    Question { parent, child }
+    Implication { parent, child }
 }
 
-fn join_question(nodes: Nodes, e: Edge) -> Question
+fn join_implication(nodes: Nodes, e: Edge) -> Implication
     requires { ⌜ nodes .count ≤ 128 ⌝ }
-    ensures { λ r. ⌜ r ≡ questionIn (nodesOf nodes) (C.Join e) ⌝ }
+    ensures { λ r. ⌜ r ≡ implicationIn (nodesOf nodes) (C.Join e) ⌝ }
 {
     let p = node_in(nodes, e.parent);
     let c = node_in(nodes, e.child);
     let parent = p.expression;
     let child = c.expression;
-    Question { parent, child }
+    Implication { parent, child }
 }
 
 // What the edge of a command asks if it is an implication.
-fn question_of(nodes: Nodes, c: Command) -> Question
+fn implication_of(nodes: Nodes, c: Command) -> Implication
     requires { ⌜ nodes .count ≤ 128 ⌝ }
-    ensures { λ r. ⌜ r ≡ questionIn (nodesOf nodes) c ⌝ }
+    ensures { λ r. ⌜ r ≡ implicationIn (nodesOf nodes) c ⌝ }
 {
     match c {
-        Command::Show(_) => no_question(),
-        Command::Open(_) => no_question(),
-        Command::Bring(b) => bring_question(nodes, b),
-        Command::Join(e) => join_question(nodes, e),
-        Command::Mark(_) => no_question(),
-        Command::End => no_question(),
+        Command::Show(_) => no_implication(),
+        Command::Open(_) => no_implication(),
+        Command::Bring(b) => bring_implication(nodes, b),
+        Command::Join(e) => join_implication(nodes, e),
+        Command::Mark(_) => no_implication(),
+        Command::End => no_implication(),
     }
 }
 
@@ -182,17 +182,17 @@ pub fn is_proved<'a>(
     rows: &'a [u64; 260],
     c: Command,
 ) -> bool
-    requires { ⌜ (n .nodes .count ≤ 128) × KnownFor c (poolOf count (now heads) (now kinds) (now numbers)) (rulesOf count words (now head) (now part) (now first) (now named) (now src)) (now rows) (n .shown) ⌝ }
+    requires { ⌜ (n .nodes .count ≤ 128) × ProvedFor c (poolOf count (now heads) (now kinds) (now numbers)) (rulesOf count words (now head) (now part) (now first) (now named) (now src)) (now rows) (n .shown) ⌝ }
     ensures { λ r. ⌜ Proves (stateOf n) c r ⌝ }
 {
     if !is_implication(c) {
         return false;
     }
     let nodes = n.nodes;
-    let q = question_of(nodes, c);
+    let q = implication_of(nodes, c);
     let parent = q.parent;
     let child = q.child;
-    is_known(
+    is_from(
         count,
         heads,
         kinds,

@@ -19,8 +19,8 @@ ghost use Rattle.negotiation.specs.laws.State.{stateOf};
 ghost use Rattle.negotiation.specs.State.{within};
 ghost use Rattle.legal.specs.Number.{legalBy};
 pub use asked::is_proved;
-pub use asked::known_of;
-pub use asked::unknown;
+pub use asked::nothing_proved;
+pub use asked::proved_by;
 pub use justify::is_implication;
 pub use justify::is_justified;
 pub use justify::is_linking;
@@ -32,7 +32,7 @@ mod edges;
 mod justify;
 
 // What the credentials of a pool prove: made once, asked many times.
-pub struct Known {
+pub struct Proved {
     pub pool: Pool,
     pub rules: Rules,
     pub deps: [u64; 260],
@@ -40,7 +40,7 @@ pub struct Known {
 }
 
 // What an implication edge asks: whether the parent is from the child.
-pub struct Question {
+pub struct Implication {
     parent: Expression,
     child: Expression,
 }

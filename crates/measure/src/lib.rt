@@ -1,5 +1,5 @@
 // A question asked many times over one relation, to time the asking apart from the making of the relation.
-use closure::readers;
+use closure::dependents;
 use expression::Expression;
 use expression::ExpressionAnswer;
 use numbers::LENGTH;
@@ -79,7 +79,7 @@ fn from_times(pool: Pool, f: Expression, e: Expression, times: u32) -> u64
 {
     let n = pool.count;
     let x = rules_of(n, &pool.heads, &pool.kinds, &pool.numbers);
-    let deps = readers(n, &x.part, &x.first, &x.named);
+    let deps = dependents(n, &x.part, &x.first, &x.named);
     let on = [1u8; 128];
     let mem = relation(
         n,

@@ -11,11 +11,11 @@ use numbers::OLD_EDGE_BYTES;
 use numbers::OPEN_BYTES;
 ghost use mathlib.Core.Path.{_≡_};
 ghost use Rattle.message.specs.Command.{sizeOf};
-pub use reader::read_command;
-pub use writer::write_command;
+pub use decode::read_command;
+pub use encode::write_command;
 
-mod reader;
-mod writer;
+mod decode;
+mod encode;
 
 // The primary target's role and state.
 pub struct Opening {

@@ -15,10 +15,10 @@ use Rattle.message.specs.declared.Command.the-variants.{Show, Bring, Join, Mark
 use Rattle.rt0.specs.Shown.{isShown}
 use Rattle.graph.specs.Processed.{processedBy}
 use Rattle.moves.specs.Initial.{initialState}
-use Rattle.moves.specs.declared.Wanted.{Wanted}
+use Rattle.moves.specs.declared.Candidate.{Candidate}
 use Rattle.moves.specs.declared.Choice.{Choice}
 use Rattle.moves.specs.declared.Choice.the-variants as K
-use Rattle.moves.specs.Wanted.{Plan, chosenIn, childNumber, childStands, isDone}
+use Rattle.moves.specs.Candidates.{Plan, chosenIn, childNumber, childStands, isDone}
 use Rattle.moves.specs.Rules.{End, verifierRules, opponentRules}
 
 -- the commands of a move; none where no move is left
@@ -42,18 +42,18 @@ module _ (o : End) where
   directFor (E.Goal r) = []
 
   -- "from the own set for that side, less direct credentials of sensitive roles and those already shown"
-  abbrev pub ownSet : Node → List Credential
-  ownSet n = cond (eqb (n .verifier) side) (o .tables .issuerStored) (o .tables .subjectStored)
+  abbrev pub sideSet : Node → List Credential
+  sideSet n = cond (eqb (n .verifier) side) (o .tables .issuerStored) (o .tables .subjectStored)
 
   -- "Before a kind 1 edge go the credentials it needs"
-  unfoldable pub credentialsFor : Node → Wanted → List Credential
+  unfoldable pub credentialsFor : Node → Candidate → List Credential
   credentialsFor n w =
       cond (eqb (w .kind) 1)
-      (cond (w .direct) (directFor (n .expression)) (needed (o .state .shown) (n .expression) (w .expression) (unshown (ownSet n))))
+      (cond (w .direct) (directFor (n .expression)) (needed (o .state .shown) (n .expression) (w .expression) (unshown (sideSet n))))
       []
 
   -- "An old child is joined by 0x04"
-  abbrev pub edgeCommand : ℕ → Wanted → Command
+  abbrev pub edgeCommand : ℕ → Candidate → Command
   edgeCommand i w =
       cond (childStands (o .state .nodes) w)
       (Join (record { kind = w .kind; parent = i; child = childNumber (o .state .nodes) w }))

@@ -23,13 +23,13 @@ use Rattle.graph.specs.Graph.{nodeIn}
 use Rattle.graph.specs.Propagated.{satisfiedB, completeB}
 use Rattle.negotiation.specs.State.{State}
 use Rattle.negotiation.specs.Ends.{otherSide}
-use Rattle.moves.specs.declared.Wanted.{Wanted}
+use Rattle.moves.specs.declared.Candidate.{Candidate}
 use Rattle.moves.specs.declared.Holding.the-variants.{Absent, Free, Guarded}
 use Rattle.moves.specs.declared.Known.{Known}
 use Rattle.moves.specs.declared.Known.the-variants.{Waiting, Seen}
 use Rattle.moves.specs.Known.{KnownRole, isAcknowledged, knownOf}
 use Rattle.moves.specs.Frontiers.{gather, bodiesOf, frontierOf, oppo, simp, sens}
-use Rattle.moves.specs.Wanted.{ordered, Plan}
+use Rattle.moves.specs.Candidates.{ordered, Plan}
 
 -- our end while it replies: what may show of its tables, what is known of its sensitive roles, and the negotiation
 pub record End : Type 0 where
@@ -60,7 +60,7 @@ ownersIn r (E.Goal s) = []
 -- Edges into node n
 
 -- to a child of its verifier
-abbrev pub childFor : ℕ → Node → Expression → ℕ → Wanted
+abbrev pub childFor : ℕ → Node → Expression → ℕ → Candidate
 childFor k n x b = record { kind = k; verifier = n .verifier; expression = x; subject = b; direct = false }
 
 -- "a frontier entity .. yields an edge only if it is the node's subject"
@@ -68,19 +68,19 @@ abbrev pub suitsNode : Node → Expression → Bool
 suitsNode n x = not (isEntity x) || same x (E.Entity (n .subject))
 
 -- implication edges to each of these
-abbrev pub implications : Node → List Expression → List Wanted
+abbrev pub implications : Node → List Expression → List Candidate
 implications n xs = ordered (map (λ x. childFor 1 n x (n .subject)) (keep (suitsNode n) xs))
 
 -- "If S ∈ ..Frontier(A.r)": the one edge to S; "When S ∉ ..": to each "that is not an entity"
-abbrev pub toSubject : Node → List Expression → List Wanted
+abbrev pub toSubject : Node → List Expression → List Candidate
 toSubject n xs = cond (any (same (E.Entity (n .subject))) xs) (childFor 1 n (E.Entity (n .subject)) (n .subject) ∷ []) (implications n (keep (λ x. not (isEntity x)) xs))
 
 -- "the k intersection edges"
-abbrev pub partEdges : Node → List Role → List Wanted
+abbrev pub partEdges : Node → List Role → List Candidate
 partEdges n rs = ordered (map (λ (r : Role). childFor 5 n (E.Role r) (n .subject)) rs)
 
 -- all that stands, and a mark
-abbrev pub thenMark : List Wanted → Plan
+abbrev pub thenMark : List Candidate → Plan
 thenMark ws = record { wanted = ws; marks = true }
 
 module _ (o : End) where
@@ -130,16 +130,16 @@ module _ (o : End) where
   -- 5.4, Opponent-Side Processing
 
   -- "a control edge T ← ⟨O : e ← V⟩"
-  abbrev pub controlEdge : Node → Role → Wanted
+  abbrev pub controlEdge : Node → Role → Candidate
   controlEdge n r = record { kind = 6; verifier = otherSide (n .verifier); expression = E.Role r; subject = o .state .header .other; direct = false }
 
   -- "the implication edge T ← ⟨V : O ← O⟩", with the direct credential
-  abbrev pub ownEdge : Node → Wanted
+  abbrev pub ownEdge : Node → Candidate
   ownEdge n = record { kind = 1; verifier = n .verifier; expression = E.Entity (n .subject); subject = n .subject; direct = true }
 
   -- a sensitive role: (1) the Ack target; (2) and (3) by what is known; (4) the frontiers of its other credentials' bodies; (5) "if T is satisfied, or
   -- all of the above steps are done". "Rule (2) waits for the Ack target, rule (3) for the Ack target and, if set, the AC target"
-  unfoldable pub sensitiveRules : ℕ → Node → Wanted → List Wanted → Known → Plan
+  unfoldable pub sensitiveRules : ℕ → Node → Candidate → List Candidate → Known → Plan
   sensitiveRules i n ack rest Waiting = record { wanted = ack ∷ rest; marks = isSatisfied i }
   sensitiveRules i n ack rest (Seen Absent) = record { wanted = ack ∷ rest; marks = true }
   sensitiveRules i n ack rest (Seen Free) = record { wanted = ack ∷ ownEdge n ∷ rest; marks = true }

@@ -2,7 +2,7 @@ pub mod Known
 pub mod KnownStays
 pub mod Initial
 pub mod FrontiersExact
-pub mod Wanted
 pub mod Alike
 pub mod Stops
 pub mod Own
+pub mod Candidates

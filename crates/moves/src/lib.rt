@@ -18,7 +18,7 @@ pub enum Predicate {
 }
 
 // An edge by its kind and its child's verifier, expression and subject; direct: it goes out with the direct credential alone.
-pub struct Wanted {
+pub struct Candidate {
     pub kind: u8,
     pub verifier: u8,
     pub expression: Expression,
@@ -28,7 +28,7 @@ pub struct Wanted {
 
 // What the rules for a node come to: an edge, a mark of the node, or nothing to do for now.
 pub enum Choice {
-    Edge(Wanted),
+    Edge(Candidate),
     Mark,
     Nothing,
 }
@@ -48,7 +48,7 @@ pub enum Known {
 
 // What a reply asks of our tables, found once: which credentials of 0x13 are no direct ones of sensitive roles, and at which bodies the
 // frontiers stop, oppo over 0x12, simp and sens over 0x13; 1 for each.
-pub struct Own {
+pub struct Preparation {
     pub house: House,
     pub visible: [u8; 128],
     pub oppo: [u8; 128],

@@ -11,7 +11,7 @@ ghost use Rattle.expression.specs.declared.Expression.the-variants as E;
 ghost use Rattle.expression.specs.Same.{sameRole};
 ghost use Rattle.rt0.specs.laws.Pool.{poolOf};
 ghost use Rattle.needed.specs.laws.Relevant.{asks, ClosedFor};
-ghost use Rattle.needed.specs.laws.Flags.{headIn, isNamed, Raised, Marked, Work, Followed, Passed};
+ghost use Rattle.needed.specs.laws.Flags.{headIn, isNamed, Raised, Marked, Work, Followed, Swept};
 
 // 1 where credential i has the head p, else the flag that was there.
 fn flag_head<'a>(heads: &'a [u16; 256], i: usize, p: Role, was: u8) -> u8
@@ -131,7 +131,7 @@ fn pass<'a>(
     done: &'a mut [u8; 128],
 ) -> bool
     requires { ⌜ (n ≤ 128) × Work (poolOf n (now heads) (now kinds) (now numbers)) (now flags) (now done) ⌝ }
-    ensures { λ b. ⌜ Passed (poolOf n (now (heads .entry)) (now (kinds .entry)) (now (numbers .entry))) (now (flags .entry)) (now (flags .exit)) (now (done .exit)) b n ⌝ }
+    ensures { λ b. ⌜ Swept (poolOf n (now (heads .entry)) (now (kinds .entry)) (now (numbers .entry))) (now (flags .entry)) (now (flags .exit)) (now (done .exit)) b n ⌝ }
 {
     let mut some = false;
     let mut j = 0;

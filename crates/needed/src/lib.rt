@@ -1,7 +1,7 @@
 // The credentials that an edge needs, of those of a pool: the first ones are shown, the others are the own ones in table order. "Drop each,
 // first to last, without which the edge is still justified" is done from the end: own credentials are added, the last first, until the edge
 // is justified; the one that made it so is kept; then the same again with it, for those after it.
-use closure::readers;
+use closure::dependents;
 use expression::Expression;
 use next::next_kept;
 use relation::relation;
@@ -139,7 +139,7 @@ pub fn needed<'a>(
     ensures all { λ r. ⌜ chosen (poolOf n (now (heads .entry)) (now (kinds .entry)) (now (numbers .entry))) (r .own) ≡ neededOf (firstOf (poolOf n (now (heads .entry)) (now (kinds .entry)) (now (numbers .entry))) shown) f e (restOf (poolOf n (now (heads .entry)) (now (kinds .entry)) (now (numbers .entry))) shown) ⌝ }
 {
     let x = rules_of(n, heads, kinds, numbers);
-    let deps = readers(n, &x.part, &x.first, &x.named);
+    let deps = dependents(n, &x.part, &x.first, &x.named);
     let mut on = first_on(shown);
     let mut rows = relation(
         n,

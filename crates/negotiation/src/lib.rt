@@ -14,18 +14,18 @@ ghost use mathlib.Core.Path.{_≡_};
 ghost use Prim.Native.Nat.{_≤_, _<_};
 ghost use Rattle.negotiation.specs.laws.State.{stateOf};
 ghost use Rattle.negotiation.specs.State.{freshState, withNode, withEdge, withShown, withMark, withHeader};
+pub use decode::candidate;
+pub use decode::read;
+pub use encode::write;
+pub use encode::write_zeros;
 pub use ends::MEDIATOR;
 pub use ends::REQUESTER;
 pub use ends::entity_of;
 pub use ends::requester;
-pub use reader::candidate;
-pub use reader::read;
-pub use writer::write;
-pub use writer::write_zeros;
 
+mod decode;
+mod encode;
 mod ends;
-mod reader;
-mod writer;
 
 // Our side (0 mediator, 1 requester), self and the other end, the wanted role (zeros for the requester, who is not told it), the end,
 // whether the last message had no open, edge or mark, and how many messages were accepted and replies given.

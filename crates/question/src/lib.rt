@@ -14,8 +14,8 @@ ghost use Prim.Native.Nat.{_*_};
 ghost use lib.ListN.{length};
 ghost use Rattle.numbers.specs.Bytes.{EXPRESSION-BYTES};
 ghost use Rattle.question.specs.Question.{sized as sizedOf, operandOf, yesOrNo, questionOf};
-pub use credentials::list;
 ghost use Rattle.numbers.specs.Answer.{answerOf};
+pub use credentials::list;
 
 mod credentials;
 

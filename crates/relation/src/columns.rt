@@ -1,5 +1,5 @@
 // The rows that answer what is from an expression e: bit 0 of a role's row says whether the role is.
-use crate::aimed::aim_parts;
+use crate::asked::asked_parts;
 use crate::start::asked;
 use closure::bit;
 use closure::close;
@@ -60,7 +60,7 @@ fn rule_column<'a>(
     requires { ⌜ (n ≤ 128) × Ruled (poolOf n (now heads) (now kinds) (now numbers)) (rulesOf n words (now head) (now part) (now first) (now named) (now src)) × Relation (poolOf n (now heads) (now kinds) (now numbers)) (now on) (now mem) ⌝ }
     ensures { λ r. ⌜ Answers (poolOf n (now (heads .entry)) (now (kinds .entry)) (now (numbers .entry))) (now (on .entry)) e 0 r ⌝ }
 {
-    let aimed = aim_parts(n, heads, kinds, numbers, part, e);
+    let aimed = asked_parts(n, heads, kinds, numbers, part, e);
     let mut vals = [0u64; 260];
     let todo = asked(
         n,

@@ -1,9 +1,11 @@
 // Which roles hold which entities over the credentials of a pool, and whether one expression is from another. The crate rules says what rows
 // and bits stand for.
-use closure::awake;
 use closure::close;
-use closure::readers;
-use closure::woken;
+use closure::dependents;
+use closure::readers_of_row;
+use closure::readers_of_rows;
+use direct::seed;
+use direct::seeds;
 use expression::Expression;
 use expression::same;
 use forms::by_form;
@@ -11,8 +13,6 @@ use rt0::Pool;
 use rules::open_table;
 use rules::rules_of;
 use rules::source;
-use said::seed;
-use said::seeds;
 ghost use mathlib.Core.Path.{_≡_};
 ghost use Prim.Native.Nat.{_<_, _≤_};
 ghost use lib.ListN.{length, set};
@@ -24,10 +24,10 @@ ghost use Rattle.rules.specs.laws.Ruled.{Ruled};
 ghost use Rattle.relation.specs.laws.Relation.{Relation, Answers};
 pub use columns::column;
 
-mod aimed;
+mod asked;
 mod columns;
+mod direct;
 mod forms;
-mod said;
 mod start;
 
 // The relation of roles and entities over the credentials that are on.
@@ -50,7 +50,7 @@ pub fn relation<'a>(
 {
     let mut rows = seeds(n, heads, kinds, numbers, head, on);
     let none = [0u64; 260];
-    let todo = awake(deps, &rows);
+    let todo = readers_of_rows(deps, &rows);
     close(
         n,
         words,
@@ -92,7 +92,7 @@ pub fn switch_on<'a>(
     ensures related { λ _. ⌜ Relation (poolOf n (now (heads .entry)) (now (kinds .entry)) (now (numbers .entry))) (now (on .exit)) (now (rows .exit)) ⌝ }
 {
     let none = [0u64; 260];
-    let todo = woken(deps, head[i], i);
+    let todo = readers_of_row(deps, head[i], i);
     let open = open_table();
     seed(n, heads, kinds, numbers, head, &open, i, rows);
     on[i] = 1;
@@ -214,7 +214,7 @@ pub fn from(pool: Pool, f: Expression, e: Expression) -> bool
 {
     let n = pool.count;
     let x = rules_of(n, &pool.heads, &pool.kinds, &pool.numbers);
-    let deps = readers(n, &x.part, &x.first, &x.named);
+    let deps = dependents(n, &x.part, &x.first, &x.named);
     let on = [1u8; 128];
     let mem = relation(
         n,

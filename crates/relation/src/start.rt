@@ -1,5 +1,5 @@
 // What is from an expression e at once, and the rows that a question about e starts from.
-use crate::aimed::own_row;
+use crate::asked::own_row;
 use closure::Dirty;
 use closure::bit;
 use closure::mark;

@@ -30,8 +30,8 @@ names = named 1 1 ∷ named 2 3 ∷ named 3 3 ∷ []
 
 abbrev _←_ : Role → Expression → Credential
 p ← b = record { head = p; body = b }
-infix 4 _←_
 
+infix 4 _←_
 -- Questions
 
 -- a role, written entity, name

@@ -6,7 +6,7 @@ use lib.Dec.{eqb, leb}
 use lib.ListN.{length, drop}
 use Rattle.expression.specs.declared.Expression.the-variants as E
 use Rattle.tables.specs.Tables.{Tables}
-use Rattle.graph.specs.Propagated.{stateOf as propagated}
+use Rattle.graph.specs.Propagated.{propagatedState as propagated}
 use Rattle.message.specs.declared.Command.{Command}
 use Rattle.message.specs.declared.Command.the-variants.{Open}
 use Rattle.negotiation.specs.State.{State}

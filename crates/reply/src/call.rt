@@ -19,7 +19,7 @@ use numbers::LENGTH;
 use numbers::MOST_MESSAGE_BYTES;
 use numbers::SCRATCH_BYTES;
 use numbers::TURN;
-use sending::own_of;
+use sending::prepare;
 use standing::restore;
 use standing::sends;
 use tables::House;
@@ -91,7 +91,7 @@ fn replied_in(house: House, n: Negotiation, s: &mut [u8]) -> Replying
         return replying(TURN, n, 0, false);
     }
     let b = begun(house, n, s);
-    let own = own_of(house);
+    let own = prepare(house);
     let r = reply_from(own, b.negotiation, b.at, s);
     let after = after_message(r.negotiation, r.at != 0, r.full);
     write_command(s, r.at, Command::End);

@@ -6,7 +6,7 @@ use crate::carry::size_of_outgoing;
 use choice::is_nothing;
 use choice::next_choice;
 use choice::resting;
-use moves::Own;
+use moves::Preparation;
 use negotiation::Negotiation;
 use numbers::MOST_MESSAGE_BYTES;
 use sending::outgoing;
@@ -43,7 +43,7 @@ fn larger(a: usize, b: usize) -> usize
 
 // Each move is written behind the last, and the negotiation goes on by it. Below a node at which a move was made there was nothing left to do; what was
 // done by rule (4) there stays done, and role targets there rest while the satisfied nodes are the same.
-pub fn reply_from(own: Own, start: Negotiation, from: usize, s: &mut [u8]) -> Replying
+pub fn reply_from(own: Preparation, start: Negotiation, from: usize, s: &mut [u8]) -> Replying
     requires { ⌜ Prepared own × Going (tablesOf (own .house)) (stateOf start) × (from + 1 ≤ 4096) × (4096 ≤ length (now s)) ⌝ }
     ensures { λ r. ⌜ Gives (tablesOf (own .house)) (restFrom 4096 (tablesOf (own .house)) (stateOf start) from) from (now (s .entry)) r (now (s .exit)) ⌝ }
 {

@@ -5,7 +5,7 @@ use mathlib.Core.List.{List}
 use lib.Dec.{ltb}
 use lib.ListN.{length}
 use Rattle.graph.specs.Graph.{nodeIn}
-use Rattle.graph.specs.Propagated.{stateOf}
+use Rattle.graph.specs.Propagated.{propagatedState}
 use Rattle.negotiation.specs.State.{State}
 use Rattle.standing.specs.Standing.{restoreOf}
 use Rattle.numbers.specs.Answer.{Answer, refused, accepted, onward}
@@ -27,7 +27,7 @@ unfoldable pub reportOn : State → ℕ → Report
 reportOn S i =
     record {
       state = nodeIn (S .nodes) i .state;
-      propagated = stateOf (S .nodes) (S .edges) i;
+      propagated = propagatedState (S .nodes) (S .edges) i;
       end = S .header .end;
       nodes = length (S .nodes);
       edges = length (S .edges);

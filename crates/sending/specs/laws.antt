@@ -3,5 +3,5 @@ pub mod Behind
 pub mod Unshown
 pub mod Sent
 pub mod SentLaws
-pub mod Part
 pub mod Edge
+pub mod Relevant

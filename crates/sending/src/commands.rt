@@ -5,17 +5,17 @@ use graph::Nodes;
 use graph::find_node;
 use message::Command;
 use message::NewEdge;
-use moves::Wanted;
+use moves::Candidate;
 use moves::initial_state;
 ghost use mathlib.Core.Path.{_≡_};
 ghost use Prim.Native.Nat.{_≤_, _<_};
 ghost use Rattle.class.specs.laws.Names.{namesOf, Ascending};
 ghost use Rattle.graph.specs.laws.Graph.{nodesOf};
-ghost use Rattle.moves.specs.Wanted.{childNumber};
+ghost use Rattle.moves.specs.Candidates.{childNumber};
 ghost use Rattle.sending.specs.laws.Sent.{commandFor};
 
 // The number of the wanted child, or 128.
-fn child_number(nodes: Nodes, w: Wanted) -> usize
+fn child_number(nodes: Nodes, w: Candidate) -> usize
     requires { ⌜ nodes .count ≤ 128 ⌝ }
     ensures { λ r. ⌜ r ≡ childNumber (nodesOf nodes) w ⌝ }
 {
@@ -42,7 +42,7 @@ fn child_number(nodes: Nodes, w: Wanted) -> usize
 }
 
 // An old child is joined to node i, a new one brought.
-pub fn edge_command(names: Names, side: u8, nodes: Nodes, i: u8, w: Wanted) -> Command
+pub fn edge_command(names: Names, side: u8, nodes: Nodes, i: u8, w: Candidate) -> Command
     requires { ⌜ (names .count ≤ 64) × Ascending (names .count) (names .name) × (nodes .count ≤ 128) ⌝ }
     ensures { λ r. ⌜ r ≡ commandFor (namesOf names) side (nodesOf nodes) i w ⌝ }
 {

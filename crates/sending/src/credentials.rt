@@ -6,7 +6,7 @@ use expression::Expression;
 use graph::Node;
 use message::Command;
 use moves::Outgoing;
-use moves::Own;
+use moves::Preparation;
 use needed::needed;
 use needed::relevant;
 use needed::with_rest;
@@ -21,7 +21,7 @@ ghost use Rattle.tables.specs.laws.Tables.{tablesOf};
 ghost use Rattle.tables.specs.Public.{publicOf};
 ghost use Rattle.moves.specs.laws.Own.{Prepared};
 ghost use Rattle.sending.specs.laws.Unshown.{unshownOf};
-ghost use Rattle.sending.specs.laws.Sent.{Sends, directIn, ownSetOf};
+ghost use Rattle.sending.specs.laws.Sent.{Sends, directIn, sideSetOf};
 
 // A command alone.
 pub fn alone(command: Command) -> Outgoing
@@ -124,7 +124,7 @@ fn needed_of(
 // Those needed for node x from e, of our set for our side of it: 0x12 where we verify it, else 0x13 less direct credentials of sensitive
 // roles.
 pub fn needed_for(
-    own: Own,
+    own: Preparation,
     side: u8,
     shown: Pool,
     x: Node,
@@ -132,7 +132,7 @@ pub fn needed_for(
     command: Command,
 ) -> Outgoing
     requires { ⌜ Prepared own × (shown .count ≤ 64) ⌝ }
-    ensures { λ r. ⌜ Sends (neededOf (credentials shown) (x .expression) e (unshownOf (credentials shown) (ownSetOf (publicOf (tablesOf (own .house))) side x))) command r ⌝ }
+    ensures { λ r. ⌜ Sends (neededOf (credentials shown) (x .expression) e (unshownOf (credentials shown) (sideSetOf (publicOf (tablesOf (own .house))) side x))) command r ⌝ }
 {
     let f = x.expression;
     if x.verifier == side {

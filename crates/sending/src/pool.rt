@@ -14,7 +14,7 @@ ghost use Rattle.rt0.specs.laws.Added.{Sized};
 ghost use Rattle.rules.specs.laws.Table.{chosen};
 ghost use Rattle.sending.specs.laws.Unshown.{unshownOf, isNew};
 ghost use Rattle.sending.specs.laws.Behind.{StoredIf};
-ghost use Rattle.sending.specs.laws.Part.{Selected, PartOf};
+ghost use Rattle.sending.specs.laws.Relevant.{Selected, PartOf};
 
 // A pool, the first credentials of which are shown.
 pub struct Part {

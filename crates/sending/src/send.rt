@@ -6,11 +6,11 @@ use crate::credentials::needed_for;
 use graph::IMPLICATION;
 use graph::node_of;
 use message::Command;
+use moves::Candidate;
 use moves::Choice;
 use moves::Found;
 use moves::Outgoing;
-use moves::Own;
-use moves::Wanted;
+use moves::Preparation;
 use negotiation::Negotiation;
 ghost use mathlib.Core.Path.{_≡_};
 ghost use mathlib.Core.Bool.{true};
@@ -24,7 +24,7 @@ ghost use Rattle.moves.specs.Rules.{endIn};
 ghost use Rattle.sending.specs.laws.Edge.{EdgeSent};
 
 // An edge into node i behind the credentials it needs.
-fn edge(own: Own, n: Negotiation, i: u8, w: Wanted) -> Outgoing
+fn edge(own: Preparation, n: Negotiation, i: u8, w: Candidate) -> Outgoing
     requires { ⌜ Prepared own × (within (stateOf n) ≡ true) × (i < n .nodes .count) ⌝ }
     ensures { λ r. ⌜ EdgeSent (endIn (tablesOf (own .house)) (stateOf n)) i w r ⌝ }
 {
@@ -47,7 +47,7 @@ fn edge(own: Own, n: Negotiation, i: u8, w: Wanted) -> Outgoing
 }
 
 // The move that is found.
-pub fn outgoing(own: Own, n: Negotiation, found: Found) -> Outgoing
+pub fn outgoing(own: Preparation, n: Negotiation, found: Found) -> Outgoing
     requires { ⌜ Prepared own × (within (stateOf n) ≡ true) × (found .node < n .nodes .count) × ((found .choice ≡ K.Nothing) → ⊥) ⌝ }
     ensures sent { λ r. ⌜ commandsOf r ≡ foundMove (endIn (tablesOf (own .house)) (stateOf n)) found ⌝ }
     ensures few { λ r. ⌜ r .pool .count ≤ 128 ⌝ }

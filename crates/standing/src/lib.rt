@@ -8,7 +8,7 @@ use numbers::LENGTH;
 use tables::House;
 use tables::decode;
 ghost use mathlib.Core.Path.{_≡_};
-ghost use Rattle.standing.specs.laws.Standing.{standingOf, Kept};
+ghost use Rattle.standing.specs.laws.Standing.{standingOf, Usable};
 ghost use Rattle.standing.specs.Standing.{restoreOf};
 pub use turn::other_side;
 pub use turn::sends;
@@ -36,7 +36,7 @@ fn refused(refusal: u64) -> Restored
 // The tables, then the negotiation.
 pub fn restore(tables: &[u8], negotiation: &[u8]) -> Restored
     ensures found { λ r. ⌜ standingOf r ≡ restoreOf (now (tables .entry)) (now (negotiation .entry)) ⌝ }
-    ensures kept { λ r. ⌜ Kept r ⌝ }
+    ensures kept { λ r. ⌜ Usable r ⌝ }
 {
     if negotiation.len() != Negotiation::BYTES {
         return refused(LENGTH);

@@ -8,9 +8,9 @@ ghost use mathlib.Core.Path.{_≡_};
 ghost use Prim.Native.Nat.{_≤_, _<_};
 ghost use Rattle.rt0.specs.Lists.{any};
 ghost use Rattle.graph.specs.laws.Graph.{nodesFrom, edgesFrom, edgeAt, nodesOf, edgesOf};
-ghost use Rattle.graph.specs.Propagated.{completeB, stateOf};
+ghost use Rattle.graph.specs.Propagated.{completeB, propagatedState};
 ghost use Rattle.states.specs.laws.Brings.{NodesFormed, EdgesFormed};
-ghost use Rattle.states.specs.laws.Complete.{isOpen, completeBy, Settled};
+ghost use Rattle.states.specs.laws.Complete.{isUnknown, completeBy, StateColumns};
 pub use fill::links;
 pub use fill::needs;
 pub use fill::ways;
@@ -42,7 +42,7 @@ fn is_open<'a>(
     j: usize,
 ) -> bool
     requires { ⌜ (n ≤ 128) × (j < 256) ⌝ }
-    ensures { λ r. ⌜ r ≡ isOpen n (now (sat .entry)) (now (failed .entry)) i (edgeAt (edgesFrom m (now (kind .entry)) (now (parent .entry)) (now (child .entry))) j) ⌝ }
+    ensures { λ r. ⌜ r ≡ isUnknown n (now (sat .entry)) (now (failed .entry)) i (edgeAt (edgesFrom m (now (kind .entry)) (now (parent .entry)) (now (child .entry))) j) ⌝ }
 {
     let p = wide(parent[j]);
     if (kind[j] != 3) | (p != i) {
@@ -67,7 +67,7 @@ fn has_open<'a>(
     i: usize,
 ) -> bool
     requires { ⌜ (n ≤ 128) × (m ≤ 256) ⌝ }
-    ensures { λ r. ⌜ r ≡ any (isOpen n (now (sat .entry)) (now (failed .entry)) i) (edgesOf (edgesFrom m (now (kind .entry)) (now (parent .entry)) (now (child .entry)))) ⌝ }
+    ensures { λ r. ⌜ r ≡ any (isUnknown n (now (sat .entry)) (now (failed .entry)) i) (edgesOf (edgesFrom m (now (kind .entry)) (now (parent .entry)) (now (child .entry)))) ⌝ }
 {
     let mut j = 0;
     while j < m {
@@ -110,7 +110,7 @@ pub fn is_complete<'a>(
     failed: &'a [u8; 128],
     i: usize,
 ) -> bool
-    requires { ⌜ (i < n) × (n ≤ 128) × (m ≤ 256) × Settled (nodesOf (nodesFrom n (now kind) (now parts) (now n0) (now n1) (now n2) (now n3) (now n4) (now n5) (now n6) (now n7) (now subject) (now verifier) (now state))) (edgesOf (edgesFrom m (now edge) (now parent) (now child))) (now sat) (now failed) ⌝ }
+    requires { ⌜ (i < n) × (n ≤ 128) × (m ≤ 256) × StateColumns (nodesOf (nodesFrom n (now kind) (now parts) (now n0) (now n1) (now n2) (now n3) (now n4) (now n5) (now n6) (now n7) (now subject) (now verifier) (now state))) (edgesOf (edgesFrom m (now edge) (now parent) (now child))) (now sat) (now failed) ⌝ }
     ensures { λ r. ⌜ r ≡ completeB (nodesOf (nodesFrom n (now (kind .entry)) (now (parts .entry)) (now (n0 .entry)) (now (n1 .entry)) (now (n2 .entry)) (now (n3 .entry)) (now (n4 .entry)) (now (n5 .entry)) (now (n6 .entry)) (now (n7 .entry)) (now (subject .entry)) (now (verifier .entry)) (now (state .entry)))) (edgesOf (edgesFrom m (now (edge .entry)) (now (parent .entry)) (now (child .entry)))) i ⌝ }
 {
     let any_open = has_open(n, m, edge, parent, child, sat, failed, i);
@@ -120,7 +120,7 @@ pub fn is_complete<'a>(
 // Which nodes are satisfied, and which have failed.
 pub fn node_states(nodes: Nodes, edges: Edges) -> NodeStates
     requires { ⌜ (nodes .count ≤ 128) × (edges .count ≤ 256) × NodesFormed (nodesOf nodes) × EdgesFormed (nodesOf nodes) (edgesOf edges) ⌝ }
-    ensures { λ r. ⌜ Settled (nodesOf nodes) (edgesOf edges) (r .satisfied) (r .failed) ⌝ }
+    ensures { λ r. ⌜ StateColumns (nodesOf nodes) (edgesOf edges) (r .satisfied) (r .failed) ⌝ }
 {
     let m = edges.count;
     let need = needs(nodes.count, &nodes.kind, &nodes.parts, &nodes.state);
@@ -153,7 +153,7 @@ pub fn node_states(nodes: Nodes, edges: Edges) -> NodeStates
 // The propagated state of node i: 0 unknown or incomplete, 1 satisfied or complete, 2 failed.
 pub fn state_of(nodes: Nodes, edges: Edges, i: usize) -> u8
     requires { ⌜ (i < nodes .count) × (nodes .count ≤ 128) × (edges .count ≤ 256) × NodesFormed (nodesOf nodes) × EdgesFormed (nodesOf nodes) (edgesOf edges) ⌝ }
-    ensures { λ r. ⌜ r ≡ stateOf (nodesOf nodes) (edgesOf edges) i ⌝ }
+    ensures { λ r. ⌜ r ≡ propagatedState (nodesOf nodes) (edgesOf edges) i ⌝ }
 {
     let m = edges.count;
     let need = needs(nodes.count, &nodes.kind, &nodes.parts, &nodes.state);

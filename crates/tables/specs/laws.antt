@@ -9,10 +9,10 @@ pub mod Reading
 pub mod NamesReading
 pub mod StoredReading
 pub mod PairsReading
-pub mod Passed
 pub mod Decoding
 pub mod DecodingLaws
 pub mod Sorted
 pub mod Public
 pub mod Accepted
 pub mod Sound
+pub mod BehindRecords

@@ -11,19 +11,19 @@ ghost use mathlib.Core.Path.{_≡_};
 ghost use Rattle.tables.specs.Check.{orElse};
 ghost use Rattle.tables.specs.laws.Decoding.{Housed};
 ghost use Rattle.tables.specs.laws.Group.{rising as risingOf, refusalOf};
+pub use decode::check;
+pub use decode::decode;
 pub use lookup::holds;
 pub use lookup::is_direct;
 pub use lookup::is_sensitive;
 pub use lookup::other_of;
-pub use whole::check;
-pub use whole::decode;
 
 mod columns;
+mod decode;
 mod lookup;
 mod names;
 mod sensitive;
 mod stored;
-mod whole;
 
 // Pairs of roles one after the other: sensitive role i at 2 i, and its Ack or AC role at 2 i.
 pub struct Pairs {

@@ -12,7 +12,7 @@ use Rattle.applied.specs.After.{afterMessage}
 use Rattle.standing.specs.Turn.{sends, senderTo}
 use Rattle.take.specs.Take.{messageSize}
 use Rattle.applied.specs.Step.{moved}
-use Rattle.legal.specs.Updates.{Carries, Stops}
+use Rattle.legal.specs.Updates.{Carries, RefusedAt}
 use Rattle.numbers.specs.Answer.{refused, accepted}
 use Rattle.numbers.specs.Refusals.{LENGTH, TURN, ENDED}
 
@@ -44,4 +44,4 @@ pub data Refusal (tables negotiation message scratch : List ℕ) (k : ℕ) : Typ
   -- "21 not that side's turn"
   out-of-turn : {T : Tables} {S : State} → Stands tables negotiation message scratch T S → S .header .end ≡ 0 → sends (senderTo S) (S .header .messages) ≡ false → k ≡ TURN → Refusal tables negotiation message scratch k
   -- a command
-  stopped : {T : Tables} {S : State} → Stands tables negotiation message scratch T S → InTurn S → Stops (T .names) (senderTo S) message S k → Refusal tables negotiation message scratch k
+  stopped : {T : Tables} {S : State} → Stands tables negotiation message scratch T S → InTurn S → RefusedAt (T .names) (senderTo S) message S k → Refusal tables negotiation message scratch k

@@ -1,16 +1,16 @@
 // The commands of a message, one after another.
 use crate::Taking;
-use crate::beside::carried;
-use crate::beside::nothing_kept;
-use crate::beside::ready;
+use crate::progress::carried;
+use crate::progress::no_progress;
+use crate::progress::ready;
 use applied::step;
 use class::Names;
 use legal::is_implication;
 use legal::is_justified;
 use legal::is_proved;
-use legal::known_of;
 use legal::legal;
-use legal::unknown;
+use legal::nothing_proved;
+use legal::proved_by;
 use message::Command;
 use message::CommandAnswer;
 use message::size_of;
@@ -89,8 +89,8 @@ pub fn take_commands(names: Names, sender: u8, start: Negotiation, message: &[u8
     ensures sized { λ r. ⌜ Room r ⌝ }
 {
     let mut n = start;
-    let mut known = unknown();
-    let mut kept = nothing_kept();
+    let mut known = nothing_proved();
+    let mut kept = no_progress();
     let mut at = 0;
     while at < message.len() {
         let a = command_at(message, at);
@@ -98,7 +98,7 @@ pub fn take_commands(names: Names, sender: u8, start: Negotiation, message: &[u8
             return taking(refusal_of(a), kept.moved, n);
         };
         if kept.stale & is_implication(c) {
-            known = known_of(n);
+            known = proved_by(n);
         }
         let held = ready(kept, n, c);
         let proved = is_proved(

@@ -3,9 +3,9 @@ pub use call::take;
 pub use commands::take_commands;
 use negotiation::Negotiation;
 
-mod beside;
 mod call;
 mod commands;
+mod progress;
 
 // The negotiation that the commands of a message lead to, and whether an open, an edge or a mark was among them, where the refusal is 0; else
 // they do not count.
@@ -17,7 +17,7 @@ pub struct Taking {
 
 // What is kept beside the negotiation while commands arrive: whether an open, an edge or a mark was among them; whether what is known is stale, since
 // it does not count all credentials shown; and the column of the satisfied nodes, unless it is unsettled.
-pub struct Kept {
+pub struct Progress {
     moved: bool,
     stale: bool,
     sat: [u8; 128],

@@ -5,7 +5,7 @@ use mathlib.Core.Bool.{Bool, true, false, cond}
 use borrow.Author.Tests.{eq-eqb, ne-eqb}
 use lib.Dec.{eqb}
 use Rattle.graph.specs.laws.Graph.{nodesOf, edgesOf}
-use Rattle.graph.specs.Propagated.{stateOf as propagated}
+use Rattle.graph.specs.Propagated.{propagatedState as propagated}
 use Rattle.negotiation.specs.declared.Header.{Header}
 use Rattle.negotiation.specs.declared.Negotiation.{Negotiation}
 use Rattle.negotiation.specs.laws.State.{stateOf}

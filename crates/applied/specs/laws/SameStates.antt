@@ -90,6 +90,7 @@ module _ (ns : List Node) (es : List Edge) (e : Edge) where
             (idle .part (sym (ap (λ (d : Edge). intersectionKind (d .kind)) q) ∙ w a m .child .passes) (sym (ap (λ (d : Edge). nodeIn ns (d .parent) .state) q) ∙ z) (subst (Satisfied ns es) (ap (λ (d : Edge). d .child) q) (h a m))) in
             absurd (false-true (sym n ∙ satisfied-exact ns es i .1 g)))
             (List·Memᴰ·append-cases es (w a m .child .edge))
+
         go : (b : Bool) → at (satisfiedB ns es) i ≡ b → Satisfied ns es i
         go true n = satisfied-exact ns es i .0 n
         go false n =

@@ -62,6 +62,7 @@ wanted-free ns entity name h = go (isRequester entity name) refl h
     role false true c p q r z = absurd (omega arith)
     role false false true p q r z = absurd (omega arith)
     role false false false p q r z = λ i. positive entity p i && positive name q i && not (r i)
+
     go : (b : Bool) → isRequester entity name ≡ b → _≡_ {A = ℕ} (cond b 0 (cond (eqb entity 0 || eqb name 0) 3 (cond (eqb (classOf ns name) 0) 4 0))) 0
         → cond (eqb (cond (isRequester entity name) 1 0) 0) (ltb 0 entity && ltb 0 name && not (eqb (classOf ns name) 0)) (isRequester entity name) ≡ true
     go true e z = λ i. cond (eqb (cond (e i) 1 0) 0) (ltb 0 entity && ltb 0 name && not (eqb (classOf ns name) 0)) (e i)

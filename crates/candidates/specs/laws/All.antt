@@ -32,15 +32,15 @@ use Rattle.frontier.specs.Frontier.{Frontier, here}
 use Rattle.frontier.specs.laws.Frontier.{Stops, Member, frontier-here, frontier-stopped, stopped-frontier, chain-below}
 use Rattle.graph.specs.declared.Node.{Node}
 use Rattle.needed.specs.laws.Column.{upTo-mem, upTo-find}
-use Rattle.moves.specs.declared.Own.{Own}
-use Rattle.moves.specs.declared.Wanted.{Wanted}
+use Rattle.moves.specs.declared.Preparation.{Preparation}
+use Rattle.moves.specs.declared.Candidate.{Candidate}
 use Rattle.moves.specs.declared.Choice.{Choice}
 use Rattle.moves.specs.declared.Choice.the-variants as C
 use Rattle.moves.specs.Frontiers.{gather, frontierOf, oppo}
 use Rattle.moves.specs.laws.FrontiersExact.{gather-mem, gather-find, frontier-find, frontier-mem}
 use Rattle.moves.specs.laws.Stops.{predicateOf, Told}
 use Rattle.moves.specs.laws.Own.{Prepared}
-use Rattle.moves.specs.Wanted.{firstNot}
+use Rattle.moves.specs.Candidates.{firstNot}
 use Rattle.moves.specs.Rules.{entitiesIn, childFor, implications}
 use Rattle.candidates.specs.laws.Least.{better, Best, best-start, best-same, best-next, best-first}
 use Rattle.candidates.specs.laws.Offers.{folded, offer, Among, among-best}
@@ -52,7 +52,7 @@ use Rattle.candidates.specs.laws.Members.{admits, edgesTo, all-implicati
 abbrev pub allMembers : List Credential → Role → List ℕ
 allMembers I a = keep (λ b. fromOf I (E.Role a) (E.Entity b)) (gather (λ (c : Credential). entitiesIn (c .body)) I)
 
-abbrev pub allEdges : Tables → Node → Role → ℕ → List Wanted
+abbrev pub allEdges : Tables → Node → Role → ℕ → List Candidate
 allEdges T n a r = implications n (frontierOf (oppo (T .names)) (T .issuerStored) (map (λ b. E.Role (roleOf b r)) (allMembers (T .issuerStored) a)))
 
 -- x is an entity, and a is from it
@@ -106,7 +106,7 @@ rolesFor I a r = map (λ b. E.Role (roleOf b r)) (allMembers I a)
 -- Where the frontier of each role B.r is the role itself
 
 -- the lesser of what is chosen and the edge to B.r, if x is an entity B
-unfoldable pub offerRole : (Wanted → Bool) → Node → ℕ → Choice → Expression → Choice
+unfoldable pub offerRole : (Candidate → Bool) → Node → ℕ → Choice → Expression → Choice
 offerRole d n r b (E.Entity a) = better d b (childFor 1 n (E.Role (roleOf a r)) (n .subject))
 offerRole d n r b (E.Role a) = b
 offerRole d n r b (E.Linked a s) = b
@@ -114,10 +114,10 @@ offerRole d n r b (E.Intersection p) = b
 offerRole d n r b (E.Goal s) = b
 
 -- for the body of credential k, if it is flagged
-unfoldable pub offerRoles : (Wanted → Bool) → Pool → List ℕ → Node → ℕ → Choice → ℕ → Choice
+unfoldable pub offerRoles : (Candidate → Bool) → Pool → List ℕ → Node → ℕ → Choice → ℕ → Choice
 offerRoles d P F n r b k = cond (flag F k) (offerRole d n r b (bodyAt P k)) b
 
-offer-none : (d : Wanted → Bool) (n : Node) (r : ℕ) (b : Choice) (x : Expression) → isEntity x ≡ false → offerRole d n r b x ≡ b
+offer-none : (d : Candidate → Bool) (n : Node) (r : ℕ) (b : Choice) (x : Expression) → isEntity x ≡ false → offerRole d n r b x ≡ b
 unfolding offerRole
 offer-none d n r b (E.Entity a) z = absurd (false-true (sym z))
 offer-none d n r b (E.Role a) z = refl
@@ -125,8 +125,8 @@ offer-none d n r b (E.Linked a s) z = refl
 offer-none d n r b (E.Intersection p) z = refl
 offer-none d n r b (E.Goal s) z = refl
 
-module _ (d : Wanted → Bool) (n : Node) (r : ℕ) (b : Choice) {x : Expression} where
-  pub offer-entity : {a : ℕ} {w : Wanted} {c : Choice} → x ≡ E.Entity a → w ≡ childFor 1 n (E.Role (roleOf a r)) (n .subject) → c ≡ better d b w → c ≡ offerRole d n r b x
+module _ (d : Candidate → Bool) (n : Node) (r : ℕ) (b : Choice) {x : Expression} where
+  pub offer-entity : {a : ℕ} {w : Candidate} {c : Choice} → x ≡ E.Entity a → w ≡ childFor 1 n (E.Role (roleOf a r)) (n .subject) → c ≡ better d b w → c ≡ offerRole d n r b x
   unfolding offerRole
   offer-entity e f q = q ∙ (ap (better d b) f ∙ ap (offerRole d n r b) (sym e))
 
@@ -134,12 +134,12 @@ module _ (d : Wanted → Bool) (n : Node) (r : ℕ) (b : Choice) {x : Expression
   offer-other {y} e z = sym (offer-none d n r b x (ap isEntity e ∙ z))
 
 -- w is the edge to B.r for the body B of credential k
-record Leads (P : Pool) (n : Node) (r k : ℕ) (w : Wanted) : Type 0 where
+record Leads (P : Pool) (n : Node) (r k : ℕ) (w : Candidate) : Type 0 where
   member : ℕ
   body : bodyAt P k ≡ E.Entity member
   edge : w ≡ childFor 1 n (E.Role (roleOf member r)) (n .subject)
 
-module _ (d : Wanted → Bool) (P : Pool) (F : List ℕ) (n : Node) (r : ℕ) where
+module _ (d : Candidate → Bool) (P : Pool) (F : List ℕ) (n : Node) (r : ℕ) where
   pub roles-skip : (k : ℕ) → flag F k ≡ false → (b : Choice) → offerRoles d P F n r b k ≡ b
   unfolding offerRoles
   roles-skip k h b = ap (λ (t : Bool). cond t (offerRole d n r b (bodyAt P k)) b) h
@@ -148,17 +148,19 @@ module _ (d : Wanted → Bool) (P : Pool) (F : List ℕ) (n : Node) (r : ℕ) wh
   unfolding offerRoles
   roles-taken k b h e q = q ∙ (ap (offerRole d n r b) e ∙ sym (ap (λ (t : Bool). cond t (offerRole d n r b (bodyAt P k)) b) h))
 
-  one-more : (Q : Wanted → Type 0) (b : Choice) (k : ℕ) → Best d Q b → Best d (λ w. Q w ⊎ Leads P n r k w) (offerRole d n r b (bodyAt P k))
+  one-more : (Q : Candidate → Type 0) (b : Choice) (k : ℕ) → Best d Q b → Best d (λ w. Q w ⊎ Leads P n r k w) (offerRole d n r b (bodyAt P k))
   one-more Q b k B = go (bodyAt P k) refl
     where
       other : (x : Expression) → bodyAt P k ≡ x → isEntity x ≡ false → Best d (λ w. Q w ⊎ Leads P n r k w) (offerRole d n r b x)
       other x e z =
           subst (λ (c : Choice). Best d (λ w. Q w ⊎ Leads P n r k w) c) (sym (offer-none d n r b x z))
           (best-same (λ w q. inl q) (λ w y. ⊎-elim (λ q. q) (λ l. absurd (other-entity e z (l .body))) y) B)
+
       entity : (a : ℕ) → bodyAt P k ≡ E.Entity a → Best d (λ w. Q w ⊎ Leads P n r k w) (better d b (childFor 1 n (E.Role (roleOf a r)) (n .subject)))
       entity a e =
           best-next (childFor 1 n (E.Role (roleOf a r)) (n .subject)) (λ w q. inl q) (inr (record { member = a; body = e; edge = refl }))
           (λ w y. ⊎-elim (λ q. inl q) (λ l. inr (l .edge ∙ ap (λ (c : ℕ). childFor 1 n (E.Role (roleOf c r)) (n .subject)) (entity-eq (sym (l .body) ∙ e)))) y) B
+
       go : (x : Expression) → bodyAt P k ≡ x → Best d (λ w. Q w ⊎ Leads P n r k w) (offerRole d n r b x)
       go (E.Entity a) e = subst (λ (c : Choice). Best d (λ w. Q w ⊎ Leads P n r k w) c) (offer-entity d n r b refl refl refl) (entity a e)
       go (E.Role a) e = other (E.Role a) e refl
@@ -170,7 +172,7 @@ module _ (d : Wanted → Bool) (P : Pool) (F : List ℕ) (n : Node) (r : ℕ) wh
     abbrev targets : List Expression
     targets = frontierOf pred (credentials P) (rolesFor (credentials P) a r)
 
-    edge-leads : (w : Wanted) → List·Memᴰ w (edgesTo true n targets) → Among (P .count) (flag F) (Leads P n r) w
+    edge-leads : (w : Candidate) → List·Memᴰ w (edgesTo true n targets) → Among (P .count) (flag F) (Leads P n r) w
     edge-leads w m =
         let f = map-find (λ x. childFor 1 n x (n .subject)) (keep (admits true n) targets) m in
         let g = frontier-find pred (credentials P) (rolesFor (credentials P) a r) (keep-find (admits true n) targets (f .1) .0) in
@@ -184,13 +186,13 @@ module _ (d : Wanted → Bool) (P : Pool) (F : List ℕ) (n : Node) (r : ℕ) wh
           leads = record { member = o .0; body = x .body; edge = f .2 ∙ ap (λ (x : Expression). childFor 1 n x (n .subject)) (frontier-here z (g .2) ∙ o .2) };
         }
 
-    leads-edge : (w : Wanted) → Among (P .count) (flag F) (Leads P n r) w → List·Memᴰ w (edgesTo true n targets)
+    leads-edge : (w : Candidate) → Among (P .count) (flag F) (Leads P n r) w → List·Memᴰ w (edgesTo true n targets)
     unfolding admits
     leads-edge w x =
         let l = x .leads in
         let i = flagged-member a T (record { at = x .at; below = x .below; flagged = x .passes; body = l .body }) in
         let y = frontier-mem pred (credentials P) (rolesFor (credentials P) a r) (map-mem (λ b. E.Role (roleOf b r)) i) (here (h (l .member))) in
-        subst (λ (v : Wanted). List·Memᴰ v (edgesTo true n targets)) (sym (l .edge)) (map-mem (λ x. childFor 1 n x (n .subject)) (keep-mem (admits true n) y refl))
+        subst (λ (v : Candidate). List·Memᴰ v (edgesTo true n targets)) (sym (l .edge)) (map-mem (λ x. childFor 1 n x (n .subject)) (keep-mem (admits true n) y refl))
 
     roles-first : {c : Choice} → c ≡ folded (P .count) (offerRoles d P F n r) C.Nothing → c ≡ firstNot d C.Nothing (implications n targets)
     unfolding offerRoles
@@ -204,7 +206,7 @@ module _ (d : Wanted → Bool) (P : Pool) (F : List ℕ) (n : Node) (r : ℕ) wh
 -- Where it is not: the frontiers of all of them at once
 
 -- the best of the edges to the members of these frontiers
-pub record Together (d : Wanted → Bool) (P : Pool) (on stop F : List ℕ) (n : Node) (r : ℕ) (c : Choice) : Type 0 where
+pub record Together (d : Candidate → Bool) (P : Pool) (on stop F : List ℕ) (n : Node) (r : ℕ) (c : Choice) : Type 0 where
   pub all : List ℕ
   pub collected : Collected P on stop F r (P .count) all
   pub best : c ≡ folded (P .count) (offer d (isMember P stop all true n) (memberEdge P n)) C.Nothing
@@ -220,13 +222,14 @@ module _ {P : Pool} {on stop F : List ℕ} {r : ℕ} {pred : Expression → Bool
           let o = map-find (λ b. E.Role (roleOf b r)) (allMembers (credentials P) a) (g .1) in
           let w = frontier-stopped S (h (o .0)) (subst (λ (y : Expression). Frontier pred (chosen P on) y x) (o .2) (g .2)) in
           record { at = w .at; below = chain-below (w .chain); flagged = C .complete (o .0) (w .at) (member-flagged a T (o .1)) (w .chain); ends = w .ends; body = w .body }
+
       fro : (x : Expression) → Member P stop all x → List·Memᴰ x (frontierOf pred (chosen P on) (rolesFor (credentials P) a r))
       fro x m =
           let s = C .sound (m .at) (m .flagged) in
           let g = stopped-frontier S (h (s .0)) (record { at = m .at; chain = s .2; ends = m .ends; body = m .body }) in
           frontier-mem pred (chosen P on) (rolesFor (credentials P) a r) (map-mem (λ b. E.Role (roleOf b r)) (flagged-member a T (s .1))) g
 
-  together-first : (d : Wanted → Bool) (n : Node) {c : Choice} → chosen P on ≡ credentials P → Together d P on stop F n r c
+  together-first : (d : Candidate → Bool) (n : Node) {c : Choice} → chosen P on ≡ credentials P → Together d P on stop F n r c
       → c ≡ firstNot d C.Nothing (implications n (frontierOf pred (credentials P) (rolesFor (credentials P) a r)))
   together-first d n e X =
       members-first (reads-roles (X .collected)) true n d (X .best)
@@ -236,7 +239,7 @@ module _ {P : Pool} {on stop F : List ℕ} {r : ℕ} {pred : Expression → Bool
 -- Over our tables
 
 -- by the class of the roles' name
-module _ (o : Own) (R : Prepared o) (d : Wanted → Bool) (n : Node) (a : Role) (r : ℕ) {F : List ℕ} {c : Choice} {k : ℕ}
+module _ (o : Preparation) (R : Prepared o) (d : Candidate → Bool) (n : Node) (a : Role) (r : ℕ) {F : List ℕ} {c : Choice} {k : ℕ}
     (T : Told (isFrom (credentials (o .house .issuer)) a) (o .house .issuer) (o .house .issuer .count) F) (p : k ≡ classOf (namesOf (o .house .names)) r) where
   pub all-roles : k ≡ 3 → c ≡ folded (o .house .issuer .count) (offerRoles d (o .house .issuer) F n r) C.Nothing → c ≡ firstNot d C.Nothing (allEdges (tablesOf (o .house)) n a r)
   unfolding tablesOf

@@ -77,12 +77,15 @@ added-next {k} {v} {all} {found} {out} {next} {b} A l e f q =
     is : (b : Bool) → eqb (cond b 1 0) 1 ≡ b
     is true = refl
     is false = refl
+
     at-k : flag next k ≡ (flag all k || flag found k)
     at-k =
         ap (λ (x : List ℕ). flag x k) q ∙ ap (λ (x : ℕ). eqb x 1) (getD-set-same out k v 0 (omega (arith, A .sized)) ∙ f) ∙ is b ∙ e
         ∙ ap (λ (t : Bool). t || flag found k) (A .kept k (omega arith))
+
     here-at : (i : ℕ) → i ≡ k → flag next i ≡ (flag all i || flag found i)
     here-at i z = ap (flag next) z ∙ at-k ∙ sym (ap (λ (j : ℕ). flag all j || flag found j) z)
+
     other : (i : ℕ) → (i ≡ k → ⊥) → flag next i ≡ flag out i
     other i h = ap (λ (x : List ℕ). flag x i) q ∙ ap (λ (x : ℕ). eqb x 1) (getD-set-other out k i v 0 h)
 

@@ -12,15 +12,15 @@ use Rattle.expression.specs.Order.{beforeOf}
 use Rattle.graph.specs.declared.Node.{Node}
 use Rattle.graph.specs.declared.Edge.{Edge}
 use Rattle.graph.specs.Find.{hasEdge}
-use Rattle.moves.specs.declared.Wanted.{Wanted}
+use Rattle.moves.specs.declared.Candidate.{Candidate}
 use Rattle.moves.specs.declared.Choice.{Choice}
 use Rattle.moves.specs.declared.Choice.the-variants as C
-use Rattle.moves.specs.Wanted.{precedes, childNumber, isDone}
+use Rattle.moves.specs.Candidates.{precedes, childNumber, isDone}
 use Rattle.candidates.specs.laws.Least.{improves, better, orElse}
 
 -- The order
 
-module _ (v w : Wanted) {b : Bool} (p : b ≡ beforeOf (v .expression) (w .expression)) where
+module _ (v w : Candidate) {b : Bool} (p : b ≡ beforeOf (v .expression) (w .expression)) where
   pub before-precedes : b ≡ true → true ≡ precedes v w
   before-precedes h = sym (ap (λ (x : Bool). x || (same (v .expression) (w .expression) && ltb (v .subject) (w .subject))) (sym p ∙ h))
 
@@ -36,13 +36,13 @@ module _ (v w : Wanted) {b : Bool} (p : b ≡ beforeOf (v .expression) (w .expre
 
 -- What is chosen
 
-pub improves-edge : {b : Choice} {v : Wanted} (w : Wanted) {r : Bool} → b ≡ C.Edge v → r ≡ precedes w v → r ≡ improves b w
+pub improves-edge : {b : Choice} {v : Candidate} (w : Candidate) {r : Bool} → b ≡ C.Edge v → r ≡ precedes w v → r ≡ improves b w
 improves-edge w e h = h ∙ sym (ap (λ (x : Choice). improves x w) e)
 
-pub else-edge : {a : Choice} {w : Wanted} (rest : Choice) → a ≡ C.Edge w → C.Edge w ≡ orElse a rest
+pub else-edge : {a : Choice} {w : Candidate} (rest : Choice) → a ≡ C.Edge w → C.Edge w ≡ orElse a rest
 else-edge rest e = sym (ap (λ (x : Choice). orElse x rest) e)
 
-module _ (d : Wanted → Bool) (b : Choice) (w : Wanted) {i : Bool} (p : i ≡ improves b w) where
+module _ (d : Candidate → Bool) (b : Choice) (w : Candidate) {i : Bool} (p : i ≡ improves b w) where
   pub better-not : not i ≡ true → b ≡ better d b w
   unfolding better
   better-not h = sym (ap (λ (x : Bool). cond x (cond (d w) b (C.Edge w)) b) (sym p ∙ not-true i h))
@@ -60,7 +60,7 @@ module _ (d : Wanted → Bool) (b : Choice) (w : Wanted) {i : Bool} (p : i ≡ i
 
 -- What is done
 
-module _ (ns : List Node) (es : List Edge) (i : ℕ) (w : Wanted) {n c : ℕ} (l : length ns ≡ n) (p : c ≡ childNumber ns w) where
+module _ (ns : List Node) (es : List Edge) (i : ℕ) (w : Candidate) {n c : ℕ} (l : length ns ≡ n) (p : c ≡ childNumber ns w) where
   pub done-absent : n ≤ c → false ≡ isDone ns es i w
   unfolding isDone
   done-absent h =

@@ -30,14 +30,14 @@ use Rattle.graph.specs.Form.{isNamed}
 use Rattle.graph.specs.laws.Columns.{nodes-length, edges-length, node-in, edge-in}
 use Rattle.graph.specs.Propagated.{satisfiedB, completeB}
 use Rattle.states.specs.laws.Brings.{EdgesFormed}
-use Rattle.states.specs.laws.Complete.{Settled}
+use Rattle.states.specs.laws.Complete.{StateColumns}
 use Rattle.needed.specs.laws.Column.{upTo-mem, upTo-find}
-use Rattle.moves.specs.declared.Wanted.{Wanted}
+use Rattle.moves.specs.declared.Candidate.{Candidate}
 use Rattle.moves.specs.declared.Choice.{Choice}
 use Rattle.moves.specs.declared.Choice.the-variants as C
 use Rattle.moves.specs.Frontiers.{gather}
 use Rattle.moves.specs.laws.FrontiersExact.{gather-mem, gather-find}
-use Rattle.moves.specs.Wanted.{ordered, firstNot, markIf, chosenIn, isDone}
+use Rattle.moves.specs.Candidates.{ordered, firstNot, markIf, chosenIn, isDone}
 use Rattle.moves.specs.Rules.{End, ownersIn, childFor, childrenBy, isSatisfied, solutionsOf, linkRules}
 use Rattle.candidates.specs.laws.Least.{better, Uniform, orElse, first-rest}
 use Rattle.candidates.specs.laws.Offers.{folded, offer, offer-taken, offer-left, Among, Is, offers-first}
@@ -207,17 +207,17 @@ module _ (N : Nodes) (E : Edges) (mon sat : List ℕ) (r : ℕ) (j : ℕ) where
   unfolding isSolved isNamedAt
   solved-of k a b m s x = and-both (isSolution (N .count) (E .kind) (E .parent) (E .child) mon sat j) (isNamedAt N r solutionAt) (solution-of (N .count) (E .kind) (E .parent) (E .child) mon sat j k a b m s) x
 
-abbrev pub linkEdge : Node → Role → ℕ → Wanted
+abbrev pub linkEdge : Node → Role → ℕ → Candidate
 linkEdge n a b = childFor 4 n (E.Role a) b
 
 -- the linking implication for solution c
-unfoldable pub solutionEdge : Nodes → Node → Role → ℕ → Wanted
+unfoldable pub solutionEdge : Nodes → Node → Role → ℕ → Candidate
 solutionEdge N n a c = linkEdge n a (entityIn (nodeAt N c .expression))
 
-unfoldable pub solvedEdge : Nodes → Edges → Node → Role → ℕ → Wanted
+unfoldable pub solvedEdge : Nodes → Edges → Node → Role → ℕ → Candidate
 solvedEdge N X n a j = solutionEdge N n a (getD (X .child) j 0)
 
-module _ (d : Wanted → Bool) (N : Nodes) (n : Node) (a : Role) (r c : ℕ) (b : Choice) {x : Expression} (e : x ≡ nodeAt N c .expression) {t : Bool} (p : t ≡ isNamed r x) where
+module _ (d : Candidate → Bool) (N : Nodes) (n : Node) (a : Role) (r c : ℕ) (b : Choice) {x : Expression} (e : x ≡ nodeAt N c .expression) {t : Bool} (p : t ≡ isNamed r x) where
   named : t ≡ isNamedAt N r c
   unfolding isNamedAt
   named = p ∙ ap (isNamed r) e
@@ -225,11 +225,11 @@ module _ (d : Wanted → Bool) (N : Nodes) (n : Node) (a : Role) (r c : ℕ) (b 
   pub named-other : not t ≡ true → b ≡ offer d (isNamedAt N r) (solutionEdge N n a) b c
   named-other h = offer-left d (isNamedAt N r) (solutionEdge N n a) b c (sym named ∙ not-true t h)
 
-  pub named-edge : not t ≡ false → {o : ℕ} {w : Wanted} {z : Choice} → o ≡ entityIn x → w ≡ linkEdge n a o → z ≡ better d b w → z ≡ offer d (isNamedAt N r) (solutionEdge N n a) b c
+  pub named-edge : not t ≡ false → {o : ℕ} {w : Candidate} {z : Choice} → o ≡ entityIn x → w ≡ linkEdge n a o → z ≡ better d b w → z ≡ offer d (isNamedAt N r) (solutionEdge N n a) b c
   unfolding solutionEdge
   named-edge h u v q = offer-taken d (isNamedAt N r) (solutionEdge N n a) b c (sym named ∙ not-false t h) (q ∙ ap (better d b) (v ∙ ap (linkEdge n a) (u ∙ ap entityIn e)))
 
-module _ (d : Wanted → Bool) (N : Nodes) (E : Edges) (mon sat : List ℕ) (r : ℕ) (n : Node) (a : Role) (j : ℕ) where
+module _ (d : Candidate → Bool) (N : Nodes) (E : Edges) (mon sat : List ℕ) (r : ℕ) (n : Node) (a : Role) (j : ℕ) where
   -- an edge that brings a solution offers what the solution does
   pub solved-here : isSolution (N .count) (E .kind) (E .parent) (E .child) mon sat j ≡ true → (b : Choice) {z : Choice} {c : ℕ} → c ≡ getD (E .child) j 0 → z ≡ offer d (isNamedAt N r) (solutionEdge N n a) b c
       → z ≡ offer d (isSolved N E mon sat r) (solvedEdge N E n a) b j
@@ -275,8 +275,8 @@ module _ (o : End) (N : Nodes) (E : Edges) (ne : o .state .nodes ≡ nodesOf N) 
       map-mem (λ (e : Edge). e .child) (keep-mem (λ (e : Edge). eqb (e .kind) k && eqb (e .parent) i) (subst (λ (es : List Edge). List·Memᴰ (edgeAt E j) es) (sym ee) (upTo-mem (E .count) (edgeAt E) j l))
       (and-both (eqb (getD (E .kind) j 0) k) (eqb (getD (E .parent) j 0) i) (eq-eqb (getD (E .kind) j 0) k a) (eq-eqb (getD (E .parent) j 0) i b)))
 
-  module _ (F : EdgesFormed (nodesOf N) (edgesOf E)) (few : N .count ≤ 128) {mon sat failed : List ℕ} {i : ℕ} (M : Monitoring E i (E .count) mon) (S : Settled (nodesOf N) (edgesOf E) sat failed) (r : ℕ) (n : Node) (a : Role) where
-    abbrev edges : List Wanted
+  module _ (F : EdgesFormed (nodesOf N) (edgesOf E)) (few : N .count ≤ 128) {mon sat failed : List ℕ} {i : ℕ} (M : Monitoring E i (E .count) mon) (S : StateColumns (nodesOf N) (edgesOf E) sat failed) (r : ℕ) (n : Node) (a : Role) where
+    abbrev edges : List Candidate
     edges = map (linkEdge n a) (solutionsOf o r i)
 
     -- the expression of a node
@@ -286,7 +286,7 @@ module _ (o : End) (N : Nodes) (E : Edges) (ne : o .state .nodes ≡ nodesOf N) 
     satisfied : (c : ℕ) → isSatisfied o c ≡ flag sat c
     satisfied c = (λ t. at (satisfiedB (ne t) (ee t)) c) ∙ sym (S .is-sat c)
 
-    to : (w : Wanted) → List·Memᴰ w edges → Among (E .count) (isSolved N E mon sat r) (Is (solvedEdge N E n a)) w
+    to : (w : Candidate) → List·Memᴰ w edges → Among (E .count) (isSolved N E mon sat r) (Is (solvedEdge N E n a)) w
     unfolding solvedEdge solutionEdge
     to w m =
         let f = map-find (linkEdge n a) (solutionsOf o r i) m in
@@ -310,7 +310,7 @@ module _ (o : End) (N : Nodes) (E : Edges) (ne : o .state .nodes ≡ nodesOf N) 
           leads = record { same = f .2 ∙ ap (linkEdge n a) (v .1 ∙ ap entityIn z) };
         }
 
-    fro : (w : Wanted) → Among (E .count) (isSolved N E mon sat r) (Is (solvedEdge N E n a)) w → List·Memᴰ w edges
+    fro : (w : Candidate) → Among (E .count) (isSolved N E mon sat r) (Is (solvedEdge N E n a)) w → List·Memᴰ w edges
     unfolding solvedEdge solutionEdge
     fro w h =
         let j : ℕ = h .at in
@@ -319,7 +319,7 @@ module _ (o : End) (N : Nodes) (E : Edges) (ne : o .state .nodes ≡ nodesOf N) 
         let g : ℕ = getD (E .parent) j 0 in
         let m = M .from g (p .3) in
         let z = expressed c (p .2) in
-        subst (λ (v : Wanted). List·Memᴰ v edges) (sym (h .leads .same))
+        subst (λ (v : Candidate). List·Memᴰ v edges) (sym (h .leads .same))
         (map-mem (linkEdge n a)
         (gather-mem (λ g. gather (λ c. ownersIn r (nodeIn (o .state .nodes) c .expression)) (keep (isSatisfied o) (childrenBy o 3 g)))
         (subst (λ (t : ℕ). List·Memᴰ t (childrenBy o 2 i)) (m .4) (child-mem 2 i (m .0) (m .1) (m .2) (m .3)))
@@ -327,10 +327,10 @@ module _ (o : End) (N : Nodes) (E : Edges) (ne : o .state .nodes ≡ nodesOf N) 
         (subst (λ (x : Expression). List·Memᴰ (entityIn (nodeAt N c .expression)) (ownersIn r x)) (sym z) (owners-mem r (nodeAt N c .expression) (p .5))))))
 
     uniform : Uniform 4 (n .verifier) edges
-    uniform = record { each = λ w m. let f = map-find (linkEdge n a) (solutionsOf o r i) m in (ap (λ (v : Wanted). v .kind) (f .2), ap (λ (v : Wanted). v .verifier) (f .2), ap (λ (v : Wanted). v .direct) (f .2)) }
+    uniform = record { each = λ w m. let f = map-find (linkEdge n a) (solutionsOf o r i) m in (ap (λ (v : Candidate). v .kind) (f .2), ap (λ (v : Candidate). v .verifier) (f .2), ap (λ (v : Candidate). v .direct) (f .2)) }
 
     -- the first linking implication in order that is not done
-    pub links-first : (d : Wanted → Bool) {c : Choice} → c ≡ folded (E .count) (offer d (isSolved N E mon sat r) (solvedEdge N E n a)) C.Nothing → c ≡ firstNot d C.Nothing (ordered (map (linkEdge n a) (solutionsOf o r i)))
+    pub links-first : (d : Candidate → Bool) {c : Choice} → c ≡ folded (E .count) (offer d (isSolved N E mon sat r) (solvedEdge N E n a)) C.Nothing → c ≡ firstNot d C.Nothing (ordered (map (linkEdge n a) (solutionsOf o r i)))
     links-first d q = q ∙ offers-first d (isSolved N E mon sat r) (solvedEdge N E n a) (E .count) edges uniform to fro
 
 -- Whether a goal is complete
@@ -358,6 +358,7 @@ any-complete o N E ne ee i = bool-iff (any (isCompleteAt N E i) (upTo (E .count)
   where
     both : (g : ℕ) → completeB (o .state .nodes) (o .state .edges) g ≡ completeB (nodesOf N) (edgesOf E) g
     both g = λ t. completeB (ne t) (ee t) g
+
     to : any (isCompleteAt N E i) (upTo (E .count) (λ j. j)) ≡ true → any (completeB (o .state .nodes) (o .state .edges)) (childrenBy o 2 i) ≡ true
     to h =
         let w = any-find (isCompleteAt N E i) (upTo (E .count) (λ j. j)) h in
@@ -368,6 +369,7 @@ any-complete o N E ne ee i = bool-iff (any (isCompleteAt N E i) (upTo (E .count)
         let z : j ≡ u .0 = u .2 in
         let l : u .0 < E .count = u .1 in
         any-here (completeB (o .state .nodes) (o .state .edges)) (child-mem o N E ne ee 2 i j (omega (arith, z, l)) (eqb-true (getD (E .kind) j 0) 2 (p .0)) (eqb-true (getD (E .parent) j 0) i (p .1))) (both (getD (E .child) j 0) ∙ q .1)
+
     fro : any (completeB (o .state .nodes) (o .state .edges)) (childrenBy o 2 i) ≡ true → any (isCompleteAt N E i) (upTo (E .count) (λ j. j)) ≡ true
     fro h =
         let w = any-find (completeB (o .state .nodes) (o .state .edges)) (childrenBy o 2 i) h in
@@ -379,7 +381,7 @@ any-complete o N E ne ee i = bool-iff (any (isCompleteAt N E i) (upTo (E .count)
 
 -- What the rules come to
 
-abbrev pub goalEdge : Node → ℕ → Wanted
+abbrev pub goalEdge : Node → ℕ → Candidate
 goalEdge n r = childFor 2 n (E.Goal r) (n .subject)
 
 -- the choice for a linked target A.r1.r2, node i
@@ -389,10 +391,10 @@ pub data Linked (N : Nodes) (X : Edges) (sat : List ℕ) (i : ℕ) (n : Node) (a
       → c ≡ orElse (folded (X .count) (offer (isDone (nodesOf N) (edgesOf X) i) (isSolved N X monitors sat r) (solvedEdge N X n a)) C.Nothing) (markIf (any (isCompleteAt N X i) (upTo (X .count) (λ j. j))))
       → Linked N X sat i n a r c
 
-pub goal-edge : {N : Nodes} {X : Edges} {sat : List ℕ} {i : ℕ} {n : Node} {a : Role} {r : ℕ} {w : Wanted} {b : Bool} → w ≡ goalEdge n r → b ≡ isDone (nodesOf N) (edgesOf X) i w → not b ≡ true → Linked N X sat i n a r (C.Edge w)
+pub goal-edge : {N : Nodes} {X : Edges} {sat : List ℕ} {i : ℕ} {n : Node} {a : Role} {r : ℕ} {w : Candidate} {b : Bool} → w ≡ goalEdge n r → b ≡ isDone (nodesOf N) (edgesOf X) i w → not b ≡ true → Linked N X sat i n a r (C.Edge w)
 goal-edge {N} {X} {i = i} {b = b} e p h = goal-first (sym (ap (isDone (nodesOf N) (edgesOf X) i) e) ∙ (sym p ∙ not-true b h)) (ap C.Edge e)
 
-pub goal-stands : (N : Nodes) (X : Edges) (i : ℕ) (n : Node) {r : ℕ} {w : Wanted} {b : Bool} → w ≡ goalEdge n r → b ≡ isDone (nodesOf N) (edgesOf X) i w → not b ≡ false → isDone (nodesOf N) (edgesOf X) i (goalEdge n r) ≡ true
+pub goal-stands : (N : Nodes) (X : Edges) (i : ℕ) (n : Node) {r : ℕ} {w : Candidate} {b : Bool} → w ≡ goalEdge n r → b ≡ isDone (nodesOf N) (edgesOf X) i w → not b ≡ false → isDone (nodesOf N) (edgesOf X) i (goalEdge n r) ≡ true
 goal-stands N X i n {b = b} e p h = sym (ap (isDone (nodesOf N) (edgesOf X) i) e) ∙ (sym p ∙ not-false b h)
 
 pub link-parts : {best mark c : Choice} {m : Bool} {x : Choice} {z : Bool} → best ≡ x → m ≡ z → mark ≡ markIf m → c ≡ orElse best mark → c ≡ orElse x (markIf z)
@@ -400,12 +402,12 @@ link-parts {x = x} p q r s = s ∙ ((λ t. orElse (p t) (r t)) ∙ ap (λ (b : B
 
 -- it is what the rules give
 pub linked-rules : (o : End) (N : Nodes) (X : Edges) → o .state .nodes ≡ nodesOf N → o .state .edges ≡ edgesOf X → EdgesFormed (nodesOf N) (edgesOf X) → N .count ≤ 128
-    → {sat failed : List ℕ} → Settled (nodesOf N) (edgesOf X) sat failed → {i : ℕ} {n : Node} {a : Role} {r : ℕ} {c : Choice} → Linked N X sat i n a r c → c ≡ chosenIn (isDone (nodesOf N) (edgesOf X) i) (linkRules o i n a r)
+    → {sat failed : List ℕ} → StateColumns (nodesOf N) (edgesOf X) sat failed → {i : ℕ} {n : Node} {a : Role} {r : ℕ} {c : Choice} → Linked N X sat i n a r c → c ≡ chosenIn (isDone (nodesOf N) (edgesOf X) i) (linkRules o i n a r)
 unfolding chosenIn firstNot
 linked-rules o N X ne ee F few S {i} {n} {a} {r} (goal-first h e) =
     e ∙ sym (ap (λ (b : Bool). cond b (firstNot (isDone (nodesOf N) (edgesOf X) i) (markIf (linkRules o i n a r .marks)) (ordered (map (linkEdge n a) (solutionsOf o r i)))) (C.Edge (goalEdge n r))) h)
 linked-rules o N X ne ee F few S {i} {n} {a} {r} {c} (goal-done h monitors M e) =
-    let d : Wanted → Bool = isDone (nodesOf N) (edgesOf X) i in
+    let d : Candidate → Bool = isDone (nodesOf N) (edgesOf X) i in
     let rest : Choice = firstNot d (markIf (linkRules o i n a r .marks)) (ordered (map (linkEdge n a) (solutionsOf o r i))) in
     e ∙ ((λ t. orElse (links-first o N X ne ee F few M S r n a d refl t) (markIf (any-complete o N X ne ee i t)))
     ∙ (sym (first-rest d (markIf (linkRules o i n a r .marks)) (ordered (map (linkEdge n a) (solutionsOf o r i))))

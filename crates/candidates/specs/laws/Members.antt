@@ -22,12 +22,12 @@ use Rattle.propagation.specs.laws.Flags.{flag}
 use Rattle.frontier.specs.Frontier.{Frontier}
 use Rattle.frontier.specs.laws.Frontier.{Stops, Reaches, Member, body-stopped, stopped-body, stopped-member, member-stopped, frontier-member, role-eq}
 use Rattle.graph.specs.declared.Node.{Node}
-use Rattle.moves.specs.declared.Wanted.{Wanted}
+use Rattle.moves.specs.declared.Candidate.{Candidate}
 use Rattle.moves.specs.declared.Choice.{Choice}
 use Rattle.moves.specs.declared.Choice.the-variants as C
 use Rattle.moves.specs.Frontiers.{bodiesOf, frontierOf}
 use Rattle.moves.specs.laws.FrontiersExact.{frontier-find, frontier-mem}
-use Rattle.moves.specs.Wanted.{ordered, firstNot}
+use Rattle.moves.specs.Candidates.{ordered, firstNot}
 use Rattle.moves.specs.Rules.{childFor, suitsNode, implications}
 use Rattle.candidates.specs.laws.Least.{Uniform}
 use Rattle.candidates.specs.laws.Offers.{folded, offer, Among, Is, offers-first}
@@ -37,7 +37,7 @@ unfoldable pub admits : Bool → Node → Expression → Bool
 admits entities n x = not (isEntity x) || (entities && same x (E.Entity (n .subject)))
 
 -- the edges to the expressions that are admitted
-abbrev pub edgesTo : Bool → Node → List Expression → List Wanted
+abbrev pub edgesTo : Bool → Node → List Expression → List Candidate
 edgesTo entities n xs = map (λ x. childFor 1 n x (n .subject)) (keep (admits entities n) xs)
 
 pub all-implications : (n : Node) (xs : List Expression) → ordered (edgesTo true n xs) ≡ implications n xs
@@ -60,7 +60,7 @@ no-entities n xs = ap (map (λ x. childFor 1 n x (n .subject))) (twice xs)
 
 pub edges-uniform : (entities : Bool) (n : Node) (xs : List Expression) → Uniform 1 (n .verifier) (edgesTo entities n xs)
 edges-uniform entities n xs =
-    record { each = λ w m. let f = map-find (λ x. childFor 1 n x (n .subject)) (keep (admits entities n) xs) m in (ap (λ (v : Wanted). v .kind) (f .2), ap (λ (v : Wanted). v .verifier) (f .2), ap (λ (v : Wanted). v .direct) (f .2)) }
+    record { each = λ w m. let f = map-find (λ x. childFor 1 n x (n .subject)) (keep (admits entities n) xs) m in (ap (λ (v : Candidate). v .kind) (f .2), ap (λ (v : Candidate). v .verifier) (f .2), ap (λ (v : Candidate). v .direct) (f .2)) }
 
 -- What is read off the columns
 
@@ -72,11 +72,11 @@ isStopped stop r k = flag r k && flag stop k
 unfoldable pub isMember : Pool → List ℕ → List ℕ → Bool → Node → ℕ → Bool
 isMember P stop r entities n k = flag r k && flag stop k && admits entities n (bodyAt P k)
 
-unfoldable pub memberEdge : Pool → Node → ℕ → Wanted
+unfoldable pub memberEdge : Pool → Node → ℕ → Candidate
 memberEdge P n k = childFor 1 n (bodyAt P k) (n .subject)
 
 -- the best of b and the edges to the members of the frontier of e
-pub record Extended (d : Wanted → Bool) (P : Pool) (on stop : List ℕ) (entities : Bool) (n : Node) (e : Role) (b r : Choice) : Type 0 where
+pub record Extended (d : Candidate → Bool) (P : Pool) (on stop : List ℕ) (entities : Bool) (n : Node) (e : Role) (b r : Choice) : Type 0 where
   pub found : List ℕ
   pub reaches : Reaches P on stop e found
   pub best : r ≡ folded (P .count) (offer d (isMember P stop found entities n) (memberEdge P n)) b
@@ -93,12 +93,14 @@ module _ {P : Pool} {on stop found : List ℕ} {e : Role} {pred : Expression →
     where
       K : List Credential
       K = keep (λ (c : Credential). same (E.Role (c .head)) (E.Role e)) (chosen P on)
+
       to : (x : Expression) → List·Memᴰ x (frontierOf pred (chosen P on) (bodiesOf (chosen P on) (E.Role e))) → Member P stop found x
       to x m =
           let f = frontier-find pred (chosen P on) (bodiesOf (chosen P on) (E.Role e)) m in
           let b = map-find (λ (c : Credential). c .body) K (f .1) in
           let c = keep-find (λ (c : Credential). same (E.Role (c .head)) (E.Role e)) (chosen P on) (b .1) in
           stopped-member S R (body-stopped S (b .0) (c .0) (role-eq (same-eq (E.Role (b .0 .head)) (E.Role e) (c .1))) (subst (λ (y : Expression). Frontier pred (chosen P on) y x) (b .2) (f .2)))
+
       fro : (x : Expression) → Member P stop found x → List·Memᴰ x (frontierOf pred (chosen P on) (bodiesOf (chosen P on) (E.Role e)))
       fro x m =
           let b = stopped-body S (member-stopped S R m) in
@@ -118,7 +120,7 @@ module _ {P : Pool} {on stop found : List ℕ} {e : Role} {pred : Expression →
       alone m = ⊎-elim (λ q. q) (λ k. absurd (List·Memᴰ·not-nil k)) (List·Memᴰ·cases-cons m)
 
 module _ {P : Pool} {stop found : List ℕ} {xs : List Expression} (D : Reads P stop found xs) (entities : Bool) (n : Node) where
-  pub edges-among : (w : Wanted) → List·Memᴰ w (edgesTo entities n xs) → Among (P .count) (isMember P stop found entities n) (Is (memberEdge P n)) w
+  pub edges-among : (w : Candidate) → List·Memᴰ w (edgesTo entities n xs) → Among (P .count) (isMember P stop found entities n) (Is (memberEdge P n)) w
   unfolding isMember memberEdge
   edges-among w m =
       let f = map-find (λ x. childFor 1 n x (n .subject)) (keep (admits entities n) xs) m in
@@ -131,14 +133,14 @@ module _ {P : Pool} {stop found : List ℕ} {xs : List Expression} (D : Reads P 
         leads = record { same = f .2 ∙ ap (λ (x : Expression). childFor 1 n x (n .subject)) (sym (q .body)) };
       }
 
-  pub among-edges : (w : Wanted) → Among (P .count) (isMember P stop found entities n) (Is (memberEdge P n)) w → List·Memᴰ w (edgesTo entities n xs)
+  pub among-edges : (w : Candidate) → Among (P .count) (isMember P stop found entities n) (Is (memberEdge P n)) w → List·Memᴰ w (edgesTo entities n xs)
   unfolding isMember memberEdge
   among-edges w a =
       let p = and-parts (flag found (a .at) && flag stop (a .at)) (admits entities n (bodyAt P (a .at))) (a .passes) in
       let q = and-parts (flag found (a .at)) (flag stop (a .at)) (p .0) in
-      subst (λ (v : Wanted). List·Memᴰ v (edgesTo entities n xs)) (sym (a .leads .same))
+      subst (λ (v : Candidate). List·Memᴰ v (edgesTo entities n xs)) (sym (a .leads .same))
       (map-mem (λ x. childFor 1 n x (n .subject)) (keep-mem (admits entities n) (D .fro (bodyAt P (a .at)) (record { at = a .at; below = a .below; flagged = q .0; ends = q .1; body = refl })) (p .1)))
 
   -- the first edge in order that is not done
-  pub members-first : (d : Wanted → Bool) {r : Choice} → r ≡ folded (P .count) (offer d (isMember P stop found entities n) (memberEdge P n)) C.Nothing → r ≡ firstNot d C.Nothing (ordered (edgesTo entities n xs))
+  pub members-first : (d : Candidate → Bool) {r : Choice} → r ≡ folded (P .count) (offer d (isMember P stop found entities n) (memberEdge P n)) C.Nothing → r ≡ firstNot d C.Nothing (ordered (edgesTo entities n xs))
   members-first d e = e ∙ offers-first d (isMember P stop found entities n) (memberEdge P n) (P .count) (edgesTo entities n xs) (edges-uniform entities n xs) edges-among among-edges

@@ -15,7 +15,7 @@ use Rattle.rt0.specs.laws.Pool.{bodyAt}
 use Rattle.word.specs.laws.Bools.{false-true}
 use Rattle.propagation.specs.laws.Flags.{flag}
 use Rattle.graph.specs.declared.Node.{Node}
-use Rattle.moves.specs.declared.Wanted.{Wanted}
+use Rattle.moves.specs.declared.Candidate.{Candidate}
 use Rattle.moves.specs.declared.Choice.{Choice}
 use Rattle.moves.specs.Rules.{childFor}
 use Rattle.candidates.specs.laws.Least.{better}
@@ -49,7 +49,7 @@ flags-both true true c h = refl
 flags-both true false c h = absurd (false-true (sym h))
 flags-both false b c h = absurd (false-true (sym h))
 
-module _ (d : Wanted → Bool) (P : Pool) (stop found : List ℕ) (entities : Bool) (n : Node) (b : Choice) (k : ℕ) where
+module _ (d : Candidate → Bool) (P : Pool) (stop found : List ℕ) (entities : Bool) (n : Node) (b : Choice) (k : ℕ) where
   pub member-none : (not (eqb (getD found k 0) 1) || not (eqb (getD stop k 0) 1)) ≡ true → b ≡ offer d (isMember P stop found entities n) (memberEdge P n) b k
   unfolding isMember
   member-none h = offer-left d (isMember P stop found entities n) (memberEdge P n) b k (flags-none (flag found k) (flag stop k) (admits entities n (bodyAt P k)) h)
@@ -62,13 +62,13 @@ module _ (d : Wanted → Bool) (P : Pool) (stop found : List ℕ) (entities : Bo
     pub member-other : not a ≡ true → b ≡ offer d (isMember P stop found entities n) (memberEdge P n) b k
     member-other z = offer-left d (isMember P stop found entities n) (memberEdge P n) b k (is-admitted ∙ not-true a z)
 
-    pub member-edge : not a ≡ false → {w : Wanted} {r : Choice} → w ≡ childFor 1 n x (n .subject) → r ≡ better d b w → r ≡ offer d (isMember P stop found entities n) (memberEdge P n) b k
+    pub member-edge : not a ≡ false → {w : Candidate} {r : Choice} → w ≡ childFor 1 n x (n .subject) → r ≡ better d b w → r ≡ offer d (isMember P stop found entities n) (memberEdge P n) b k
     unfolding memberEdge
     member-edge z {w} {r} e f =
         offer-taken d (isMember P stop found entities n) (memberEdge P n) b k (is-admitted ∙ not-false a z)
         (f ∙ ap (better d b) (e ∙ ap (λ (y : Expression). childFor 1 n y (n .subject)) p))
 
 -- what is not found, or no stop, is passed over
-pub member-skip : (d : Wanted → Bool) (P : Pool) (stop found : List ℕ) (entities : Bool) (n : Node) (k : ℕ) → isStopped stop found k ≡ false → (b : Choice) → offer d (isMember P stop found entities n) (memberEdge P n) b k ≡ b
+pub member-skip : (d : Candidate → Bool) (P : Pool) (stop found : List ℕ) (entities : Bool) (n : Node) (k : ℕ) → isStopped stop found k ≡ false → (b : Choice) → offer d (isMember P stop found entities n) (memberEdge P n) b k ≡ b
 unfolding isStopped isMember
 member-skip d P stop found entities n k h b = sym (offer-left d (isMember P stop found entities n) (memberEdge P n) b k (ap (λ (x : Bool). x && admits entities n (bodyAt P k)) h))

@@ -9,10 +9,10 @@ use borrow.Author.Tests.{eqb-true, eqb-false}
 use lib.Dec.{eqb}
 use Rattle.word.specs.laws.Bools.{false-true}
 use Rattle.propagation.specs.laws.Flags.{decided}
-use Rattle.moves.specs.declared.Wanted.{Wanted}
+use Rattle.moves.specs.declared.Candidate.{Candidate}
 use Rattle.moves.specs.declared.Choice.{Choice}
 use Rattle.moves.specs.declared.Choice.the-variants as C
-use Rattle.moves.specs.Wanted.{ordered, firstNot}
+use Rattle.moves.specs.Candidates.{ordered, firstNot}
 use Rattle.candidates.specs.laws.Least.{better, Best, best-start, best-same, best-next, Uniform, best-first}
 
 -- what a loop over the numbers below m makes of b
@@ -37,40 +37,41 @@ module _ (f : Choice → ℕ → Choice) (b : Choice) where
   folded-all {k} {m} p l h = p ∙ ap (λ (j : ℕ). folded j f b) (omega arith)
 
 -- the edge of a number, where it is offered
-unfoldable pub offer : (Wanted → Bool) → (ℕ → Bool) → (ℕ → Wanted) → Choice → ℕ → Choice
+unfoldable pub offer : (Candidate → Bool) → (ℕ → Bool) → (ℕ → Candidate) → Choice → ℕ → Choice
 offer d is edge b k = cond (is k) (better d b (edge k)) b
 
-pub offer-taken : (d : Wanted → Bool) (is : ℕ → Bool) (edge : ℕ → Wanted) (b : Choice) (k : ℕ) {r : Choice} → is k ≡ true → r ≡ better d b (edge k) → r ≡ offer d is edge b k
+pub offer-taken : (d : Candidate → Bool) (is : ℕ → Bool) (edge : ℕ → Candidate) (b : Choice) (k : ℕ) {r : Choice} → is k ≡ true → r ≡ better d b (edge k) → r ≡ offer d is edge b k
 unfolding offer
 offer-taken d is edge b k h e = e ∙ sym (ap (λ (x : Bool). cond x (better d b (edge k)) b) h)
 
-pub offer-left : (d : Wanted → Bool) (is : ℕ → Bool) (edge : ℕ → Wanted) (b : Choice) (k : ℕ) → is k ≡ false → b ≡ offer d is edge b k
+pub offer-left : (d : Candidate → Bool) (is : ℕ → Bool) (edge : ℕ → Candidate) (b : Choice) (k : ℕ) → is k ≡ false → b ≡ offer d is edge b k
 unfolding offer
 offer-left d is edge b k h = sym (ap (λ (x : Bool). cond x (better d b (edge k)) b) h)
 
 -- Which edges were offered
 
 -- one of the numbers below m passes the test and leads to w
-pub record Among (m : ℕ) (is : ℕ → Bool) (L : ℕ → Wanted → Type 0) (w : Wanted) : Type 0 where
+pub record Among (m : ℕ) (is : ℕ → Bool) (L : ℕ → Candidate → Type 0) (w : Candidate) : Type 0 where
   pub at : ℕ
   pub below : at < m
   pub passes : is at ≡ true
   pub leads : L at w
 
 -- w is the edge of number k
-pub record Is (edge : ℕ → Wanted) (k : ℕ) (w : Wanted) : Type 0 where
+pub record Is (edge : ℕ → Candidate) (k : ℕ) (w : Candidate) : Type 0 where
   pub same : w ≡ edge k
 
-module _ {d : Wanted → Bool} (is : ℕ → Bool) (L : ℕ → Wanted → Type 0) (g : Choice → ℕ → Choice)
-    (step : (Q : Wanted → Type 0) (b : Choice) (k : ℕ) → is k ≡ true → Best d Q b → Best d (λ w. Q w ⊎ L k w) (g b k)) where
-  one-more : (Q : Wanted → Type 0) (b : Choice) (m : ℕ) (a : Bool) → is m ≡ a → Best d (λ w. Q w ⊎ Among m is L w) b → Best d (λ w. Q w ⊎ Among (suc m) is L w) (cond a (g b m) b)
+module _ {d : Candidate → Bool} (is : ℕ → Bool) (L : ℕ → Candidate → Type 0) (g : Choice → ℕ → Choice)
+    (step : (Q : Candidate → Type 0) (b : Choice) (k : ℕ) → is k ≡ true → Best d Q b → Best d (λ w. Q w ⊎ L k w) (g b k)) where
+  one-more : (Q : Candidate → Type 0) (b : Choice) (m : ℕ) (a : Bool) → is m ≡ a → Best d (λ w. Q w ⊎ Among m is L w) b → Best d (λ w. Q w ⊎ Among (suc m) is L w) (cond a (g b m) b)
   one-more Q b m true e h = best-same to fro (step (λ w. Q w ⊎ Among m is L w) b m e h)
     where
-      to : (w : Wanted) → (Q w ⊎ Among m is L w) ⊎ L m w → Q w ⊎ Among (suc m) is L w
+      to : (w : Candidate) → (Q w ⊎ Among m is L w) ⊎ L m w → Q w ⊎ Among (suc m) is L w
       to w (inl (inl q)) = inl q
       to w (inl (inr x)) = let l = x .below in inr (record { at = x .at; below = omega arith; passes = x .passes; leads = x .leads })
       to w (inr x) = inr (record { at = m; below = omega arith; passes = e; leads = x })
-      fro : (w : Wanted) → Q w ⊎ Among (suc m) is L w → (Q w ⊎ Among m is L w) ⊎ L m w
+
+      fro : (w : Candidate) → Q w ⊎ Among (suc m) is L w → (Q w ⊎ Among m is L w) ⊎ L m w
       fro w (inl q) = inl (inl q)
       fro w (inr x) = last (x .at) (x .below) (x .passes) (x .leads)
         where
@@ -78,10 +79,11 @@ module _ {d : Wanted → Bool} (is : ℕ → Bool) (L : ℕ → Wanted → Type 
           last j l p y = ⊎-elim (λ z. inr (subst (λ (t : ℕ). L t w) (eqb-true j m z) y)) (λ z. inl (inr (record { at = j; below = omega (arith, eqb-false j m z); passes = p; leads = y }))) (decided (eqb j m))
   one-more Q b m false e h = best-same to fro h
     where
-      to : (w : Wanted) → Q w ⊎ Among m is L w → Q w ⊎ Among (suc m) is L w
+      to : (w : Candidate) → Q w ⊎ Among m is L w → Q w ⊎ Among (suc m) is L w
       to w (inl q) = inl q
       to w (inr x) = let l = x .below in inr (record { at = x .at; below = omega arith; passes = x .passes; leads = x .leads })
-      fro : (w : Wanted) → Q w ⊎ Among (suc m) is L w → Q w ⊎ Among m is L w
+
+      fro : (w : Candidate) → Q w ⊎ Among (suc m) is L w → Q w ⊎ Among m is L w
       fro w (inl q) = inl q
       fro w (inr x) = other (x .at) (x .below) (x .passes) (x .leads)
         where
@@ -89,13 +91,13 @@ module _ {d : Wanted → Bool} (is : ℕ → Bool) (L : ℕ → Wanted → Type 
           other j l p y = ⊎-elim (λ z. absurd (false-true (sym e ∙ (ap is (sym (eqb-true j m z)) ∙ p)))) (λ z. inr (record { at = j; below = omega (arith, eqb-false j m z); passes = p; leads = y })) (decided (eqb j m))
 
   -- the best of what was there and of all that the numbers lead to
-  pub among-best : (Q : Wanted → Type 0) (b : Choice) (m : ℕ) → Best d Q b → Best d (λ w. Q w ⊎ Among m is L w) (folded m (λ c k. cond (is k) (g c k) c) b)
+  pub among-best : (Q : Candidate → Type 0) (b : Choice) (m : ℕ) → Best d Q b → Best d (λ w. Q w ⊎ Among m is L w) (folded m (λ c k. cond (is k) (g c k) c) b)
   unfolding folded
   among-best Q b zero h = best-same (λ w q. inl q) (λ w x. ⊎-elim (λ q. q) (λ y. let l = y .below in absurd (omega arith)) x) h
   among-best Q b (suc m) h = one-more Q (turned m (λ c k. cond (is k) (g c k) c) b) m (is m) refl (among-best Q b m h)
 
 -- the edges of the numbers themselves
-pub offers-best : (d : Wanted → Bool) (is : ℕ → Bool) (edge : ℕ → Wanted) (Q : Wanted → Type 0) (b : Choice) (m : ℕ) → Best d Q b → Best d (λ w. Q w ⊎ Among m is (Is edge) w) (folded m (offer d is edge) b)
+pub offers-best : (d : Candidate → Bool) (is : ℕ → Bool) (edge : ℕ → Candidate) (Q : Candidate → Type 0) (b : Choice) (m : ℕ) → Best d Q b → Best d (λ w. Q w ⊎ Among m is (Is edge) w) (folded m (offer d is edge) b)
 unfolding offer
 offers-best d is edge Q b m h =
     among-best is (Is edge) (λ c k. better d c (edge k))
@@ -103,8 +105,8 @@ offers-best d is edge Q b m h =
     Q b m h
 
 -- edges in order: the first that is not done is the best of those offered
-pub offers-first : (d : Wanted → Bool) {kind verifier : ℕ} (is : ℕ → Bool) (edge : ℕ → Wanted) (m : ℕ) (vs : List Wanted) → Uniform kind verifier vs
-    → ((w : Wanted) → List·Memᴰ w vs → Among m is (Is edge) w) → ((w : Wanted) → Among m is (Is edge) w → List·Memᴰ w vs)
+pub offers-first : (d : Candidate → Bool) {kind verifier : ℕ} (is : ℕ → Bool) (edge : ℕ → Candidate) (m : ℕ) (vs : List Candidate) → Uniform kind verifier vs
+    → ((w : Candidate) → List·Memᴰ w vs → Among m is (Is edge) w) → ((w : Candidate) → Among m is (Is edge) w → List·Memᴰ w vs)
     → folded m (offer d is edge) C.Nothing ≡ firstNot d C.Nothing (ordered vs)
 offers-first d is edge m vs U f g =
     sym (best-first vs U d (best-same (λ w x. ⊎-elim (λ z. absurd z) (λ y. g w y) x) (λ w y. inr (f w y)) (offers-best d is edge (λ w. ⊥) C.Nothing m (best-start (λ v z. z)))))
@@ -112,17 +114,17 @@ offers-first d is edge m vs U f g =
 -- A list of edges
 
 -- the best of b and the edges of a list
-abbrev pub bestOf : (Wanted → Bool) → Choice → List Wanted → Choice
+abbrev pub bestOf : (Candidate → Bool) → Choice → List Candidate → Choice
 bestOf d b [] = b
 bestOf d b (w ∷ ws) = bestOf d (better d b w) ws
 
-list-best : {d : Wanted → Bool} (Q : Wanted → Type 0) (b : Choice) (ws : List Wanted) → Best d Q b → Best d (λ w. Q w ⊎ List·Memᴰ w ws) (bestOf d b ws)
+list-best : {d : Candidate → Bool} (Q : Candidate → Type 0) (b : Choice) (ws : List Candidate) → Best d Q b → Best d (λ w. Q w ⊎ List·Memᴰ w ws) (bestOf d b ws)
 list-best Q b [] h = best-same (λ w q. inl q) (λ w x. ⊎-elim (λ q. q) (λ y. absurd (List·Memᴰ·not-nil y)) x) h
 list-best {d} Q b (v ∷ ws) h =
     best-same (λ w x. ⊎-elim (λ y. ⊎-elim (λ q. inl q) (λ z. inr (List·Memᴰ·head z)) y) (λ z. inr (List·Memᴰ·tail z)) x)
     (λ w x. ⊎-elim (λ q. inl (inl q)) (λ y. ⊎-elim (λ z. inl (inr z)) (λ z. inr z) (List·Memᴰ·cases-cons y)) x)
     (list-best (λ w. Q w ⊎ (w ≡ v)) (better d b v) ws (best-next v (λ w q. inl q) (inr refl) (λ w y. y) h))
 
-pub list-first : (d : Wanted → Bool) {kind verifier : ℕ} (vs : List Wanted) → Uniform kind verifier vs → bestOf d C.Nothing vs ≡ firstNot d C.Nothing (ordered vs)
+pub list-first : (d : Candidate → Bool) {kind verifier : ℕ} (vs : List Candidate) → Uniform kind verifier vs → bestOf d C.Nothing vs ≡ firstNot d C.Nothing (ordered vs)
 list-first d vs U =
     sym (best-first vs U d (best-same (λ w x. ⊎-elim (λ z. absurd z) (λ y. y) x) (λ w y. inr y) (list-best (λ w. ⊥) C.Nothing vs (best-start (λ v z. z)))))

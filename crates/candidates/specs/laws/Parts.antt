@@ -10,20 +10,20 @@ use Rattle.expression.specs.declared.Expression.the-variants as E
 use Rattle.rt0.specs.laws.Lists.{map-find}
 use Rattle.rt0.specs.From.{rolesOf}
 use Rattle.graph.specs.declared.Node.{Node}
-use Rattle.moves.specs.declared.Wanted.{Wanted}
+use Rattle.moves.specs.declared.Candidate.{Candidate}
 use Rattle.moves.specs.declared.Choice.{Choice}
 use Rattle.moves.specs.declared.Choice.the-variants as C
-use Rattle.moves.specs.Wanted.{firstNot}
+use Rattle.moves.specs.Candidates.{firstNot}
 use Rattle.moves.specs.Rules.{childFor, partEdges}
 use Rattle.candidates.specs.laws.Least.{better, Uniform}
 use Rattle.candidates.specs.laws.Offers.{bestOf, list-first}
 
-abbrev pub partEdge : Node → Role → Wanted
+abbrev pub partEdge : Node → Role → Candidate
 partEdge n a = childFor 5 n (E.Role a) (n .subject)
 
-module _ (d : Wanted → Bool) (n : Node) (p : Parts) where
+module _ (d : Candidate → Bool) (n : Node) (p : Parts) where
   uniform : (rs : List Role) → Uniform 5 (n .verifier) (map (partEdge n) rs)
-  uniform rs = record { each = λ w m. let f = map-find (partEdge n) rs m in (ap (λ (v : Wanted). v .kind) (f .2), ap (λ (v : Wanted). v .verifier) (f .2), ap (λ (v : Wanted). v .direct) (f .2)) }
+  uniform rs = record { each = λ w m. let f = map-find (partEdge n) rs m in (ap (λ (v : Candidate). v .kind) (f .2), ap (λ (v : Candidate). v .verifier) (f .2), ap (λ (v : Candidate). v .direct) (f .2)) }
 
   listed : bestOf d C.Nothing (map (partEdge n) (rolesOf p)) ≡ firstNot d C.Nothing (partEdges n (rolesOf p))
   listed = list-first d (map (partEdge n) (rolesOf p)) (uniform (rolesOf p))

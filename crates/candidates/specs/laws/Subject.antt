@@ -22,10 +22,10 @@ use Rattle.propagation.specs.laws.Flags.{flag}
 use Rattle.frontier.specs.laws.Frontier.{Reaches}
 use Rattle.graph.specs.declared.Node.{Node}
 use Rattle.needed.specs.laws.Column.{upTo-mem, upTo-find}
-use Rattle.moves.specs.declared.Wanted.{Wanted}
+use Rattle.moves.specs.declared.Candidate.{Candidate}
 use Rattle.moves.specs.declared.Choice.{Choice}
 use Rattle.moves.specs.declared.Choice.the-variants as C
-use Rattle.moves.specs.Wanted.{ordered, firstNot}
+use Rattle.moves.specs.Candidates.{ordered, firstNot}
 use Rattle.moves.specs.Rules.{childFor, implications, toSubject}
 use Rattle.candidates.specs.laws.Least.{better}
 use Rattle.candidates.specs.laws.Offers.{folded, offer}
@@ -49,7 +49,7 @@ module _ (P : Pool) (stop found : List ℕ) (s k : ℕ) where
   subject-same h p q = q ∙ (ap (λ (y : Expression). same y (E.Entity s)) p ∙ sym (flags-both (flag found k) (flag stop k) (same (bodyAt P k) (E.Entity s)) h))
 
 -- the choice among the edges of a frontier
-pub record Aimed (d : Wanted → Bool) (P : Pool) (on stop : List ℕ) (n : Node) (e : Role) (r : Choice) : Type 0 where
+pub record SubjectLeads (d : Candidate → Bool) (P : Pool) (on stop : List ℕ) (n : Node) (e : Role) (r : Choice) : Type 0 where
   pub found : List ℕ
   pub reaches : Reaches P on stop e found
   pub best : r
@@ -72,6 +72,7 @@ module _ {P : Pool} {stop found : List ℕ} {xs : List Expression} (D : Reads P 
           any-here (same (E.Entity s))
           (D .fro (E.Entity s) (record { at = u .0; below = u .1; flagged = ap (flag found) (sym z) ∙ q .0; ends = ap (flag stop) (sym z) ∙ q .1; body = ap (bodyAt P) (sym z) ∙ b }))
           (eq-same (E.Entity s) (E.Entity s) refl)
+
       fro : any (same (E.Entity s)) xs ≡ true → any (isSubjectAt P stop found s) (upTo (P .count) (λ k. k)) ≡ true
       fro h =
           let w = any-find (same (E.Entity s)) xs h in
@@ -81,24 +82,26 @@ module _ {P : Pool} {stop found : List ℕ} {xs : List Expression} (D : Reads P 
           (eq-same (bodyAt P (m .at)) (E.Entity s) (m .body ∙ sym (same-eq (E.Entity s) (w .0) (w .2)))))
 
   -- the first edge of "If S ∈ ..", "When S ∉ .." that is not done
-  pub aimed-first : (d : Wanted → Bool) (n : Node) {r : Choice}
+  pub subject-first : (d : Candidate → Bool) (n : Node) {r : Choice}
       → r ≡ cond (hasSubject P stop found (n .subject)) (better d C.Nothing (childFor 1 n (E.Entity (n .subject)) (n .subject))) (folded (P .count) (offer d (isMember P stop found false n) (memberEdge P n)) C.Nothing)
       → r ≡ firstNot d C.Nothing (toSubject n xs)
   unfolding better firstNot
-  aimed-first d n h = h ∙ go (hasSubject P stop found (n .subject)) (any (same (E.Entity (n .subject))) xs) (subject-read (n .subject))
+  subject-first d n h = h ∙ go (hasSubject P stop found (n .subject)) (any (same (E.Entity (n .subject))) xs) (subject-read (n .subject))
     where
-      one : Wanted
+      one : Candidate
       one = childFor 1 n (E.Entity (n .subject)) (n .subject)
+
       others : Choice
       others = folded (P .count) (offer d (isMember P stop found false n) (memberEdge P n)) C.Nothing
+
       go : (a b : Bool) → a ≡ b → cond a (better d C.Nothing one) others ≡ firstNot d C.Nothing (cond b (one ∷ []) (implications n (keep (λ x. not (isEntity x)) xs)))
       go a true e = ap (λ (x : Bool). cond x (better d C.Nothing one) others) e
-      go a false e = ap (λ (x : Bool). cond x (better d C.Nothing one) others) e ∙ (members-first D false n d refl ∙ ap (λ (ws : List Wanted). firstNot d C.Nothing (ordered ws)) (no-entities n xs))
+      go a false e = ap (λ (x : Bool). cond x (better d C.Nothing one) others) e ∙ (members-first D false n d refl ∙ ap (λ (ws : List Candidate). firstNot d C.Nothing (ordered ws)) (no-entities n xs))
 
 -- by whether the subject is a member
-module _ (d : Wanted → Bool) {P : Pool} {on stop found : List ℕ} (n : Node) {e : Role} (R : Reaches P on stop e found) {h : Bool} (p : h ≡ hasSubject P stop found (n .subject)) where
+module _ (d : Candidate → Bool) {P : Pool} {on stop found : List ℕ} (n : Node) {e : Role} (R : Reaches P on stop e found) {h : Bool} (p : h ≡ hasSubject P stop found (n .subject)) where
   chosen-by : (b : Bool) → h ≡ b → {r : Choice}
-      → r ≡ cond b (better d C.Nothing (childFor 1 n (E.Entity (n .subject)) (n .subject))) (folded (P .count) (offer d (isMember P stop found false n) (memberEdge P n)) C.Nothing) → Aimed d P on stop n e r
+      → r ≡ cond b (better d C.Nothing (childFor 1 n (E.Entity (n .subject)) (n .subject))) (folded (P .count) (offer d (isMember P stop found false n) (memberEdge P n)) C.Nothing) → SubjectLeads d P on stop n e r
   chosen-by b k q =
       record {
         found = found;
@@ -106,8 +109,8 @@ module _ (d : Wanted → Bool) {P : Pool} {on stop found : List ℕ} (n : Node) 
         best = q ∙ sym (ap (λ (x : Bool). cond x (better d C.Nothing (childFor 1 n (E.Entity (n .subject)) (n .subject))) (folded (P .count) (offer d (isMember P stop found false n) (memberEdge P n)) C.Nothing)) (sym p ∙ k));
       }
 
-  pub aimed-subject : h ≡ true → {w : Wanted} {r : Choice} → w ≡ childFor 1 n (E.Entity (n .subject)) (n .subject) → r ≡ better d C.Nothing w → Aimed d P on stop n e r
-  aimed-subject k f q = chosen-by true k (q ∙ ap (better d C.Nothing) f)
+  pub subject-found : h ≡ true → {w : Candidate} {r : Choice} → w ≡ childFor 1 n (E.Entity (n .subject)) (n .subject) → r ≡ better d C.Nothing w → SubjectLeads d P on stop n e r
+  subject-found k f q = chosen-by true k (q ∙ ap (better d C.Nothing) f)
 
-  pub aimed-others : h ≡ false → {r : Choice} → r ≡ folded (P .count) (offer d (isMember P stop found false n) (memberEdge P n)) C.Nothing → Aimed d P on stop n e r
-  aimed-others k q = chosen-by false k q
+  pub subject-others : h ≡ false → {r : Choice} → r ≡ folded (P .count) (offer d (isMember P stop found false n) (memberEdge P n)) C.Nothing → SubjectLeads d P on stop n e r
+  subject-others k q = chosen-by false k q

@@ -15,12 +15,12 @@ use Rattle.graph.specs.declared.Node.{Node}
 use Rattle.graph.specs.Graph.{nodeIn}
 use Rattle.negotiation.specs.State.{State}
 use Rattle.graph.specs.Processed.{processedBy}
-use Rattle.moves.specs.declared.Wanted.{Wanted}
+use Rattle.moves.specs.declared.Candidate.{Candidate}
 use Rattle.moves.specs.declared.Choice.{Choice}
 use Rattle.moves.specs.declared.Choice.the-variants as C
 use Rattle.moves.specs.declared.Known.{Known}
 use Rattle.moves.specs.Frontiers.{bodiesOf, frontierOf, sens}
-use Rattle.moves.specs.Wanted.{firstNot, chosenIn, isDone}
+use Rattle.moves.specs.Candidates.{firstNot, chosenIn, isDone}
 use Rattle.moves.specs.Rules.{endIn, implications, ownRules, opponentRules}
 use Rattle.moves.specs.Move.{choiceAt}
 use Rattle.candidates.specs.laws.Least.{orElse}
@@ -29,7 +29,7 @@ use Rattle.choice.specs.laws.Sensitive.{alone, controlFor, knownChoice}
 use Rattle.choice.specs.laws.RuleChoice.{opponent-as, about-us, sensitive-choice, at-opponent}
 
 -- rule (4) for the role a at node n
-abbrev pub restEdges : Tables → Node → Role → List Wanted
+abbrev pub restEdges : Tables → Node → Role → List Candidate
 restEdges T n a = implications n (keep (λ x. not (isEntity x)) (frontierOf (sens (T .sensitive)) (publicOf T .subjectStored) (bodiesOf (publicOf T .subjectStored) (E.Role a))))
 
 -- node i is n, for e; the other side is its verifier, and our side has not processed it
@@ -43,7 +43,7 @@ pub asked-as : {S : State} {i : ℕ} {n : Node} {e f : Expression} → Asked S i
 asked-as q h = record { number = q .number; expression = q .expression ∙ h; unprocessed = q .unprocessed; opponent = q .opponent }
 
 module _ (T : Tables) (S : State) (i : ℕ) (n : Node) (a ack : Role) where
-  abbrev done : Wanted → Bool
+  abbrev done : Candidate → Bool
   done = isDone (S .nodes) (S .edges) i
 
   -- the edges of rule (4)

@@ -16,14 +16,14 @@ use Rattle.graph.specs.declared.Node.{Node}
 use Rattle.graph.specs.Graph.{nodeIn}
 use Rattle.message.specs.declared.Command.{Command}
 use Rattle.negotiation.specs.State.{State}
-use Rattle.moves.specs.declared.Wanted.{Wanted}
+use Rattle.moves.specs.declared.Candidate.{Candidate}
 use Rattle.moves.specs.declared.Choice.{Choice}
 use Rattle.moves.specs.declared.Choice.the-variants as C
 use Rattle.moves.specs.declared.Known.{Known}
 use Rattle.moves.specs.declared.Known.the-variants.{Waiting, Seen}
 use Rattle.moves.specs.declared.Holding.the-variants.{Absent, Free, Guarded}
 use Rattle.moves.specs.Known.{isAcknowledged}
-use Rattle.moves.specs.Wanted.{firstNot, markIf, isDone}
+use Rattle.moves.specs.Candidates.{firstNot, markIf, isDone}
 use Rattle.moves.specs.Rules.{endIn}
 use Rattle.moves.specs.Move.{choiceAt}
 use Rattle.moves.specs.Carried.{carried}
@@ -32,7 +32,7 @@ use Rattle.choice.specs.laws.Known.{knownAs}
 use Rattle.choice.specs.laws.Sensitive.{alone, controlFor, ownFor, satisfiedIn, policyChoice, holdingChoice, knownChoice}
 use Rattle.choice.specs.laws.Asked.{restEdges, Asked, restAt, sensitive-at}
 use Rattle.choice.specs.laws.Later.{or-nothing, Later, asked-back, rest-stays, carried-later}
-use Rattle.choice.specs.laws.Next.{Passed}
+use Rattle.choice.specs.laws.Next.{NothingBefore}
 
 -- below p the edges of rule (4) of sensitive roles about us are done
 pub record Exhausted (T : Tables) (S : State) (p : ℕ) : Type 0 where
@@ -54,7 +54,7 @@ exhausted-both T S p m f g = go (ltb p m)
 -- Where there is nothing to do
 
 -- whatever is known of the role, the rest is done
-known-nothing : (S : State) (d : Wanted → Bool) (i : ℕ) (n : Node) (rest : Choice) (k : Known) → knownChoice S d i n rest k ≡ C.Nothing → rest ≡ C.Nothing
+known-nothing : (S : State) (d : Candidate → Bool) (i : ℕ) (n : Node) (rest : Choice) (k : Known) → knownChoice S d i n rest k ≡ C.Nothing → rest ≡ C.Nothing
 unfolding knownChoice holdingChoice policyChoice
 known-nothing S d i n rest Waiting h = or-nothing rest (markIf (satisfiedIn S i)) h .0
 known-nothing S d i n rest (Seen Absent) h = or-nothing rest C.Mark h .0
@@ -68,11 +68,11 @@ known-nothing S d i n rest (Seen (Guarded r)) h =
 module _ (T : Tables) (S : State) where
   idle-done : (i : ℕ) (n : Node) (a ack : Role) → Asked S i n (E.Role a) → n .subject ≡ T .own → otherOf (T .sensitive) a ≡ A.Found ack → choiceAt (endIn T S) i n ≡ C.Nothing → restAt T S i n a ack ≡ C.Nothing
   idle-done i n a ack q s f h =
-      let d : Wanted → Bool = isDone (S .nodes) (S .edges) i in
+      let d : Candidate → Bool = isDone (S .nodes) (S .edges) i in
       let k : Known = knownAs S (hiddenOf T) a ack in
       known-nothing S d i n (restAt T S i n a ack) k (or-nothing (alone d (controlFor S n ack)) (knownChoice S d i n (restAt T S i n a ack) k) (sensitive-at T S i n a ack q s f ∙ h) .1)
 
-  pub idle-exhausted : (m : ℕ) → m ≤ length (S .nodes) → Passed (endIn T S) m → Exhausted T S m
+  pub idle-exhausted : (m : ℕ) → m ≤ length (S .nodes) → NothingBefore (endIn T S) m → Exhausted T S m
   unfolding endIn
   idle-exhausted m l P = record { stands = l; done = λ i j n a ack q s f. idle-done i n a ack q s f (ap (choiceAt (endIn T S) i) (q .number) ∙ P .none i j) }
 

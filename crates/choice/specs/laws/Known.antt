@@ -55,6 +55,7 @@ found-sensitive [] a ack h = absurd (absent-found h)
     isFound : RoleAnswer → Bool
     isFound (A.Found r) = true
     isFound A.Absent = false
+
     absent-found : A.Absent ≡ A.Found ack → ⊥
     absent-found e = false-true (ap isFound e)
 found-sensitive (p ∷ ps) a ack h = go (sameRole (p .role) a) refl h (λ k. found-sensitive ps a ack k)

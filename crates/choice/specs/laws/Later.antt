@@ -27,11 +27,11 @@ use Rattle.negotiation.specs.declared.Header.{Header}
 use Rattle.negotiation.specs.State.{State, withNode, withEdge, withShown, withMark}
 use Rattle.graph.specs.Processed.{processedBy, markedState}
 use Rattle.applied.specs.Step.{primaryOf, childIn, stepped}
-use Rattle.moves.specs.declared.Wanted.{Wanted}
+use Rattle.moves.specs.declared.Candidate.{Candidate}
 use Rattle.moves.specs.declared.Choice.{Choice}
 use Rattle.moves.specs.declared.Choice.the-variants as C
 use Rattle.moves.specs.laws.KnownStays.{More, Onward, found-more, more-same, more-both, step-onward, step-header}
-use Rattle.moves.specs.Wanted.{firstNot, childNumber, childStands, isDone}
+use Rattle.moves.specs.Candidates.{firstNot, childNumber, childStands, isDone}
 use Rattle.moves.specs.Carried.{carried}
 use Rattle.candidates.specs.laws.Least.{orElse}
 use Rattle.choice.specs.laws.Asked.{restEdges, Asked}
@@ -44,7 +44,7 @@ or-nothing (C.Edge w) c h = absurd (false-true (ap isNothing h))
 or-nothing C.Mark c h = absurd (false-true (ap isNothing h))
 or-nothing C.Nothing c h = (refl, h)
 
-pub first-stays : (d e : Wanted → Bool) → ((w : Wanted) → d w ≡ true → e w ≡ true) → (ws : List Wanted) → firstNot d C.Nothing ws ≡ C.Nothing → firstNot e C.Nothing ws ≡ C.Nothing
+pub first-stays : (d e : Candidate → Bool) → ((w : Candidate) → d w ≡ true → e w ≡ true) → (ws : List Candidate) → firstNot d C.Nothing ws ≡ C.Nothing → firstNot e C.Nothing ws ≡ C.Nothing
 unfolding firstNot
 first-stays d e f [] h = refl
 first-stays d e f (w ∷ ws) h = go (d w) refl h (λ k. first-stays d e f ws k)
@@ -56,15 +56,15 @@ first-stays d e f (w ∷ ws) h = go (d w) refl h (λ k. first-stays d e f ws k)
 
 module _ {ns ns′ : List Node} {es es′ : List Edge} (g : More ns es ns′ es′) (few : length ns ≤ 128) where
   -- a child that stands is found at the same number
-  same-child : (w : Wanted) → childStands ns w ≡ true → childNumber ns′ w ≡ childNumber ns w
+  same-child : (w : Candidate) → childStands ns w ≡ true → childNumber ns′ w ≡ childNumber ns w
   same-child w h =
       ⊎-elim (λ a. absurd (omega (arith, few, a .number, ltb-true (childNumber ns w) (length ns) h))) (λ f. found-more g (w .expression) (w .verifier) (w .subject) f)
       (F.find-cases ns (w .expression) (w .verifier) (w .subject))
 
-  abbrev edge : ℕ → Wanted → ℕ → Edge
+  abbrev edge : ℕ → Candidate → ℕ → Edge
   edge i w c = record { kind = w .kind; parent = i; child = c }
 
-  pub done-stays : (i : ℕ) (w : Wanted) → isDone ns es i w ≡ true → isDone ns′ es′ i w ≡ true
+  pub done-stays : (i : ℕ) (w : Candidate) → isDone ns es i w ≡ true → isDone ns′ es′ i w ≡ true
   unfolding isDone
   done-stays i w h = go (childStands ns w) refl h
     where
@@ -73,6 +73,7 @@ module _ {ns ns′ : List Node} {es es′ : List Edge} (g : More ns es ns′ es�
           let c : ℕ = childNumber ns w in
           ⊎-elim (λ z. or-left (eqb i c) (hasEdge es′ (edge i w c)) z) (λ z. or-right (eqb i c) (hasEdge es′ (edge i w c)) (F.has-exact es′ (edge i w c) .1 (g .edges (edge i w c) (F.has-exact es (edge i w c) .0 z))))
           (or-cases (eqb i c) (hasEdge es (edge i w c)) k)
+
       go : (b : Bool) → childStands ns w ≡ b → cond b (eqb i (childNumber ns w) || hasEdge es (edge i w (childNumber ns w))) false ≡ true
           → cond (childStands ns′ w) (eqb i (childNumber ns′ w) || hasEdge es′ (edge i w (childNumber ns′ w))) false ≡ true
       go true q k =
@@ -125,6 +126,7 @@ marked-processed s n = go (eqb (n .verifier) s)
   where
     t : ℕ
     t = n .state
+
     go : (b : Bool) → cond b (eqb (cond b (bitOr t 1) (bitOr t 2) % 2) 1) (eqb (cond b (bitOr t 1) (bitOr t 2) / 2 % 2) 1) ≡ true
     go true = sym (ap (λ (k : ℕ). eqb (k % 2) 1) (div-one (bitOr t 1))) ∙ (bit-or t 1 0 ∙ or-right (bitAt t 0) (bitAt 1 0) refl)
     go false = bit-or t 2 1 ∙ or-right (bitAt t 1) (bitAt 2 1) refl
@@ -151,8 +153,10 @@ step-open S (Mark k) i l h = go (eqb i k) refl
   where
     s : ℕ
     s = S .header .side
+
     marked : Node
     marked = inState (markedState s (nodeIn (S .nodes) k)) (nodeIn (S .nodes) k)
+
     go : (b : Bool) → eqb i k ≡ b → processedBy s (nodeIn (S .nodes) i) ≡ false
     go true e =
         let same : nodeIn (set (S .nodes) k marked) i ≡ marked = ap (nodeIn (set (S .nodes) k marked)) (eqb-true i k e) ∙ getD-set-same (S .nodes) k marked blank (omega (arith, l, eqb-true i k e)) in

@@ -105,18 +105,18 @@ unfolding isUnprocessed
 open-other s v t h = sym (ap (λ (b : Bool). cond b (not (eqb (t % 2) 1)) (not (eqb (t / 2 % 2) 1))) (ne-eqb v s h))
 
 -- nothing is to be done at the nodes below i
-pub record Passed (o : End) (i : ℕ) : Type 0 where
+pub record NothingBefore (o : End) (i : ℕ) : Type 0 where
   pub none : (j : ℕ) → j < i → choiceAt o j (nodeIn (o .state .nodes) j) ≡ C.Nothing
 
-pub passed-start : (o : End) → Passed o 0
-passed-start o = record { none = λ j l. absurd (omega arith) }
+pub nothing-start : (o : End) → NothingBefore o 0
+nothing-start o = record { none = λ j l. absurd (omega arith) }
 
-module _ (o : End) {i : ℕ} (P : Passed o i) {n : Node} (ne : n ≡ nodeIn (o .state .nodes) i) {c : Choice} (ce : c ≡ choiceAt o i n) {b : Bool} (be : b ≡ isNothing c) where
+module _ (o : End) {i : ℕ} (P : NothingBefore o i) {n : Node} (ne : n ≡ nodeIn (o .state .nodes) i) {c : Choice} (ce : c ≡ choiceAt o i n) {b : Bool} (be : b ≡ isNothing c) where
   here : c ≡ choiceAt o i (nodeIn (o .state .nodes) i)
   here = ce ∙ ap (choiceAt o i) ne
 
-  pub passed-next : not b ≡ false → Passed o (i + 1)
-  passed-next h =
+  pub nothing-next : not b ≡ false → NothingBefore o (i + 1)
+  nothing-next h =
       record {
         none = λ j l.
             ⊎-elim
@@ -132,7 +132,7 @@ module _ (o : End) {i : ℕ} (P : Passed o i) {n : Node} (ne : n ≡ nodeIn (o .
       found-from o 0 (o .state .nodes) i l (λ t k. from-zero o (o .state .nodes) t (P .none t k)) (ap (λ (m : ℕ). isNothing (choiceAt o m (nodeIn (o .state .nodes) i))) z ∙ q)
       ∙ (ap (λ (m : ℕ). moveFor o m (nodeIn (o .state .nodes) i) (choiceAt o m (nodeIn (o .state .nodes) i))) z ∙ ((λ t. moveFor o i (nodeIn (o .state .nodes) i) (sym here t)) ∙ ap (λ (j : ℕ). moveFor o j (nodeIn (o .state .nodes) j) c) (sym e)))
 
-pub found-nothing : (o : End) {i : ℕ} → Passed o i → length (o .state .nodes) ≤ i → nextMove o ≡ foundMove o (record { node = 0; choice = C.Nothing })
+pub found-nothing : (o : End) {i : ℕ} → NothingBefore o i → length (o .state .nodes) ≤ i → nextMove o ≡ foundMove o (record { node = 0; choice = C.Nothing })
 unfolding nextMove foundMove
 found-nothing o {i} P l = none-from o 0 (o .state .nodes) (λ t q. from-zero o (o .state .nodes) t (P .none t (omega arith)))
 
@@ -153,28 +153,33 @@ role-kind : (r : Raw) → r .kind ≡ 2 → isRoleExpression (expressionOf r) �
 role-kind r h = ap (λ (k : ℕ). isRoleExpression (expressionOf (record { kind = k; count = r .count; n0 = r .n0; n1 = r .n1; n2 = r .n2; n3 = r .n3; n4 = r .n4; n5 = r .n5; n6 = r .n6; n7 = r .n7 }))) h
 
 -- nodes that our side has processed are passed over, and role targets at which there is nothing to do
-pub passed-skip : (T : Tables) (n : Negotiation) {q i r : ℕ} → Resting T (stateOf n) q → Passed (endIn T (stateOf n)) i → Skipped (openAt (n .nodes .kind) (n .nodes .verifier) (n .nodes .state) (n .header .side) q) i (n .nodes .count) r
-    → Passed (endIn T (stateOf n)) r
+pub nothing-skip : (T : Tables) (n : Negotiation) {q i r : ℕ} → Resting T (stateOf n) q → NothingBefore (endIn T (stateOf n)) i → Skipped (openAt (n .nodes .kind) (n .nodes .verifier) (n .nodes .state) (n .header .side) q) i (n .nodes .count) r
+    → NothingBefore (endIn T (stateOf n)) r
 unfolding endIn stateOf openAt expressionFrom
-passed-skip T n {q} {i} {r} R P S =
+nothing-skip T n {q} {i} {r} R P S =
     record { none = λ j l. ⊎-elim (λ y. P .none j (ltb-true j i y)) (λ y. skipped j (ltb-false j i y) l) (decided (ltb j i)) }
   where
     N : Nodes
     N = n .nodes
+
     Idle : ℕ → Type 0
     Idle j = choiceAt (endIn T (stateOf n)) j (nodeIn (nodesOf N) j) ≡ C.Nothing
+
     processed : (j : ℕ) → nodeIn (nodesOf N) j ≡ nodeAt N j → isUnprocessed (n .header .side) (getD (N .verifier) j 0) (getD (N .state) j 0) ≡ false → Idle j
     processed j e h =
         let p : processedBy (n .header .side) (nodeAt N j) ≡ true = open-not (n .header .side) (nodeAt N j) h in
         ap (choiceAt (endIn T (stateOf n)) j) e ∙ sym (at-processed T (stateOf n) j (nodeAt N j) {p = true} (sym p) refl refl)
+
     resting : (j : ℕ) → nodeIn (nodesOf N) j ≡ nodeAt N j → (ltb j q && eqb (getD (N .kind) j 0) 2) ≡ true → Idle j
     resting j e h =
         let p = and-parts (ltb j q) (eqb (getD (N .kind) j 0) 2) h in
         R .none j (ltb-true j q (p .0)) (ap (λ (x : Node). isRoleExpression (x .expression)) e ∙ role-kind _ (eqb-true (getD (N .kind) j 0) 2 (p .1)))
+
     by-test : (j : ℕ) → nodeIn (nodesOf N) j ≡ nodeAt N j → (a b : Bool) → isUnprocessed (n .header .side) (getD (N .verifier) j 0) (getD (N .state) j 0) ≡ a → (ltb j q && eqb (getD (N .kind) j 0) 2) ≡ b → (a && not b) ≡ false → Idle j
     by-test j e false b x y h = processed j e x
     by-test j e true true x y h = resting j e y
     by-test j e true false x y h = absurd (false-true (sym h))
+
     skipped : (j : ℕ) → i ≤ j → j < r → Idle j
     skipped j l h =
         let w = S .within in

@@ -18,7 +18,7 @@ use Rattle.graph.specs.declared.Node.{Node}
 use Rattle.negotiation.specs.State.{State}
 use Rattle.moves.specs.Frontiers.{bodiesOf}
 use Rattle.moves.specs.Known.{knownOf}
-use Rattle.moves.specs.Wanted.{Plan}
+use Rattle.moves.specs.Candidates.{Plan}
 use Rattle.moves.specs.Rules.{End, implications, toSubject, thenMark, controlEdge, sensitiveRules, sensFrontier, ownRules}
 use Rattle.choice.specs.laws.Known.{knownAs}
 

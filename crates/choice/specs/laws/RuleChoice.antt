@@ -20,12 +20,12 @@ use Rattle.tables.specs.Public.{publicOf, hiddenOf, keep}
 use Rattle.graph.specs.declared.Node.{Node}
 use Rattle.negotiation.specs.State.{State}
 use Rattle.graph.specs.Processed.{processedBy}
-use Rattle.moves.specs.declared.Wanted.{Wanted}
+use Rattle.moves.specs.declared.Candidate.{Candidate}
 use Rattle.moves.specs.declared.Choice.{Choice}
 use Rattle.moves.specs.declared.Choice.the-variants as C
 use Rattle.moves.specs.declared.Known.{Known}
 use Rattle.moves.specs.Frontiers.{bodiesOf, frontierOf, oppo, simp, sens}
-use Rattle.moves.specs.Wanted.{ordered, firstNot, chosenIn, isDone}
+use Rattle.moves.specs.Candidates.{ordered, firstNot, chosenIn, isDone}
 use Rattle.moves.specs.Rules.{End, endIn, implications, toSubject, partEdges, thenMark, linkRules, byClass, verifierRules, ownRules, opponentRules}
 use Rattle.moves.specs.Move.{planAt, choiceAt}
 use Rattle.candidates.specs.laws.Least.{orElse, first-rest}
@@ -36,11 +36,11 @@ use Rattle.choice.specs.laws.OwnRules.{own-plain, own-sensitive}
 use Rattle.candidates.specs.laws.All.{allEdges}
 
 -- all that stands, and a mark
-pub then-mark : (d : Wanted → Bool) (ws : List Wanted) {b c : Choice} → b ≡ firstNot d C.Nothing ws → c ≡ orElse b C.Mark → c ≡ chosenIn d (thenMark ws)
+pub then-mark : (d : Candidate → Bool) (ws : List Candidate) {b c : Choice} → b ≡ firstNot d C.Nothing ws → c ≡ orElse b C.Mark → c ≡ chosenIn d (thenMark ws)
 unfolding chosenIn
 then-mark d ws p q = q ∙ (ap (λ (x : Choice). orElse x C.Mark) p ∙ sym (first-rest d C.Mark ws))
 
-module _ (T : Tables) (S : State) (d : Wanted → Bool) (i : ℕ) (n : Node) where
+module _ (T : Tables) (S : State) (d : Candidate → Bool) (i : ℕ) (n : Node) where
   abbrev o : End
   o = endIn T S
 
@@ -131,7 +131,7 @@ module _ (T : Tables) (S : State) (d : Wanted → Bool) (i : ℕ) (n : Node) whe
         → k ≡ knownAs S (hiddenOf T) a ack → b ≡ knownChoice S d i n rest k → c ≡ orElse (alone d (controlFor S n ack)) b → c ≡ chosenIn d (ownRules o i n a (o .known))
     unfolding endIn publicOf
     sensitive-choice {ack = ack} p h u v w q =
-        let ws : List Wanted = implications n (keep (λ x. not (isEntity x)) (frontierOf (sens (T .sensitive)) (publicOf T .subjectStored) (bodiesOf (publicOf T .subjectStored) (E.Role a)))) in
+        let ws : List Candidate = implications n (keep (λ x. not (isEntity x)) (frontierOf (sens (T .sensitive)) (publicOf T .subjectStored) (bodiesOf (publicOf T .subjectStored) (E.Role a)))) in
         q ∙ (ap (orElse (alone d (controlFor S n ack))) (w ∙ (λ t. knownChoice S d i n (u t) (v t)))
         ∙ (sensitive-rules o d i n (controlFor S n ack) ws (knownAs S (hiddenOf T) a ack)
         ∙ sym (ap (chosenIn d) (own-sensitive o i n a (hiddenOf T) S (T .sensitive) ack (sym p ∙ h)))))

@@ -13,7 +13,7 @@ use Rattle.graph.specs.Propagated.{satisfiedB}
 use Rattle.justification.specs.laws.Justified.{Says}
 use Rattle.negotiation.specs.State.{State}
 use Rattle.negotiation.specs.Ends.{otherSide}
-use Rattle.moves.specs.declared.Wanted.{Wanted}
+use Rattle.moves.specs.declared.Candidate.{Candidate}
 use Rattle.moves.specs.declared.Choice.{Choice}
 use Rattle.moves.specs.declared.Choice.the-variants as C
 use Rattle.moves.specs.declared.Holding.{Holding}
@@ -21,15 +21,15 @@ use Rattle.moves.specs.declared.Holding.the-variants.{Absent, Free, Guarded}
 use Rattle.moves.specs.declared.Known.{Known}
 use Rattle.moves.specs.declared.Known.the-variants.{Waiting, Seen}
 use Rattle.moves.specs.Known.{isAcknowledged}
-use Rattle.moves.specs.Wanted.{firstNot, markIf, chosenIn}
+use Rattle.moves.specs.Candidates.{firstNot, markIf, chosenIn}
 use Rattle.moves.specs.Rules.{End, isSatisfied, controlEdge, ownEdge, sensitiveRules}
 use Rattle.candidates.specs.laws.Least.{better, orElse, first-rest}
 
 -- one edge, unless it is done
-abbrev pub alone : (Wanted → Bool) → Wanted → Choice
+abbrev pub alone : (Candidate → Bool) → Candidate → Choice
 alone d w = better d C.Nothing w
 
-first-cons : (d : Wanted → Bool) (rest : Choice) (w : Wanted) (ws : List Wanted) → firstNot d rest (w ∷ ws) ≡ orElse (alone d w) (firstNot d rest ws)
+first-cons : (d : Candidate → Bool) (rest : Choice) (w : Candidate) (ws : List Candidate) → firstNot d rest (w ∷ ws) ≡ orElse (alone d w) (firstNot d rest ws)
 unfolding firstNot better
 first-cons d rest w ws = go (d w)
   where
@@ -38,16 +38,16 @@ first-cons d rest w ws = go (d w)
     go false = refl
 
 -- a control edge, the edge to our own trivial target, and whether a node is satisfied, in a state
-abbrev pub controlFor : State → Node → Role → Wanted
+abbrev pub controlFor : State → Node → Role → Candidate
 controlFor S n r = record { kind = 6; verifier = otherSide (n .verifier); expression = E.Role r; subject = S .header .other; direct = false }
 
-abbrev pub ownFor : Node → Wanted
+abbrev pub ownFor : Node → Candidate
 ownFor n = record { kind = 1; verifier = n .verifier; expression = E.Entity (n .subject); subject = n .subject; direct = true }
 
 abbrev pub satisfiedIn : State → ℕ → Bool
 satisfiedIn S i = at (satisfiedB (S .nodes) (S .edges)) i
 
-module _ (S : State) (d : Wanted → Bool) (i : ℕ) (n : Node) (rest : Choice) where
+module _ (S : State) (d : Candidate → Bool) (i : ℕ) (n : Node) (rest : Choice) where
   -- rules (2) to (5) where an AC role is set
   unfoldable pub policyChoice : Role → Choice
   policyChoice r =
@@ -66,7 +66,7 @@ module _ (S : State) (d : Wanted → Bool) (i : ℕ) (n : Node) (rest : Choice) 
   knownChoice Waiting = orElse rest (markIf (satisfiedIn S i))
   knownChoice (Seen h) = holdingChoice h
 
-module _ (o : End) (d : Wanted → Bool) (i : ℕ) (n : Node) (ack : Wanted) (rest : List Wanted) where
+module _ (o : End) (d : Candidate → Bool) (i : ℕ) (n : Node) (ack : Candidate) (rest : List Candidate) where
   behind-all : (m : Bool) → firstNot d (markIf m) rest ≡ orElse (firstNot d C.Nothing rest) (markIf m)
   behind-all m = first-rest d (markIf m) rest
 
@@ -96,7 +96,7 @@ module _ (o : End) (d : Wanted → Bool) (i : ℕ) (n : Node) (ack : Wanted) (re
 
 -- What the code finds
 
-module _ (S : State) (d : Wanted → Bool) (i : ℕ) (n : Node) (rest : Choice) {c : Choice} where
+module _ (S : State) (d : Candidate → Bool) (i : ℕ) (n : Node) (rest : Choice) {c : Choice} where
   pub by-waiting : {m : Choice} {k : Known} {b : Bool} → k ≡ Waiting → b ≡ satisfiedIn S i → m ≡ markIf b → c ≡ orElse rest m → c ≡ knownChoice S d i n rest k
   unfolding knownChoice
   by-waiting e p q r = r ∙ (ap (orElse rest) (q ∙ ap markIf p) ∙ sym (ap (knownChoice S d i n rest) e))
@@ -109,7 +109,7 @@ module _ (S : State) (d : Wanted → Bool) (i : ℕ) (n : Node) (rest : Choice) 
   unfolding holdingChoice
   by-absent e p = p ∙ sym (ap (holdingChoice S d i n rest) e)
 
-  pub by-free : {a b : Choice} {w : Wanted} {h : Holding} → h ≡ Free → w ≡ ownFor n → a ≡ alone d w → b ≡ orElse rest C.Mark → c ≡ orElse a b → c ≡ holdingChoice S d i n rest h
+  pub by-free : {a b : Choice} {w : Candidate} {h : Holding} → h ≡ Free → w ≡ ownFor n → a ≡ alone d w → b ≡ orElse rest C.Mark → c ≡ orElse a b → c ≡ holdingChoice S d i n rest h
   unfolding holdingChoice
   by-free e w p q r = r ∙ ((λ t. orElse ((p ∙ ap (alone d) w) t) (q t)) ∙ sym (ap (holdingChoice S d i n rest) e))
 
@@ -117,14 +117,14 @@ module _ (S : State) (d : Wanted → Bool) (i : ℕ) (n : Node) (rest : Choice) 
   unfolding holdingChoice
   by-guarded e p = p ∙ sym (ap (holdingChoice S d i n rest) e)
 
-  module _ (r : Role) {w : Wanted} {control : Choice} (we : w ≡ controlFor S n r) (ce : control ≡ alone d w) {a : Bool} (ae : a ≡ isAcknowledged S r) where
+  module _ (r : Role) {w : Candidate} {control : Choice} (we : w ≡ controlFor S n r) (ce : control ≡ alone d w) {a : Bool} (ae : a ≡ isAcknowledged S r) where
     pub policy-waits : {s : Bool} {m b : Choice} → not a ≡ true → s ≡ satisfiedIn S i → m ≡ markIf s → b ≡ orElse rest m → c ≡ orElse control b → c ≡ policyChoice S d i n rest r
     unfolding policyChoice
     policy-waits h p q u v =
         v ∙ ((λ t. orElse ((ce ∙ ap (alone d) we) t) ((u ∙ ap (orElse rest) (q ∙ ap markIf p)) t))
         ∙ sym (ap (λ (x : Bool). orElse (alone d (controlFor S n r)) (orElse (cond x (alone d (ownFor n)) C.Nothing) (orElse rest (markIf (x || satisfiedIn S i))))) (sym ae ∙ not-true a h)))
 
-    pub policy-met : {o : Wanted} {own b e : Choice} → not a ≡ false → o ≡ ownFor n → own ≡ alone d o → b ≡ orElse rest C.Mark → e ≡ orElse own b → c ≡ orElse control e → c ≡ policyChoice S d i n rest r
+    pub policy-met : {o : Candidate} {own b e : Choice} → not a ≡ false → o ≡ ownFor n → own ≡ alone d o → b ≡ orElse rest C.Mark → e ≡ orElse own b → c ≡ orElse control e → c ≡ policyChoice S d i n rest r
     unfolding policyChoice
     policy-met h p q u f v =
         v ∙ ((λ t. orElse ((ce ∙ ap (alone d) we) t) ((f ∙ (λ z. orElse ((q ∙ ap (alone d) p) z) (u z))) t))

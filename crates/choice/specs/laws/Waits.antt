@@ -31,7 +31,7 @@ use Rattle.negotiation.specs.declared.Header.{Header}
 use Rattle.negotiation.specs.State.{State}
 use Rattle.graph.specs.Processed.{processedBy}
 use Rattle.negotiation.specs.Ends.{otherSide}
-use Rattle.moves.specs.declared.Wanted.{Wanted}
+use Rattle.moves.specs.declared.Candidate.{Candidate}
 use Rattle.moves.specs.declared.Choice.{Choice}
 use Rattle.moves.specs.declared.Choice.the-variants as C
 use Rattle.moves.specs.declared.Holding.the-variants.{Absent, Free, Guarded}
@@ -39,7 +39,7 @@ use Rattle.moves.specs.declared.Known.{Known}
 use Rattle.moves.specs.declared.Known.the-variants.{Waiting, Seen}
 use Rattle.moves.specs.Known.{isAcknowledged, holdingOf}
 use Rattle.moves.specs.laws.KnownStays.{found-more}
-use Rattle.moves.specs.Wanted.{firstNot, markIf, isDone}
+use Rattle.moves.specs.Candidates.{firstNot, markIf, isDone}
 use Rattle.moves.specs.Frontiers.{bodiesOf, frontierOf, oppo, simp, sens}
 use Rattle.moves.specs.Rules.{endIn, implications, toSubject}
 use Rattle.moves.specs.Move.{choiceAt}
@@ -50,7 +50,7 @@ use Rattle.choice.specs.laws.Sensitive.{alone, controlFor, ownFor, satis
 use Rattle.choice.specs.laws.RuleChoice.{verifier-as, verifier-role, opponent-as, about-us, about-other, plain-choice, at-processed, at-verifier, at-opponent}
 use Rattle.choice.specs.laws.Asked.{Asked, restAt, sensitiveAt, sensitive-at}
 use Rattle.choice.specs.laws.Later.{or-nothing, Later, done-stays, same-side, asked-back, rest-stays, carried-later}
-use Rattle.choice.specs.laws.Next.{isNothing, Passed, Resting}
+use Rattle.choice.specs.laws.Next.{isNothing, NothingBefore, Resting}
 
 -- A mark ends all other rules
 
@@ -58,7 +58,7 @@ mark-some : (b : Choice) → orElse b C.Mark ≡ C.Nothing → ⊥
 mark-some b h = false-true (ap isNothing (or-nothing b C.Mark h .1))
 
 -- one edge that is done stays done
-alone-stays : (d e : Wanted → Bool) → ((w : Wanted) → d w ≡ true → e w ≡ true) → (w : Wanted) → alone d w ≡ C.Nothing → alone e w ≡ C.Nothing
+alone-stays : (d e : Candidate → Bool) → ((w : Candidate) → d w ≡ true → e w ≡ true) → (w : Candidate) → alone d w ≡ C.Nothing → alone e w ≡ C.Nothing
 unfolding better
 alone-stays d e f w h = go (d w) refl h
   where
@@ -82,12 +82,14 @@ module _ (S R : State) (u : Later S R) (few : length (S .nodes) ≤ 128) (alike 
     where
       moved : findNode (R .nodes) (E.Role r) (S .header .side) (S .header .other) ≡ target R r
       moved = sym (ap (λ (h : Header). findNode (R .nodes) (E.Role r) (h .side) (h .other)) (u .header))
+
       found : F.Found (S .nodes) (E.Role r) (S .header .side) (S .header .other) → isAcknowledged S r ≡ isAcknowledged R r
       found f =
           let e : target S r ≡ target R r = sym (found-more (u .more) (E.Role r) (S .header .side) (S .header .other) f) ∙ moved in
           let l : target R r < length (R .nodes) = omega (arith, e, f .inside, u .more .more) in
           (λ t. lt-ltb (target S r) (length (S .nodes)) (f .inside) t && satisfiedIn S (e t))
           ∙ (alike (target R r) l ∙ sym (ap (λ (b : Bool). b && satisfiedIn R (target R r)) (lt-ltb (target R r) (length (R .nodes)) l)))
+
       -- a node that stands only in the later graph is not satisfied
       absent : F.Absent (S .nodes) (E.Role r) (S .header .side) (S .header .other) → isAcknowledged S r ≡ isAcknowledged R r
       absent a =
@@ -105,6 +107,7 @@ module _ (S R : State) (u : Later S R) (few : length (S .nodes) ≤ 128) (alike 
                   let test : isNode (E.Role r) (S .header .side) (S .header .other) (nodeIn (R .nodes) j) ≡ isNode (E.Role r) (S .header .side) (S .header .other) (nodeIn (S .nodes) j) =
                   λ t. eqb (x .verifier t) (S .header .side) && eqb (x .subject t) (S .header .other) && same (x .expression t) (E.Role r) in
                   false-true (sym (a .none j k) ∙ (sym test ∙ f .here))
+
           go : (b c : Bool) → ltb (target R r) (length (R .nodes)) ≡ b → satisfiedIn R (target R r) ≡ c → (b && c) ≡ false
           go true true p q =
               let l : target R r < length (R .nodes) = ltb-true (target R r) (length (R .nodes)) p in
@@ -121,10 +124,10 @@ module _ (S R : State) (u : Later S R) (few : length (S .nodes) ≤ 128) (alike 
     abbrev is : Node
     is = nodeIn (R .nodes) i
 
-    abbrev d : Wanted → Bool
+    abbrev d : Candidate → Bool
     d = isDone (S .nodes) (S .edges) i
 
-    abbrev e : Wanted → Bool
+    abbrev e : Candidate → Bool
     e = isDone (R .nodes) (R .edges) i
 
     same-control : (r : Role) → controlFor S was r ≡ controlFor R is r
@@ -182,17 +185,20 @@ module _ (S R : State) (u : Later S R) (few : length (S .nodes) ≤ 128) (alike 
             let b : Asked S i was (E.Role a) = asked-back u inside q in
             let subject : is .subject ≡ T .own = u .more .alike i inside .subject ∙ s in
             sym (sensitive-at T R i is a ack q subject o) ∙ sensitive-stays T a ack (sensitive-at T S i was a ack b s o ∙ h)
+
         by-subject : (q : Asked R i is (E.Role a)) → (z : Bool) → eqb (was .subject) (T .own) ≡ z → choiceAt (endIn T R) i is ≡ C.Nothing
         by-subject q true z = by-answer q (eqb-true (was .subject) (T .own) z) (otherOf (T .sensitive) a) refl
         by-subject q false z =
             let b : Asked S i was (E.Role a) = asked-back u inside q in
             absurd (mark-some (firstNot d C.Nothing (toSubject was (frontierOf simp (publicOf T .subjectStored) (E.Role a ∷ [])))) (at-opponent T S i was {p = false} (sym (b .unprocessed)) refl (b .opponent) (opponent-as T S d i was (b .expression) (about-other T S d i was a (eqb-false (was .subject) (T .own) z) refl refl)) ∙ h))
+
         by-side : processedBy (R .header .side) is ≡ false → (z : Bool) → eqb (is .verifier) (R .header .side) ≡ z → choiceAt (endIn T R) i is ≡ C.Nothing
         by-side p true z =
             let v : was .verifier ≡ S .header .side = sym (u .more .alike i inside .verifier) ∙ (eqb-true (is .verifier) (R .header .side) z ∙ same-side u inside) in
             let unprocessed : processedBy (S .header .side) was ≡ false = u .back i inside (ap (λ (k : ℕ). processedBy k is) (sym (same-side u inside)) ∙ p) in
             absurd (mark-some (firstNot d C.Nothing (implications was (frontierOf (oppo (T .names)) (T .issuerStored) (bodiesOf (T .issuerStored) (E.Role a))))) (at-verifier T S i was {p = false} (sym unprocessed) refl v (verifier-as T S d i was (sym (u .more .alike i inside .expression) ∙ x) (verifier-role T S d i was a refl refl)) ∙ h))
         by-side p false z = by-subject (record { number = refl; expression = x; unprocessed = p; opponent = eqb-false (is .verifier) (R .header .side) z }) (eqb (was .subject) (T .own)) refl
+
         by-mark : (p : Bool) → processedBy (R .header .side) is ≡ p → choiceAt (endIn T R) i is ≡ C.Nothing
         by-mark true p = sym (at-processed T R i is {p = true} (sym p) refl refl)
         by-mark false p = by-side p (eqb (is .verifier) (R .header .side)) refl
@@ -241,7 +247,7 @@ waits-rests T S {sat} {last} {n} {q} {r} ne w s c =
     (c .rests)
 
 -- below the node of a move there was nothing to do
-pub waits-carried : (T : Tables) (S : State) (sat : List ℕ) (m : ℕ) → length (S .nodes) ≤ 128 → m ≤ length (S .nodes) → Passed (endIn T S) m → ((j : ℕ) → flag sat j ≡ satisfiedIn S j) → (cs : List Command) → Waits T (carried (S .header .side) S cs) sat m
+pub waits-carried : (T : Tables) (S : State) (sat : List ℕ) (m : ℕ) → length (S .nodes) ≤ 128 → m ≤ length (S .nodes) → NothingBefore (endIn T S) m → ((j : ℕ) → flag sat j ≡ satisfiedIn S j) → (cs : List Command) → Waits T (carried (S .header .side) S cs) sat m
 unfolding endIn
 waits-carried T S sat m few l P s cs =
     record {

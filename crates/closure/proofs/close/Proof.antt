@@ -11,17 +11,17 @@ Inv-loop n words head part first named src on mem own deps lo hi rows₀ more₀
 abbrev μ-loop : tie.MeasureT-loop
 μ-loop n words head part first named src on mem own deps lo hi rows₀ more₀ rows more = left rows more
 
-drain-requires : tie.Need-drain-requires Inv-loop μ-loop
+drain-requires : tie.Need-run-worklist-requires Inv-loop μ-loop
 drain-requires c κs = c .before .pre
 
 still-requires : tie.Need-still-requires Inv-loop μ-loop
-still-requires c κs = (c .before .before .before .pre .0, c .before .drain .ensures .sized)
+still-requires c κs = (c .before .before .before .pre .0, c .before .run-worklist .ensures .sized)
 
 returns : tie.Need-returns Inv-loop μ-loop
-returns c = record { grown = c .before .before .before .drain .ensures; model = c .before .still .ensures .model (c .if1 .taken) }
+returns c = record { grown = c .before .before .before .run-worklist .ensures; model = c .before .still .ensures .model (c .if1 .taken) }
 
 loop-holds : tie.Need-loop-holds Inv-loop μ-loop
-loop-holds c = close-start (rulesOf _ _ _ _ _ _ _) _ _ _ _ (c .before .before .before .drain .ensures .sized)
+loop-holds c = close-start (rulesOf _ _ _ _ _ _ _) _ _ _ _ (c .before .before .before .run-worklist .ensures .sized)
 
 pass-requires : tie.Need-pass-requires Inv-loop μ-loop
 pass-requires c κs = (c .before .before .before .before .before .before .before .before .pre .0, c .before .before .loop .inv .grown .sized)
@@ -33,7 +33,7 @@ loop-again : tie.Need-loop-again Inv-loop μ-loop
 loop-again c = close-pass (rulesOf _ _ _ _ _ _ _) _ _ _ (c .pass .ensures) (λ e. omega (arith, ltb-false)) (c .before .before .before .loop .inv)
 
 returns-2 : tie.Need-returns-2 Inv-loop μ-loop
-returns-2 c = close-all (rulesOf _ _ _ _ _ _ _) _ _ _ (c .loop-test .left) (c .before .before .before .before .before .drain .ensures) (c .before .loop .inv)
+returns-2 c = close-all (rulesOf _ _ _ _ _ _ _) _ _ _ (c .loop-test .left) (c .before .before .before .before .before .run-worklist .ensures) (c .before .loop .inv)
 
 pub close-spec : {M : Type 1} → statement M
 close-spec =

@@ -15,7 +15,7 @@ use Rattle.word.specs.laws.Bit.{bitAt, only, bit-or, bit-and, bit-zero, bit-onl
 use Rattle.word.specs.laws.Bools.{false-true, or-neither, and-parts}
 use Rattle.closure.specs.declared.Rules.{Rules}
 use Rattle.closure.specs.laws.Rules.{el, bits, Fits, Takes, memOf, memRows, Used, Model, Within, Grown, Closed, Marked}
-use Rattle.closure.specs.laws.Words.{InWord, LinksOf, meetOf, WordOf, room, Quiet, TurnOf, RuleOf, PassOf, Poured, HeldOf, FullOf, level, FilledOf, RestsOf, StillOf}
+use Rattle.closure.specs.laws.Words.{InWord, LinksOf, meetOf, WordOf, room, Unchanged, TurnOf, RuleOf, PassOf, Poured, HeldOf, FullOf, level, FilledOf, RestsOf, StillOf}
 
 or-cases : (a b s : ℕ) → bitAt (bitOr a b) s ≡ true → (bitAt a s ≡ true) ⊎ (bitAt b s ≡ true)
 or-cases a b s h = go (bitAt a s) refl (sym (bit-or a b s) ∙ h)
@@ -202,8 +202,10 @@ module _ (K : List ℕ) (r h w : ℕ) (u : h < 2) (l : r * 2 + h < length K) whe
     where
       z : t / 64 < 2
       z = omega (arith, bits-low (take K (r * 2 + h) w) q t b)
+
       c : bitAt (el (take K (r * 2 + h) w) (q * 2 + t / 64)) (t % 64) ≡ true
       c = bits-word (take K (r * 2 + h) w) q t (t / 64) refl b
+
       go : (x : Bool) → eqb (q * 2 + t / 64) (r * 2 + h) ≡ x → (bits K q t ≡ true) ⊎ ((q ≡ r) × (t / 64 ≡ h) × (bitAt w (t % 64) ≡ true))
       go true e =
           let i : q * 2 + t / 64 ≡ r * 2 + h = eqb-true (q * 2 + t / 64) (r * 2 + h) e in
@@ -234,6 +236,7 @@ module _ (K : List ℕ) (r h w : ℕ) (u : h < 2) (l : r * 2 + h < length K) whe
         where
           c : bitAt (el K (q * 2 + t / 64)) (t % 64) ≡ true
           c = bits-word K q t (t / 64) refl b
+
           up : (x : Bool) → eqb (q * 2 + t / 64) (r * 2 + h) ≡ x → bitAt (el (take K (r * 2 + h) w) (q * 2 + t / 64)) (t % 64) ≡ true
           up true e =
               let i : q * 2 + t / 64 ≡ r * 2 + h = eqb-true (q * 2 + t / 64) (r * 2 + h) e in
@@ -343,7 +346,7 @@ module _ (X : Rules) (on : List ℕ) (own : Bool) (M : List ℕ) where
     pub grown : Grown X on own M K₀ K
     pub fewer : room K + cond r 1 0 ≤ room K₀
     pub same : r ≡ false → K₀ ≡ K
-    pub still : r ≡ false → (g : ℕ) → g < h → Quiet X own M i (InWord g) K
+    pub still : r ≡ false → (g : ℕ) → g < h → Unchanged X own M i (InWord g) K
 
   pub rule-start : (i : ℕ) (K : List ℕ) → length K ≡ 260 → RuleTo i K K false 0
   rule-start i K h = record { upto = omega arith; grown = grow-start K h; fewer = omega arith; same = λ q. refl; still = λ q g l. absurd (omega arith) }
@@ -363,9 +366,10 @@ module _ (X : Rules) (on : List ℕ) (own : Bool) (M : List ℕ) where
       few true true a b = omega arith
       few true false a b = omega arith
       few false t a b = omega arith
-      go : (g : ℕ) → g < h + 1 → r ≡ false → t ≡ false → (x : Bool) → eqb g h ≡ x → Quiet X own M i (InWord g) K′
-      go g k p q true e = subst (λ (x : ℕ). Quiet X own M i (InWord x) K′) (sym (eqb-true g h e)) (turn .still q)
-      go g k p q false e = subst (λ (x : List ℕ). Quiet X own M i (InWord g) x) (turn .same q) (inv .still p g (omega (arith, eqb-false g h e)))
+
+      go : (g : ℕ) → g < h + 1 → r ≡ false → t ≡ false → (x : Bool) → eqb g h ≡ x → Unchanged X own M i (InWord g) K′
+      go g k p q true e = subst (λ (x : ℕ). Unchanged X own M i (InWord x) K′) (sym (eqb-true g h e)) (turn .still q)
+      go g k p q false e = subst (λ (x : List ℕ). Unchanged X own M i (InWord g) x) (turn .same q) (inv .still p g (omega (arith, eqb-false g h e)))
 
   pub rule-all : {i h : ℕ} {K₀ K : List ℕ} {r : Bool} → X .words ≤ h → RuleTo i K₀ K r h → RuleOf X on own M i K₀ K r
   rule-all {i} {h} {K₀} {K} l inv =
@@ -389,7 +393,7 @@ module _ (X : Rules) (on : List ℕ) (own : Bool) (M : List ℕ) where
     pub few : added ≤ i
     pub grown : Grown X on own M K₀ K
     pub fewer : room K + added ≤ room K₀
-    pub still : added ≡ 0 → (j : ℕ) → j < i → el on j ≡ 1 → Quiet X own M j (Used X) K
+    pub still : added ≡ 0 → (j : ℕ) → j < i → el on j ≡ 1 → Unchanged X own M j (Used X) K
 
   pub pass-start : (K : List ℕ) → length K ≡ 260 → PassTo K K 0 0
   pass-start K h = record { upto = omega arith; few = omega arith; grown = grow-start K h; fewer = omega arith; still = λ z j l. absurd (omega arith) }
@@ -404,8 +408,8 @@ module _ (X : Rules) (on : List ℕ) (own : Bool) (M : List ℕ) where
         still = λ z. absurd (omega arith);
       }
 
-  pub pass-quiet : {i added : ℕ} {K₀ K K′ : List ℕ} {r : Bool} → i < X .count → r ≡ false → RuleOf X on own M i K K′ r → PassTo K₀ K added i → PassTo K₀ K′ added (i + 1)
-  pass-quiet {i} {added} {K₀} {K} {K′} {r} l e rule inv =
+  pub pass-unchanged : {i added : ℕ} {K₀ K K′ : List ℕ} {r : Bool} → i < X .count → r ≡ false → RuleOf X on own M i K K′ r → PassTo K₀ K added i → PassTo K₀ K′ added (i + 1)
+  pass-unchanged {i} {added} {K₀} {K} {K′} {r} l e rule inv =
       record {
         upto = omega arith;
         few = omega (arith, inv .few);
@@ -414,11 +418,11 @@ module _ (X : Rules) (on : List ℕ) (own : Bool) (M : List ℕ) where
         still = λ z j k o. go z j k o (eqb j i) refl;
       }
     where
-      go : added ≡ 0 → (j : ℕ) → j < i + 1 → el on j ≡ 1 → (t : Bool) → eqb j i ≡ t → Quiet X own M j (Used X) K′
+      go : added ≡ 0 → (j : ℕ) → j < i + 1 → el on j ≡ 1 → (t : Bool) → eqb j i ≡ t → Unchanged X own M j (Used X) K′
       go z j k o true q =
           let y : j ≡ i = eqb-true j i q in
-          subst (λ (x : ℕ). Quiet X own M x (Used X) K′) (sym y) (rule .still e l (subst (λ (x : ℕ). el on x ≡ 1) y o))
-      go z j k o false q = subst (λ (x : List ℕ). Quiet X own M j (Used X) x) (rule .same e) (inv .still z j (omega (arith, eqb-false j i q)) o)
+          subst (λ (x : ℕ). Unchanged X own M x (Used X) K′) (sym y) (rule .still e l (subst (λ (x : ℕ). el on x ≡ 1) y o))
+      go z j k o false q = subst (λ (x : List ℕ). Unchanged X own M j (Used X) x) (rule .same e) (inv .still z j (omega (arith, eqb-false j i q)) o)
 
   pub pass-all : {i added : ℕ} {K₀ K : List ℕ} → X .count ≤ i → PassTo K₀ K added i → PassOf X on own M K₀ K added
   pass-all l inv = record { grown = inv .grown; fewer = inv .fewer; still = λ z. record { rule = λ j k o. inv .still z j (omega arith) o } }
@@ -451,11 +455,11 @@ close-less p false f = omega (arith, p .fewer)
 -- A row that takes in a row, word by word
 
 module _ (w j r : ℕ) where
-  pub pour-more : {K₀ K K′ : List ℕ} → Poured w j r K₀ K → Poured w j r K K′ → Poured w j r K₀ K′
-  pour-more a b = record { sized = b .sized; kept = within-trans (a .kept) (b .kept); least = λ G f k. b .least G f (a .least G f k) }
+  pub add-more : {K₀ K K′ : List ℕ} → Poured w j r K₀ K → Poured w j r K K′ → Poured w j r K₀ K′
+  add-more a b = record { sized = b .sized; kept = within-trans (a .kept) (b .kept); least = λ G f k. b .least G f (a .least G f k) }
 
-  pub pour-word : (K : List ℕ) (h : ℕ) → w ≤ 2 → h < w → r < 130 → length K ≡ 260 → Poured w j r K (take K (r * 2 + h) (el K (j * 2 + h)))
-  pour-word K h m n l e =
+  pub add-word : (K : List ℕ) (h : ℕ) → w ≤ 2 → h < w → r < 130 → length K ≡ 260 → Poured w j r K (take K (r * 2 + h) (el K (j * 2 + h)))
+  add-word K h m n l e =
       let u : h < 2 = omega arith in
       let z : r * 2 + h < length K = omega arith in
       record {
@@ -478,9 +482,9 @@ link-grown {own = own} {M} {K} {i = i} {j} l o n m p =
     }
 
 -- A rule along some of its links, in the first word
-pub along-grown : (X : Rules) (on : List ℕ) (own : Bool) (M K : List ℕ) (i m w : ℕ) → Fits X → 0 < X .words → length K ≡ 260 → i < X .count → el on i ≡ 1
+pub links-grown : (X : Rules) (on : List ℕ) (own : Bool) (M K : List ℕ) (i m w : ℕ) → Fits X → 0 < X .words → length K ≡ 260 → i < X .count → el on i ≡ 1
     → LinksOf (bitAnd m (el (X .named) (i * 2))) 0 0 (el (X .first) i) (X .src) K (memRows own K M) w → Grown X on own M K (take K (el (X .head) i * 2) w)
-along-grown X on own M K i m w fits some size l o links =
+links-grown X on own M K i m w fits some size l o links =
     let r = el (X .head) i in
     let e : r * 2 + 0 ≡ r * 2 = add-zero (r * 2) in
     let u : _<_ 0 2 = omega arith in
@@ -554,11 +558,13 @@ rule-full X on own M K i lo hi fits size within full e =
   where
     r : ℕ
     r = el (X .head) i
+
     in′ : (s : ℕ) → s / 64 < X .words → bits (lo ∷ hi ∷ []) 0 s ≡ true → bits K r s ≡ true
     in′ s z b = go (ltb s 64) refl
       where
         l : s < 128
         l = bits-low (lo ∷ hi ∷ []) 0 s b
+
         go : (t : Bool) → ltb s 64 ≡ t → bits K r s ≡ true
         go true q =
             let y : s < 64 = ltb-true s 64 q in
@@ -637,7 +643,7 @@ module _ (X : Rules) (on : List ℕ) (own : Bool) (M : List ℕ) (i : ℕ) (K : 
       → old ≡ el K (el (X .head) i * 2) → {b : Bool} → b ≡ eqb (bitOr (bitOr m k) old) old → RestsOf X on own M i K b
   rests-in old m k F one filled none is links row {b} test = record { quiet = λ e o. quiet (eqb-true _ _ (sym test ∙ e)) }
     where
-      quiet : bitOr (bitOr m k) old ≡ old → Quiet X own M i (Used X) K
+      quiet : bitOr (bitOr m k) old ≡ old → Unchanged X own M i (Used X) K
       quiet same =
           record {
             meet = λ s z a b c d.
@@ -650,10 +656,12 @@ module _ (X : Rules) (on : List ℕ) (own : Bool) (M : List ℕ) (i : ℕ) (K : 
         where
           keep : (s : ℕ) → s / 64 ≡ 0 → bitAt (bitOr m k) (s % 64) ≡ true → bits K (el (X .head) i) s ≡ true
           keep s h q = old-row old s row h (sym (ap (λ (x : ℕ). bitAt x (s % 64)) same) ∙ or-left (bitOr m k) old (s % 64) q)
+
           low : (j : ℕ) → bits (X .named) i j ≡ true → j / 64 ≡ 0
           low j n = ⊎-elim (λ h. h)
               (λ h. absurd (false-true (sym (bit-zero (j % 64)) ∙ (sym (ap (λ (x : ℕ). bitAt x (j % 64)) none) ∙ bits-word (X .named) i j 1 h n))))
               (half X i 0 K M j (bits-low (X .named) i j n))
+
           via : (j s : ℕ) → s / 64 ≡ 0 → bits (X .named) i j ≡ true → bits (memRows own K M) (el (X .first) i) (el (X .src) j) ≡ true → bits K j s ≡ true → bitAt k (s % 64) ≡ true
           via j s h n p v =
               let l : j / 64 ≡ 0 = low j n in
@@ -671,7 +679,7 @@ module _ (X : Rules) (on : List ℕ) (own : Bool) (M : List ℕ) (i : ℕ) (K : 
 
 pub record StillTo (X : Rules) (on : List ℕ) (own : Bool) (M K : List ℕ) (i : ℕ) : Type 0 where
   pub upto : i ≤ X .count
-  pub quiet : (j : ℕ) → j < i → el on j ≡ 1 → Quiet X own M j (Used X) K
+  pub quiet : (j : ℕ) → j < i → el on j ≡ 1 → Unchanged X own M j (Used X) K
 
 module _ (X : Rules) (on : List ℕ) (own : Bool) (M K : List ℕ) where
   pub still-not : StillOf X on own M K false
@@ -683,10 +691,10 @@ module _ (X : Rules) (on : List ℕ) (own : Bool) (M K : List ℕ) where
   pub still-next : (i : ℕ) {b : Bool} → i < X .count → RestsOf X on own M i K b → not b ≡ false → StillTo X on own M K i → StillTo X on own M K (i + 1)
   still-next i {b} l rests e inv = record { upto = omega arith; quiet = λ j k o. go j k o (eqb j i) refl }
     where
-      go : (j : ℕ) → j < i + 1 → el on j ≡ 1 → (t : Bool) → eqb j i ≡ t → Quiet X own M j (Used X) K
+      go : (j : ℕ) → j < i + 1 → el on j ≡ 1 → (t : Bool) → eqb j i ≡ t → Unchanged X own M j (Used X) K
       go j k o true q =
           let y : j ≡ i = eqb-true j i q in
-          subst (λ (x : ℕ). Quiet X own M x (Used X) K) (sym y) (rests .quiet (not-left b e) (subst (λ (x : ℕ). el on x ≡ 1) y o))
+          subst (λ (x : ℕ). Unchanged X own M x (Used X) K) (sym y) (rests .quiet (not-left b e) (subst (λ (x : ℕ). el on x ≡ 1) y o))
       go j k o false q = inv .quiet j (omega (arith, eqb-false j i q)) o
 
   pub still-all : (i : ℕ) → X .count ≤ i → StillTo X on own M K i → StillOf X on own M K true

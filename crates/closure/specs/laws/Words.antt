@@ -35,8 +35,8 @@ room [] = 0
 room (x ∷ l) = (2 ^ 64 - x) + room l
 
 -- rule i gives the rows K nothing new, of the bits in In
-abbrev pub Quiet : Rules → Bool → List ℕ → ℕ → (ℕ → Type 0) → List ℕ → Type 0
-Quiet X own M i In K = Takes X i In (memOf own (bits K) (bits M)) (bits K) (bits K (el (X .head) i))
+abbrev pub Unchanged : Rules → Bool → List ℕ → ℕ → (ℕ → Type 0) → List ℕ → Type 0
+Unchanged X own M i In K = Takes X i In (memOf own (bits K) (bits M)) (bits K) (bits K (el (X .head) i))
 
 -- the rows after rule i at word h, and whether they grew
 pub record TurnOf (X : Rules) (own : Bool) (M : List ℕ) (i h : ℕ) (K K′ : List ℕ) (r : Bool) : Type 0 where
@@ -45,14 +45,14 @@ pub record TurnOf (X : Rules) (own : Bool) (M : List ℕ) (i h : ℕ) (K K′ : 
   pub least : (G : ℕ → ℕ → Bool) → Takes X i (Used X) (memOf own G (bits M)) G (G (el (X .head) i)) → Within (bits K) G → Within (bits K′) G
   pub fewer : room K′ + cond r 1 0 ≤ room K
   pub same : r ≡ false → K ≡ K′
-  pub still : r ≡ false → Quiet X own M i (InWord h) K′
+  pub still : r ≡ false → Unchanged X own M i (InWord h) K′
 
 -- the rows after rule i, and whether they grew
 pub record RuleOf (X : Rules) (on : List ℕ) (own : Bool) (M : List ℕ) (i : ℕ) (K K′ : List ℕ) (r : Bool) : Type 0 where
   pub grown : Grown X on own M K K′
   pub fewer : room K′ + cond r 1 0 ≤ room K
   pub same : r ≡ false → K ≡ K′
-  pub still : r ≡ false → i < X .count → el on i ≡ 1 → Quiet X own M i (Used X) K′
+  pub still : r ≡ false → i < X .count → el on i ≡ 1 → Unchanged X own M i (Used X) K′
 
 -- the rows after each rule, and how many rules made them grow
 pub record PassOf (X : Rules) (on : List ℕ) (own : Bool) (M K K′ : List ℕ) (added : ℕ) : Type 0 where
@@ -85,7 +85,7 @@ pub record FilledOf (k : ℕ) (K : List ℕ) (w : ℕ) : Type 0 where
 
 -- where b is true, rule i gives the rows K nothing new, if it is on
 pub record RestsOf (X : Rules) (on : List ℕ) (own : Bool) (M : List ℕ) (i : ℕ) (K : List ℕ) (b : Bool) : Type 0 where
-  pub quiet : b ≡ true → el on i ≡ 1 → Quiet X own M i (Used X) K
+  pub quiet : b ≡ true → el on i ≡ 1 → Unchanged X own M i (Used X) K
 
 -- where b is true, no rule gives the rows K anything new
 pub record StillOf (X : Rules) (on : List ℕ) (own : Bool) (M K : List ℕ) (b : Bool) : Type 0 where

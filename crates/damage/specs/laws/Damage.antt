@@ -9,7 +9,7 @@ use Rattle.expression.specs.declared.Credential.{Credential}
 use Rattle.graph.specs.declared.Node.{Node}
 use Rattle.graph.specs.declared.Edge.{Edge}
 use Rattle.graph.specs.Graph.{nodeIn}
-use Rattle.graph.specs.Propagated.{stateOf}
+use Rattle.graph.specs.Propagated.{propagatedState}
 use Rattle.justification.specs.InTurn.{inTurn}
 use Rattle.justification.specs.Justified.{justified, impliedIf, monitoredIf}
 use Rattle.class.specs.declared.Name.{Name}
@@ -164,7 +164,7 @@ records-formed ns N S {a} few se ae h =
 -- The graph
 
 module _ (ns : List Name) (S : State) where
-  by-graph : (a b c d e : Bool) → a ≡ countSound (S .header .messages) → b ≡ recordsSound ns S → c ≡ allBrought (S .header) (S .nodes) (S .edges) → d ≡ edgesJustified S → e ≡ endSound (stateOf (S .nodes) (S .edges) 0) (S .header .end) (S .header .idle)
+  by-graph : (a b c d e : Bool) → a ≡ countSound (S .header .messages) → b ≡ recordsSound ns S → c ≡ allBrought (S .header) (S .nodes) (S .edges) → d ≡ edgesJustified S → e ≡ endSound (propagatedState (S .nodes) (S .edges) 0) (S .header .end) (S .header .idle)
       → (a && b && c && d && e) ≡ graphSound ns S
   unfolding graphSound
   by-graph a b c d e p q r s t = λ i. p i && q i && r i && s i && t i
@@ -185,7 +185,7 @@ module _ (ns : List Name) (S : State) where
           pub graph-unjustified : not d ≡ true → false ≡ graphSound ns S
           graph-unjustified h = by-graph true true true false _ (sym (not-false a ah) ∙ ae) (sym (not-false b bh) ∙ be) (sym (not-false c ch) ∙ ce) (sym (not-true d h) ∙ de) refl
 
-          pub graph-end : {p : ℕ} {e : Bool} → not d ≡ false → p ≡ stateOf (S .nodes) (S .edges) 0 → e ≡ endSound p (S .header .end) (S .header .idle) → e ≡ graphSound ns S
+          pub graph-end : {p : ℕ} {e : Bool} → not d ≡ false → p ≡ propagatedState (S .nodes) (S .edges) 0 → e ≡ endSound p (S .header .end) (S .header .idle) → e ≡ graphSound ns S
           graph-end {p} {e} h pe ee = by-graph true true true true e (sym (not-false a ah) ∙ ae) (sym (not-false b bh) ∙ be) (sym (not-false c ch) ∙ ce) (sym (not-false d h) ∙ de) (ee ∙ ap (λ (k : ℕ). endSound k (S .header .end) (S .header .idle)) pe)
 
 -- The whole
@@ -208,7 +208,6 @@ module _ (T : Tables) (S : State) where
 
 -- a negotiation as it is held, by the tables of a house
 module _ (H : House) (G : Negotiation) where
-
   module _ {a : Bool} (ae : a ≡ headerSound (H .own) (namesOf (H .names)) (G .header)) where
     pub sound-header : not a ≡ true → false ≡ sound (tablesOf H) (stateHeld G)
     unfolding tablesOf stateHeld
@@ -226,7 +225,7 @@ module _ (H : House) (G : Negotiation) where
 -- What a sound negotiation with a node has
 
 pub graph-parts : (ns : List Name) (S : State) → graphSound ns S ≡ true
-    → (countSound (S .header .messages) ≡ true) × (recordsSound ns S ≡ true) × (allBrought (S .header) (S .nodes) (S .edges) ≡ true) × (edgesJustified S ≡ true) × (endSound (stateOf (S .nodes) (S .edges) 0) (S .header .end) (S .header .idle) ≡ true)
+    → (countSound (S .header .messages) ≡ true) × (recordsSound ns S ≡ true) × (allBrought (S .header) (S .nodes) (S .edges) ≡ true) × (edgesJustified S ≡ true) × (endSound (propagatedState (S .nodes) (S .edges) 0) (S .header .end) (S .header .idle) ≡ true)
 unfolding graphSound
 graph-parts ns S h =
     let a = and-parts (countSound (S .header .messages) && recordsSound ns S && allBrought (S .header) (S .nodes) (S .edges) && edgesJustified S) _ h in

@@ -31,7 +31,7 @@ use Rattle.graph.specs.Form.{isStandard, isTarget, isMonitor, isSolution, isFir
 use Rattle.graph.specs.Find.{isNode, hasEdge}
 use Rattle.graph.specs.States.{implicationKind, solutionKind, Part, Satisfied, trivial, standard, intersection, Failed}
 use Rattle.graph.specs.laws.States.{satisfied-failed, satisfied-inside}
-use Rattle.graph.specs.Propagated.{isChild, satisfiedB, stateOf}
+use Rattle.graph.specs.Propagated.{isChild, satisfiedB, propagatedState}
 use Rattle.graph.specs.laws.Propagated.{satisfied-exact, state-one}
 use Rattle.justification.specs.InTurn.{inTurn}
 use Rattle.justification.specs.Justified.{monitorKind, isSolutionFor, solves, solved, monitors, monitored, implied, impliedIf, monitoredIf, justified}
@@ -298,7 +298,7 @@ end-one p end idle z k =
     (cond-cases (eqb p 1) (sym (ap (λ (n : ℕ). endSound p n idle) z) ∙ k))
 
 module _ (names : List Name) (S : State) (h : graphSound names S ≡ true) where
-  parts : (recordsSound names S ≡ true) × (allBrought (S .header) (S .nodes) (S .edges) ≡ true) × (edgesJustified S ≡ true) × (endSound (stateOf (S .nodes) (S .edges) 0) (S .header .end) (S .header .idle) ≡ true)
+  parts : (recordsSound names S ≡ true) × (allBrought (S .header) (S .nodes) (S .edges) ≡ true) × (edgesJustified S ≡ true) × (endSound (propagatedState (S .nodes) (S .edges) 0) (S .header .end) (S .header .idle) ≡ true)
   unfolding graphSound
   parts =
       let a = and-parts (countSound (S .header .messages) && recordsSound names S && allBrought (S .header) (S .nodes) (S .edges) && edgesJustified S) _ h in
@@ -368,7 +368,7 @@ module _ (names : List Name) (S : State) (h : graphSound names S ≡ true) where
   end-satisfied : S .header .end ≡ 1 → Satisfied (S .nodes) (S .edges) 0
   end-satisfied e =
       ⊎-elim (λ s. s) (λ c. absurd (false-true (sym (ap isRoleExpression (c .goal)) ∙ primary-role (S .header) (nodeIn (S .nodes) 0) (records .1))))
-      (state-one (S .nodes) (S .edges) 0 .0 (end-one (stateOf (S .nodes) (S .edges) 0) (S .header .end) (S .header .idle) e (parts .3)))
+      (state-one (S .nodes) (S .edges) 0 .0 (end-one (propagatedState (S .nodes) (S .edges) 0) (S .header .end) (S .header .idle) e (parts .3)))
 
 -- The negotiation
 

@@ -75,6 +75,7 @@ credential-read h (e.Read b) c k = at (wellFormedCredential r) refl k
   where
     r : Credential
     r = record { head = h; body = b }
+
     at : (t : Bool) → wellFormedCredential r ≡ t → pickCredential t (Read r) Wrong ≡ Read c
         → (h ≡ c .head) × (e.Read b ≡ e.Read (c .body)) × (wellFormedCredential c ≡ true)
     at true p q =

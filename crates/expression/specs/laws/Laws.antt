@@ -95,11 +95,13 @@ candidate-some r h = go (eqb k 1) (eqb k 2) (eqb k 3) (eqb k 4) refl refl refl r
   where
     k : ℕ
     k = r .kind
+
     five : eqb k 1 ≡ false → eqb k 2 ≡ false → eqb k 3 ≡ false → eqb k 4 ≡ false → eqb k 5 ≡ true
     five a b c d =
         let low : 0 < k = ltb-true 0 k (and-left (ltb 0 k) (ltb k 6) h) in
         let high : k < 6 = ltb-true k 6 (and-right (ltb 0 k) (ltb k 6) h) in
         eq-eqb k 5 (omega (arith, eqb-false k 1 a, eqb-false k 2 b, eqb-false k 3 c, eqb-false k 4 d))
+
     go : (a b c d : Bool) → eqb k 1 ≡ a → eqb k 2 ≡ b → eqb k 3 ≡ c → eqb k 4 ≡ d → candidateOf r ≡ Read (expressionOf r)
     go true b c d p q s t = simp p
     go false true c d p q s t = simp (p, q)
@@ -113,6 +115,7 @@ candidate-none r h = simp (other 1 (omega arith) (omega arith), other 2 (omega a
   where
     k : ℕ
     k = r .kind
+
     other : (i : ℕ) → 0 < i → i < 6 → eqb k i ≡ false
     other i low high =
         ne-eqb k i (λ e.

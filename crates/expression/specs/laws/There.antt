@@ -27,6 +27,7 @@ credential-formed h (e.Read b) c k = go (wellFormedCredential r) refl k
   where
     r : Credential
     r = record { head = h; body = b }
+
     go : (t : Bool) → wellFormedCredential r ≡ t → pickCredential t (a.Read r) a.Wrong ≡ a.Read c → wellFormedCredential c ≡ true
     go true p q = let same : r ≡ c = cc in ap wellFormedCredential (sym same) ∙ p
     go false p q = let z : _≡_ {A = ℕ} 0 1 = cc in absurd (omega arith)

@@ -13,7 +13,7 @@ use Rattle.graph.specs.declared.Node.{Node}
 use Rattle.graph.specs.declared.Edge.{Edge}
 use Rattle.graph.specs.Form.{hasRole, form}
 use Rattle.propagation.specs.Least.{rounds, least}
-use Rattle.graph.specs.Propagated.{satisfiedB, failedB, completeB, stateOf}
+use Rattle.graph.specs.Propagated.{satisfiedB, failedB, completeB, propagatedState}
 
 record Case : Type 0 where
   nodes : List Node
@@ -31,7 +31,7 @@ abbrev case : List Node → List Edge → Case
 case ns es = record { nodes = ns; edges = es }
 
 abbrev states : Case → List ℕ
-states k = upTo (length (k .nodes)) (stateOf (k .nodes) (k .edges))
+states k = upTo (length (k .nodes)) (propagatedState (k .nodes) (k .edges))
 
 abbrev role : ℕ → ℕ → Expression
 role a r = E.Role (roleOf a r)
@@ -79,7 +79,7 @@ pub state-cases : map states table
     ∷ (1 ∷ 0 ∷ 1 ∷ 1 ∷ [])
     ∷ (2 ∷ 1 ∷ 1 ∷ [])
     ∷ []
-unfolding stateOf completeB satisfiedB failedB least rounds same
+unfolding propagatedState completeB satisfiedB failedB least rounds same
 state-cases = refl
 
 -- kind, parent, child

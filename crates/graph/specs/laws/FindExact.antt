@@ -41,9 +41,11 @@ module _ (ns : List Node) (x : Expression) (v s : ℕ) where
       found k l h t =
           let e : findNode ns x v s ≡ k = first-at (λ i. i) 128 (length ns) h l t in
           record { inside = omega arith; here = ap passes e ∙ t; least = λ i j. h .none i (omega arith) }
+
       step : (k : ℕ) → k < length ns → Missed passes (λ i. i) k → (Missed passes (λ i. i) (k + 1) → Absent ⊎ Found) → (b : Bool) → passes k ≡ b → Absent ⊎ Found
       step k l h next true e = inr (found k l h e)
       step k l h next false e = next (missed-more h refl e)
+
       go : (f k : ℕ) → k + f ≡ length ns → Missed passes (λ i. i) k → Absent ⊎ Found
       go zero k e h = inl (record { number = first-none (λ i. i) 128 (length ns) (missed-fewer h (omega arith)); none = λ i l. h .none i (omega arith) })
       go (suc f) k e h = step k (omega arith) h (λ m. go f (k + 1) (omega arith) m) (passes k) refl

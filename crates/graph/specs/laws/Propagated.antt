@@ -27,7 +27,7 @@ use Rattle.graph.specs.Growth.{Grown}
 use Rattle.propagation.specs.laws.Flags.{decided}
 use Rattle.propagation.specs.Flags.{at}
 use Rattle.propagation.specs.laws.Least.{Monotone, least-closed, least-into}
-use Rattle.graph.specs.Propagated.{isChild, anyChild, allChildren, anyPart, satisfiedAs, failedAs, satisfiedRule, failedRule, satisfiedB, failedB, completeAs, completeB, stateOf}
+use Rattle.graph.specs.Propagated.{isChild, anyChild, allChildren, anyPart, satisfiedAs, failedAs, satisfiedRule, failedRule, satisfiedB, failedB, completeAs, completeB, propagatedState}
 
 module _ (ns : List Node) (es : List Edge) where
   -- Children
@@ -93,6 +93,7 @@ module _ (ns : List Node) (es : List Edge) where
     where
       more : (s t : ℕ → Bool) → ((i : ℕ) → s i ≡ true → t i ≡ true) → (i : ℕ) → anyChild ns es implicationKind s i ≡ true → anyChild ns es implicationKind t i ≡ true
       more s t h i g = let r = any-child implicationKind s i g in child-any implicationKind t i (r .1) (h (r .0) (r .2))
+
       go : (s t : ℕ → Bool) → ((i : ℕ) → s i ≡ true → t i ≡ true) → (i : ℕ) (x : Expression) → satisfiedAs ns es s i (nodeIn ns i .state) x ≡ true → satisfiedAs ns es t i (nodeIn ns i .state) x ≡ true
       go s t h i (E.Entity a) g = refl
       go s t h i (E.Role a) g = more s t h i g
@@ -109,6 +110,7 @@ module _ (ns : List Node) (es : List Edge) where
     where
       implied : isStandard (nodeIn ns i .expression) ≡ true → anyChild ns es implicationKind s i ≡ true → Satisfied ns es i
       implied e g = let r = any-child implicationKind s i g in standard e (r .1) (ih (r .0) (r .2))
+
       go : (x : Expression) → nodeIn ns i .expression ≡ x → satisfiedAs ns es s i (nodeIn ns i .state) x ≡ true → Satisfied ns es i
       go (E.Entity a) e g = trivial e
       go (E.Role a) e g = implied (ap isStandard e) g
@@ -152,6 +154,7 @@ module _ (ns : List Node) (es : List Edge) where
       more s t h i p g =
           let r = and-parts (eqb p 3) (allChildren ns es implicationKind s i) g in
           and-both (eqb p 3) (allChildren ns es implicationKind t i) (r .0) (children-all implicationKind t i (λ c k. h c (all-children implicationKind s i (r .1) c k)))
+
       go : (s t : ℕ → Bool) → ((i : ℕ) → s i ≡ true → t i ≡ true) → (i : ℕ) (x : Expression) → failedAs ns es s i (nodeIn ns i .state) x ≡ true → failedAs ns es t i (nodeIn ns i .state) x ≡ true
       go s t h i (E.Entity a) g = absurd (false-true g)
       go s t h i (E.Role a) g = more s t h i (nodeIn ns i .state) g
@@ -167,6 +170,7 @@ module _ (ns : List Node) (es : List Edge) where
       unimplied e g =
           let r = and-parts (eqb (nodeIn ns i .state) 3) (allChildren ns es implicationKind s i) g in
           failed-standard e (eqb-true (nodeIn ns i .state) 3 (r .0)) (λ c k. ih c (all-children implicationKind s i (r .1) c k))
+
       go : (x : Expression) → nodeIn ns i .expression ≡ x → failedAs ns es s i (nodeIn ns i .state) x ≡ true → Failed ns es i
       go (E.Entity a) e g = absurd (false-true g)
       go (E.Role a) e g = unimplied (ap isStandard e) g
@@ -221,6 +225,7 @@ module _ (ns : List Node) (es : List Edge) where
             processed = eqb-true (nodeIn ns i .state) 3 (p .0);
             solved = λ c k. ⊎-elim (λ b. inl (satisfied-exact c .0 b)) (λ b. inr (failed-exact c .0 b)) (or-cases (at (satisfiedB ns es) c) (at (failedB ns es) c) (all-children solutionKind settled i (p .1) c k));
           }
+
       back : Complete ns es i → completeAs ns es i (nodeIn ns i .state) (nodeIn ns i .expression) ≡ true
       back h =
           ap (completeAs ns es i (nodeIn ns i .state)) (h .goal)
@@ -262,21 +267,21 @@ module _ (ns : List Node) (es : List Edge) where
     not-failed h = ⊎-elim (λ b. absurd (h (failed-exact i .0 b))) (λ b. b) (decided (at (failedB ns es) i))
 
     -- 1: satisfied or complete
-    pub state-one : (stateOf ns es i ≡ 1) ↔ (Satisfied ns es i ⊎ Complete ns es i)
-    unfolding stateOf
+    pub state-one : (propagatedState ns es i ≡ 1) ↔ (Satisfied ns es i ⊎ Complete ns es i)
+    unfolding propagatedState
     state-one = (λ h. good (chosen-one (at (satisfiedB ns es) i || completeB ns es i) (at (failedB ns es) i) h), λ h. ap (λ (b : Bool). chosen b (at (failedB ns es) i)) (good-found h))
 
     -- 2: failed
-    pub state-two : Formed ns es → (stateOf ns es i ≡ 2) ↔ Failed ns es i
-    unfolding stateOf
+    pub state-two : Formed ns es → (propagatedState ns es i ≡ 2) ↔ Failed ns es i
+    unfolding propagatedState
     state-two formed = (
       λ h. failed-exact i .0 (chosen-two (at (satisfiedB ns es) i || completeB ns es i) (at (failedB ns es) i) h),
       λ h. let a : (at (satisfiedB ns es) i || completeB ns es i) ≡ false = not-good (λ g. ⊎-elim (λ s. satisfied-failed formed s h) (λ c. complete-failed c h) g) in (λ j. chosen (a j) (failed-exact i .1 h j)),
     )
 
     -- 0: none of these
-    pub state-zero : (stateOf ns es i ≡ 0) ↔ (((Satisfied ns es i ⊎ Complete ns es i) → ⊥) × (Failed ns es i → ⊥))
-    unfolding stateOf
+    pub state-zero : (propagatedState ns es i ≡ 0) ↔ (((Satisfied ns es i ⊎ Complete ns es i) → ⊥) × (Failed ns es i → ⊥))
+    unfolding propagatedState
     state-zero = (
       λ h. let r = chosen-zero (at (satisfiedB ns es) i || completeB ns es i) (at (failedB ns es) i) h in (λ g. false-true (sym (r .0) ∙ good-found g), λ f. false-true (sym (r .1) ∙ failed-exact i .1 f)),
       λ h. (λ j. chosen (not-good (h .0) j) (not-failed (h .1) j)),
@@ -284,8 +289,8 @@ module _ (ns : List Node) (es : List Edge) where
 
 -- "once a target becomes satisfied or failed, it retains that state", and so does a complete goal
 module _ {ns ns′ : List Node} {es es′ : List Edge} (g : Grown ns es ns′ es′) (i : ℕ) where
-  pub one-stays : stateOf ns es i ≡ 1 → stateOf ns′ es′ i ≡ 1
+  pub one-stays : propagatedState ns es i ≡ 1 → propagatedState ns′ es′ i ≡ 1
   one-stays h = state-one ns′ es′ i .1 (⊎-elim (λ s. inl (satisfied-stays g s)) (λ c. inr (complete-stays g c)) (state-one ns es i .0 h))
 
-  pub two-stays : Formed ns es → Formed ns′ es′ → stateOf ns es i ≡ 2 → stateOf ns′ es′ i ≡ 2
+  pub two-stays : Formed ns es → Formed ns′ es′ → propagatedState ns es i ≡ 2 → propagatedState ns′ es′ i ≡ 2
   two-stays formed formed′ h = state-two ns′ es′ i formed′ .1 (failed-stays g (state-two ns es i formed .0 h))

@@ -76,14 +76,18 @@ module _ (ns : List Node) (es : List Edge) (joined : Joined ns es) where
     where
       here : (k : ℕ) → k < length ns → k ≡ i → nodeIn (set ns i (inState s (nodeIn ns i))) k ≡ inState s (nodeIn ns k)
       here k l e = ap (nodeIn (set ns i (inState s (nodeIn ns i)))) e ∙ getD-set-same ns i (inState s (nodeIn ns i)) blank (omega arith) ∙ ap (λ (n : ℕ). inState s (nodeIn ns n)) (sym e)
+
       other : (k : ℕ) → (k ≡ i → ⊥) → nodeIn (set ns i (inState s (nodeIn ns i))) k ≡ nodeIn ns k
       other k o = getD-set-other ns i k (inState s (nodeIn ns i)) blank o
+
       -- a node that was put into state t
       in-state : {x : Node} (y : Node) (t : ℕ) → x ≡ inState t y → x ≡ inState (x .state) y
       in-state y t e = e ∙ ap (λ (u : ℕ). inState u y) (sym (ap (λ (n : Node). n .state) e))
+
       same : (k : ℕ) → k < length ns → (b : Bool) → eqb k i ≡ b → nodeIn (set ns i (inState s (nodeIn ns i))) k ≡ inState (nodeIn (set ns i (inState s (nodeIn ns i))) k .state) (nodeIn ns k)
       same k l true q = in-state (nodeIn ns k) s (here k l (eqb-true k i q))
       same k l false q = in-state (nodeIn ns k) (nodeIn ns k .state) (other k (eqb-false k i q))
+
       gained : (k : ℕ) → k < length ns → (b : Bool) → eqb k i ≡ b → gains (nodeIn ns k .state) (nodeIn (set ns i (inState s (nodeIn ns i))) k .state) ≡ true
       gained k l true q =
           ap (λ (x : Node). gains (nodeIn ns k .state) (x .state)) (here k l (eqb-true k i q)) ∙ ap (λ (n : ℕ). gains (nodeIn ns n .state) s) (eqb-true k i q) ∙ g

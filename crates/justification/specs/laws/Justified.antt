@@ -114,7 +114,6 @@ module _ (N : Nodes) (es : List Edge) (x : Expression) (b p : ℕ) (d : Edge) wh
 -- The searches
 
 module _ (ns : List Node) (E : Edges) (x : Expression) (b p : ℕ) {j : ℕ} where
-
   module _ (h : Missed (solves ns (edgesOf E) x b p) (edgeAt E) j) where
     pub solved-at : {r : Bool} → j < E .count → r ≡ solves ns (edgesOf E) x b p (edgeAt E j) → r ≡ true → true ≡ solved ns (edgesOf E) x b p
     unfolding solved edgesOf

@@ -11,7 +11,7 @@ use Rattle.word.specs.laws.Bools.{and-both}
 use Rattle.class.specs.declared.Name.{Name}
 use Rattle.graph.specs.declared.Node.{Node}
 use Rattle.graph.specs.declared.Edge.{Edge}
-use Rattle.graph.specs.Propagated.{stateOf as propagated}
+use Rattle.graph.specs.Propagated.{propagatedState as propagated}
 use Rattle.justification.specs.InTurn.{inTurn}
 use Rattle.tables.specs.Tables.{Tables}
 use Rattle.negotiation.specs.declared.Header.{Header}

@@ -16,8 +16,8 @@ use Rattle.justification.specs.laws.Justified.{Says}
 use Rattle.message.specs.declared.Command.{Command}
 use Rattle.message.specs.declared.Command.the-variants.{Show, Open, Bring, Join, Mark, End}
 use Rattle.negotiation.specs.State.{State}
-use Rattle.legal.specs.declared.Question.{Question}
-use Rattle.legal.specs.laws.Known.{Knows}
+use Rattle.legal.specs.declared.Implication.{Implication}
+use Rattle.legal.specs.laws.Proved.{ProvedBy}
 
 -- "1 implication"
 abbrev pub isImplication : Command → Bool
@@ -38,26 +38,26 @@ isLinking (Mark i) = false
 isLinking End = false
 
 -- no edge
-abbrev pub noQuestion : Question
-noQuestion = record { parent = E.Goal 0; child = E.Goal 0 }
+abbrev pub noImplication : Implication
+noImplication = record { parent = E.Goal 0; child = E.Goal 0 }
 
 -- "parent from child"
-abbrev pub questionIn : List Node → Command → Question
-questionIn ns (Show c) = noQuestion
-questionIn ns (Open o) = noQuestion
-questionIn ns (Bring n) = record { parent = nodeIn ns (n .parent) .expression; child = n .expression }
-questionIn ns (Join e) = record { parent = nodeIn ns (e .parent) .expression; child = nodeIn ns (e .child) .expression }
-questionIn ns (Mark i) = noQuestion
-questionIn ns End = noQuestion
+abbrev pub implicationIn : List Node → Command → Implication
+implicationIn ns (Show c) = noImplication
+implicationIn ns (Open o) = noImplication
+implicationIn ns (Bring n) = record { parent = nodeIn ns (n .parent) .expression; child = n .expression }
+implicationIn ns (Join e) = record { parent = nodeIn ns (e .parent) .expression; child = nodeIn ns (e .child) .expression }
+implicationIn ns (Mark i) = noImplication
+implicationIn ns End = noImplication
 
 -- what a pool proves is known, where a command adds an implication edge
-pub record KnownFor (c : Command) (P : Pool) (R : Rules) (rows : List ℕ) (pool : Pool) : Type 0 where
-  pub knows : isImplication c ≡ true → Knows P R rows
+pub record ProvedFor (c : Command) (P : Pool) (R : Rules) (rows : List ℕ) (pool : Pool) : Type 0 where
+  pub knows : isImplication c ≡ true → ProvedBy P R rows
   pub same : isImplication c ≡ true → credentials P ≡ credentials pool
 
 -- the answer says whether the credentials shown prove the edge of a command, where it is an implication
 pub record Proves (S : State) (c : Command) (r : Bool) : Type 0 where
-  pub proves : isImplication c ≡ true → r ≡ fromOf (S .shown) (questionIn (S .nodes) c .parent) (questionIn (S .nodes) c .child)
+  pub proves : isImplication c ≡ true → r ≡ fromOf (S .shown) (implicationIn (S .nodes) c .parent) (implicationIn (S .nodes) c .child)
 
 -- the column says which nodes are satisfied, where a command adds a linking implication edge
 pub record SaysFor (c : Command) (ns : List Node) (es : List Edge) (sat : List ℕ) : Type 0 where

@@ -26,11 +26,11 @@ use Rattle.message.specs.declared.Command.the-variants.{Show, Open, Bring, Join
 use Rattle.negotiation.specs.declared.Negotiation.{Negotiation}
 use Rattle.negotiation.specs.State.{State}
 use Rattle.negotiation.specs.laws.State.{stateOf}
-use Rattle.legal.specs.declared.Question.{Question}
+use Rattle.legal.specs.declared.Implication.{Implication}
 use Rattle.legal.specs.Number.{justifiedFor, justifiedIn, legalBy, legalNumber}
 use Rattle.legal.specs.laws.Number.{by-proved, by-monitored}
 use Rattle.legal.specs.laws.Edge.{join-justified}
-use Rattle.legal.specs.laws.Judged.{isImplication, isLinking, questionIn, KnownFor, Proves}
+use Rattle.legal.specs.laws.Judged.{isImplication, isLinking, implicationIn, ProvedFor, Proves}
 
 -- past the nodes
 pub node-none : (N : Nodes) (i : ℕ) → N .count ≤ i → blank ≡ nodeIn (nodesOf N) i
@@ -45,7 +45,7 @@ module _ (n : Negotiation) (c : Command) where
   pub proves-none : (r : Bool) {i : Bool} → i ≡ isImplication c → not i ≡ true → Proves (stateOf n) c r
   proves-none r ie z = record { proves = λ y. absurd (false-true (ap not (sym (ie ∙ y)) ∙ z)) }
 
-  pub proves-asked : (P : Pool) (R : Rules) (rows : List ℕ) {q : Question} {r : Bool} → KnownFor c P R rows (n .shown) → q ≡ questionIn (nodesOf (n .nodes)) c → r ≡ fromOf (credentials P) (q .parent) (q .child) → Proves (stateOf n) c r
+  pub proves-asked : (P : Pool) (R : Rules) (rows : List ℕ) {q : Implication} {r : Bool} → ProvedFor c P R rows (n .shown) → q ≡ implicationIn (nodesOf (n .nodes)) c → r ≡ fromOf (credentials P) (q .parent) (q .child) → Proves (stateOf n) c r
   unfolding stateOf
   proves-asked P R rows k qe e = record { proves = λ y. e ∙ (λ t. fromOf (k .same y t) (qe t .parent) (qe t .child)) }
 
@@ -84,5 +84,5 @@ legal-judged ns s S c je e = e ∙ ap (legalBy ns s S c) je
 pub justified-for : (S : State) (c k : Command) {r : Bool} → c ≡ k → r ≡ justifiedIn S k → r ≡ justifiedIn S c
 justified-for S c k h e = e ∙ ap (justifiedIn S) (sym h)
 
-pub question-for : (ns : List Node) (c k : Command) {r : Question} → c ≡ k → r ≡ questionIn ns k → r ≡ questionIn ns c
-question-for ns c k h e = e ∙ ap (questionIn ns) (sym h)
+pub question-for : (ns : List Node) (c k : Command) {r : Implication} → c ≡ k → r ≡ implicationIn ns k → r ≡ implicationIn ns c
+question-for ns c k h e = e ∙ ap (implicationIn ns) (sym h)

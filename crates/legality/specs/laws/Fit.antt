@@ -28,9 +28,9 @@ use Rattle.rt0.specs.Shown.{isShown}
 use Rattle.applied.specs.Step.{verifierOf}
 use Rattle.legal.specs.Number.{formedAs}
 use Rattle.legal.specs.Legal.{Monitored, Justifies}
-use Rattle.moves.specs.declared.Wanted.{Wanted}
+use Rattle.moves.specs.declared.Candidate.{Candidate}
 use Rattle.moves.specs.Rules.{End, endIn, childFor, suitsNode}
-use Rattle.moves.specs.Move.{ownSet, credentialsFor}
+use Rattle.moves.specs.Move.{sideSet, credentialsFor}
 use Rattle.legality.specs.laws.Proper.{Proper}
 use Rattle.legality.specs.laws.Stored.{Stored}
 use Rattle.legality.specs.laws.Going.{Going, going-node}
@@ -39,11 +39,11 @@ use Rattle.legality.specs.laws.Shown.{showing, Showable, showable-none, 
 use Rattle.legality.specs.laws.Reached.{Reached}
 
 -- the wanted child as a node
-abbrev pub childNode : Wanted → ℕ → Node
+abbrev pub childNode : Candidate → ℕ → Node
 childNode w t = record { expression = w .expression; subject = w .subject; verifier = w .verifier; state = t }
 
 -- an edge into node i, behind the credentials cs
-pub record FitWith (T : Tables) (S : State) (i : ℕ) (w : Wanted) (cs : List Credential) : Type 0 where
+pub record FitWith (T : Tables) (S : State) (i : ℕ) (w : Candidate) (cs : List Credential) : Type 0 where
   pub kind : edgeKind (w .kind) ≡ true
   pub verifier : w .verifier ≡ verifierOf (w .kind) (nodeIn (S .nodes) i)
   pub form : (t : ℕ) → formedAs (S .header) (w .kind) (nodeIn (S .nodes) i) (childNode w t) ≡ true
@@ -53,21 +53,21 @@ pub record FitWith (T : Tables) (S : State) (i : ℕ) (w : Wanted) (cs : List Cr
   pub justified : Justifies (showing S cs) (w .kind) i (w .expression) (w .subject)
 
 -- behind those that go before it
-pub record Fit (T : Tables) (S : State) (i : ℕ) (w : Wanted) : Type 0 where
+pub record Fit (T : Tables) (S : State) (i : ℕ) (w : Candidate) : Type 0 where
   pub fit : FitWith T S i w (credentialsFor (endIn T S) (nodeIn (S .nodes) i) w)
 
 -- each of these edges
-abbrev pub AllFit : Tables → State → ℕ → List Wanted → Type 0
-AllFit T S i ws = (w : Wanted) → List·Memᴰ w ws → Fit T S i w
+abbrev pub AllFit : Tables → State → ℕ → List Candidate → Type 0
+AllFit T S i ws = (w : Candidate) → List·Memᴰ w ws → Fit T S i w
 
 -- Kinds but 1
 
 -- no credentials go before them
-none-before : (o : End) (n : Node) (w : Wanted) → eqb (w .kind) 1 ≡ false → credentialsFor o n w ≡ []
+none-before : (o : End) (n : Node) (w : Candidate) → eqb (w .kind) 1 ≡ false → credentialsFor o n w ≡ []
 unfolding credentialsFor
 none-before o n w h = rw h refl
 
-module _ (T : Tables) (S : State) (i : ℕ) (w : Wanted) where
+module _ (T : Tables) (S : State) (i : ℕ) (w : Candidate) where
   pub plain-fit : eqb (w .kind) 1 ≡ false → edgeKind (w .kind) ≡ true → w .verifier ≡ verifierOf (w .kind) (nodeIn (S .nodes) i)
       → ((t : ℕ) → formedAs (S .header) (w .kind) (nodeIn (S .nodes) i) (childNode w t) ≡ true)
       → Proper (T .names) (w .expression) → 0 < w .subject → (w .kind ≡ 4 → Monitored S (nodeIn (S .nodes) i .expression) (w .subject) i)
@@ -119,7 +119,7 @@ needed-from shown own f e h =
 
 module _ (T : Tables) (S : State) (g : Going T S) (i : ℕ) (l : i < length (S .nodes)) where
   -- an implication edge to an expression that our credentials reach
-  pub implication-fit : (C : List Credential) → Stored (T .names) C → ownSet (endIn T S) (nodeIn (S .nodes) i) ≡ C → isStandard (nodeIn (S .nodes) i .expression) ≡ true
+  pub implication-fit : (C : List Credential) → Stored (T .names) C → sideSet (endIn T S) (nodeIn (S .nodes) i) ≡ C → isStandard (nodeIn (S .nodes) i .expression) ≡ true
       → (x : Expression) → Reached (T .names) C (nodeIn (S .nodes) i .expression) x → suitsNode (nodeIn (S .nodes) i) x ≡ true
       → Fit T S i (childFor 1 (nodeIn (S .nodes) i) x (nodeIn (S .nodes) i .subject))
   unfolding credentialsFor endIn verifierOf formedAs

@@ -33,11 +33,11 @@ use Rattle.applied.specs.Step.{childOf, stepped, hasRoom}
 use Rattle.legal.specs.Number.{formedAs}
 use Rattle.legal.specs.Legal.{Justifies, Legal}
 use Rattle.legal.specs.Updates.{Updates, none, next}
-use Rattle.moves.specs.declared.Wanted.{Wanted}
+use Rattle.moves.specs.declared.Candidate.{Candidate}
 use Rattle.moves.specs.declared.Choice.{Choice}
 use Rattle.moves.specs.declared.Choice.the-variants as K
 use Rattle.moves.specs.Initial.{initialState}
-use Rattle.moves.specs.Wanted.{firstNot, markIf, chosenIn, childNumber, childStands, isDone}
+use Rattle.moves.specs.Candidates.{firstNot, markIf, chosenIn, childNumber, childStands, isDone}
 use Rattle.moves.specs.Rules.{End, endIn}
 use Rattle.moves.specs.Move.{Move, credentialsFor, edgeCommand, moveFor, planAt, choiceAt, orNext, movesFrom, nextMove}
 use Rattle.moves.specs.Carried.{carried, hasRoomFor}
@@ -48,12 +48,12 @@ use Rattle.legality.specs.laws.Fit.{FitWith}
 use Rattle.legality.specs.laws.Rules.{plan-fit}
 
 -- updates lead where the commands carry the state
-along : {ns : List Name} {s : ℕ} {S U : State} {cs : List Command} → Updates ns s S cs U → carried s S cs ≡ U
-along none = refl
-along (next e f l u) = along u
+updates-along : {ns : List Name} {s : ℕ} {S U : State} {cs : List Command} → Updates ns s S cs U → carried s S cs ≡ U
+updates-along none = refl
+updates-along (next e f l u) = updates-along u
 
 carried-updates : {ns : List Name} {s : ℕ} {S U : State} {cs : List Command} → Updates ns s S cs U → Updates ns s S cs (carried s S cs)
-carried-updates {ns} {s} {S} {U} {cs} u = subst (λ (R : State). Updates ns s S cs R) (sym (along u)) u
+carried-updates {ns} {s} {S} {U} {cs} u = subst (λ (R : State). Updates ns s S cs R) (sym (updates-along u)) u
 
 -- The wanted child
 
@@ -62,7 +62,7 @@ mem-at : {A : Type 0} (d : A) {x : A} {xs : List A} → List·Memᴰ x xs → (i
 mem-at d (List·Memᴰ·head e) = (0, omega arith, sym e)
 mem-at d (List·Memᴰ·tail m) = let r = mem-at d m in (suc (r .0), omega (arith, r .1), r .2)
 
-module _ (ns : List Node) (w : Wanted) where
+module _ (ns : List Node) (w : Candidate) where
   -- where it stands, it is found
   stands-node : length ns < 129 → childStands ns w ≡ true → (nodeIn ns (childNumber ns w) .expression ≡ w .expression) × (nodeIn ns (childNumber ns w) .verifier ≡ w .verifier) × (nodeIn ns (childNumber ns w) .subject ≡ w .subject)
   stands-node few h = ⊎-elim (λ a. absurd (omega (arith, few, a .number, ltb-true (childNumber ns w) (length ns) h))) found (find-cases ns (w .expression) (w .verifier) (w .subject))
@@ -102,7 +102,7 @@ module _ (T : Tables) (S : State) (g : Going T S) (i : ℕ) (l : i < length (S .
   abbrev n : Node
   n = nodeIn (S .nodes) i
 
-  module _ (w : Wanted) (cs : List Credential) (f : FitWith T S i w cs) (undone : isDone (S .nodes) (S .edges) i w ≡ false) where
+  module _ (w : Candidate) (cs : List Credential) (f : FitWith T S i w cs) (undone : isDone (S .nodes) (S .edges) i w ≡ false) where
     abbrev oldChild : Edge
     oldChild = record { kind = w .kind; parent = i; child = childNumber (S .nodes) w }
 
@@ -174,7 +174,7 @@ Goes T S m = hasRoomFor (S .header .side) S m ≡ true → Updates (T .names) (S
 
 -- The first edge that is not done, else the mark
 
-first-cases : (Q : Choice → Type 0) (done : Wanted → Bool) (rest : Choice) (ws : List Wanted) → ((w : Wanted) → List·Memᴰ w ws → done w ≡ false → Q (K.Edge w)) → Q rest → Q (firstNot done rest ws)
+first-cases : (Q : Choice → Type 0) (done : Candidate → Bool) (rest : Choice) (ws : List Candidate) → ((w : Candidate) → List·Memᴰ w ws → done w ≡ false → Q (K.Edge w)) → Q rest → Q (firstNot done rest ws)
 unfolding firstNot
 first-cases Q done rest [] h q = q
 first-cases Q done rest (w ∷ ws) h q = go (done w) refl (first-cases Q done rest ws (λ v m. h v (List·Memᴰ·tail m)) q)
@@ -194,14 +194,19 @@ module _ (T : Tables) (S : State) (g : Going T S) where
     where
       o : End
       o = endIn T S
+
       n : Node
       n = nodeIn (S .nodes) i
-      done : Wanted → Bool
+
+      done : Candidate → Bool
       done w = isDone (S .nodes) (S .edges) i w
-      edge : processedBy (S .header .side) n ≡ false → (w : Wanted) → List·Memᴰ w (planAt o i n .wanted) → done w ≡ false → Goes T S (moveFor o i n (K.Edge w))
+
+      edge : processedBy (S .header .side) n ≡ false → (w : Candidate) → List·Memᴰ w (planAt o i n .wanted) → done w ≡ false → Goes T S (moveFor o i n (K.Edge w))
       edge free w m d room = carried-updates (edge-updates T S g i l free w (credentialsFor o n w) (plan-fit T S g i l w m .fit) d room)
+
       mark : processedBy (S .header .side) n ≡ false → Goes T S (moveFor o i n K.Mark)
       mark free room = next {c = Mark i} refl refl (record { node = l; unprocessed = free }) none
+
       go : (b : Bool) → processedBy (S .header .side) n ≡ b → Goes T S (moveFor o i n (cond b K.Nothing (firstNot done (markIf (planAt o i n .marks)) (planAt o i n .wanted))))
       go true e = λ room. none
       go false e = first-cases (λ c. Goes T S (moveFor o i n c)) done (markIf (planAt o i n .marks)) (planAt o i n .wanted) (edge e) (mark-cases (λ c. Goes T S (moveFor o i n c)) (planAt o i n .marks) (mark e) (λ room. none))
@@ -228,5 +233,6 @@ move-updates T S g = by-node
   where
     at-node : (j : ℕ) → j < length (S .nodes) → Goes T S (moveFor (endIn T S) (0 + j) (nodeIn (S .nodes) j) (choiceAt (endIn T S) (0 + j) (nodeIn (S .nodes) j)))
     at-node j l = let e : j ≡ 0 + j = omega arith in subst (λ (k : ℕ). Goes T S (moveFor (endIn T S) k (nodeIn (S .nodes) j) (choiceAt (endIn T S) k (nodeIn (S .nodes) j)))) e (choice-goes T S g j l)
+
     by-node : Goes T S (movesFrom (endIn T S) 0 (S .nodes))
     by-node = moves-cases (endIn T S) (Goes T S) (λ room. none) 0 (S .nodes) at-node

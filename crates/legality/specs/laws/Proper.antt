@@ -112,6 +112,7 @@ module _ (ns : List Name) where
     where
       last : isRole (p .fourth) ≡ true → List·Memᴰ a (p .fourth ∷ []) → isRole a ≡ true
       last h k = ⊎-elim (λ e. ap isRole e ∙ h) (λ j. absurd (List·Memᴰ·not-nil j)) (List·Memᴰ·cases-cons k)
+
       rest : (two three four : Bool)
           → choose two (isEmpty (p .third) && isEmpty (p .fourth))
           (choose three (isRole (p .third) && ascends (p .second) (p .third) && isEmpty (p .fourth))
@@ -133,8 +134,10 @@ module _ (ns : List Name) where
     where
       ks : List ℕ
       ks = map (λ (r : Role). classOf ns (r .name)) (rolesOf p)
+
       none : any (λ k. eqb k 0) ks ≡ false
       none = typed-together ks h
+
       go : (b : Bool) → eqb (classOf ns (a .name)) 0 ≡ b → eqb (classOf ns (a .name)) 0 ≡ false
       go true e = absurd (false-true (sym none ∙ any-here (λ k. eqb k 0) (map-mem (λ (r : Role). classOf ns (r .name)) m) e))
       go false e = e

@@ -43,17 +43,17 @@ use Rattle.negotiation.specs.Ends.{entityOf}
 use Rattle.applied.specs.Step.{verifierOf}
 use Rattle.legal.specs.Number.{formedAs}
 use Rattle.legal.specs.Legal.{Monitored}
-use Rattle.moves.specs.declared.Wanted.{Wanted}
+use Rattle.moves.specs.declared.Candidate.{Candidate}
 use Rattle.moves.specs.declared.Holding.{Holding}
 use Rattle.moves.specs.declared.Holding.the-variants.{Absent, Free, Guarded}
 use Rattle.moves.specs.declared.Known.{Known}
 use Rattle.moves.specs.declared.Known.the-variants.{Waiting, Seen}
 use Rattle.moves.specs.Known.{policyOf, holdingOf, isAcknowledged, KnownRole, knownOf}
 use Rattle.moves.specs.Frontiers.{gather, bodiesOf, oppo, simp, sens}
-use Rattle.moves.specs.Wanted.{ordered, Plan}
-use Rattle.moves.specs.laws.Wanted.{ordered-find}
+use Rattle.moves.specs.Candidates.{ordered, Plan}
+use Rattle.moves.specs.laws.Candidates.{ordered-find}
 use Rattle.moves.specs.Rules.{End, endIn, entitiesIn, ownersIn, childFor, suitsNode, implications, toSubject, partEdges, thenMark, childrenBy, isSatisfied, solutionsOf, linkRules, membersOf, oppoFrontier, verifierRules, controlEdge, ownEdge, sensitiveRules, sensFrontier, simpFrontier, ownRules, isNamed, solutionRoles, opponentRules}
-use Rattle.moves.specs.Move.{ownSet, directFor, credentialsFor, planAt}
+use Rattle.moves.specs.Move.{sideSet, directFor, credentialsFor, planAt}
 use Rattle.legality.specs.laws.Proper.{Proper, role-proper, proper-goal, entity-proper, linked-first, linked-goal, linked-second, part-proper, ProperCredential, head-formed, body-proper}
 use Rattle.legality.specs.laws.Stored.{Stored, issuer-stored, subject-stored, less-stored, sensitive-role, ack-proper, access-proper}
 use Rattle.legality.specs.laws.Going.{Going, going-header, going-node, going-ends}
@@ -129,6 +129,7 @@ module _ (T : Tables) (S : State) (g : Going T S) where
       policy : List·Memᴰ (directOf (T .own) r) (T .subjectStored) → (a : RoleAnswer) → otherOf (T .access) r ≡ a → HeldBy T r (policyOf a)
       policy m (A.Found q) e = (m, access-proper T (g .tables) r q e)
       policy m A.Absent e = m
+
       go : (b : Bool) → any (sameRole r) (heldOf (T .own) (T .sensitive) (T .subjectStored)) ≡ b → HeldBy T r (cond b (policyOf (otherOf (T .access) r)) Absent)
       go true e =
           let w = any-find (sameRole r) (heldOf (T .own) (T .sensitive) (T .subjectStored)) e in
@@ -154,20 +155,20 @@ module _ (T : Tables) (S : State) (i : ℕ) where
   fit-none : AllFit T S i []
   fit-none w m = absurd (List·Memᴰ·not-nil m)
 
-  fit-cons : {v : Wanted} {ws : List Wanted} → Fit T S i v → AllFit T S i ws → AllFit T S i (v ∷ ws)
+  fit-cons : {v : Candidate} {ws : List Candidate} → Fit T S i v → AllFit T S i ws → AllFit T S i (v ∷ ws)
   fit-cons f h w m = ⊎-elim (λ e. subst (Fit T S i) (sym e) f) (λ k. h w k) (List·Memᴰ·cases-cons m)
 
-  fit-append : (vs : List Wanted) {ws : List Wanted} → AllFit T S i vs → AllFit T S i ws → AllFit T S i (vs ++ ws)
+  fit-append : (vs : List Candidate) {ws : List Candidate} → AllFit T S i vs → AllFit T S i ws → AllFit T S i (vs ++ ws)
   fit-append vs f h w m = ⊎-elim (f w) (h w) (List·Memᴰ·append-cases vs m)
 
-  fit-ordered : {A : Type 0} (f : A → Wanted) (xs : List A) → ((x : A) → List·Memᴰ x xs → Fit T S i (f x)) → AllFit T S i (ordered (map f xs))
+  fit-ordered : {A : Type 0} (f : A → Candidate) (xs : List A) → ((x : A) → List·Memᴰ x xs → Fit T S i (f x)) → AllFit T S i (ordered (map f xs))
   fit-ordered f xs h w m = let p = map-find f xs (ordered-find (map f xs) m) in subst (Fit T S i) (sym (p .2)) (h (p .0) (p .1))
 
   fit-plan : (b : Bool) (p q : Plan) → AllFit T S i (p .wanted) → AllFit T S i (q .wanted) → AllFit T S i (cond b p q .wanted)
   fit-plan true p q f h = f
   fit-plan false p q f h = h
 
-  fit-if : (b : Bool) {p q : List Wanted} → (b ≡ true → AllFit T S i p) → AllFit T S i q → AllFit T S i (cond b p q)
+  fit-if : (b : Bool) {p q : List Candidate} → (b ≡ true → AllFit T S i p) → AllFit T S i q → AllFit T S i (cond b p q)
   fit-if true f h = f refl
   fit-if false f h = h
 
@@ -186,7 +187,7 @@ module _ (T : Tables) (S : State) (g : Going T S) (i : ℕ) (l : i < length (S .
 
   -- Implications
 
-  module _ (C : List Credential) (s : Stored (T .names) C) (own : ownSet (endIn T S) n ≡ C) (std : isStandard (n .expression) ≡ true) where
+  module _ (C : List Credential) (s : Stored (T .names) C) (own : sideSet (endIn T S) n ≡ C) (std : isStandard (n .expression) ≡ true) where
     implications-fit : (xs : List Expression) → ((x : Expression) → List·Memᴰ x xs → Reached (T .names) C (n .expression) x) → AllFit T S i (implications n xs)
     implications-fit xs h =
         fit-ordered T S i (λ x. childFor 1 n x (n .subject)) (keep (suitsNode n) xs)
@@ -255,7 +256,7 @@ module _ (T : Tables) (S : State) (g : Going T S) (i : ℕ) (l : i < length (S .
   -- Our end as verifier
 
   module _ (side : eqb (n .verifier) (S .header .side) ≡ true) where
-    issuer-own : ownSet (endIn T S) n ≡ T .issuerStored
+    issuer-own : sideSet (endIn T S) n ≡ T .issuerStored
     unfolding endIn publicOf
     issuer-own = rw side refl
 
@@ -297,7 +298,7 @@ module _ (T : Tables) (S : State) (g : Going T S) (i : ℕ) (l : i < length (S .
     abbrev C : List Credential
     C = lessDirect (T .own) (T .sensitive) (T .subjectStored)
 
-    subject-own : ownSet (endIn T S) n ≡ C
+    subject-own : sideSet (endIn T S) n ≡ C
     unfolding endIn publicOf
     subject-own = rw side refl
 
@@ -314,7 +315,7 @@ module _ (T : Tables) (S : State) (g : Going T S) (i : ℕ) (l : i < length (S .
     unfolding credentialsFor endIn publicOf formedAs verifierOf
     own-fit a e q m =
         let D : List Credential = directOf (T .own) a ∷ [] in
-        let w : Wanted = ownEdge (endIn T S) n in
+        let w : Candidate = ownEdge (endIn T S) n in
         let s : Stored (T .names) D = record {
           each = λ c k. subst (λ (d : Credential). ProperCredential (T .names) d) (sym (one-only k)) (subject-stored T (g .tables) .each (directOf (T .own) a) m);
           rising = rising-cons refl rising-none;
@@ -334,7 +335,7 @@ module _ (T : Tables) (S : State) (g : Going T S) (i : ℕ) (l : i < length (S .
               });
         }
 
-    sensitive-fit : (a : Role) → n .expression ≡ E.Role a → n .subject ≡ T .own → (ack : Wanted) (rest : List Wanted) → Fit T S i ack → AllFit T S i rest → (k : Known) → KnownBy T a k → AllFit T S i (sensitiveRules (endIn T S) i n ack rest k .wanted)
+    sensitive-fit : (a : Role) → n .expression ≡ E.Role a → n .subject ≡ T .own → (ack : Candidate) (rest : List Candidate) → Fit T S i ack → AllFit T S i rest → (k : Known) → KnownBy T a k → AllFit T S i (sensitiveRules (endIn T S) i n ack rest k .wanted)
     unfolding sensitiveRules
     sensitive-fit a e q ack rest f h Waiting k = fit-cons T S i f h
     sensitive-fit a e q ack rest f h (Seen Absent) k = fit-cons T S i f h
@@ -355,12 +356,14 @@ module _ (T : Tables) (S : State) (g : Going T S) (i : ℕ) (l : i < length (S .
       where
         here : KnownRight T k
         here = h k (List·Memᴰ·head refl)
+
         rest : AllFit T S i (implications n (keep (λ x. not (isEntity x)) (sensFrontier (endIn T S) (bodiesOf C (E.Role a)))))
         rest =
             implications-fit C (less-stored T (g .tables)) subject-own (standard e refl) (keep (λ x. not (isEntity x)) (sensFrontier (endIn T S) (bodiesOf C (E.Role a))))
             (λ x m.
             frontier-reached (T .names) C (n .expression) (less-stored T (g .tables)) (sens (T .sensitive)) (bodiesOf C (E.Role a)) (bodies-reached (T .names) C (n .expression) (less-stored T (g .tables)) (E.Role a) (from-node C e)) x
             (keep-find (λ x. not (isEntity x)) (sensFrontier (endIn T S) (bodiesOf C (E.Role a))) m .0))
+
         go : (b : Bool) → sameRole (k .role) a ≡ b → AllFit T S i (ownRules (endIn T S) i n a ks .wanted)
             → AllFit T S i (cond b (sensitiveRules (endIn T S) i n (controlEdge (endIn T S) n (k .ack)) (implications n (keep (λ x. not (isEntity x)) (sensFrontier (endIn T S) (bodiesOf C (E.Role a))))) (k .known)) (ownRules (endIn T S) i n a ks) .wanted)
         go true z ih = sensitive-fit a e q (controlEdge (endIn T S) n (k .ack)) _ (control-fit (standard e refl) (k .ack) (here .ack)) rest (k .known) (subst (λ (r : Role). KnownBy T r (k .known)) (sameRole-eq (k .role) a z) (here .known))

@@ -71,6 +71,7 @@ other-find P r q h = go P h
         → cond b (A.Found (p .other)) (firstOr (λ (p : Pair). sameRole (p .role) r) (λ p. A.Found (p .other)) A.Absent L) ≡ A.Found q → (s : Pair) × List·Memᴰ s (p ∷ L) × (s .other ≡ q)
     step p L true ih e = (p, mathlib.Core.List.List·Memᴰ·head refl, ap (roleIn r) e)
     step p L false ih e = let w = ih e in (w .0, mathlib.Core.List.List·Memᴰ·tail (w .1), w .2)
+
     go : (L : List Pair) → firstOr (λ (p : Pair). sameRole (p .role) r) (λ p. A.Found (p .other)) A.Absent L ≡ A.Found q → (p : Pair) × List·Memᴰ p L × (p .other ≡ q)
     go [] e = absurd (let z : _≡_ {A = ℕ} 0 1 = ap number e in omega (arith, z))
     go (p ∷ L) e = step p L (sameRole (p .role) r) (λ k. go L k) e

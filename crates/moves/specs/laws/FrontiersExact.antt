@@ -67,6 +67,7 @@ module _ (pred : Expression → Bool) (C : List Credential) where
       body : List·Memᴰ (c .body) (bodies xs)
       body = gather-mem (bodiesOf C) (keep-mem (λ y. not (pred y)) m (ap not n))
           (map-mem (λ (d : Credential). d .body) (keep-mem (λ (d : Credential). same (E.Role (d .head)) x) k (eq-same (E.Role (c .head)) x (sym q))))
+
       go : (b : Bool) → any (same (c .body)) xs ≡ b → List·Memᴰ (c .body) (stepped xs)
       go true h = let w = any-find (same (c .body)) xs h in Memᴰ·append-left (fresh xs) (subst (λ (y : Expression). List·Memᴰ y xs) (sym (same-eq (c .body) (w .0) (w .2))) (w .1))
       go false h = Memᴰ·append-right xs (keep-mem (λ y. not (any (same y) xs)) body (ap not h))

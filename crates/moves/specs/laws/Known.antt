@@ -83,15 +83,15 @@ abbrev pub differing : Hidden → Hidden → Pair → Bool
 differing H K p = not (sameHolding (holdingOf H (p .role)) (holdingOf K (p .role)))
 
 -- the Ack target of one of these roles, on which the two differ, is satisfied
-abbrev openAmong : Hidden → Hidden → State → List Pair → Bool
-openAmong H K S P = any (λ (p : Pair). differing H K p && isAcknowledged S (p .other)) P
+abbrev disclosedAmong : Hidden → Hidden → State → List Pair → Bool
+disclosedAmong H K S P = any (λ (p : Pair). differing H K p && isAcknowledged S (p .other)) P
 
 -- a differing role's Ack target is satisfied
 unfoldable pub isDisclosed : Tables → Tables → State → Bool
-isDisclosed T U S = openAmong (hiddenOf T) (hiddenOf U) S (T .sensitive)
+isDisclosed T U S = disclosedAmong (hiddenOf T) (hiddenOf U) S (T .sensitive)
 
 -- such a role
-pub record Opened (T U : Tables) (S : State) : Type 0 where
+pub record Disclosed (T U : Tables) (S : State) : Type 0 where
   pub pair : Pair
   pub stands : List·Memᴰ pair (T .sensitive)
   pub differs : Differs T U (pair .role)
@@ -105,13 +105,14 @@ true-not : (b : Bool) → (b ≡ true → ⊥) → not b ≡ true
 true-not true h = absurd (h refl)
 true-not false h = refl
 
-pub open-exact : (T U : Tables) (S : State) → (isDisclosed T U S ≡ true) ↔ Opened T U S
+pub disclosed-exact : (T U : Tables) (S : State) → (isDisclosed T U S ≡ true) ↔ Disclosed T U S
 unfolding isDisclosed
-open-exact T U S = (there, back)
+disclosed-exact T U S = (there, back)
   where
     test : Pair → Bool
     test p = differing (hiddenOf T) (hiddenOf U) p && isAcknowledged S (p .other)
-    there : any test (T .sensitive) ≡ true → Opened T U S
+
+    there : any test (T .sensitive) ≡ true → Disclosed T U S
     there h =
         let r = any-find test (T .sensitive) h in
         let p : Pair = r .0 in
@@ -122,7 +123,8 @@ open-exact T U S = (there, back)
           differs = λ e. not-true (sameHolding (holdingOf (hiddenOf T) (p .role)) (holdingOf (hiddenOf U) (p .role))) (q .0) (eq-same-holding _ _ e);
           acknowledged = q .1;
         }
-    back : Opened T U S → any test (T .sensitive) ≡ true
+
+    back : Disclosed T U S → any test (T .sensitive) ≡ true
     back o =
         let p : Pair = o .pair in
         any-here test (o .stands)
@@ -141,11 +143,11 @@ known-one true x y h = go (sameHolding x y) refl h
     go true e h = ap Seen (same-holding-eq x y e)
     go false e h = absurd (false-true (sym h))
 
-known-among : (H K : Hidden) (S : State) (P : List Pair) → openAmong H K S P ≡ false → knownOf H P S ≡ knownOf K P S
+known-among : (H K : Hidden) (S : State) (P : List Pair) → disclosedAmong H K S P ≡ false → knownOf H P S ≡ knownOf K P S
 unfolding knownOf
 known-among H K S [] h = refl
 known-among H K S (p ∷ ps) h =
-    let q = or-neither (differing H K p && isAcknowledged S (p .other)) (openAmong H K S ps) h in
+    let q = or-neither (differing H K p && isAcknowledged S (p .other)) (disclosedAmong H K S ps) h in
     let e = known-one (isAcknowledged S (p .other)) (holdingOf H (p .role)) (holdingOf K (p .role)) (q .0) in
     let es : knownOf H ps S ≡ knownOf K ps S = known-among H K S ps (q .1) in
     λ i. record { role = p .role; ack = p .other; known = e i } ∷ es i
@@ -159,7 +161,7 @@ known-alike T U S e h = known-among (hiddenOf T) (hiddenOf U) S (T .sensitive) h
 pub known-each : (T U : Tables) (S : State) → T .sensitive ≡ U .sensitive
     → ((p : Pair) → List·Memᴰ p (T .sensitive) → (holdingOf (hiddenOf T) (p .role) ≡ holdingOf (hiddenOf U) (p .role)) ⊎ (isAcknowledged S (p .other) ≡ false))
     → knownOf (hiddenOf T) (T .sensitive) S ≡ knownOf (hiddenOf U) (U .sensitive) S
-known-each T U S e h = known-alike T U S e (not-of (isDisclosed T U S) (λ o. shut (open-exact T U S .0 o)))
+known-each T U S e h = known-alike T U S e (not-of (isDisclosed T U S) (λ o. shut (disclosed-exact T U S .0 o)))
   where
-    shut : Opened T U S → ⊥
+    shut : Disclosed T U S → ⊥
     shut o = ⊎-elim (λ a. o .differs a) (λ b. false-true (sym b ∙ o .acknowledged)) (h (o .pair) (o .stands))

@@ -35,7 +35,7 @@ use Rattle.negotiation.specs.State.{State, within, withNode, withEdge, withShow
 use Rattle.applied.specs.Step.{stepped, primaryOf, childIn, edgeIn}
 use Rattle.graph.specs.Processed.{markedState}
 use Rattle.moves.specs.Known.{isAcknowledged}
-use Rattle.moves.specs.laws.Known.{isDisclosed, Opened, open-exact}
+use Rattle.moves.specs.laws.Known.{isDisclosed, Disclosed, disclosed-exact}
 
 -- Graphs
 
@@ -119,11 +119,14 @@ more-mark ns es i s full =
   where
     here : (k : ℕ) → k < length ns → k ≡ i → nodeIn (set ns i (inState s (nodeIn ns i))) k ≡ inState s (nodeIn ns k)
     here k l e = ap (nodeIn (set ns i (inState s (nodeIn ns i)))) e ∙ getD-set-same ns i (inState s (nodeIn ns i)) blank (omega arith) ∙ ap (λ (n : ℕ). inState s (nodeIn ns n)) (sym e)
+
     other : (k : ℕ) → (k ≡ i → ⊥) → nodeIn (set ns i (inState s (nodeIn ns i))) k ≡ nodeIn ns k
     other k o = getD-set-other ns i k (inState s (nodeIn ns i)) blank o
+
     like : (k : ℕ) → k < length ns → (b : Bool) → eqb k i ≡ b → Alike (nodeIn (set ns i (inState s (nodeIn ns i))) k) (nodeIn ns k)
     like k l true q = let e = here k l (eqb-true k i q) in record { expression = ap (λ (x : Node). x .expression) e; subject = ap (λ (x : Node). x .subject) e; verifier = ap (λ (x : Node). x .verifier) e }
     like k l false q = alike-eq (other k (eqb-false k i q))
+
     done : (k : ℕ) → FullyProcessed ns k → (b : Bool) → eqb k i ≡ b → FullyProcessed (set ns i (inState s (nodeIn ns i))) k
     done k p true q = ap (λ (x : Node). x .state) (here k (processed-inside ns k p) (eqb-true k i q)) ∙ full (ap (λ (n : ℕ). nodeIn ns n .state) (sym (eqb-true k i q)) ∙ p)
     done k p false q = ap (λ (x : Node). x .state) (other k (eqb-false k i q)) ∙ p
@@ -191,7 +194,7 @@ pub acknowledged-stays : (S : State) (s : ℕ) (c : Command) (r : Role) → with
 acknowledged-stays S s c r w = ack-onward S (stepped S s c) r (step-header S s c) (step-onward S s c) (few-nodes S w)
 
 -- so does that of a differing role
-pub open-step : (T U : Tables) (S : State) (s : ℕ) (c : Command) → within S ≡ true → isDisclosed T U S ≡ true → isDisclosed T U (stepped S s c) ≡ true
-open-step T U S s c w h =
-    let o : Opened T U S = open-exact T U S .0 h in
-    open-exact T U (stepped S s c) .1 (record { pair = o .pair; stands = o .stands; differs = o .differs; acknowledged = acknowledged-stays S s c (o .pair .other) w (o .acknowledged) })
+pub disclosed-step : (T U : Tables) (S : State) (s : ℕ) (c : Command) → within S ≡ true → isDisclosed T U S ≡ true → isDisclosed T U (stepped S s c) ≡ true
+disclosed-step T U S s c w h =
+    let o : Disclosed T U S = disclosed-exact T U S .0 h in
+    disclosed-exact T U (stepped S s c) .1 (record { pair = o .pair; stands = o .stands; differs = o .differs; acknowledged = acknowledged-stays S s c (o .pair .other) w (o .acknowledged) })

@@ -12,7 +12,7 @@ use Rattle.frontier.specs.laws.Frontier.{Stops}
 use Rattle.graph.specs.Graph.{nodeIn}
 use Rattle.message.specs.declared.Command.{Command}
 use Rattle.message.specs.declared.Command.the-variants.{Show}
-use Rattle.moves.specs.declared.Own.{Own}
+use Rattle.moves.specs.declared.Preparation.{Preparation}
 use Rattle.moves.specs.declared.Found.{Found}
 use Rattle.moves.specs.declared.Outgoing.{Outgoing}
 use Rattle.moves.specs.declared.Predicate.{Predicate}
@@ -26,7 +26,7 @@ abbrev pub StopsFor : Predicate → House → Pool → List ℕ → Type 0
 StopsFor p H P stop = Stops (predicateOf p (tablesOf H .names) (tablesOf H .sensitive)) P stop
 
 -- the columns are those of the house
-pub record Prepared (o : Own) : Type 0 where
+pub record Prepared (o : Preparation) : Type 0 where
   pub housed : Housed (o .house)
   -- 0x13 less direct credentials of sensitive roles
   pub visible : chosen (o .house .subject) (o .visible) ≡ publicOf (tablesOf (o .house)) .subjectStored

@@ -23,7 +23,7 @@ use Rattle.rules.specs.laws.Exact.{four-all}
 use Rattle.closure.specs.laws.Rules.{el}
 use Rattle.needed.specs.laws.Column.{came, stays}
 use Rattle.needed.specs.laws.Relevant.{asks, ClosedFor}
-use Rattle.needed.specs.laws.Flags.{headIn, isNamed, Raised, Marked, Work, Followed, Passed}
+use Rattle.needed.specs.laws.Flags.{headIn, isNamed, Raised, Marked, Work, Followed, Swept}
 use Rattle.word.specs.laws.Search.{zeros}
 
 -- A flag
@@ -66,12 +66,14 @@ module _ {H : List ℕ} {t : Role → Bool} {r : List ℕ} where
     where
       here : (j : ℕ) → j ≡ i → v ≡ 1 → el (set q i v) j ≡ 1
       here j e h = ap (el (set q i v)) e ∙ getD-set-same q i v 0 (omega (arith, m .sized)) ∙ h
+
       at : (j : ℕ) → el q j ≡ 1 → (j ≡ i → v ≡ 1) → el (set q i v) j ≡ 1
       at j h k = pick (eqb j i) refl
         where
           pick : (b : Bool) → eqb j i ≡ b → el (set q i v) j ≡ 1
           pick true e = here j (eqb-true j i e) (k (eqb-true j i e))
           pick false e = getD-set-other q i j v 0 (eqb-false j i e) ∙ h
+
       go : {j : ℕ} (b : Bool) → eqb j i ≡ b → j < i + 1 → t (headIn H j) ≡ true → el (set q i v) j ≡ 1
       go {j} true e k h = here j (eqb-true j i e) (s .told (subst (λ (x : ℕ). t (headIn H x) ≡ true) (eqb-true j i e) h))
       go {j} false e k h = getD-set-other q i j v 0 (eqb-false j i e) ∙ m .all j (omega (arith, eqb-false j i e)) h
@@ -125,13 +127,16 @@ module _ {H : List ℕ} {n : ℕ} where
       choose : (G : Role → Type 0) (t : Bool) {y z : Role} → G y → G z → G (cond t y z)
       choose G true g h = g
       choose G false g h = h
+
       each : (i : ℕ) → i < n → (o : Role) → List·Memᴰ o (rolesOf p) → sameRole o (headIn H i) ≡ true → el w i ≡ 1
       each i l = four-all p G first (λ h. d .grows i (c .grows i (b .all i l h))) (choose G (eqb (p .count) 2) first third′) (choose G (eqb (p .count) 2) first (choose G (eqb (p .count) 3) first (d .all i l)))
         where
           G : Role → Type 0
           G o = sameRole o (headIn H i) ≡ true → el w i ≡ 1
+
           first : G (p .first)
           first h = d .grows i (c .grows i (b .grows i (a .all i l h)))
+
           third′ : G (p .third)
           third′ h = d .grows i (c .all i l h)
 
@@ -155,10 +160,10 @@ module _ (P : Pool) (j : ℕ) {r done : List ℕ} (w : Work P r done) where
 -- A pass
 
 module _ {P : Pool} {r : List ℕ} where
-  pub pass-start : {done : List ℕ} (b : Bool) → Work P r done → Passed P r r done b 0
+  pub pass-start : {done : List ℕ} (b : Bool) → Work P r done → Swept P r r done b 0
   pass-start b w = record { work = w; grows = λ i h. h; still = λ h j l. absurd (omega arith) }
 
-  pub pass-next : {q ended u over : List ℕ} {a b : Bool} {j : ℕ} → Passed P r q ended a j → Followed P j q ended u over b → Passed P r u over (a || b) (j + 1)
+  pub pass-next : {q ended u over : List ℕ} {a b : Bool} {j : ℕ} → Swept P r q ended a j → Followed P j q ended u over b → Swept P r u over (a || b) (j + 1)
   pass-next {q} {ended} {u} {over} {a} {b} {j} p f =
       record { work = f .work; grows = λ i h. f .grows i (p .grows i h); still = λ h k l o. go a b refl refl h k l o }
     where
@@ -169,13 +174,15 @@ module _ {P : Pool} {r : List ℕ} where
         where
           was : el q k ≡ 1
           was = ap (λ (z : List ℕ). el z k) (sym (f .same d .0)) ∙ o
+
           is : el ended k ≡ 1 → el over k ≡ 1
           is z = ap (λ (z : List ℕ). el z k) (f .same d .1) ∙ z
+
           at : (t : Bool) → eqb k j ≡ t → el over k ≡ 1
           at true e = let z : k ≡ j = eqb-true k j e in is (ap (el ended) z ∙ f .same d .2 (ap (el q) (sym z) ∙ was))
           at false e = is (p .still c k (omega (arith, eqb-false k j e)) was)
 
-  pub pass-all : {q ended : List ℕ} {b : Bool} {k : ℕ} (n : ℕ) → n ≤ k → Passed P r q ended b k → Passed P r q ended b n
+  pub pass-all : {q ended : List ℕ} {b : Bool} {k : ℕ} (n : ℕ) → n ≤ k → Swept P r q ended b k → Swept P r q ended b n
   pass-all n l p = record { work = p .work; grows = p .grows; still = λ h j m. p .still h j (omega arith) }
 
 -- Pass by pass
@@ -187,11 +194,11 @@ module _ {P : Pool} {r : List ℕ} where
       none : (j : ℕ) → el (replicate 128 0) j ≡ 1 → ⊥
       none j h = let z : el (replicate 128 0) j ≡ 0 = zeros 128 j in omega arith
 
-  pub pass-again : {q ended u over : List ℕ} {a b : Bool} {k n : ℕ} → Passed P r q ended a k → Passed P q u over b n → Passed P r u over true 0
+  pub pass-again : {q ended u over : List ℕ} {a b : Bool} {k n : ℕ} → Swept P r q ended a k → Swept P q u over b n → Swept P r u over true 0
   pass-again p s = record { work = s .work; grows = λ i h. s .grows i (p .grows i h); still = λ h. absurd (false-true (sym h)) }
 
   -- a pass that follows none leaves a closed column
-  pub pass-closed : (f : Expression) {o q ended u over : List ℕ} {a b : Bool} {k : ℕ} → Marked (P .heads) (asks f) (P .count) o r → Passed P r q ended a k → Passed P q u over b (P .count) → b ≡ false → ClosedFor P f u
+  pub pass-closed : (f : Expression) {o q ended u over : List ℕ} {a b : Bool} {k : ℕ} → Marked (P .heads) (asks f) (P .count) o r → Swept P r q ended a k → Swept P q u over b (P .count) → b ≡ false → ClosedFor P f u
   pass-closed f m p s h =
       record {
         asked = λ i l x. s .grows i (p .grows i (m .all i l x));

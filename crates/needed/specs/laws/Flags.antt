@@ -48,7 +48,7 @@ pub record Followed (P : Pool) (j : ℕ) (r done q ended : List ℕ) (b : Bool) 
   pub same : b ≡ false → (q ≡ r) × (ended ≡ done) × (el r j ≡ 1 → el done j ≡ 1)
 
 -- the first k credentials are looked at; where none was followed, those of them in the column are done
-pub record Passed (P : Pool) (r q ended : List ℕ) (b : Bool) (k : ℕ) : Type 0 where
+pub record Swept (P : Pool) (r q ended : List ℕ) (b : Bool) (k : ℕ) : Type 0 where
   pub work : Work P q ended
   pub grows : (i : ℕ) → el r i ≡ 1 → el q i ≡ 1
   pub still : b ≡ false → (j : ℕ) → j < k → el q j ≡ 1 → el ended j ≡ 1

@@ -55,6 +55,7 @@ module _ (P : Pool) (was : List ℕ) (f e : Expression) where
           let r = chosen-find P on (P .count) c m in
           subst (λ (d : Credential). List·Memᴰ d (chosen P was ++ restOf P k)) (sym (r .3))
           (⊎-elim (λ h. Memᴰ·append-left (restOf P k) (chosen-mem P was (P .count) (r .0) (r .1) h)) (λ h. Memᴰ·append-right (chosen P was) (rest-mem P k (r .0) h (r .1))) (g .says (r .0) (r .1) (r .2)))
+
       fro : (c : Credential) → List·Memᴰ c (chosen P was ++ restOf P k) → List·Memᴰ c (chosen P on)
       fro c m =
           ⊎-elim (λ h. let r = chosen-find P was (P .count) c h in subst (λ (d : Credential). List·Memᴰ d (chosen P on)) (sym (r .3)) (chosen-mem P on (P .count) (r .0) (r .1) (g .old (r .0) (r .2))))
@@ -129,20 +130,23 @@ module _ (P : Pool) (small : P .count ≤ 128) (s : ℕ) (f e : Expression) wher
 
   module _ (r on : List ℕ) (a : ℕ) (k : Keeping P s f e r on a) where
     -- those on are those shown and those kept
-    beside : (X : List Credential) → from? (chosen P on ++ X) f e ≡ enough (firstOf P s) f e (chosen P r ++ X)
+    kept-among : (X : List Credential) → from? (chosen P on ++ X) f e ≡ enough (firstOf P s) f e (chosen P r ++ X)
     unfolding chosen firstOf
-    beside X = same-set (chosen P on ++ X) (firstOf P s ++ (chosen P r ++ X)) to fro f e
+    kept-among X = same-set (chosen P on ++ X) (firstOf P s ++ (chosen P r ++ X)) to fro f e
       where
         one : (i : ℕ) → i < P .count → (i < s) ⊎ (el r i ≡ 1) → List·Memᴰ (credentialAt P i) (firstOf P s ++ (chosen P r ++ X))
         one i l h =
             ⊎-elim (λ m. Memᴰ·append-left (chosen P r ++ X) (upTo-mem s (credentialAt P) i m))
             (λ m. Memᴰ·append-right (firstOf P s) (Memᴰ·append-left X (chosen-mem P r (P .count) i l m))) h
+
         to : (c : Credential) → List·Memᴰ c (chosen P on ++ X) → List·Memᴰ c (firstOf P s ++ (chosen P r ++ X))
         to c m =
             ⊎-elim (λ h. let x = chosen-find P on (P .count) c h in subst (λ (d : Credential). List·Memᴰ d (firstOf P s ++ (chosen P r ++ X))) (sym (x .3)) (one (x .0) (x .1) (k .says (x .0) (x .2))))
             (λ h. Memᴰ·append-right (firstOf P s) (Memᴰ·append-right (chosen P r) h)) (List·Memᴰ·append-cases (chosen P on) m)
+
         there : (i : ℕ) (c : Credential) → i < P .count → el on i ≡ 1 → c ≡ credentialAt P i → List·Memᴰ c (chosen P on ++ X)
         there i c l o q = subst (λ (d : Credential). List·Memᴰ d (chosen P on ++ X)) (sym q) (Memᴰ·append-left X (chosen-mem P on (P .count) i l o))
+
         fro : (c : Credential) → List·Memᴰ c (firstOf P s ++ (chosen P r ++ X)) → List·Memᴰ c (chosen P on ++ X)
         fro c m =
             ⊎-elim (λ h. let x = upTo-find s (credentialAt P) c h in let l : x .0 < s = x .1 in there (x .0) c (omega (arith, k .from, k .within)) (k .shown (x .0) l) (x .2))
@@ -166,8 +170,9 @@ module _ (P : Pool) (small : P .count ≤ 128) (s : ℕ) (f e : Expression) wher
         alone : enough (firstOf P s) f e (chosen P r) ≡ true
         alone =
             ap (enough (firstOf P s) f e) (sym (append-nil (chosen P r)))
-            ∙ (sym (beside [])
+            ∙ (sym (kept-among [])
             ∙ (ap (λ (l : List Credential). from? (chosen P on ++ l) f e) (sym (rest-none P z (omega arith))) ∙ last .found (omega arith) .1))
+
         all : chosen P r ≡ needed (firstOf P s) f e (restOf P s)
         all = sym (k .so-far ∙ kept-done (enough (firstOf P s) f e) (enough-gains (firstOf P s) f e) (chosen P r) (restOf P a) alone)
 
@@ -189,8 +194,10 @@ module _ (P : Pool) (small : P .count ≤ 128) (s : ℕ) (f e : Expression) wher
       where
         with-rest : chosen P q ≡ chosen P r ++ restOf P a
         with-rest = rest-chosen P r q a (k .within) (λ i o. k .own i o .1) w
+
         few : enough (firstOf P s) f e (chosen P r ++ restOf P a) ≡ false
-        few = sym (beside (restOf P a)) ∙ last .none l
+        few = sym (kept-among (restOf P a)) ∙ last .none l
+
         all : chosen P q ≡ needed (firstOf P s) f e (restOf P s)
         all = with-rest ∙ sym (k .so-far ∙ kept-all (enough (firstOf P s) f e) (enough-gains (firstOf P s) f e) (chosen P r) (restOf P a) few)
 
@@ -211,23 +218,26 @@ module _ (P : Pool) (small : P .count ≤ 128) (s : ℕ) (f e : Expression) wher
       where
         found : (a ≤ z) × (from? (chosen P on ++ restOf P z) f e ≡ true) × (from? (chosen P on ++ restOf P (z + 1)) f e ≡ false)
         found = (last .found (omega arith) .0, last .found (omega arith) .1, last .last l)
+
         is-on : (x : List ℕ) (i : ℕ) → length x ≡ 128 → i ≡ z → el (set x z 1) i ≡ 1
         is-on x i sized h = ⊎-elim (λ y. absurd (y h)) (λ y. y) (set-at x z i sized (omega arith))
+
         G : List Credential → Bool
         G = enough (firstOf P s) f e
+
         jump : kept G (chosen P r) (restOf P a) ≡ kept G (chosen P (set r z 1)) (restOf P (z + 1))
         jump =
             ap (kept G (chosen P r)) (rest-split P a z (found .0) (omega arith) ∙ ap (λ (l : List Credential). upTo (z - a) (λ (i : ℕ). credentialAt P (a + i)) ++ l) (rest-next P z l))
             ∙ (kept-jump G (enough-gains (firstOf P s) f e) (chosen P r) (upTo (z - a) (λ (i : ℕ). credentialAt P (a + i))) (credentialAt P z) (restOf P (z + 1))
-            (ap (λ (l : List Credential). G (chosen P r ++ l)) (sym (rest-next P z l)) ∙ (sym (beside (restOf P z)) ∙ found .1))
-            (sym (beside (restOf P (z + 1))) ∙ found .2)
+            (ap (λ (l : List Credential). G (chosen P r ++ l)) (sym (rest-next P z l)) ∙ (sym (kept-among (restOf P z)) ∙ found .1))
+            (sym (kept-among (restOf P (z + 1))) ∙ found .2)
             ∙ ap (λ (ks : List Credential). kept G ks (restOf P (z + 1))) (sym (one-chosen P r z (k .sized) small l (λ i o. let m : i < a = k .own i o .1 in omega (arith, found .0)))))
 
   -- the last one of the pool is kept
   pub keep-last : (r on : List ℕ) (a : ℕ) → Keeping P s f e r on a → (z : ℕ) → LastNeeded P on f e a z → z + 1 ≡ P .count → Needed P s f e true (set r z 1)
   keep-last r on a k z last q =
       keep-end (set r z 1) (set on z 1) (z + 1) (keep-next r on a k z (set on z 1) last (omega arith) refl) (omega arith)
-      (ap (enough (firstOf P s) f e) with-one ∙ (sym (beside r on a k (restOf P z)) ∙ last .found (omega arith) .1))
+      (ap (enough (firstOf P s) f e) with-one ∙ (sym (kept-among r on a k (restOf P z)) ∙ last .found (omega arith) .1))
     where
       with-one : chosen P (set r z 1) ≡ chosen P r ++ restOf P z
       with-one =

@@ -110,6 +110,7 @@ module _ {A : Type 0} (g : List A → Bool) where
       where
         fewer : {zs : List A} → Sublist zs cs → (d : A) → List·Memᴰ d (ks ++ zs) → List·Memᴰ d (ks ++ cs)
         fewer h d m = ⊎-elim (λ k. Memᴰ·append-left cs k) (λ k. Memᴰ·append-right ks (sub-mem h d k)) (List·Memᴰ·append-cases ks m)
+
         go : (b : Bool) → g (ks ++ cs) ≡ b → (zs : List A) × (kept g ks cs ≡ ks ++ zs) × Sublist zs cs × Each g ks zs
             → (zs : List A) × (kept g (ks ++ (c ∷ [])) cs ≡ (ks ++ (c ∷ [])) ++ zs) × Sublist zs cs × Each g (ks ++ (c ∷ [])) zs
             → (zs : List A) × (kept g (cond b ks (ks ++ (c ∷ []))) cs ≡ ks ++ zs) × Sublist zs (c ∷ cs) × Each g ks zs

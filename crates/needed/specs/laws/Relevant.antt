@@ -25,7 +25,7 @@ asks (E.Intersection p) h = any (λ a. sameRole a h) (rolesOf p)
 asks (E.Goal m) h = false
 
 -- the heads R are closed for f over C: f asks for no others, and neither do the bodies of the credentials of C with heads in R
-pub record Closed (f : Expression) (C : List Credential) (R : Role → Type 0) : Type 0 where
+pub record Sufficient (f : Expression) (C : List Credential) (R : Role → Type 0) : Type 0 where
   pub asked : (h : Role) → asks f h ≡ true → R h
   pub followed : (c : Credential) → List·Memᴰ c C → R (c .head) → (h : Role) → asks (c .body) h ≡ true → R h
 

@@ -22,7 +22,7 @@ use Rattle.rt0.specs.laws.Pool.{headAt, credentialAt, credentials}
 use Rattle.rules.specs.laws.Exact.{unreach}
 use Rattle.needed.specs.Needed.{kept, enough, needed}
 use Rattle.needed.specs.laws.Needed.{kept-nil, kept-drop, kept-keep}
-use Rattle.needed.specs.laws.Relevant.{asks, Closed, Reduced, nothing, dropped, taken, Flagged, ClosedFor}
+use Rattle.needed.specs.laws.Relevant.{asks, Sufficient, Reduced, nothing, dropped, taken, Flagged, ClosedFor}
 use Rattle.needed.specs.laws.Column.{upTo-find}
 
 -- What a rule's premises ask for
@@ -83,11 +83,11 @@ module _ {R : Role → Type 0} where
   reduced-same (c ∷ xs) = taken (reduced-same xs)
 
   -- heads closed over a list are closed over a part of it
-  pub closed-sub : {f : Expression} {C D : List Credential} → ((c : Credential) → List·Memᴰ c D → List·Memᴰ c C) → Closed f C R → Closed f D R
+  pub closed-sub : {f : Expression} {C D : List Credential} → ((c : Credential) → List·Memᴰ c D → List·Memᴰ c C) → Sufficient f C R → Sufficient f D R
   closed-sub sub k = record { asked = k .asked; followed = λ c m r. k .followed c (sub c m) r }
 
   -- credentials with other heads change no answer
-  pub from-relevant : (f e : Expression) {C D : List Credential} → Closed f C R → Reduced R D C → from? C f e ≡ from? D f e
+  pub from-relevant : (f e : Expression) {C D : List Credential} → Sufficient f C R → Reduced R D C → from? C f e ≡ from? D f e
   from-relevant f e {C} {D} k d =
       bool-iff (from? C f e) (from? D f e)
       (λ h. complete D f e (unreach (reach-relevant (k .followed) (λ c m r. reduced-all d c m r) (k .asked) (reach (sound C f e h)))))
@@ -96,7 +96,7 @@ module _ {R : Role → Type 0} where
   -- The needed ones
 
   module _ (shown less : List Credential) (f e : Expression) (fewer : Reduced R less shown) where
-    kept-relevant : (ks : List Credential) {cs ds : List Credential} → Closed f (shown ++ (ks ++ cs)) R → enough shown f e (ks ++ cs) ≡ true → Reduced R ds cs → kept (enough less f e) ks ds ≡ kept (enough shown f e) ks cs
+    kept-relevant : (ks : List Credential) {cs ds : List Credential} → Sufficient f (shown ++ (ks ++ cs)) R → enough shown f e (ks ++ cs) ≡ true → Reduced R ds cs → kept (enough less f e) ks ds ≡ kept (enough shown f e) ks cs
     kept-relevant ks k g nothing = kept-nil (enough less f e) ks ∙ sym (kept-nil (enough shown f e) ks)
     kept-relevant ks k g (dropped {c = c} {xs = ds} {ys = cs} n d) =
         let less-one : Reduced R (shown ++ (ks ++ cs)) (shown ++ (ks ++ (c ∷ cs))) = reduced-append (reduced-same shown) (reduced-append (reduced-same ks) (dropped n (reduced-same cs))) in
@@ -105,12 +105,15 @@ module _ {R : Role → Type 0} where
     kept-relevant ks k g (taken {c = c} {xs = ds} {ys = cs} d) =
         go (enough shown f e (ks ++ cs)) refl (λ h. kept-relevant ks smaller h d) (kept-relevant (ks ++ (c ∷ [])) moved (ap (enough shown f e) (append-assoc ks (c ∷ []) cs) ∙ g) d)
       where
-        smaller : Closed f (shown ++ (ks ++ cs)) R
+        smaller : Sufficient f (shown ++ (ks ++ cs)) R
         smaller = closed-sub (λ x m. ⊎-elim (λ u. Memᴰ·append-left (ks ++ (c ∷ cs)) u) (λ u. Memᴰ·append-right shown (⊎-elim (λ w. Memᴰ·append-left (c ∷ cs) w) (λ w. Memᴰ·append-right ks (List·Memᴰ·tail w)) (List·Memᴰ·append-cases ks u))) (List·Memᴰ·append-cases shown m)) k
-        moved : Closed f (shown ++ ((ks ++ (c ∷ [])) ++ cs)) R
-        moved = subst (λ (l : List Credential). Closed f (shown ++ l) R) (sym (append-assoc ks (c ∷ []) cs)) k
+
+        moved : Sufficient f (shown ++ ((ks ++ (c ∷ [])) ++ cs)) R
+        moved = subst (λ (l : List Credential). Sufficient f (shown ++ l) R) (sym (append-assoc ks (c ∷ []) cs)) k
+
         both : enough shown f e (ks ++ cs) ≡ enough less f e (ks ++ ds)
         both = from-relevant f e smaller (reduced-append fewer (reduced-append (reduced-same ks) d))
+
         go : (b : Bool) → enough shown f e (ks ++ cs) ≡ b
             → (enough shown f e (ks ++ cs) ≡ true → kept (enough less f e) ks ds ≡ kept (enough shown f e) ks cs)
             → kept (enough less f e) (ks ++ (c ∷ [])) ds ≡ kept (enough shown f e) (ks ++ (c ∷ [])) cs
@@ -119,14 +122,14 @@ module _ {R : Role → Type 0} where
         go false q drop keep = kept-keep (enough less f e) ks c ds (sym both ∙ q) ∙ keep ∙ sym (kept-keep (enough shown f e) ks c cs q)
 
     -- where the credentials are enough, those with other heads can be left out: the same ones are needed
-    pub needed-relevant : (own some : List Credential) → Closed f (shown ++ own) R → from? (shown ++ own) f e ≡ true → Reduced R some own → needed less f e some ≡ needed shown f e own
+    pub needed-relevant : (own some : List Credential) → Sufficient f (shown ++ own) R → from? (shown ++ own) f e ≡ true → Reduced R some own → needed less f e some ≡ needed shown f e own
     unfolding needed
     needed-relevant own some k g d = kept-relevant [] k g d
 
 -- Columns
 
 -- the heads that a closed column flags are closed
-pub closed-column : (P : Pool) (f : Expression) (r : List ℕ) → ClosedFor P f r → Closed f (credentials P) (Flagged P r)
+pub closed-column : (P : Pool) (f : Expression) (r : List ℕ) → ClosedFor P f r → Sufficient f (credentials P) (Flagged P r)
 unfolding credentials
 closed-column P f r k =
     record {

@@ -102,6 +102,7 @@ cnt-more (suc k) s t h j l p q = go (eqb j k) refl (λ r. cnt-more k s t (λ i l
     last true false f l = absurd (false-true (f refl))
     last false true f l = omega arith
     last false false f l = omega arith
+
     go : (b : Bool) → eqb j k ≡ b → (j < k → cnt k s + 1 ≤ cnt k t) → cnt k s + one (s k) + 1 ≤ cnt k t + one (t k)
     go true e ih =
         let z : s k ≡ false = sym (ap s (eqb-true j k e)) ∙ p in
@@ -119,6 +120,7 @@ cnt-one (suc k) s t j l p q o = go (eqb j k) refl (λ r. cnt-one k s t j r p q o
     same : (n : ℕ) → n ≤ j → cnt n t ≡ cnt n s
     same zero h = refl
     same (suc n) h = let e : t n ≡ s n = o n (λ z. omega arith) in let r = same n (omega arith) in rw (e, r) refl
+
     go : (b : Bool) → eqb j k ≡ b → (j < k → cnt k t ≡ cnt k s + 1) → cnt k t + one (t k) ≡ cnt k s + one (s k) + 1
     go true e ih =
         let i : j ≡ k = eqb-true j k e in

@@ -44,6 +44,7 @@ module _ (F : Rule) (n : ℕ) (m : Monotone F) where
           let r = anyTo-find n (λ i. at (rounds F n (suc k)) i && not (at (rounds F n k) i)) h in
           let p = and-parts (at (rounds F n (suc k)) (r .0)) (not (at (rounds F n k) (r .0))) (r .2) in
           inr (cnt-more n (at (rounds F n k)) (at (rounds F n (suc k))) (λ i l. grows k i) (r .0) (r .1) (not-true (at (rounds F n k) (r .0)) (p .1)) (p .0))
+
       none : anyTo n (λ i. at (rounds F n (suc k)) i && not (at (rounds F n k) i)) ≡ false → Still k ⊎ (cnt n (at (rounds F n k)) + 1 ≤ cnt n (at (rounds F n (suc k))))
       none h = inl (λ i a. ⊎-elim (λ y. y) (λ x. absurd (false-true (sym h ∙ anyTo-here n (λ i. at (rounds F n (suc k)) i && not (at (rounds F n k) i)) i (out k i a .0) (and-both (at (rounds F n (suc k)) i) (not (at (rounds F n k) i)) a (ap not x))))) (decided (at (rounds F n k) i)))
 

@@ -224,8 +224,10 @@ settled m G W d i = bool-iff _ _ (d .base .sat-sound i) (least-below (satisfiedR
       where
         found : filledBy m G (flag (W .sat)) k ≡ true → (j : ℕ) × (j < m) × (slotAt G j ≡ k) × (flag (W .sat) (fromAt G j) ≡ true)
         found h = filled-find m G (flag (W .sat)) k h
+
         follow : (j : ℕ) × (j < m) × (slotAt G j ≡ k) × (flag (W .sat) (fromAt G j) ≡ true) → flag (W .got) k ≡ true
         follow r = let p = d .base .queued (fromAt G (r .0)) (r .3) in sym (ap (flag (W .got)) (r .2)) ∙ d .done (r .0) (p .0) (r .1) (p .1) (sym (p .2))
+
     closed : (i : ℕ) → i < 128 → satisfiedRule m G (flag (W .sat)) i ≡ true → flag (W .sat) i ≡ true
     closed i l h = let p = satisfied-parts m G (flag (W .sat)) i h in d .full .full i l (ready-of (nodeAt G i) (W .got) (i * 4) (p .0) (λ k q. slot-done (i * 4 + k) (p .1 k q)))
 

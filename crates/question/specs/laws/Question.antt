@@ -98,6 +98,7 @@ question-cases c f e = size (sized (length c) (length f) (length e)) refl
     read (accepted C) Wrong q h l a b = inl (inr (inr refl))
     read (accepted C) (Read x) Wrong h l a b = inl (inr (inr refl))
     read (accepted C) (Read x) (Read y) h l a b = inr (C, x, y, record { sizes = true-sized (length c) (length f) (length e) h; credentials = l; first = a; second = b }, refl)
+
     size : (t : Bool) → sized (length c) (length f) (length e) ≡ t → (let n : ℕ = answerOf yesOrNo (cond t (answered (credentialsOf c) (operandOf f) (operandOf e)) (refused LENGTH)) in Refused n ⊎ Answered c f e n)
     size true h = read (credentialsOf c) (operandOf f) (operandOf e) h refl refl refl
     size false h = inl (inl refl)

@@ -19,7 +19,7 @@ pool c = poolOf (c .args .n) (c .args .heads .now) (c .args .kinds .now) (c .arg
 abbrev rules : (c : tie.Start) → Rules
 rules c = rulesOf (c .args .n) (c .args .words) (c .args .head .now) (c .args .part .now) (c .args .first .now) (c .args .named .now) (c .args .src .now)
 
-woken-requires : tie.Need-woken-requires
+woken-requires : tie.Need-dependents-of-row-requires
 woken-requires c κs = (c .before .pre .2 .head .under .under (c .before .args .i), omega arith)
 
 seed-requires : tie.Need-seed-requires

@@ -120,6 +120,7 @@ module _ (P : Pool) (K : List ℕ) (i : ℕ) (e : Expression) where
       role a m (E.Linked p n) q = refl
       role a m (E.Intersection p) q = refl
       role a m (E.Goal n) q = refl
+
       over : (x : Expression) → false ≡ ownLink P K e x
       over (E.Entity b) = refl
       over (E.Role p) = refl
@@ -133,6 +134,7 @@ module _ (P : Pool) (K : List ℕ) (i : ℕ) (e : Expression) where
     where
       first : f ≡ rowOf P A
       first = g ∙ ap (firstRow P) (body-link h)
+
       go : (e : Expression) → el (P .numbers) (i * 8 + 2) ≡ rawOf e .n1 → s ≡ ownBit P e → t ≡ ownRole P K A (el (P .numbers) (i * 8 + 2)) e
       go (E.Entity b) n q = absurd (omega arith)
       go (E.Role r) n q = rw (eq-eqb (r .name) (el (P .numbers) (i * 8 + 2)) (sym n), ← q, ← first) k

@@ -35,26 +35,26 @@ use Rattle.relation.specs.laws.Question.{Seeded, StartTo, OwnRow, starts
 
 module _ (P : Pool) (e : Expression) (p : Role) (old : ℕ) (q : old ≡ rowOf P p) where
   -- a role that is a head keeps its row
-  pub aim-kept : (old ≡ 128 → ⊥) → old ≡ rowFor P e p
+  pub asked-kept : (old ≡ 128 → ⊥) → old ≡ rowFor P e p
   unfolding rowFor
-  aim-kept z = rw (← q, ne-eqb old 128 z)
+  asked-kept z = rw (← q, ne-eqb old 128 z)
 
   -- e itself, where it is no head, has row 129
-  pub aim-own : old ≡ 128 → {b : Bool} → b ≡ same (E.Role p) e → b ≡ true → 129 ≡ rowFor P e p
+  pub asked-own : old ≡ 128 → {b : Bool} → b ≡ same (E.Role p) e → b ≡ true → 129 ≡ rowFor P e p
   unfolding rowFor
-  aim-own z h k = rw (← q, eq-eqb old 128 z, sym h ∙ k)
+  asked-own z h k = rw (← q, eq-eqb old 128 z, sym h ∙ k)
 
   -- any other role that is no head has row 128
-  pub aim-none : old ≡ 128 → {b : Bool} → b ≡ same (E.Role p) e → b ≡ false → 128 ≡ rowFor P e p
+  pub asked-none : old ≡ 128 → {b : Bool} → b ≡ same (E.Role p) e → b ≡ false → 128 ≡ rowFor P e p
   unfolding rowFor
-  aim-none z h k = rw (← q, eq-eqb old 128 z, sym h ∙ k)
+  asked-none z h k = rw (← q, eq-eqb old 128 z, sym h ∙ k)
 
 -- The rows of a rule where e is asked about
 
 module _ (P : Pool) (e : Expression) (i : ℕ) (old : Four) (q : old ≡ fourRows (rowOf P) (bodyAt P i)) where
   -- rows of heads are kept
-  pub aim-heads : (not (eqb (old .a) 128) && (not (eqb (old .b) 128) && (not (eqb (old .c) 128) && not (eqb (old .d) 128)))) ≡ true → old ≡ fourRows (rowFor P e) (bodyAt P i)
-  aim-heads h =
+  pub asked-heads : (not (eqb (old .a) 128) && (not (eqb (old .b) 128) && (not (eqb (old .c) 128) && not (eqb (old .d) 128)))) ≡ true → old ≡ fourRows (rowFor P e) (bodyAt P i)
+  asked-heads h =
       let x = and-parts _ _ h in
       let y = and-parts _ _ (x .1) in
       let z = and-parts _ _ (y .1) in
@@ -62,11 +62,13 @@ module _ (P : Pool) (e : Expression) (i : ℕ) (old : Four) (q : old ≡ fourRow
     where
       other : (r : ℕ) → not (eqb r 128) ≡ true → r ≡ 128 → ⊥
       other r k z = false-true (sym (ap (λ (b : Bool). not b) (eq-eqb r 128 z)) ∙ k)
+
       heads : (old .a ≡ 128 → ⊥) → (old .b ≡ 128 → ⊥) → (old .c ≡ 128 → ⊥) → (old .d ≡ 128 → ⊥) → old ≡ fourRows (rowFor P e) (bodyAt P i)
       heads a b c d = go (bodyAt P i) q
         where
           kept : (p : Role) (r : ℕ) → r ≡ rowOf P p → (r ≡ 128 → ⊥) → r ≡ rowFor P e p
-          kept p r z n = aim-kept P e p r z n
+          kept p r z n = asked-kept P e p r z n
+
           go : (x : Expression) → old ≡ fourRows (rowOf P) x → old ≡ fourRows (rowFor P e) x
           go (E.Entity b) z = z
           go (E.Role p) z = λ j. record { a = kept p _ (ap (λ (r : Four). r .a) z) a j; b = kept p _ (ap (λ (r : Four). r .b) z) b j; c = kept p _ (ap (λ (r : Four). r .c) z) c j; d = kept p _ (ap (λ (r : Four). r .d) z) d j }
@@ -75,14 +77,14 @@ module _ (P : Pool) (e : Expression) (i : ℕ) (old : Four) (q : old ≡ fourRow
           go (E.Goal m) z = z
 
   -- the rule of an entity has no rows
-  pub aim-entity : el (P .kinds) (i * 2) ≡ 1 → old ≡ fourRows (rowFor P e) (bodyAt P i)
+  pub asked-entity : el (P .kinds) (i * 2) ≡ 1 → old ≡ fourRows (rowFor P e) (bodyAt P i)
   unfolding bodyAt
-  aim-entity h = q ∙ rw h
+  asked-entity h = q ∙ rw h
 
   -- nor has that of a link
-  pub aim-link : el (P .kinds) (i * 2) ≡ 3 → old ≡ fourRows (rowFor P e) (bodyAt P i)
+  pub asked-link : el (P .kinds) (i * 2) ≡ 3 → old ≡ fourRows (rowFor P e) (bodyAt P i)
   unfolding bodyAt
-  aim-link h = q ∙ rw h
+  asked-link h = q ∙ rw h
 
 -- The row of e itself
 
@@ -102,6 +104,7 @@ own-role P small e q r z h =
   where
     same-role : (p q : Role) → E.Role p ≡ E.Role q → p ≡ q
     same-role p q e = cc
+
     go : (t u : Bool) → eqb (rowOf P q) 128 ≡ t → same (E.Role q) e ≡ u → (r ≡ 129) ⊎ ((r < P .count) × (E.Role (headAt P r) ≡ e))
     go true true x y = inl (h ∙ rw (x, y))
     go true false x y = absurd (false-true (sym y ∙ eq-same (E.Role q) e (sym z)))
@@ -189,16 +192,19 @@ module _ (P : Pool) (on : List ℕ) (small : P .count ≤ 128) where
     where
       here : el on i ≡ 1
       here = rw q (getD-set-same was i 1 0 room)
+
       still : (j : ℕ) → el was j ≡ 1 → el on j ≡ 1
       still j h = pick (eqb j i) refl
         where
           pick : (t : Bool) → eqb j i ≡ t → el on j ≡ 1
           pick true z = rw (eqb-true j i z) here
           pick false z = rw q (getD-set-other was i j 1 0 (eqb-false j i z) ∙ h)
+
       keep : (c : Credential) → List·Memᴰ c (chosen P was) → List·Memᴰ c (chosen P on)
       keep c m =
           let r = chosen-find P was (P .count) c m in
           subst (λ (d : Credential). List·Memᴰ d (chosen P on)) (sym (r .3)) (chosen-mem P on (P .count) (r .0) (r .1) (still (r .0) (r .2)))
+
       go : (j b : ℕ) → j < P .count → el on j ≡ 1 → bodyAt P j ≡ E.Entity b → (t : Bool) → eqb j i ≡ t → bits K′ (rowOf P (headAt P j)) (bitOf P b) ≡ true
       go j b m p w true z = let y : j ≡ i = eqb-true j i z in rw y (new .all b (rw y at w))
       go j b m p w false z =

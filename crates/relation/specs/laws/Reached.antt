@@ -166,6 +166,7 @@ module _ (P : Pool) (on : List ℕ) (small : P .count ≤ 128) (e : Expression) 
       where
         is : u ≡ anyTo (P .count) (leadsAt P K L z (rowOf P a) m)
         is = subst (λ (x : ℕ). u ≡ anyTo (P .count) (leadsAt P K L z x m)) q g
+
         via : (b : ℕ) → From (chosen P on) (E.Role a) (E.Entity b) → From (chosen P on) (E.Role (roleOf b m)) e → u ≡ true
         via b h₁ h₂ =
             let k₁ = rel .all a b (in-body P on small b (reach h₁)) h₁ in

@@ -37,9 +37,11 @@ standing-sound tables negotiation T S e = by-length (eqb (length negotiation) 51
     by-damage : (U : Tables) (o : Option State) → C.readTables tables ≡ accepted U → R.behindDamage U o ≡ accepted (T, S) → Sound T
     by-damage U none q h = absurd (false-true (ap isAccepted h))
     by-damage U (some W) q h = subst Sound (ap (firstOf T) h) (accepted-sound tables U q)
+
     by-tables : (o : Answer Tables) → C.readTables tables ≡ o → R.behindTables negotiation o ≡ accepted (T, S) → Sound T
     by-tables (refused k) q h = absurd (false-true (ap isAccepted h))
     by-tables (accepted U) q h = by-damage U (readSound U negotiation) q h
+
     by-length : (b : Bool) → cond b (R.behindTables negotiation (C.readTables tables)) (refused 1) ≡ accepted (T, S) → Sound T
     by-length true h = by-tables (C.readTables tables) refl h
     by-length false h = absurd (false-true (ap isAccepted h))

@@ -16,7 +16,7 @@ use Rattle.propagation.specs.Least.{rounds, least}
 use Rattle.graph.specs.laws.Graph.{expressionFrom, nodesOf, edgesOf}
 use Rattle.graph.specs.Find.{findNode, hasEdge}
 use Rattle.graph.specs.Form.{hasRole, form, legalState}
-use Rattle.graph.specs.Propagated.{satisfiedB, failedB, completeB, stateOf as propagated}
+use Rattle.graph.specs.Propagated.{satisfiedB, failedB, completeB, propagatedState as propagated}
 use Rattle.justification.specs.Justified.{solves, solved, monitors, monitored, implied, impliedIf, monitoredIf, justified}
 use Rattle.message.specs.Command.{commandBytes}
 use Rattle.negotiation.specs.State.{freshState, withNode, withEdge, withShown, withMark, withHeader, within}
@@ -33,7 +33,7 @@ use Rattle.applied.specs.After.{endOf, isStalled, idleOf, headerAfter, afterMes
 use Rattle.moves.specs.Known.{holdingOf, isAcknowledged, knownOf}
 use Rattle.moves.specs.Initial.{traced, initialState}
 use Rattle.moves.specs.Frontiers.{spread, frontierOf}
-use Rattle.moves.specs.Wanted.{ordered, firstNot, chosenIn, isDone}
+use Rattle.moves.specs.Candidates.{ordered, firstNot, chosenIn, isDone}
 use Rattle.moves.specs.Rules.{endIn, verifierRules, sensitiveRules, opponentRules}
 use Rattle.moves.specs.Move.{credentialsFor, choiceAt, movesFrom, nextMove}
 use Rattle.reply.specs.Reply.{replyFrom, replyIn, repliedState, replyBytes}

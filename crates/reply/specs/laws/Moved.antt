@@ -22,10 +22,10 @@ use Rattle.message.specs.laws.CommandExact.{command-length}
 use Rattle.negotiation.specs.State.{State}
 use Rattle.applied.specs.Step.{isMove, moved}
 use Rattle.message.specs.Message.{bytesOf}
-use Rattle.moves.specs.declared.Wanted.{Wanted}
+use Rattle.moves.specs.declared.Candidate.{Candidate}
 use Rattle.moves.specs.declared.Choice.{Choice}
 use Rattle.moves.specs.declared.Choice.the-variants as K
-use Rattle.moves.specs.Wanted.{childStands}
+use Rattle.moves.specs.Candidates.{childStands}
 use Rattle.moves.specs.Rules.{End as OurEnd, endIn}
 use Rattle.moves.specs.Move.{Move, credentialsFor, edgeCommand, moveFor, choiceAt, orNext, movesFrom, nextMove}
 use Rattle.moves.specs.Carried.{carried}
@@ -50,7 +50,7 @@ last-moved : (cs : List Credential) (c : Command) → isMove c ≡ true → move
 last-moved [] c h = or-left (isMove c) false h
 last-moved (d ∷ cs) c h = last-moved cs c h
 
-edge-moved : (o : OurEnd) (i : ℕ) (w : Wanted) → isMove (edgeCommand o i w) ≡ true
+edge-moved : (o : OurEnd) (i : ℕ) (w : Candidate) → isMove (edgeCommand o i w) ≡ true
 edge-moved o i w = go (childStands (o .state .nodes) w) _ _
   where
     go : (b : Bool) (e : Edge) (n : NewEdge) → isMove (cond b (Join e) (Bring n)) ≡ true

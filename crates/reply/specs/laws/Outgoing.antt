@@ -199,6 +199,7 @@ room-past s S (d ∷ cs) c few past = go (ltb (length (S .shown)) 64) refl (λ x
   where
     more : length (S .shown ++ (d ∷ [])) ≡ length (S .shown) + 1
     more = length-append (S .shown) (d ∷ [])
+
     go : (b : Bool) → ltb (length (S .shown)) 64 ≡ b
         → (length (S .shown ++ (d ∷ [])) ≤ 64 → 64 < length (S .shown ++ (d ∷ [])) + length cs → hasRoomFor s (withShown S d) (shows cs ++ (c ∷ [])) ≡ false)
         → (b && hasRoomFor s (withShown S d) (shows cs ++ (c ∷ []))) ≡ false

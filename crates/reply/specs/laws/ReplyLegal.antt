@@ -12,7 +12,7 @@ use Rattle.expression.specs.declared.Expression.the-variants as E
 use Rattle.class.specs.declared.Name.{Name}
 use Rattle.tables.specs.Tables.{Tables}
 use Rattle.tables.specs.Accepted.{Sound}
-use Rattle.graph.specs.Propagated.{stateOf as propagated}
+use Rattle.graph.specs.Propagated.{propagatedState as propagated}
 use Rattle.message.specs.declared.Opening.{Opening}
 use Rattle.message.specs.declared.Command.{Command}
 use Rattle.message.specs.declared.Command.the-variants.{Open}
@@ -82,6 +82,7 @@ module _ (T : Tables) where
     where
       R : State
       R = carried (S .header .side) S (c ∷ ms)
+
       go : (a : Bool) → hasRoomFor (S .header .side) S (c ∷ ms) ≡ a → (b : Bool) → Behind T s S cs (cond a (cond b (more R (cs ++ (c ∷ ms))) (stopped cs S false)) (stopped cs S true))
       go true q true = let u = subst (λ (v : ℕ). Updates (T .names) v S (c ∷ ms) R) e (h q) in behind-more T s S R cs (c ∷ ms) (more R (cs ++ (c ∷ ms))) u (ih u)
       go true q false = behind-none T s S cs false

@@ -9,7 +9,7 @@ use lib.Dec.{eqb, leb}
 use lib.ListN.{length, length-append}
 use Rattle.expression.specs.declared.Expression.the-variants as E
 use Rattle.tables.specs.Tables.{Tables}
-use Rattle.graph.specs.Propagated.{stateOf as propagated}
+use Rattle.graph.specs.Propagated.{propagatedState as propagated}
 use Rattle.message.specs.declared.Opening.{Opening}
 use Rattle.message.specs.declared.Command.{Command}
 use Rattle.message.specs.declared.Command.the-variants.{Open, End}
@@ -39,6 +39,7 @@ move-fits more S cs (c ∷ ms) ih h = go (hasRoomFor (S .header .side) S (c ∷ 
   where
     R : State
     R = carried (S .header .side) S (c ∷ ms)
+
     go : (a b : Bool) → leb (length (bytesOf (cs ++ (c ∷ ms))) + 1) 4096 ≡ b → Fits (cond a (cond b (more R (cs ++ (c ∷ ms))) (stopped cs S false)) (stopped cs S true) .commands)
     go true true e = ih R (cs ++ (c ∷ ms)) (record { room = leb-true (length (bytesOf (cs ++ (c ∷ ms))) + 1) 4096 e })
     go true false e = h
@@ -81,6 +82,7 @@ with-enough more then S cs (c ∷ ms) ih = go (hasRoomFor (S .header .side) S (c
   where
     R : State
     R = carried (S .header .side) S (c ∷ ms)
+
     go : (a b : Bool) → leb (length (bytesOf (cs ++ (c ∷ ms))) + 1) 4096 ≡ b
         → cond a (cond b (more R (cs ++ (c ∷ ms))) (stopped cs S false)) (stopped cs S true) ≡ cond a (cond b (then R (cs ++ (c ∷ ms))) (stopped cs S false)) (stopped cs S true)
     go true true e = ih R (cs ++ (c ∷ ms)) (record { room = leb-true (length (bytesOf (cs ++ (c ∷ ms))) + 1) 4096 e }) (move-longer cs c ms)

@@ -20,10 +20,10 @@ use Rattle.graph.specs.declared.Node.{Node}
 use Rattle.graph.specs.declared.Edge.{Edge}
 use Rattle.graph.specs.laws.Graph.{nodesOf, edgesOf}
 use Rattle.graph.specs.Graph.{nodeIn}
-use Rattle.graph.specs.Propagated.{completeAs, completeB, failedB, stateOf as propagated}
+use Rattle.graph.specs.Propagated.{completeAs, completeB, failedB, propagatedState as propagated}
 use Rattle.graph.specs.laws.Columns.{nodes-length}
 use Rattle.states.specs.laws.Brings.{NodesFormed, EdgesFormed}
-use Rattle.states.specs.laws.Complete.{Settled, state-satisfied}
+use Rattle.states.specs.laws.Complete.{StateColumns, state-satisfied}
 use Rattle.message.specs.declared.Command.{Command}
 use Rattle.negotiation.specs.declared.Header.{Header}
 use Rattle.negotiation.specs.declared.Negotiation.{Negotiation}
@@ -73,7 +73,7 @@ module _ (T : Tables) (S : State) (g : Going T S) where
       role-open (S .nodes) (S .edges) 0 (x .state) (S .header) (x .expression) (and-parts (eqb (x .verifier) 0 && eqb (x .subject) (requester (S .header))) _ p .1)
 
   -- it is satisfied only where the column has it
-  primary-open : (sat failed : List ℕ) → Settled (S .nodes) (S .edges) sat failed → (getD sat 0 0 ≡ 1 → ⊥) → eqb (propagated (S .nodes) (S .edges) 0) 1 ≡ false
+  primary-open : (sat failed : List ℕ) → StateColumns (S .nodes) (S .edges) sat failed → (getD sat 0 0 ≡ 1 → ⊥) → eqb (propagated (S .nodes) (S .edges) 0) 1 ≡ false
   unfolding propagated
   primary-open sat failed z h =
       (λ i. eqb (cond ((sym (z .is-sat 0) ∙ ne-eqb (getD sat 0 0) 1 h) i || primary-incomplete i) 1 (cond (at (failedB (S .nodes) (S .edges)) 0) 2 0)) 1)
@@ -107,7 +107,7 @@ commands-some out h = last-some (shows (chosen (out .pool) (out .on))) (out .com
     last-some : (a : List Command) (c : Command) → a ++ (c ∷ []) ≡ [] → ⊥
     last-some a c h = omega (arith, ap length h, length-append a (c ∷ []))
 
-module _ (T : Tables) (n : Negotiation) (bytes : ℕ) {sat failed : List ℕ} (z : Settled (nodesOf (n .nodes)) (edgesOf (n .edges)) sat failed) where
+module _ (T : Tables) (n : Negotiation) (bytes : ℕ) {sat failed : List ℕ} (z : StateColumns (nodesOf (n .nodes)) (edgesOf (n .edges)) sat failed) where
   -- the primary is satisfied
   pub next-satisfied : getD sat 0 0 ≡ 1 → nextIn T (stateOf n) bytes ≡ stops false
   unfolding nextIn stateOf

@@ -6,7 +6,7 @@ use mathlib.Core.List.{List, [], _∷_, _++_, append-assoc, append-nil}
 use lib.Dec.{eqb, leb}
 use lib.ListN.{length, length-append}
 use Rattle.tables.specs.Tables.{Tables}
-use Rattle.graph.specs.Propagated.{stateOf as propagated}
+use Rattle.graph.specs.Propagated.{propagatedState as propagated}
 use Rattle.message.specs.declared.Command.{Command}
 use Rattle.negotiation.specs.State.{State}
 use Rattle.message.specs.Message.{bytesOf}
@@ -73,6 +73,7 @@ from-rest (suc f) T S cs = by-primary (eqb (propagated (S .nodes) (S .edges) 0) 
         ∙ behind-behind cs m (restFrom f T (carried (S .header .side) S m) (length (bytesOf cs) + length (bytesOf m)))
     by-room m true false ih = stopped-behind cs S false
     by-room m false fits ih = stopped-behind cs S true
+
     by-move : (m : Move) → ((U : State) (ds : List Command) → replyFrom f T U ds ≡ behind ds (restFrom f T U (length (bytesOf ds))))
         → withMove (λ U ds. replyFrom f T U ds) S cs m
         ≡ behind cs (goOn (λ n. behind n (restFrom f T (carried (S .header .side) S n) (length (bytesOf cs) + length (bytesOf n)))) S (behindMove S (length (bytesOf cs)) m))
@@ -80,6 +81,7 @@ from-rest (suc f) T S cs = by-primary (eqb (propagated (S .nodes) (S .edges) 0) 
     by-move (c ∷ ms) ih =
         ap (λ (k : ℕ). cond (hasRoomFor (S .header .side) S (c ∷ ms)) (cond (leb (k + 1) 4096) (replyFrom f T (carried (S .header .side) S (c ∷ ms)) (cs ++ (c ∷ ms))) (stopped cs S false)) (stopped cs S true)) (bytes-behind cs (c ∷ ms))
         ∙ by-room (c ∷ ms) (hasRoomFor (S .header .side) S (c ∷ ms)) (fitsBehind (length (bytesOf cs)) (c ∷ ms)) ih
+
     by-primary : (b : Bool) (m : Move) → ((U : State) (ds : List Command) → replyFrom f T U ds ≡ behind ds (restFrom f T U (length (bytesOf ds))))
         → cond b (stopped cs S false) (withMove (λ U ds. replyFrom f T U ds) S cs m)
         ≡ behind cs (goOn (λ n. behind n (restFrom f T (carried (S .header .side) S n) (length (bytesOf cs) + length (bytesOf n)))) S (cond b (stops false) (behindMove S (length (bytesOf cs)) m)))

@@ -13,8 +13,8 @@ use Rattle.word.specs.laws.Bools.{false-true}
 use Rattle.tables.specs.Tables.{Tables}
 use Rattle.graph.specs.laws.Graph.{nodesOf, edgesOf}
 use Rattle.graph.specs.laws.Columns.{nodes-length}
-use Rattle.states.specs.laws.Complete.{Settled}
-use Rattle.graph.specs.Propagated.{stateOf as propagated}
+use Rattle.states.specs.laws.Complete.{StateColumns}
+use Rattle.graph.specs.Propagated.{propagatedState as propagated}
 use Rattle.message.specs.declared.Command.{Command}
 use Rattle.negotiation.specs.declared.Negotiation.{Negotiation}
 use Rattle.negotiation.specs.State.{State}
@@ -23,7 +23,7 @@ use Rattle.message.specs.Message.{bytesOf}
 use Rattle.moves.specs.Rules.{endIn}
 use Rattle.moves.specs.Move.{Move, nextMove}
 use Rattle.moves.specs.Carried.{carried, hasRoomFor}
-use Rattle.choice.specs.laws.Next.{Passed, Resting}
+use Rattle.choice.specs.laws.Next.{NothingBefore, Resting}
 use Rattle.choice.specs.laws.Exhausted.{Exhausted, exhausted-both, idle-exhausted, exhausted-carried}
 use Rattle.choice.specs.laws.Waits.{Waits, Unchanged, waits-rests, waits-carried}
 use Rattle.reply.specs.declared.Replying.{Replying}
@@ -71,9 +71,11 @@ next-fits T S at m h = by-primary (eqb (propagated (S .nodes) (S .edges) 0) 1) (
         }
     by-room x true false r f q e = absurd (false-true (ap isGoing e))
     by-room x false fits r f q e = absurd (false-true (ap isGoing e))
+
     by-move : (x : Move) → x ≡ nextMove (endIn T S) → behindMove S at x ≡ goes m → Fits T S at m
     by-move [] q e = absurd (false-true (ap isGoing e))
     by-move (c ∷ ms) q e = by-room (c ∷ ms) (hasRoomFor (S .header .side) S (c ∷ ms)) (fitsBehind at (c ∷ ms)) refl refl q e
+
     by-primary : (b : Bool) (x : Move) → x ≡ nextMove (endIn T S) → cond b (stops false) (behindMove S at x) ≡ goes m → Fits T S at m
     by-primary true x q e = absurd (false-true (ap isGoing e))
     by-primary false x q e = by-move x q e
@@ -164,7 +166,7 @@ module _ (T : Tables) (S₀ : State) (from : ℕ) (d₀ : List ℕ) where
 
 -- below the node of a move nothing was left to do, and what is done stays done
 pub exhausted-next : (T : Tables) (n n′ : Negotiation) (cs : List Command) → Going T (stateOf n) → stateOf n′ ≡ carried (n .header .side) (stateOf n) cs
-    → {p m k r : ℕ} → Exhausted T (stateOf n) p → m < n .nodes .count → Passed (endIn T (stateOf n)) m → k ≡ m → r ≡ cond (ltb p k) k p → Exhausted T (stateOf n′) r
+    → {p m k r : ℕ} → Exhausted T (stateOf n) p → m < n .nodes .count → NothingBefore (endIn T (stateOf n)) m → k ≡ m → r ≡ cond (ltb p k) k p → Exhausted T (stateOf n′) r
 unfolding stateOf
 exhausted-next T n n′ cs g e {p} {m} {k} {r} f l i ke re =
     let q : ℕ = cond (ltb p m) m p in
@@ -176,12 +178,12 @@ exhausted-next T n n′ cs g e {p} {m} {k} {r} f l i ke re =
 
 -- below the node of a move there was nothing left to do
 pub waits-next : (T : Tables) (n n′ : Negotiation) (cs : List Command) → Going T (stateOf n) → stateOf n′ ≡ carried (n .header .side) (stateOf n) cs
-    → {sat failed : List ℕ} → Settled (nodesOf (n .nodes)) (edgesOf (n .edges)) sat failed → {m k : ℕ} → m < n .nodes .count → Passed (endIn T (stateOf n)) m → k ≡ m → Waits T (stateOf n′) sat k
+    → {sat failed : List ℕ} → StateColumns (nodesOf (n .nodes)) (edgesOf (n .edges)) sat failed → {m k : ℕ} → m < n .nodes .count → NothingBefore (endIn T (stateOf n)) m → k ≡ m → Waits T (stateOf n′) sat k
 unfolding stateOf
 waits-next T n n′ cs g e {sat} z {m} {k} l i ke =
     subst (Waits T (stateOf n′) sat) (sym ke)
     (subst (λ (U : State). Waits T U sat m) (sym e) (waits-carried T (stateOf n) sat m (going-few T (stateOf n) g) (omega (arith, l, nodes-length (n .nodes))) i (z .is-sat) cs))
 
-pub waits-now : (T : Tables) (n : Negotiation) {sat failed last : List ℕ} → Settled (nodesOf (n .nodes)) (edgesOf (n .edges)) sat failed → {q r : ℕ} → Waits T (stateOf n) last q → Unchanged sat last (n .nodes .count) q r → Resting T (stateOf n) r
+pub waits-now : (T : Tables) (n : Negotiation) {sat failed last : List ℕ} → StateColumns (nodesOf (n .nodes)) (edgesOf (n .edges)) sat failed → {q r : ℕ} → Waits T (stateOf n) last q → Unchanged sat last (n .nodes .count) q r → Resting T (stateOf n) r
 unfolding stateOf
 waits-now T n z w c = waits-rests T (stateOf n) (sym (nodes-length (n .nodes))) w (z .is-sat) c

@@ -4,7 +4,7 @@ use mathlib.Core.Bool.{Bool, cond, true, false, _&&_, _||_}
 use mathlib.Core.List.{List}
 use lib.Dec.{ltb, eqb}
 use lib.ListN.{length, getD}
-use Rattle.graph.specs.Propagated.{stateOf, satisfiedB, failedB, completeB}
+use Rattle.graph.specs.Propagated.{propagatedState, satisfiedB, failedB, completeB}
 use Rattle.standing.specs.Standing.{restoreOf}
 use native.Mathlib.Omega.{arith}
 use mathlib.Core.Path.{_≡_, refl, sym, _∙_, ap, subst}
@@ -102,7 +102,7 @@ unfolding packed
 pack-is a b d f g h j = λ i. a i + (b i + (d i + (f i + (g i + (h i + j i * 128) * 512) * 256) * 8) * 4) * 4
 
 -- the numbers of a negotiation as it is held
-pub report-is : (G : Negotiation) (i : ℕ) {p v : ℕ} → i < G .nodes .count → p ≡ stateOf (nodesOf (G .nodes)) (edgesOf (G .edges)) i
+pub report-is : (G : Negotiation) (i : ℕ) {p v : ℕ} → i < G .nodes .count → p ≡ propagatedState (nodesOf (G .nodes)) (edgesOf (G .edges)) i
     → v ≡ packed (numbered (getD (G .nodes .state) i 0) p (G .header .end) (G .nodes .count) (G .edges .count) (G .shown .count) (G .header .messages)) → v ≡ packed (reportOn (stateHeld G) i)
 unfolding reportOn stateHeld credentials
 report-is G i l e q = q ∙ ap packed (λ t. record {
@@ -118,8 +118,8 @@ report-is G i l e q = q ∙ ap packed (λ t. record {
 -- What a report's numbers are
 
 -- a propagated state is 0, 1 or 2
-state-few : (ns : List Node) (es : List Edge) (i : ℕ) → stateOf ns es i < 4
-unfolding stateOf
+state-few : (ns : List Node) (es : List Edge) (i : ℕ) → propagatedState ns es i < 4
+unfolding propagatedState
 state-few ns es i = go (at (satisfiedB ns es) i || completeB ns es i) (at (failedB ns es) i)
   where
     go : (a b : Bool) → cond a 1 (cond b 2 0) < 4
@@ -134,6 +134,7 @@ end-few p e i h = go (eqb p 1) (eqb p 2) h
   where
     is : (k j : ℕ) → k < 8 → (eqb e k && eqb i j) ≡ true → e < 8
     is k j l t = let z : e ≡ k = eqb-true e k (and-parts (eqb e k) (eqb i j) t .0) in omega arith
+
     go : (a b : Bool) → cond a (eqb e 1 && eqb i 0) (cond b (eqb e 2 && eqb i 0) (((eqb e 0 || eqb e 4) && ltb i 2) || (eqb e 3 && eqb i 1))) ≡ true → e < 8
     go true b t = is 1 0 (omega arith) t
     go false true t = is 2 0 (omega arith) t
@@ -152,7 +153,7 @@ report-numbers H G w h i l =
     packed-back (reportOn (stateHeld G) i)
     (subst (λ (n : Node). n .state < 4) (sym (node-in (G .nodes) i l)) (legal-few (nodeAt (G .nodes) i .expression) (nodeAt (G .nodes) i .state) (held-legal H G w h (omega arith) i l)))
     (state-few (nodesOf (G .nodes)) (edgesOf (G .edges)) i)
-    (end-few (stateOf (nodesOf (G .nodes)) (edgesOf (G .edges)) 0) (G .header .end) (G .header .idle) (graph-parts _ _ g .4))
+    (end-few (propagatedState (nodesOf (G .nodes)) (edgesOf (G .edges)) 0) (G .header .end) (G .header .idle) (graph-parts _ _ g .4))
     (omega (arith, nodes-length (G .nodes), c .0))
     (omega (arith, edges-length (G .edges), c .1))
     (omega (arith, length-upTo (G .shown .count) (credentialAt (G .shown)), c .2))

@@ -259,14 +259,17 @@ module _ (P : Pool) where
     where
       qs : s ≡ bitOf P (headAt P j .entity)
       qs = source-bit P j s q b
+
       have : bitOf P (headAt P j .entity) < P .count
       have = ⊎-elim (λ z. z) (λ z. absurd (omega (arith, qs))) (bit-cases P small (headAt P j .entity))
+
       go : (k : ℕ) → el (set able j 1) k ≡ 1 → (t : Bool) → eqb k j ≡ t → (k < j + 1) × (el (set src j s) k ≡ bitOf P (headAt P k .entity)) × (bitOf P (headAt P k .entity) < P .count)
       go k z true e = let q : k ≡ j = eqb-true k j e in (omega arith, rw q (getD-set-same src j s 0 (omega (arith, inv .sized)) ∙ qs), rw q have)
       go k z false e =
           let ne : k ≡ j → ⊥ = eqb-false k j e in
           let r = inv .says k (sym (getD-set-other able j k 1 0 ne) ∙ z) in
           (omega (arith, r .0), getD-set-other src j k s 0 ne ∙ r .1, r .2)
+
       on : lit ≡ true → (k : ℕ) → k < j + 1 → rowOf P (headAt P k) ≡ k → bitOf P (headAt P k .entity) < P .count → (t : Bool) → eqb k j ≡ t → el (set able j 1) k ≡ 1
       on z k y x w true e = rw (eqb-true k j e) (getD-set-same able j 1 0 (omega (arith, inv .sized′)))
       on z k y x w false e = getD-set-other able j k 1 0 (eqb-false k j e) ∙ inv .all z k (omega (arith, eqb-false k j e)) x w
@@ -462,10 +465,13 @@ names-copy P able k i N N′ l link same e new inv = subst (λ (x : List ℕ). N
   where
     m : ℕ
     m = el (P .numbers) (i * 8 + 2)
+
     at-k : bodyAt P k ≡ E.Linked (record { entity = el (P .numbers) (k * 8); name = el (P .numbers) (k * 8 + 1) }) m
     at-k = linked-body P k (same .link e) ∙ ap (E.Linked (record { entity = el (P .numbers) (k * 8); name = el (P .numbers) (k * 8 + 1) })) (same .name e)
+
     one-name : (a b : Role) (m n : ℕ) → E.Linked a m ≡ E.Linked b n → m ≡ n
     one-name a b m n q = cc
+
     go : (q t : ℕ) → bits (copied N k i) q t ≡ true → (u : Bool) → eqb q i ≡ u
         → (a : Role) × (m : ℕ) × (q < i + 1) × (bodyAt P q ≡ E.Linked a m) × (t < P .count) × (el able t ≡ 1) × (headAt P t .name ≡ m)
     go q t z true w =
@@ -475,6 +481,7 @@ names-copy P able k i N N′ l link same e new inv = subst (λ (x : List ℕ). N
     go q t z false w =
         let r = inv .says q t (sym (copy-rest N k i (inv .sized) l q t (eqb-false q i w)) ∙ z) in
         (r .0, r .1, omega (arith, r .2), r .3, r .4, r .5, r .6)
+
     in′ : (q : ℕ) (a : Role) (n t : ℕ) → q < i + 1 → bodyAt P q ≡ E.Linked a n → t < P .count → el able t ≡ 1 → headAt P t .name ≡ n → (u : Bool) → eqb q i ≡ u → bits (copied N k i) q t ≡ true
     in′ q a n t u h b c d true w =
         let y : q ≡ i = eqb-true q i w in

@@ -144,6 +144,7 @@ module _ (p : Parts) (G : Role → Type 0) where
     where
       hit : {b c : Role} → b ≡ c → G c → G b
       hit q g = rw q g
+
       go : (t u : Bool) → G (cond t (p .first) (p .third)) → G (cond t (p .first) (cond u (p .first) (p .fourth)))
           → List·Memᴰ a (p .first ∷ p .second ∷ cond t [] (p .third ∷ cond u [] (p .fourth ∷ []))) → G a
       go true u h₂ h₃ m = ⊎-elim (λ q. hit q g₀) (λ k. ⊎-elim (λ q. hit q g₁) (λ k. absurd (List·Memᴰ·not-nil k)) (List·Memᴰ·cases-cons k)) (List·Memᴰ·cases-cons m)

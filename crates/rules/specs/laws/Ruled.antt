@@ -40,6 +40,7 @@ row-of P e X i x four first names none = go x four first names none
   where
     quad : {r : Four} → fourAt (X .part) i ≡ r → Quad X i (r .a) (r .b) (r .c) (r .d)
     quad q = record { p0 = ap (λ (r : Four). r .a) q; p1 = ap (λ (r : Four). r .b) q; p2 = ap (λ (r : Four). r .c) q; p3 = ap (λ (r : Four). r .d) q }
+
     go : (x : Expression) → fourAt (X .part) i ≡ fourRows (rowFor P e) x → el (X .first) i ≡ firstRow P x → ((a : Role) (m : ℕ) → x ≡ E.Linked a m → Names P X i m) → (isLinked x ≡ false → Unnamed X i) → Row P e X i x
     go (E.Entity b) q f n u = entity (quad q) (u refl)
     go (E.Role p) q f n u = role (quad q) (u refl)
@@ -77,6 +78,7 @@ compiled-of P small e X Y ruled qc qw qh qf qn qs parts =
   where
     unnamed : (i : ℕ) → isLinked (bodyAt P i) ≡ false → Unnamed Y i
     unnamed i n = record { none = λ j. false-of (bits (Y .named) i j) (λ h. let r = ruled .names .says i j (rw qn at h) in not-linked (bodyAt P i) n (r .0) (r .1) (r .3)) }
+
     named : (i : ℕ) → i < P .count → (a : Role) (m : ℕ) → bodyAt P i ≡ E.Linked a m → Names P Y i m
     named i l a m q =
         let lit : ruled .lit ≡ true = ruled .linked (anyTo-here (P .count) (hasLink P) i l (linked-kind P i a m q)) in

@@ -26,7 +26,7 @@ use Rattle.take.specs.laws.TakeKept.{Took, took}
 use Rattle.moves.specs.Known.{isAcknowledged}
 use Rattle.moves.specs.laws.Known.{isDisclosed}
 use Rattle.reply.specs.Reply.{Replied, replyIn, repliedState, replyBytes, repliedIn, behindStanding, replySize, replyOf}
-use Rattle.runs.specs.laws.Stays.{Stays, within-kept, OpenIn, open-kept, reply-stays, commands-stay}
+use Rattle.runs.specs.laws.Stays.{Stays, within-kept, DisclosedIn, disclosed-kept, reply-stays, commands-stay}
 use Rattle.runs.specs.laws.TwoReplies.{replies-alike}
 use Rattle.numbers.specs.Answer.{Answer, refused, accepted}
 use Rattle.applied.specs.laws.After.{after-within}
@@ -34,16 +34,16 @@ use Rattle.numbers.specs.laws.Answer.{secondOf, isAccepted}
 
 -- A message leaves the graph, and the header's side and other end
 
-after-open : (T U : Tables) (S : State) (m full : Bool) → isDisclosed T U (afterMessage S m full) ≡ isDisclosed T U S
+after-disclosed : (T U : Tables) (S : State) (m full : Bool) → isDisclosed T U (afterMessage S m full) ≡ isDisclosed T U S
 unfolding isDisclosed isAcknowledged afterMessage headerAfter withHeader
-after-open T U S m full = refl
+after-disclosed T U S m full = refl
 
-after-both : (T U : Tables) (S : State) (m full : Bool) → OpenIn T U S → OpenIn T U (afterMessage S m full)
-after-both T U S m full h = record { sizes = after-within S m full ∙ h .sizes; opened = after-open T U S m full ∙ h .opened }
+after-both : (T U : Tables) (S : State) (m full : Bool) → DisclosedIn T U S → DisclosedIn T U (afterMessage S m full)
+after-both T U S m full h = record { sizes = after-within S m full ∙ h .sizes; opened = after-disclosed T U S m full ∙ h .opened }
 
-pub open-replied : (T U : Tables) (r : Replied) → isDisclosed T U (repliedState r) ≡ isDisclosed T U (r .state)
+pub disclosed-replied : (T U : Tables) (r : Replied) → isDisclosed T U (repliedState r) ≡ isDisclosed T U (r .state)
 unfolding repliedState
-open-replied T U r = after-open T U (r .state) (moved (r .commands)) (r .full)
+disclosed-replied T U r = after-disclosed T U (r .state) (moved (r .commands)) (r .full)
 
 -- What a call finds is within the sizes
 
@@ -56,6 +56,7 @@ restored-within s negotiation T W S h a =
     found : (b : Bool) (A : State) → readState negotiation ≡ some A → R.behindDamage T (cond b (some A) none) ≡ accepted (W, S) → within S ≡ true
     found true A q k = ap within (sym (ap (secondOf S) k)) ∙ read-within negotiation A q
     found false A q k = absurd (false-true (ap isAccepted k))
+
     go : (b : Bool) (x : Option State) → readState negotiation ≡ x → cond b (R.behindDamage T (ifSound T x)) (refused 1) ≡ accepted (W, S) → within S ≡ true
     go false x q k = absurd (false-true (ap isAccepted k))
     go true none q k = absurd (false-true (ap isAccepted k))
@@ -64,22 +65,25 @@ restored-within s negotiation T W S h a =
 -- The call
 
 -- no differing role's Ack target is satisfied in what the call leaves; a refusal leaves what was there
-abbrev pub Quiet : Tables → Tables → Answer (List ℕ × State) → Type 0
-Quiet T U (refused k) = Unit {0}
-Quiet T U (accepted (m, S)) = isDisclosed T U S ≡ false
+abbrev pub Undisclosed : Tables → Tables → Answer (List ℕ × State) → Type 0
+Undisclosed T U (refused k) = Unit {0}
+Undisclosed T U (accepted (m, S)) = isDisclosed T U S ≡ false
 
 module _ (T U : Tables) (e : publicOf T ≡ publicOf U) where
-  pub replied-alike : (S : State) → within S ≡ true → Quiet T U (repliedIn T S) ⊎ Quiet T U (repliedIn U S) → repliedIn T S ≡ repliedIn U S
+  pub replied-alike : (S : State) → within S ≡ true → Undisclosed T U (repliedIn T S) ⊎ Undisclosed T U (repliedIn U S) → repliedIn T S ≡ repliedIn U S
   unfolding repliedIn
   replied-alike S w h = go (not (eqb (S .header .end) 0)) (not (K.sends (S .header .side) (S .header .messages))) h
     where
       by : Tables → Answer (List ℕ × State)
       by W = accepted (replyBytes (replyIn W S), repliedState (replyIn W S))
+
       chosen : Bool → Bool → Answer (List ℕ × State) → Answer (List ℕ × State)
       chosen b d o = cond b (refused 22) (cond d (refused 21) o)
-      shut : (W : Tables) → Quiet T U (by W) → isDisclosed T U (replyIn W S .state) ≡ false
-      shut W q = sym (open-replied T U (replyIn W S)) ∙ q
-      go : (b d : Bool) → Quiet T U (chosen b d (by T)) ⊎ Quiet T U (chosen b d (by U)) → chosen b d (by T) ≡ chosen b d (by U)
+
+      shut : (W : Tables) → Undisclosed T U (by W) → isDisclosed T U (replyIn W S .state) ≡ false
+      shut W q = sym (disclosed-replied T U (replyIn W S)) ∙ q
+
+      go : (b d : Bool) → Undisclosed T U (chosen b d (by T)) ⊎ Undisclosed T U (chosen b d (by U)) → chosen b d (by T) ≡ chosen b d (by U)
       go true d k = refl
       go false true k = refl
       go false false k = ap (λ (r : Replied). accepted (replyBytes r, repliedState r)) (replies-alike T U e S w (⊎-elim (λ q. inl (shut T q)) (λ q. inr (shut U q)) k))
@@ -87,19 +91,20 @@ module _ (T U : Tables) (e : publicOf T ≡ publicOf U) where
   -- Two calls for a reply whose tables differ only in which sensitive roles are held and in access policies: where one of them leaves no differing
   -- role's Ack target satisfied, they have one outcome
   pub reply-public : (s t : List ℕ) → readTables s ≡ accepted T → readTables t ≡ accepted U → (negotiation reply scratch : List ℕ)
-      → Quiet T U (replyOf s negotiation reply scratch) ⊎ Quiet T U (replyOf t negotiation reply scratch)
+      → Undisclosed T U (replyOf s negotiation reply scratch) ⊎ Undisclosed T U (replyOf t negotiation reply scratch)
       → replyOf s negotiation reply scratch ≡ replyOf t negotiation reply scratch
   unfolding replyOf
   reply-public s t h k negotiation reply scratch q = sized (replySize (length reply) (length scratch)) (R.restoreOf s negotiation) (R.restoreOf t negotiation) (P.restore-alike T U e s t h k negotiation) (λ S a. restored-within s negotiation T T S h a) q
     where
-      both : (x y : Answer (Tables × State)) → P.Alike T U x y → ((S : State) → x ≡ accepted (T, S) → within S ≡ true) → Quiet T U (behindStanding x) ⊎ Quiet T U (behindStanding y) → behindStanding x ≡ behindStanding y
+      both : (x y : Answer (Tables × State)) → P.Alike T U x y → ((S : State) → x ≡ accepted (T, S) → within S ≡ true) → Undisclosed T U (behindStanding x) ⊎ Undisclosed T U (behindStanding y) → behindStanding x ≡ behindStanding y
       both x y (P.both-refused n a b) w c = ap behindStanding a ∙ sym (ap behindStanding b)
       both x y (P.both-found S a b) w c =
           ap behindStanding a
-          ∙ replied-alike S (w S a) (⊎-elim (λ z. inl (subst (λ (v : Answer (Tables × State)). Quiet T U (behindStanding v)) a z)) (λ z. inr (subst (λ (v : Answer (Tables × State)). Quiet T U (behindStanding v)) b z)) c)
+          ∙ replied-alike S (w S a) (⊎-elim (λ z. inl (subst (λ (v : Answer (Tables × State)). Undisclosed T U (behindStanding v)) a z)) (λ z. inr (subst (λ (v : Answer (Tables × State)). Undisclosed T U (behindStanding v)) b z)) c)
           ∙ sym (ap behindStanding b)
+
       sized : (c : Bool) (x y : Answer (Tables × State)) → P.Alike T U x y → ((S : State) → x ≡ accepted (T, S) → within S ≡ true)
-          → Quiet T U (cond c (behindStanding x) (refused 1)) ⊎ Quiet T U (cond c (behindStanding y) (refused 1)) → cond c (behindStanding x) (refused 1) ≡ cond c (behindStanding y) (refused 1)
+          → Undisclosed T U (cond c (behindStanding x) (refused 1)) ⊎ Undisclosed T U (cond c (behindStanding y) (refused 1)) → cond c (behindStanding x) (refused 1) ≡ cond c (behindStanding y) (refused 1)
       sized true x y l w c = both x y l w c
       sized false x y l w c = refl
 
@@ -114,11 +119,14 @@ module _ {P : State → Type 0} (k : Stays P) (after : (S : State) (m full : Boo
       left : Answer (List ℕ × State) → State
       left (refused n) = S
       left (accepted (m, B)) = B
+
       isGiven : Answer (List ℕ × State) → Bool
       isGiven (refused n) = false
       isGiven (accepted (m, B)) = true
+
       r : Replied
       r = replyIn W S
+
       go : (b d : Bool) → cond b (refused 22) (cond d (refused 21) (accepted (replyBytes r, repliedState r))) ≡ accepted (m, A) → P A
       go true d q = absurd (false-true (ap isGiven q))
       go false true q = absurd (false-true (ap isGiven q))
@@ -134,8 +142,8 @@ pub given-within : (W : Tables) (S A : State) → within S ≡ true → (m : Lis
 given-within W S A w = given-kept within-kept (λ B m full v. after-within B m full ∙ v) W S A w
 
 -- both keep an Ack target of a differing role satisfied
-pub given-open : (T U W : Tables) (S A : State) → OpenIn T U S → (m : List ℕ) → repliedIn W S ≡ accepted (m, A) → OpenIn T U A
-given-open T U W S A h = given-kept (open-kept T U) (after-both T U) W S A h
+pub given-disclosed : (T U W : Tables) (S A : State) → DisclosedIn T U S → (m : List ℕ) → repliedIn W S ≡ accepted (m, A) → DisclosedIn T U A
+given-disclosed T U W S A h = given-kept (disclosed-kept T U) (after-both T U) W S A h
 
-pub taken-open : (T U W : Tables) (S A : State) → OpenIn T U S → (m : List ℕ) → takenIn m W S ≡ accepted A → OpenIn T U A
-taken-open T U W S A h = taken-kept (open-kept T U) (after-both T U) W S A h
+pub taken-disclosed : (T U W : Tables) (S A : State) → DisclosedIn T U S → (m : List ℕ) → takenIn m W S ≡ accepted A → DisclosedIn T U A
+taken-disclosed T U W S A h = taken-kept (disclosed-kept T U) (after-both T U) W S A h

@@ -18,8 +18,8 @@ use Rattle.take.specs.Take as K
 use Rattle.standing.specs.Turn.{senderTo}
 use Rattle.take.specs.laws.TakeKept.{Took, took}
 use Rattle.reply.specs.Reply as A
-use Rattle.runs.specs.laws.Stays.{within-kept, OpenIn, commands-stay}
-use Rattle.runs.specs.laws.ReplyPublic.{given-within, given-open, taken-open}
+use Rattle.runs.specs.laws.Stays.{within-kept, DisclosedIn, commands-stay}
+use Rattle.runs.specs.laws.ReplyPublic.{given-within, given-disclosed, taken-disclosed}
 use Rattle.begin.specs.Begin.{beginOf}
 use Rattle.begin.specs.laws.Kept.{begin-undamaged}
 use Rattle.runs.specs.Runs.{Call, take, reply, report, takenTo, givenTo, afterCall, after}
@@ -59,6 +59,7 @@ module _ {P : State → Type 0} (k : Keeps P) (tables : List ℕ) (T : Tables) (
       led : (o : Answer State) → K.takenIn message T S ≡ o → P (takenTo S o)
       led (refused n) e = p
       led (accepted N) e = k .taken T S N p message e
+
       sized : (b : Bool) (x : Answer (Tables × State)) → Finds T S x → P (takenTo S (cond b (K.behindStanding message x) (refused 1)))
       sized false x f = p
       sized true x (refused n e) = subst (λ (v : Answer (Tables × State)). P (takenTo S (K.behindStanding message v))) (sym e) p
@@ -71,6 +72,7 @@ module _ {P : State → Type 0} (k : Keeps P) (tables : List ℕ) (T : Tables) (
       led : (o : Answer (List ℕ × State)) → A.repliedIn T S ≡ o → P (givenTo S o)
       led (refused n) e = p
       led (accepted (m, N)) e = k .given T S N p m e
+
       sized : (b : Bool) (x : Answer (Tables × State)) → Finds T S x → P (givenTo S (cond b (A.behindStanding x) (refused 1)))
       sized false x f = p
       sized true x (refused n e) = subst (λ (v : Answer (Tables × State)). P (givenTo S (A.behindStanding v))) (sym e) p
@@ -97,8 +99,8 @@ taken-sizes W S N w m e =
 pub keeps-sizes : Keeps (λ S. within S ≡ true)
 keeps-sizes = record { sizes = λ S w. w; taken = λ W S N w m e. taken-sizes W S N w m e; given = λ W S N w m e. given-within W S N w m e }
 
-pub keeps-open : (T U : Tables) → Keeps (OpenIn T U)
-keeps-open T U = record { sizes = λ S p. p .sizes; taken = λ W S N p m e. taken-open T U W S N p m e; given = λ W S N p m e. given-open T U W S N p m e }
+pub keeps-disclosed : (T U : Tables) → Keeps (DisclosedIn T U)
+keeps-disclosed T U = record { sizes = λ S p. p .sizes; taken = λ W S N p m e. taken-disclosed T U W S N p m e; given = λ W S N p m e. given-disclosed T U W S N p m e }
 
 -- What begin makes is within the sizes
 
@@ -117,6 +119,7 @@ begun-within tables negotiation other entity name T S h e = go (readState (state
     whole : (b : Bool) (N : State) → readState (stateBytes S) ≡ some N → cond b (some N) none ≡ some S → within S ≡ true
     whole true N q z = sym (ap (λ (o : Option State). within (stateIn S o)) z) ∙ read-within (stateBytes S) N q
     whole false N q z = absurd (false-true (ap isSome z))
+
     go : (x : Option State) → readState (stateBytes S) ≡ x → ifSound T x ≡ some S → within S ≡ true
     go none q z = absurd (false-true (ap isSome z))
     go (some N) q z = whole (sound T N) N q z

@@ -12,7 +12,7 @@ use Rattle.expression.specs.declared.Expression.the-variants as E
 use Rattle.word.specs.laws.Bools.{and-parts, and-both}
 use Rattle.class.specs.declared.Name.{Name}
 use Rattle.tables.specs.Tables.{Tables}
-use Rattle.graph.specs.Propagated.{stateOf as propagated}
+use Rattle.graph.specs.Propagated.{propagatedState as propagated}
 use Rattle.message.specs.declared.Command.{Command}
 use Rattle.message.specs.declared.Command.the-variants.{Open}
 use Rattle.message.specs.declared.CommandAnswer.{CommandAnswer}
@@ -25,7 +25,7 @@ use Rattle.legal.specs.laws.Room.{legal-room, step-within}
 use Rattle.message.specs.Message.{bytesOf, isEnd}
 use Rattle.take.specs.Commands.{onCommand, commandsFrom}
 use Rattle.moves.specs.laws.Known.{isDisclosed}
-use Rattle.moves.specs.laws.KnownStays.{open-step}
+use Rattle.moves.specs.laws.KnownStays.{disclosed-step}
 use Rattle.moves.specs.Initial.{initialState}
 use Rattle.moves.specs.Rules.{endIn}
 use Rattle.moves.specs.Move.{Move, nextMove}
@@ -42,12 +42,12 @@ pub within-kept : Stays (λ S. within S ≡ true)
 within-kept = record { step = λ S s c r w. step-within S w s c r }
 
 -- within the sizes, an Ack target of a role in which T and U differ is satisfied
-pub record OpenIn (T U : Tables) (S : State) : Type 0 where
+pub record DisclosedIn (T U : Tables) (S : State) : Type 0 where
   pub sizes : within S ≡ true
   pub opened : isDisclosed T U S ≡ true
 
-pub open-kept : (T U : Tables) → Stays (OpenIn T U)
-open-kept T U = record { step = λ S s c r h. record { sizes = step-within S (h .sizes) s c r; opened = open-step T U S s c (h .sizes) (h .opened) } }
+pub disclosed-kept : (T U : Tables) → Stays (DisclosedIn T U)
+disclosed-kept T U = record { step = λ S s c r h. record { sizes = step-within S (h .sizes) s c r; opened = disclosed-step T U S s c (h .sizes) (h .opened) } }
 
 -- the mediator's open has room
 opening-room : (W : Tables) (S : State) → hasRoomFor (S .header .side) S (opening W S) ≡ true
@@ -56,6 +56,7 @@ opening-room W S = go (eqb (length (S .nodes)) 0) refl
   where
     first : Command
     first = Open (record { role = S .header .wanted; state = initialState (W .names) true (E.Role (S .header .wanted)) })
+
     go : (b : Bool) → eqb (length (S .nodes)) 0 ≡ b → hasRoomFor (S .header .side) S (cond b (first ∷ []) []) ≡ true
     go true q = let z : length (S .nodes) ≡ 0 = eqb-true (length (S .nodes)) 0 q in and-both (ltb (length (S .nodes)) 128) true (lt-ltb (length (S .nodes)) 128 (omega (arith, z))) refl
     go false q = refl
@@ -132,5 +133,5 @@ module _ {P : State → Type 0} (k : Stays P) where
       command-stays (λ size R w. commandsFrom f ns s m (at + size) R w) ns s S moved (commandAt m at) A v (λ size R w p q. commands-stay f ns s m (at + size) R w A v p q) h e
 
 -- By whichever tables a reply goes on, an Ack target of a differing role that is satisfied is so at its end
-pub open-stays : (T U : Tables) (f : ℕ) (W : Tables) (S : State) (cs : List Command) → within S ≡ true → isDisclosed T U S ≡ true → isDisclosed T U (replyFrom f W S cs .state) ≡ true
-open-stays T U f W S cs w h = from-stays (open-kept T U) f W S cs (record { sizes = w; opened = h }) .opened
+pub disclosed-stays : (T U : Tables) (f : ℕ) (W : Tables) (S : State) (cs : List Command) → within S ≡ true → isDisclosed T U S ≡ true → isDisclosed T U (replyFrom f W S cs .state) ≡ true
+disclosed-stays T U f W S cs w h = from-stays (disclosed-kept T U) f W S cs (record { sizes = w; opened = h }) .opened

@@ -19,15 +19,15 @@ use Rattle.tables.specs.laws.Sound.{accepted-public}
 use Rattle.negotiation.specs.State.{State, within}
 use Rattle.negotiation.specs.Layout.{stateBytes}
 use Rattle.take.specs.laws.TakePublic.{take-public}
-use Rattle.moves.specs.laws.Known.{Differs, holding-alike, isDisclosed, Opened, open-exact}
+use Rattle.moves.specs.laws.Known.{Differs, holding-alike, isDisclosed, Disclosed, disclosed-exact}
 use Rattle.reply.specs.Reply as A
-use Rattle.runs.specs.laws.ReplyPublic.{Quiet, reply-public}
+use Rattle.runs.specs.laws.ReplyPublic.{Undisclosed, reply-public}
 use Rattle.report.specs.laws.ReportPublic.{report-public}
 use Rattle.begin.specs.Begin.{beginOf}
 use Rattle.begin.specs.laws.Kept.{begin-alike}
 use Rattle.runs.specs.Runs.{Call, take, reply, report, takeLeft, replyLeft, reportLeft, leftBy, run, takenTo, givenTo, afterCall, after, Differing, held, policy, NoneSatisfied}
 use Rattle.runs.specs.laws.Runs.{left-after}
-use Rattle.runs.specs.laws.RunsKept.{call-keeps, calls-keep, keeps-sizes, keeps-open, begun-within}
+use Rattle.runs.specs.laws.RunsKept.{call-keeps, calls-keep, keeps-sizes, keeps-disclosed, begun-within}
 use Rattle.numbers.specs.Answer.{Answer, refused, accepted}
 
 -- Where the tables differ
@@ -46,17 +46,17 @@ stands-sensitive : (P : List Pair) (p : Pair) → List·Memᴰ p P → isSensiti
 unfolding isSensitive
 stands-sensitive P p m = any-here (λ (q : Pair). sameRole (q .role) (p .role)) m (eq-sameRole (p .role) (p .role) refl)
 
-none-open : (T U : Tables) (S : State) → T .sensitive ≡ U .sensitive → NoneSatisfied T U S → isDisclosed T U S ≡ false
-none-open T U S e n = not-of (isDisclosed T U S) (λ h. shut (open-exact T U S .0 h))
+none-disclosed : (T U : Tables) (S : State) → T .sensitive ≡ U .sensitive → NoneSatisfied T U S → isDisclosed T U S ≡ false
+none-disclosed T U S e n = not-of (isDisclosed T U S) (λ h. shut (disclosed-exact T U S .0 h))
   where
-    shut : Opened T U S → ⊥
+    shut : Disclosed T U S → ⊥
     shut o = n (o .pair) (o .stands) (differs-differing T U (o .pair .role) e (stands-sensitive (T .sensitive) (o .pair) (o .stands)) (o .differs)) (o .acknowledged)
 
 -- One call
 
-quiet : (T U : Tables) (S : State) (o : Answer (List ℕ × State)) → isDisclosed T U (givenTo S o) ≡ false → Quiet T U o
-quiet T U S (refused k) h = tt
-quiet T U S (accepted (m, N)) h = h
+undisclosed : (T U : Tables) (S : State) (o : Answer (List ℕ × State)) → isDisclosed T U (givenTo S o) ≡ false → Undisclosed T U o
+undisclosed T U S (refused k) h = tt
+undisclosed T U S (accepted (m, N)) h = h
 
 module _ (T U : Tables) (e : publicOf T ≡ publicOf U) (s t : List ℕ) (h : readTables s ≡ accepted T) (k : readTables t ≡ accepted U) where
   -- where one of two calls leaves no differing role's Ack target satisfied, they leave the same
@@ -67,13 +67,13 @@ module _ (T U : Tables) (e : publicOf T ≡ publicOf U) (s t : List ℕ) (h : re
       let o = take-public s t T U h k e (stateBytes S) message scratch in
       (ap (takeLeft (stateBytes S) message scratch) o, ap (takenTo S) o)
   call-alike S (reply buffer scratch) q =
-      let o = reply-public T U e s t h k (stateBytes S) buffer scratch (⊎-elim (λ z. inl (quiet T U S (A.replyOf s (stateBytes S) buffer scratch) z)) (λ z. inr (quiet T U S (A.replyOf t (stateBytes S) buffer scratch) z)) q) in
+      let o = reply-public T U e s t h k (stateBytes S) buffer scratch (⊎-elim (λ z. inl (undisclosed T U S (A.replyOf s (stateBytes S) buffer scratch) z)) (λ z. inr (undisclosed T U S (A.replyOf t (stateBytes S) buffer scratch) z)) q) in
       (ap (replyLeft (stateBytes S) buffer scratch) o, ap (givenTo S) o)
   call-alike S (report node) q = (ap (reportLeft (stateBytes S)) (report-public s t T U h k e (stateBytes S) node), refl)
 
   -- not open at the end, not open before
-  shut-before : (w : List ℕ) (W : Tables) → readTables w ≡ accepted W → (S : State) (cs : List Call) → within S ≡ true → isDisclosed T U (after w S cs) ≡ false → isDisclosed T U S ≡ false
-  shut-before w W r S cs v z = not-of (isDisclosed T U S) (λ o. false-true (sym z ∙ calls-keep (keeps-open T U) w W r S cs (record { sizes = v; opened = o }) .opened))
+  undisclosed-earlier : (w : List ℕ) (W : Tables) → readTables w ≡ accepted W → (S : State) (cs : List Call) → within S ≡ true → isDisclosed T U (after w S cs) ≡ false → isDisclosed T U S ≡ false
+  undisclosed-earlier w W r S cs v z = not-of (isDisclosed T U S) (λ o. false-true (sym z ∙ calls-keep (keeps-disclosed T U) w W r S cs (record { sizes = v; opened = o }) .opened))
 
   -- A list of calls
   pub calls-alike : (cs : List Call) (S : State) → within S ≡ true → (isDisclosed T U (after s S cs) ≡ false) ⊎ (isDisclosed T U (after t S cs) ≡ false)
@@ -83,7 +83,7 @@ module _ (T U : Tables) (e : publicOf T ≡ publicOf U) (s t : List ℕ) (h : re
   calls-alike (c ∷ cs) S w q =
       let ws : within (afterCall s S c) ≡ true = call-keeps keeps-sizes s T h S c w in
       let wt : within (afterCall t S c) ≡ true = call-keeps keeps-sizes t U k S c w in
-      let one = call-alike S c (⊎-elim (λ z. inl (shut-before s T h (afterCall s S c) cs ws z)) (λ z. inr (shut-before t U k (afterCall t S c) cs wt z)) q) in
+      let one = call-alike S c (⊎-elim (λ z. inl (undisclosed-earlier s T h (afterCall s S c) cs ws z)) (λ z. inr (undisclosed-earlier t U k (afterCall t S c) cs wt z)) q) in
       let l : leftBy s (stateBytes S) c ≡ leftBy t (stateBytes S) c = one .0 in
       let n : afterCall s S c ≡ afterCall t S c = one .1 in
       let rest = calls-alike cs (afterCall s S c) ws (⊎-elim (λ z. inl z) (λ z. inr (ap (λ (N : State). isDisclosed T U (after t N cs)) n ∙ z)) q) in
@@ -106,5 +106,5 @@ module _ (s t : List ℕ) (T U : Tables) (h : readTables s ≡ accepted T) (k : 
       let e : publicOf T ≡ publicOf U = accepted-public s t T U h k .0 d in (
         begin-alike s t negotiation other entity name h k e,
         λ S b cs n. calls-alike T U e s t h k cs S (begun-within s negotiation other entity name T S h b)
-            (⊎-elim (λ z. inl (none-open T U (after s S cs) (d .sensitive) z)) (λ z. inr (none-open T U (after t S cs) (d .sensitive) z)) n),
+            (⊎-elim (λ z. inl (none-disclosed T U (after s S cs) (d .sensitive) z)) (λ z. inr (none-disclosed T U (after t S cs) (d .sensitive) z)) n),
       )

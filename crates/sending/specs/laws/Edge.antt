@@ -13,18 +13,18 @@ use Rattle.graph.specs.declared.Node.{Node}
 use Rattle.graph.specs.Graph.{nodeIn}
 use Rattle.message.specs.declared.Command.{Command}
 use Rattle.message.specs.declared.Command.the-variants.{Show, Mark}
-use Rattle.moves.specs.declared.Wanted.{Wanted}
+use Rattle.moves.specs.declared.Candidate.{Candidate}
 use Rattle.moves.specs.declared.Found.{Found}
 use Rattle.moves.specs.declared.Outgoing.{Outgoing}
 use Rattle.moves.specs.declared.Choice.the-variants as K
 use Rattle.moves.specs.Rules.{End}
-use Rattle.moves.specs.Move.{moveFor, credentialsFor, directFor, unshown, ownSet}
+use Rattle.moves.specs.Move.{moveFor, credentialsFor, directFor, unshown, sideSet}
 use Rattle.moves.specs.laws.Own.{foundMove, commandsOf}
 use Rattle.sending.specs.laws.Unshown.{unshownOf}
-use Rattle.sending.specs.laws.Sent.{Sends, commandFor, directIn, ownSetOf}
+use Rattle.sending.specs.laws.Sent.{Sends, commandFor, directIn, sideSetOf}
 
 -- the edge w into node i, behind its credentials
-pub record EdgeSent (o : End) (i : ℕ) (w : Wanted) (r : Outgoing) : Type 0 where
+pub record EdgeSent (o : End) (i : ℕ) (w : Candidate) (r : Outgoing) : Type 0 where
   pub sends : Sends (credentialsFor o (nodeIn (o .state .nodes) i) w) (commandFor (o .tables .names) (o .state .header .side) (o .state .nodes) i w) r
 
 module _ (o : End) where
@@ -36,18 +36,18 @@ module _ (o : End) where
   direct-is (E.Intersection p) = refl
   direct-is (E.Goal r) = refl
 
-  neededAt : Wanted → Node → List Credential
-  neededAt w n = needed (o .state .shown) (n .expression) (w .expression) (unshown o (ownSet o n))
+  neededAt : Candidate → Node → List Credential
+  neededAt w n = needed (o .state .shown) (n .expression) (w .expression) (unshown o (sideSet o n))
 
-  picks : (w : Wanted) (n : Node) (k d : Bool) → k ≡ eqb (w .kind) 1 → d ≡ w .direct → cond k (cond d (directFor o (n .expression)) (neededAt w n)) [] ≡ credentialsFor o n w
+  picks : (w : Candidate) (n : Node) (k d : Bool) → k ≡ eqb (w .kind) 1 → d ≡ w .direct → cond k (cond d (directFor o (n .expression)) (neededAt w n)) [] ≡ credentialsFor o n w
   unfolding credentialsFor neededAt
   picks w n k d ke de = λ j. cond (ke j) (cond (de j) (directFor o (n .expression)) (neededAt w n)) []
 
-  needed-is : (w : Wanted) (n : Node) → needed (o .state .shown) (n .expression) (w .expression) (unshownOf (o .state .shown) (ownSetOf (o .tables) (o .state .header .side) n)) ≡ neededAt w n
-  unfolding unshownOf ownSetOf neededAt
+  needed-is : (w : Candidate) (n : Node) → needed (o .state .shown) (n .expression) (w .expression) (unshownOf (o .state .shown) (sideSetOf (o .tables) (o .state .header .side) n)) ≡ neededAt w n
+  unfolding unshownOf sideSetOf neededAt
   needed-is w n = refl
 
-  module _ (i : ℕ) (w : Wanted) {r : Outgoing} {c : Command} (ce : c ≡ commandFor (o .tables .names) (o .state .header .side) (o .state .nodes) i w) where
+  module _ (i : ℕ) (w : Candidate) {r : Outgoing} {c : Command} (ce : c ≡ commandFor (o .tables .names) (o .state .header .side) (o .state .nodes) i w) where
     sends-edge : {cs : List Credential} → cs ≡ credentialsFor o (nodeIn (o .state .nodes) i) w → Sends cs c r → EdgeSent o i w r
     sends-edge h s = record { sends = record { shows = s .shows ∙ h; command = s .command ∙ ce; few = s .few } }
 
@@ -64,7 +64,7 @@ module _ (o : End) where
           ∙ picks w (nodeIn (o .state .nodes) i) true true (sym (eq-eqb (w .kind) 1 kind)) (sym h))
           s
 
-      pub edge-needed : w .direct ≡ false → Sends (needed (o .state .shown) (x .expression) (w .expression) (unshownOf (o .state .shown) (ownSetOf (o .tables) (o .state .header .side) x))) c r → EdgeSent o i w r
+      pub edge-needed : w .direct ≡ false → Sends (needed (o .state .shown) (x .expression) (w .expression) (unshownOf (o .state .shown) (sideSetOf (o .tables) (o .state .header .side) x))) c r → EdgeSent o i w r
       edge-needed h s =
           sends-edge
           (needed-is w x
@@ -73,7 +73,7 @@ module _ (o : End) where
           s
 
   module _ (found : Found) {r : Outgoing} where
-    pub sent-edge : {w : Wanted} → found .choice ≡ K.Edge w → EdgeSent o (found .node) w r → commandsOf r ≡ foundMove o found
+    pub sent-edge : {w : Candidate} → found .choice ≡ K.Edge w → EdgeSent o (found .node) w r → commandsOf r ≡ foundMove o found
     unfolding commandsOf foundMove commandFor
     sent-edge h s = ap₂ (λ (cs : List Credential) (c : Command). map Show cs ++ (c ∷ [])) (s .sends .shows) (s .sends .command) ∙ ap (moveFor o (found .node) (nodeIn (o .state .nodes) (found .node))) (sym h)
 

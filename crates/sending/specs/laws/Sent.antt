@@ -14,10 +14,10 @@ use Rattle.tables.specs.Public.{Public}
 use Rattle.graph.specs.declared.Node.{Node}
 use Rattle.message.specs.declared.Command.{Command}
 use Rattle.message.specs.declared.Command.the-variants.{Bring, Join}
-use Rattle.moves.specs.declared.Wanted.{Wanted}
+use Rattle.moves.specs.declared.Candidate.{Candidate}
 use Rattle.moves.specs.declared.Outgoing.{Outgoing}
 use Rattle.moves.specs.Initial.{initialState}
-use Rattle.moves.specs.Wanted.{childNumber, childStands}
+use Rattle.moves.specs.Candidates.{childNumber, childStands}
 use Rattle.sending.specs.laws.Unshown.{unshownOf}
 
 -- these credentials go out, then this command
@@ -27,7 +27,7 @@ pub record Sends (cs : List Credential) (c : Command) (r : Outgoing) : Type 0 wh
   pub few : r .pool .count ≤ 128
 
 -- "An old child is joined by 0x04", a new one is brought
-unfoldable pub commandFor : List Name → ℕ → List Node → ℕ → Wanted → Command
+unfoldable pub commandFor : List Name → ℕ → List Node → ℕ → Candidate → Command
 commandFor names side nodes i w =
     cond (childStands nodes w)
     (Join (record { kind = w .kind; parent = i; child = childNumber nodes w }))
@@ -42,5 +42,5 @@ directIn shown own (E.Intersection p) = []
 directIn shown own (E.Goal r) = []
 
 -- "from the own set for that side"
-unfoldable pub ownSetOf : Public → ℕ → Node → List Credential
-ownSetOf T side n = cond (eqb (n .verifier) side) (T .issuerStored) (T .subjectStored)
+unfoldable pub sideSetOf : Public → ℕ → Node → List Credential
+sideSetOf T side n = cond (eqb (n .verifier) side) (T .issuerStored) (T .subjectStored)

@@ -31,15 +31,15 @@ use Rattle.message.specs.declared.Command.the-variants.{Bring, Join}
 use Rattle.rt0.specs.Shown.{isShown}
 use Rattle.needed.specs.Needed.{needed}
 use Rattle.needed.specs.laws.Column.{none-on}
-use Rattle.moves.specs.declared.Own.{Own}
-use Rattle.moves.specs.declared.Wanted.{Wanted}
+use Rattle.moves.specs.declared.Preparation.{Preparation}
+use Rattle.moves.specs.declared.Candidate.{Candidate}
 use Rattle.moves.specs.declared.Outgoing.{Outgoing}
 use Rattle.moves.specs.Initial.{initialState}
-use Rattle.moves.specs.Wanted.{childNumber}
+use Rattle.moves.specs.Candidates.{childNumber}
 use Rattle.moves.specs.laws.Own.{Prepared}
 use Rattle.sending.specs.laws.Unshown.{unshownOf}
 use Rattle.sending.specs.laws.Picked.{all-on}
-use Rattle.sending.specs.laws.Sent.{Sends, commandFor, directIn, ownSetOf}
+use Rattle.sending.specs.laws.Sent.{Sends, commandFor, directIn, sideSetOf}
 
 pub sends-as : {cs ds : List Credential} {k : Command} {r : Outgoing} → cs ≡ ds → Sends cs k r → Sends ds k r
 sends-as h s = record { shows = s .shows ∙ h; command = s .command; few = s .few }
@@ -89,27 +89,27 @@ module _ (shown : List Credential) (own : ℕ) (f : Expression) {k : Command} {r
 
 -- The needed ones
 
-set-issuer : (H : House) (side : ℕ) (x : Node) → x .verifier ≡ side → credentials (H .issuer) ≡ ownSetOf (publicOf (tablesOf H)) side x
-unfolding publicOf tablesOf ownSetOf
+set-issuer : (H : House) (side : ℕ) (x : Node) → x .verifier ≡ side → credentials (H .issuer) ≡ sideSetOf (publicOf (tablesOf H)) side x
+unfolding publicOf tablesOf sideSetOf
 set-issuer H side x h = ap (λ (b : Bool). cond b (credentials (H .issuer)) (publicOf (tablesOf H) .subjectStored)) (sym (eq-eqb (x .verifier) side h))
 
-set-subject : (T : Public) (side : ℕ) (x : Node) → (x .verifier ≡ side → ⊥) → T .subjectStored ≡ ownSetOf T side x
-unfolding ownSetOf
+set-subject : (T : Public) (side : ℕ) (x : Node) → (x .verifier ≡ side → ⊥) → T .subjectStored ≡ sideSetOf T side x
+unfolding sideSetOf
 set-subject T side x h = ap (λ (b : Bool). cond b (T .issuerStored) (T .subjectStored)) (sym (ne-eqb (x .verifier) side h))
 
-module _ (o : Own) (p : Prepared o) (side : ℕ) (x : Node) (shown : List Credential) (f e : Expression) {k : Command} {r : Outgoing} where
+module _ (o : Preparation) (p : Prepared o) (side : ℕ) (x : Node) (shown : List Credential) (f e : Expression) {k : Command} {r : Outgoing} where
   set-needed : (cs ds : List Credential) → cs ≡ ds → Sends (needed shown f e (unshownOf shown cs)) k r → Sends (needed shown f e (unshownOf shown ds)) k r
   set-needed cs ds h s = sends-as (ap (λ (l : List Credential). needed shown f e (unshownOf shown l)) h) s
 
-  pub needed-issuer : x .verifier ≡ side → Sends (needed shown f e (unshownOf shown (chosen (o .house .issuer) (replicate 128 1)))) k r → Sends (needed shown f e (unshownOf shown (ownSetOf (publicOf (tablesOf (o .house))) side x))) k r
+  pub needed-issuer : x .verifier ≡ side → Sends (needed shown f e (unshownOf shown (chosen (o .house .issuer) (replicate 128 1)))) k r → Sends (needed shown f e (unshownOf shown (sideSetOf (publicOf (tablesOf (o .house))) side x))) k r
   needed-issuer h s = set-needed _ _ (all-on (o .house .issuer) (omega (arith, p .housed .issuer)) ∙ set-issuer (o .house) side x h) s
 
-  pub needed-subject : (x .verifier ≡ side → ⊥) → Sends (needed shown f e (unshownOf shown (chosen (o .house .subject) (o .visible)))) k r → Sends (needed shown f e (unshownOf shown (ownSetOf (publicOf (tablesOf (o .house))) side x))) k r
+  pub needed-subject : (x .verifier ≡ side → ⊥) → Sends (needed shown f e (unshownOf shown (chosen (o .house .subject) (o .visible)))) k r → Sends (needed shown f e (unshownOf shown (sideSetOf (publicOf (tablesOf (o .house))) side x))) k r
   needed-subject h s = set-needed _ _ (p .visible ∙ set-subject (publicOf (tablesOf (o .house))) side x h) s
 
 -- The command of an edge
 
-module _ (names : List Name) (side : ℕ) (N : Nodes) (i : ℕ) (w : Wanted) {j : ℕ} (je : j ≡ childNumber (nodesOf N) w) where
+module _ (names : List Name) (side : ℕ) (N : Nodes) (i : ℕ) (w : Candidate) {j : ℕ} (je : j ≡ childNumber (nodesOf N) w) where
   joined : Command
   joined = Join (record { kind = w .kind; parent = i; child = childNumber (nodesOf N) w })
 

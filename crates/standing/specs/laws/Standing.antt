@@ -33,14 +33,14 @@ unfoldable pub standingOf : Restored → Answer (Tables × State)
 standingOf r = cond (eqb (r .refusal) 0) (accepted (tablesOf (r .house), stateOf (r .negotiation))) (refused (r .refusal))
 
 -- what an accepted call can rely on
-pub record Kept (r : Restored) : Type 0 where
+pub record Usable (r : Restored) : Type 0 where
   pub housed : r .refusal ≡ 0 → Housed (r .house)
   pub within-sizes : r .refusal ≡ 0 → within (stateOf (r .negotiation)) ≡ true
   pub is-sound : r .refusal ≡ 0 → sound (tablesOf (r .house)) (stateOf (r .negotiation)) ≡ true
 
 -- a refused call
-kept-refused : (r : Restored) → (r .refusal ≡ 0 → ⊥) → Kept r
-kept-refused r h = record { housed = λ z. absurd (h z); within-sizes = λ z. absurd (h z); is-sound = λ z. absurd (h z) }
+usable-refused : (r : Restored) → (r .refusal ≡ 0 → ⊥) → Usable r
+usable-refused r h = record { housed = λ z. absurd (h z); within-sizes = λ z. absurd (h z); is-sound = λ z. absurd (h z) }
 
 standing-refused : (r : Restored) → (r .refusal ≡ 0 → ⊥) → standingOf r ≡ refused (r .refusal)
 unfolding standingOf
@@ -57,14 +57,14 @@ module _ (tables negotiation : List ℕ) where
   by-length b e = ap (λ (b : Bool). cond b (behindTables negotiation (readTables tables)) (refused 1)) e
 
   -- a refusal that the meaning has
-  gives : (r : Restored) (k : ℕ) → r .refusal ≡ k → (k ≡ 0 → ⊥) → restoreOf tables negotiation ≡ refused k → (standingOf r ≡ restoreOf tables negotiation) × Kept r
-  gives r k e z h = (standing-refused r (λ w. z (sym e ∙ w)) ∙ ap refused e ∙ sym h, kept-refused r (λ w. z (sym e ∙ w)))
+  gives : (r : Restored) (k : ℕ) → r .refusal ≡ k → (k ≡ 0 → ⊥) → restoreOf tables negotiation ≡ refused k → (standingOf r ≡ restoreOf tables negotiation) × Usable r
+  gives r k e z h = (standing-refused r (λ w. z (sym e ∙ w)) ∙ ap refused e ∙ sym h, usable-refused r (λ w. z (sym e ∙ w)))
 
-  pub restore-outside : (r : Restored) → (length negotiation ≡ 5120 → ⊥) → r .refusal ≡ 1 → (standingOf r ≡ restoreOf tables negotiation) × Kept r
+  pub restore-outside : (r : Restored) → (length negotiation ≡ 5120 → ⊥) → r .refusal ≡ 1 → (standingOf r ≡ restoreOf tables negotiation) × Usable r
   restore-outside r h e = gives r 1 e (λ z. omega arith) (by-length false (ne-eqb (length negotiation) 5120 h))
 
   module _ (l : length negotiation ≡ 5120) (d : Decoded) (de : outcomeOf d ≡ readTables tables) where
-    pub restore-tables : (r : Restored) → (d .refusal ≡ 0 → ⊥) → r .refusal ≡ d .refusal → (standingOf r ≡ restoreOf tables negotiation) × Kept r
+    pub restore-tables : (r : Restored) → (d .refusal ≡ 0 → ⊥) → r .refusal ≡ d .refusal → (standingOf r ≡ restoreOf tables negotiation) × Usable r
     restore-tables r h e = gives r (d .refusal) e h (by-length true (eq-eqb (length negotiation) 5120 l) ∙ ap (behindTables negotiation) (sym de ∙ outcome-refused d (d .refusal) refl h))
 
     module _ (dz : d .refusal ≡ 0) (R : Reading) (re : readingOf R ≡ readState negotiation) where
@@ -81,7 +81,7 @@ module _ (tables negotiation : List ℕ) where
       reads b e = sym re ∙ ap (λ (b : Bool). cond b (some (stateOf (R .negotiation))) none) e
 
       -- no state has these bytes
-      pub restore-unread : (r : Restored) → not (R .ok) ≡ true → r .refusal ≡ 20 → (standingOf r ≡ restoreOf tables negotiation) × Kept r
+      pub restore-unread : (r : Restored) → not (R .ok) ≡ true → r .refusal ≡ 20 → (standingOf r ≡ restoreOf tables negotiation) × Usable r
       restore-unread r h e = gives r 20 e (λ z. omega arith) (by-state none (ap (ifSound (tablesOf (d .house))) (reads false (not-true (R .ok) h))))
 
       module _ (ok : not (R .ok) ≡ false) {b : Bool} (be : b ≡ sound (tablesOf (d .house)) (stateOf (R .negotiation))) where
@@ -89,10 +89,10 @@ module _ (tables negotiation : List ℕ) where
         held = reads true (not-false (R .ok) ok)
 
         -- it is damaged
-        pub restore-damaged : (r : Restored) → not b ≡ true → r .refusal ≡ 20 → (standingOf r ≡ restoreOf tables negotiation) × Kept r
+        pub restore-damaged : (r : Restored) → not b ≡ true → r .refusal ≡ 20 → (standingOf r ≡ restoreOf tables negotiation) × Usable r
         restore-damaged r h e = gives r 20 e (λ z. omega arith) (by-state none (ap (ifSound (tablesOf (d .house))) held ∙ ap (λ (t : Bool). cond t (some (stateOf (R .negotiation))) none) (sym be ∙ not-true b h)))
 
-        pub restore-sound : not b ≡ false → Housed (d .house) → (standingOf (record { refused = 0; house = d .house; negotiation = R .negotiation }) ≡ restoreOf tables negotiation) × Kept (record { refused = 0; house = d .house; negotiation = R .negotiation })
+        pub restore-sound : not b ≡ false → Housed (d .house) → (standingOf (record { refused = 0; house = d .house; negotiation = R .negotiation }) ≡ restoreOf tables negotiation) × Usable (record { refused = 0; house = d .house; negotiation = R .negotiation })
         unfolding standingOf
         restore-sound h hd = (
           sym (by-state (some (stateOf (R .negotiation))) (ap (ifSound (tablesOf (d .house))) held ∙ ap (λ (t : Bool). cond t (some (stateOf (R .negotiation))) none) (sym be ∙ not-false b h))),

@@ -2,12 +2,12 @@ use Prim.Native.Nat.{_-_}
 use native.Mathlib.Omega.{arith}
 use Rattle.rt0.specs.laws.Find.{Missed, missed-start, missed-more, any-at, any-none}
 use Rattle.graph.specs.laws.Graph.{edgesFrom, edgeAt, edgesOf}
-use Rattle.states.specs.laws.Complete.{isOpen}
+use Rattle.states.specs.laws.Complete.{isUnknown}
 use Rattle.states.proofs.has_open.Statement.{statement}
 use Rattle.states.proofs.has_open.Tie as tie
 
 abbrev Inv-loop : tie.InvT-loop
-Inv-loop n m kind parent child sat failed i j₀ j = Missed (isOpen n sat failed i) (edgeAt (edgesFrom m kind parent child)) j
+Inv-loop n m kind parent child sat failed i j₀ j = Missed (isUnknown n sat failed i) (edgeAt (edgesFrom m kind parent child)) j
 
 abbrev μ-loop : tie.MeasureT-loop
 μ-loop n m kind parent child sat failed i j₀ j = m - j

@@ -17,7 +17,7 @@ use Rattle.graph.specs.declared.Edges.{Edges}
 use Rattle.graph.specs.laws.Graph.{expressionFrom, nodesOf, edgesOf}
 use Rattle.graph.specs.laws.Columns.{nodes-length, edges-length, node-in}
 use Rattle.graph.specs.States.{solutionKind}
-use Rattle.graph.specs.Propagated.{isChild, allChildren, satisfiedB, failedB, completeAs, completeB, stateOf}
+use Rattle.graph.specs.Propagated.{isChild, allChildren, satisfiedB, failedB, completeAs, completeB, propagatedState}
 use Rattle.propagation.specs.Flags.{at}
 use Rattle.propagation.specs.laws.Flags.{flag}
 use Rattle.propagation.specs.laws.Satisfied.{graph, satisfiedOf}
@@ -28,23 +28,23 @@ use Rattle.states.specs.laws.SatisfiedColumns.{satisfied-columns}
 use Rattle.states.specs.laws.FailedColumns.{failed-columns}
 
 -- an edge brings goal i a solution, one of n nodes, that is in neither column
-unfoldable pub isOpen : ℕ → List ℕ → List ℕ → ℕ → Edge → Bool
-isOpen n sat failed i e = solutionKind (e .kind) && eqb (e .parent) i && ltb (e .child) n && not (flag sat (e .child)) && not (flag failed (e .child))
+unfoldable pub isUnknown : ℕ → List ℕ → List ℕ → ℕ → Edge → Bool
+isUnknown n sat failed i e = solutionKind (e .kind) && eqb (e .parent) i && ltb (e .child) n && not (flag sat (e .child)) && not (flag failed (e .child))
 
 -- a goal by its kind and state is complete unless a solution is open
 unfoldable pub completeBy : ℕ → ℕ → Bool → Bool
 completeBy k s o = not (eqb k 1) && not (eqb k 2) && not (eqb k 3) && not (eqb k 4) && eqb s 3 && not o
 
 -- the columns have the satisfied nodes and the failed ones
-pub record Settled (ns : List Node) (es : List Edge) (sat failed : List ℕ) : Type 0 where
+pub record StateColumns (ns : List Node) (es : List Edge) (sat failed : List ℕ) : Type 0 where
   pub is-sat : (i : ℕ) → flag sat i ≡ at (satisfiedB ns es) i
   pub is-failed : (i : ℕ) → flag failed i ≡ at (failedB ns es) i
 
 -- Whether a solution is open
 
 module _ (n : ℕ) (sat failed : List ℕ) (i : ℕ) (e : Edge) where
-  pub open-other : {p : ℕ} → p ≡ e .parent → (not (eqb (e .kind) 3) || not (eqb p i)) ≡ true → false ≡ isOpen n sat failed i e
-  unfolding isOpen
+  pub open-other : {p : ℕ} → p ≡ e .parent → (not (eqb (e .kind) 3) || not (eqb p i)) ≡ true → false ≡ isUnknown n sat failed i e
+  unfolding isUnknown
   open-other {p} q h = go (eqb (e .kind) 3) (eqb (e .parent) i) (ap (λ (m : ℕ). not (eqb (e .kind) 3) || not (eqb m i)) (sym q) ∙ h)
     where
       go : (a b : Bool) → (not a || not b) ≡ true → false ≡ (a && b && ltb (e .child) n && not (flag sat (e .child)) && not (flag failed (e .child)))
@@ -52,8 +52,8 @@ module _ (n : ℕ) (sat failed : List ℕ) (i : ℕ) (e : Edge) where
       go true false h = refl
       go false b h = refl
 
-  pub open-outside : {c : ℕ} → c ≡ e .child → n ≤ c → false ≡ isOpen n sat failed i e
-  unfolding isOpen
+  pub open-outside : {c : ℕ} → c ≡ e .child → n ≤ c → false ≡ isUnknown n sat failed i e
+  unfolding isUnknown
   open-outside {c} q h = sym (ap (λ (b : Bool). solutionKind (e .kind) && eqb (e .parent) i && b && not (flag sat (e .child)) && not (flag failed (e .child))) (le-ltb (e .child) n (omega arith)) ∙ go (solutionKind (e .kind)) (eqb (e .parent) i))
     where
       go : (a b : Bool) → (a && b && false && not (flag sat (e .child)) && not (flag failed (e .child))) ≡ false
@@ -61,8 +61,8 @@ module _ (n : ℕ) (sat failed : List ℕ) (i : ℕ) (e : Edge) where
       go true false = refl
       go false b = refl
 
-  pub open-here : {p c : ℕ} → p ≡ e .parent → c ≡ e .child → (not (eqb (e .kind) 3) || not (eqb p i)) ≡ false → c < n → (not (flag sat c) && not (flag failed c)) ≡ isOpen n sat failed i e
-  unfolding isOpen
+  pub open-here : {p c : ℕ} → p ≡ e .parent → c ≡ e .child → (not (eqb (e .kind) 3) || not (eqb p i)) ≡ false → c < n → (not (flag sat c) && not (flag failed c)) ≡ isUnknown n sat failed i e
+  unfolding isUnknown
   open-here {p} {c} q r h l =
       let t = go (eqb (e .kind) 3) (eqb (e .parent) i) (ap (λ (m : ℕ). not (eqb (e .kind) 3) || not (eqb m i)) (sym q) ∙ h) in
       let u : ltb (e .child) n ≡ true = lt-ltb (e .child) n (omega arith) in
@@ -82,9 +82,9 @@ all-any f g h (e ∷ es) = (λ j. h e j && all-any f g h es j) ∙ go (g e) (any
     go true b = refl
     go false b = refl
 
-module _ (N : Nodes) (E : Edges) {sat failed : List ℕ} (t : Settled (nodesOf N) (edgesOf E) sat failed) (i : ℕ) (l : i < N .count) where
-  settled-open : (e : Edge) → (not (isChild (nodesOf N) (edgesOf E) solutionKind i e) || (at (satisfiedB (nodesOf N) (edgesOf E)) (e .child) || at (failedB (nodesOf N) (edgesOf E)) (e .child))) ≡ not (isOpen (N .count) sat failed i e)
-  unfolding isOpen
+module _ (N : Nodes) (E : Edges) {sat failed : List ℕ} (t : StateColumns (nodesOf N) (edgesOf E) sat failed) (i : ℕ) (l : i < N .count) where
+  settled-open : (e : Edge) → (not (isChild (nodesOf N) (edgesOf E) solutionKind i e) || (at (satisfiedB (nodesOf N) (edgesOf E)) (e .child) || at (failedB (nodesOf N) (edgesOf E)) (e .child))) ≡ not (isUnknown (N .count) sat failed i e)
+  unfolding isUnknown
   settled-open e =
       (λ j. not (solutionKind (e .kind) && eqb (e .parent) i && ltb (e .child) (nodes-length N j)) || (sym (t .is-sat (e .child)) j || sym (t .is-failed (e .child)) j))
       ∙ go (solutionKind (e .kind) && eqb (e .parent) i && ltb (e .child) (N .count)) (flag sat (e .child)) (flag failed (e .child))
@@ -95,16 +95,17 @@ module _ (N : Nodes) (E : Edges) {sat failed : List ℕ} (t : Settled (nodesOf N
       go true false false = refl
       go false a b = refl
 
-  complete-columns : completeBy (getD (N .kind) i 0) (getD (N .state) i 0) (any (isOpen (N .count) sat failed i) (edgesOf E)) ≡ completeB (nodesOf N) (edgesOf E) i
+  complete-columns : completeBy (getD (N .kind) i 0) (getD (N .state) i 0) (any (isUnknown (N .count) sat failed i) (edgesOf E)) ≡ completeB (nodesOf N) (edgesOf E) i
   unfolding completeBy completeB expressionFrom
   complete-columns =
       (λ j. not (eqb (getD (N .kind) i 0) 1) && not (eqb (getD (N .kind) i 0) 2) && not (eqb (getD (N .kind) i 0) 3) && not (eqb (getD (N .kind) i 0) 4) && eqb (getD (N .state) i 0) 3
-      && sym (all-any (λ e. not (isChild (nodesOf N) (edgesOf E) solutionKind i e) || (at (satisfiedB (nodesOf N) (edgesOf E)) (e .child) || at (failedB (nodesOf N) (edgesOf E)) (e .child))) (isOpen (N .count) sat failed i) settled-open (edgesOf E)) j)
+      && sym (all-any (λ e. not (isChild (nodesOf N) (edgesOf E) solutionKind i e) || (at (satisfiedB (nodesOf N) (edgesOf E)) (e .child) || at (failedB (nodesOf N) (edgesOf E)) (e .child))) (isUnknown (N .count) sat failed i) settled-open (edgesOf E)) j)
       ∙ go (eqb (getD (N .kind) i 0) 1) (eqb (getD (N .kind) i 0) 2) (eqb (getD (N .kind) i 0) 3) (eqb (getD (N .kind) i 0) 4)
       ∙ sym (λ j. completeAs (nodesOf N) (edgesOf E) i (node-in N i l j .state) (node-in N i l j .expression))
     where
       solved : Bool
       solved = allChildren (nodesOf N) (edgesOf E) solutionKind (λ c. at (satisfiedB (nodesOf N) (edgesOf E)) c || at (failedB (nodesOf N) (edgesOf E)) c) i
+
       go : (a b c d : Bool) → (not a && not b && not c && not d && eqb (getD (N .state) i 0) 3 && solved) ≡ completeAs (nodesOf N) (edgesOf E) i (getD (N .state) i 0) (byKind a b c d (rawIn N i))
       go true b c d = refl
       go false true c d = refl
@@ -113,7 +114,7 @@ module _ (N : Nodes) (E : Edges) {sat failed : List ℕ} (t : Settled (nodesOf N
       go false false false false = refl
 
   -- a goal's completeness is read from the columns
-  pub complete-read : {b o : Bool} → b ≡ completeBy (getD (N .kind) i 0) (getD (N .state) i 0) o → o ≡ any (isOpen (N .count) sat failed i) (edgesOf E) → b ≡ completeB (nodesOf N) (edgesOf E) i
+  pub complete-read : {b o : Bool} → b ≡ completeBy (getD (N .kind) i 0) (getD (N .state) i 0) o → o ≡ any (isUnknown (N .count) sat failed i) (edgesOf E) → b ≡ completeB (nodesOf N) (edgesOf E) i
   complete-read h e = h ∙ ap (completeBy (getD (N .kind) i 0) (getD (N .state) i 0)) e ∙ complete-columns
 
 -- The propagated state
@@ -128,23 +129,23 @@ module _ (N : Nodes) (E : Edges) (F S : List ℕ) (nf : NodesFormed (nodesOf N))
   failed-read {W} failed ef wy h i = h i ∙ ap (λ (m : ℕ). at (failedOf m (graph F S W)) i) (sym (edges-length E)) ∙ failed-columns nf ef jn wy i
 
   pub settled-read : {M W : List ℕ} (sat failed : List ℕ) → EdgesFormed (nodesOf N) (edgesOf E) → Needs (nodesOf N) M → Ways (nodesOf N) W
-      → ((i : ℕ) → flag sat i ≡ at (satisfiedOf (E .count) (graph F S M)) i) → ((i : ℕ) → flag failed i ≡ at (failedOf (E .count) (graph F S W)) i) → Settled (nodesOf N) (edgesOf E) sat failed
+      → ((i : ℕ) → flag sat i ≡ at (satisfiedOf (E .count) (graph F S M)) i) → ((i : ℕ) → flag failed i ≡ at (failedOf (E .count) (graph F S W)) i) → StateColumns (nodesOf N) (edgesOf E) sat failed
   settled-read sat failed ef nd wy h k = record { is-sat = satisfied-read sat nd h; is-failed = failed-read failed ef wy k }
 
-pub state-satisfied : (ns : List Node) (es : List Edge) (i : ℕ) (sat : List ℕ) → ((k : ℕ) → flag sat k ≡ at (satisfiedB ns es) k) → getD sat i 0 ≡ 1 → 1 ≡ stateOf ns es i
-unfolding stateOf
+pub state-satisfied : (ns : List Node) (es : List Edge) (i : ℕ) (sat : List ℕ) → ((k : ℕ) → flag sat k ≡ at (satisfiedB ns es) k) → getD sat i 0 ≡ 1 → 1 ≡ propagatedState ns es i
+unfolding propagatedState
 state-satisfied ns es i sat h e = sym (ap (λ (b : Bool). cond (b || completeB ns es i) 1 (cond (at (failedB ns es) i) 2 0)) (sym (h i) ∙ eq-eqb (getD sat i 0) 1 e))
 
-module _ {ns : List Node} {es : List Edge} {sat failed : List ℕ} (t : Settled ns es sat failed) (i : ℕ) {c : Bool} (q : c ≡ completeB ns es i) where
-  read : cond (flag sat i || c) 1 (cond (flag failed i) 2 0) ≡ stateOf ns es i
-  unfolding stateOf
+module _ {ns : List Node} {es : List Edge} {sat failed : List ℕ} (t : StateColumns ns es sat failed) (i : ℕ) {c : Bool} (q : c ≡ completeB ns es i) where
+  read : cond (flag sat i || c) 1 (cond (flag failed i) 2 0) ≡ propagatedState ns es i
+  unfolding propagatedState
   read = λ j. cond (t .is-sat i j || q j) 1 (cond (t .is-failed i j) 2 0)
 
-  pub state-complete : c ≡ true → 1 ≡ stateOf ns es i
+  pub state-complete : c ≡ true → 1 ≡ propagatedState ns es i
   state-complete e = sym (ap (λ (b : Bool). cond b 1 (cond (flag failed i) 2 0)) (ap (λ (b : Bool). flag sat i || b) e ∙ or-true (flag sat i))) ∙ read
 
-  pub state-failed : (getD sat i 0 ≡ 1 → ⊥) → c ≡ false → getD failed i 0 ≡ 1 → 2 ≡ stateOf ns es i
+  pub state-failed : (getD sat i 0 ≡ 1 → ⊥) → c ≡ false → getD failed i 0 ≡ 1 → 2 ≡ propagatedState ns es i
   state-failed e f g = sym (λ j. cond (ne-eqb (getD sat i 0) 1 e j || f j) 1 (cond (eq-eqb (getD failed i 0) 1 g j) 2 0)) ∙ read
 
-  pub state-none : (getD sat i 0 ≡ 1 → ⊥) → c ≡ false → (getD failed i 0 ≡ 1 → ⊥) → 0 ≡ stateOf ns es i
+  pub state-none : (getD sat i 0 ≡ 1 → ⊥) → c ≡ false → (getD failed i 0 ≡ 1 → ⊥) → 0 ≡ propagatedState ns es i
   state-none e f g = sym (λ j. cond (ne-eqb (getD sat i 0) 1 e j || f j) 1 (cond (ne-eqb (getD failed i 0) 1 g j) 2 0)) ∙ read

@@ -82,6 +82,7 @@ module _ {ns : List Node} {es : List Edge} {F S W : List ℕ} (nf : NodesFormed 
       where
         by : {x : Expression} → nodeIn ns i .expression ≡ x → failsBy (wayAs (nodeIn ns i .state) x) (alive i) (hit i) ≡ true
         by e = ap (λ (w : ℕ). failsBy w (alive i) (hit i)) (sym (way-at i b e)) ∙ h
+
         unimplied : {x : Expression} → nodeIn ns i .expression ≡ x → isStandard x ≡ true → failsBy (cond (eqb (nodeIn ns i .state) 3) 1 0) (alive i) (hit i) ≡ true → Failed ns es i
         unimplied e t f =
             let r = fails-one (eqb (nodeIn ns i .state) 3) (alive i) (hit i) f in
@@ -94,6 +95,7 @@ module _ {ns : List Node} {es : List Edge} {F S W : List ℕ} (nf : NodesFormed 
             let v : getD S (q .0) 0 ≡ i * 4 + 0 = q .3 in
             ⊎-elim (λ u. ih c u)
             (λ u. absurd (false-true (sym (r .1) ∙ child-here (length es) G (λ f. not (s f)) i (q .0) (q .1) (omega arith) (omega (arith, k .inside, nf .few)) (ap (λ (f : ℕ). not (s f)) z ∙ ap not u)))) (decided (s c)))
+
         go : (x : Expression) → nodeIn ns i .expression ≡ x → Failed ns es i
         go (E.Entity a) e = absurd (fails-zero (alive i) (hit i) (by e))
         go (E.Role a) e = unimplied e refl (by e)

@@ -64,11 +64,13 @@ way-raw s r = ⊎-elim first other (decided (eqb (r .kind) 1))
   where
     first : eqb (r .kind) 1 ≡ true → wayBy (r .kind) s ≡ wayAs s (expressionOf r)
     first h = let k : r .kind ≡ 1 = eqb-true (r .kind) 1 h in ap (λ (n : ℕ). wayBy n s) k ∙ sym (ap (λ (n : ℕ). wayAs s (expressionOf (ofKind n r))) k)
+
     go : (b c d : Bool) → cond (b || c) (cond (eqb s 3) 1 0) (cond d 2 0) ≡ wayAs s (byKind false b c d r)
     go true c d = refl
     go false true d = refl
     go false false true = refl
     go false false false = refl
+
     other : eqb (r .kind) 1 ≡ false → wayBy (r .kind) s ≡ wayAs s (expressionOf r)
     other h = go (eqb (r .kind) 2) (eqb (r .kind) 3) (eqb (r .kind) 4) ∙ sym (ap (λ (b : Bool). wayAs s (byKind b (eqb (r .kind) 2) (eqb (r .kind) 3) (eqb (r .kind) 4) r)) h)
 

@@ -85,10 +85,13 @@ roles-formed p h =
   where
     roles : Bool → Bool → List Role
     roles two three = p .first ∷ p .second ∷ cond two [] (p .third ∷ cond three [] (p .fourth ∷ []))
+
     three? : Bool
     three? = isRole (p .third) && ascends (p .second) (p .third) && isEmpty (p .fourth)
+
     four? : Bool
     four? = isRole (p .third) && ascends (p .second) (p .third) && isRole (p .fourth) && ascends (p .third) (p .fourth)
+
     go : (a b c : Bool) → eqb (p .count) 2 ≡ a → eqb (p .count) 3 ≡ b → eqb (p .count) 4 ≡ c → ascends (p .first) (p .second) ≡ true
         → choose a (isEmpty (p .third) && isEmpty (p .fourth)) (choose b three? (choose c four? false)) ≡ true
         → (sorted (roles a b) ≡ true) × (length (roles a b) ≡ p .count) × (length (roles a b) ≤ 4)

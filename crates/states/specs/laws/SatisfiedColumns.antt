@@ -60,12 +60,14 @@ module _ {ns : List Node} {es : List Edge} {F S N : List ℕ} (nf : NodesFormed 
       where
         rule : (nodeAt G i < 5) × ((k : ℕ) → k < nodeAt G i → filledBy m G s (i * 4 + k) ≡ true)
         rule = satisfied-parts m G s i h
+
         one : {x : Expression} → nodeIn ns i .expression ≡ x → isStandard x ≡ true → needAs (nodeIn ns i .state) x ≡ 1 → Satisfied ns (take m es) i
         one {x} e t n =
             let z : nodeAt G i ≡ 1 = need-at i b e ∙ n in
             let r = filler i 0 (omega arith) (rule .1 0 (omega arith)) in
             let y : isStandard (nodeIn ns i .expression) ≡ true = ap isStandard e ∙ t in
             standard y (implied y (omega arith) (r .1)) (r .2)
+
         full : (p : Parts) → nodeIn ns i .expression ≡ E.Intersection p → (t : Bool) → eqb (nodeIn ns i .state) 3 ≡ t → nodeAt G i ≡ cond t (p .count) 5 → Satisfied ns (take m es) i
         full p e true q z =
             let f : FullyProcessed ns i = eqb-true (nodeIn ns i .state) 3 q in
@@ -79,6 +81,7 @@ module _ {ns : List Node} {es : List Edge} {F S N : List ℕ} (nf : NodesFormed 
             (r .0, record { child = k .0; role = slot-role p o (v .0) (nodeIn ns (r .0) .expression) w (k .1) ∙ ap (λ (y : Role). E.Role y) (v .2) }, r .2) in
             intersection e f (λ a u. part a u .0) (λ a u. part a u .1) (λ a u. part a u .2)
         full p e false q z = absurd (omega (arith, rule .0))
+
         go : (x : Expression) → nodeIn ns i .expression ≡ x → Satisfied ns (take m es) i
         go (E.Entity a) e = trivial e
         go (E.Role a) e = one e refl refl

@@ -111,13 +111,13 @@ later T (Sensitive p) h = and-parts (not (eqb (T .own) 0)) (none (T .access)) h 
 later T (Access p) h = tt
 
 -- a record that earns no number: it keeps the class rules, is in order, comes after those of its command, and has room
-record Passed (T : Tables) (r : Record) : Type 0 where
+record Judged (T : Tables) (r : Record) : Type 0 where
   rules : classNumber T r ≡ 0
   order : inOrder T r ≡ true
   up : above T r ≡ true
   fits : room T r ≡ true
 
-passed : (T : Tables) (r : Record) → judge T r ≡ 0 → Passed T r
+passed : (T : Tables) (r : Record) → judge T r ≡ 0 → Judged T r
 unfolding judge orderNumber
 passed T r h = go (eqb (classNumber T r) 0) refl h
   where
@@ -126,14 +126,15 @@ passed T r h = go (eqb (classNumber T r) 0) refl h
     tests true true false k = absurd (let z : _≡_ {A = ℕ} 6 0 = k in omega arith)
     tests true false l k = absurd (let z : _≡_ {A = ℕ} 6 0 = k in omega arith)
     tests false u l k = absurd (let z : _≡_ {A = ℕ} 6 0 = k in omega arith)
-    go : (b : Bool) → eqb (classNumber T r) 0 ≡ b → cond b (cond (inOrder T r && above T r && room T r) 0 6) (classNumber T r) ≡ 0 → Passed T r
+
+    go : (b : Bool) → eqb (classNumber T r) 0 ≡ b → cond b (cond (inOrder T r && above T r && room T r) 0 6) (classNumber T r) ≡ 0 → Judged T r
     go true e k =
         let w = tests (inOrder T r) (above T r) (room T r) k in
         record { rules = eqb-true (classNumber T r) 0 e; order = w .0; up = w .1; fits = w .2 }
     go false e k = absurd (eqb-false (classNumber T r) 0 e k)
 
 -- sound tables with one record more are sound
-sound-add : (T : Tables) (r : Record) → Sound T → formed r ≡ true → Passed T r → Sound (added T r)
+sound-add : (T : Tables) (r : Record) → Sound T → formed r ≡ true → Judged T r → Sound (added T r)
 unfolding classNumber pairNumber above room
 sound-add T (Own e) k f w = absurd (omega (arith, k .own, later T (Own e) (w .order)))
 sound-add T (Named n) k f w =
@@ -232,7 +233,7 @@ bytes-added T (Access p) k w =
 -- Accepted tables
 
 -- what is known once self is read, at an index: the tables so far are sound, and the bytes so far are theirs
-record Kept (s : List ℕ) (at : ℕ) (T : Tables) : Type 0 where
+record SoundSoFar (s : List ℕ) (at : ℕ) (T : Tables) : Type 0 where
   sound : Sound T
   bytes : ((i : ℕ) → getD s i 0 < 256) → take at s ≡ tablesBytes T
 
@@ -251,7 +252,7 @@ sound-own e f =
 
 module _ (s : List ℕ) where
   -- the first record is self
-  first : (r : Record) → 0 < length s → recordAt s 0 ≡ a.Read r → Passed unread r → Kept s (0 + sizeOf r) (added unread r)
+  first : (r : Record) → 0 < length s → recordAt s 0 ≡ a.Read r → Judged unread r → SoundSoFar s (0 + sizeOf r) (added unread r)
   unfolding inOrder tablesBytes recordBytes
   first (Own e) more h w = record { sound = sound-own e (record-formed s 0 (Own e) h); bytes = λ b. record-only s 0 (Own e) b more h }
   first (Named n) more h w = absurd (false-true (w .order))
@@ -261,7 +262,7 @@ module _ (s : List ℕ) where
   first (Access p) more h w = absurd (false-true (w .order))
 
   -- a further record
-  further : (at : ℕ) (T : Tables) (r : Record) → at < length s → Kept s at T → recordAt s at ≡ a.Read r → Passed T r → Kept s (at + sizeOf r) (added T r)
+  further : (at : ℕ) (T : Tables) (r : Record) → at < length s → SoundSoFar s at T → recordAt s at ≡ a.Read r → Judged T r → SoundSoFar s (at + sizeOf r) (added T r)
   further at T r more k h w =
       record {
         sound = sound-add T r (k .sound) (record-formed s at r h) w;
@@ -282,25 +283,26 @@ module _ (s : List ℕ) where
         by-number : (r : Record) → recordAt s at ≡ a.Read r → (k : ℕ) → judge T r ≡ k → Next at T
         by-number r e zero q = record { r = r; read = e; good = q; rest = sym (from-judged s at T more r 0 e q) ∙ h }
         by-number r e (suc k) q = let z = sym (from-judged s at T more r (suc k) e q) ∙ h in absurd (let y : _≡_ {A = ℕ} 0 1 = cc in omega arith)
+
         go : (x : RecordAnswer) → recordAt s at ≡ x → Next at T
         go (a.Refused k) e = let z = sym (from-refused s at T more k e) ∙ h in absurd (let y : _≡_ {A = ℕ} 0 1 = cc in omega arith)
         go (a.Read r) e = by-number r e (judge T r) refl
 
     -- no byte is left
-    end : (at : ℕ) (T : Tables) → at ≡ length s → Kept s at T → readFrom s at T ≡ accepted U → Kept s (length s) U
+    end : (at : ℕ) (T : Tables) → at ≡ length s → SoundSoFar s at T → readFrom s at T ≡ accepted U → SoundSoFar s (length s) U
     end at T e k h =
         let z = sym (from-past s at T (omega arith)) ∙ h in
         let same : T ≡ U = cc in
-        subst (Kept s (length s)) same (subst (λ (n : ℕ). Kept s n T) e k)
+        subst (SoundSoFar s (length s)) same (subst (λ (n : ℕ). SoundSoFar s n T) e k)
 
     -- all records are read
-    kept : (n at : ℕ) (T : Tables) → length s ≤ n + at → at ≤ length s → Kept s at T → readFrom s at T ≡ accepted U → Kept s (length s) U
+    kept : (n at : ℕ) (T : Tables) → length s ≤ n + at → at ≤ length s → SoundSoFar s at T → readFrom s at T ≡ accepted U → SoundSoFar s (length s) U
     kept zero at T l m k h = end at T (omega arith) k h
     kept (suc n) at T l m k h = go (ltb at (length s)) refl (λ r. kept n (at + sizeOf r) (added T r))
       where
         go : (b : Bool) → ltb at (length s) ≡ b
-            → ((r : Record) → length s ≤ n + (at + sizeOf r) → at + sizeOf r ≤ length s → Kept s (at + sizeOf r) (added T r) → readFrom s (at + sizeOf r) (added T r) ≡ accepted U → Kept s (length s) U)
-            → Kept s (length s) U
+            → ((r : Record) → length s ≤ n + (at + sizeOf r) → at + sizeOf r ≤ length s → SoundSoFar s (at + sizeOf r) (added T r) → readFrom s (at + sizeOf r) (added T r) ≡ accepted U → SoundSoFar s (length s) U)
+            → SoundSoFar s (length s) U
         go true e again =
             let more = ltb-true at (length s) e in
             let w = next at T more h in
@@ -324,7 +326,7 @@ accepted-length s T h =
     let w = and-parts (ltb 0 (length s)) (leb (length s) MOST-TABLES-BYTES) (sized-true s T h .0) in
     (ltb-true 0 (length s) (w .0), leb-true (length s) MOST-TABLES-BYTES (w .1))
 
-all-kept : (s : List ℕ) (T : Tables) → readTables s ≡ accepted T → Kept s (length s) T
+all-kept : (s : List ℕ) (T : Tables) → readTables s ≡ accepted T → SoundSoFar s (length s) T
 all-kept s T h =
     let some = accepted-length s T h .0 in
     let w = next s T 0 unread some (sized-true s T h .1) in
@@ -391,6 +393,7 @@ from-numbers (suc n) s at T k h = go (ltb at (length s)) (recordAt s at) refl h 
     by-judge : (m : ℕ) (o : Answer Tables) → m ≤ 6 → judged m o ≡ refused k → (o ≡ refused k → OneToSix k) → OneToSix k
     by-judge zero o l q again = again q
     by-judge (suc m) o l q again = let e : suc m ≡ k = cc in (omega arith, omega arith)
+
     go : (b : Bool) (x : RecordAnswer) → recordAt s at ≡ x → cond b (onRecord (λ size U. recordsFrom n s (at + size) U) T x) (accepted T) ≡ refused k
         → ((m : ℕ) (U : Tables) → recordsFrom n s m U ≡ refused k → OneToSix k) → OneToSix k
     go true (a.Refused m) e q again = let z : m ≡ k = cc in ⊎-elim (λ w. (omega arith, omega arith)) (λ w. (omega arith, omega arith)) (record-refusal s at m e)

@@ -33,7 +33,7 @@ use Rattle.tables.specs.laws.Check.{outcomeOf, readFrom, from-past, from
 use Rattle.tables.specs.laws.Group.{Group, Open, Gone, refusalOf, judged-refused, some-refusal}
 use Rattle.tables.specs.laws.Groups.{names, credentialsOf, pairs}
 use Rattle.tables.specs.laws.Reading.{noNumber, tablesFor}
-use Rattle.tables.specs.laws.Passed.{rankOf, Passed, Ranked, passed-next}
+use Rattle.tables.specs.laws.BehindRecords.{rankOf, BehindRecords, Ranked, passed-next}
 use Rattle.tables.specs.laws.Decoding.{firstRecord, outOfOrder, leftNumber, withoutPairs, Housed, Decodes}
 use Rattle.numbers.specs.Answer.{refused, accepted, answerOf, noValue, judged}
 
@@ -100,7 +100,7 @@ module _ (s : List ℕ) (own : ℕ) (more : 0 < length s) (h : o.Read own ≡ fi
   unfolding formed
   some-own = let l : 0 < own = ltb-true 0 own (record-formed s 0 (Own own) first-there) in ne-eqb own 0 (λ e. omega arith)
 
-  passed-own : Passed 1 s 3 (withoutPairs own [] [] [])
+  passed-own : BehindRecords 1 s 3 (withoutPairs own [] [] [])
   unfolding inOrder
   passed-own = record { begun = some-own; out = λ l r e k. go r k }
     where
@@ -149,7 +149,7 @@ module _ {A : Type 0} {G : Group A} {num : A → ℕ} {s : List ℕ} {start : �
   pub decodes-on : {d : Decoded} → k ≡ 0 → Decodes s at (G .put T L) d → Decodes s start T d
   decodes-on {d} z h = record { same = h .same ∙ sym (g .same T w ∙ ap (λ (m : ℕ). judged m (readFrom s at (G .put T L))) z); housed = h .housed }
 
-  pub passed-on : {m : ℕ} → k ≡ 0 → Ranked G m → Passed m s start T → Passed (suc m) s at (G .put T L)
+  pub passed-on : {m : ℕ} → k ≡ 0 → Ranked G m → BehindRecords m s start T → BehindRecords (suc m) s at (G .put T L)
   passed-on z ranked p = passed-next ranked (w .first) p (subst (λ (j : ℕ). Gone G num s start L j at) z g)
 
 -- What is left
@@ -174,7 +174,7 @@ judge-out : (T : Tables) (r : Record) → inOrder T r ≡ false → judge T r �
 unfolding judge orderNumber
 judge-out T r h = ap (λ (b : Bool). orElse (classNumber T r) (cond (b && above T r && room T r) 0 6)) h
 
-module _ (s : List ℕ) (at : ℕ) (T U : Tables) (same : (r : Record) → classNumber U r ≡ classNumber T r) (p : Passed 6 s at T) where
+module _ (s : List ℕ) (at : ℕ) (T U : Tables) (same : (r : Record) → classNumber U r ≡ classNumber T r) (p : BehindRecords 6 s at T) where
   left-record : at < length s → (x : RecordAnswer) → recordAt s at ≡ x → (readFrom s at T ≡ refused (outOfOrder U x)) × (outOfOrder U x ≡ 0 → ⊥)
   left-record more (a.Refused k) e = (from-refused s at T more k e, some-refusal k (record-refusal s at k e))
   left-record more (a.Read r) e =
@@ -254,7 +254,7 @@ module _ (s : List ℕ) {b : Bool} (h : b ≡ sized (length s)) (n : not b ≡ f
   pub tables-own : {x : OwnAnswer} {own : ℕ} {d : Decoded} → x ≡ firstRecord (recordAt s 0) → x ≡ o.Read own → Decodes s 3 (withoutPairs own [] [] []) d → (outcomeOf d ≡ readTables s) × Housed (d .house)
   tables-own {x} {own} e q w = (w .same ∙ sym (inside ∙ first-own s own some-bytes (sym q ∙ e)), w .housed)
 
-  pub passed-first : {x : OwnAnswer} {own : ℕ} → x ≡ firstRecord (recordAt s 0) → x ≡ o.Read own → Passed 1 s 3 (withoutPairs own [] [] [])
+  pub passed-first : {x : OwnAnswer} {own : ℕ} → x ≡ firstRecord (recordAt s 0) → x ≡ o.Read own → BehindRecords 1 s 3 (withoutPairs own [] [] [])
   passed-first {x} {own} e q = passed-own s own some-bytes (sym q ∙ e)
 
 -- the number of decoded tables

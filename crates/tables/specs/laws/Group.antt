@@ -81,6 +81,7 @@ module _ {A : Type 0} (before : A → A → Bool) where
       and-false : (b : Bool) → b && false ≡ false
       and-false true = refl
       and-false false = refl
+
       go : (x : A) (b : Bool) → before c x ≡ b → all (λ y. before y x) L && before c x ≡ before c x
       go x true e = ap (λ (b : Bool). b && before c x) (all-chain chain L c x h e)
       go x false e = ap (λ (b : Bool). all (λ y. before y x) L && b) e ∙ (and-false (all (λ y. before y x) L) ∙ sym e)
@@ -317,6 +318,7 @@ module _ {A : Type 0} {G : Group A} {num : A → ℕ} {s : List ℕ} {start : �
           pick r h (some y) p q =
               let t = judged-stop (number y) y k q in
               gone-judged l y (h ∙ ap a.Read (l .picked r y p)) k (resized y k (t .0)) (t .1)
+
           go : (r : RecordAnswer) → recordAt s at ≡ r → stepOf G number r ≡ stop k → Gone G num s start L k at
           go (a.Refused m) h q = let z : m ≡ k = cc in gone-refused k (some-refusal k (record-refusal s at k (h ∙ ap a.Refused z))) (h ∙ ap a.Refused z)
           go (a.Read r) h q = pick r h (G .pick r) refl q

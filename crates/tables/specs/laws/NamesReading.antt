@@ -29,6 +29,7 @@ all-at t (suc n) g h i l = go (eqb i n) refl (λ k. all-at t n g (b .0) i k)
   where
     b : (all t (upTo n g) ≡ true) × (t (g n) ≡ true)
     b = and-parts (all t (upTo n g)) (t (g n)) (sym (all-append t (upTo n g) (g n)) ∙ h)
+
     go : (s : Bool) → eqb i n ≡ s → (i < n → t (g i) ≡ true) → t (g i) ≡ true
     go true e ih = ap (λ (j : ℕ). t (g j)) (eqb-true i n e) ∙ b .1
     go false e ih = ih (omega (arith, eqb-false i n e))

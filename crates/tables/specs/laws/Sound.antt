@@ -125,8 +125,8 @@ sound-accepted T k l =
     ∙ from-past s (g .to) T (omega (arith, size-there s (g .to) (g .inside) [] (g .there)))
 
 -- bytes are accepted exactly where they are those of sound tables, and not too many
-pub accepted-exactly : (s : List ℕ) (T : Tables) → ((i : ℕ) → getD s i 0 < 256) → (readTables s ≡ accepted T) ↔ (Sound T × (s ≡ tablesBytes T) × (length s ≤ MOST-TABLES-BYTES))
-accepted-exactly s T bytes = (
+pub tables-exactly : (s : List ℕ) (T : Tables) → ((i : ℕ) → getD s i 0 < 256) → (readTables s ≡ accepted T) ↔ (Sound T × (s ≡ tablesBytes T) × (length s ≤ MOST-TABLES-BYTES))
+tables-exactly s T bytes = (
   λ h. (accepted-sound s T h, accepted-bytes s T bytes h, accepted-length s T h .1),
   λ w. ap readTables (w .1) ∙ sound-accepted T (w .0) (subst (λ (t : List ℕ). length t ≤ MOST-TABLES-BYTES) (w .1) (w .2)),
 )

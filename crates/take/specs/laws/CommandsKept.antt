@@ -135,6 +135,7 @@ module _ (ns : List Name) (m : List ℕ) (S : State) (side : S .header .side ≡
       by-number : (c : Command) → commandAt m at ≡ Read c → (k : ℕ) → legalNumber ns 0 S c ≡ k → judged k (cond (isEnd c) (accepted (S, v)) (commandsFrom f ns 0 m (at + sizeOf c) (stepped S 0 c) (v || isMove c))) ≡ accepted (T, w) → Led ns S v T w × (w ≡ true)
       by-number c e zero l q = let o = fresh-open ns 0 S (eq-eqb (length (S .nodes)) 0 no-node) c l in subst (Behind f at v T w) (sym (o .1)) (behind-open f at v T w (o .0)) e l q
       by-number c e (suc k) l q = absurd (false-true (ap isAccepted q))
+
       by-answer : (a : CommandAnswer) → commandAt m at ≡ a → onCommand (λ size U x. commandsFrom f ns 0 m (at + size) U x) ns 0 S v a ≡ accepted (T, w) → Led ns S v T w × (w ≡ true)
       by-answer (Refused k) e q = absurd (false-true (ap isAccepted q))
       by-answer (Read c) e q = by-number c e (legalNumber ns 0 S c) refl q

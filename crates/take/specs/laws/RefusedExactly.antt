@@ -36,12 +36,11 @@ use Rattle.legal.specs.Number.{refuse, first, showNumber, openNumber, markNumbe
 use Rattle.legal.specs.Legal.{Legal}
 use Rattle.legal.specs.laws.Exact.{legal-exactly}
 use Rattle.take.specs.Commands as C
-use Rattle.message.specs.Message.{isEnd}
+use Rattle.message.specs.Message.{isEnd, bytesOf}
 use Rattle.take.specs.laws.Commands.{refusalOf}
 use Rattle.standing.specs.Turn.{sends, senderTo}
 use Rattle.take.specs.Take.{behindCommands, takenIn, behindStanding, messageSize, takeOf}
-use Rattle.message.specs.Message.{bytesOf}
-use Rattle.legal.specs.Updates.{Updates, none, next, Wrong, unreadable, illegal, Stops}
+use Rattle.legal.specs.Updates.{Updates, none, next, Wrong, unreadable, illegal, RefusedAt}
 use Rattle.take.specs.Call.{Stands, InTurn, Refusal, size, unrestored, ended, out-of-turn, stopped}
 use Rattle.take.specs.laws.TakenExactly.{taken-one, take-ended, take-out-of-turn, take-commands}
 use Rattle.numbers.specs.Answer.{Answer, refused, accepted, judged}
@@ -124,7 +123,7 @@ module _ (ns : List Name) (s : ℕ) (m : List ℕ) where
     rest-all (suc f) at S v l h = rest-answer f (rest-all f) at S v l (commandAt m at) refl h
 
     -- the commands of a message are refused exactly where one of them is, those before it being legal
-    pub stops-exactly : (S : State) → (C.commandsFrom (length m) ns s m 0 S false ≡ refused k → Stops ns s m S k) × (Stops ns s m S k → C.commandsFrom (length m) ns s m 0 S false ≡ refused k)
+    pub stops-exactly : (S : State) → (C.commandsFrom (length m) ns s m 0 S false ≡ refused k → RefusedAt ns s m S k) × (RefusedAt ns s m S k → C.commandsFrom (length m) ns s m 0 S false ≡ refused k)
     stops-exactly S = (
       λ h.
           let r = rest-all (length m) 0 S false (omega arith) h in
@@ -175,8 +174,8 @@ module _ (tables negotiation message scratch : List ℕ) (bytes : (i : ℕ) → 
   refuses (stopped {T} {S} h t r) = take-commands tables negotiation message scratch T S h t ∙ ap behindCommands (stops-exactly (T .names) (senderTo S) message bytes k S .1 r)
 
   -- a call is refused with k exactly where one of the reasons holds
-  pub refused-exactly : (takeOf tables negotiation message scratch ≡ refused k → Refusal tables negotiation message scratch k) × (Refusal tables negotiation message scratch k → takeOf tables negotiation message scratch ≡ refused k)
-  refused-exactly = (reason, refuses)
+  pub take-refused-exactly : (takeOf tables negotiation message scratch ≡ refused k → Refusal tables negotiation message scratch k) × (Refusal tables negotiation message scratch k → takeOf tables negotiation message scratch ≡ refused k)
+  take-refused-exactly = (reason, refuses)
 
 -- Numbers
 
@@ -255,7 +254,7 @@ module _ (tables negotiation : List ℕ) (k : ℕ) where
 module _ (tables negotiation message scratch : List ℕ) (bytes : (i : ℕ) → getD message i 0 < 256) where
   -- 22 is given to a negotiation that has ended, and to no other
   pub ended-only : takeOf tables negotiation message scratch ≡ refused 22 → (T : Tables) × (S : State) × Stands tables negotiation message scratch T S × (S .header .end ≡ 0 → ⊥)
-  ended-only q = go (refused-exactly tables negotiation message scratch bytes 22 .0 q)
+  ended-only q = go (take-refused-exactly tables negotiation message scratch bytes 22 .0 q)
     where
       go : Refusal tables negotiation message scratch 22 → (T : Tables) × (S : State) × Stands tables negotiation message scratch T S × (S .header .end ≡ 0 → ⊥)
       go (size h e) = absurd (omega (arith, e))
@@ -266,7 +265,7 @@ module _ (tables negotiation message scratch : List ℕ) (bytes : (i : ℕ) → 
 
   -- 21 to a message out of turn, and to no other
   pub turn-only : takeOf tables negotiation message scratch ≡ refused 21 → (T : Tables) × (S : State) × Stands tables negotiation message scratch T S × (S .header .end ≡ 0) × (sends (senderTo S) (S .header .messages) ≡ false)
-  turn-only q = go (refused-exactly tables negotiation message scratch bytes 21 .0 q)
+  turn-only q = go (take-refused-exactly tables negotiation message scratch bytes 21 .0 q)
     where
       go : Refusal tables negotiation message scratch 21 → (T : Tables) × (S : State) × Stands tables negotiation message scratch T S × (S .header .end ≡ 0) × (sends (senderTo S) (S .header .messages) ≡ false)
       go (size h e) = absurd (omega (arith, e))
@@ -277,7 +276,7 @@ module _ (tables negotiation message scratch : List ℕ) (bytes : (i : ℕ) → 
 
   -- 20 to a negotiation that is damaged, and to no other
   pub damaged-only : takeOf tables negotiation message scratch ≡ refused 20 → R.restoreOf tables negotiation ≡ refused 20
-  damaged-only q = go (refused-exactly tables negotiation message scratch bytes 20 .0 q)
+  damaged-only q = go (take-refused-exactly tables negotiation message scratch bytes 20 .0 q)
     where
       go : Refusal tables negotiation message scratch 20 → R.restoreOf tables negotiation ≡ refused 20
       go (size h e) = absurd (omega (arith, e))
@@ -288,7 +287,7 @@ module _ (tables negotiation message scratch : List ℕ) (bytes : (i : ℕ) → 
 
   -- 1 to a length: the message's or the scratch's, the negotiation's, the tables'
   pub length-only : takeOf tables negotiation message scratch ≡ refused 1 → (messageSize (length message) (length scratch) ≡ false) ⊎ ((length negotiation ≡ 5120 → ⊥) ⊎ (readTables tables ≡ refused 1))
-  length-only q = go (refused-exactly tables negotiation message scratch bytes 1 .0 q)
+  length-only q = go (take-refused-exactly tables negotiation message scratch bytes 1 .0 q)
     where
       go : Refusal tables negotiation message scratch 1 → (messageSize (length message) (length scratch) ≡ false) ⊎ ((length negotiation ≡ 5120 → ⊥) ⊎ (readTables tables ≡ refused 1))
       go (size h e) = inl h

@@ -13,7 +13,7 @@ use Rattle.negotiation.specs.Ends.{otherSide}
 use Rattle.applied.specs.After.{afterMessage}
 use Rattle.take.specs.declared.Taking.{Taking}
 use Rattle.take.specs.Commands as C
-use Rattle.take.specs.laws.Commands.{takenOf}
+use Rattle.take.specs.laws.Commands.{takenOf, Room}
 use native.Mathlib.Omega.{arith}
 use mathlib.Core.Path.{_≡_, refl, sym, _∙_, ap, subst}
 use mathlib.Core.Logic.{⊎-elim}
@@ -33,7 +33,6 @@ use Rattle.negotiation.specs.laws.Layout.{paste-whole, length-zeros}
 use Rattle.standing.specs.declared.Restored.{Restored}
 use Rattle.damage.specs.Damage.{sound}
 use Rattle.damage.specs.laws.Damage.{held-nodes}
-use Rattle.take.specs.laws.Commands.{Room}
 use Rattle.take.specs.laws.CommandsKept.{Led}
 use Rattle.damage.specs.laws.Going.{sound-count}
 use Rattle.take.specs.laws.TakeKept.{turn-led, led-edges}

@@ -12,7 +12,7 @@ use Rattle.word.specs.laws.Bools.{false-true}
 use Rattle.propagation.specs.laws.Flags.{decided}
 use Rattle.class.specs.declared.Name.{Name}
 use Rattle.graph.specs.laws.Graph.{nodesOf, edgesOf}
-use Rattle.graph.specs.Propagated.{stateOf as propagated}
+use Rattle.graph.specs.Propagated.{propagatedState as propagated}
 use Rattle.states.specs.laws.Brings.{EdgesFormed}
 use Rattle.tables.specs.Tables.{Tables}
 use Rattle.negotiation.specs.declared.Header.{Header}
@@ -82,9 +82,11 @@ took m T S A h = by-end (eqb (S .header .end) 0) refl h
     by-commands : S .header .end ≡ 0 → sends (senderTo S) (S .header .messages) ≡ true → (t : Answer (State × Bool)) → C.commandsFrom (length m) (T .names) (senderTo S) m 0 S false ≡ t → behindCommands t ≡ accepted A → Took m T S A
     by-commands x y (refused k) e q = absurd (false-true (ap isAccepted q))
     by-commands x y (accepted (U, moved)) e q = record { going = x; turn = y; led = U; moved = moved; commands = e; after = sym (ap (valueOr S) q) }
+
     by-turn : S .header .end ≡ 0 → (b : Bool) → sends (senderTo S) (S .header .messages) ≡ b → cond (not b) (refused 21) (behindCommands (C.commandsFrom (length m) (T .names) (senderTo S) m 0 S false)) ≡ accepted A → Took m T S A
     by-turn x true e q = by-commands x e (C.commandsFrom (length m) (T .names) (senderTo S) m 0 S false) refl q
     by-turn x false e q = absurd (false-true (ap isAccepted q))
+
     by-end : (b : Bool) → eqb (S .header .end) 0 ≡ b → cond (not b) (refused 22) (cond (not (sends (senderTo S) (S .header .messages))) (refused 21) (behindCommands (C.commandsFrom (length m) (T .names) (senderTo S) m 0 S false))) ≡ accepted A → Took m T S A
     by-end true e q = by-turn (eqb-true (S .header .end) 0 e) (sends (senderTo S) (S .header .messages)) refl q
     by-end false e q = absurd (false-true (ap isAccepted q))

@@ -25,10 +25,9 @@ use Rattle.applied.specs.After.{afterMessage}
 use Rattle.legal.specs.Legal.{Legal}
 use Rattle.legal.specs.laws.Exact.{legal-exactly}
 use Rattle.take.specs.Commands as C
-use Rattle.message.specs.Message.{isEnd}
+use Rattle.message.specs.Message.{isEnd, messageBytes}
 use Rattle.standing.specs.Turn.{sends, senderTo}
 use Rattle.take.specs.Take.{behindCommands, takenIn, behindStanding, messageSize, takeOf}
-use Rattle.message.specs.Message.{messageBytes}
 use Rattle.legal.specs.Updates.{Updates, none, next, Carries}
 use Rattle.take.specs.Call.{Stands, InTurn, Accepted}
 use Rattle.message.specs.laws.Command.{size-some}
@@ -199,10 +198,10 @@ module _ (tables negotiation message scratch : List ℕ) (A : State) where
   ready q = ready-size (messageSize (length message) (length scratch)) refl q
 
   -- a call accepts exactly where all stands, it is the sender's turn, and the message consists of legal commands and an end
-  pub accepted-exactly : ((i : ℕ) → getD message i 0 < 256)
+  pub take-exactly : ((i : ℕ) → getD message i 0 < 256)
       → (takeOf tables negotiation message scratch ≡ accepted A → (T : Tables) × (S : State) × Stands tables negotiation message scratch T S × InTurn S × Accepted T S message A)
       × (((T : Tables) × (S : State) × Stands tables negotiation message scratch T S × InTurn S × Accepted T S message A) → takeOf tables negotiation message scratch ≡ accepted A)
-  accepted-exactly bytes = (
+  take-exactly bytes = (
     λ q. let r = ready q in (r .0, r .1, r .2, r .3, taken-exactly tables negotiation message scratch (r .0) (r .1) (r .2) (r .3) bytes A .0 q),
     λ r. taken-exactly tables negotiation message scratch (r .0) (r .1) (r .2) (r .3) bytes A .1 (r .4),
   )

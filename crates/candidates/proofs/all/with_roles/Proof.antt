@@ -1,7 +1,7 @@
 use Rattle.candidates.specs.laws.All.{offerRoles, roles-skip, roles-taken}
 use Rattle.candidates.specs.laws.Skipped.{folded-skip}
 use Rattle.candidates.specs.laws.Offers.{folded, folded-start, folded-next, folded-all}
-use Rattle.moves.specs.Wanted.{isDone}
+use Rattle.moves.specs.Candidates.{isDone}
 use Rattle.graph.specs.laws.Graph.{nodesOf, edgesOf}
 use Rattle.propagation.specs.laws.Flags.{flag}
 use Rattle.rt0.specs.laws.Pool.{poolOf}

@@ -3,7 +3,7 @@ use native.Mathlib.Omega.{arith}
 use mathlib.Core.Path.{_≡_}
 use Rattle.rt0.specs.laws.Pool.{poolOf}
 use Rattle.graph.specs.laws.Graph.{nodesOf, edgesOf}
-use Rattle.moves.specs.Wanted.{isDone}
+use Rattle.moves.specs.Candidates.{isDone}
 use Rattle.candidates.specs.laws.Offers.{folded, offer, folded-start, folded-next, folded-all}
 use Rattle.candidates.specs.laws.Goals.{isNamedHead, headEdge}
 use Rattle.candidates.proofs.goals.with_heads.Statement.{statement}

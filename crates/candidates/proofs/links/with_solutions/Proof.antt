@@ -4,7 +4,7 @@ use mathlib.Core.Bool.{true}
 use mathlib.Core.Path.{_≡_}
 use borrow.Author.Needs.{needs}
 use Rattle.graph.specs.laws.Graph.{nodesOf, edgesOf}
-use Rattle.moves.specs.Wanted.{isDone}
+use Rattle.moves.specs.Candidates.{isDone}
 use Rattle.candidates.specs.laws.Offers.{folded, offer, folded-start, folded-next, folded-all}
 use Rattle.candidates.specs.laws.Skipped.{folded-skip}
 use Rattle.candidates.specs.laws.Links.{isSolution, isSolved, solvedEdge, solution-room, solved-here, solved-skip}

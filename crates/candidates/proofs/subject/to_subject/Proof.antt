@@ -1,13 +1,13 @@
-use Rattle.candidates.specs.laws.Subject.{aimed-subject, aimed-others}
+use Rattle.candidates.specs.laws.Subject.{subject-found, subject-others}
 use borrow.Author.Needs.{needs}
 use Rattle.candidates.proofs.subject.to_subject.Statement.{statement}
 use Rattle.candidates.proofs.subject.to_subject.Tie as tie
 
 returns : tie.Need-returns
-returns c = aimed-subject _ _ (c .before .before .before .before .before .before .before .before .before .reached .ensures) (c .before .before .before .has-subject .ensures) (c .before .before .if1 .taken) (c .before .child-for .ensures) (c .better .ensures)
+returns c = subject-found _ _ (c .before .before .before .before .before .before .before .before .before .reached .ensures) (c .before .before .before .has-subject .ensures) (c .before .before .if1 .taken) (c .before .child-for .ensures) (c .better .ensures)
 
 returns-2 : tie.Need-returns-2
-returns-2 c = aimed-others _ _ (c .before .before .before .before .before .before .before .before .before .before .before .before .before .reached .ensures) (c .before .before .before .before .before .before .before .has-subject .ensures) (c .before .before .before .before .before .before .if1 .left) (c .with-members .ensures)
+returns-2 c = subject-others _ _ (c .before .before .before .before .before .before .before .before .before .before .before .before .before .reached .ensures) (c .before .before .before .before .before .before .before .has-subject .ensures) (c .before .before .before .before .before .before .if1 .left) (c .with-members .ensures)
 
 pub to-subject-spec : {M : Type 1} → statement M
 to-subject-spec =

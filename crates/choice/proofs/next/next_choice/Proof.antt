@@ -8,12 +8,12 @@ use Rattle.negotiation.specs.laws.State.{stateOf}
 use Rattle.negotiation.specs.laws.Within.{within-few}
 use Rattle.moves.specs.Rules.{endIn}
 use Rattle.choice.specs.laws.Ready.{ready-of}
-use Rattle.choice.specs.laws.Next.{Passed, passed-start, passed-next, passed-skip, found-here, found-nothing}
+use Rattle.choice.specs.laws.Next.{NothingBefore, nothing-start, nothing-next, nothing-skip, found-here, found-nothing}
 use Rattle.choice.proofs.next.next_choice.Statement.{statement}
 use Rattle.choice.proofs.next.next_choice.Tie as tie
 
 abbrev Inv-loop : tie.InvT-loop
-Inv-loop own n states passed rests h nodes count i₀ i = Passed (endIn (tablesOf (own .house)) (stateOf n)) i × (i ≤ nodes .count)
+Inv-loop own n states passed rests h nodes count i₀ i = NothingBefore (endIn (tablesOf (own .house)) (stateOf n)) i × (i ≤ nodes .count)
 
 abbrev μ-loop : tie.MeasureT-loop
 μ-loop own n states passed rests h nodes count i₀ i = nodes .count - i
@@ -22,7 +22,7 @@ next-open-requires : tie.Need-next-open-requires Inv-loop μ-loop
 next-open-requires c κs = (within-few _ (c .before .before .before .before .before .before .pre .1) .0, omega arith)
 
 loop-holds : tie.Need-loop-holds Inv-loop μ-loop
-loop-holds c = let s = c .before .before .before .before .before .before .before in (passed-skip (tablesOf (s .args .own .house)) (s .args .n) (s .pre .7) (passed-start _) (c .next-open .ensures), c .next-open .ensures .within)
+loop-holds c = let s = c .before .before .before .before .before .before .before in (nothing-skip (tablesOf (s .args .own .house)) (s .args .n) (s .pre .7) (nothing-start _) (c .next-open .ensures), c .next-open .ensures .within)
 
 cast-node : tie.Need-cast-node Inv-loop μ-loop
 cast-node c = omega (arith, c .loop-test .taken, within-few _ (c .before .before .before .before .before .before .before .before .before .pre .1) .0)
@@ -48,11 +48,11 @@ loop-less c = let s = c .next-open2 .ensures in omega (arith, s .from, s .within
 
 loop-again : tie.Need-loop-again Inv-loop μ-loop
 unfolding endIn stateOf
-loop-again c = let s = c .before .before .before .before .before .before .before .before .before .before .before .before .before .before .before .before .before .before in (passed-skip (tablesOf (s .args .own .house)) (s .args .n) (s .pre .7) (passed-next (endIn (tablesOf (s .args .own .house)) (stateOf (s .args .n))) (c .before .before .before .before .before .before .before .before .before .before .loop .inv .0) (c .before .before .before .before .before .before .before .before .node-of .ensures) (c .before .before .before .before .before .before .before .choice-at .ensures) (c .before .before .before .before .before .before .is-nothing .ensures) (c .before .before .before .before .before .if1 .left)) (c .next-open2 .ensures), c .next-open2 .ensures .within)
+loop-again c = let s = c .before .before .before .before .before .before .before .before .before .before .before .before .before .before .before .before .before .before in (nothing-skip (tablesOf (s .args .own .house)) (s .args .n) (s .pre .7) (nothing-next (endIn (tablesOf (s .args .own .house)) (stateOf (s .args .n))) (c .before .before .before .before .before .before .before .before .before .before .loop .inv .0) (c .before .before .before .before .before .before .before .before .node-of .ensures) (c .before .before .before .before .before .before .before .choice-at .ensures) (c .before .before .before .before .before .before .is-nothing .ensures) (c .before .before .before .before .before .if1 .left)) (c .next-open2 .ensures), c .next-open2 .ensures .within)
 
 returns-2 : tie.Need-returns-2 Inv-loop μ-loop
 unfolding endIn stateOf
-returns-2 c = let s = c .before .before .before .before .before .before .before .before .before in (found-nothing (endIn (tablesOf (s .args .own .house)) (stateOf (s .args .n))) (c .before .loop .inv .0) (omega (arith, nodes-length (s .args .n .nodes), c .loop-test .left)), (s .pre .2, passed-start (endIn (tablesOf (s .args .own .house)) (stateOf (s .args .n)))))
+returns-2 c = let s = c .before .before .before .before .before .before .before .before .before in (found-nothing (endIn (tablesOf (s .args .own .house)) (stateOf (s .args .n))) (c .before .loop .inv .0) (omega (arith, nodes-length (s .args .n .nodes), c .loop-test .left)), (s .pre .2, nothing-start (endIn (tablesOf (s .args .own .house)) (stateOf (s .args .n)))))
 
 pub next-choice-spec : {M : Type 1} → statement M
 next-choice-spec =

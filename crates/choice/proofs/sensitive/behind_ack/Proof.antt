@@ -1,7 +1,7 @@
 use mathlib.Core.Path.{_∙_, ap}
 use Rattle.graph.specs.laws.Graph.{nodesOf, edgesOf}
 use Rattle.moves.specs.declared.Choice.{Choice}
-use Rattle.moves.specs.Wanted.{isDone}
+use Rattle.moves.specs.Candidates.{isDone}
 use Rattle.candidates.specs.laws.Least.{orElse}
 use Rattle.choice.specs.laws.Sensitive.{alone}
 use borrow.Author.Needs.{needs}

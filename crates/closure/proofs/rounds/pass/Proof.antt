@@ -2,7 +2,7 @@ use Prim.Native.Nat.{_-_}
 use mathlib.Core.Logic.{⊎-elim}
 use Rattle.closure.specs.laws.Rules.{rulesOf, bits, Within}
 use Rattle.closure.specs.laws.Words.{level}
-use Rattle.closure.specs.laws.Laws.{PassTo, pass-start, pass-more, pass-quiet, pass-all, level-start, level-grown}
+use Rattle.closure.specs.laws.Laws.{PassTo, pass-start, pass-more, pass-unchanged, pass-all, level-start, level-grown}
 use native.Mathlib.Omega.{arith}
 use Rattle.closure.proofs.rounds.pass.Statement.{statement}
 use Rattle.closure.proofs.rounds.pass.Tie as tie
@@ -23,7 +23,7 @@ add-added : tie.Need-add-added Inv-loop μ-loop
 add-added c = omega (arith, c .before .before .before .before .loop .inv .0 .few)
 
 loop-again : tie.Need-loop-again Inv-loop μ-loop
-loop-again c = (⊎-elim (λ w. rw (w .1) (pass-more (rulesOf _ _ _ _ _ _ _) _ _ _ (c .before .before .before .loop-test .taken) (w .0 .taken) (c .before .rule-below .ensures) (c .before .before .before .before .loop .inv .0))) (λ w. rw (w .1) (pass-quiet (rulesOf _ _ _ _ _ _ _) _ _ _ (c .before .before .before .loop-test .taken) (w .0 .left) (c .before .rule-below .ensures) (c .before .before .before .before .loop .inv .0))) (c .if1 .came), (level-grown _ _ (c .before .rule-below .ensures .grown) (c .before .before .before .before .loop .inv .1)))
+loop-again c = (⊎-elim (λ w. rw (w .1) (pass-more (rulesOf _ _ _ _ _ _ _) _ _ _ (c .before .before .before .loop-test .taken) (w .0 .taken) (c .before .rule-below .ensures) (c .before .before .before .before .loop .inv .0))) (λ w. rw (w .1) (pass-unchanged (rulesOf _ _ _ _ _ _ _) _ _ _ (c .before .before .before .loop-test .taken) (w .0 .left) (c .before .rule-below .ensures) (c .before .before .before .before .loop .inv .0))) (c .if1 .came), (level-grown _ _ (c .before .rule-below .ensures .grown) (c .before .before .before .before .loop .inv .1)))
 
 returns : tie.Need-returns Inv-loop μ-loop
 returns c = pass-all (rulesOf _ _ _ _ _ _ _) _ _ _ (c .loop-test .left) (c .before .loop .inv .0)

@@ -8,11 +8,11 @@ use Rattle.legal.proofs.asked.is_proved.Tie as tie
 returns : tie.Need-returns
 returns c = proves-none _ _ _ (c .before .is-implication .ensures) (c .if1 .taken)
 
-is-known-requires : tie.Need-is-known-requires
+is-known-requires : tie.Need-is-from-requires
 is-known-requires c κs = (c .before .before .before .before .pre .1 .knows) (sym (c .before .before .before .is-implication .ensures) ∙ not-false _ (c .before .before .if1 .left))
 
 returns-2 : tie.Need-returns-2
-returns-2 c = proves-asked _ _ _ _ _ (c .before .before .before .before .before .pre .1) (c .before .question-of .ensures) (c .is-known .ensures)
+returns-2 c = proves-asked _ _ _ _ _ (c .before .before .before .before .before .pre .1) (c .before .implication-of .ensures) (c .is-from .ensures)
 
 pub is-proved-spec : {M : Type 1} → statement M
 is-proved-spec =

@@ -2,12 +2,12 @@ use Prim.Native.Nat.{_-_}
 use native.Mathlib.Omega.{arith}
 use Rattle.rt0.specs.laws.Pool.{poolOf}
 use Rattle.needed.specs.laws.Flag.{pass-start, pass-next, pass-all}
-use Rattle.needed.specs.laws.Flags.{Passed}
+use Rattle.needed.specs.laws.Flags.{Swept}
 use Rattle.needed.proofs.asked.pass.Statement.{statement}
 use Rattle.needed.proofs.asked.pass.Tie as tie
 
 abbrev Inv-loop : tie.InvT-loop
-Inv-loop n heads kinds numbers flags₀ done₀ some₀ j₀ flags done some j = Passed (poolOf n heads kinds numbers) flags₀ flags done some j
+Inv-loop n heads kinds numbers flags₀ done₀ some₀ j₀ flags done some j = Swept (poolOf n heads kinds numbers) flags₀ flags done some j
 
 abbrev μ-loop : tie.MeasureT-loop
 μ-loop n heads kinds numbers flags₀ done₀ some₀ j₀ flags done some j = n - j

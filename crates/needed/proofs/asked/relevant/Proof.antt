@@ -5,12 +5,12 @@ use mathlib.Core.Path.{refl}
 use borrow.Author.Tests.{not-true}
 use Rattle.rt0.specs.laws.Pool.{poolOf}
 use Rattle.needed.specs.laws.Flag.{work-start, pass-start, pass-again, pass-closed, all-closed}
-use Rattle.needed.specs.laws.Flags.{Passed}
+use Rattle.needed.specs.laws.Flags.{Swept}
 use Rattle.needed.proofs.asked.relevant.Statement.{statement}
 use Rattle.needed.proofs.asked.relevant.Tie as tie
 
 abbrev Inv-loop : tie.InvT-loop
-Inv-loop n heads kinds numbers flags₀ done₀ k₀ flags done k = Passed (poolOf n heads kinds numbers) flags₀ flags done true 0
+Inv-loop n heads kinds numbers flags₀ done₀ k₀ flags done k = Swept (poolOf n heads kinds numbers) flags₀ flags done true 0
 
 abbrev μ-loop : tie.MeasureT-loop
 μ-loop n heads kinds numbers flags₀ done₀ k₀ flags done k = 129 - k

@@ -17,8 +17,8 @@ rules c = rulesOf (c .args .n) (c .args .words) (c .args .head .now) (c .args .p
 returns : tie.Need-returns
 returns c =
     column-of (pool (c .before .before .before .before .before .before)) (c .before .before .before .before .before .before .args .on .now) (c .before .before .before .before .before .before .pre .0) (c .before .before .before .before .before .before .args .mem .now) (c .before .before .before .before .before .before .pre .2) (c .before .before .before .before .before .before .args .e) (rules (c .before .before .before .before .before .before))
-    (rulesOf (c .before .before .before .before .before .before .args .n) 1 (c .before .before .before .before .before .before .args .head .now) (c .before .before .before .before .before .aim-parts .result) (c .before .before .before .before .before .before .args .first .now) (c .before .before .before .before .before .before .args .named .now) (c .before .before .before .before .before .before .args .src .now))
-    (c .before .before .before .before .before .before .pre .1) refl refl refl refl refl refl (c .before .before .before .before .before .aim-parts .ensures) _ _ (c .before .before .before .asked .ensures) (c .close .ensures)
+    (rulesOf (c .before .before .before .before .before .before .args .n) 1 (c .before .before .before .before .before .before .args .head .now) (c .before .before .before .before .before .asked-parts .result) (c .before .before .before .before .before .before .args .first .now) (c .before .before .before .before .before .before .args .named .now) (c .before .before .before .before .before .before .args .src .now))
+    (c .before .before .before .before .before .before .pre .1) refl refl refl refl refl refl (c .before .before .before .before .before .asked-parts .ensures) _ _ (c .before .before .before .asked .ensures) (c .close .ensures)
 
 pub rule-column-spec : {M : Type 1} → statement M
 rule-column-spec =

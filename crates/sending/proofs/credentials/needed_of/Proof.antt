@@ -1,7 +1,7 @@
 use Prim.Native.Nat.{ℕ}
 use lib.ListN.{length-replicate}
 use borrow.Author.Needs.{needs}
-use Rattle.sending.specs.laws.Part.{sends-part, sends-all}
+use Rattle.sending.specs.laws.Relevant.{sends-part, sends-all}
 use Rattle.sending.specs.laws.Behind.{behind-count}
 use Rattle.sending.proofs.credentials.needed_of.Statement.{statement}
 use Rattle.sending.proofs.credentials.needed_of.Tie as tie

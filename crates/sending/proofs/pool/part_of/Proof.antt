@@ -1,7 +1,7 @@
 use native.Mathlib.Omega.{arith}
 use mathlib.Core.Path.{refl}
 use borrow.Author.Needs.{needs}
-use Rattle.sending.specs.laws.Part.{part-is}
+use Rattle.sending.specs.laws.Relevant.{part-is}
 use Rattle.sending.proofs.pool.part_of.Statement.{statement}
 use Rattle.sending.proofs.pool.part_of.Tie as tie
 

@@ -1,5 +1,5 @@
 use borrow.Author.Needs.{needs}
-use Rattle.sending.specs.laws.Part.{flag-stored, flag-not}
+use Rattle.sending.specs.laws.Relevant.{flag-stored, flag-not}
 use Rattle.sending.proofs.pool.store_flagged.Statement.{statement}
 use Rattle.sending.proofs.pool.store_flagged.Tie as tie
 

@@ -1,7 +1,7 @@
 use Prim.Native.Nat.{_-_, _≤_}
 use native.Mathlib.Omega.{arith}
 use Rattle.rt0.specs.laws.Pool.{poolOf}
-use Rattle.sending.specs.laws.Part.{Selected, selected-start, selected-next, selected-all}
+use Rattle.sending.specs.laws.Relevant.{Selected, selected-start, selected-next, selected-all}
 use Rattle.sending.proofs.pool.store_range.Statement.{statement}
 use Rattle.sending.proofs.pool.store_range.Tie as tie
 

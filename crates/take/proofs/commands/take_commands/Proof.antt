@@ -1,6 +1,6 @@
 use Rattle.negotiation.specs.laws.Within.{within-few}
 use Rattle.legal.specs.laws.Room.{legal-room}
-use Rattle.take.specs.laws.Kept.{Keeps, keeps-start, current-left, current-made, current-by, known-for, keeps-next, moved-next}
+use Rattle.take.specs.laws.Progress.{Keeps, keeps-start, current-left, current-made, current-by, proved-for, keeps-next, moved-next}
 use Rattle.take.specs.laws.Commands.{Reading, stop-left, reading-start, reading-past, reading-unread, reading-stop, reading-next, reading-room}
 use Prim.Native.Nat.{_-_}
 use mathlib.Core.Path.{sym, _∙_}
@@ -19,19 +19,19 @@ abbrev μ-loop : tie.MeasureT-loop
 μ-loop names sender message n₀ known₀ kept₀ at₀ n known kept at = length message - at
 
 loop-holds : tie.Need-loop-holds Inv-loop μ-loop
-loop-holds c = (reading-start _ _ _ _ (c .nothing-kept .ensures .0) (c .before .before .before .pre .2) (c .before .before .before .pre .3), keeps-start _ _ _ (c .nothing-kept .ensures .1) (c .nothing-kept .ensures .2))
+loop-holds c = (reading-start _ _ _ _ (c .no-progress .ensures .0) (c .before .before .before .pre .2) (c .before .before .before .pre .3), keeps-start _ _ _ (c .no-progress .ensures .1) (c .no-progress .ensures .2))
 
 returns : tie.Need-returns Inv-loop μ-loop
 returns c = reading-unread _ _ _ (c .before .before .before .before .before .before .loop .inv .0) (c .before .before .before .before .before .loop-test .taken) (c .before .before .before .before .command-at .ensures) _ (c .before .before .enum-told .given .1) (c .before .refusal-of .ensures) (c .taking .ensures .0)
 
-known-of-requires : tie.Need-known-of-requires Inv-loop μ-loop
+known-of-requires : tie.Need-proved-by-requires Inv-loop μ-loop
 known-of-requires c κs = omega (arith, within-few _ (c .before .before .before .before .before .before .before .before .loop .inv .0 .sizes) .2)
 
 ready-requires : tie.Need-ready-requires Inv-loop μ-loop
 ready-requires c κs = ((c .before .before .before .before .before .before .before .before .loop .inv .0 .sizes), (c .before .before .before .before .before .before .before .before .loop .inv .0 .formed), (c .before .before .before .before .before .before .before .before .loop .inv .1 .settled))
 
 is-proved-requires : tie.Need-is-proved-requires Inv-loop μ-loop
-is-proved-requires c κs = (within-few _ (c .before .before .before .before .before .before .before .before .before .before .before .before .before .before .before .before .before .before .before .before .loop .inv .0 .sizes) .0, known-for _ _ _ _ (current-by (c .before .before .before .before .before .before .before .before .before .before .before .before .if1 .known) (c .before .before .before .before .before .before .before .before .before .before .before .before .before .before .before .before .before .before .before .before .loop .kept .stale) (c .before .before .before .before .before .before .before .before .before .before .before .before .before .before .before .before .a .given .0 .0) (c .before .before .before .before .before .before .before .before .before .before .before .before .before .before .before .before .before .before .before .before .loop .n .shown) (λ w. current-made _ _ _ _ _ (w .1 .ensures .0) (w .1 .ensures .1) (w .2)) (λ w. current-left _ _ _ _ _ (c .before .before .before .before .before .before .before .before .before .before .before .before .before .before .before .before .before .before .before .before .loop .inv .1 .current) (c .before .before .before .before .before .before .before .before .before .before .before .before .before .before .is-implication .ensures) (w .0 .left) (w .1)) (c .before .before .before .before .before .before .before .before .before .before .before .before .if1 .came)))
+is-proved-requires c κs = (within-few _ (c .before .before .before .before .before .before .before .before .before .before .before .before .before .before .before .before .before .before .before .before .loop .inv .0 .sizes) .0, proved-for _ _ _ _ (current-by (c .before .before .before .before .before .before .before .before .before .before .before .before .if1 .known) (c .before .before .before .before .before .before .before .before .before .before .before .before .before .before .before .before .before .before .before .before .loop .kept .stale) (c .before .before .before .before .before .before .before .before .before .before .before .before .before .before .before .before .a .given .0 .0) (c .before .before .before .before .before .before .before .before .before .before .before .before .before .before .before .before .before .before .before .before .loop .n .shown) (λ w. current-made _ _ _ _ _ (w .1 .ensures .0) (w .1 .ensures .1) (w .2)) (λ w. current-left _ _ _ _ _ (c .before .before .before .before .before .before .before .before .before .before .before .before .before .before .before .before .before .before .before .before .loop .inv .1 .current) (c .before .before .before .before .before .before .before .before .before .before .before .before .before .before .is-implication .ensures) (w .0 .left) (w .1)) (c .before .before .before .before .before .before .before .before .before .before .before .before .if1 .came)))
 
 judge-requires : tie.Need-judge-requires Inv-loop μ-loop
 judge-requires c κs = ((c .before .before .before .before .before .before .before .before .before .before .before .before .before .before .before .before .before .before .before .before .before .before .before .before .before .before .before .pre .0), (c .before .before .before .before .before .before .before .before .before .before .before .before .before .before .before .before .before .before .before .before .before .before .before .before .before .before .before .pre .1), (c .before .before .before .before .before .before .before .before .before .before .before .before .before .before .before .before .before .before .before .before .before .before .before .loop .inv .0 .sizes), (c .before .before .is-proved .ensures), (c .before .before .before .before .before .before .before .before .before .before .before .before .before .before .ready .ensures .says))

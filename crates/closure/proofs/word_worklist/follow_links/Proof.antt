@@ -1,0 +1,54 @@
+use Rattle.closure.specs.laws.Rules.{rulesOf}
+use Rattle.closure.specs.laws.Laws.{grow-start, links-grown}
+use native.Mathlib.Omega.{arith}
+use Rattle.closure.proofs.word_worklist.follow_links.Statement.{statement}
+use Rattle.closure.proofs.word_worklist.follow_links.Tie as tie
+
+returns : tie.Need-returns
+returns c = grow-start (rulesOf _ _ _ _ _ _ _) _ _ _ _ (c .before .pre .3)
+
+returns-2 : tie.Need-returns-2
+returns-2 c = grow-start (rulesOf _ _ _ _ _ _ _) _ _ _ _ (c .before .before .before .pre .3)
+
+mul-at-2 : tie.Need-mul-at-2
+mul-at-2 c = omega (arith, c .before .before .before .before .pre .2 .head .under (c .before .before .before .before .args .i))
+
+mul-old : tie.Need-mul-old
+mul-old c = omega (arith, c .before .before .before .before .pre .2 .head .under (c .before .before .before .before .args .i))
+
+element-copy-out-old : tie.Need-element-copy-out-old
+element-copy-out-old c = omega (arith, c .before .before .before .before .pre .2 .head .under (c .before .before .before .before .args .i), c .before .before .before .before .pre .3)
+
+gathered-requires : tie.Need-gathered-requires
+gathered-requires c κs = (c .before .before .before .before .before .before .before .before .pre .2 .first .under _, c .before .before .before .before .before .before .before .before .pre .2 .src)
+
+mul-rows : tie.Need-mul-rows
+mul-rows c = omega (arith, c .before .before .before .before .before .before .before .before .before .pre .2 .head .under (c .before .before .before .before .before .before .before .before .before .args .i))
+
+element-write-rows : tie.Need-element-write-rows
+element-write-rows c = omega (arith, c .before .before .before .before .before .before .before .before .before .pre .2 .head .under (c .before .before .before .before .before .before .before .before .before .args .i), c .before .before .before .before .before .before .before .before .before .pre .3)
+
+returns-3 : tie.Need-returns-3
+returns-3 c = links-grown (rulesOf _ _ _ _ _ _ _) _ _ _ _ _ (c .before .before .before .before .before .before .before .before .before .args .set) _ (c .before .before .before .before .before .before .before .before .before .pre .2) (c .before .before .before .before .before .before .before .before .before .pre .1) (c .before .before .before .before .before .before .before .before .before .pre .3) (c .before .before .before .before .before .before .before .before .if1 .left) (c .before .before .before .before .before .before .if2 .left) (c .gathered .ensures)
+
+pub follow-links-spec : {M : Type 1} → statement M
+follow-links-spec =
+    tie.close
+    (tie.spec
+    returns
+    (λ c. omega arith)
+    returns-2
+    (λ c. omega arith)
+    (λ c. omega arith)
+    mul-at-2
+    mul-old
+    element-copy-out-old
+    (λ c. omega arith)
+    (λ c. omega arith)
+    (λ c. omega arith)
+    (λ c. omega arith)
+    (λ c. omega arith)
+    gathered-requires
+    mul-rows
+    element-write-rows
+    returns-3)

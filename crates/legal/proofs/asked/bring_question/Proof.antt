@@ -1,9 +1,0 @@
-use borrow.Author.Needs.{needs}
-use Rattle.legal.proofs.asked.bring_question.Statement.{statement}
-use Rattle.legal.proofs.asked.bring_question.Tie as tie
-
-returns : tie.Need-returns
-returns c = λ i. record { parent = (c .node-in .ensures i) .expression; child = c .before .args .b .expression }
-
-pub bring-question-spec : {M : Type 1} → statement M
-bring-question-spec = tie.close (tie.spec (λ c κs. search needs) returns)

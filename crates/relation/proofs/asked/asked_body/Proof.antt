@@ -1,0 +1,40 @@
+use borrow.Author.Needs.{needs}
+use mathlib.Core.Path.{sym, _∙_, ap}
+use Rattle.rt0.specs.declared.Pool.{Pool}
+use Rattle.rt0.specs.laws.Pool.{poolOf}
+use Rattle.rules.specs.laws.Table.{rowOf, rowFor}
+use Rattle.rules.specs.laws.Columns.{fourRows}
+use Rattle.relation.specs.laws.QuestionLaws.{asked-heads, asked-entity, asked-link}
+use Rattle.relation.proofs.asked.asked_body.Statement.{statement}
+use Rattle.relation.proofs.asked.asked_body.Tie as tie
+
+abbrev pool : (c : tie.Start) → Pool
+pool c = poolOf (c .args .n) (c .args .heads .now) (c .args .kinds .now) (c .args .numbers .now)
+
+returns : tie.Need-returns
+returns c = asked-heads (pool (c .before .before .before .before .before)) (c .before .before .before .before .before .args .e) (c .before .before .before .before .before .args .i) (c .before .before .before .before .before .args .old) (c .before .before .before .before .before .pre .1) (c .if1 .taken)
+
+returns-2 : tie.Need-returns-2
+returns-2 c = asked-entity (pool (c .before .before .before .before .before .before .before)) (c .before .before .before .before .before .before .before .args .e) (c .before .before .before .before .before .before .before .args .i) (c .before .before .before .before .before .before .before .args .old) (c .before .before .before .before .before .before .before .pre .1) (c .if2 .taken)
+
+returns-3 : tie.Need-returns-3
+returns-3 c = asked-link (pool (c .before .before .before .before .before .before .before .before)) (c .before .before .before .before .before .before .before .before .args .e) (c .before .before .before .before .before .before .before .before .args .i) (c .before .before .before .before .before .before .before .before .args .old) (c .before .before .before .before .before .before .before .before .pre .1) (c .if3 .taken)
+
+aim-rows-requires : tie.Need-asked-row-rows-requires
+aim-rows-requires c κs = c .before .before .before .before .before .before .before .before .before .pre .1 ∙ ap (fourRows (rowOf (pool (c .before .before .before .before .before .before .before .before .before)))) (sym (c .body-at .ensures))
+
+returns-4 : tie.Need-returns-4
+returns-4 c = c .asked-rows .ensures ∙ ap (fourRows (rowFor (pool (c .before .before .before .before .before .before .before .before .before .before)) (c .before .before .before .before .before .before .before .before .before .before .args .e))) (c .before .body-at .ensures)
+
+pub asked-body-spec : {M : Type 1} → statement M
+asked-body-spec =
+    tie.close
+    (tie.spec
+    returns
+    (λ c. search needs)
+    (λ c. search needs)
+    returns-2
+    returns-3
+    (λ c κs. search needs)
+    aim-rows-requires
+    returns-4)

@@ -1,0 +1,38 @@
+use borrow.Author.Needs.{needs}
+use Rattle.rt0.specs.declared.Pool.{Pool}
+use Rattle.rt0.specs.laws.Pool.{poolOf}
+use Rattle.rules.specs.laws.Exact.{body-one}
+use Rattle.relation.specs.laws.QuestionLaws.{seed-none, seed-mark, body-bit}
+use Rattle.relation.proofs.direct.seed.Statement.{statement}
+use Rattle.relation.proofs.direct.seed.Tie as tie
+
+abbrev pool : (c : tie.Start) → Pool
+pool c = poolOf (c .args .n) (c .args .heads .now) (c .args .kinds .now) (c .args .numbers .now)
+
+returns : tie.Need-returns
+returns c = seed-none (pool (c .before .before)) (c .before .before .pre .0) (c .before .before .args .i) (c .before .before .args .rows .now) (c .before .before .pre .4) (c .if1 .taken)
+
+find-source-requires : tie.Need-find-source-requires
+find-source-requires c κs = (c .before .before .before .pre .0, c .before .before .before .pre .3)
+
+mark-requires : tie.Need-mark-requires
+mark-requires c κs = (c .before .before .before .before .before .before .pre .2 .under .under (c .before .before .before .before .before .before .args .i), body-bit (pool (c .before .before .before .before .before .before)) (c .before .before .before .before .before .before .pre .0) (c .before .before .before .before .before .before .args .i) _ (c .before .before .find-source .result) (c .before .before .before .before .before .before .pre .1) (body-one (pool (c .before .before .before .before .before .before)) (c .before .before .before .before .before .before .pre .0) (c .before .before .before .before .before .before .args .i) (c .before .before .before .before .if1 .left)) (c .before .before .find-source .ensures), c .before .before .before .before .before .before .pre .4)
+
+returns-2 : tie.Need-returns-2
+returns-2 c = seed-mark (pool (c .before .before .before .before .before .before .before)) (c .before .before .before .before .before .before .before .args .i) (c .before .before .before .before .before .before .before .args .rows .now) _ _ (c .before .before .before .find-source .result) _ (body-one (pool (c .before .before .before .before .before .before .before)) (c .before .before .before .before .before .before .before .pre .0) (c .before .before .before .before .before .before .before .args .i) (c .before .before .before .before .before .if1 .left)) (c .before .before .before .before .before .before .before .pre .2 .upto (c .before .before .before .before .before .before .before .args .i) (c .before .before .before .before .before .before .before .pre .1)) (c .before .before .before .find-source .ensures) (c .mark .ensures)
+
+pub seed-spec : {M : Type 1} → statement M
+seed-spec =
+    tie.close
+    (tie.spec
+    (λ c. search needs)
+    (λ c. search needs)
+    returns
+    (λ c. search needs)
+    (λ c. search needs)
+    (λ c. search needs)
+    find-source-requires
+    (λ c. search needs)
+    (λ c. search needs)
+    mark-requires
+    returns-2)

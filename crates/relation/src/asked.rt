@@ -1,0 +1,160 @@
+// Rows where an expression e is asked about: where e is a role that is no head, its row is 129.
+use expression::Expression;
+use expression::Role;
+use expression::same;
+use rt0::body_at;
+use rules::Four;
+use rules::fourth_of;
+use rules::row;
+use rules::third_of;
+ghost use mathlib.Core.Path.{_≡_};
+ghost use Prim.Native.Nat.{_<_, _≤_};
+ghost use Rattle.rt0.specs.laws.Pool.{poolOf, bodyAt};
+ghost use Rattle.rules.specs.laws.Table.{rowOf, rowFor};
+ghost use Rattle.rules.specs.laws.Columns.{fourRows, PartsTo};
+ghost use Rattle.relation.specs.laws.Question.{OwnRow};
+
+// The row of p where e is asked about; old is its row.
+fn asked_row<'a>(
+    n: usize,
+    heads: &'a [u16; 256],
+    kinds: &'a [u8; 256],
+    numbers: &'a [u16; 1024],
+    e: Expression,
+    p: Role,
+    old: usize,
+) -> usize
+    requires { ⌜ old ≡ rowOf (poolOf n (now heads) (now kinds) (now numbers)) p ⌝ }
+    ensures { λ r. ⌜ r ≡ rowFor (poolOf n (now (heads .entry)) (now (kinds .entry)) (now (numbers .entry))) e p ⌝ }
+{
+    if old != 128 {
+        return old;
+    }
+    if same(Expression::Role(p), e) {
+        return 129;
+    }
+    128
+}
+
+// The rows of the rule of x where e is asked about.
+fn asked_rows<'a>(
+    n: usize,
+    heads: &'a [u16; 256],
+    kinds: &'a [u8; 256],
+    numbers: &'a [u16; 1024],
+    e: Expression,
+    x: Expression,
+    old: Four,
+) -> Four
+    requires { ⌜ old ≡ fourRows (rowOf (poolOf n (now heads) (now kinds) (now numbers))) x ⌝ }
+    ensures { λ r. ⌜ r ≡ fourRows (rowFor (poolOf n (now (heads .entry)) (now (kinds .entry)) (now (numbers .entry))) e) x ⌝ }
+{
+    match x {
+        Expression::Entity(_) => old,
+        Expression::Role(p) => {
+            let r = asked_row(n, heads, kinds, numbers, e, p, old.a);
+            Four {
+                a: r,
+                b: r,
+                c: r,
+                d: r,
+            }
+        }
+        Expression::Linked(_, _) => old,
+        Expression::Intersection(p) => {
+            let a = asked_row(n, heads, kinds, numbers, e, p.first, old.a);
+            let b = asked_row(n, heads, kinds, numbers, e, p.second, old.b);
+            let c = asked_row(n, heads, kinds, numbers, e, third_of(p), old.c);
+            let d = asked_row(n, heads, kinds, numbers, e, fourth_of(p), old.d);
+            Four { a, b, c, d }
+        }
+        Expression::Goal(_) => old,
+    }
+}
+
+// The rows of the rule of body i where e is asked about. Only a role that is no head has another row.
+fn asked_body<'a>(
+    n: usize,
+    heads: &'a [u16; 256],
+    kinds: &'a [u8; 256],
+    numbers: &'a [u16; 1024],
+    e: Expression,
+    i: usize,
+    old: Four,
+) -> Four
+    requires { ⌜ (i < 128) × (old ≡ fourRows (rowOf (poolOf n (now heads) (now kinds) (now numbers))) (bodyAt (poolOf n (now heads) (now kinds) (now numbers)) i)) ⌝ }
+    ensures { λ r. ⌜ r ≡ fourRows (rowFor (poolOf n (now (heads .entry)) (now (kinds .entry)) (now (numbers .entry))) e) (bodyAt (poolOf n (now (heads .entry)) (now (kinds .entry)) (now (numbers .entry))) i) ⌝ }
+{
+    if (old.a != 128) & ((old.b != 128) & ((old.c != 128) & (old.d != 128))) {
+        return old;
+    }
+    let kind = kinds[i * 2];
+    if kind == 1 {
+        return old;
+    }
+    if kind == 3 {
+        return old;
+    }
+    let x = body_at(n, heads, kinds, numbers, i);
+    asked_rows(n, heads, kinds, numbers, e, x, old)
+}
+
+// The four rows of each rule where e is asked about.
+pub fn asked_parts<'a>(
+    n: usize,
+    heads: &'a [u16; 256],
+    kinds: &'a [u8; 256],
+    numbers: &'a [u16; 1024],
+    part: &'a [usize; 512],
+    e: Expression,
+) -> [usize; 512]
+    requires { ⌜ (n ≤ 128) × PartsTo (rowOf (poolOf n (now heads) (now kinds) (now numbers))) (poolOf n (now heads) (now kinds) (now numbers)) n (now part) ⌝ }
+    ensures { λ r. ⌜ PartsTo (rowFor (poolOf n (now (heads .entry)) (now (kinds .entry)) (now (numbers .entry))) e) (poolOf n (now (heads .entry)) (now (kinds .entry)) (now (numbers .entry))) n r ⌝ }
+{
+    let mut next = [128usize; 512];
+    let mut i = 0;
+    while i < n {
+        let at = i * 4;
+        let old = Four {
+            a: part[at],
+            b: part[at + 1],
+            c: part[at + 2],
+            d: part[at + 3],
+        };
+        let r = asked_body(n, heads, kinds, numbers, e, i, old);
+        next[at] = r.a;
+        next[at + 1] = r.b;
+        next[at + 2] = r.c;
+        next[at + 3] = r.d;
+        i += 1;
+    }
+    next
+}
+
+// The row of e itself.
+pub fn own_row<'a>(
+    n: usize,
+    heads: &'a [u16; 256],
+    kinds: &'a [u8; 256],
+    numbers: &'a [u16; 1024],
+    e: Expression,
+) -> usize
+    requires { ⌜ n ≤ 128 ⌝ }
+    ensures { λ r. ⌜ OwnRow (poolOf n (now (heads .entry)) (now (kinds .entry)) (now (numbers .entry))) e r ⌝ }
+{
+    match e {
+        Expression::Entity(_) => 129,
+        Expression::Role(q) => asked_row(
+            n,
+            heads,
+            kinds,
+            numbers,
+            e,
+            q,
+            row(n, heads, kinds, numbers, q),
+        ),
+        Expression::Linked(_, _) => 129,
+        Expression::Intersection(_) => 129,
+        Expression::Goal(_) => 129,
+    }
+}

@@ -1,0 +1,46 @@
+use borrow.Author.Needs.{needs}
+use Rattle.tables.specs.laws.DecodingLaws.{tables-outside, some-bytes, tables-refused, tables-own, passed-first, open-names, decodes-refused, decodes-on, passed-on}
+use Rattle.tables.specs.laws.Groups.{names}
+use Rattle.tables.specs.laws.NamesReading.{names-few}
+use Rattle.tables.specs.laws.BehindRecords.{names-ranked}
+use Rattle.tables.proofs.decode.decode.Statement.{statement}
+use Rattle.tables.proofs.decode.decode.Tie as tie
+
+returns : tie.Need-returns
+returns c = (tables-outside _ _ (c .before .before .sized .ensures) (c .before .if1 .taken) (c .refused .ensures .0), c .refused .ensures .1)
+
+own-of-requires : tie.Need-own-of-requires
+own-of-requires c κs = some-bytes (c .before .before .before .args .s .now) (c .before .sized .ensures) (c .if1 .left)
+
+returns-2 : tie.Need-returns-2
+unfolding names
+returns-2 c = tables-own _ (c .before .before .before .before .before .before .before .before .before .before .sized .ensures) (c .before .before .before .before .before .before .before .before .before .if1 .left) (c .before .before .before .before .before .before .before .before .own-of .ensures) (c .before .before .before .before .before .before .own .given .1) (decodes-refused (c .before .before .before .before .read-names .ensures .gone) (open-names _ ((passed-first _ (c .before .before .before .before .before .before .before .before .before .before .sized .ensures) (c .before .before .before .before .before .before .before .before .before .if1 .left) (c .before .before .before .before .before .before .before .before .own-of .ensures) (c .before .before .before .before .before .before .own .given .1)) .begun)) (c .before .if2 .taken) (c .refused3 .ensures .0) (c .refused3 .ensures .1))
+
+decode-stored-requires : tie.Need-decode-stored-requires
+unfolding names
+decode-stored-requires c κs = (names-few _ (c .before .before .before .read-names .ensures .gone .few), (c .before .before .before .read-names .ensures .ascending), passed-on (c .before .before .before .read-names .ensures .gone) (open-names _ ((passed-first _ (c .before .before .before .before .before .before .before .before .before .sized .ensures) (c .before .before .before .before .before .before .before .before .if1 .left) (c .before .before .before .before .before .before .before .own-of .ensures) (c .before .before .before .before .before .own .given .1)) .begun)) (c .if2 .left) names-ranked (passed-first _ (c .before .before .before .before .before .before .before .before .before .sized .ensures) (c .before .before .before .before .before .before .before .before .if1 .left) (c .before .before .before .before .before .before .before .own-of .ensures) (c .before .before .before .before .before .own .given .1)))
+
+returns-3 : tie.Need-returns-3
+returns-3 c = (tables-refused _ (c .before .before .before .before .before .before .sized .ensures) (c .before .before .before .before .before .if1 .left) _ (c .before .before .before .before .own-of .ensures) (c .before .before .k .given .1) (c .refused2 .ensures .0), c .refused2 .ensures .1)
+
+returns-4 : tie.Need-returns-4
+unfolding names
+returns-4 c = tables-own _ (c .before .before .before .before .before .before .before .before .before .before .sized .ensures) (c .before .before .before .before .before .before .before .before .before .if1 .left) (c .before .before .before .before .before .before .before .before .own-of .ensures) (c .before .before .before .before .before .before .own .given .1) (decodes-on (c .before .before .before .before .read-names .ensures .gone) (open-names _ ((passed-first _ (c .before .before .before .before .before .before .before .before .before .before .sized .ensures) (c .before .before .before .before .before .before .before .before .before .if1 .left) (c .before .before .before .before .before .before .before .before .own-of .ensures) (c .before .before .before .before .before .before .own .given .1)) .begun)) (c .before .if2 .left) (c .decode-stored .ensures))
+
+pub decode-spec : {M : Type 1} → statement M
+decode-spec =
+    tie.close
+    (tie.spec
+    (λ c κs. search needs)
+    (λ c κs. search needs)
+    returns
+    own-of-requires
+    (λ c. search needs)
+    (λ c κs. search needs)
+    (λ c. search needs)
+    (λ c κs. search needs)
+    (λ c κs. search needs)
+    returns-2
+    decode-stored-requires
+    returns-3
+    returns-4)

@@ -1,0 +1,35 @@
+use borrow.Author.Needs.{needs}
+use Rattle.tables.specs.laws.Groups.{credentialsOf}
+use Rattle.tables.specs.laws.StoredReading.{stored-few}
+use Rattle.tables.specs.laws.DecodingLaws.{open-issuer, open-subject, decodes-refused, decodes-on, passed-on}
+use Rattle.tables.specs.laws.BehindRecords.{issuer-ranked, subject-ranked}
+use Rattle.tables.proofs.decode.decode_stored.Statement.{statement}
+use Rattle.tables.proofs.decode.decode_stored.Tie as tie
+
+returns : tie.Need-returns
+returns c = decodes-refused (c .before .before .before .before .read-stored .ensures) (open-issuer _ (c .before .before .before .before .before .before .before .before .before .pre .2 .begun) _) (c .before .if1 .taken) (c .refused .ensures .0) (c .refused .ensures .1)
+
+returns-2 : tie.Need-returns-2
+unfolding credentialsOf
+returns-2 c = decodes-on (c .before .before .before .before .before .before .before .before .before .before .before .read-stored .ensures) (open-issuer _ (c .before .before .before .before .before .before .before .before .before .before .before .before .before .before .before .before .pre .2 .begun) _) (c .before .before .before .before .before .before .before .before .if1 .left) (decodes-refused (c .before .before .before .before .read-stored2 .ensures) (open-subject _ (c .before .before .before .before .before .before .before .before .before .before .before .before .before .before .before .before .pre .2 .begun) _ _) (c .before .if2 .taken) (c .refused2 .ensures .0) (c .refused2 .ensures .1))
+
+decode-pairs-requires : tie.Need-decode-pairs-requires
+unfolding credentialsOf
+decode-pairs-requires c κs = ((c .before .before .before .before .before .before .before .before .before .before .before .before .before .before .before .pre .0), (c .before .before .before .before .before .before .before .before .before .before .before .before .before .before .before .pre .1), stored-few _ (c .before .before .before .before .before .before .before .before .before .before .read-stored .ensures .few), stored-few _ (c .before .before .before .read-stored2 .ensures .few), (passed-on (c .before .before .before .read-stored2 .ensures) (open-subject _ (c .before .before .before .before .before .before .before .before .before .before .before .before .before .before .before .pre .2 .begun) _ _) (c .if2 .left) subject-ranked (passed-on (c .before .before .before .before .before .before .before .before .before .before .read-stored .ensures) (open-issuer _ (c .before .before .before .before .before .before .before .before .before .before .before .before .before .before .before .pre .2 .begun) _) (c .before .before .before .before .before .before .before .if1 .left) issuer-ranked (c .before .before .before .before .before .before .before .before .before .before .before .before .before .before .before .pre .2))))
+
+returns-3 : tie.Need-returns-3
+unfolding credentialsOf
+returns-3 c = decodes-on (c .before .before .before .before .before .before .before .before .before .before .before .read-stored .ensures) (open-issuer _ (c .before .before .before .before .before .before .before .before .before .before .before .before .before .before .before .before .pre .2 .begun) _) (c .before .before .before .before .before .before .before .before .if1 .left) (decodes-on (c .before .before .before .before .read-stored2 .ensures) (open-subject _ (c .before .before .before .before .before .before .before .before .before .before .before .before .before .before .before .before .pre .2 .begun) _ _) (c .before .if2 .left) (c .decode-pairs .ensures))
+
+pub decode-stored-spec : {M : Type 1} → statement M
+decode-stored-spec =
+    tie.close
+    (tie.spec
+    (λ c κs. search needs)
+    (λ c κs. search needs)
+    returns
+    (λ c κs. search needs)
+    (λ c κs. search needs)
+    returns-2
+    decode-pairs-requires
+    returns-3)
