@@ -25,7 +25,7 @@ ENGINE = target/staticlib/libengine.a
 LIB = build/lib/liblavutremo.a
 MEASURE = target/staticlib/libmeasure.a
 CRATES := crates.txt $(shell find crates)
-REFERENCE := $(wildcard reference/Cargo.* reference/build.rs reference/src/*.rs reference/src/bin/*.rs)
+REFERENCE := $(wildcard reference/Cargo.* reference/build.rs) $(shell find reference/src)
 BENCH := $(wildcard bench/Cargo.* bench/src/*.rs)
 
 export CARGO_TARGET_DIR = $(CURDIR)/build/cargo

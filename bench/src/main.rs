@@ -19,9 +19,10 @@ mod take;
 mod take_search;
 
 use engine::lavutremo_question;
-use reference::question::{self, Lent, Question};
-use reference::sample::{Random, World};
-use reference::shapes;
+use reference::random::Random;
+use reference::rules::question::{self, Lent, Question};
+use reference::rules::sample::World;
+use reference::rules::shapes;
 use std::env;
 use std::hint::black_box;
 use std::process::exit;

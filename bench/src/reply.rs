@@ -4,14 +4,14 @@
 //! A reply changes what it is lent, so each call has its own copy, which is made before the clock starts.
 
 use crate::engine::{lavutremo_begin, lavutremo_reply, lavutremo_report, lavutremo_take};
-use reference::calls::{Calls, Reference};
-use reference::classes::Class::{IssuerDef, SubjectAll};
-use reference::expression::{Credential, Expression, Role};
+use reference::ends::calls::{Calls, Reference};
+use reference::message::take::SCRATCH_BYTES;
 use reference::message::MOST_MESSAGE_BYTES;
 use reference::negotiation::{decode, NEGOTIATION_BYTES};
-use reference::records::{encode_record, Guard, Record};
-use reference::reply_large::{large_success, long_replies, Giving, WANTED};
-use reference::take::SCRATCH_BYTES;
+use reference::reply::large::{large_success, long_replies, Giving, WANTED};
+use reference::rules::classes::Class::{IssuerDef, SubjectAll};
+use reference::rules::expression::{Credential, Expression, Role};
+use reference::tables::records::{encode_record, Guard, Record};
 use std::process::exit;
 use std::time::Instant;
 

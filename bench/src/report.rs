@@ -2,14 +2,14 @@
 
 use crate::engine::lavutremo_report;
 use crate::{least, time};
-use reference::expression::Role;
+use reference::negotiation::large::large;
+use reference::negotiation::report;
+use reference::negotiation::sample::FULL_EXTENT;
+use reference::negotiation::shapes::{marked_case, Builder, Shaped};
 use reference::negotiation::*;
-use reference::negotiation_large::large;
-use reference::negotiation_sample::FULL_EXTENT;
-use reference::negotiation_shapes::{marked_case, Builder, Shaped};
-use reference::report;
-use reference::sample::Random;
-use reference::table_shapes::TABLE_SHAPES;
+use reference::random::Random;
+use reference::rules::expression::{Expression, Role};
+use reference::tables::shapes::TABLE_SHAPES;
 use std::process::exit;
 
 const RANDOM: usize = 15;
@@ -75,7 +75,7 @@ fn small() -> Vec<Shaped> {
     // These tables have the names from 2 on.
     let wanted = Role { entity: 1, name: 2 };
     full_tables.negotiation.wanted = wanted;
-    full_tables.negotiation.nodes[0].form = Form::Target(reference::expression::Expression::Role(wanted));
+    full_tables.negotiation.nodes[0].form = Form::Target(Expression::Role(wanted));
     vec![case, Builder::new(vec![]).finish("one node"), full_tables]
 }
 

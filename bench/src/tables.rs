@@ -2,10 +2,10 @@
 
 use crate::engine::lavutremo_check;
 use crate::time;
-use reference::sample::Random;
-use reference::table_sample::FULL;
-use reference::table_shapes::TABLE_SHAPES;
+use reference::random::Random;
 use reference::tables;
+use reference::tables::sample::FULL;
+use reference::tables::shapes::TABLE_SHAPES;
 use std::process::exit;
 
 /// What a check may cost, in microseconds.

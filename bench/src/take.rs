@@ -3,11 +3,11 @@
 //! A take changes what it is lent, so each call has its own copy, which is made before the clock starts.
 
 use crate::engine::lavutremo_take;
-use reference::message_writer::Run;
+use reference::message::large::{all_again, long_messages, onto_full};
+use reference::message::shapes::{marked_takes, size_runs};
+use reference::message::take::{self, Lent};
+use reference::message::writer::Run;
 use reference::negotiation::{decode, MOST_EDGES, MOST_NODES, MOST_SHOWN};
-use reference::take::{self, Lent};
-use reference::take_large::{all_again, long_messages, onto_full};
-use reference::take_shapes::{marked_takes, size_runs};
 use std::process::exit;
 use std::time::Instant;
 

@@ -13,11 +13,11 @@ mod takes;
 
 use engine::{lavutremo_check, lavutremo_question};
 use negotiations::ask_negotiations;
-use reference::question::{self, Lent};
-use reference::sample::Random;
-use reference::shapes;
-use reference::table_bytes::each_fault_of_each_size;
+use reference::random::Random;
+use reference::rules::question::{self, Lent};
+use reference::rules::shapes;
 use reference::tables;
+use reference::tables::bytes::each_fault_of_each_size;
 use replies::{ask_adversarial, ask_honest, ask_two_runs};
 use std::process::exit;
 use takes::ask_takes;

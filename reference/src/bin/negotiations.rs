@@ -2,13 +2,13 @@
 
 use crate::engine::{lavutremo_begin, lavutremo_report};
 use crate::{hex, Guarded};
-use reference::begin::begin;
-use reference::expression::Role;
-use reference::negotiation_bytes::{self, Lent};
-use reference::negotiation_counts::NegotiationCounts;
-use reference::negotiation_sample::Grown;
-use reference::report::{answer, judge};
-use reference::sample::Random;
+use reference::negotiation::begin::begin;
+use reference::negotiation::bytes::{self, Lent};
+use reference::negotiation::counts::NegotiationCounts;
+use reference::negotiation::report::{answer, judge};
+use reference::negotiation::sample::Grown;
+use reference::random::Random;
+use reference::rules::expression::Role;
 use std::collections::BTreeSet;
 
 /// Negotiations and what the calls on them answered.
@@ -125,8 +125,8 @@ pub fn ask_negotiations(seed: u64, count: u64) -> (u64, u64) {
         }
     }
     let mut changed_count = 0;
-    for lent in negotiation_bytes::some_small(&mut random) {
-        negotiation_bytes::each_byte(&lent, |changed| {
+    for lent in bytes::some_small(&mut random) {
+        bytes::each_byte(&lent, |changed| {
             all.report(&mut guards, changed);
             changed_count += 1;
         });

@@ -3,15 +3,15 @@
 
 use crate::engine::{lavutremo_begin, lavutremo_reply, lavutremo_report, lavutremo_take};
 use crate::{hex, Guarded};
-use reference::adversary::against_adversaries;
-use reference::calls::{Calls, Reference};
-use reference::expression::Role;
-use reference::leak::{Leak, LEAKS};
+use reference::ends::adversary::against_adversaries;
+use reference::ends::calls::{Calls, Reference};
+use reference::ends::two_ends::TwoEnds;
 use reference::message::MOST_MESSAGE_BYTES;
-use reference::sample::Random;
-use reference::two_ends::TwoEnds;
-use reference::two_runs::{compare, Outcome};
-use reference::two_runs_sample::TwoRuns;
+use reference::random::Random;
+use reference::reply::leak::{Leak, LEAKS};
+use reference::rules::expression::Role;
+use reference::runs::compare::{compare, Outcome};
+use reference::runs::sample::TwoRuns;
 
 /// The engine. Each buffer is lent with random bytes beside it.
 struct Engine {

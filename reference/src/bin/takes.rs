@@ -2,13 +2,13 @@
 
 use crate::engine::lavutremo_take;
 use crate::{hex, Guarded};
-use reference::message_bytes::many;
-use reference::message_writer::Run;
+use reference::message::bytes::many;
+use reference::message::counts::TakeCounts;
+use reference::message::shapes::{marked_takes, size_runs};
+use reference::message::take::{judge, Accepted, Lent, Refused};
+use reference::message::writer::Run;
 use reference::negotiation::encode;
-use reference::sample::Random;
-use reference::take::{judge, Accepted, Lent, Refused};
-use reference::take_counts::TakeCounts;
-use reference::take_shapes::{marked_takes, size_runs};
+use reference::random::Random;
 
 /// Takes and what they answered.
 #[derive(Default)]
