@@ -1,6 +1,5 @@
 //! Times reports on negotiations beside the reference's, in microseconds. All are sound, so that nothing is skipped.
 
-use crate::engine::lavutremo_report;
 use crate::{least, time};
 use reference::negotiation::large::large;
 use reference::negotiation::report;
@@ -16,8 +15,7 @@ const RANDOM: usize = 15;
 
 /// The engine's report on the primary.
 pub fn engine(tables: &[u8], negotiation: &[u8]) -> u64 {
-    // Each pointer goes with the length of what it points to.
-    unsafe { lavutremo_report(tables.as_ptr(), tables.len(), negotiation.as_ptr(), negotiation.len(), 0) }
+    engine::report(tables, negotiation, 0)
 }
 
 /// Ends the program if a report is refused or differs from the reference's.

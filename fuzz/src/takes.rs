@@ -1,7 +1,7 @@
 //! Takes, the engine's beside the reference's.
 
-use crate::engine::lavutremo_take;
 use crate::{hex, Guarded};
+use engine::lavutremo_take;
 use reference::message::bytes::many;
 use reference::message::counts::TakeCounts;
 use reference::message::shapes::{marked_takes, size_runs};

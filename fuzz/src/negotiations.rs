@@ -1,7 +1,7 @@
 //! Begins and reports, the engine's beside the reference's.
 
-use crate::engine::{lavutremo_begin, lavutremo_report};
 use crate::{hex, Guarded};
+use engine::{lavutremo_begin, lavutremo_report};
 use reference::negotiation::begin::begin;
 use reference::negotiation::bytes::{self, Lent};
 use reference::negotiation::counts::NegotiationCounts;

@@ -1,8 +1,8 @@
 //! Whole negotiations by the engine beside the reference: honest ones, ones against ends that do as they like, and the
 //! check of two runs by the engine alone.
 
-use crate::engine::{lavutremo_begin, lavutremo_reply, lavutremo_report, lavutremo_take};
 use crate::{hex, Guarded};
+use engine::{lavutremo_begin, lavutremo_reply, lavutremo_report, lavutremo_take};
 use reference::ends::adversary::against_adversaries;
 use reference::ends::calls::{Calls, Reference};
 use reference::ends::two_ends::TwoEnds;

@@ -1,5 +1,5 @@
-// Tells the linker where libengine.a (for fuzz) and libmeasure.a (for the crate bench, above this one) are: in the
-// folder that LAVUTREMO_LIB names, or in ../target/staticlib.
+// Tells the linker where libengine.a, and libmeasure.a for the crate bench above this one, are: in the folder that
+// LAVUTREMO_LIB names, or in ../target/staticlib.
 use std::env;
 use std::path::PathBuf;
 
