@@ -1,10 +1,11 @@
 //! Compares the engine's answers with the reference's, and looks whether a lent buffer was changed.
 //!
-//! fuzz [SEED [COUNT..]], the counts in this order: how many random and damaged questions to ask, random tables to check,
-//! sound and damaged negotiations to report on, messages to take, whole negotiations to play between honest ends and
-//! against ends that do as they like, and lists of calls to compare on two tables each. What has a count of 0 is left out.
-//! The large questions of `rules::shapes` are asked besides, each whole and without each one of its credentials, some tables are
-//! checked with each fault at each place, and the messages of the marked cases and those at the sizes are taken.
+//! fuzz [SEED [COUNT..]], the counts in this order: how many random and damaged questions to ask, random tables to
+//! check, sound and damaged negotiations to report on, messages to take, whole negotiations to play between honest ends
+//! and against ends that do as they like, and lists of calls to compare on two tables each. What has a count of 0 is
+//! left out. The large questions of `rules::shapes` are asked besides, each whole and without each one of its
+//! credentials, some tables are checked with each fault at each place, and the messages of the marked cases and those
+//! at the sizes are taken.
 
 mod negotiations;
 mod replies;
@@ -35,8 +36,8 @@ impl Guarded {
         Guarded { bytes, start }
     }
 
-    /// For the calls as C has them: of a slice that is only read the compiler may assume that it stays the same, and that
-    /// is what is checked here.
+    /// For the calls as C has them: of a slice that is only read the compiler may assume that it stays the same, and
+    /// that is what is checked here.
     fn pointer(&mut self) -> *mut u8 {
         self.bytes[self.start..].as_mut_ptr()
     }

@@ -1,5 +1,5 @@
-//! RT0: roles, expressions and credentials, the relation "f from e" and questions about it, frontiers, and the classes of
-//! role names.
+//! RT0: roles, expressions and credentials, the relation "f from e" and questions about it, frontiers, and the classes
+//! of role names.
 
 pub mod classes;
 pub mod expression;
