@@ -25,7 +25,9 @@ ENGINE = target/staticlib/libengine.a
 LIB = build/lib/liblavutremo.a
 MEASURE = target/staticlib/libmeasure.a
 CRATES := crates.txt $(shell find crates)
-REFERENCE := $(wildcard reference/Cargo.* reference/build.rs reference/src/*.rs reference/src/bin/*.rs)
+REFERENCE := $(wildcard reference/Cargo.*) $(shell find reference/src)
+CALLS := $(wildcard calls/Cargo.* calls/build.rs calls/src/*.rs)
+FUZZ := $(wildcard fuzz/Cargo.* fuzz/src/*.rs)
 BENCH := $(wildcard bench/Cargo.* bench/src/*.rs)
 
 export CARGO_TARGET_DIR = $(CURDIR)/build/cargo
@@ -60,7 +62,7 @@ bench: build/bench
 	@build/bench
 
 clean:
-	rm -rf build target reference/target bench/target
+	rm -rf build target reference/target calls/target fuzz/target bench/target
 
 $(ENGINE): $(CRATES) | rt
 	rt staticlib engine
@@ -98,11 +100,11 @@ build/hostile: tests/hostile.c host/link.c $(HEADERS) | gcc
 	@mkdir -p build
 	gcc $(CFLAGS) -Ihost -o $@ tests/hostile.c host/link.c
 
-build/fuzz: $(REFERENCE) $(ENGINE) | cargo
-	cargo build --quiet --release --locked --manifest-path reference/Cargo.toml --bin fuzz
+build/fuzz: $(REFERENCE) $(CALLS) $(FUZZ) $(ENGINE) | cargo
+	cargo build --quiet --release --locked --manifest-path fuzz/Cargo.toml
 	@cp $(CARGO_TARGET_DIR)/release/fuzz $@
 
-build/bench: $(REFERENCE) $(BENCH) $(ENGINE) $(MEASURE) | cargo
+build/bench: $(REFERENCE) $(CALLS) $(BENCH) $(ENGINE) $(MEASURE) | cargo
 	cargo build --quiet --release --locked --manifest-path bench/Cargo.toml
 	@cp $(CARGO_TARGET_DIR)/release/bench $@
 

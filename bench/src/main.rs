@@ -8,8 +8,6 @@
 //! engine: the whole call. making: the part of it that reads the bytes and makes the relation. one more: asking one
 //! more question over a relation that is made already. reference: the separate code.
 
-#[path = "../../reference/src/bin/engine.rs"]
-mod engine;
 mod reply;
 mod report;
 mod report_search;
@@ -18,10 +16,10 @@ mod tables;
 mod take;
 mod take_search;
 
-use engine::lavutremo_question;
-use reference::question::{self, Lent, Question};
-use reference::sample::{Random, World};
-use reference::shapes;
+use reference::random::Random;
+use reference::rules::question::{self, Lent, Question};
+use reference::rules::sample::World;
+use reference::rules::shapes;
 use std::env;
 use std::hint::black_box;
 use std::process::exit;
@@ -46,14 +44,12 @@ extern "C" {
 }
 
 fn ask(lent: &Lent) -> u64 {
-    let Lent { credentials, f, e } = lent;
-    // Each pointer goes with the length of what it points to.
-    unsafe { lavutremo_question(credentials.as_ptr(), credentials.len(), f.as_ptr(), f.len(), e.as_ptr(), e.len()) }
+    engine::question(&lent.credentials, &lent.f, &lent.e)
 }
 
 fn ask_times(lent: &Lent, times: u32) -> u64 {
     let Lent { credentials, f, e } = lent;
-    // As above.
+    // Each pointer goes with the length of what it points to.
     unsafe {
         let (f_at, f_len, e_at, e_len) = (f.as_ptr(), f.len(), e.as_ptr(), e.len());
         measure_questions(credentials.as_ptr(), credentials.len(), f_at, f_len, e_at, e_len, times)

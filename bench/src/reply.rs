@@ -3,15 +3,14 @@
 //!
 //! A reply changes what it is lent, so each call has its own copy, which is made before the clock starts.
 
-use crate::engine::{lavutremo_begin, lavutremo_reply, lavutremo_report, lavutremo_take};
-use reference::calls::{Calls, Reference};
-use reference::classes::Class::{IssuerDef, SubjectAll};
-use reference::expression::{Credential, Expression, Role};
+use reference::ends::calls::{Calls, Reference};
+use reference::message::take::SCRATCH_BYTES;
 use reference::message::MOST_MESSAGE_BYTES;
 use reference::negotiation::{decode, NEGOTIATION_BYTES};
-use reference::records::{encode_record, Guard, Record};
-use reference::reply_large::{large_success, long_replies, Giving, WANTED};
-use reference::take::SCRATCH_BYTES;
+use reference::reply::large::{large_success, long_replies, Giving, WANTED};
+use reference::rules::classes::Class::{IssuerDef, SubjectAll};
+use reference::rules::expression::{Credential, Expression, Role};
+use reference::tables::records::{encode_record, Guard, Record};
 use std::process::exit;
 use std::time::Instant;
 
@@ -22,35 +21,21 @@ const MOST_REPLY: f64 = 12_000.0;
 
 struct Engine;
 
-// In each call a pointer goes with the length of what it points to.
 impl Calls for Engine {
     fn begin(&mut self, tables: &[u8], negotiation: &mut [u8], other: u16, wanted: Role) -> u64 {
-        let (at, length) = (negotiation.as_mut_ptr(), negotiation.len());
-        unsafe { lavutremo_begin(tables.as_ptr(), tables.len(), at, length, other, wanted.entity, wanted.name) }
+        engine::begin(tables, negotiation, other, wanted.entity, wanted.name)
     }
 
     fn take(&mut self, tables: &[u8], negotiation: &mut [u8], message: &[u8], scratch: &mut [u8]) -> u64 {
-        let (at, length) = (negotiation.as_mut_ptr(), negotiation.len());
-        let (scratch_at, scratch_length) = (scratch.as_mut_ptr(), scratch.len());
-        let (message_at, message_length) = (message.as_ptr(), message.len());
-        let (tables_at, tables_length) = (tables.as_ptr(), tables.len());
-        unsafe {
-            lavutremo_take(tables_at, tables_length, at, length, message_at, message_length, scratch_at, scratch_length)
-        }
+        engine::take(tables, negotiation, message, scratch)
     }
 
     fn reply(&mut self, tables: &[u8], negotiation: &mut [u8], reply: &mut [u8], scratch: &mut [u8]) -> u64 {
-        let (at, length) = (negotiation.as_mut_ptr(), negotiation.len());
-        let (scratch_at, scratch_length) = (scratch.as_mut_ptr(), scratch.len());
-        let (reply_at, reply_length) = (reply.as_mut_ptr(), reply.len());
-        let (tables_at, tables_length) = (tables.as_ptr(), tables.len());
-        unsafe {
-            lavutremo_reply(tables_at, tables_length, at, length, reply_at, reply_length, scratch_at, scratch_length)
-        }
+        engine::reply(tables, negotiation, reply, scratch)
     }
 
     fn report(&mut self, tables: &[u8], negotiation: &[u8], node: u8) -> u64 {
-        unsafe { lavutremo_report(tables.as_ptr(), tables.len(), negotiation.as_ptr(), negotiation.len(), node) }
+        engine::report(tables, negotiation, node)
     }
 }
 

@@ -1,23 +1,21 @@
 //! Times reports on negotiations beside the reference's, in microseconds. All are sound, so that nothing is skipped.
 
-use crate::engine::lavutremo_report;
 use crate::{least, time};
-use reference::expression::Role;
+use reference::negotiation::large::large;
+use reference::negotiation::report;
+use reference::negotiation::sample::FULL_EXTENT;
+use reference::negotiation::shapes::{marked_case, Builder, Shaped};
 use reference::negotiation::*;
-use reference::negotiation_large::large;
-use reference::negotiation_sample::FULL_EXTENT;
-use reference::negotiation_shapes::{marked_case, Builder, Shaped};
-use reference::report;
-use reference::sample::Random;
-use reference::table_shapes::TABLE_SHAPES;
+use reference::random::Random;
+use reference::rules::expression::{Expression, Role};
+use reference::tables::shapes::TABLE_SHAPES;
 use std::process::exit;
 
 const RANDOM: usize = 15;
 
 /// The engine's report on the primary.
 pub fn engine(tables: &[u8], negotiation: &[u8]) -> u64 {
-    // Each pointer goes with the length of what it points to.
-    unsafe { lavutremo_report(tables.as_ptr(), tables.len(), negotiation.as_ptr(), negotiation.len(), 0) }
+    engine::report(tables, negotiation, 0)
 }
 
 /// Ends the program if a report is refused or differs from the reference's.
@@ -75,7 +73,7 @@ fn small() -> Vec<Shaped> {
     // These tables have the names from 2 on.
     let wanted = Role { entity: 1, name: 2 };
     full_tables.negotiation.wanted = wanted;
-    full_tables.negotiation.nodes[0].form = Form::Target(reference::expression::Expression::Role(wanted));
+    full_tables.negotiation.nodes[0].form = Form::Target(Expression::Role(wanted));
     vec![case, Builder::new(vec![]).finish("one node"), full_tables]
 }
 

@@ -3,15 +3,16 @@
 
 use crate::least;
 use crate::report::{engine, must_agree, random_full, sizes};
-use reference::classes::Class::SubjectAll;
+use reference::negotiation::faults::NEGOTIATION_FAULTS;
+use reference::negotiation::large::large;
+use reference::negotiation::shapes::Shaped;
+use reference::negotiation::states::{propagated, Propagated};
 use reference::negotiation::*;
-use reference::negotiation_faults::NEGOTIATION_FAULTS;
-use reference::negotiation_large::large;
-use reference::negotiation_shapes::Shaped;
-use reference::sample::{Random, World};
-use reference::states::{propagated, Propagated};
-use reference::table_sample::House;
+use reference::random::Random;
+use reference::rules::classes::Class::SubjectAll;
+use reference::rules::sample::World;
 use reference::tables;
+use reference::tables::sample::House;
 use std::hint::black_box;
 
 fn engine_time(tables: &[u8], bytes: &[u8], batches: u32) -> f64 {

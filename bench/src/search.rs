@@ -2,10 +2,11 @@
 //! small changes that are kept where the time grew.
 
 use crate::{ask, ask_reference, least, one_more};
-use reference::expression::*;
-use reference::question::{self, Lent, Question, MOST_CREDENTIALS};
-use reference::sample::{Random, World};
-use reference::shapes;
+use reference::random::Random;
+use reference::rules::expression::*;
+use reference::rules::question::{self, Lent, Question, MOST_CREDENTIALS};
+use reference::rules::sample::World;
+use reference::rules::shapes;
 use std::hint::black_box;
 use std::process::exit;
 

@@ -1,21 +1,15 @@
 //! Times the check of tables at their sizes beside the reference's, in microseconds.
 
-use crate::engine::lavutremo_check;
 use crate::time;
-use reference::sample::Random;
-use reference::table_sample::FULL;
-use reference::table_shapes::TABLE_SHAPES;
+use reference::random::Random;
 use reference::tables;
+use reference::tables::sample::FULL;
+use reference::tables::shapes::TABLE_SHAPES;
 use std::process::exit;
 
 /// What a check may cost, in microseconds.
 const MOST: f64 = 50.0;
 const RANDOM: usize = 15;
-
-fn check(bytes: &[u8]) -> u64 {
-    // The pointer goes with the length of what it points to.
-    unsafe { lavutremo_check(bytes.as_ptr(), bytes.len()) }
-}
 
 struct Row {
     set: String,
@@ -26,12 +20,12 @@ struct Row {
 
 impl Row {
     fn measure(set: String, bytes: &[u8]) -> Row {
-        let (engine, reference) = (check(bytes), tables::check(bytes));
+        let (engine, reference) = (engine::check(bytes), tables::check(bytes));
         if (engine, reference) != (0, 0) {
             println!("{set}: engine {engine}, reference {reference}, where 0 is right");
             exit(1);
         }
-        let (engine, reference) = (time(|| check(bytes)), time(|| tables::check(bytes)));
+        let (engine, reference) = (time(|| engine::check(bytes)), time(|| tables::check(bytes)));
         Row { set, bytes: bytes.len(), engine, reference }
     }
 

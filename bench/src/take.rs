@@ -2,12 +2,11 @@
 //!
 //! A take changes what it is lent, so each call has its own copy, which is made before the clock starts.
 
-use crate::engine::lavutremo_take;
-use reference::message_writer::Run;
+use reference::message::large::{all_again, long_messages, onto_full};
+use reference::message::shapes::{marked_takes, size_runs};
+use reference::message::take::{self, Lent};
+use reference::message::writer::Run;
 use reference::negotiation::{decode, MOST_EDGES, MOST_NODES, MOST_SHOWN};
-use reference::take::{self, Lent};
-use reference::take_large::{all_again, long_messages, onto_full};
-use reference::take_shapes::{marked_takes, size_runs};
 use std::process::exit;
 use std::time::Instant;
 
@@ -15,22 +14,7 @@ use std::time::Instant;
 const SHOWN: usize = 8;
 
 pub fn engine(lent: &mut Lent) -> u64 {
-    let Lent { tables, negotiation, message, scratch } = lent;
-    let (tables_at, message_at) = (tables.as_ptr(), message.as_ptr());
-    let (negotiation_at, scratch_at) = (negotiation.as_mut_ptr(), scratch.as_mut_ptr());
-    // Each pointer goes with the length of what it points to.
-    unsafe {
-        lavutremo_take(
-            tables_at,
-            tables.len(),
-            negotiation_at,
-            negotiation.len(),
-            message_at,
-            message.len(),
-            scratch_at,
-            scratch.len(),
-        )
-    }
+    engine::take(&lent.tables, &mut lent.negotiation, &lent.message, &mut lent.scratch)
 }
 
 fn by_reference(lent: &mut Lent) -> u64 {

@@ -2,12 +2,12 @@
 //! where the time grew.
 
 use crate::take::{engine, heading, median, must_agree, Row};
-use reference::expression::{Credential, Expression, Role};
+use reference::message::large::{all_again, long_messages};
+use reference::message::writer::{Run, Writer};
 use reference::message::*;
-use reference::message_writer::{Run, Writer};
 use reference::negotiation::*;
-use reference::sample::Random;
-use reference::take_large::{all_again, long_messages};
+use reference::random::Random;
+use reference::rules::expression::{Credential, Expression, Role};
 
 /// How many are changed, and how many steps each gets.
 const STARTS: usize = 6;

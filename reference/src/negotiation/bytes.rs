@@ -1,0 +1,218 @@
+//! Random and faulty negotiations with their tables, in bytes.
+
+use crate::negotiation::faults::NEGOTIATION_FAULTS;
+use crate::negotiation::sample::{Extent, Grown, ALL_CLASSES};
+use crate::negotiation::shapes::marked_case;
+use crate::negotiation::*;
+use crate::random::Random;
+use crate::rules::classes::Class;
+use crate::rules::expression::CREDENTIAL_BYTES;
+use crate::tables::records::{encode_record, Record};
+use crate::tables::MOST_TABLES_BYTES;
+
+/// The two lent buffers of a report.
+#[derive(Clone, Debug, PartialEq, Eq)]
+pub struct Lent {
+    pub tables: Vec<u8>,
+    pub negotiation: Vec<u8>,
+}
+
+impl Random {
+    /// A sound negotiation with its tables, or one with a fault in it.
+    pub fn lent(&mut self, grown: &Grown) -> Lent {
+        let mut lent = Lent { tables: grown.tables.records.concat(), negotiation: encode(&grown.negotiation) };
+        match self.below(20) {
+            0..=3 => {}
+            4..=11 => lent.negotiation = encode(&self.faulty(grown)),
+            12..=15 => self.change_negotiation_bytes(&mut lent.negotiation),
+            16..=17 => lent.tables = self.other_classes(grown),
+            18 => self.other_tables(&mut lent.tables),
+            _ => self.other_lengths(&mut lent),
+        }
+        lent
+    }
+
+    /// One fault, sometimes two, often with the end that fits afterwards.
+    fn faulty(&mut self, grown: &Grown) -> Negotiation {
+        let mut negotiation = grown.negotiation.clone();
+        for _ in 0..[1, 1, 1, 2][self.below(4)] {
+            let fault = NEGOTIATION_FAULTS[self.below(NEGOTIATION_FAULTS.len())];
+            fault(self, &grown.tables.house, &mut negotiation);
+        }
+        let Negotiation { nodes, edges, .. } = &negotiation;
+        let stand = |edge: &Edge| edge.parent < nodes.len() && edge.child < nodes.len();
+        if !nodes.is_empty() && edges.iter().all(stand) && self.percent(50) {
+            let ended = (negotiation.end, negotiation.idle, negotiation.messages);
+            self.close(&mut negotiation);
+            if self.percent(30) {
+                (negotiation.end, negotiation.idle, negotiation.messages) = ended;
+            }
+        }
+        negotiation
+    }
+
+    /// One change below the level of records.
+    fn change_negotiation_bytes(&mut self, bytes: &mut [u8]) {
+        let counts = [bytes[14], bytes[16], bytes[17]].map(usize::from);
+        let node = NODES_AT + NODE_BYTES * self.below(counts[0].max(1));
+        let edge = EDGES_AT + EDGE_BYTES * self.below(counts[1].max(1));
+        let credential = SHOWN_AT + CREDENTIAL_BYTES * self.below(counts[2].max(1));
+        let small = self.below(8) as u8;
+        match self.below(15) {
+            0 => bytes[self.below(NEGOTIATION_BYTES)] = self.byte(),
+            1 => bytes[self.below(18)] = small,
+            2 => bytes[self.between(10, 11)] = small,
+            3 => bytes[[0, 1][self.below(2)]] = small,
+            4 => self.change_count(bytes),
+            5 => self.fill_unused(bytes),
+            6 => bytes[node + self.below(NODE_BYTES)] = small,
+            7 => bytes[node + self.between(18, 21)] = small,
+            8 => bytes[edge + self.below(EDGE_BYTES)] = small,
+            9 => bytes[credential + self.below(CREDENTIAL_BYTES)] = small,
+            13 => bytes[node + self.below(2)] = small,
+            10 => bytes[node..node + NODE_BYTES].fill(0),
+            11 => bytes[edge..edge + EDGE_BYTES].fill(0),
+            12 => bytes[credential..credential + CREDENTIAL_BYTES].fill(0),
+            _ => {
+                let to = NODES_AT + NODE_BYTES * self.below(counts[0].max(1));
+                bytes.copy_within(node..node + NODE_BYTES, to);
+            }
+        }
+    }
+
+    /// One more or less, the most, one more than that, or any.
+    fn change_count(&mut self, bytes: &mut [u8]) {
+        let edge_count = u16::from_be_bytes([bytes[15], bytes[16]]);
+        let any = self.byte();
+        let mut other = |count: u16, most: u16| {
+            [count.wrapping_add(1), count.saturating_sub(1), most, most + 1, any.into()][self.below(5)]
+        };
+        let (nodes, shown) = (other(bytes[14].into(), 128) as u8, other(bytes[17].into(), 64) as u8);
+        let edges = other(edge_count, 256);
+        match self.below(3) {
+            0 => bytes[14] = nodes,
+            1 => bytes[15..17].copy_from_slice(&edges.to_be_bytes()),
+            _ => bytes[17] = shown,
+        }
+    }
+
+    /// A byte that is not used is not zero: after the header, after the last record of a part, or at a part's end.
+    fn fill_unused(&mut self, bytes: &mut [u8]) {
+        let edge_count = u16::from_be_bytes([bytes[15], bytes[16]]) as usize;
+        let ends = [
+            (18, NODES_AT),
+            (NODES_AT + NODE_BYTES * bytes[14] as usize, EDGES_AT),
+            (EDGES_AT + EDGE_BYTES * edge_count, SHOWN_AT),
+            (SHOWN_AT + CREDENTIAL_BYTES * bytes[17] as usize, NEGOTIATION_BYTES),
+        ];
+        let (start, end) = ends[self.below(4)];
+        if start < end {
+            let at = [start, end - 1, self.between(start, end - 1)][self.below(3)];
+            bytes[at] = 1 << self.below(8);
+        }
+    }
+
+    /// Self and the names alone, one of them taken out or of another class; sometimes another self.
+    fn other_classes(&mut self, grown: &Grown) -> Vec<u8> {
+        let house = &grown.tables.house;
+        let mut names: Vec<(u16, Class)> = house.names.clone();
+        let at = self.below(names.len());
+        let mut own = house.own;
+        match self.below(10) {
+            0 => own = self.entity(house.world),
+            1..=4 => names[at].1 = ALL_CLASSES[self.below(3)],
+            5..=8 => drop(names.remove(at)),
+            _ => {}
+        }
+        let mut records: Vec<Vec<u8>> =
+            names.into_iter().map(|(name, class)| encode_record(&Record::Name(name, class))).collect();
+        records.sort();
+        [vec![encode_record(&Record::Own(own))], records].concat().concat()
+    }
+
+    /// Tables that may be refused, or a fault in these.
+    fn other_tables(&mut self, tables: &mut Vec<u8>) {
+        if self.percent(70) {
+            *tables = self.tables();
+        } else {
+            let at = self.below(tables.len());
+            tables[at] = self.byte();
+        }
+    }
+
+    fn other_lengths(&mut self, lent: &mut Lent) {
+        let any = self.between(0, 2 * NEGOTIATION_BYTES);
+        let length = [0, 1, NEGOTIATION_BYTES - 1, NEGOTIATION_BYTES + 1, any][self.below(5)];
+        let tables_length = [0, MOST_TABLES_BYTES, MOST_TABLES_BYTES + 1][self.below(3)];
+        match self.below(4) {
+            0 => lent.tables.resize(tables_length, 0),
+            1 => {
+                lent.tables.resize(tables_length, 0);
+                lent.negotiation.resize(length, 0);
+            }
+            _ => lent.negotiation.resize(length, 0),
+        }
+    }
+}
+
+/// Asks about the negotiation with each byte changed in some ways.
+pub fn each_byte(lent: &Lent, mut ask: impl FnMut(&Lent)) {
+    for at in 0..NEGOTIATION_BYTES {
+        let changed = match lent.negotiation[at] {
+            0 => vec![1, 128],
+            old => vec![old.wrapping_add(1), old - 1, old ^ 128, 0],
+        };
+        for byte in changed {
+            let mut other = lent.clone();
+            other.negotiation[at] = byte;
+            ask(&other);
+        }
+    }
+}
+
+/// The marked cases at their ends, and some small random ones.
+pub fn some_small(random: &mut Random) -> Vec<Lent> {
+    let mut small = Vec::new();
+    for side in [Side::Mediator, Side::Requester] {
+        for success in [true, false] {
+            let (tables, negotiation) = marked_case(side, success);
+            small.push(Lent { tables, negotiation: encode(&negotiation) });
+        }
+    }
+    for _ in 0..4 {
+        let grown = random.grown_to(Extent { nodes: 12, edges: 20, shown: 10 });
+        small.push(Lent { tables: grown.tables.records.concat(), negotiation: encode(&grown.negotiation) });
+    }
+    small
+}
+
+#[cfg(test)]
+mod tests {
+    use super::*;
+    use crate::negotiation::clause::CLAUSES;
+    use crate::negotiation::report::{judge, Refused};
+    use std::collections::BTreeSet;
+
+    /// Every clause is the first to find damage in some, and what is read is written back.
+    #[test]
+    fn every_clause_occurs() {
+        let mut random = Random::new(9);
+        let mut found = BTreeSet::new();
+        for _ in 0..5000 {
+            let grown = random.grown();
+            for _ in 0..4 {
+                let lent = random.lent(&grown);
+                if lent.negotiation.len() == NEGOTIATION_BYTES {
+                    if let Ok(negotiation) = decode(&lent.negotiation) {
+                        assert_eq!(encode(&negotiation), lent.negotiation);
+                    }
+                }
+                if let Err(Refused::Damaged(clause)) = judge(&lent.tables, &lent.negotiation) {
+                    found.insert(clause);
+                }
+            }
+        }
+        let missing: Vec<_> = CLAUSES.into_iter().filter(|clause| !found.contains(clause)).collect();
+        assert!(missing.is_empty(), "{missing:?}");
+    }
+}

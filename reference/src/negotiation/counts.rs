@@ -1,0 +1,135 @@
+//! What occurred among many calls on negotiations, by the reference's answers, and what never did.
+
+use crate::negotiation::clause::{Clause, CLAUSES};
+use crate::negotiation::report::{Refused, Sound};
+use crate::negotiation::*;
+use crate::rules::expression::Expression;
+use std::collections::BTreeMap;
+
+const BEGIN_NUMBERS: [u64; 8] = [0, 1, 2, 3, 4, 5, 6, 7];
+const REPORT_NUMBERS: [u64; 9] = [0, 1, 2, 3, 4, 5, 6, 20, 24];
+
+/// The propagated states that nodes of each form can have.
+const STATES: [(&str, &[u64]); 7] = [
+    ("entity", &[1]),
+    ("role", &[0, 1, 2]),
+    ("linked role", &[0, 1, 2]),
+    ("intersection of 2", &[0, 1, 2]),
+    ("intersection of 3", &[0, 1, 2]),
+    ("intersection of 4", &[0, 1, 2]),
+    ("goal", &[0, 1]),
+];
+
+fn form_name(form: &Form) -> &'static str {
+    match form {
+        Form::Target(Expression::Entity(_)) => "entity",
+        Form::Target(Expression::Role(_)) => "role",
+        Form::Target(Expression::Linked(..)) => "linked role",
+        Form::Target(Expression::Intersection(parts)) => STATES[parts.len() + 1].0,
+        Form::Goal(_) => "goal",
+    }
+}
+
+#[derive(Default)]
+pub struct NegotiationCounts {
+    begins: BTreeMap<u64, u64>,
+    reports: BTreeMap<u64, u64>,
+    clauses: BTreeMap<Clause, u64>,
+    states: BTreeMap<(&'static str, u64), u64>,
+    ends: BTreeMap<u8, u64>,
+    kinds: BTreeMap<u8, u64>,
+    /// The greatest counts of nodes, edges and credentials.
+    most: [usize; 3],
+}
+
+fn count<K: Ord>(counts: &mut BTreeMap<K, u64>, key: K) {
+    *counts.entry(key).or_default() += 1;
+}
+
+/// "accepted 5, refused 1 7", with the numbers that never occurred as 0.
+fn numbers_line(counts: &BTreeMap<u64, u64>, numbers: &[u64]) -> String {
+    let text = |&number: &u64| {
+        let times = counts.get(&number).unwrap_or(&0);
+        if number == 0 {
+            format!("accepted {times}")
+        } else {
+            format!("refused {number} {times}")
+        }
+    };
+    numbers.iter().map(text).collect::<Vec<_>>().join(", ")
+}
+
+impl NegotiationCounts {
+    pub fn begun(&mut self, answer: u64) {
+        count(&mut self.begins, answer);
+    }
+
+    /// A report's answer; its number alone counts.
+    pub fn reported(&mut self, answer: u64) {
+        count(&mut self.reports, answer % 256);
+    }
+
+    pub fn judged(&mut self, judged: &Result<Sound, Refused>) {
+        match judged {
+            Err(Refused::Input(_)) => {}
+            Err(Refused::Damaged(clause)) => count(&mut self.clauses, *clause),
+            Ok(sound) => self.sound(sound),
+        }
+    }
+
+    fn sound(&mut self, sound: &Sound) {
+        let Negotiation { end, nodes, edges, shown, .. } = &sound.negotiation;
+        count(&mut self.ends, *end);
+        for (node, &state) in nodes.iter().zip(&sound.propagated) {
+            count(&mut self.states, (form_name(&node.form), state as u64));
+        }
+        for edge in edges {
+            count(&mut self.kinds, edge.kind);
+        }
+        for (most, now) in self.most.iter_mut().zip([nodes.len(), edges.len(), shown.len()]) {
+            *most = now.max(*most);
+        }
+    }
+
+    pub fn print(&self) {
+        println!("begin: {}", numbers_line(&self.begins, &BEGIN_NUMBERS));
+        println!("report: {}", numbers_line(&self.reports, &REPORT_NUMBERS));
+        let times = |clause: &Clause| format!("{clause:?} {}", self.clauses.get(clause).unwrap_or(&0));
+        println!("damage, found first by: {}", CLAUSES.iter().map(times).collect::<Vec<_>>().join(", "));
+        println!("sound negotiations, by end: {}", lines(&self.ends));
+        for (form, states) in STATES {
+            let times = |&state: &u64| format!("{state} {}", self.states.get(&(form, state)).unwrap_or(&0));
+            println!("states of {form} nodes: {}", states.iter().map(times).collect::<Vec<_>>().join(", "));
+        }
+        println!("edges, by kind: {}", lines(&self.kinds));
+        let [nodes, edges, shown] = self.most;
+        println!("at most {nodes} nodes, {edges} edges, {shown} credentials");
+    }
+
+    /// What a large run must have met and did not.
+    pub fn missing(&self) -> Vec<String> {
+        let mut missing = Vec::new();
+        let mut note = |occurred: bool, what: String| {
+            if !occurred {
+                missing.push(what);
+            }
+        };
+        BEGIN_NUMBERS.iter().for_each(|number| note(self.begins.contains_key(number), format!("begin {number}")));
+        REPORT_NUMBERS.iter().for_each(|number| note(self.reports.contains_key(number), format!("report {number}")));
+        CLAUSES.iter().for_each(|clause| note(self.clauses.contains_key(clause), format!("damage {clause:?}")));
+        (0..=4).for_each(|end| note(self.ends.contains_key(&end), format!("end {end}")));
+        (1..=6).for_each(|kind| note(self.kinds.contains_key(&kind), format!("an edge of kind {kind}")));
+        for (form, states) in STATES {
+            for &state in states {
+                note(self.states.contains_key(&(form, state)), format!("state {state} of {form}"));
+            }
+        }
+        note(self.most == [MOST_NODES, MOST_EDGES, MOST_SHOWN], "the full sizes".into());
+        missing
+    }
+}
+
+/// "0 17, 1 4"
+fn lines(counts: &BTreeMap<u8, u64>) -> String {
+    counts.iter().map(|(key, times)| format!("{key} {times}")).collect::<Vec<_>>().join(", ")
+}

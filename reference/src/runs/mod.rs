@@ -1,0 +1,4 @@
+//! The check of two runs: that nothing is told of a sensitive role too early.
+
+pub mod compare;
+pub mod sample;

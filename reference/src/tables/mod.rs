@@ -1,0 +1,12 @@
+//! House tables: their records and their check.
+
+pub mod bytes;
+mod check;
+pub mod faults;
+pub mod records;
+pub mod sample;
+pub mod shapes;
+#[cfg(test)]
+mod tests;
+
+pub use check::*;
