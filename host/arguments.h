@@ -1,3 +1,4 @@
+/* SPDX-License-Identifier: Apache-2.0 */
 /* What the programs of the host are given on the command line. */
 #ifndef ARGUMENTS_H
 #define ARGUMENTS_H

@@ -1,3 +1,4 @@
+/* SPDX-License-Identifier: Apache-2.0 */
 /*
  * Runs the marked cases and prints them: the questions (a) to (h) with their credentials and answers, then the
  * negotiations (i) and (j) with the tables of both ends, each message and the graph after it. Exits with 1 if one of

@@ -1,3 +1,4 @@
+/* SPDX-License-Identifier: Apache-2.0 */
 /* One end of a negotiation: its tables, its bytes, and the message that it gave or took last. */
 #ifndef END_H
 #define END_H

@@ -1,3 +1,4 @@
+/* SPDX-License-Identifier: Apache-2.0 */
 /* The requester: fetches a file from a mediator, after proving what it asks for. */
 #define _POSIX_C_SOURCE 200809L
 #include <errno.h>

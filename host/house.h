@@ -1,3 +1,4 @@
+/* SPDX-License-Identifier: Apache-2.0 */
 /* House tables as the calls take them, and how they are read from a file. */
 #ifndef HOUSE_H
 #define HOUSE_H

@@ -1,3 +1,4 @@
+/* SPDX-License-Identifier: Apache-2.0 */
 /* Where docs/LAYOUT.md puts what the host reads of a negotiation, and how a number is read. */
 #ifndef LAYOUT_H
 #define LAYOUT_H

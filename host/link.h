@@ -1,3 +1,4 @@
+/* SPDX-License-Identifier: Apache-2.0 */
 /*
  * A TCP connection that does not block for longer than it is told: whole reads and writes with a time by which they must
  * be done, and messages framed by a length of two bytes, high byte first.

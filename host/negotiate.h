@@ -1,3 +1,4 @@
+/* SPDX-License-Identifier: Apache-2.0 */
 /* A negotiation over a connection, from one end. */
 #ifndef NEGOTIATE_H
 #define NEGOTIATE_H

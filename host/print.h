@@ -1,3 +1,4 @@
+/* SPDX-License-Identifier: Apache-2.0 */
 /*
  * What a person reads of a negotiation: expressions, messages and graphs from their bytes, numbers in words.
  *

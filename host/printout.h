@@ -1,3 +1,4 @@
+/* SPDX-License-Identifier: Apache-2.0 */
 /* A printout that is kept in memory until it is whole, so that those of several connections do not mix. */
 #ifndef PRINTOUT_H
 #define PRINTOUT_H

@@ -1,3 +1,4 @@
+/* SPDX-License-Identifier: Apache-2.0 */
 /* Reading roles, expressions and credentials from a line of text into their bytes. */
 #ifndef READ_H
 #define READ_H

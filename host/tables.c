@@ -1,3 +1,4 @@
+/* SPDX-License-Identifier: Apache-2.0 */
 /* Turns house tables from text to records and back, and says what is wrong with them and where. */
 #include <errno.h>
 #include <stdio.h>

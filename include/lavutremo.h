@@ -1,3 +1,4 @@
+/* SPDX-License-Identifier: Apache-2.0 */
 /*
  * Lavutremo: a trust negotiation engine. C11 and C++17.
  *
