@@ -10,6 +10,7 @@ use Rattle.negotiation.specs.State.{State}
 use Rattle.standing.specs.Standing.{restoreOf}
 use Rattle.numbers.specs.Answer.{Answer, refused, accepted, onward}
 use Rattle.numbers.specs.Refusals.{ABSENT}
+use Rattle.tables.specs.Tables.{Tables}
 
 -- "a node's state byte and its propagated state, ..; the end, counts of nodes, edges, shown credentials, messages accepted and replies given
 -- together"

@@ -1,5 +1,5 @@
 -- The calls of a run, what each leaves, and where the tables of two runs differ (document 01, "Two runs"). Assumes nothing.
-use Rattle.report.specs.Report.{packed}
+use Rattle.report.specs.Report.{Report, packed}
 use Rattle.reply.specs.Reply.{lengthOf}
 use Prim.Native.Nat.{ℕ}
 use mathlib.Core.Path.{_≡_}

@@ -21,6 +21,7 @@ use Rattle.negotiation.specs.State.{State, freshState, within}
 use Rattle.negotiation.specs.Layout.{stateBytes}
 use Rattle.begin.specs.Begin.{isRequester, roleNumber, otherNumber, beginNumber, sideOf, begunState, behindTables, beginOf, leftOf}
 use Rattle.numbers.specs.Answer.{Answer, refused, accepted, answerOf, noValue}
+use Rattle.tables.specs.Tables.{Tables}
 
 -- The wanted role and the other end
 

@@ -22,7 +22,7 @@ use Rattle.graph.specs.laws.Form.{legal-few}
 use Rattle.tables.specs.declared.House.{House}
 use Rattle.tables.specs.laws.Tables.{tablesOf}
 use Rattle.negotiation.specs.declared.Negotiation.{Negotiation}
-use Rattle.negotiation.specs.State.{within}
+use Rattle.negotiation.specs.State.{State, within}
 use Rattle.negotiation.specs.laws.State.{stateOf as stateHeld}
 use Rattle.negotiation.specs.laws.Within.{within-few}
 use Rattle.standing.specs.declared.Restored.{Restored}
@@ -32,6 +32,7 @@ use Rattle.standing.specs.laws.Standing.{standingOf}
 use Rattle.damage.specs.laws.Damage.{graph-parts, held-graph, held-legal}
 use Rattle.report.specs.Report.{Report, reportOn, behindNegotiation, reportOf, packed, unpacked}
 use Rattle.numbers.specs.Answer.{Answer, refused, accepted, answerOf}
+use Rattle.tables.specs.Tables.{Tables}
 
 -- a report of these numbers
 abbrev pub numbered : ℕ → ℕ → ℕ → ℕ → ℕ → ℕ → ℕ → Report

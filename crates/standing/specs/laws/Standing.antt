@@ -27,6 +27,7 @@ use Rattle.negotiation.specs.laws.Codec.{read-within}
 use Rattle.standing.specs.Standing.{behindDamage, behindTables, restoreOf}
 use Rattle.numbers.specs.Answer.{Answer, refused, accepted}
 use Rattle.numbers.specs.laws.Answer.{isAccepted}
+use Rattle.tables.specs.Tables.{Tables}
 
 -- what the code's answer is
 unfoldable pub standingOf : Restored → Answer (Tables × State)

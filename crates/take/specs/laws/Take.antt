@@ -39,6 +39,7 @@ use Rattle.take.specs.laws.TakeKept.{turn-led, led-edges}
 use Rattle.standing.specs.Turn.{sends}
 use Rattle.take.specs.Take.{behindCommands, takenIn, behindStanding, messageSize, takeOf, negotiationLeft, scratchLeft}
 use Rattle.numbers.specs.Answer.{Answer, refused, accepted, answerOf, noValue}
+use Rattle.tables.specs.Tables.{Tables}
 
 -- what the code's answer is
 unfoldable pub outcomeOf : Taking → Answer State
