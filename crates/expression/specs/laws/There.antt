@@ -37,13 +37,8 @@ pub read-formed : (s : List ℕ) (at : ℕ) (c : Credential) → readCredential 
 unfolding readCredential
 read-formed s at c h = credential-formed (roleAt s at) (readOf s (at + 4)) c h
 
--- Commands read back
-
 pub skip : (s : List ℕ) (at n : ℕ) (l : List ℕ) → drop at s ≡ l → drop (at + n) s ≡ drop n l
 skip s at n l h = sym (drop-drop n at s) ∙ ap (drop n) h
-
-pub role-there : (s : List ℕ) (at : ℕ) (r : Role) (l : List ℕ) → drop at s ≡ roleBytes r ++ l → r ≡ roleAt s at
-role-there s at r l h = λ i. record { entity = number-there s at (r .entity) (numberBytes (r .name) ++ l) h i; name = number-there s (at + 2) (r .name) l (skip s at 2 (roleBytes r ++ l) h) i }
 
 -- bytes that stand there already
 pub self-paste : (s : List ℕ) (at : ℕ) (b : List ℕ) → take (length b) (drop at s) ≡ b → pasted s at b ≡ s
@@ -74,8 +69,12 @@ module _ (s : List ℕ) (at : ℕ) (inside : at ≤ length s) where
       let room : at + 22 ≤ length s = omega (arith, size-there (b ++ l) h, length-append b l) in
       ap (λ (m : List ℕ). readCredential m at) (sym (self-paste s at b there)) ∙ credential-back s at c room formed
 
+-- the number, and the role
 pub number-there : (s : List ℕ) (at n : ℕ) (l : List ℕ) → drop at s ≡ numberBytes n ++ l → n ≡ numberAt s at
 number-there s at n l h =
     let high : getD s at 0 ≡ n / 256 = code-there s at (n / 256) _ h in
     let low : getD s (at + 1) 0 ≡ n % 256 = byte-there s at 1 (numberBytes n ++ l) h in
     sym ((λ i. high i * 256 + low i) ∙ div-add-mod' n 256)
+
+pub role-there : (s : List ℕ) (at : ℕ) (r : Role) (l : List ℕ) → drop at s ≡ roleBytes r ++ l → r ≡ roleAt s at
+role-there s at r l h = λ i. record { entity = number-there s at (r .entity) (numberBytes (r .name) ++ l) h i; name = number-there s (at + 2) (r .name) l (skip s at 2 (roleBytes r ++ l) h) i }

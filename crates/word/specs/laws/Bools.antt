@@ -8,8 +8,6 @@ bool-iff true b f g = sym (f refl)
 bool-iff false true f g = g refl
 bool-iff false false f g = refl
 
--- Whether a head leads on, test by test
-
 pub no-and : (a b : Bool) → b ≡ false → false ≡ (a && b)
 no-and true b h = sym h
 no-and false b h = refl
