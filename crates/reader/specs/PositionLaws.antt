@@ -46,3 +46,8 @@ behind-read m at = go (commandAt m at) refl
     go : (a : CommandAnswer) → commandAt m at ≡ a → behindIn (length m) at a ≡ behind at a
     go (Read c) h = ap (λ (b : Bool). cond b at (at + sizeOf c)) (le-ltb (length m) (at + sizeOf c) (command-room m at c h))
     go (Refused k) h = sym (same (length m) at (ltb (length m) at))
+
+-- behind a command that stands there
+pub position-read : (m : List ℕ) (at : ℕ) {c : Command} → commandAt m at ≡ Read c → positionAfter m at ≡ at + sizeOf c
+unfolding behind positionAfter
+position-read m at h = ap (behind at) h

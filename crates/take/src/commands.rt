@@ -7,9 +7,8 @@ use class::Names;
 use expression::COMMAND;
 use message::Command;
 use message::CommandAnswer;
-use message::size_of;
 use negotiation::Negotiation;
-use reader::command_at;
+use reader::next_command;
 use update::is_implication;
 use update::is_justified;
 use update::is_proved;
@@ -91,7 +90,8 @@ pub fn take_commands(names: Names, sender: u8, start: Negotiation, message: &[u8
     let mut kept = nothing_kept();
     let mut at = 0;
     while at < message.len() {
-        let a = command_at(message, at);
+        let next = next_command(message, at);
+        let a = next.answer;
         let CommandAnswer::Read(c) = a else {
             return taking(refusal_of(a), kept.moved, n);
         };
@@ -121,7 +121,7 @@ pub fn take_commands(names: Names, sender: u8, start: Negotiation, message: &[u8
         }
         kept = carried(held, n, c);
         n = step(n, sender, c);
-        at += size_of(c);
+        at = next.at;
     }
     taking(COMMAND, kept.moved, n)
 }

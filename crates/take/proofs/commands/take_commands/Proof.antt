@@ -1,7 +1,7 @@
 use Rattle.negotiation.specs.Within.{within-few}
 use Rattle.update.specs.RoomLaws.{legal-room}
 use Rattle.take.specs.KeptLaws.{Keeps, keeps-start, current-left, current-made, current-by, known-for, keeps-next, moved-next}
-use Rattle.take.specs.CommandsLaws.{Reading, stop-left, reading-start, reading-past, reading-unread, reading-stop, reading-next, reading-room}
+use Rattle.take.specs.CommandsLaws.{Reading, stop-left, reading-start, reading-past, reading-unread, reading-stop, reading-next, fewer-left}
 use Prim.Native.Nat.{_-_}
 use mathlib.Core.Path.{sym, _∙_}
 use lib.ListN.{length}
@@ -13,8 +13,7 @@ use Rattle.take.proofs.commands.take_commands.Statement.{statement}
 use Rattle.take.proofs.commands.take_commands.Tie as tie
 use Rattle.take.proofs.commands.take_commands.Reads as reads
 use Rattle.take.proofs.commands.take_commands.Lts as lts
-use Rattle.message.proofs.size_of.Reads as size-of-reads
-use Rattle.reader.proofs.command_at.Reads as command-at-reads
+use Rattle.reader.proofs.next_command.Reads as next-command-reads
 use Rattle.take.proofs.beside.carried.Reads as carried-reads
 use Rattle.take.proofs.beside.nothing_kept.Reads as nothing-kept-reads
 use Rattle.take.proofs.beside.ready.Reads as ready-reads
@@ -43,8 +42,8 @@ nothing-kept-requires c κs = search needs
 loop-holds : tie.Need-loop-holds Inv-loop μ-loop
 loop-holds c = (reading-start _ _ _ _ (c .nothing-kept .ensures .0) (c .before .before .before .pre .2) (c .before .before .before .pre .3), keeps-start _ _ _ (c .nothing-kept .ensures .1) (c .nothing-kept .ensures .2))
 
-command-at-requires : tie.Need-command-at-requires Inv-loop μ-loop
-command-at-requires c κs = search needs
+next-command-requires : tie.Need-next-command-requires Inv-loop μ-loop
+next-command-requires c κs = search needs
 
 enum-known-a : tie.Need-enum-known-a Inv-loop μ-loop
 enum-known-a c = search needs
@@ -59,7 +58,7 @@ taking-requires : tie.Need-taking-requires Inv-loop μ-loop
 taking-requires c κs = search needs
 
 returns : tie.Need-returns Inv-loop μ-loop
-returns c = reading-unread _ _ _ (c .before .before .before .before .before .before .loop .inv .0) (c .before .before .before .before .before .loop-test .taken) (c .before .before .before .before .command-at .ensures) _ (c .before .before .enum-told .given .1) (c .before .refusal-of .ensures) (c .taking .ensures .0)
+returns c = reading-unread _ _ _ (c .before .before .before .before .before .before .loop .inv .0) (c .before .before .before .before .before .loop-test .taken) (c .before .before .before .before .next-command .ensures .0) _ (c .before .before .enum-told .given .1) (c .before .refusal-of .ensures) (c .taking .ensures .0)
 
 is-implication-requires : tie.Need-is-implication-requires Inv-loop μ-loop
 is-implication-requires c κs = search needs
@@ -83,7 +82,7 @@ taking-requires-2 : tie.Need-taking-requires-2 Inv-loop μ-loop
 taking-requires-2 c κs = search needs
 
 returns-2 : tie.Need-returns-2 Inv-loop μ-loop
-returns-2 c = reading-stop _ _ _ (c .before .before .before .before .before .before .before .before .before .before .before .before .before .before .before .before .before .before .before .before .before .before .before .before .before .before .before .loop .inv .0) (c .before .before .before .before .before .before .before .before .before .before .before .before .before .before .before .before .before .before .before .before .before .before .before .before .before .before .loop-test .taken) (c .before .before .before .before .before .before .before .before .before .before .before .before .before .before .before .before .before .before .before .before .before .before .before .before .before .command-at .ensures) (c .before .before .before .before .before .before .before .before .before .before .before .before .before .before .before .before .before .before .before .before .before .before .before .a .given .1) (c .before .before .before .judge .ensures) (c .before .before .is-end .ensures) _ (c .before .if2 .taken) (c .taking2 .ensures .0) ((c .taking2 .ensures .1) ∙ (c .before .before .before .before .before .before .before .before .before .before .before .before .before .before .before .before .before .before .ready .ensures .moved)) (c .taking2 .ensures .2)
+returns-2 c = reading-stop _ _ _ (c .before .before .before .before .before .before .before .before .before .before .before .before .before .before .before .before .before .before .before .before .before .before .before .before .before .before .before .loop .inv .0) (c .before .before .before .before .before .before .before .before .before .before .before .before .before .before .before .before .before .before .before .before .before .before .before .before .before .before .loop-test .taken) (c .before .before .before .before .before .before .before .before .before .before .before .before .before .before .before .before .before .before .before .before .before .before .before .before .before .next-command .ensures .0) (c .before .before .before .before .before .before .before .before .before .before .before .before .before .before .before .before .before .before .before .before .before .before .before .a .given .1) (c .before .before .before .judge .ensures) (c .before .before .is-end .ensures) _ (c .before .if2 .taken) (c .taking2 .ensures .0) ((c .taking2 .ensures .1) ∙ (c .before .before .before .before .before .before .before .before .before .before .before .before .before .before .before .before .before .before .ready .ensures .moved)) (c .taking2 .ensures .2)
 
 carried-requires : tie.Need-carried-requires Inv-loop μ-loop
 carried-requires c κs = within-few _ (c .before .before .before .before .before .before .before .before .before .before .before .before .before .before .before .before .before .before .before .before .before .before .before .before .before .before .loop .inv .0 .sizes) .0
@@ -91,17 +90,11 @@ carried-requires c κs = within-few _ (c .before .before .before .before .before
 step-requires : tie.Need-step-requires Inv-loop μ-loop
 step-requires c κs = ((c .before .before .before .before .before .before .before .before .before .before .before .before .before .before .before .before .before .before .before .before .before .before .before .before .before .before .before .loop .inv .0 .sizes), legal-room _ _ _ _ (sym (c .before .before .before .judge .ensures) ∙ (stop-left _ _ (c .before .if2 .left) .0)))
 
-size-of-requires : tie.Need-size-of-requires Inv-loop μ-loop
-size-of-requires c κs = search needs
-
-add-at : tie.Need-add-at Inv-loop μ-loop
-add-at c = omega (arith, (c .before .before .before .before .before .before .before .before .before .before .before .before .before .before .before .before .before .before .before .before .before .before .before .before .before .before .before .before .before .before .before .before .before .pre .4), reading-room _ _ _ (c .before .before .before .before .before .before .before .before .before .before .before .before .before .before .before .before .before .before .before .before .before .before .before .before .before .before .before .before .before .loop .inv .0) (c .before .before .before .before .before .before .before .before .before .before .before .before .before .before .before .before .before .before .before .before .before .before .before .before .before .before .before .before .loop-test .taken) (c .before .before .before .before .before .before .before .before .before .before .before .before .before .before .before .before .before .before .before .before .before .before .before .before .before .before .before .command-at .ensures) (c .before .before .before .before .before .before .before .before .before .before .before .before .before .before .before .before .before .before .before .before .before .before .before .before .before .a .given .1) (c .before .before .before .before .before .judge .ensures) (stop-left _ _ (c .before .before .before .if2 .left) .0) (c .before .before .before .before .is-end .ensures) (c .size-of .ensures) .0)
-
 loop-less : tie.Need-loop-less Inv-loop μ-loop
-loop-less c = omega (arith, reading-room _ _ _ (c .before .before .before .before .before .before .before .before .before .before .before .before .before .before .before .before .before .before .before .before .before .before .before .before .before .before .before .before .before .loop .inv .0) (c .before .before .before .before .before .before .before .before .before .before .before .before .before .before .before .before .before .before .before .before .before .before .before .before .before .before .before .before .loop-test .taken) (c .before .before .before .before .before .before .before .before .before .before .before .before .before .before .before .before .before .before .before .before .before .before .before .before .before .before .before .command-at .ensures) (c .before .before .before .before .before .before .before .before .before .before .before .before .before .before .before .before .before .before .before .before .before .before .before .before .before .a .given .1) (c .before .before .before .before .before .judge .ensures) (stop-left _ _ (c .before .before .before .if2 .left) .0) (c .before .before .before .before .is-end .ensures) (c .size-of .ensures) .0, reading-room _ _ _ (c .before .before .before .before .before .before .before .before .before .before .before .before .before .before .before .before .before .before .before .before .before .before .before .before .before .before .before .before .before .loop .inv .0) (c .before .before .before .before .before .before .before .before .before .before .before .before .before .before .before .before .before .before .before .before .before .before .before .before .before .before .before .before .loop-test .taken) (c .before .before .before .before .before .before .before .before .before .before .before .before .before .before .before .before .before .before .before .before .before .before .before .before .before .before .before .command-at .ensures) (c .before .before .before .before .before .before .before .before .before .before .before .before .before .before .before .before .before .before .before .before .before .before .before .before .before .a .given .1) (c .before .before .before .before .before .judge .ensures) (stop-left _ _ (c .before .before .before .if2 .left) .0) (c .before .before .before .before .is-end .ensures) (c .size-of .ensures) .1)
+loop-less c = fewer-left _ _ (c .before .before .before .before .before .before .before .before .before .before .before .before .before .before .before .before .before .before .before .before .before .before .before .before .before .before .next-command .ensures .0) (c .before .before .before .before .before .before .before .before .before .before .before .before .before .before .before .before .before .before .before .before .before .before .before .before .a .given .1) (c .before .before .before .before .before .before .before .before .before .before .before .before .before .before .before .before .before .before .before .before .before .before .before .before .before .before .next-command .ensures .1)
 
 loop-again : tie.Need-loop-again Inv-loop μ-loop
-loop-again c = (reading-next _ _ _ (c .before .before .before .before .before .before .before .before .before .before .before .before .before .before .before .before .before .before .before .before .before .before .before .before .before .before .before .before .before .loop .inv .0) (c .before .before .before .before .before .before .before .before .before .before .before .before .before .before .before .before .before .before .before .before .before .before .before .before .before .before .before .before .loop-test .taken) (c .before .before .before .before .before .before .before .before .before .before .before .before .before .before .before .before .before .before .before .before .before .before .before .before .before .before .before .command-at .ensures) (c .before .before .before .before .before .before .before .before .before .before .before .before .before .before .before .before .before .before .before .before .before .before .before .before .before .a .given .1) (c .before .before .before .before .before .judge .ensures) (stop-left _ _ (c .before .before .before .if2 .left) .0) (c .before .before .before .before .is-end .ensures) (stop-left (c .before .before .before .before .before .judge .result) _ (c .before .before .before .if2 .left) .1) (c .before .step .ensures) (moved-next _ _ (c .before .before .before .before .before .before .before .before .before .before .before .before .before .before .before .before .before .before .before .before .ready .ensures) (c .before .before .carried .ensures)) (c .size-of .ensures), keeps-next _ _ _ _ (current-by (c .before .before .before .before .before .before .before .before .before .before .before .before .before .before .before .before .before .before .before .before .before .if1 .known) (c .before .before .before .before .before .before .before .before .before .before .before .before .before .before .before .before .before .before .before .before .before .before .before .before .before .before .before .before .before .loop .kept .stale) (c .before .before .before .before .before .before .before .before .before .before .before .before .before .before .before .before .before .before .before .before .before .before .before .before .before .a .given .0 .0) (c .before .before .before .before .before .before .before .before .before .before .before .before .before .before .before .before .before .before .before .before .before .before .before .before .before .before .before .before .before .loop .n .shown) (λ w. current-made _ _ _ _ _ (w .1 .ensures .0) (w .1 .ensures .1) (w .2)) (λ w. current-left _ _ _ _ _ (c .before .before .before .before .before .before .before .before .before .before .before .before .before .before .before .before .before .before .before .before .before .before .before .before .before .before .before .before .before .loop .inv .1 .current) (c .before .before .before .before .before .before .before .before .before .before .before .before .before .before .before .before .before .before .before .before .before .before .before .is-implication .ensures) (w .0 .left) (w .1)) (c .before .before .before .before .before .before .before .before .before .before .before .before .before .before .before .before .before .before .before .before .before .if1 .came)) (c .before .before .before .before .before .before .before .before .before .before .before .before .before .before .before .before .before .before .before .before .ready .ensures) (c .before .step .ensures) (c .before .before .carried .ensures))
+loop-again c = (reading-next _ _ _ (c .before .before .before .before .before .before .before .before .before .before .before .before .before .before .before .before .before .before .before .before .before .before .before .before .before .before .before .before .loop .inv .0) (c .before .before .before .before .before .before .before .before .before .before .before .before .before .before .before .before .before .before .before .before .before .before .before .before .before .before .before .loop-test .taken) (c .before .before .before .before .before .before .before .before .before .before .before .before .before .before .before .before .before .before .before .before .before .before .before .before .before .before .next-command .ensures .0) (c .before .before .before .before .before .before .before .before .before .before .before .before .before .before .before .before .before .before .before .before .before .before .before .before .a .given .1) (c .before .before .before .before .judge .ensures) (stop-left _ _ (c .before .before .if2 .left) .0) (c .before .before .before .is-end .ensures) (stop-left (c .before .before .before .before .judge .result) _ (c .before .before .if2 .left) .1) (c .step .ensures) (moved-next _ _ (c .before .before .before .before .before .before .before .before .before .before .before .before .before .before .before .before .before .before .before .ready .ensures) (c .before .carried .ensures)) (c .before .before .before .before .before .before .before .before .before .before .before .before .before .before .before .before .before .before .before .before .before .before .before .before .before .before .next-command .ensures .1), keeps-next _ _ _ _ (current-by (c .before .before .before .before .before .before .before .before .before .before .before .before .before .before .before .before .before .before .before .before .if1 .known) (c .before .before .before .before .before .before .before .before .before .before .before .before .before .before .before .before .before .before .before .before .before .before .before .before .before .before .before .before .loop .kept .stale) (c .before .before .before .before .before .before .before .before .before .before .before .before .before .before .before .before .before .before .before .before .before .before .before .before .a .given .0 .0) (c .before .before .before .before .before .before .before .before .before .before .before .before .before .before .before .before .before .before .before .before .before .before .before .before .before .before .before .before .loop .n .shown) (λ w. current-made _ _ _ _ _ (w .1 .ensures .0) (w .1 .ensures .1) (w .2)) (λ w. current-left _ _ _ _ _ (c .before .before .before .before .before .before .before .before .before .before .before .before .before .before .before .before .before .before .before .before .before .before .before .before .before .before .before .before .loop .inv .1 .current) (c .before .before .before .before .before .before .before .before .before .before .before .before .before .before .before .before .before .before .before .before .before .before .is-implication .ensures) (w .0 .left) (w .1)) (c .before .before .before .before .before .before .before .before .before .before .before .before .before .before .before .before .before .before .before .before .if1 .came)) (c .before .before .before .before .before .before .before .before .before .before .before .before .before .before .before .before .before .before .before .ready .ensures) (c .step .ensures) (c .before .carried .ensures))
 
 taking-requires-3 : tie.Need-taking-requires-3 Inv-loop μ-loop
 taking-requires-3 c κs = search needs
@@ -118,7 +111,7 @@ take-commands-spec =
     unknown-requires
     nothing-kept-requires
     loop-holds
-    command-at-requires
+    next-command-requires
     enum-known-a
     enum-told
     refusal-of-requires
@@ -134,8 +127,6 @@ take-commands-spec =
     returns-2
     carried-requires
     step-requires
-    size-of-requires
-    add-at
     loop-less
     loop-again
     taking-requires-3
