@@ -11,8 +11,7 @@ use tables::House;
 use update::after_message;
 ghost use mathlib.Core.Path.{_≡_};
 ghost use mathlib.Core.Bool.{true};
-ghost use Prim.Native.Nat.{_≤_, _<_};
-ghost use lib.ListN.{length};
+ghost use Prim.Native.Nat.{_<_};
 ghost use Rattle.tables.specs.Tables.{tablesOf};
 ghost use Rattle.tables.specs.Decoding.{Housed};
 ghost use Rattle.negotiation.specs.State.{stateOf, within};
@@ -52,7 +51,7 @@ fn fits(message: usize, scratch: usize) -> bool
 
 // What a message does to a negotiation.
 fn taken_in(house: House, n: Negotiation, message: &[u8]) -> Taking
-    requires { ⌜ Housed house × (0 < house .own) × (within (stateOf n) ≡ true) × (sound (tablesOf house) (stateOf n) ≡ true) × (length (now message) ≤ 4096) ⌝ }
+    requires { ⌜ Housed house × (0 < house .own) × (within (stateOf n) ≡ true) × (sound (tablesOf house) (stateOf n) ≡ true) ⌝ }
     ensures taken { λ r. ⌜ outcomeOf r ≡ takenIn (now (message .entry)) (tablesOf house) (stateOf n) ⌝ }
     ensures sized { λ r. ⌜ Room r ⌝ }
 {
