@@ -17,8 +17,7 @@ use standing::sends;
 use tables::House;
 ghost use mathlib.Core.Path.{_≡_};
 ghost use mathlib.Core.Bool.{true};
-ghost use Prim.Native.Nat.{_≤_, _<_};
-ghost use lib.ListN.{length};
+ghost use Prim.Native.Nat.{_<_};
 ghost use Rattle.tables.specs.laws.Tables.{tablesOf};
 ghost use Rattle.tables.specs.laws.Decoding.{Housed};
 ghost use Rattle.negotiation.specs.laws.State.{stateOf};
@@ -37,7 +36,7 @@ fn fits(message: usize, scratch: usize) -> bool
 
 // What a message does to a negotiation.
 fn taken_in(house: House, n: Negotiation, message: &[u8]) -> Taking
-    requires { ⌜ Housed house × (0 < house .own) × (within (stateOf n) ≡ true) × (sound (tablesOf house) (stateOf n) ≡ true) × (length (now message) ≤ 4096) ⌝ }
+    requires { ⌜ Housed house × (0 < house .own) × (within (stateOf n) ≡ true) × (sound (tablesOf house) (stateOf n) ≡ true) ⌝ }
     ensures taken { λ r. ⌜ outcomeOf r ≡ takenIn (now (message .entry)) (tablesOf house) (stateOf n) ⌝ }
     ensures sized { λ r. ⌜ Room r ⌝ }
 {

@@ -13,10 +13,9 @@ use legal::nothing_proved;
 use legal::proved_by;
 use message::Command;
 use message::CommandAnswer;
-use message::size_of;
 use negotiation::Negotiation;
 use numbers::COMMAND;
-use reader::command_at;
+use reader::next_command;
 ghost use mathlib.Core.Path.{_≡_};
 ghost use mathlib.Core.Bool.{true, false};
 ghost use Prim.Native.Nat.{_≤_};
@@ -84,7 +83,7 @@ fn judge<'a>(
 // Each command is judged and carried out before the next is read. What the credentials shown prove and which nodes are satisfied is kept beside: the
 // former stands here alone, and is lent.
 pub fn take_commands(names: Names, sender: u8, start: Negotiation, message: &[u8]) -> Taking
-    requires { ⌜ (names .count ≤ 64) × Ascending (names .count) (names .name) × (within (stateOf start) ≡ true) × NodesFormed (nodesOf (start .nodes)) × (length (now message) ≤ 4096) ⌝ }
+    requires { ⌜ (names .count ≤ 64) × Ascending (names .count) (names .name) × (within (stateOf start) ≡ true) × NodesFormed (nodesOf (start .nodes)) ⌝ }
     ensures taken { λ r. ⌜ takenOf r ≡ commandsFrom (length (now (message .entry))) (namesOf names) sender (now (message .entry)) 0 (stateOf start) false ⌝ }
     ensures sized { λ r. ⌜ Room r ⌝ }
 {
@@ -93,7 +92,8 @@ pub fn take_commands(names: Names, sender: u8, start: Negotiation, message: &[u8
     let mut kept = no_progress();
     let mut at = 0;
     while at < message.len() {
-        let a = command_at(message, at);
+        let next = next_command(message, at);
+        let a = next.answer;
         let CommandAnswer::Read(c) = a else {
             return taking(refusal_of(a), kept.moved, n);
         };
@@ -123,7 +123,7 @@ pub fn take_commands(names: Names, sender: u8, start: Negotiation, message: &[u8
         }
         kept = carried(held, n, c);
         n = step(n, sender, c);
-        at += size_of(c);
+        at = next.at;
     }
     taking(COMMAND, kept.moved, n)
 }

@@ -1,5 +1,5 @@
 -- The commands of a message, test by test. Assumes nothing.
-use Prim.Native.Nat.{ℕ, zero, suc, _+_, _≤_, _<_}
+use Prim.Native.Nat.{ℕ, zero, suc, _+_, _-_, _≤_, _<_}
 use mathlib.Core.Bool.{Bool, true, false, cond, _||_, not}
 use mathlib.Core.List.{List}
 use lib.Dec.{eqb}
@@ -10,6 +10,8 @@ use Rattle.message.specs.declared.CommandAnswer.the-variants.{Read, Refused}
 use Rattle.message.specs.Command.{commandAt, sizeOf}
 use Rattle.negotiation.specs.State.{State, within}
 use Rattle.negotiation.specs.laws.State.{stateOf}
+use Rattle.reader.specs.laws.Position.{positionAfter}
+use Rattle.reader.specs.laws.PositionLaws.{position-read}
 use Rattle.take.specs.declared.Taking.{Taking}
 use Rattle.applied.specs.Step.{stepped, isMove, hasRoom}
 use Rattle.legal.specs.Number.{legalNumber}
@@ -43,6 +45,11 @@ refusalOf (Refused k) = k
 pub record Room (r : Taking) : Type 0 where
   pub sizes : r .refusal ≡ 0 → within (stateOf (r .negotiation)) ≡ true
   pub formed : r .refusal ≡ 0 → NodesFormed (nodesOf (r .negotiation .nodes))
+
+-- fewer bytes are left behind it
+pub fewer-left : (m : List ℕ) (at : ℕ) {i : ℕ} {a : CommandAnswer} {c : Command} → a ≡ commandAt m at → a ≡ Read c → i ≡ positionAfter m at
+    → length m - i < length m - at
+fewer-left m at {i} {a} {c} ae h ie = omega (arith, ie ∙ position-read m at (sym ae ∙ h), command-room m at c (sym ae ∙ h), size-some c)
 
 -- The loop
 
@@ -121,23 +128,21 @@ module _ (ns : List Name) (s : ℕ) (m : List ℕ) where
           )
 
           -- the next command
-          pub reading-next : {n′ : Negotiation} {v′ : Bool} {d : ℕ} → b ≡ false → stateOf n′ ≡ stepped (stateOf n) s c → v′ ≡ (v || isMove c) → d ≡ sizeOf c → Reading ns s m S₀ n′ (at + d) v′
+          pub reading-next : {n′ : Negotiation} {v′ : Bool} {i : ℕ} → b ≡ false → stateOf n′ ≡ stepped (stateOf n) s c → v′ ≡ (v || isMove c) → i ≡ positionAfter m at
+              → Reading ns s m S₀ n′ i v′
           unfolding stateOf
-          reading-next {n′} {v′} {d} q e ve de =
+          reading-next {n′} {v′} {i} q e ve ie =
               let room : hasRoom (stateOf n) c ≡ true = legal-room (stateOf n) ns s c (sym ke ∙ z) in
               let wide : within (stepped (stateOf n) s c) ≡ true = step-within (stateOf n) (r .sizes) s c room in
+              let past : i ≡ at + sizeOf c = ie ∙ position-read m at (sym ae ∙ h) in
               record {
                 fuel = step-one .0;
-                enough = omega (arith, r .enough, step-one .1, size-some c, de);
+                enough = omega (arith, r .enough, step-one .1, size-some c, past);
                 same = by-end ∙ ap (λ (t : Bool). cond t (accepted (stateOf n, v)) (commandsFrom (step-one .0) ns s m (at + sizeOf c) (stepped (stateOf n) s c) (v || isMove c))) q
-                    ∙ (λ i. commandsFrom (step-one .0) ns s m (at + sym de i) (sym e i) (sym ve i));
+                    ∙ (λ j. commandsFrom (step-one .0) ns s m (sym past j) (sym e j) (sym ve j));
                 sizes = ap within e ∙ wide;
                 formed = subst (λ (S : State). NodesFormed (S .nodes)) (sym e) (step-formed (stateOf n) s c (r .formed) room (command-formed m at c (sym ae ∙ h)));
               }
-
-          -- it stands behind this one
-          pub reading-room : {d : ℕ} → d ≡ sizeOf c → (at + d ≤ length m) × (at < at + d)
-          reading-room de = (omega (arith, de, command-room m at c (sym ae ∙ h)), omega (arith, de, size-some c))
 
         -- one that is not legal, or the end
         pub reading-stop : {b : Bool} → b ≡ isEnd c → (t : Taking) → (not (eqb k 0) || b) ≡ true → t .refusal ≡ k → t .moved ≡ v → t .negotiation ≡ n → (takenOf t ≡ commandsFrom (length m) ns s m 0 S₀ false) × Room t

@@ -12,7 +12,7 @@ returns-2 : tie.Need-returns-2
 returns-2 c = take-unrestored (c .before .before .before .before .before .before .before .before .before .before .args .tables .now) (c .before .before .before .before .before .before .before .before .before .before .args .negotiation .now) (c .before .before .before .before .before .before .before .before .before .before .args .message .now) (c .before .before .before .before .before .before .before .before .before .before .args .scratch .now) (c .before .before .before .before .before .fits2 .ensures) (c .before .before .before .before .if1 .left) _ (c .before .before .restore .ensures .0) (c .if2 .taken)
 
 taken-in-requires : tie.Need-taken-in-requires
-taken-in-requires c κs = ((c .before .before .restore .ensures .1 .housed) (c .if2 .left), restored-own _ _ _ (c .before .before .restore .ensures .0) (c .if2 .left), (c .before .before .restore .ensures .1 .within-sizes) (c .if2 .left), (c .before .before .restore .ensures .1 .is-sound) (c .if2 .left), size-parts (c .before .before .before .before .before .before .before .before .before .before .args .tables .now) (c .before .before .before .before .before .before .before .before .before .before .args .negotiation .now) (c .before .before .before .before .before .before .before .before .before .before .args .message .now) (c .before .before .before .before .before .before .before .before .before .before .args .scratch .now) (c .before .before .before .before .before .fits2 .ensures) (c .before .before .before .before .if1 .left) .1)
+taken-in-requires c κs = ((c .before .before .restore .ensures .1 .housed) (c .if2 .left), restored-own _ _ _ (c .before .before .restore .ensures .0) (c .if2 .left), (c .before .before .restore .ensures .1 .within-sizes) (c .if2 .left), (c .before .before .restore .ensures .1 .is-sound) (c .if2 .left))
 
 returns-3 : tie.Need-returns-3
 returns-3 c = take-refused (c .before .before .before .before .before .before .before .before .before .before .before .before .before .args .tables .now) (c .before .before .before .before .before .before .before .before .before .before .before .before .before .args .negotiation .now) (c .before .before .before .before .before .before .before .before .before .before .before .before .before .args .message .now) (c .before .before .before .before .before .before .before .before .before .before .before .before .before .args .scratch .now) (c .before .before .before .before .before .before .before .before .fits2 .ensures) (c .before .before .before .before .before .before .before .if1 .left) _ (c .before .before .before .before .before .restore .ensures .0) (c .before .before .before .if2 .left) _ (c .before .before .taken-in .ensures .0) (c .if3 .taken)

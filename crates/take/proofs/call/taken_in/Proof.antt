@@ -11,7 +11,7 @@ returns-2 : tie.Need-returns-2
 returns-2 c = taken-turn _ _ _ (c .before .before .before .before .if1 .left) (c .before .before .before .other-side .ensures) (c .before .before .sends .ensures) _ (c .before .if2 .taken) (c .taking2 .ensures .0)
 
 take-commands-requires : tie.Need-take-commands-requires
-take-commands-requires c κs = ((c .before .before .before .before .before .before .before .before .pre .0 .names), (c .before .before .before .before .before .before .before .before .pre .0 .ascending), (c .before .before .before .before .before .before .before .before .pre .2), start-formed _ _ (c .before .before .before .before .before .before .before .before .pre .2) (c .before .before .before .before .before .before .before .before .pre .3), (c .before .before .before .before .before .before .before .before .pre .4))
+take-commands-requires c κs = ((c .before .before .before .before .before .before .before .before .pre .0 .names), (c .before .before .before .before .before .before .before .before .pre .0 .ascending), (c .before .before .before .before .before .before .before .before .pre .2), start-formed _ _ (c .before .before .before .before .before .before .before .before .pre .2) (c .before .before .before .before .before .before .before .before .pre .3))
 
 returns-3 : tie.Need-returns-3
 returns-3 c = taken-refused _ _ _ (c .before .before .before .before .before .before .if1 .left) (c .before .before .before .before .before .other-side .ensures) (c .before .before .before .before .sends .ensures) (c .before .before .before .if2 .left) _ (c .before .before .take-commands .ensures .0) _ refl (c .if3 .taken)

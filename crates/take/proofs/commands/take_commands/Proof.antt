@@ -1,7 +1,7 @@
 use Rattle.negotiation.specs.laws.Within.{within-few}
 use Rattle.legal.specs.laws.Room.{legal-room}
 use Rattle.take.specs.laws.Progress.{Keeps, keeps-start, current-left, current-made, current-by, proved-for, keeps-next, moved-next}
-use Rattle.take.specs.laws.Commands.{Reading, stop-left, reading-start, reading-past, reading-unread, reading-stop, reading-next, reading-room}
+use Rattle.take.specs.laws.Commands.{Reading, stop-left, reading-start, reading-past, reading-unread, reading-stop, reading-next, fewer-left}
 use Prim.Native.Nat.{_-_}
 use mathlib.Core.Path.{sym, _∙_}
 use lib.ListN.{length}
@@ -22,7 +22,7 @@ loop-holds : tie.Need-loop-holds Inv-loop μ-loop
 loop-holds c = (reading-start _ _ _ _ (c .no-progress .ensures .0) (c .before .before .before .pre .2) (c .before .before .before .pre .3), keeps-start _ _ _ (c .no-progress .ensures .1) (c .no-progress .ensures .2))
 
 returns : tie.Need-returns Inv-loop μ-loop
-returns c = reading-unread _ _ _ (c .before .before .before .before .before .before .loop .inv .0) (c .before .before .before .before .before .loop-test .taken) (c .before .before .before .before .command-at .ensures) _ (c .before .before .enum-told .given .1) (c .before .refusal-of .ensures) (c .taking .ensures .0)
+returns c = reading-unread _ _ _ (c .before .before .before .before .before .before .loop .inv .0) (c .before .before .before .before .before .loop-test .taken) (c .before .before .before .before .next-command .ensures .0) _ (c .before .before .enum-told .given .1) (c .before .refusal-of .ensures) (c .taking .ensures .0)
 
 known-of-requires : tie.Need-proved-by-requires Inv-loop μ-loop
 known-of-requires c κs = omega (arith, within-few _ (c .before .before .before .before .before .before .before .before .loop .inv .0 .sizes) .2)
@@ -37,7 +37,7 @@ judge-requires : tie.Need-judge-requires Inv-loop μ-loop
 judge-requires c κs = ((c .before .before .before .before .before .before .before .before .before .before .before .before .before .before .before .before .before .before .before .before .before .before .before .before .before .before .before .pre .0), (c .before .before .before .before .before .before .before .before .before .before .before .before .before .before .before .before .before .before .before .before .before .before .before .before .before .before .before .pre .1), (c .before .before .before .before .before .before .before .before .before .before .before .before .before .before .before .before .before .before .before .before .before .before .before .loop .inv .0 .sizes), (c .before .before .is-proved .ensures), (c .before .before .before .before .before .before .before .before .before .before .before .before .before .before .ready .ensures .says))
 
 returns-2 : tie.Need-returns-2 Inv-loop μ-loop
-returns-2 c = reading-stop _ _ _ (c .before .before .before .before .before .before .before .before .before .before .before .before .before .before .before .before .before .before .before .before .before .before .before .before .before .before .before .loop .inv .0) (c .before .before .before .before .before .before .before .before .before .before .before .before .before .before .before .before .before .before .before .before .before .before .before .before .before .before .loop-test .taken) (c .before .before .before .before .before .before .before .before .before .before .before .before .before .before .before .before .before .before .before .before .before .before .before .before .before .command-at .ensures) (c .before .before .before .before .before .before .before .before .before .before .before .before .before .before .before .before .before .before .before .before .before .before .before .a .given .1) (c .before .before .before .judge .ensures) (c .before .before .is-end .ensures) _ (c .before .if2 .taken) (c .taking2 .ensures .0) ((c .taking2 .ensures .1) ∙ (c .before .before .before .before .before .before .before .before .before .before .before .before .before .before .before .before .before .before .ready .ensures .moved)) (c .taking2 .ensures .2)
+returns-2 c = reading-stop _ _ _ (c .before .before .before .before .before .before .before .before .before .before .before .before .before .before .before .before .before .before .before .before .before .before .before .before .before .before .before .loop .inv .0) (c .before .before .before .before .before .before .before .before .before .before .before .before .before .before .before .before .before .before .before .before .before .before .before .before .before .before .loop-test .taken) (c .before .before .before .before .before .before .before .before .before .before .before .before .before .before .before .before .before .before .before .before .before .before .before .before .before .next-command .ensures .0) (c .before .before .before .before .before .before .before .before .before .before .before .before .before .before .before .before .before .before .before .before .before .before .before .a .given .1) (c .before .before .before .judge .ensures) (c .before .before .is-end .ensures) _ (c .before .if2 .taken) (c .taking2 .ensures .0) ((c .taking2 .ensures .1) ∙ (c .before .before .before .before .before .before .before .before .before .before .before .before .before .before .before .before .before .before .ready .ensures .moved)) (c .taking2 .ensures .2)
 
 carried-requires : tie.Need-carried-requires Inv-loop μ-loop
 carried-requires c κs = within-few _ (c .before .before .before .before .before .before .before .before .before .before .before .before .before .before .before .before .before .before .before .before .before .before .before .before .before .before .loop .inv .0 .sizes) .0
@@ -45,14 +45,11 @@ carried-requires c κs = within-few _ (c .before .before .before .before .before
 step-requires : tie.Need-step-requires Inv-loop μ-loop
 step-requires c κs = ((c .before .before .before .before .before .before .before .before .before .before .before .before .before .before .before .before .before .before .before .before .before .before .before .before .before .before .before .loop .inv .0 .sizes), legal-room _ _ _ _ (sym (c .before .before .before .judge .ensures) ∙ (stop-left _ _ (c .before .if2 .left) .0)))
 
-add-at : tie.Need-add-at Inv-loop μ-loop
-add-at c = omega (arith, (c .before .before .before .before .before .before .before .before .before .before .before .before .before .before .before .before .before .before .before .before .before .before .before .before .before .before .before .before .before .before .before .before .before .pre .4), reading-room _ _ _ (c .before .before .before .before .before .before .before .before .before .before .before .before .before .before .before .before .before .before .before .before .before .before .before .before .before .before .before .before .before .loop .inv .0) (c .before .before .before .before .before .before .before .before .before .before .before .before .before .before .before .before .before .before .before .before .before .before .before .before .before .before .before .before .loop-test .taken) (c .before .before .before .before .before .before .before .before .before .before .before .before .before .before .before .before .before .before .before .before .before .before .before .before .before .before .before .command-at .ensures) (c .before .before .before .before .before .before .before .before .before .before .before .before .before .before .before .before .before .before .before .before .before .before .before .before .before .a .given .1) (c .before .before .before .before .before .judge .ensures) (stop-left _ _ (c .before .before .before .if2 .left) .0) (c .before .before .before .before .is-end .ensures) (c .size-of .ensures) .0)
-
 loop-less : tie.Need-loop-less Inv-loop μ-loop
-loop-less c = omega (arith, reading-room _ _ _ (c .before .before .before .before .before .before .before .before .before .before .before .before .before .before .before .before .before .before .before .before .before .before .before .before .before .before .before .before .before .loop .inv .0) (c .before .before .before .before .before .before .before .before .before .before .before .before .before .before .before .before .before .before .before .before .before .before .before .before .before .before .before .before .loop-test .taken) (c .before .before .before .before .before .before .before .before .before .before .before .before .before .before .before .before .before .before .before .before .before .before .before .before .before .before .before .command-at .ensures) (c .before .before .before .before .before .before .before .before .before .before .before .before .before .before .before .before .before .before .before .before .before .before .before .before .before .a .given .1) (c .before .before .before .before .before .judge .ensures) (stop-left _ _ (c .before .before .before .if2 .left) .0) (c .before .before .before .before .is-end .ensures) (c .size-of .ensures) .0, reading-room _ _ _ (c .before .before .before .before .before .before .before .before .before .before .before .before .before .before .before .before .before .before .before .before .before .before .before .before .before .before .before .before .before .loop .inv .0) (c .before .before .before .before .before .before .before .before .before .before .before .before .before .before .before .before .before .before .before .before .before .before .before .before .before .before .before .before .loop-test .taken) (c .before .before .before .before .before .before .before .before .before .before .before .before .before .before .before .before .before .before .before .before .before .before .before .before .before .before .before .command-at .ensures) (c .before .before .before .before .before .before .before .before .before .before .before .before .before .before .before .before .before .before .before .before .before .before .before .before .before .a .given .1) (c .before .before .before .before .before .judge .ensures) (stop-left _ _ (c .before .before .before .if2 .left) .0) (c .before .before .before .before .is-end .ensures) (c .size-of .ensures) .1)
+loop-less c = fewer-left _ _ (c .before .before .before .before .before .before .before .before .before .before .before .before .before .before .before .before .before .before .before .before .before .before .before .before .before .before .next-command .ensures .0) (c .before .before .before .before .before .before .before .before .before .before .before .before .before .before .before .before .before .before .before .before .before .before .before .before .a .given .1) (c .before .before .before .before .before .before .before .before .before .before .before .before .before .before .before .before .before .before .before .before .before .before .before .before .before .before .next-command .ensures .1)
 
 loop-again : tie.Need-loop-again Inv-loop μ-loop
-loop-again c = (reading-next _ _ _ (c .before .before .before .before .before .before .before .before .before .before .before .before .before .before .before .before .before .before .before .before .before .before .before .before .before .before .before .before .before .loop .inv .0) (c .before .before .before .before .before .before .before .before .before .before .before .before .before .before .before .before .before .before .before .before .before .before .before .before .before .before .before .before .loop-test .taken) (c .before .before .before .before .before .before .before .before .before .before .before .before .before .before .before .before .before .before .before .before .before .before .before .before .before .before .before .command-at .ensures) (c .before .before .before .before .before .before .before .before .before .before .before .before .before .before .before .before .before .before .before .before .before .before .before .before .before .a .given .1) (c .before .before .before .before .before .judge .ensures) (stop-left _ _ (c .before .before .before .if2 .left) .0) (c .before .before .before .before .is-end .ensures) (stop-left (c .before .before .before .before .before .judge .result) _ (c .before .before .before .if2 .left) .1) (c .before .step .ensures) (moved-next _ _ (c .before .before .before .before .before .before .before .before .before .before .before .before .before .before .before .before .before .before .before .before .ready .ensures) (c .before .before .carried .ensures)) (c .size-of .ensures), keeps-next _ _ _ _ (current-by (c .before .before .before .before .before .before .before .before .before .before .before .before .before .before .before .before .before .before .before .before .before .if1 .known) (c .before .before .before .before .before .before .before .before .before .before .before .before .before .before .before .before .before .before .before .before .before .before .before .before .before .before .before .before .before .loop .kept .stale) (c .before .before .before .before .before .before .before .before .before .before .before .before .before .before .before .before .before .before .before .before .before .before .before .before .before .a .given .0 .0) (c .before .before .before .before .before .before .before .before .before .before .before .before .before .before .before .before .before .before .before .before .before .before .before .before .before .before .before .before .before .loop .n .shown) (λ w. current-made _ _ _ _ _ (w .1 .ensures .0) (w .1 .ensures .1) (w .2)) (λ w. current-left _ _ _ _ _ (c .before .before .before .before .before .before .before .before .before .before .before .before .before .before .before .before .before .before .before .before .before .before .before .before .before .before .before .before .before .loop .inv .1 .current) (c .before .before .before .before .before .before .before .before .before .before .before .before .before .before .before .before .before .before .before .before .before .before .before .is-implication .ensures) (w .0 .left) (w .1)) (c .before .before .before .before .before .before .before .before .before .before .before .before .before .before .before .before .before .before .before .before .before .if1 .came)) (c .before .before .before .before .before .before .before .before .before .before .before .before .before .before .before .before .before .before .before .before .ready .ensures) (c .before .step .ensures) (c .before .before .carried .ensures))
+loop-again c = (reading-next _ _ _ (c .before .before .before .before .before .before .before .before .before .before .before .before .before .before .before .before .before .before .before .before .before .before .before .before .before .before .before .before .loop .inv .0) (c .before .before .before .before .before .before .before .before .before .before .before .before .before .before .before .before .before .before .before .before .before .before .before .before .before .before .before .loop-test .taken) (c .before .before .before .before .before .before .before .before .before .before .before .before .before .before .before .before .before .before .before .before .before .before .before .before .before .before .next-command .ensures .0) (c .before .before .before .before .before .before .before .before .before .before .before .before .before .before .before .before .before .before .before .before .before .before .before .before .a .given .1) (c .before .before .before .before .judge .ensures) (stop-left _ _ (c .before .before .if2 .left) .0) (c .before .before .before .is-end .ensures) (stop-left (c .before .before .before .before .judge .result) _ (c .before .before .if2 .left) .1) (c .step .ensures) (moved-next _ _ (c .before .before .before .before .before .before .before .before .before .before .before .before .before .before .before .before .before .before .before .ready .ensures) (c .before .carried .ensures)) (c .before .before .before .before .before .before .before .before .before .before .before .before .before .before .before .before .before .before .before .before .before .before .before .before .before .before .next-command .ensures .1), keeps-next _ _ _ _ (current-by (c .before .before .before .before .before .before .before .before .before .before .before .before .before .before .before .before .before .before .before .before .if1 .known) (c .before .before .before .before .before .before .before .before .before .before .before .before .before .before .before .before .before .before .before .before .before .before .before .before .before .before .before .before .loop .kept .stale) (c .before .before .before .before .before .before .before .before .before .before .before .before .before .before .before .before .before .before .before .before .before .before .before .before .a .given .0 .0) (c .before .before .before .before .before .before .before .before .before .before .before .before .before .before .before .before .before .before .before .before .before .before .before .before .before .before .before .before .loop .n .shown) (λ w. current-made _ _ _ _ _ (w .1 .ensures .0) (w .1 .ensures .1) (w .2)) (λ w. current-left _ _ _ _ _ (c .before .before .before .before .before .before .before .before .before .before .before .before .before .before .before .before .before .before .before .before .before .before .before .before .before .before .before .before .loop .inv .1 .current) (c .before .before .before .before .before .before .before .before .before .before .before .before .before .before .before .before .before .before .before .before .before .before .is-implication .ensures) (w .0 .left) (w .1)) (c .before .before .before .before .before .before .before .before .before .before .before .before .before .before .before .before .before .before .before .before .if1 .came)) (c .before .before .before .before .before .before .before .before .before .before .before .before .before .before .before .before .before .before .before .ready .ensures) (c .step .ensures) (c .before .carried .ensures))
 
 returns-3 : tie.Need-returns-3 Inv-loop μ-loop
 returns-3 c = reading-past _ _ _ (c .before .before .loop .inv .0) _ (c .before .loop-test .left) (c .taking3 .ensures .0)
@@ -82,8 +79,6 @@ take-commands-spec =
     returns-2
     carried-requires
     step-requires
-    (λ c κs. search needs)
-    add-at
     loop-less
     loop-again
     (λ c κs. search needs)
