@@ -11,8 +11,7 @@ use Rattle.class.specs.Names.{classOf}
 use Rattle.tables.specs.Tables.{Tables}
 use Rattle.tables.specs.Check.{orElse, readTables}
 use Rattle.negotiation.specs.State.{State, freshState}
-use Rattle.negotiation.specs.Layout.{stateBytes}
-use Rattle.numbers.specs.Answer.{Answer, refused, accepted, onward, judged, left}
+use Rattle.numbers.specs.Answer.{Answer, refused, accepted, onward, judged}
 use Rattle.numbers.specs.Refusals.{LENGTH, OPERAND, NAME, OTHER}
 
 -- "both zero makes us the requester"
@@ -50,7 +49,3 @@ behindTables other entity name a = onward (λ T. judged (beginNumber T other ent
 unfoldable pub beginOf : List ℕ → List ℕ → ℕ → ℕ → ℕ → Answer State
 beginOf tables negotiation other entity name =
     cond (eqb (length negotiation) NEGOTIATION-BYTES) (behindTables other entity name (readTables tables)) (refused LENGTH)
-
--- "begin sets the negotiation only"; refused, "no buffer changes"
-abbrev pub leftOf : List ℕ → Answer State → List ℕ
-leftOf negotiation a = left stateBytes negotiation a

@@ -11,8 +11,9 @@ use tables::decode;
 ghost use mathlib.Core.Path.{_≡_};
 ghost use Prim.Native.Nat.{_≤_};
 ghost use Rattle.class.specs.laws.Names.{namesFrom, namesOf, Ascending};
-ghost use Rattle.begin.specs.Begin.{isRequester, roleNumber, otherNumber, sideOf, beginOf, leftOf};
-ghost use Rattle.numbers.specs.Answer.{answerOf, noValue};
+ghost use Rattle.begin.specs.Begin.{isRequester, roleNumber, otherNumber, sideOf, beginOf};
+ghost use Rattle.numbers.specs.Answer.{bufferAfter, answerOf, noValue};
+ghost use Rattle.negotiation.specs.Layout.{stateBytes};
 
 // Whether no role is wanted: we are the requester.
 fn is_requester(entity: u16, name: u16) -> bool
@@ -64,7 +65,7 @@ fn side_of(entity: u16, name: u16) -> u8
 // The fresh negotiation goes into its buffer: 0, or a refusal number, and then nothing changes.
 pub fn begin(tables: &[u8], negotiation: &mut [u8], other: u16, entity: u16, name: u16) -> u64
     ensures answered { λ r. ⌜ r ≡ answerOf noValue (beginOf (now (tables .entry)) (now (negotiation .entry)) other entity name) ⌝ }
-    ensures left { λ _. ⌜ now (negotiation .exit) ≡ leftOf (now (negotiation .entry)) (beginOf (now (tables .entry)) (now (negotiation .entry)) other entity name) ⌝ }
+    ensures left { λ _. ⌜ now (negotiation .exit) ≡ bufferAfter stateBytes (now (negotiation .entry)) (beginOf (now (tables .entry)) (now (negotiation .entry)) other entity name) ⌝ }
 {
     if negotiation.len() != Negotiation::BYTES {
         return LENGTH;

@@ -1,12 +1,14 @@
 // The calls for a host in C. Each answers one number, 256 times a value plus a refusal number.
 ghost use mathlib.Core.Path.{_≡_};
-ghost use Rattle.begin.specs.Begin.{beginOf, leftOf};
+ghost use Rattle.begin.specs.Begin.{beginOf};
 ghost use Rattle.question.specs.Question.{yesOrNo, questionOf};
-ghost use Rattle.reply.specs.Reply.{replyOf, negotiationLeft as replyNegotiation, replyLeft, scratchLeft as replyScratch, lengthOf};
+ghost use Rattle.reply.specs.Reply.{replyOf, replyLeft, lengthOf, givenState};
 ghost use Rattle.report.specs.Report.{reportOf, packed};
 ghost use Rattle.tables.specs.Check.{checkOf};
-ghost use Rattle.take.specs.Take.{takeOf, negotiationLeft, scratchLeft};
-ghost use Rattle.numbers.specs.Answer.{answerOf, noValue};
+ghost use Rattle.take.specs.Take.{takeOf};
+ghost use Rattle.numbers.specs.Answer.{bufferAfter, answerOf, noValue};
+ghost use Rattle.negotiation.specs.Layout.{stateBytes};
+ghost use Rattle.standing.specs.Buffers.{scratchLeft};
 
 // The check of house tables: 0 where they are accepted, or a refusal number.
 #[no_mangle]
@@ -27,7 +29,7 @@ pub extern "C" fn lavutremo_begin(
     name: u16,
 ) -> u64
     ensures answered { λ r. ⌜ r ≡ answerOf noValue (beginOf (now (tables .entry)) (now (negotiation .entry)) other entity name) ⌝ }
-    ensures left { λ _. ⌜ now (negotiation .exit) ≡ leftOf (now (negotiation .entry)) (beginOf (now (tables .entry)) (now (negotiation .entry)) other entity name) ⌝ }
+    ensures left { λ _. ⌜ now (negotiation .exit) ≡ bufferAfter stateBytes (now (negotiation .entry)) (beginOf (now (tables .entry)) (now (negotiation .entry)) other entity name) ⌝ }
 {
     begin::begin(tables, negotiation, other, entity, name)
 }
@@ -41,7 +43,7 @@ pub extern "C" fn lavutremo_take(
     scratch: &mut [u8],
 ) -> u64
     ensures answered { λ r. ⌜ r ≡ answerOf noValue (takeOf (now (tables .entry)) (now (negotiation .entry)) (now (message .entry)) (now (scratch .entry))) ⌝ }
-    ensures left { λ _. ⌜ now (negotiation .exit) ≡ negotiationLeft (now (negotiation .entry)) (takeOf (now (tables .entry)) (now (negotiation .entry)) (now (message .entry)) (now (scratch .entry))) ⌝ }
+    ensures left { λ _. ⌜ now (negotiation .exit) ≡ bufferAfter stateBytes (now (negotiation .entry)) (takeOf (now (tables .entry)) (now (negotiation .entry)) (now (message .entry)) (now (scratch .entry))) ⌝ }
     ensures cleared { λ _. ⌜ now (scratch .exit) ≡ scratchLeft (now (scratch .entry)) (takeOf (now (tables .entry)) (now (negotiation .entry)) (now (message .entry)) (now (scratch .entry))) ⌝ }
 {
     take::take(tables, negotiation, message, scratch)
@@ -57,9 +59,9 @@ pub extern "C" fn lavutremo_reply(
     scratch: &mut [u8],
 ) -> u64
     ensures answered { λ r. ⌜ r ≡ answerOf lengthOf (replyOf (now (tables .entry)) (now (negotiation .entry)) (now (reply .entry)) (now (scratch .entry))) ⌝ }
-    ensures left { λ _. ⌜ now (negotiation .exit) ≡ replyNegotiation (now (negotiation .entry)) (replyOf (now (tables .entry)) (now (negotiation .entry)) (now (reply .entry)) (now (scratch .entry))) ⌝ }
+    ensures left { λ _. ⌜ now (negotiation .exit) ≡ bufferAfter givenState (now (negotiation .entry)) (replyOf (now (tables .entry)) (now (negotiation .entry)) (now (reply .entry)) (now (scratch .entry))) ⌝ }
     ensures written { λ _. ⌜ now (reply .exit) ≡ replyLeft (now (reply .entry)) (replyOf (now (tables .entry)) (now (negotiation .entry)) (now (reply .entry)) (now (scratch .entry))) ⌝ }
-    ensures cleared { λ _. ⌜ now (scratch .exit) ≡ replyScratch (now (scratch .entry)) (replyOf (now (tables .entry)) (now (negotiation .entry)) (now (reply .entry)) (now (scratch .entry))) ⌝ }
+    ensures cleared { λ _. ⌜ now (scratch .exit) ≡ scratchLeft (now (scratch .entry)) (replyOf (now (tables .entry)) (now (negotiation .entry)) (now (reply .entry)) (now (scratch .entry))) ⌝ }
 {
     reply::reply(tables, negotiation, reply, scratch)
 }

@@ -26,6 +26,6 @@ abbrev pub noValue : {A : Type 0} → A → ℕ
 noValue x = 0
 
 -- a lent buffer after the call: "no buffer changes" where it is refused
-abbrev pub left : {A : Type 0} → (A → List ℕ) → List ℕ → Answer A → List ℕ
-left bytes before (refused k) = before
-left bytes before (accepted x) = bytes x
+abbrev pub bufferAfter : {A : Type 0} → (A → List ℕ) → List ℕ → Answer A → List ℕ
+bufferAfter bytes before (refused k) = before
+bufferAfter bytes before (accepted x) = bytes x

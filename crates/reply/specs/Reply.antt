@@ -10,7 +10,7 @@ use Rattle.graph.specs.Propagated.{propagatedState as propagated}
 use Rattle.message.specs.declared.Command.{Command}
 use Rattle.message.specs.declared.Command.the-variants.{Open}
 use Rattle.negotiation.specs.State.{State}
-use Rattle.negotiation.specs.Layout.{stateBytes, zeros}
+use Rattle.negotiation.specs.Layout.{stateBytes}
 use Rattle.standing.specs.Standing as R
 use Rattle.applied.specs.After.{afterMessage}
 use Rattle.message.specs.Message.{bytesOf, messageBytes}
@@ -20,7 +20,7 @@ use Rattle.moves.specs.Initial.{initialState}
 use Rattle.moves.specs.Rules.{endIn}
 use Rattle.moves.specs.Move.{Move, nextMove}
 use Rattle.moves.specs.Carried.{carried, hasRoomFor}
-use Rattle.numbers.specs.Answer.{Answer, refused, accepted, onward, left}
+use Rattle.numbers.specs.Answer.{Answer, refused, accepted, onward, bufferAfter}
 use Rattle.numbers.specs.Refusals.{LENGTH, TURN, ENDED}
 use Rattle.numbers.specs.Sizes.{MOST-MESSAGE-BYTES, LEAST-REPLY-BYTES, SCRATCH-BYTES}
 
@@ -42,7 +42,7 @@ withMove next S cs (c ∷ ms) =
     (cond (leb (length (bytesOf (cs ++ (c ∷ ms))) + 1) MOST-MESSAGE-BYTES) (next (carried (S .header .side) S (c ∷ ms)) (cs ++ (c ∷ ms))) (stopped cs S false))
     (stopped cs S true)
 
--- "The reply stops when no move remains, the primary is satisfied, .." The first number is at least that of the moves left.
+-- "The reply stops when no move remains, the primary is satisfied, .." The first number is at least that of the moves bufferAfter.
 unfoldable pub replyFrom : ℕ → Tables → State → List Command → Replied
 replyFrom zero T S cs = stopped cs S false
 replyFrom (suc f) T S cs = cond (eqb (propagated (S .nodes) (S .edges) 0) 1) (stopped cs S false) (withMove (λ U ds. replyFrom f T U ds) S cs (nextMove (endIn T S)))
@@ -87,12 +87,10 @@ replyOf tables negotiation reply scratch = cond (replySize (length reply) (lengt
 abbrev pub lengthOf : List ℕ × State → ℕ
 lengthOf x = length (x .0)
 
--- "After acceptance, take changes the negotiation, reply also its message bytes, both set the scratch to zero"
-abbrev pub negotiationLeft : List ℕ → Answer (List ℕ × State) → List ℕ
-negotiationLeft before a = left (λ x. stateBytes (x .1)) before a
+-- the negotiation's bytes behind it
+abbrev pub givenState : List ℕ × State → List ℕ
+givenState x = stateBytes (x .1)
 
+-- "reply also its message bytes"
 abbrev pub replyLeft : List ℕ → Answer (List ℕ × State) → List ℕ
-replyLeft before a = left (λ x. x .0 ++ drop (length (x .0)) before) before a
-
-abbrev pub scratchLeft : List ℕ → Answer (List ℕ × State) → List ℕ
-scratchLeft before a = left (λ x. zeros (length before)) before a
+replyLeft before a = bufferAfter (λ x. x .0 ++ drop (length (x .0)) before) before a

@@ -33,9 +33,10 @@ ghost use Rattle.tables.specs.laws.Decoding.{Housed};
 ghost use Rattle.negotiation.specs.laws.State.{stateOf};
 ghost use Rattle.negotiation.specs.State.{within};
 ghost use Rattle.damage.specs.Damage.{sound};
-ghost use Rattle.reply.specs.Reply.{replySize, replyOf, negotiationLeft, replyLeft, scratchLeft, lengthOf};
+ghost use Rattle.reply.specs.Reply.{replySize, replyOf, replyLeft, lengthOf, givenState};
 ghost use Rattle.reply.specs.laws.Reply.{firstOpen, Begins, Replies};
-ghost use Rattle.numbers.specs.Answer.{answerOf};
+ghost use Rattle.numbers.specs.Answer.{bufferAfter, answerOf};
+ghost use Rattle.standing.specs.Buffers.{scratchLeft};
 
 fn fits(reply: usize, scratch: usize) -> bool
     ensures { λ r. ⌜ r ≡ replySize reply scratch ⌝ }
@@ -101,7 +102,7 @@ fn replied_in(house: House, n: Negotiation, s: &mut [u8]) -> Replying
 // The negotiation goes on by our reply, which is written into its buffer: 256 times its length, or a refusal number, and then nothing changes.
 pub fn reply(tables: &[u8], negotiation: &mut [u8], reply: &mut [u8], scratch: &mut [u8]) -> u64
     ensures answered { λ r. ⌜ r ≡ answerOf lengthOf (replyOf (now (tables .entry)) (now (negotiation .entry)) (now (reply .entry)) (now (scratch .entry))) ⌝ }
-    ensures left { λ _. ⌜ now (negotiation .exit) ≡ negotiationLeft (now (negotiation .entry)) (replyOf (now (tables .entry)) (now (negotiation .entry)) (now (reply .entry)) (now (scratch .entry))) ⌝ }
+    ensures left { λ _. ⌜ now (negotiation .exit) ≡ bufferAfter givenState (now (negotiation .entry)) (replyOf (now (tables .entry)) (now (negotiation .entry)) (now (reply .entry)) (now (scratch .entry))) ⌝ }
     ensures written { λ _. ⌜ now (reply .exit) ≡ replyLeft (now (reply .entry)) (replyOf (now (tables .entry)) (now (negotiation .entry)) (now (reply .entry)) (now (scratch .entry))) ⌝ }
     ensures cleared { λ _. ⌜ now (scratch .exit) ≡ scratchLeft (now (scratch .entry)) (replyOf (now (tables .entry)) (now (negotiation .entry)) (now (reply .entry)) (now (scratch .entry))) ⌝ }
 {

@@ -15,7 +15,8 @@ use Rattle.take.specs.Take as K
 use Rattle.moves.specs.Known.{isAcknowledged}
 use Rattle.reply.specs.Reply as A
 use Rattle.report.specs.Report as B
-use Rattle.numbers.specs.Answer.{Answer, refused, accepted, answerOf, noValue}
+use Rattle.numbers.specs.Answer.{Answer, refused, accepted, answerOf, noValue, bufferAfter}
+use Rattle.standing.specs.Buffers.{scratchLeft}
 
 -- "its arguments, and what its other buffers hold at its start, belong to the list": a message and the scratch, a reply buffer and the scratch,
 -- a node
@@ -31,26 +32,26 @@ pub record Left : Type 0 where
   pub others : List (List ℕ)
 
 -- take leaves its message as it was
-unfoldable pub takeLeft : List ℕ → List ℕ → List ℕ → Answer State → Left
-takeLeft negotiation message scratch o =
-    record { answer = answerOf noValue o; negotiation = K.negotiationLeft negotiation o; others = message ∷ K.scratchLeft scratch o ∷ [] }
+unfoldable pub leftByTake : List ℕ → List ℕ → List ℕ → Answer State → Left
+leftByTake negotiation message scratch o =
+    record { answer = answerOf noValue o; negotiation = bufferAfter stateBytes negotiation o; others = message ∷ scratchLeft scratch o ∷ [] }
 
 -- "A reply is its length and bytes"
-unfoldable pub replyLeft : List ℕ → List ℕ → List ℕ → Answer (List ℕ × State) → Left
-replyLeft negotiation buffer scratch o =
-    record { answer = answerOf lengthOf o; negotiation = A.negotiationLeft negotiation o; others = A.replyLeft buffer o ∷ A.scratchLeft scratch o ∷ [] }
+unfoldable pub leftByReply : List ℕ → List ℕ → List ℕ → Answer (List ℕ × State) → Left
+leftByReply negotiation buffer scratch o =
+    record { answer = answerOf lengthOf o; negotiation = bufferAfter A.givenState negotiation o; others = A.replyLeft buffer o ∷ scratchLeft scratch o ∷ [] }
 
 -- "states and counts are all that report gives"; it changes no buffer
-unfoldable pub reportLeft : List ℕ → Answer Report → Left
-reportLeft negotiation o = record { answer = answerOf packed o; negotiation = negotiation; others = [] }
+unfoldable pub leftByReport : List ℕ → Answer Report → Left
+leftByReport negotiation o = record { answer = answerOf packed o; negotiation = negotiation; others = [] }
 
 -- "Each call is lent its run's tables and negotiation"
 unfoldable pub leftBy : List ℕ → List ℕ → Call → Left
-leftBy tables negotiation (take message scratch) = takeLeft negotiation message scratch (K.takeOf tables negotiation message scratch)
-leftBy tables negotiation (reply buffer scratch) = replyLeft negotiation buffer scratch (A.replyOf tables negotiation buffer scratch)
-leftBy tables negotiation (report node) = reportLeft negotiation (B.reportOf tables negotiation node)
+leftBy tables negotiation (take message scratch) = leftByTake negotiation message scratch (K.takeOf tables negotiation message scratch)
+leftBy tables negotiation (reply buffer scratch) = leftByReply negotiation buffer scratch (A.replyOf tables negotiation buffer scratch)
+leftBy tables negotiation (report node) = leftByReport negotiation (B.reportOf tables negotiation node)
 
--- what the calls of a list leave, each lent the negotiation that the one before it left
+-- what the calls of a list leave, each lent the negotiation that the one before it bufferAfter
 unfoldable pub run : List ℕ → List ℕ → List Call → List Left
 run tables negotiation [] = []
 run tables negotiation (c ∷ cs) = leftBy tables negotiation c ∷ run tables (leftBy tables negotiation c .negotiation) cs

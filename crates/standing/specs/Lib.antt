@@ -1,3 +1,4 @@
 pub mod Standing
 pub mod Turn
+pub mod Buffers
 pub mod laws

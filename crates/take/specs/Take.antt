@@ -6,20 +6,19 @@ use lib.Dec.{eqb, leb}
 use lib.ListN.{length}
 use Rattle.tables.specs.Tables.{Tables}
 use Rattle.negotiation.specs.State.{State}
-use Rattle.negotiation.specs.Layout.{stateBytes, zeros}
 use Rattle.standing.specs.Standing as R
 use Rattle.applied.specs.After.{afterMessage}
 use Rattle.take.specs.Commands as C
 use Rattle.standing.specs.Turn.{sends, senderTo}
 use Rattle.numbers.specs.Refusals.{LENGTH, TURN, ENDED}
 use Rattle.numbers.specs.Sizes.{MOST-MESSAGE-BYTES, SCRATCH-BYTES}
-use Rattle.numbers.specs.Answer.{Answer, refused, accepted, onward, left}
+use Rattle.numbers.specs.Answer.{Answer, refused, accepted, onward}
 
 -- the end is judged after the message
 abbrev pub behindCommands : Answer (State × Bool) → Answer State
 behindCommands a = onward (λ x. accepted (afterMessage (x .0) (x .1) false)) a
 
--- "22 already ended", "21 not that side's turn", then the commands left to right
+-- "22 already ended", "21 not that side's turn", then the commands bufferAfter to right
 unfoldable pub takenIn : List ℕ → Tables → State → Answer State
 takenIn message T S =
     cond (not (eqb (S .header .end) 0)) (refused ENDED)
@@ -33,14 +32,7 @@ behindStanding message a = onward (λ x. takenIn message (x .0) (x .1)) a
 unfoldable pub messageSize : ℕ → ℕ → Bool
 messageSize message scratch = leb 1 message && leb message MOST-MESSAGE-BYTES && eqb scratch SCRATCH-BYTES
 
--- "Order: 1, tables 2 to 6 record by record .., 20, 22, 21, then commands left to right, each by rising number"
+-- "Order: 1, tables 2 to 6 record by record .., 20, 22, 21, then commands bufferAfter to right, each by rising number"
 unfoldable pub takeOf : List ℕ → List ℕ → List ℕ → List ℕ → Answer State
 takeOf tables negotiation message scratch =
     cond (messageSize (length message) (length scratch)) (behindStanding message (R.restoreOf tables negotiation)) (refused LENGTH)
-
--- "Each returns its number alone; no buffer changes. .. After acceptance, take changes the negotiation .. set the scratch to zero"
-abbrev pub negotiationLeft : List ℕ → Answer State → List ℕ
-negotiationLeft before a = left stateBytes before a
-
-abbrev pub scratchLeft : List ℕ → Answer State → List ℕ
-scratchLeft before a = left (λ S. zeros (length before)) before a

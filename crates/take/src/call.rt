@@ -24,9 +24,11 @@ ghost use Rattle.negotiation.specs.laws.State.{stateOf};
 ghost use Rattle.negotiation.specs.State.{within};
 ghost use Rattle.damage.specs.Damage.{sound};
 ghost use Rattle.take.specs.laws.Commands.{Room};
-ghost use Rattle.take.specs.Take.{messageSize, takenIn, takeOf, negotiationLeft, scratchLeft};
+ghost use Rattle.take.specs.Take.{messageSize, takenIn, takeOf};
 ghost use Rattle.take.specs.laws.Take.{outcomeOf};
-ghost use Rattle.numbers.specs.Answer.{answerOf, noValue};
+ghost use Rattle.numbers.specs.Answer.{bufferAfter, answerOf, noValue};
+ghost use Rattle.negotiation.specs.Layout.{stateBytes};
+ghost use Rattle.standing.specs.Buffers.{scratchLeft};
 
 fn fits(message: usize, scratch: usize) -> bool
     ensures { λ r. ⌜ r ≡ messageSize message scratch ⌝ }
@@ -60,7 +62,7 @@ fn taken_in(house: House, n: Negotiation, message: &[u8]) -> Taking
 // The negotiation goes on by the message: 0, or a refusal number, and then nothing changes.
 pub fn take(tables: &[u8], negotiation: &mut [u8], message: &[u8], scratch: &mut [u8]) -> u64
     ensures answered { λ r. ⌜ r ≡ answerOf noValue (takeOf (now (tables .entry)) (now (negotiation .entry)) (now (message .entry)) (now (scratch .entry))) ⌝ }
-    ensures left { λ _. ⌜ now (negotiation .exit) ≡ negotiationLeft (now (negotiation .entry)) (takeOf (now (tables .entry)) (now (negotiation .entry)) (now (message .entry)) (now (scratch .entry))) ⌝ }
+    ensures left { λ _. ⌜ now (negotiation .exit) ≡ bufferAfter stateBytes (now (negotiation .entry)) (takeOf (now (tables .entry)) (now (negotiation .entry)) (now (message .entry)) (now (scratch .entry))) ⌝ }
     ensures cleared { λ _. ⌜ now (scratch .exit) ≡ scratchLeft (now (scratch .entry)) (takeOf (now (tables .entry)) (now (negotiation .entry)) (now (message .entry)) (now (scratch .entry))) ⌝ }
 {
     if !fits(message.len(), scratch.len()) {

@@ -19,8 +19,8 @@ use Rattle.tables.specs.laws.Check.{outcomeOf}
 use Rattle.tables.specs.laws.DecodingLaws.{outcome-refused}
 use Rattle.negotiation.specs.State.{State, freshState, within}
 use Rattle.negotiation.specs.Layout.{stateBytes}
-use Rattle.begin.specs.Begin.{isRequester, roleNumber, otherNumber, beginNumber, sideOf, begunState, behindTables, beginOf, leftOf}
-use Rattle.numbers.specs.Answer.{Answer, refused, accepted, answerOf, noValue}
+use Rattle.begin.specs.Begin.{isRequester, roleNumber, otherNumber, beginNumber, sideOf, begunState, behindTables, beginOf}
+use Rattle.numbers.specs.Answer.{Answer, refused, accepted, answerOf, noValue, bufferAfter}
 use Rattle.tables.specs.Tables.{Tables}
 
 -- The wanted role and the other end
@@ -55,11 +55,11 @@ side-by entity name h b e = λ i. cond ((sym e ∙ h) i) 1 0
 
 -- the answer and the bytes that a call leaves
 abbrev pub Leaves : List ℕ → Answer State → ℕ → List ℕ → Type 0
-Leaves n x r b = (r ≡ answerOf noValue x) × (b ≡ leftOf n x)
+Leaves n x r b = (r ≡ answerOf noValue x) × (b ≡ bufferAfter stateBytes n x)
 
 -- a refused call leaves the bytes as they were
 leaves-refused : (n : List ℕ) (x : Answer State) (k : ℕ) → x ≡ refused k → Leaves n x k n
-leaves-refused n x k h = (sym (ap (answerOf noValue) h), sym (ap (leftOf n) h))
+leaves-refused n x k h = (sym (ap (answerOf noValue) h), sym (ap (bufferAfter stateBytes n) h))
 
 -- a number that is not zero refuses
 numbered-refused : (k : ℕ) (S : State) → (k ≡ 0 → ⊥) → numbered k S ≡ refused k
@@ -117,7 +117,7 @@ module _ (s n : List ℕ) (other entity name : ℕ) (d : Decoded) (size : length
       unfolding begunState tablesOf
       begin-fresh z e f w =
           let q = numbers 0 (second ∙ z) in
-          (sym (ap (answerOf noValue) q), w ∙ ap stateBytes (f ∙ ap (λ (x : ℕ). freshState x (d .house .own) other (roleOf entity name)) e) ∙ sym (ap (leftOf n) q))
+          (sym (ap (answerOf noValue) q), w ∙ ap stateBytes (f ∙ ap (λ (x : ℕ). freshState x (d .house .own) other (roleOf entity name)) e) ∙ sym (ap (bufferAfter stateBytes n) q))
 
 -- a fresh negotiation is within the sizes
 pub within-fresh : (S : State) (side own other : ℕ) (wanted : Role) → S ≡ freshState side own other wanted → within S ≡ true

@@ -70,8 +70,8 @@ node-back s at x l h =
 edge-back : (s : List ℕ) (at : ℕ) (e : Edge) (l : List ℕ) → drop at s ≡ edgeBytes e ++ l → edgeFrom s at ≡ e
 edge-back s at e l h = λ t. record { kind = code-there s at (e .kind) _ h t; parent = byte-there s at 1 (edgeBytes e ++ l) h t; child = byte-there s at 2 (edgeBytes e ++ l) h t }
 
-credential-back : (s : List ℕ) (at : ℕ) (c : Credential) (l : List ℕ) → drop at s ≡ credentialBytes c ++ l → credentialFrom s at ≡ c
-credential-back s at c l h =
+shown-credential-back : (s : List ℕ) (at : ℕ) (c : Credential) (l : List ℕ) → drop at s ≡ credentialBytes c ++ l → credentialFrom s at ≡ c
+shown-credential-back s at c l h =
     let b : List ℕ = credentialBytes c ++ l in
     let body : drop (at + 4) s ≡ rawBytes (rawOf (c .body)) ++ l = sym (drop-drop 4 at s) ∙ ap (drop 4) h in
     λ t. record {
@@ -145,7 +145,7 @@ module _ (S : State) (z : Sizes S) where
   shown-back =
       let front : List ℕ = headerPart S ++ part 2816 nodeBytes (S .nodes) ++ part 768 edgeBytes (S .edges) in
       ap (λ (n : ℕ). upTo n (λ (k : ℕ). credentialFrom (stateBytes S) (3712 + k * 22))) (few-all 64 (length (S .shown)) (z .shown))
-      ∙ records-back credentialBytes credentialFrom 22 credential-size credential-back (S .shown) (stateBytes S) 3712 _ (drop-at front (part 1408 credentialBytes (S .shown)) 3712 (edges-front S z))
+      ∙ records-back credentialBytes credentialFrom 22 credential-size shown-credential-back (S .shown) (stateBytes S) 3712 _ (drop-at front (part 1408 credentialBytes (S .shown)) 3712 (edges-front S z))
 
   -- a state is the candidate of its bytes
   candidate-back : candidateOf (stateBytes S) ≡ S

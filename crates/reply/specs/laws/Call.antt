@@ -23,10 +23,11 @@ use Rattle.damage.specs.Damage.{readSound}
 use Rattle.standing.specs.Standing as R
 use Rattle.standing.specs.laws.Standing.{standingOf}
 use Rattle.reply.specs.declared.Replying.{Replying}
-use Rattle.reply.specs.Reply.{repliedIn, behindStanding, replySize, replyOf, negotiationLeft, replyLeft, scratchLeft, lengthOf}
+use Rattle.reply.specs.Reply.{repliedIn, behindStanding, replySize, replyOf, replyLeft, lengthOf, givenState}
 use Rattle.reply.specs.laws.Reply.{Replies}
-use Rattle.numbers.specs.Answer.{Answer, refused, accepted, answerOf}
+use Rattle.numbers.specs.Answer.{Answer, refused, accepted, answerOf, bufferAfter}
 use Rattle.numbers.specs.laws.Answer.{isAccepted, firstOf}
+use Rattle.standing.specs.Buffers.{scratchLeft}
 
 -- Tables that stand are sound
 
@@ -50,7 +51,7 @@ standing-sound tables negotiation T S e = by-length (eqb (length negotiation) 51
 
 -- what a call leaves
 abbrev Leaves : List ℕ → List ℕ → List ℕ → Answer (List ℕ × State) → ℕ → List ℕ → List ℕ → List ℕ → Type 0
-Leaves negotiation reply scratch o r n p s = (r ≡ answerOf lengthOf o) × ((n ≡ negotiationLeft negotiation o) × ((p ≡ replyLeft reply o) × (s ≡ scratchLeft scratch o)))
+Leaves negotiation reply scratch o r n p s = (r ≡ answerOf lengthOf o) × ((n ≡ bufferAfter givenState negotiation o) × ((p ≡ replyLeft reply o) × (s ≡ scratchLeft scratch o)))
 
 module _ (tables negotiation reply scratch : List ℕ) where
   by-size : (b : Bool) → replySize (length reply) (length scratch) ≡ b → (s : Answer (Tables × State)) → R.restoreOf tables negotiation ≡ s → replyOf tables negotiation reply scratch ≡ cond b (behindStanding s) (refused 1)

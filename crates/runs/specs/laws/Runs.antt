@@ -6,25 +6,25 @@ use Rattle.negotiation.specs.State.{State}
 use Rattle.negotiation.specs.Layout.{stateBytes}
 use Rattle.take.specs.Take as K
 use Rattle.reply.specs.Reply as A
-use Rattle.runs.specs.Runs.{Call, take, reply, report, takeLeft, replyLeft, reportLeft, leftBy, run, takenTo, givenTo, afterCall, after, Left}
-use Rattle.numbers.specs.Answer.{Answer, refused, accepted}
+use Rattle.runs.specs.Runs.{Call, take, reply, report, leftByTake, leftByReply, leftByReport, leftBy, run, takenTo, givenTo, afterCall, after, Left}
+use Rattle.numbers.specs.Answer.{Answer, refused, accepted, bufferAfter}
 
--- the negotiation that the last of them left
+-- the negotiation that the last of them bufferAfter
 unfoldable pub lastOf : List ℕ → List Left → List ℕ
 lastOf negotiation [] = negotiation
 lastOf negotiation (x ∷ xs) = lastOf (x .negotiation) xs
 
-taken-bytes : (S : State) (o : Answer State) → K.negotiationLeft (stateBytes S) o ≡ stateBytes (takenTo S o)
+taken-bytes : (S : State) (o : Answer State) → bufferAfter stateBytes (stateBytes S) o ≡ stateBytes (takenTo S o)
 taken-bytes S (refused k) = refl
 taken-bytes S (accepted N) = refl
 
-given-bytes : (S : State) (o : Answer (List ℕ × State)) → A.negotiationLeft (stateBytes S) o ≡ stateBytes (givenTo S o)
+given-bytes : (S : State) (o : Answer (List ℕ × State)) → bufferAfter A.givenState (stateBytes S) o ≡ stateBytes (givenTo S o)
 given-bytes S (refused k) = refl
 given-bytes S (accepted (m, N)) = refl
 
 -- one call
 pub left-after : (tables : List ℕ) (S : State) (c : Call) → leftBy tables (stateBytes S) c .negotiation ≡ stateBytes (afterCall tables S c)
-unfolding leftBy takeLeft replyLeft reportLeft afterCall
+unfolding leftBy leftByTake leftByReply leftByReport afterCall
 left-after tables S (take message scratch) = taken-bytes S (K.takeOf tables (stateBytes S) message scratch)
 left-after tables S (reply buffer scratch) = given-bytes S (A.replyOf tables (stateBytes S) buffer scratch)
 left-after tables S (report node) = refl

@@ -25,7 +25,7 @@ use Rattle.runs.specs.laws.ReplyPublic.{Undisclosed, reply-public}
 use Rattle.report.specs.laws.ReportPublic.{report-public}
 use Rattle.begin.specs.Begin.{beginOf}
 use Rattle.begin.specs.laws.Kept.{begin-alike}
-use Rattle.runs.specs.Runs.{Call, take, reply, report, takeLeft, replyLeft, reportLeft, leftBy, run, takenTo, givenTo, afterCall, after, Differing, held, policy, NoneSatisfied}
+use Rattle.runs.specs.Runs.{Call, take, reply, report, leftByTake, leftByReply, leftByReport, leftBy, run, takenTo, givenTo, afterCall, after, Differing, held, policy, NoneSatisfied}
 use Rattle.runs.specs.laws.Runs.{left-after}
 use Rattle.runs.specs.laws.RunsKept.{call-keeps, calls-keep, keeps-sizes, keeps-disclosed, begun-within}
 use Rattle.numbers.specs.Answer.{Answer, refused, accepted}
@@ -65,11 +65,11 @@ module _ (T U : Tables) (e : publicOf T ≡ publicOf U) (s t : List ℕ) (h : re
   unfolding leftBy afterCall
   call-alike S (take message scratch) q =
       let o = take-public s t T U h k e (stateBytes S) message scratch in
-      (ap (takeLeft (stateBytes S) message scratch) o, ap (takenTo S) o)
+      (ap (leftByTake (stateBytes S) message scratch) o, ap (takenTo S) o)
   call-alike S (reply buffer scratch) q =
       let o = reply-public T U e s t h k (stateBytes S) buffer scratch (⊎-elim (λ z. inl (undisclosed T U S (A.replyOf s (stateBytes S) buffer scratch) z)) (λ z. inr (undisclosed T U S (A.replyOf t (stateBytes S) buffer scratch) z)) q) in
-      (ap (replyLeft (stateBytes S) buffer scratch) o, ap (givenTo S) o)
-  call-alike S (report node) q = (ap (reportLeft (stateBytes S)) (report-public s t T U h k e (stateBytes S) node), refl)
+      (ap (leftByReply (stateBytes S) buffer scratch) o, ap (givenTo S) o)
+  call-alike S (report node) q = (ap (leftByReport (stateBytes S)) (report-public s t T U h k e (stateBytes S) node), refl)
 
   -- not open at the end, not open before
   undisclosed-earlier : (w : List ℕ) (W : Tables) → readTables w ≡ accepted W → (S : State) (cs : List Call) → within S ≡ true → isDisclosed T U (after w S cs) ≡ false → isDisclosed T U S ≡ false

@@ -221,8 +221,8 @@ module _ (T U : Tables) (h : publicOf T ≡ publicOf U) (k : hiddenOf T ≡ hidd
       go false q = shown-in T U h c q m
 
 -- where what may show and what is hidden are equal, so are the tables
-pub whole : (T U : Tables) → Rising beforeCredential (T .subjectStored) → Rising beforeCredential (U .subjectStored) → publicOf T ≡ publicOf U → hiddenOf T ≡ hiddenOf U → T ≡ U
-whole T U r s h k =
+pub public-hidden : (T U : Tables) → Rising beforeCredential (T .subjectStored) → Rising beforeCredential (U .subjectStored) → publicOf T ≡ publicOf U → hiddenOf T ≡ hiddenOf U → T ≡ U
+public-hidden T U r s h k =
     let e = rising-same before-strict r s (stored-in T U h k) (stored-in U T (sym h) (sym k)) in
     λ i.
     record {

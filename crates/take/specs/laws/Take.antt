@@ -37,9 +37,10 @@ use Rattle.take.specs.laws.CommandsKept.{Led}
 use Rattle.damage.specs.laws.Going.{sound-count}
 use Rattle.take.specs.laws.TakeKept.{turn-led, led-edges}
 use Rattle.standing.specs.Turn.{sends}
-use Rattle.take.specs.Take.{behindCommands, takenIn, behindStanding, messageSize, takeOf, negotiationLeft, scratchLeft}
-use Rattle.numbers.specs.Answer.{Answer, refused, accepted, answerOf, noValue}
+use Rattle.take.specs.Take.{behindCommands, takenIn, behindStanding, messageSize, takeOf}
+use Rattle.numbers.specs.Answer.{Answer, refused, accepted, answerOf, noValue, bufferAfter}
 use Rattle.tables.specs.Tables.{Tables}
+use Rattle.standing.specs.Buffers.{scratchLeft}
 
 -- what the code's answer is
 unfoldable pub outcomeOf : Taking → Answer State
@@ -130,7 +131,7 @@ start-formed H n w h = ⊎-elim
 
 -- what a call leaves
 abbrev Leaves : List ℕ → List ℕ → Answer State → ℕ → List ℕ → List ℕ → Type 0
-Leaves negotiation scratch o r n s = (r ≡ answerOf noValue o) × ((n ≡ negotiationLeft negotiation o) × (s ≡ scratchLeft scratch o))
+Leaves negotiation scratch o r n s = (r ≡ answerOf noValue o) × ((n ≡ bufferAfter stateBytes negotiation o) × (s ≡ scratchLeft scratch o))
 
 module _ (tables negotiation message scratch : List ℕ) where
   by-size : (b : Bool) → messageSize (length message) (length scratch) ≡ b → (s : Answer (Tables × State)) → R.restoreOf tables negotiation ≡ s → takeOf tables negotiation message scratch ≡ cond b (behindStanding message s) (refused 1)
