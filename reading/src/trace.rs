@@ -16,9 +16,10 @@ impl Specs {
         &self.files[&place.0].items[place.1]
     }
 
+    /// A name of one letter is bound where it stands.
     fn named(&self, file: &PathBuf, name: &str) -> Option<Place> {
         let items = &self.files.get(file)?.items;
-        let here = |i: &Item| i.name == name || i.inner.iter().any(|n| n == name);
+        let here = |i: &Item| (i.name == name && name.chars().count() > 1) || i.inner.iter().any(|n| n == name);
         let operator = |i: &Item| i.name.contains('_') && i.name.split('_').any(|p| !p.is_empty() && p == name);
         let at = items.iter().position(here).or_else(|| items.iter().position(operator))?;
         Some((file.clone(), at))

@@ -1,38 +1,40 @@
 -- The report, test by test, and its numbers read back. Assumes nothing.
 use Prim.Native.Nat.{ℕ, _+_, _*_, _/_, _%_, _≤_, _<_}
 use mathlib.Core.Bool.{Bool, cond, true, false, _&&_, _||_}
-use mathlib.Core.List.{List}
+use mathlib.Core.List.{List, [], _∷_, _++_}
 use lib.Dec.{ltb, eqb}
 use lib.ListN.{length, getD}
 use Rattle.graph.specs.Propagated.{propagatedState, satisfiedB, failedB, completeB}
 use Rattle.standing.specs.Standing.{restoreOf}
 use native.Mathlib.Omega.{arith}
-use mathlib.Core.Path.{_≡_, refl, sym, _∙_, ap, subst}
+use mathlib.Core.Path.{_≡_, refl, sym, _∙_, ap}
 use mathlib.Core.Logic.{⊎-elim}
-use borrow.Author.Tests.{eq-eqb, ne-eqb, lt-ltb, le-ltb, eqb-true}
+use borrow.Author.Tests.{eq-eqb, ne-eqb, lt-ltb, le-ltb, eqb-true, leb-true}
 use Rattle.rt0.specs.laws.Pool.{credentials, credentialAt}
 use Rattle.rt0.specs.laws.Added.{length-upTo}
 use Rattle.word.specs.laws.Bools.{and-parts, or-cases}
 use Rattle.propagation.specs.Flags.{at}
 use Rattle.graph.specs.declared.Node.{Node}
 use Rattle.graph.specs.declared.Edge.{Edge}
-use Rattle.graph.specs.laws.Graph.{nodesOf, edgesOf, nodeAt}
+use Rattle.graph.specs.laws.Graph.{nodesOf, edgesOf}
 use Rattle.graph.specs.laws.Columns.{nodes-length, edges-length, node-in}
 use Rattle.graph.specs.laws.Form.{legal-few}
-use Rattle.tables.specs.declared.House.{House}
 use Rattle.tables.specs.laws.Tables.{tablesOf}
 use Rattle.negotiation.specs.declared.Negotiation.{Negotiation}
 use Rattle.negotiation.specs.State.{State, within}
 use Rattle.negotiation.specs.laws.State.{stateOf as stateHeld}
-use Rattle.negotiation.specs.laws.Within.{within-few}
 use Rattle.standing.specs.declared.Restored.{Restored}
 use Rattle.damage.specs.Header.{endSound}
-use Rattle.damage.specs.Damage.{sound}
+use Rattle.damage.specs.Damage.{sound, recordsSound}
 use Rattle.standing.specs.laws.Standing.{standingOf}
-use Rattle.damage.specs.laws.Damage.{graph-parts, held-graph, held-legal}
+use Rattle.damage.specs.laws.Damage.{graph-parts, sound-some, sound-legal, fits-sound}
 use Rattle.report.specs.Report.{Report, reportOn, behindNegotiation, reportOf, packed, unpacked}
 use Rattle.numbers.specs.Answer.{Answer, refused, accepted, answerOf}
 use Rattle.tables.specs.Tables.{Tables}
+use Rattle.justification.specs.InTurn.{inTurn}
+use Rattle.damage.specs.Records.{nodeFits, primarySound, credentialFits}
+use Rattle.graph.specs.Graph.{nodeIn, blank}
+use Rattle.numbers.specs.Sizes.{MOST-NODES, MOST-EDGES, MOST-SHOWN}
 
 -- a report of these numbers
 abbrev pub numbered : ℕ → ℕ → ℕ → ℕ → ℕ → ℕ → ℕ → Report
@@ -145,16 +147,27 @@ end-few p e i h = go (eqb p 1) (eqb p 2) h
         (λ q. is 3 1 (omega arith) q)
         (or-cases ((eqb e 0 || eqb e 4) && ltb i 2) (eqb e 3 && eqb i 1) t)
 
+-- an element passes the test behind some of those before it
+turn-at : {A : Type 0} (t : List A → A → Bool) (d : A) (before xs : List A) (i : ℕ) → inTurn t before xs ≡ true → i < length xs → (b : List A) × (t b (getD xs i d) ≡ true)
+unfolding inTurn
+turn-at t d before [] i h l = absurd (omega arith)
+turn-at t d before (x ∷ xs) zero h l = (before, and-parts (t before x) (inTurn t (before ++ (x ∷ [])) xs) h .0)
+turn-at t d before (x ∷ xs) (suc i) h l = turn-at t d (before ++ (x ∷ [])) xs i (and-parts (t before x) (inTurn t (before ++ (x ∷ [])) xs) h .1) (omega arith)
+
 -- the numbers of an accepted report are the state byte, the propagated state, the end and the counts of the records held
-pub report-numbers : (H : House) (G : Negotiation) → within (stateHeld G) ≡ true → sound (tablesOf H) (stateHeld G) ≡ true → (i : ℕ) → i < G .nodes .count → unpacked (packed (reportOn (stateHeld G) i)) ≡ reportOn (stateHeld G) i
-unfolding reportOn stateHeld credentials
-report-numbers H G w h i l =
-    let c = within-few G w in
-    let g = held-graph H G w h (omega arith) in
-    packed-back (reportOn (stateHeld G) i)
-    (subst (λ (n : Node). n .state < 4) (sym (node-in (G .nodes) i l)) (legal-few (nodeAt (G .nodes) i .expression) (nodeAt (G .nodes) i .state) (held-legal H G w h (omega arith) i l)))
-    (state-few (nodesOf (G .nodes)) (edgesOf (G .edges)) i)
-    (end-few (propagatedState (nodesOf (G .nodes)) (edgesOf (G .edges)) 0) (G .header .end) (G .header .idle) (graph-parts _ _ g .4))
-    (omega (arith, nodes-length (G .nodes), c .0))
-    (omega (arith, edges-length (G .edges), c .1))
-    (omega (arith, length-upTo (G .shown .count) (credentialAt (G .shown)), c .2))
+pub report-numbers : (T : Tables) (S : State) → within S ≡ true → sound T S ≡ true → (i : ℕ) → i < length (S .nodes) → unpacked (packed (reportOn S i)) ≡ reportOn S i
+unfolding reportOn within recordsSound
+report-numbers T S w h i l =
+    let p = graph-parts (T .names) S (sound-some T S h (λ z. omega (arith, l, z))) in
+    let nodes : Bool = inTurn (nodeFits (T .names)) [] (S .nodes) in
+    let fit = and-parts nodes (primarySound (S .header) (nodeIn (S .nodes) 0)) (and-parts (nodes && primarySound (S .header) (nodeIn (S .nodes) 0)) (inTurn (credentialFits (T .names)) [] (S .shown)) (p .1) .0) .0 in
+    let n = turn-at (nodeFits (T .names)) blank [] (S .nodes) i fit l in
+    let a = and-parts (leb (length (S .nodes)) MOST-NODES && leb (length (S .edges)) MOST-EDGES) (leb (length (S .shown)) MOST-SHOWN) w in
+    let b = and-parts (leb (length (S .nodes)) MOST-NODES) (leb (length (S .edges)) MOST-EDGES) (a .0) in
+    packed-back (reportOn S i)
+    (legal-few (nodeIn (S .nodes) i .expression) (nodeIn (S .nodes) i .state) (sound-legal (T .names) (nodeIn (S .nodes) i) (fits-sound (T .names) (n .0) (nodeIn (S .nodes) i) (n .1))))
+    (state-few (S .nodes) (S .edges) i)
+    (end-few (propagatedState (S .nodes) (S .edges) 0) (S .header .end) (S .header .idle) (p .4))
+    (omega (arith, leb-true (length (S .nodes)) MOST-NODES (b .0)))
+    (omega (arith, leb-true (length (S .edges)) MOST-EDGES (b .1)))
+    (omega (arith, leb-true (length (S .shown)) MOST-SHOWN (a .1)))
