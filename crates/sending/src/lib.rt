@@ -1,10 +1,10 @@
 // A move as it is sent. What moves are stands in the specs of moves.
 pub use pool::credential_at;
-pub use prepare::prepare;
+pub use prepared::prepare;
 pub use send::outgoing;
 
 mod commands;
 mod credentials;
 mod pool;
-mod prepare;
+mod prepared;
 mod send;

@@ -11,17 +11,17 @@ ghost use mathlib.Core.Path.{_≡_};
 ghost use Rattle.tables.specs.Check.{orElse};
 ghost use Rattle.tables.specs.laws.Decoding.{Housed};
 ghost use Rattle.tables.specs.laws.Group.{rising as risingOf, refusalOf};
-pub use decode::check;
-pub use decode::decode;
 pub use lookup::holds;
 pub use lookup::is_direct;
 pub use lookup::is_sensitive;
 pub use lookup::other_of;
+pub use records::check;
+pub use records::decode;
 
 mod columns;
-mod decode;
 mod lookup;
 mod names;
+mod records;
 mod sensitive;
 mod stored;
 

@@ -1,8 +1,8 @@
 // The commands of a message, one after another.
 use crate::Taking;
-use crate::progress::carried;
-use crate::progress::no_progress;
-use crate::progress::ready;
+use crate::results::carried;
+use crate::results::no_progress;
+use crate::results::ready;
 use applied::step;
 use class::Names;
 use legal::is_implication;

@@ -5,7 +5,7 @@ use negotiation::Negotiation;
 
 mod call;
 mod commands;
-mod progress;
+mod results;
 
 // The negotiation that the commands of a message lead to, and whether an open, an edge or a mark was among them, where the refusal is 0; else
 // they do not count.

@@ -11,8 +11,8 @@ Inv-loop n words head part first named src on mem own deps lo hi rows₀ more₀
 abbrev μ-loop : tie.MeasureT-loop
 μ-loop n words head part first named src on mem own deps lo hi rows₀ more₀ rows more = left rows more
 
-drain-requires : tie.Need-run-worklist-requires Inv-loop μ-loop
-drain-requires c κs = c .before .pre
+run-worklist-requires : tie.Need-run-worklist-requires Inv-loop μ-loop
+run-worklist-requires c κs = c .before .pre
 
 still-requires : tie.Need-still-requires Inv-loop μ-loop
 still-requires c κs = (c .before .before .before .pre .0, c .before .run-worklist .ensures .sized)
@@ -41,7 +41,7 @@ close-spec =
     (tie.spec
     Inv-loop
     μ-loop
-    drain-requires
+    run-worklist-requires
     still-requires
     returns
     loop-holds

@@ -19,8 +19,8 @@ pool c = poolOf (c .args .n) (c .args .heads .now) (c .args .kinds .now) (c .arg
 abbrev rules : (c : tie.Start) → Rules
 rules c = rulesOf (c .args .n) (c .args .words) (c .args .head .now) (c .args .part .now) (c .args .first .now) (c .args .named .now) (c .args .src .now)
 
-woken-requires : tie.Need-dependents-of-row-requires
-woken-requires c κs = (c .before .pre .2 .head .under .under (c .before .args .i), omega arith)
+readers-of-row-requires : tie.Need-readers-of-row-requires
+readers-of-row-requires c κs = (c .before .pre .2 .head .under .under (c .before .args .i), omega arith)
 
 seed-requires : tie.Need-seed-requires
 seed-requires c κs = (c .before .before .before .before .before .pre .0, c .before .before .before .before .before .pre .1, c .before .before .before .before .before .pre .2 .head, open-bodies (pool (c .before .before .before .before .before)) (c .before .before .before .before .before .args .n) _ (c .before .before .before .before .before .pre .0) (c .before .before .open-table .ensures), c .before .before .before .before .before .pre .4 .sized)
@@ -38,7 +38,7 @@ switch-on-spec =
     (tie.spec
     (λ c. search needs)
     (λ c. search needs)
-    woken-requires
+    readers-of-row-requires
     (λ c κs. search needs)
     seed-requires
     (λ c. search needs)

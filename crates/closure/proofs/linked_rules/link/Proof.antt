@@ -21,8 +21,8 @@ member-requires c κs = (c .before .before .before .before .before .before .befo
 returns-4 : tie.Need-returns-4
 returns-4 c = grow-start (rulesOf _ _ _ _ _ _ _) _ _ _ _ (c .before .before .before .before .before .before .before .before .before .before .pre .3)
 
-pour-requires : tie.Need-add-row-requires
-pour-requires c κs = (c .before .before .before .before .before .before .before .before .before .before .before .before .pre .2 .words, omega (arith, c .before .before .before .before .before .before .before .before .before .before .before .before .pre .1), c .before .before .before .before .before .before .before .before .before .before .before .before .pre .2 .head .under _, c .before .before .before .before .before .before .before .before .before .before .before .before .pre .3)
+add-row-requires : tie.Need-add-row-requires
+add-row-requires c κs = (c .before .before .before .before .before .before .before .before .before .before .before .before .pre .2 .words, omega (arith, c .before .before .before .before .before .before .before .before .before .before .before .before .pre .1), c .before .before .before .before .before .before .before .before .before .before .before .before .pre .2 .head .under _, c .before .before .before .before .before .before .before .before .before .before .before .before .pre .3)
 
 returns-5 : tie.Need-returns-5
 returns-5 c = link-grown {X = rulesOf _ _ _ _ _ _ _} (c .before .before .before .before .before .before .before .before .before .before .before .before .if1 .left) (c .before .before .before .before .before .before .before .before .before .before .if2 .left) (sym (c .before .before .before .before .before .before .before .before .before .bit .ensures) ∙ not-left _ (c .before .before .before .before .before .before .before .before .if3 .left)) (sym (c .before .before .before .before .member .ensures) ∙ not-left _ (c .before .before .before .if4 .left)) (c .add-row .ensures)
@@ -44,5 +44,5 @@ link-spec =
     returns-4
     (λ c. search needs)
     (λ c. search needs)
-    pour-requires
+    add-row-requires
     returns-5)

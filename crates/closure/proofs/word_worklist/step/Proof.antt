@@ -19,8 +19,8 @@ ahead-requires c κs = (omega (arith, c .before .before .before .before .before 
 returns-2 : tie.Need-returns-2
 returns-2 c = (c .before .ahead .ensures .0, c .before .ahead .ensures .1, grow-start (rulesOf _ _ _ _ _ _ _) _ _ _ _ (c .before .before .before .before .before .before .before .pre .5))
 
-along-requires : tie.Need-follow-links-requires
-along-requires c κs = (omega (arith, c .before .before .before .before .before .before .before .before .pre .0), c .before .before .before .before .before .before .before .before .pre .1, c .before .before .before .before .before .before .before .before .pre .2, c .before .before .before .before .before .before .before .before .pre .5)
+follow-links-requires : tie.Need-follow-links-requires
+follow-links-requires c κs = (omega (arith, c .before .before .before .before .before .before .before .before .pre .0), c .before .before .before .before .before .before .before .before .pre .1, c .before .before .before .before .before .before .before .before .pre .2, c .before .before .before .before .before .before .before .before .pre .5)
 
 returns-3 : tie.Need-returns-3
 returns-3 c = (c .before .before .before .ahead .ensures .0, c .before .before .before .ahead .ensures .1, c .follow-links .ensures)
@@ -34,5 +34,5 @@ step-spec =
     returns
     ahead-requires
     returns-2
-    along-requires
+    follow-links-requires
     returns-3)

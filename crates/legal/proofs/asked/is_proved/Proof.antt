@@ -8,8 +8,8 @@ use Rattle.legal.proofs.asked.is_proved.Tie as tie
 returns : tie.Need-returns
 returns c = proves-none _ _ _ (c .before .is-implication .ensures) (c .if1 .taken)
 
-is-known-requires : tie.Need-is-from-requires
-is-known-requires c κs = (c .before .before .before .before .pre .1 .knows) (sym (c .before .before .before .is-implication .ensures) ∙ not-false _ (c .before .before .if1 .left))
+is-from-requires : tie.Need-is-from-requires
+is-from-requires c κs = (c .before .before .before .before .pre .1 .knows) (sym (c .before .before .before .is-implication .ensures) ∙ not-false _ (c .before .before .if1 .left))
 
 returns-2 : tie.Need-returns-2
 returns-2 c = proves-asked _ _ _ _ _ (c .before .before .before .before .before .pre .1) (c .before .implication-of .ensures) (c .is-from .ensures)
@@ -17,4 +17,4 @@ returns-2 c = proves-asked _ _ _ _ _ (c .before .before .before .before .before 
 pub is-proved-spec : {M : Type 1} → statement M
 is-proved-spec =
     tie.close
-    (tie.spec (λ c κs. search needs) returns (λ c κs. search needs) is-known-requires returns-2)
+    (tie.spec (λ c κs. search needs) returns (λ c κs. search needs) is-from-requires returns-2)

@@ -20,8 +20,8 @@ returns-2 c = asked-entity (pool (c .before .before .before .before .before .bef
 returns-3 : tie.Need-returns-3
 returns-3 c = asked-link (pool (c .before .before .before .before .before .before .before .before)) (c .before .before .before .before .before .before .before .before .args .e) (c .before .before .before .before .before .before .before .before .args .i) (c .before .before .before .before .before .before .before .before .args .old) (c .before .before .before .before .before .before .before .before .pre .1) (c .if3 .taken)
 
-aim-rows-requires : tie.Need-asked-row-rows-requires
-aim-rows-requires c κs = c .before .before .before .before .before .before .before .before .before .pre .1 ∙ ap (fourRows (rowOf (pool (c .before .before .before .before .before .before .before .before .before)))) (sym (c .body-at .ensures))
+asked-rows-requires : tie.Need-asked-rows-requires
+asked-rows-requires c κs = c .before .before .before .before .before .before .before .before .before .pre .1 ∙ ap (fourRows (rowOf (pool (c .before .before .before .before .before .before .before .before .before)))) (sym (c .body-at .ensures))
 
 returns-4 : tie.Need-returns-4
 returns-4 c = c .asked-rows .ensures ∙ ap (fourRows (rowFor (pool (c .before .before .before .before .before .before .before .before .before .before)) (c .before .before .before .before .before .before .before .before .before .before .args .e))) (c .before .body-at .ensures)
@@ -36,5 +36,5 @@ asked-body-spec =
     returns-2
     returns-3
     (λ c κs. search needs)
-    aim-rows-requires
+    asked-rows-requires
     returns-4)

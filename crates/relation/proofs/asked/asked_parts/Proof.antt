@@ -20,8 +20,8 @@ pool c = poolOf (c .args .n) (c .args .heads .now) (c .args .kinds .now) (c .arg
 loop-holds : tie.Need-loop-holds Inv-loop μ-loop
 loop-holds c = (parts-start _ _, omega arith)
 
-aim-body-requires : tie.Need-asked-row-body-requires Inv-loop μ-loop
-aim-body-requires c κs = (omega (arith, c .before .before .before .before .before .before .pre .0), c .before .before .before .before .before .before .pre .1 .four (c .before .before .before .before .before .loop .i) (c .before .before .before .before .loop-test .taken))
+asked-body-requires : tie.Need-asked-body-requires Inv-loop μ-loop
+asked-body-requires c κs = (omega (arith, c .before .before .before .before .before .before .pre .0), c .before .before .before .before .before .before .pre .1 .four (c .before .before .before .before .before .loop .i) (c .before .before .before .before .loop-test .taken))
 
 loop-again : tie.Need-loop-again Inv-loop μ-loop
 loop-again c = (parts-add (rowFor (pool (c .before .before .before .before .before .before .before)) (c .before .before .before .before .before .before .before .args .e)) (pool (c .before .before .before .before .before .before .before)) (row-for-small (pool (c .before .before .before .before .before .before .before)) (c .before .before .before .before .before .before .before .pre .0) (c .before .before .before .before .before .before .before .args .e)) (c .before .before .before .before .before .before .loop .i) (c .before .before .before .before .before .before .loop .next) (c .asked-body .result) (omega arith) (c .asked-body .ensures) (c .before .before .before .before .before .before .loop .inv .0), omega arith)
@@ -48,7 +48,7 @@ asked-parts-spec =
     (λ c. omega arith)
     (λ c. omega arith)
     (λ c. omega arith)
-    aim-body-requires
+    asked-body-requires
     (λ c. omega arith)
     (λ c. omega arith)
     (λ c. omega arith)

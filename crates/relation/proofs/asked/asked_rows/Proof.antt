@@ -10,20 +10,20 @@ use Rattle.relation.proofs.asked.asked_rows.Tie as tie
 abbrev pool : (c : tie.Start) → Pool
 pool c = poolOf (c .args .n) (c .args .heads .now) (c .args .kinds .now) (c .args .numbers .now)
 
-aim-requires : tie.Need-asked-row-requires
-aim-requires c κs = ap (λ (r : Four). r .a) (rw (c .before .x .given .1) at (c .before .before .before .pre))
+asked-row-requires : tie.Need-asked-row-requires
+asked-row-requires c κs = ap (λ (r : Four). r .a) (rw (c .before .x .given .1) at (c .before .before .before .pre))
 
-aim-requires-2 : tie.Need-asked-row-requires-2
-aim-requires-2 c κs = ap (λ (r : Four). r .a) (rw (c .before .x2 .given .1) at (c .before .before .before .pre))
+asked-row-requires-2 : tie.Need-asked-row-requires-2
+asked-row-requires-2 c κs = ap (λ (r : Four). r .a) (rw (c .before .x2 .given .1) at (c .before .before .before .pre))
 
-aim-requires-3 : tie.Need-asked-row-requires-3
-aim-requires-3 c κs = ap (λ (r : Four). r .b) (rw (c .before .before .x2 .given .1) at (c .before .before .before .before .pre))
+asked-row-requires-3 : tie.Need-asked-row-requires-3
+asked-row-requires-3 c κs = ap (λ (r : Four). r .b) (rw (c .before .before .x2 .given .1) at (c .before .before .before .before .pre))
 
-aim-requires-4 : tie.Need-asked-row-requires-4
-aim-requires-4 c κs = ap (λ (r : Four). r .c) (rw (c .before .before .before .before .x2 .given .1) at (c .before .before .before .before .before .before .pre)) ∙ ap (rowOf (pool (c .before .before .before .before .before .before))) (sym (c .third-of .ensures))
+asked-row-requires-4 : tie.Need-asked-row-requires-4
+asked-row-requires-4 c κs = ap (λ (r : Four). r .c) (rw (c .before .before .before .before .x2 .given .1) at (c .before .before .before .before .before .before .pre)) ∙ ap (rowOf (pool (c .before .before .before .before .before .before))) (sym (c .third-of .ensures))
 
-aim-requires-5 : tie.Need-asked-row-requires-5
-aim-requires-5 c κs = ap (λ (r : Four). r .d) (rw (c .before .before .before .before .before .before .x2 .given .1) at (c .before .before .before .before .before .before .before .before .pre)) ∙ ap (rowOf (pool (c .before .before .before .before .before .before .before .before))) (sym (c .fourth-of .ensures))
+asked-row-requires-5 : tie.Need-asked-row-requires-5
+asked-row-requires-5 c κs = ap (λ (r : Four). r .d) (rw (c .before .before .before .before .before .before .x2 .given .1) at (c .before .before .before .before .before .before .before .before .pre)) ∙ ap (rowOf (pool (c .before .before .before .before .before .before .before .before))) (sym (c .fourth-of .ensures))
 
 returns : tie.Need-returns
 returns c = c .before .before .pre ∙ rw (c .enum-told .given .1)
@@ -46,15 +46,15 @@ asked-rows-spec =
     (tie.spec
     (λ c. search needs)
     (λ c. search needs)
-    aim-requires
+    asked-row-requires
     (λ c. search needs)
     (λ c. search needs)
-    aim-requires-2
-    aim-requires-3
+    asked-row-requires-2
+    asked-row-requires-3
     (λ c κs. search needs)
-    aim-requires-4
+    asked-row-requires-4
     (λ c κs. search needs)
-    aim-requires-5
+    asked-row-requires-5
     (λ c. search needs)
     returns
     returns-2

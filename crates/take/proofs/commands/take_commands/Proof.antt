@@ -24,8 +24,8 @@ loop-holds c = (reading-start _ _ _ _ (c .no-progress .ensures .0) (c .before .b
 returns : tie.Need-returns Inv-loop μ-loop
 returns c = reading-unread _ _ _ (c .before .before .before .before .before .before .loop .inv .0) (c .before .before .before .before .before .loop-test .taken) (c .before .before .before .before .next-command .ensures .0) _ (c .before .before .enum-told .given .1) (c .before .refusal-of .ensures) (c .taking .ensures .0)
 
-known-of-requires : tie.Need-proved-by-requires Inv-loop μ-loop
-known-of-requires c κs = omega (arith, within-few _ (c .before .before .before .before .before .before .before .before .loop .inv .0 .sizes) .2)
+proved-by-requires : tie.Need-proved-by-requires Inv-loop μ-loop
+proved-by-requires c κs = omega (arith, within-few _ (c .before .before .before .before .before .before .before .before .loop .inv .0 .sizes) .2)
 
 ready-requires : tie.Need-ready-requires Inv-loop μ-loop
 ready-requires c κs = ((c .before .before .before .before .before .before .before .before .loop .inv .0 .sizes), (c .before .before .before .before .before .before .before .before .loop .inv .0 .formed), (c .before .before .before .before .before .before .before .before .loop .inv .1 .settled))
@@ -70,7 +70,7 @@ take-commands-spec =
     (λ c κs. search needs)
     returns
     (λ c κs. search needs)
-    known-of-requires
+    proved-by-requires
     ready-requires
     is-proved-requires
     judge-requires

@@ -6,8 +6,8 @@ use Rattle.tables.specs.laws.Groups.{pairs}
 use Rattle.tables.specs.laws.PairsReading.{pairs-few}
 use Rattle.tables.specs.laws.BehindRecords.{sensitive-ranked, access-ranked}
 use Rattle.tables.specs.laws.DecodingLaws.{open-sensitive, open-access, decodes-refused, decodes-on, passed-on, left-outcome, class-same}
-use Rattle.tables.proofs.decode.decode_pairs.Statement.{statement}
-use Rattle.tables.proofs.decode.decode_pairs.Tie as tie
+use Rattle.tables.proofs.records.decode_pairs.Statement.{statement}
+use Rattle.tables.proofs.records.decode_pairs.Tie as tie
 
 returns : tie.Need-returns
 unfolding pairs pairsOf

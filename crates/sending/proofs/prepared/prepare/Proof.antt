@@ -3,8 +3,8 @@ use mathlib.Core.Path.{refl}
 use borrow.Author.Needs.{needs}
 use Rattle.tables.specs.laws.Tables.{tablesOf}
 use Rattle.tables.specs.Public.{publicOf}
-use Rattle.sending.proofs.prepare.prepare.Statement.{statement}
-use Rattle.sending.proofs.prepare.prepare.Tie as tie
+use Rattle.sending.proofs.prepared.prepare.Statement.{statement}
+use Rattle.sending.proofs.prepared.prepare.Tie as tie
 
 stops-requires-3 : tie.Need-stops-requires-3
 stops-requires-3 c κs = (c .before .before .before .before .before .before .before .before .before .before .before .before .before .before .before .before .before .before .before .before .before .before .before .before .before .before .before .before .before .before .before .before .before .pre .names, c .before .before .before .before .before .before .before .before .before .before .before .before .before .before .before .before .before .before .before .before .before .before .before .before .before .before .before .before .before .before .before .before .before .pre .ascending, c .before .before .before .before .before .before .before .before .before .before .before .before .before .before .before .before .before .before .before .before .before .before .before .before .before .before .before .before .before .before .before .before .before .pre .sensitive, omega (arith, c .before .before .before .before .before .before .before .before .before .before .before .before .before .before .before .before .before .before .before .before .before .before .before .before .before .before .before .before .before .before .before .before .before .pre .subject))

@@ -1,7 +1,7 @@
 use Rattle.take.specs.laws.Progress.{carried-unsettled, carried-settled}
 use borrow.Author.Needs.{needs}
-use Rattle.take.proofs.progress.carried.Statement.{statement}
-use Rattle.take.proofs.progress.carried.Tie as tie
+use Rattle.take.proofs.results.carried.Statement.{statement}
+use Rattle.take.proofs.results.carried.Tie as tie
 
 returns : tie.Need-returns
 returns c = carried-unsettled _ _ _ (c .before .before .before .before .is-move .ensures) (c .before .before .is-credential .ensures) (c .if1 .taken)

@@ -8,8 +8,8 @@ use Rattle.tables.specs.laws.Tables.{pairsFrom, pairsOf}
 use Rattle.tables.specs.Lookup.{isDirect}
 use Rattle.tables.specs.Public.{lessDirect}
 use Rattle.sending.specs.laws.Picked.{Picked, picked-start, picked-next, picked-all}
-use Rattle.sending.proofs.prepare.visible_of.Statement.{statement}
-use Rattle.sending.proofs.prepare.visible_of.Tie as tie
+use Rattle.sending.proofs.prepared.visible_of.Statement.{statement}
+use Rattle.sending.proofs.prepared.visible_of.Tie as tie
 
 abbrev Inv-loop : tie.InvT-loop
 Inv-loop own k roles others m heads kinds numbers on₀ i₀ on i = Picked (λ c. not (isDirect own (pairsOf (pairsFrom k roles others)) c)) (poolOf m heads kinds numbers) i on

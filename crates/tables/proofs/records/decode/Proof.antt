@@ -3,8 +3,8 @@ use Rattle.tables.specs.laws.DecodingLaws.{tables-outside, some-bytes, t
 use Rattle.tables.specs.laws.Groups.{names}
 use Rattle.tables.specs.laws.NamesReading.{names-few}
 use Rattle.tables.specs.laws.BehindRecords.{names-ranked}
-use Rattle.tables.proofs.decode.decode.Statement.{statement}
-use Rattle.tables.proofs.decode.decode.Tie as tie
+use Rattle.tables.proofs.records.decode.Statement.{statement}
+use Rattle.tables.proofs.records.decode.Tie as tie
 
 returns : tie.Need-returns
 returns c = (tables-outside _ _ (c .before .before .sized .ensures) (c .before .if1 .taken) (c .refused .ensures .0), c .refused .ensures .1)

@@ -3,8 +3,8 @@ use Rattle.tables.specs.laws.Groups.{credentialsOf}
 use Rattle.tables.specs.laws.StoredReading.{stored-few}
 use Rattle.tables.specs.laws.DecodingLaws.{open-issuer, open-subject, decodes-refused, decodes-on, passed-on}
 use Rattle.tables.specs.laws.BehindRecords.{issuer-ranked, subject-ranked}
-use Rattle.tables.proofs.decode.decode_stored.Statement.{statement}
-use Rattle.tables.proofs.decode.decode_stored.Tie as tie
+use Rattle.tables.proofs.records.decode_stored.Statement.{statement}
+use Rattle.tables.proofs.records.decode_stored.Tie as tie
 
 returns : tie.Need-returns
 returns c = decodes-refused (c .before .before .before .before .read-stored .ensures) (open-issuer _ (c .before .before .before .before .before .before .before .before .before .pre .2 .begun) _) (c .before .if1 .taken) (c .refused .ensures .0) (c .refused .ensures .1)

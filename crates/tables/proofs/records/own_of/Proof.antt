@@ -4,8 +4,8 @@ use Rattle.class.specs.Names.{classOf}
 use Rattle.class.specs.Typing.{credentialNumber}
 use Rattle.tables.specs.Check.{judge, classNumber, storedNumber, pairNumber, orderNumber, inOrder}
 use Rattle.tables.specs.laws.DecodingLaws.{first-unread}
-use Rattle.tables.proofs.decode.own_of.Statement.{statement}
-use Rattle.tables.proofs.decode.own_of.Tie as tie
+use Rattle.tables.proofs.records.own_of.Statement.{statement}
+use Rattle.tables.proofs.records.own_of.Tie as tie
 
 returns : tie.Need-returns
 returns c = first-unread (c .before .before .before .read-record .ensures) (c .before .enum-told .given .1) (c .refusal-of .ensures)

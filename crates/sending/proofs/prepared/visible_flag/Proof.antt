@@ -1,7 +1,7 @@
 use Rattle.sending.specs.laws.Picked.{flag-off, flag-on}
 use borrow.Author.Needs.{needs}
-use Rattle.sending.proofs.prepare.visible_flag.Statement.{statement}
-use Rattle.sending.proofs.prepare.visible_flag.Tie as tie
+use Rattle.sending.proofs.prepared.visible_flag.Statement.{statement}
+use Rattle.sending.proofs.prepared.visible_flag.Tie as tie
 
 returns : tie.Need-returns
 returns c = flag-off (c .before .is-direct .ensures) (c .if1 .taken)

@@ -1,8 +1,8 @@
 use Rattle.take.specs.laws.Progress.{ready-left, ready-made}
 use Rattle.negotiation.specs.laws.Within.{within-few}
 use borrow.Author.Needs.{needs}
-use Rattle.take.proofs.progress.ready.Statement.{statement}
-use Rattle.take.proofs.progress.ready.Tie as tie
+use Rattle.take.proofs.results.ready.Statement.{statement}
+use Rattle.take.proofs.results.ready.Tie as tie
 
 returns : tie.Need-returns
 returns c = ready-left _ _ _ (c .before .before .before .before .before .is-implication .ensures) (c .before .before .before .before .before .before .pre .2) (c .before .before .before .is-linking .ensures) (c .before .if1 .taken)

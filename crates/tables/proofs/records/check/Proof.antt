@@ -2,8 +2,8 @@ use borrow.Author.Needs.{needs}
 use mathlib.Core.Path.{_∙_, ap}
 use Rattle.tables.specs.Check.{checkOf}
 use Rattle.tables.specs.laws.DecodingLaws.{number-outcome}
-use Rattle.tables.proofs.decode.check.Statement.{statement}
-use Rattle.tables.proofs.decode.check.Tie as tie
+use Rattle.tables.proofs.records.check.Statement.{statement}
+use Rattle.tables.proofs.records.check.Tie as tie
 use Rattle.numbers.specs.Answer.{answerOf, noValue}
 
 returns : tie.Need-returns
