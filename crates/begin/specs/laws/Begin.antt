@@ -20,7 +20,7 @@ use Rattle.tables.specs.laws.DecodingLaws.{outcome-refused}
 use Rattle.negotiation.specs.State.{State, freshState, within}
 use Rattle.negotiation.specs.Layout.{stateBytes}
 use Rattle.begin.specs.Begin.{isRequester, roleNumber, otherNumber, beginNumber, sideOf, begunState, behindTables, beginOf}
-use Rattle.numbers.specs.Answer.{Answer, refused, accepted, answerOf, noValue, bufferAfter}
+use Rattle.numbers.specs.Answer.{Answer, refused, accepted, answerOf, noValue, bufferAfter, judged}
 use Rattle.tables.specs.Tables.{Tables}
 
 -- The wanted role and the other end
@@ -62,9 +62,9 @@ leaves-refused : (n : List ℕ) (x : Answer State) (k : ℕ) → x ≡ refused k
 leaves-refused n x k h = (sym (ap (answerOf noValue) h), sym (ap (bufferAfter stateBytes n) h))
 
 -- a number that is not zero refuses
-numbered-refused : (k : ℕ) (S : State) → (k ≡ 0 → ⊥) → numbered k S ≡ refused k
-numbered-refused zero S z = absurd (z refl)
-numbered-refused (suc k) S z = refl
+judged-refused : (k : ℕ) (S : State) → (k ≡ 0 → ⊥) → judged k (accepted S) ≡ refused k
+judged-refused zero S z = absurd (z refl)
+judged-refused (suc k) S z = refl
 
 -- of two numbers the first decides, where it is not zero
 or-else-first : (k m : ℕ) → (k ≡ 0 → ⊥) → orElse k m ≡ k
@@ -91,16 +91,16 @@ module _ (s n : List ℕ) (other entity name : ℕ) (d : Decoded) (size : length
   begin-tables z = leaves-refused n _ (d .refusal) (inside (refused (d .refusal)) (outcome-refused d (d .refusal) refl z))
 
   module _ (ok : d .refusal ≡ 0) {k : ℕ} (role : k ≡ roleNumber (namesOf (d .house .names)) entity name) where
-    numbers : (m : ℕ) → beginNumber (tablesOf (d .house)) other entity name ≡ m → beginOf s n other entity name ≡ numbered m (begunState (tablesOf (d .house)) other entity name)
+    numbers : (m : ℕ) → beginNumber (tablesOf (d .house)) other entity name ≡ m → beginOf s n other entity name ≡ judged m (accepted (begunState (tablesOf (d .house)) other entity name))
     unfolding outcomeOf
     numbers m q =
         inside (accepted (tablesOf (d .house))) (ap (λ (b : Bool). cond b (accepted (tablesOf (d .house))) (refused (d .refusal))) (eq-eqb (d .refusal) 0 ok))
-        ∙ ap (λ (j : ℕ). numbered j (begunState (tablesOf (d .house)) other entity name)) q
+        ∙ ap (λ (j : ℕ). judged j (accepted (begunState (tablesOf (d .house)) other entity name))) q
 
     -- the role is refused
     pub begin-role : (k ≡ 0 → ⊥) → Leaves n (beginOf s n other entity name) k n
     unfolding beginNumber tablesOf
-    begin-role z = leaves-refused n _ k (numbers k (ap (λ (j : ℕ). orElse j (otherNumber (d .house .own) other)) (sym role) ∙ or-else-first k _ z) ∙ numbered-refused k _ z)
+    begin-role z = leaves-refused n _ k (numbers k (ap (λ (j : ℕ). orElse j (otherNumber (d .house .own) other)) (sym role) ∙ or-else-first k _ z) ∙ judged-refused k _ z)
 
     module _ (free : k ≡ 0) {m : ℕ} (end : m ≡ otherNumber (d .house .own) other) where
       second : beginNumber (tablesOf (d .house)) other entity name ≡ m
@@ -109,7 +109,7 @@ module _ (s n : List ℕ) (other entity name : ℕ) (d : Decoded) (size : length
 
       -- the other end is refused
       pub begin-other : (m ≡ 0 → ⊥) → Leaves n (beginOf s n other entity name) m n
-      begin-other z = leaves-refused n _ m (numbers m second ∙ numbered-refused m _ z)
+      begin-other z = leaves-refused n _ m (numbers m second ∙ judged-refused m _ z)
 
       -- the fresh negotiation
       pub begin-fresh : m ≡ 0 → {S : State} {side : ℕ} {b : List ℕ} → side ≡ sideOf entity name → S ≡ freshState side (d .house .own) other (roleOf entity name) → b ≡ stateBytes S

@@ -24,7 +24,7 @@ use Rattle.damage.specs.Header.{wantedSound, otherSound, headerSound, emptySoun
 use Rattle.damage.specs.Damage.{sound, ifSound, readSound}
 use Rattle.begin.specs.Begin.{isRequester, roleNumber, otherNumber, beginNumber, sideOf, begunState, behindTables, beginOf}
 use Rattle.begin.specs.laws.Begin.{within-fresh}
-use Rattle.numbers.specs.Answer.{Answer, refused, accepted}
+use Rattle.numbers.specs.Answer.{Answer, refused, accepted, judged}
 
 -- Not damaged
 
@@ -88,7 +88,7 @@ begun-sound T other entity name h =
 
 -- an accepted begin makes the state of its tables
 module _ (tables negotiation : List ℕ) (other entity name : ℕ) {T : Tables} {S : State} (h : beginOf tables negotiation other entity name ≡ accepted S) (t : readTables tables ≡ accepted T) where
-  begun-number : (k : ℕ) (U : State) → numbered k U ≡ accepted S → (k ≡ 0) × (U ≡ S)
+  begun-number : (k : ℕ) (U : State) → judged k (accepted U) ≡ accepted S → (k ≡ 0) × (U ≡ S)
   begun-number zero U e = (refl, cc)
   begun-number (suc k) U e = absurd (let z : _≡_ {A = ℕ} 0 1 = cc in omega arith)
 
@@ -124,4 +124,4 @@ unfolding beginOf
 begin-alike s t negotiation other entity name {T} {U} p q h =
     let e = begin-public T U other entity name h in
     ap (λ (x : Answer State). cond (eqb (length negotiation) NEGOTIATION-BYTES) x (refused 1))
-    (ap (behindTables other entity name) p ∙ (λ i. numbered (e .0 i) (e .1 i)) ∙ sym (ap (behindTables other entity name) q))
+    (ap (behindTables other entity name) p ∙ (λ i. judged (e .0 i) (accepted (e .1 i))) ∙ sym (ap (behindTables other entity name) q))

@@ -93,7 +93,7 @@ module _ (tables negotiation : List ℕ) where
         pub restore-damaged : (r : Restored) → not b ≡ true → r .refusal ≡ 20 → (standingOf r ≡ restoreOf tables negotiation) × Usable r
         restore-damaged r h e = gives r 20 e (λ z. omega arith) (by-state none (ap (ifSound (tablesOf (d .house))) held ∙ ap (λ (t : Bool). cond t (some (stateOf (R .negotiation))) none) (sym be ∙ not-true b h)))
 
-        pub restore-sound : not b ≡ false → Housed (d .house) → (standingOf (record { refused = 0; house = d .house; negotiation = R .negotiation }) ≡ restoreOf tables negotiation) × Usable (record { refused = 0; house = d .house; negotiation = R .negotiation })
+        pub restore-sound : not b ≡ false → Housed (d .house) → (standingOf (record { refusal = 0; house = d .house; negotiation = R .negotiation }) ≡ restoreOf tables negotiation) × Usable (record { refusal = 0; house = d .house; negotiation = R .negotiation })
         unfolding standingOf
         restore-sound h hd = (
           sym (by-state (some (stateOf (R .negotiation))) (ap (ifSound (tablesOf (d .house))) held ∙ ap (λ (t : Bool). cond t (some (stateOf (R .negotiation))) none) (sym be ∙ not-false b h))),
