@@ -1,8 +1,8 @@
 -- The report, test by test, and its numbers read back. Assumes nothing.
-use Prim.Native.Nat.{ℕ, _+_, _*_, _/_, _%_, _≤_, _<_}
+use Prim.Native.Nat.{ℕ, _+_, _*_, _/_, _%_, _≤_, _<_, zero, suc}
 use mathlib.Core.Bool.{Bool, cond, true, false, _&&_, _||_}
 use mathlib.Core.List.{List, [], _∷_, _++_}
-use lib.Dec.{ltb, eqb}
+use lib.Dec.{ltb, eqb, leb}
 use lib.ListN.{length, getD}
 use Rattle.graph.specs.Propagated.{propagatedState, satisfiedB, failedB, completeB}
 use Rattle.standing.specs.Standing.{restoreOf}
