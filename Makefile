@@ -7,6 +7,7 @@
 #              on lists of calls for two runs (SEED, RANDOM_COUNT, DAMAGED_COUNT, TABLES_COUNT, NEGOTIATIONS_COUNT,
 #              TAKES_COUNT, HONEST_COUNT, ADVERSARIAL_COUNT, TWO_RUNS_COUNT)
 # make bench   times the engine beside the reference
+# make reading writes docs/READING.md, the definitions that the promises rest on
 # make clean   removes what the others made
 
 MAKEFLAGS += --no-print-directory
@@ -29,6 +30,7 @@ REFERENCE := $(wildcard reference/Cargo.*) $(shell find reference/src)
 CALLS := $(wildcard calls/Cargo.* calls/build.rs calls/src/*.rs)
 FUZZ := $(wildcard fuzz/Cargo.* fuzz/src/*.rs)
 BENCH := $(wildcard bench/Cargo.* bench/src/*.rs)
+READING := $(wildcard reading/Cargo.* reading/src/*.rs)
 
 export CARGO_TARGET_DIR = $(CURDIR)/build/cargo
 export LAVUTREMO_LIB = $(CURDIR)/target/staticlib
@@ -39,7 +41,7 @@ END_PARTS = $(HOUSE_PARTS) host/end.c
 LINK_PARTS = $(END_PARTS) host/negotiate.c host/link.c host/printout.c host/arguments.c
 HEADERS := include/lavutremo.h $(wildcard host/*.h)
 
-.PHONY: lib host demo stack test fuzz bench clean rt gcc g++ cargo
+.PHONY: lib host demo stack test fuzz bench reading clean rt gcc g++ cargo
 
 lib: $(LIB)
 
@@ -61,8 +63,11 @@ fuzz: build/fuzz
 bench: build/bench
 	@build/bench
 
+reading: build/reading
+	@build/reading
+
 clean:
-	rm -rf build target reference/target calls/target fuzz/target bench/target
+	rm -rf build target reference/target calls/target fuzz/target bench/target reading/target
 
 $(ENGINE): $(CRATES) | rt
 	rt staticlib engine
@@ -107,6 +112,10 @@ build/fuzz: $(REFERENCE) $(CALLS) $(FUZZ) $(ENGINE) | cargo
 build/bench: $(REFERENCE) $(CALLS) $(BENCH) $(ENGINE) $(MEASURE) | cargo
 	cargo build --quiet --release --locked --manifest-path bench/Cargo.toml
 	@cp $(CARGO_TARGET_DIR)/release/bench $@
+
+build/reading: $(READING) | cargo
+	cargo build --quiet --release --locked --manifest-path reading/Cargo.toml
+	@cp $(CARGO_TARGET_DIR)/release/reading $@
 
 rt:
 	@command -v rt >/dev/null || { echo 'rt is missing: install the Rattle kit and put rt on the PATH' >&2; exit 1; }
