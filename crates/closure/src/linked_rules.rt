@@ -320,7 +320,7 @@ fn touched(w: Work, r: usize, lo: u64, hi: u64, link_lo: u64, link_hi: u64) -> W
     }
 }
 
-// As drain_plain; but a rule that names rows goes only to those that grew and those of new members.
+// As run_plain; but a rule that names rows goes only to those that grew and those of new members.
 pub fn run_linked<'a>(
     n: usize,
     words: usize,

@@ -15,6 +15,7 @@ use negotiation::Negotiation;
 use negotiation::write;
 use negotiation::write_zeros;
 use numbers::ENDED;
+use numbers::LEAST_REPLY_BYTES;
 use numbers::LENGTH;
 use numbers::MOST_MESSAGE_BYTES;
 use numbers::SCRATCH_BYTES;
@@ -41,7 +42,7 @@ ghost use Rattle.standing.specs.Buffers.{scratchLeft};
 fn fits(reply: usize, scratch: usize) -> bool
     ensures { λ r. ⌜ r ≡ replySize reply scratch ⌝ }
 {
-    (MOST_MESSAGE_BYTES <= reply) & (scratch == SCRATCH_BYTES)
+    (LEAST_REPLY_BYTES <= reply) & (scratch == SCRATCH_BYTES)
 }
 
 // The command that opens a negotiation about a role.
