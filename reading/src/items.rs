@@ -96,8 +96,13 @@ pub fn read(path: &Path) -> File {
     let mut in_statement = false;
     for line in text.lines().filter(|l| !code(l).trim().is_empty()) {
         let at = indent(line);
-        while section.last().is_some_and(|s| at <= s.0) {
+        while section.last().is_some_and(|s| at <= s.0 && s.1.ends_with("where")) {
             base = section.pop().unwrap().0;
+        }
+        if let Some((_, header)) = section.last_mut().filter(|s| !s.1.ends_with("where")) {
+            header.push(' ');
+            header.push_str(line.trim());
+            continue;
         }
         let start = line.trim_start();
         if start.starts_with("use ") || start.starts_with("pub use ") || start.starts_with("pub mod ") {

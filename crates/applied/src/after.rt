@@ -57,7 +57,8 @@ fn header_after(primary: u8, moved: bool, full: bool, h: Header) -> Header
 
 // The end is judged, and the message counted.
 pub fn after_message(n: Negotiation, moved: bool, full: bool) -> Negotiation
-    requires { ⌜ (within (stateOf n) ≡ true) × (0 < n .nodes .count) × (n .header .messages < 65535) × NodesFormed (nodesOf (n .nodes)) × EdgesFormed (nodesOf (n .nodes)) (edgesOf (n .edges)) ⌝ }
+    requires { ⌜ (within (stateOf n) ≡ true) × (0 < n .nodes .count) × (n .header .messages < 65535) × NodesFormed (nodesOf (n .nodes))
+        × EdgesFormed (nodesOf (n .nodes)) (edgesOf (n .edges)) ⌝ }
     ensures { λ r. ⌜ stateOf r ≡ afterMessage (stateOf n) moved full ⌝ }
 {
     let h = n.header;

@@ -19,6 +19,7 @@ ghost use Rattle.propagation.specs.laws.Flags.{flag};
 ghost use Rattle.message.specs.declared.Command.the-variants as C;
 ghost use Rattle.applied.specs.laws.SameStates.{isParts, Inside};
 ghost use Rattle.applied.specs.laws.KeepsStates.{bringsNothing, keepsStates};
+ghost use Rattle.numbers.specs.Sizes.{MOST-NODES, MOST-EDGES};
 
 const BOTH_PROCESSED: u8 = 3;
 
@@ -58,7 +59,7 @@ fn brings_nothing(kind: u8, state: u8, child: bool, parent: bool) -> bool
 
 // A new child is satisfied only if it is an entity.
 fn bring_keeps(nodes: Nodes, sat: [u8; 128], b: NewEdge) -> bool
-    requires { ⌜ nodes .count ≤ 128 ⌝ }
+    requires { ⌜ nodes .count ≤ MOST-NODES ⌝ }
     ensures { λ r. ⌜ r ≡ keepsStates (nodesOf nodes) sat (C.Bring b) ⌝ }
 {
     if nodes.count <= wide(b.parent) {
@@ -69,7 +70,7 @@ fn bring_keeps(nodes: Nodes, sat: [u8; 128], b: NewEdge) -> bool
 }
 
 fn join_keeps(nodes: Nodes, sat: [u8; 128], e: Edge) -> bool
-    requires { ⌜ nodes .count ≤ 128 ⌝ }
+    requires { ⌜ nodes .count ≤ MOST-NODES ⌝ }
     ensures { λ r. ⌜ r ≡ keepsStates (nodesOf nodes) sat (C.Join e) ⌝ }
 {
     if nodes.count <= wide(e.parent) {
@@ -82,7 +83,7 @@ fn join_keeps(nodes: Nodes, sat: [u8; 128], e: Edge) -> bool
 }
 
 fn mark_keeps(nodes: Nodes, sat: [u8; 128], i: u8) -> bool
-    requires { ⌜ nodes .count ≤ 128 ⌝ }
+    requires { ⌜ nodes .count ≤ MOST-NODES ⌝ }
     ensures { λ r. ⌜ r ≡ keepsStates (nodesOf nodes) sat (C.Mark i) ⌝ }
 {
     if nodes.count <= wide(i) {
@@ -95,7 +96,7 @@ fn mark_keeps(nodes: Nodes, sat: [u8; 128], i: u8) -> bool
 
 // Whether a command leaves the satisfied nodes as they are; sat is the column of them.
 pub fn keeps_states(nodes: Nodes, sat: [u8; 128], c: Command) -> bool
-    requires { ⌜ nodes .count ≤ 128 ⌝ }
+    requires { ⌜ nodes .count ≤ MOST-NODES ⌝ }
     ensures { λ r. ⌜ r ≡ keepsStates (nodesOf nodes) sat c ⌝ }
 {
     match c {
@@ -110,7 +111,7 @@ pub fn keeps_states(nodes: Nodes, sat: [u8; 128], c: Command) -> bool
 
 // Whether each edge leads into a node.
 pub fn is_inside(nodes: Nodes, edges: Edges) -> bool
-    requires { ⌜ edges .count ≤ 256 ⌝ }
+    requires { ⌜ edges .count ≤ MOST-EDGES ⌝ }
     ensures { λ r. ⌜ ((r ≡ true) → Inside (nodesOf nodes) (edgesOf edges)) ⌝ }
 {
     let mut j = 0;

@@ -19,6 +19,7 @@ pub use after::after_message;
 pub use keeps::is_inside;
 pub use keeps::keeps_states;
 pub use sides::child_of;
+ghost use Rattle.numbers.specs.Sizes.{MOST-NODES, MOST-EDGES};
 
 mod after;
 mod keeps;
@@ -26,7 +27,7 @@ mod sides;
 
 // The primary is added.
 fn opened(n: Negotiation, side: u8, o: Opening) -> Negotiation
-    requires { ⌜ n .nodes .count < 128 ⌝ }
+    requires { ⌜ n .nodes .count < MOST-NODES ⌝ }
     ensures { λ r. ⌜ stateOf r ≡ stepped (stateOf n) side (C.Open o) ⌝ }
 {
     let h = n.header;
@@ -35,7 +36,7 @@ fn opened(n: Negotiation, side: u8, o: Opening) -> Negotiation
 
 // A child is added, then the edge to it.
 fn brought(n: Negotiation, side: u8, b: NewEdge) -> Negotiation
-    requires { ⌜ (b .parent < n .nodes .count) × (n .nodes .count < 128) × (n .edges .count < 256) ⌝ }
+    requires { ⌜ (b .parent < n .nodes .count) × (n .nodes .count < MOST-NODES) × (n .edges .count < MOST-EDGES) ⌝ }
     ensures { λ r. ⌜ stateOf r ≡ stepped (stateOf n) side (C.Bring b) ⌝ }
 {
     let nodes = n.nodes;
@@ -51,7 +52,7 @@ fn brought(n: Negotiation, side: u8, b: NewEdge) -> Negotiation
 
 // A node is marked as processed by a side.
 fn marked(n: Negotiation, side: u8, i: u8) -> Negotiation
-    requires { ⌜ (i < n .nodes .count) × (n .nodes .count ≤ 128) ⌝ }
+    requires { ⌜ (i < n .nodes .count) × (n .nodes .count ≤ MOST-NODES) ⌝ }
     ensures { λ r. ⌜ stateOf r ≡ stepped (stateOf n) side (C.Mark i) ⌝ }
 {
     let nodes = n.nodes;

@@ -65,7 +65,8 @@ fn side_of(entity: u16, name: u16) -> u8
 // The fresh negotiation goes into its buffer: 0, or a refusal number, and then nothing changes.
 pub fn begin(tables: &[u8], negotiation: &mut [u8], other: u16, entity: u16, name: u16) -> u64
     ensures answered { λ r. ⌜ r ≡ answerOf noValue (beginOf (now (tables .entry)) (now (negotiation .entry)) other entity name) ⌝ }
-    ensures left { λ _. ⌜ now (negotiation .exit) ≡ bufferAfter stateBytes (now (negotiation .entry)) (beginOf (now (tables .entry)) (now (negotiation .entry)) other entity name) ⌝ }
+    ensures left { λ _. ⌜ now (negotiation .exit) ≡ bufferAfter stateBytes (now (negotiation .entry))
+        (beginOf (now (tables .entry)) (now (negotiation .entry)) other entity name) ⌝ }
 {
     if negotiation.len() != Negotiation::BYTES {
         return LENGTH;

@@ -40,6 +40,7 @@ ghost use Rattle.candidates.specs.laws.Offers.{folded};
 ghost use Rattle.candidates.specs.laws.Skipped.{Skipped};
 ghost use Rattle.candidates.specs.laws.Collected.{Added, Grown, Collected};
 ghost use Rattle.candidates.specs.laws.All.{isFrom, offerRole, offerRoles, Together, allEdges};
+ghost use Rattle.numbers.specs.Sizes.{MOST-NODES, MOST-EDGES};
 
 fn flag_of(b: bool) -> u8
     ensures { λ r. ⌜ r ≡ cond b 1 0 ⌝ }
@@ -65,7 +66,9 @@ fn is_from<'a>(
     a: Role,
     x: Expression,
 ) -> bool
-    requires { ⌜ (m ≤ 128) × Ruled (poolOf m (now heads) (now kinds) (now numbers)) (rulesOf m words (now head) (now part) (now first) (now named) (now src)) × Relation (poolOf m (now heads) (now kinds) (now numbers)) (now on) (now rows) ⌝ }
+    requires { ⌜ (m ≤ 128) × Ruled (poolOf m (now heads) (now kinds) (now numbers))
+        (rulesOf m words (now head) (now part) (now first) (now named) (now src))
+        × Relation (poolOf m (now heads) (now kinds) (now numbers)) (now on) (now rows) ⌝ }
     ensures { λ r. ⌜ r ≡ isFrom (chosen (poolOf m (now (heads .entry)) (now (kinds .entry)) (now (numbers .entry))) (now (on .entry))) a x ⌝ }
 {
     let e = Expression::Role(a);
@@ -111,8 +114,11 @@ fn flagged<'a>(
     rows: &'a [u64; 260],
     a: Role,
 ) -> [u8; 128]
-    requires { ⌜ (m ≤ 128) × Ruled (poolOf m (now heads) (now kinds) (now numbers)) (rulesOf m words (now head) (now part) (now first) (now named) (now src)) × Relation (poolOf m (now heads) (now kinds) (now numbers)) (now on) (now rows) ⌝ }
-    ensures { λ r. ⌜ Told (isFrom (chosen (poolOf m (now (heads .entry)) (now (kinds .entry)) (now (numbers .entry))) (now (on .entry))) a) (poolOf m (now (heads .entry)) (now (kinds .entry)) (now (numbers .entry))) m r ⌝ }
+    requires { ⌜ (m ≤ 128) × Ruled (poolOf m (now heads) (now kinds) (now numbers))
+        (rulesOf m words (now head) (now part) (now first) (now named) (now src))
+        × Relation (poolOf m (now heads) (now kinds) (now numbers)) (now on) (now rows) ⌝ }
+    ensures { λ r. ⌜ Told (isFrom (chosen (poolOf m (now (heads .entry)) (now (kinds .entry)) (now (numbers .entry))) (now (on .entry))) a)
+        (poolOf m (now (heads .entry)) (now (kinds .entry)) (now (numbers .entry))) m r ⌝ }
 {
     let mut r = [0u8; 128];
     let mut k = 0;
@@ -206,7 +212,7 @@ fn with_role(
     best: Choice,
     x: Expression,
 ) -> Choice
-    requires { ⌜ (nodes .count ≤ 128) × (edges .count ≤ 256) ⌝ }
+    requires { ⌜ (nodes .count ≤ MOST-NODES) × (edges .count ≤ MOST-EDGES) ⌝ }
     ensures { λ c. ⌜ c ≡ offerRole (isDone (nodesOf nodes) (edgesOf edges) i) n r best x ⌝ }
 {
     match x {
@@ -240,8 +246,9 @@ fn with_roles<'a>(
     n: Node,
     r: u16,
 ) -> Choice
-    requires { ⌜ (m ≤ 128) × (nodes .count ≤ 128) × (edges .count ≤ 256) ⌝ }
-    ensures { λ c. ⌜ c ≡ folded m (offerRoles (isDone (nodesOf nodes) (edgesOf edges) i) (poolOf m (now (heads .entry)) (now (kinds .entry)) (now (numbers .entry))) (now (flags .entry)) n r) C.Nothing ⌝ }
+    requires { ⌜ (m ≤ 128) × (nodes .count ≤ MOST-NODES) × (edges .count ≤ MOST-EDGES) ⌝ }
+    ensures { λ c. ⌜ c ≡ folded m (offerRoles (isDone (nodesOf nodes) (edgesOf edges) i)
+        (poolOf m (now (heads .entry)) (now (kinds .entry)) (now (numbers .entry))) (now (flags .entry)) n r) C.Nothing ⌝ }
 {
     let mut best = Choice::Nothing;
     let mut k = next_flagged(m, flags, 0);
@@ -278,7 +285,8 @@ fn add_found<'a>(
     x: Expression,
 )
     requires { ⌜ (m ≤ 128) × (length (now all) ≡ 128) ⌝ }
-    ensures { λ _. ⌜ Grown (poolOf m (now (heads .entry)) (now (kinds .entry)) (now (numbers .entry))) (now (on .entry)) (now (stop .entry)) r x (now (all .entry)) (now (all .exit)) ⌝ }
+    ensures { λ _. ⌜ Grown (poolOf m (now (heads .entry)) (now (kinds .entry)) (now (numbers .entry))) (now (on .entry)) (now (stop .entry)) r x
+        (now (all .entry)) (now (all .exit)) ⌝ }
 {
     match x {
         Expression::Entity(b) => {
@@ -305,7 +313,8 @@ fn found_from_all<'a>(
     r: u16,
 ) -> [u8; 128]
     requires { ⌜ m ≤ 128 ⌝ }
-    ensures { λ all. ⌜ Collected (poolOf m (now (heads .entry)) (now (kinds .entry)) (now (numbers .entry))) (now (on .entry)) (now (stop .entry)) (now (flags .entry)) r m all ⌝ }
+    ensures { λ all. ⌜ Collected (poolOf m (now (heads .entry)) (now (kinds .entry)) (now (numbers .entry))) (now (on .entry)) (now (stop .entry))
+        (now (flags .entry)) r m all ⌝ }
 {
     let mut all = [0u8; 128];
     let mut k = next_flagged(m, flags, 0);
@@ -331,8 +340,9 @@ fn with_frontiers<'a>(
     n: Node,
     r: u16,
 ) -> Choice
-    requires { ⌜ (m ≤ 128) × (nodes .count ≤ 128) × (edges .count ≤ 256) ⌝ }
-    ensures { λ c. ⌜ Together (isDone (nodesOf nodes) (edgesOf edges) i) (poolOf m (now (heads .entry)) (now (kinds .entry)) (now (numbers .entry))) (replicate 128 1) (now (stop .entry)) (now (flags .entry)) n r c ⌝ }
+    requires { ⌜ (m ≤ 128) × (nodes .count ≤ MOST-NODES) × (edges .count ≤ MOST-EDGES) ⌝ }
+    ensures { λ c. ⌜ Together (isDone (nodesOf nodes) (edgesOf edges) i) (poolOf m (now (heads .entry)) (now (kinds .entry)) (now (numbers .entry)))
+        (replicate 128 1) (now (stop .entry)) (now (flags .entry)) n r c ⌝ }
 {
     let on = [1u8; 128];
     let all = found_from_all(m, heads, kinds, numbers, &on, stop, flags, r);
@@ -362,7 +372,7 @@ pub fn all_edges(
     a: Role,
     r: u16,
 ) -> Choice
-    requires { ⌜ Prepared own × (nodes .count ≤ 128) × (edges .count ≤ 256) ⌝ }
+    requires { ⌜ Prepared own × (nodes .count ≤ MOST-NODES) × (edges .count ≤ MOST-EDGES) ⌝ }
     ensures { λ c. ⌜ c ≡ firstNot (isDone (nodesOf nodes) (edgesOf edges) i) C.Nothing (allEdges (tablesOf (own .house)) n a r) ⌝ }
 {
     let house = own.house;

@@ -14,10 +14,11 @@ ghost use Prim.Native.Nat.{_≤_};
 ghost use Rattle.graph.specs.laws.Graph.{nodesOf, edgesOf};
 ghost use Rattle.moves.specs.Candidates.{precedes as precedesOf, isDone};
 ghost use Rattle.candidates.specs.laws.Least.{improves as improvesOf, better as betterOf, orElse};
+ghost use Rattle.numbers.specs.Sizes.{MOST-NODES, MOST-EDGES};
 
 // Whether an edge into node i stands already, or would join it to itself.
 pub fn is_done(nodes: Nodes, edges: Edges, i: u8, w: Candidate) -> bool
-    requires { ⌜ (nodes .count ≤ 128) × (edges .count ≤ 256) ⌝ }
+    requires { ⌜ (nodes .count ≤ MOST-NODES) × (edges .count ≤ MOST-EDGES) ⌝ }
     ensures { λ r. ⌜ r ≡ isDone (nodesOf nodes) (edgesOf edges) i w ⌝ }
 {
     let y = w.expression;
@@ -82,7 +83,7 @@ fn improves(best: Choice, w: Candidate) -> bool
 
 // The lesser of what is chosen and an edge into node i, unless that is done.
 pub fn better(nodes: Nodes, edges: Edges, i: u8, best: Choice, w: Candidate) -> Choice
-    requires { ⌜ (nodes .count ≤ 128) × (edges .count ≤ 256) ⌝ }
+    requires { ⌜ (nodes .count ≤ MOST-NODES) × (edges .count ≤ MOST-EDGES) ⌝ }
     ensures { λ r. ⌜ r ≡ betterOf (isDone (nodesOf nodes) (edgesOf edges) i) best w ⌝ }
 {
     if !improves(best, w) {

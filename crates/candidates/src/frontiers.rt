@@ -21,11 +21,14 @@ ghost use Rattle.moves.specs.Frontiers.{bodiesOf, frontierOf, oppo, simp, sens}
 ghost use Rattle.moves.specs.Candidates.{isDone, firstNot};
 ghost use Rattle.moves.specs.Rules.{implications, toSubject};
 ghost use Rattle.moves.specs.laws.Own.{Prepared};
+ghost use Rattle.numbers.specs.Sizes.{MOST-NODES, MOST-EDGES};
 
 // The verifier's: the oppo frontier of the bodies of 0x12.
 pub fn issuer_edges(own: Preparation, n: Negotiation, i: u8, x: Node, a: Role) -> Choice
-    requires { ⌜ Prepared own × (n .nodes .count ≤ 128) × (n .edges .count ≤ 256) ⌝ }
-    ensures { λ c. ⌜ c ≡ firstNot (isDone (nodesOf (n .nodes)) (edgesOf (n .edges)) i) C.Nothing (implications x (frontierOf (oppo (tablesOf (own .house) .names)) (tablesOf (own .house) .issuerStored) (bodiesOf (tablesOf (own .house) .issuerStored) (E.Role a)))) ⌝ }
+    requires { ⌜ Prepared own × (n .nodes .count ≤ MOST-NODES) × (n .edges .count ≤ MOST-EDGES) ⌝ }
+    ensures { λ c. ⌜ c ≡ firstNot (isDone (nodesOf (n .nodes)) (edgesOf (n .edges)) i) C.Nothing
+        (implications x (frontierOf (oppo (tablesOf (own .house) .names)) (tablesOf (own .house) .issuerStored)
+        (bodiesOf (tablesOf (own .house) .issuerStored) (E.Role a)))) ⌝ }
 {
     let house = own.house;
     let pool = house.issuer;
@@ -48,8 +51,11 @@ pub fn issuer_edges(own: Preparation, n: Negotiation, i: u8, x: Node, a: Role) -
 
 // Rule (4) of a sensitive role: the sens frontiers of the bodies of its other credentials, less entities.
 pub fn rest_edges(own: Preparation, n: Negotiation, i: u8, x: Node, a: Role) -> Choice
-    requires { ⌜ Prepared own × (n .nodes .count ≤ 128) × (n .edges .count ≤ 256) ⌝ }
-    ensures { λ c. ⌜ c ≡ firstNot (isDone (nodesOf (n .nodes)) (edgesOf (n .edges)) i) C.Nothing (implications x (keep (λ y. not (isEntity y)) (frontierOf (sens (tablesOf (own .house) .sensitive)) (publicOf (tablesOf (own .house)) .subjectStored) (bodiesOf (publicOf (tablesOf (own .house)) .subjectStored) (E.Role a))))) ⌝ }
+    requires { ⌜ Prepared own × (n .nodes .count ≤ MOST-NODES) × (n .edges .count ≤ MOST-EDGES) ⌝ }
+    ensures { λ c. ⌜ c ≡ firstNot (isDone (nodesOf (n .nodes)) (edgesOf (n .edges)) i) C.Nothing
+        (implications x (keep (λ y. not (isEntity y))
+        (frontierOf (sens (tablesOf (own .house) .sensitive)) (publicOf (tablesOf (own .house)) .subjectStored)
+        (bodiesOf (publicOf (tablesOf (own .house)) .subjectStored) (E.Role a))))) ⌝ }
 {
     let house = own.house;
     let pool = house.subject;
@@ -71,8 +77,9 @@ pub fn rest_edges(own: Preparation, n: Negotiation, i: u8, x: Node, a: Role) -> 
 
 // A role about us that is not sensitive: its sens frontier.
 pub fn plain_edges(own: Preparation, n: Negotiation, i: u8, x: Node, a: Role) -> Choice
-    requires { ⌜ Prepared own × (n .nodes .count ≤ 128) × (n .edges .count ≤ 256) × (isSensitive (tablesOf (own .house) .sensitive) a ≡ false) ⌝ }
-    ensures { λ c. ⌜ c ≡ firstNot (isDone (nodesOf (n .nodes)) (edgesOf (n .edges)) i) C.Nothing (toSubject x (frontierOf (sens (tablesOf (own .house) .sensitive)) (publicOf (tablesOf (own .house)) .subjectStored) (E.Role a ∷ []))) ⌝ }
+    requires { ⌜ Prepared own × (n .nodes .count ≤ MOST-NODES) × (n .edges .count ≤ MOST-EDGES) × (isSensitive (tablesOf (own .house) .sensitive) a ≡ false) ⌝ }
+    ensures { λ c. ⌜ c ≡ firstNot (isDone (nodesOf (n .nodes)) (edgesOf (n .edges)) i) C.Nothing
+        (toSubject x (frontierOf (sens (tablesOf (own .house) .sensitive)) (publicOf (tablesOf (own .house)) .subjectStored) (E.Role a ∷ []))) ⌝ }
 {
     let house = own.house;
     let pool = house.subject;
@@ -83,8 +90,9 @@ pub fn plain_edges(own: Preparation, n: Negotiation, i: u8, x: Node, a: Role) ->
 
 // A role about another: its simp frontier.
 pub fn other_edges(own: Preparation, n: Negotiation, i: u8, x: Node, a: Role) -> Choice
-    requires { ⌜ Prepared own × (n .nodes .count ≤ 128) × (n .edges .count ≤ 256) ⌝ }
-    ensures { λ c. ⌜ c ≡ firstNot (isDone (nodesOf (n .nodes)) (edgesOf (n .edges)) i) C.Nothing (toSubject x (frontierOf simp (publicOf (tablesOf (own .house)) .subjectStored) (E.Role a ∷ []))) ⌝ }
+    requires { ⌜ Prepared own × (n .nodes .count ≤ MOST-NODES) × (n .edges .count ≤ MOST-EDGES) ⌝ }
+    ensures { λ c. ⌜ c ≡ firstNot (isDone (nodesOf (n .nodes)) (edgesOf (n .edges)) i) C.Nothing
+        (toSubject x (frontierOf simp (publicOf (tablesOf (own .house)) .subjectStored) (E.Role a ∷ []))) ⌝ }
 {
     let house = own.house;
     let pool = house.subject;

@@ -22,6 +22,7 @@ ghost use Rattle.moves.specs.Candidates.{isDone, ordered, firstNot};
 ghost use Rattle.candidates.specs.laws.Offers.{folded, offer};
 ghost use Rattle.candidates.specs.laws.Goals.{isNamedPair, pairEdge, isNamedHead, headEdge, solutionEdge, namedRoles};
 ghost use mathlib.Core.List.{map};
+ghost use Rattle.numbers.specs.Sizes.{MOST-NODES, MOST-EDGES};
 
 // The best of what is chosen and the edge to sensitive role k, if it has the name r.
 fn with_pair<'a>(
@@ -36,8 +37,9 @@ fn with_pair<'a>(
     best: Choice,
     k: usize,
 ) -> Choice
-    requires { ⌜ (k < 32) × (nodes .count ≤ 128) × (edges .count ≤ 256) ⌝ }
-    ensures { λ c. ⌜ c ≡ offer (isDone (nodesOf nodes) (edgesOf edges) i) (isNamedPair (pairsFrom q (now (roles .entry)) (now (others .entry))) r) (pairEdge (pairsFrom q (now (roles .entry)) (now (others .entry))) n) best k ⌝ }
+    requires { ⌜ (k < 32) × (nodes .count ≤ MOST-NODES) × (edges .count ≤ MOST-EDGES) ⌝ }
+    ensures { λ c. ⌜ c ≡ offer (isDone (nodesOf nodes) (edgesOf edges) i) (isNamedPair (pairsFrom q (now (roles .entry)) (now (others .entry))) r)
+        (pairEdge (pairsFrom q (now (roles .entry)) (now (others .entry))) n) best k ⌝ }
 {
     let a = Role {
         entity: roles[k * 2],
@@ -61,8 +63,10 @@ fn with_pairs<'a>(
     n: Node,
     r: u16,
 ) -> Choice
-    requires { ⌜ (q ≤ 32) × (nodes .count ≤ 128) × (edges .count ≤ 256) ⌝ }
-    ensures { λ c. ⌜ c ≡ folded q (offer (isDone (nodesOf nodes) (edgesOf edges) i) (isNamedPair (pairsFrom q (now (roles .entry)) (now (others .entry))) r) (pairEdge (pairsFrom q (now (roles .entry)) (now (others .entry))) n)) C.Nothing ⌝ }
+    requires { ⌜ (q ≤ 32) × (nodes .count ≤ MOST-NODES) × (edges .count ≤ MOST-EDGES) ⌝ }
+    ensures { λ c. ⌜ c ≡ folded q (offer (isDone (nodesOf nodes) (edgesOf edges) i)
+        (isNamedPair (pairsFrom q (now (roles .entry)) (now (others .entry))) r)
+        (pairEdge (pairsFrom q (now (roles .entry)) (now (others .entry))) n)) C.Nothing ⌝ }
 {
     let mut best = Choice::Nothing;
     let mut k = 0;
@@ -88,8 +92,10 @@ fn with_head<'a>(
     best: Choice,
     k: usize,
 ) -> Choice
-    requires { ⌜ (k < 128) × (nodes .count ≤ 128) × (edges .count ≤ 256) ⌝ }
-    ensures { λ c. ⌜ c ≡ offer (isDone (nodesOf nodes) (edgesOf edges) i) (isNamedHead (poolOf m (now (heads .entry)) (now (kinds .entry)) (now (numbers .entry))) (now (on .entry)) r) (headEdge (poolOf m (now (heads .entry)) (now (kinds .entry)) (now (numbers .entry))) n) best k ⌝ }
+    requires { ⌜ (k < 128) × (nodes .count ≤ MOST-NODES) × (edges .count ≤ MOST-EDGES) ⌝ }
+    ensures { λ c. ⌜ c ≡ offer (isDone (nodesOf nodes) (edgesOf edges) i)
+        (isNamedHead (poolOf m (now (heads .entry)) (now (kinds .entry)) (now (numbers .entry))) (now (on .entry)) r)
+        (headEdge (poolOf m (now (heads .entry)) (now (kinds .entry)) (now (numbers .entry))) n) best k ⌝ }
 {
     if on[k] != 1 {
         return best;
@@ -116,8 +122,10 @@ fn with_heads<'a>(
     r: u16,
     start: Choice,
 ) -> Choice
-    requires { ⌜ (m ≤ 128) × (nodes .count ≤ 128) × (edges .count ≤ 256) ⌝ }
-    ensures { λ c. ⌜ c ≡ folded m (offer (isDone (nodesOf nodes) (edgesOf edges) i) (isNamedHead (poolOf m (now (heads .entry)) (now (kinds .entry)) (now (numbers .entry))) (now (on .entry)) r) (headEdge (poolOf m (now (heads .entry)) (now (kinds .entry)) (now (numbers .entry))) n)) start ⌝ }
+    requires { ⌜ (m ≤ 128) × (nodes .count ≤ MOST-NODES) × (edges .count ≤ MOST-EDGES) ⌝ }
+    ensures { λ c. ⌜ c ≡ folded m (offer (isDone (nodesOf nodes) (edgesOf edges) i)
+        (isNamedHead (poolOf m (now (heads .entry)) (now (kinds .entry)) (now (numbers .entry))) (now (on .entry)) r)
+        (headEdge (poolOf m (now (heads .entry)) (now (kinds .entry)) (now (numbers .entry))) n)) start ⌝ }
 {
     let mut best = start;
     let mut k = 0;
@@ -130,8 +138,9 @@ fn with_heads<'a>(
 
 // "any A.r2 ∈ sensitiveRoles or A.r2 defined by a credential".
 pub fn solutions(own: Preparation, nodes: Nodes, edges: Edges, i: u8, n: Node, r: u16) -> Choice
-    requires { ⌜ Housed (own .house) × (nodes .count ≤ 128) × (edges .count ≤ 256) ⌝ }
-    ensures { λ c. ⌜ c ≡ firstNot (isDone (nodesOf nodes) (edgesOf edges) i) C.Nothing (ordered (map (solutionEdge n) (namedRoles r (pairsOf (own .house .sensitive)) (chosen (own .house .subject) (own .visible))))) ⌝ }
+    requires { ⌜ Housed (own .house) × (nodes .count ≤ MOST-NODES) × (edges .count ≤ MOST-EDGES) ⌝ }
+    ensures { λ c. ⌜ c ≡ firstNot (isDone (nodesOf nodes) (edgesOf edges) i) C.Nothing
+        (ordered (map (solutionEdge n) (namedRoles r (pairsOf (own .house .sensitive)) (chosen (own .house .subject) (own .visible))))) ⌝ }
 {
     let house = own.house;
     let pairs = house.sensitive;

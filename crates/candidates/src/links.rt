@@ -28,7 +28,9 @@ ghost use Rattle.moves.specs.declared.Choice.the-variants as C;
 ghost use Rattle.moves.specs.Candidates.{isDone, markIf};
 ghost use Rattle.candidates.specs.laws.Offers.{folded, offer};
 ghost use Rattle.candidates.specs.laws.Skipped.{First};
-ghost use Rattle.candidates.specs.laws.Links.{Monitoring, entityIn, isNamedAt, isSolution, isSolved, solutionEdge, solvedEdge, isMonitor, isCompleteAt, Linked};
+ghost use Rattle.candidates.specs.laws.Links.{Monitoring, entityIn, isNamedAt, isSolution, isSolved, solutionEdge, solvedEdge, isMonitor};
+ghost use Rattle.candidates.specs.laws.Links.{isCompleteAt, Linked};
+ghost use Rattle.numbers.specs.Sizes.{MOST-NODES, MOST-EDGES};
 
 // The children of node i by linking-monitor edges, 1 for each.
 fn monitored<'a>(
@@ -121,7 +123,8 @@ fn next_solution<'a>(
     from: usize,
 ) -> usize
     requires { ⌜ (count ≤ 128) × (m ≤ 256) × (from ≤ m) ⌝ }
-    ensures { λ r. ⌜ First (isSolution count (now (kind .entry)) (now (parent .entry)) (now (child .entry)) (now (monitors .entry)) (now (sat .entry))) from m r ⌝ }
+    ensures { λ r. ⌜ First (isSolution count (now (kind .entry)) (now (parent .entry)) (now (child .entry)) (now (monitors .entry))
+        (now (sat .entry))) from m r ⌝ }
 {
     let mut j = from;
     while j < m {
@@ -144,7 +147,7 @@ fn with_solution(
     best: Choice,
     c: usize,
 ) -> Choice
-    requires { ⌜ (c < 128) × (nodes .count ≤ 128) × (edges .count ≤ 256) ⌝ }
+    requires { ⌜ (c < 128) × (nodes .count ≤ MOST-NODES) × (edges .count ≤ MOST-EDGES) ⌝ }
     ensures { λ z. ⌜ z ≡ offer (isDone (nodesOf nodes) (edgesOf edges) i) (isNamedAt nodes r) (solutionEdge nodes n a) best c ⌝ }
 {
     let x = expression_of(nodes, c);
@@ -166,8 +169,9 @@ fn with_solutions<'a>(
     a: Role,
     r: u16,
 ) -> Choice
-    requires { ⌜ (nodes .count ≤ 128) × (edges .count ≤ 256) ⌝ }
-    ensures { λ c. ⌜ c ≡ folded (edges .count) (offer (isDone (nodesOf nodes) (edgesOf edges) i) (isSolved nodes edges (now (monitors .entry)) (now (sat .entry)) r) (solvedEdge nodes edges n a)) C.Nothing ⌝ }
+    requires { ⌜ (nodes .count ≤ MOST-NODES) × (edges .count ≤ MOST-EDGES) ⌝ }
+    ensures { λ c. ⌜ c ≡ folded (edges .count) (offer (isDone (nodesOf nodes) (edgesOf edges) i)
+        (isSolved nodes edges (now (monitors .entry)) (now (sat .entry)) r) (solvedEdge nodes edges n a)) C.Nothing ⌝ }
 {
     let mut best = Choice::Nothing;
     let mut j = next_solution(
@@ -233,7 +237,8 @@ fn any_complete<'a>(
     failed: &'a [u8; 128],
     i: u8,
 ) -> bool
-    requires { ⌜ (nodes .count ≤ 128) × (edges .count ≤ 256) × EdgesFormed (nodesOf nodes) (edgesOf edges) × StateColumns (nodesOf nodes) (edgesOf edges) (now sat) (now failed) ⌝ }
+    requires { ⌜ (nodes .count ≤ MOST-NODES) × (edges .count ≤ MOST-EDGES) × EdgesFormed (nodesOf nodes) (edgesOf edges)
+        × StateColumns (nodesOf nodes) (edgesOf edges) (now sat) (now failed) ⌝ }
     ensures { λ b. ⌜ b ≡ any (isCompleteAt nodes edges i) (upTo (edges .count) (λ j. j)) ⌝ }
 {
     let m = edges.count;
@@ -287,7 +292,8 @@ pub fn link_rules(
     a: Role,
     r: u16,
 ) -> Choice
-    requires { ⌜ (nodes .count ≤ 128) × (edges .count ≤ 256) × EdgesFormed (nodesOf nodes) (edgesOf edges) × StateColumns (nodesOf nodes) (edgesOf edges) (states .satisfied) (states .failed) ⌝ }
+    requires { ⌜ (nodes .count ≤ MOST-NODES) × (edges .count ≤ MOST-EDGES) × EdgesFormed (nodesOf nodes) (edgesOf edges)
+        × StateColumns (nodesOf nodes) (edgesOf edges) (states .satisfied) (states .failed) ⌝ }
     ensures { λ c. ⌜ Linked nodes edges (states .satisfied) i n a r c ⌝ }
 {
     let goal = child_for(MONITOR, n, Expression::Goal(r), n.subject);

@@ -22,6 +22,7 @@ ghost use Rattle.moves.specs.Rules.{childFor};
 ghost use Rattle.candidates.specs.laws.Offers.{folded, offer};
 ghost use Rattle.candidates.specs.laws.Members.{admits as admitsOf, isMember, isStopped, memberEdge, Extended};
 ghost use Rattle.candidates.specs.laws.Skipped.{Skipped};
+ghost use Rattle.numbers.specs.Sizes.{MOST-NODES, MOST-EDGES};
 
 // An edge into node n, to a child of its verifier.
 pub fn child_for(kind: u8, n: Node, x: Expression, b: u16) -> Candidate
@@ -65,8 +66,10 @@ fn with_member<'a>(
     best: Choice,
     k: usize,
 ) -> Choice
-    requires { ⌜ (k < 128) × (nodes .count ≤ 128) × (edges .count ≤ 256) ⌝ }
-    ensures { λ r. ⌜ r ≡ offer (isDone (nodesOf nodes) (edgesOf edges) i) (isMember (poolOf m (now (heads .entry)) (now (kinds .entry)) (now (numbers .entry))) (now (stop .entry)) (now (found .entry)) entities n) (memberEdge (poolOf m (now (heads .entry)) (now (kinds .entry)) (now (numbers .entry))) n) best k ⌝ }
+    requires { ⌜ (k < 128) × (nodes .count ≤ MOST-NODES) × (edges .count ≤ MOST-EDGES) ⌝ }
+    ensures { λ r. ⌜ r ≡ offer (isDone (nodesOf nodes) (edgesOf edges) i)
+        (isMember (poolOf m (now (heads .entry)) (now (kinds .entry)) (now (numbers .entry))) (now (stop .entry)) (now (found .entry)) entities n)
+        (memberEdge (poolOf m (now (heads .entry)) (now (kinds .entry)) (now (numbers .entry))) n) best k ⌝ }
 {
     if (found[k] != 1) | (stop[k] != 1) {
         return best;
@@ -122,8 +125,10 @@ pub fn with_members<'a>(
     entities: bool,
     start: Choice,
 ) -> Choice
-    requires { ⌜ (m ≤ 128) × (nodes .count ≤ 128) × (edges .count ≤ 256) ⌝ }
-    ensures { λ r. ⌜ r ≡ folded m (offer (isDone (nodesOf nodes) (edgesOf edges) i) (isMember (poolOf m (now (heads .entry)) (now (kinds .entry)) (now (numbers .entry))) (now (stop .entry)) (now (found .entry)) entities n) (memberEdge (poolOf m (now (heads .entry)) (now (kinds .entry)) (now (numbers .entry))) n)) start ⌝ }
+    requires { ⌜ (m ≤ 128) × (nodes .count ≤ MOST-NODES) × (edges .count ≤ MOST-EDGES) ⌝ }
+    ensures { λ r. ⌜ r ≡ folded m (offer (isDone (nodesOf nodes) (edgesOf edges) i)
+        (isMember (poolOf m (now (heads .entry)) (now (kinds .entry)) (now (numbers .entry))) (now (stop .entry)) (now (found .entry)) entities n)
+        (memberEdge (poolOf m (now (heads .entry)) (now (kinds .entry)) (now (numbers .entry))) n)) start ⌝ }
 {
     let mut best = start;
     let mut k = next_stopped(m, stop, found, 0);
@@ -161,7 +166,7 @@ pub fn with_frontier<'a>(
     e: Role,
     start: Choice,
 ) -> Choice
-    requires { ⌜ (pool .count ≤ 128) × (nodes .count ≤ 128) × (edges .count ≤ 256) ⌝ }
+    requires { ⌜ (pool .count ≤ 128) × (nodes .count ≤ MOST-NODES) × (edges .count ≤ MOST-EDGES) ⌝ }
     ensures { λ r. ⌜ Extended (isDone (nodesOf nodes) (edgesOf edges) i) pool (now (on .entry)) (now (stop .entry)) entities n e start r ⌝ }
 {
     let m = pool.count;

@@ -18,9 +18,10 @@ ghost use Rattle.moves.specs.Candidates.{isDone, firstNot};
 ghost use Rattle.moves.specs.Rules.{partEdges};
 ghost use Rattle.candidates.specs.laws.Least.{better as betterOf};
 ghost use Rattle.candidates.specs.laws.Parts.{partEdge};
+ghost use Rattle.numbers.specs.Sizes.{MOST-NODES, MOST-EDGES};
 
 fn with_part(nodes: Nodes, edges: Edges, i: u8, n: Node, best: Choice, a: Role) -> Choice
-    requires { ⌜ (nodes .count ≤ 128) × (edges .count ≤ 256) ⌝ }
+    requires { ⌜ (nodes .count ≤ MOST-NODES) × (edges .count ≤ MOST-EDGES) ⌝ }
     ensures { λ r. ⌜ r ≡ betterOf (isDone (nodesOf nodes) (edgesOf edges) i) best (partEdge n a) ⌝ }
 {
     let w = child_for(INTERSECTION, n, Expression::Role(a), n.subject);
@@ -28,7 +29,7 @@ fn with_part(nodes: Nodes, edges: Edges, i: u8, n: Node, best: Choice, a: Role) 
 }
 
 pub fn part_edges(nodes: Nodes, edges: Edges, i: u8, n: Node, p: Parts) -> Choice
-    requires { ⌜ (nodes .count ≤ 128) × (edges .count ≤ 256) ⌝ }
+    requires { ⌜ (nodes .count ≤ MOST-NODES) × (edges .count ≤ MOST-EDGES) ⌝ }
     ensures { λ r. ⌜ r ≡ firstNot (isDone (nodesOf nodes) (edgesOf edges) i) C.Nothing (partEdges n (rolesOf p)) ⌝ }
 {
     let first = p.first;

@@ -19,6 +19,7 @@ ghost use Rattle.rt0.specs.laws.Pool.{poolOf};
 ghost use Rattle.graph.specs.laws.Graph.{nodesOf, edgesOf};
 ghost use Rattle.moves.specs.Candidates.{isDone};
 ghost use Rattle.candidates.specs.laws.Subject.{isSubjectAt, hasSubject, SubjectLeads};
+ghost use Rattle.numbers.specs.Sizes.{MOST-NODES, MOST-EDGES};
 
 // Whether credential k was found, and its body is a stop and the entity s.
 fn is_subject_at<'a>(
@@ -32,7 +33,8 @@ fn is_subject_at<'a>(
     k: usize,
 ) -> bool
     requires { ⌜ k < 128 ⌝ }
-    ensures { λ r. ⌜ r ≡ isSubjectAt (poolOf m (now (heads .entry)) (now (kinds .entry)) (now (numbers .entry))) (now (stop .entry)) (now (found .entry)) s k ⌝ }
+    ensures { λ r. ⌜ r ≡ isSubjectAt (poolOf m (now (heads .entry)) (now (kinds .entry)) (now (numbers .entry))) (now (stop .entry))
+        (now (found .entry)) s k ⌝ }
 {
     if (found[k] != 1) | (stop[k] != 1) {
         return false;
@@ -75,7 +77,7 @@ pub fn to_subject<'a>(
     n: Node,
     e: Role,
 ) -> Choice
-    requires { ⌜ (pool .count ≤ 128) × (nodes .count ≤ 128) × (edges .count ≤ 256) ⌝ }
+    requires { ⌜ (pool .count ≤ 128) × (nodes .count ≤ MOST-NODES) × (edges .count ≤ MOST-EDGES) ⌝ }
     ensures { λ r. ⌜ SubjectLeads (isDone (nodesOf nodes) (edgesOf edges) i) pool (now (on .entry)) (now (stop .entry)) n e r ⌝ }
 {
     let m = pool.count;

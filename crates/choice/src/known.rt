@@ -22,10 +22,11 @@ ghost use Rattle.graph.specs.laws.Graph.{nodesOf, edgesOf};
 ghost use Rattle.negotiation.specs.laws.State.{stateOf};
 ghost use Rattle.moves.specs.Known.{isAcknowledged, policyOf, holdingOf};
 ghost use Rattle.choice.specs.laws.Known.{knownAs};
+ghost use Rattle.numbers.specs.Sizes.{MOST-NODES};
 
 // Whether our target for a role of the other end stands and is satisfied.
 pub fn is_acknowledged(n: Negotiation, sat: &[u8; 128], r: Role) -> bool
-    requires { ⌜ (n .nodes .count ≤ 128) × Says (nodesOf (n .nodes)) (edgesOf (n .edges)) (now sat) ⌝ }
+    requires { ⌜ (n .nodes .count ≤ MOST-NODES) × Says (nodesOf (n .nodes)) (edgesOf (n .edges)) (now sat) ⌝ }
     ensures { λ b. ⌜ b ≡ isAcknowledged (stateOf n) r ⌝ }
 {
     let h = n.header;
@@ -86,7 +87,8 @@ fn holding_of(house: House, a: Role) -> Holding
 
 // What is known of the role a, its Ack role being given.
 pub fn known_of(house: House, n: Negotiation, sat: &[u8; 128], a: Role, ack: Role) -> Known
-    requires { ⌜ Housed house × (isSensitive (tablesOf house .sensitive) a ≡ true) × (n .nodes .count ≤ 128) × Says (nodesOf (n .nodes)) (edgesOf (n .edges)) (now sat) ⌝ }
+    requires { ⌜ Housed house × (isSensitive (tablesOf house .sensitive) a ≡ true) × (n .nodes .count ≤ MOST-NODES)
+        × Says (nodesOf (n .nodes)) (edgesOf (n .edges)) (now sat) ⌝ }
     ensures { λ k. ⌜ k ≡ knownAs (stateOf n) (hiddenOf (tablesOf house)) a ack ⌝ }
 {
     if !is_acknowledged(n, sat, ack) {

@@ -93,7 +93,10 @@ pub fn next_choice(
     passed: usize,
     rests: usize,
 ) -> Found
-    requires { ⌜ Prepared own × (within (stateOf n) ≡ true) × (0 < n .nodes .count) × NodesFormed (nodesOf (n .nodes)) × EdgesFormed (nodesOf (n .nodes)) (edgesOf (n .edges)) × StateColumns (nodesOf (n .nodes)) (edgesOf (n .edges)) (states .satisfied) (states .failed) × Exhausted (tablesOf (own .house)) (stateOf n) passed × Resting (tablesOf (own .house)) (stateOf n) rests ⌝ }
+    requires { ⌜ Prepared own × (within (stateOf n) ≡ true) × (0 < n .nodes .count) × NodesFormed (nodesOf (n .nodes))
+        × EdgesFormed (nodesOf (n .nodes)) (edgesOf (n .edges))
+        × StateColumns (nodesOf (n .nodes)) (edgesOf (n .edges)) (states .satisfied) (states .failed)
+        × Exhausted (tablesOf (own .house)) (stateOf n) passed × Resting (tablesOf (own .house)) (stateOf n) rests ⌝ }
     ensures found { λ r. ⌜ nextMove (endIn (tablesOf (own .house)) (stateOf n)) ≡ foundMove (endIn (tablesOf (own .house)) (stateOf n)) r ⌝ }
     ensures standing { λ r. ⌜ r .node < n .nodes .count ⌝ }
     ensures idle { λ r. ⌜ NothingBefore (endIn (tablesOf (own .house)) (stateOf n)) (r .node) ⌝ }

@@ -39,6 +39,7 @@ ghost use Rattle.moves.specs.laws.Own.{Prepared};
 ghost use Rattle.choice.specs.laws.Ready.{Ready};
 ghost use Rattle.choice.specs.laws.Asked.{restEdges, Asked};
 ghost use Rattle.choice.specs.laws.Exhausted.{Exhausted};
+ghost use Rattle.numbers.specs.Sizes.{MOST-NODES, MOST-EDGES};
 
 // A linked target by the rules that both sides share.
 fn linked(
@@ -69,7 +70,8 @@ fn verifier_link(
     r: u16,
 ) -> Choice
     requires { ⌜ Ready own n states ⌝ }
-    ensures { λ c. ⌜ c ≡ chosenIn (isDone (nodesOf (n .nodes)) (edgesOf (n .edges)) i) (verifierRules (endIn (tablesOf (own .house)) (stateOf n)) i x (E.Linked a r)) ⌝ }
+    ensures { λ c. ⌜ c ≡ chosenIn (isDone (nodesOf (n .nodes)) (edgesOf (n .edges)) i)
+        (verifierRules (endIn (tablesOf (own .house)) (stateOf n)) i x (E.Linked a r)) ⌝ }
 {
     let house = own.house;
     let names = house.names;
@@ -110,7 +112,8 @@ fn verifier_rules(
 
 // The edges of rule (4) at node i, unless they are known to be done.
 fn rest_of(own: Preparation, n: Negotiation, i: u8, x: Node, a: Role, passed: usize) -> Choice
-    requires { ⌜ Prepared own × (n .nodes .count ≤ 128) × (n .edges .count ≤ 256) × (i < passed → firstNot (isDone (nodesOf (n .nodes)) (edgesOf (n .edges)) i) C.Nothing (restEdges (tablesOf (own .house)) x a) ≡ C.Nothing) ⌝ }
+    requires { ⌜ Prepared own × (n .nodes .count ≤ MOST-NODES) × (n .edges .count ≤ MOST-EDGES)
+        × (i < passed → firstNot (isDone (nodesOf (n .nodes)) (edgesOf (n .edges)) i) C.Nothing (restEdges (tablesOf (own .house)) x a) ≡ C.Nothing) ⌝ }
     ensures { λ c. ⌜ c ≡ firstNot (isDone (nodesOf (n .nodes)) (edgesOf (n .edges)) i) C.Nothing (restEdges (tablesOf (own .house)) x a) ⌝ }
 {
     if (i as usize) < passed {
@@ -129,8 +132,10 @@ fn own_rules(
     a: Role,
     passed: usize,
 ) -> Choice
-    requires { ⌜ Ready own n states × (i < n .nodes .count) × Exhausted (tablesOf (own .house)) (stateOf n) passed × Asked (stateOf n) i x (E.Role a) × (x .subject ≡ own .house .own) ⌝ }
-    ensures { λ c. ⌜ c ≡ chosenIn (isDone (nodesOf (n .nodes)) (edgesOf (n .edges)) i) (ownRules (endIn (tablesOf (own .house)) (stateOf n)) i x a (endIn (tablesOf (own .house)) (stateOf n) .known)) ⌝ }
+    requires { ⌜ Ready own n states × (i < n .nodes .count) × Exhausted (tablesOf (own .house)) (stateOf n) passed × Asked (stateOf n) i x (E.Role a)
+        × (x .subject ≡ own .house .own) ⌝ }
+    ensures { λ c. ⌜ c ≡ chosenIn (isDone (nodesOf (n .nodes)) (edgesOf (n .edges)) i)
+        (ownRules (endIn (tablesOf (own .house)) (stateOf n)) i x a (endIn (tablesOf (own .house)) (stateOf n) .known)) ⌝ }
 {
     let house = own.house;
     let pairs = house.sensitive;
@@ -160,7 +165,8 @@ fn opponent_role(
     passed: usize,
 ) -> Choice
     requires { ⌜ Ready own n states × (i < n .nodes .count) × Exhausted (tablesOf (own .house)) (stateOf n) passed × Asked (stateOf n) i x (E.Role a) ⌝ }
-    ensures { λ c. ⌜ c ≡ chosenIn (isDone (nodesOf (n .nodes)) (edgesOf (n .edges)) i) (opponentRules (endIn (tablesOf (own .house)) (stateOf n)) i x (E.Role a)) ⌝ }
+    ensures { λ c. ⌜ c ≡ chosenIn (isDone (nodesOf (n .nodes)) (edgesOf (n .edges)) i)
+        (opponentRules (endIn (tablesOf (own .house)) (stateOf n)) i x (E.Role a)) ⌝ }
 {
     let house = own.house;
     if x.subject == house.own {

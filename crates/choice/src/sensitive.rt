@@ -23,10 +23,11 @@ ghost use Rattle.negotiation.specs.laws.State.{stateOf};
 ghost use Rattle.moves.specs.Candidates.{isDone};
 ghost use Rattle.candidates.specs.laws.Least.{orElse};
 ghost use Rattle.choice.specs.laws.Sensitive.{alone as aloneOf, controlFor, ownFor, policyChoice, holdingChoice, knownChoice};
+ghost use Rattle.numbers.specs.Sizes.{MOST-NODES, MOST-EDGES};
 
 // An edge into node i, unless it is done.
 fn alone(n: Negotiation, i: u8, w: Candidate) -> Choice
-    requires { ⌜ (n .nodes .count ≤ 128) × (n .edges .count ≤ 256) ⌝ }
+    requires { ⌜ (n .nodes .count ≤ MOST-NODES) × (n .edges .count ≤ MOST-EDGES) ⌝ }
     ensures { λ c. ⌜ c ≡ aloneOf (isDone (nodesOf (n .nodes)) (edgesOf (n .edges)) i) w ⌝ }
 {
     let nodes = n.nodes;
@@ -67,7 +68,8 @@ fn own_edge(x: Node) -> Candidate
 
 // The control edge; our own edge once the AC target is satisfied; the rest; a mark.
 fn by_policy(n: Negotiation, sat: &[u8; 128], i: u8, x: Node, r: Role, rest: Choice) -> Choice
-    requires { ⌜ (i < n .nodes .count) × (n .nodes .count ≤ 128) × (n .edges .count ≤ 256) × Says (nodesOf (n .nodes)) (edgesOf (n .edges)) (now sat) ⌝ }
+    requires { ⌜ (i < n .nodes .count) × (n .nodes .count ≤ MOST-NODES) × (n .edges .count ≤ MOST-EDGES)
+        × Says (nodesOf (n .nodes)) (edgesOf (n .edges)) (now sat) ⌝ }
     ensures { λ c. ⌜ c ≡ policyChoice (stateOf n) (isDone (nodesOf (n .nodes)) (edgesOf (n .edges)) i) i x rest r ⌝ }
 {
     let control = alone(n, i, control_edge(n, x, r));
@@ -81,7 +83,8 @@ fn by_policy(n: Negotiation, sat: &[u8; 128], i: u8, x: Node, r: Role, rest: Cho
 
 // By what we hold.
 fn by_holding(n: Negotiation, sat: &[u8; 128], i: u8, x: Node, h: Holding, rest: Choice) -> Choice
-    requires { ⌜ (i < n .nodes .count) × (n .nodes .count ≤ 128) × (n .edges .count ≤ 256) × Says (nodesOf (n .nodes)) (edgesOf (n .edges)) (now sat) ⌝ }
+    requires { ⌜ (i < n .nodes .count) × (n .nodes .count ≤ MOST-NODES) × (n .edges .count ≤ MOST-EDGES)
+        × Says (nodesOf (n .nodes)) (edgesOf (n .edges)) (now sat) ⌝ }
     ensures { λ c. ⌜ c ≡ holdingChoice (stateOf n) (isDone (nodesOf (n .nodes)) (edgesOf (n .edges)) i) i x rest h ⌝ }
 {
     match h {
@@ -100,7 +103,8 @@ pub fn by_known(
     known: Known,
     rest: Choice,
 ) -> Choice
-    requires { ⌜ (i < n .nodes .count) × (n .nodes .count ≤ 128) × (n .edges .count ≤ 256) × Says (nodesOf (n .nodes)) (edgesOf (n .edges)) (now sat) ⌝ }
+    requires { ⌜ (i < n .nodes .count) × (n .nodes .count ≤ MOST-NODES) × (n .edges .count ≤ MOST-EDGES)
+        × Says (nodesOf (n .nodes)) (edgesOf (n .edges)) (now sat) ⌝ }
     ensures { λ c. ⌜ c ≡ knownChoice (stateOf n) (isDone (nodesOf (n .nodes)) (edgesOf (n .edges)) i) i x rest known ⌝ }
 {
     match known {
@@ -111,7 +115,7 @@ pub fn by_known(
 
 // The Ack target's edge comes first.
 pub fn behind_ack(n: Negotiation, i: u8, x: Node, ack: Role, rest: Choice) -> Choice
-    requires { ⌜ (n .nodes .count ≤ 128) × (n .edges .count ≤ 256) ⌝ }
+    requires { ⌜ (n .nodes .count ≤ MOST-NODES) × (n .edges .count ≤ MOST-EDGES) ⌝ }
     ensures { λ c. ⌜ c ≡ orElse (aloneOf (isDone (nodesOf (n .nodes)) (edgesOf (n .edges)) i) (controlFor (stateOf n) x ack)) rest ⌝ }
 {
     or_else(alone(n, i, control_edge(n, x, ack)), rest)

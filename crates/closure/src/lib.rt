@@ -86,7 +86,8 @@ fn run_worklist<'a>(
     rows: &'a mut [u64; 260],
 )
     requires { ⌜ Fits (rulesOf n words (now head) (now part) (now first) (now named) (now src)) × (length (now rows) ≡ 260) ⌝ }
-    ensures { λ u. ⌜ Grown (rulesOf n words (now (head .entry)) (now (part .entry)) (now (first .entry)) (now (named .entry)) (now (src .entry))) (now (on .entry)) own (now (mem .entry)) (now (rows .entry)) (now (rows .exit)) ⌝ }
+    ensures { λ u. ⌜ Grown (rulesOf n words (now (head .entry)) (now (part .entry)) (now (first .entry)) (now (named .entry)) (now (src .entry)))
+        (now (on .entry)) own (now (mem .entry)) (now (rows .entry)) (now (rows .exit)) ⌝ }
 {
     if deps[258] | deps[259] == 0 {
         run_plain(
@@ -163,7 +164,8 @@ pub fn close<'a>(
     rows: &'a mut [u64; 260],
 )
     requires { ⌜ Fits (rulesOf n words (now head) (now part) (now first) (now named) (now src)) × (length (now rows) ≡ 260) ⌝ }
-    ensures { λ u. ⌜ Closed (rulesOf n words (now (head .entry)) (now (part .entry)) (now (first .entry)) (now (named .entry)) (now (src .entry))) (now (on .entry)) own (now (mem .entry)) (now (rows .entry)) (now (rows .exit)) ⌝ }
+    ensures { λ u. ⌜ Closed (rulesOf n words (now (head .entry)) (now (part .entry)) (now (first .entry)) (now (named .entry)) (now (src .entry)))
+        (now (on .entry)) own (now (mem .entry)) (now (rows .entry)) (now (rows .exit)) ⌝ }
 {
     run_worklist(
         n,

@@ -70,7 +70,8 @@ fn link<'a>(
     rows: &'a mut [u64; 260],
 ) -> bool
     requires { ⌜ (i < 128) × (j < 128) × Fits (rulesOf n words (now head) (now part) (now first) (now named) (now src)) × (length (now rows) ≡ 260) ⌝ }
-    ensures { λ g. ⌜ Grown (rulesOf n words (now (head .entry)) (now (part .entry)) (now (first .entry)) (now (named .entry)) (now (src .entry))) (now (on .entry)) own (now (mem .entry)) (now (rows .entry)) (now (rows .exit)) ⌝ }
+    ensures { λ g. ⌜ Grown (rulesOf n words (now (head .entry)) (now (part .entry)) (now (first .entry)) (now (named .entry)) (now (src .entry)))
+        (now (on .entry)) own (now (mem .entry)) (now (rows .entry)) (now (rows .exit)) ⌝ }
 {
     if n <= i {
         return false;
@@ -106,7 +107,8 @@ fn follow<'a>(
     rows: &'a mut [u64; 260],
 ) -> bool
     requires { ⌜ (i < 128) × Fits (rulesOf n words (now head) (now part) (now first) (now named) (now src)) × (length (now rows) ≡ 260) ⌝ }
-    ensures { λ g. ⌜ Grown (rulesOf n words (now (head .entry)) (now (part .entry)) (now (first .entry)) (now (named .entry)) (now (src .entry))) (now (on .entry)) own (now (mem .entry)) (now (rows .entry)) (now (rows .exit)) ⌝ }
+    ensures { λ g. ⌜ Grown (rulesOf n words (now (head .entry)) (now (part .entry)) (now (first .entry)) (now (named .entry)) (now (src .entry)))
+        (now (on .entry)) own (now (mem .entry)) (now (rows .entry)) (now (rows .exit)) ⌝ }
 {
     let mut todo = Dirty {
         lo: lo & named[i * 2],
@@ -214,8 +216,11 @@ fn step<'a>(
     seen: &'a mut [u64; 260],
     rows: &'a mut [u64; 260],
 ) -> bool
-    requires { ⌜ (i < 128) × Fits (rulesOf n words (now head) (now part) (now first) (now named) (now src)) × (length (now seen) ≡ 260) × (length (now rows) ≡ 260) ⌝ }
-    ensures { λ g. ⌜ (length (now (seen .exit)) ≡ 260) × Grown (rulesOf n words (now (head .entry)) (now (part .entry)) (now (first .entry)) (now (named .entry)) (now (src .entry))) (now (on .entry)) own (now (mem .entry)) (now (rows .entry)) (now (rows .exit)) ⌝ }
+    requires { ⌜ (i < 128) × Fits (rulesOf n words (now head) (now part) (now first) (now named) (now src)) × (length (now seen) ≡ 260)
+        × (length (now rows) ≡ 260) ⌝ }
+    ensures { λ g. ⌜ (length (now (seen .exit)) ≡ 260)
+        × Grown (rulesOf n words (now (head .entry)) (now (part .entry)) (now (first .entry)) (now (named .entry)) (now (src .entry)))
+        (now (on .entry)) own (now (mem .entry)) (now (rows .entry)) (now (rows .exit)) ⌝ }
 {
     if !bit(deps, 129, i) {
         return rule(
@@ -338,7 +343,8 @@ pub fn run_linked<'a>(
     rows: &'a mut [u64; 260],
 )
     requires { ⌜ Fits (rulesOf n words (now head) (now part) (now first) (now named) (now src)) × (length (now rows) ≡ 260) ⌝ }
-    ensures { λ u. ⌜ Grown (rulesOf n words (now (head .entry)) (now (part .entry)) (now (first .entry)) (now (named .entry)) (now (src .entry))) (now (on .entry)) own (now (mem .entry)) (now (rows .entry)) (now (rows .exit)) ⌝ }
+    ensures { λ u. ⌜ Grown (rulesOf n words (now (head .entry)) (now (part .entry)) (now (first .entry)) (now (named .entry)) (now (src .entry)))
+        (now (on .entry)) own (now (mem .entry)) (now (rows .entry)) (now (rows .exit)) ⌝ }
 {
     let owners = owners_of(n, src);
     let mut seen = [0u64; 260];

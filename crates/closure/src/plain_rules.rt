@@ -25,7 +25,8 @@ fn plain<'a>(
     rows: &'a mut [u64; 260],
 ) -> bool
     requires { ⌜ (i < 128) × Fits (rulesOf n words (now head) (now part) (now first) (now named) (now src)) × (length (now rows) ≡ 260) ⌝ }
-    ensures { λ g. ⌜ Grown (rulesOf n words (now (head .entry)) (now (part .entry)) (now (first .entry)) (now (named .entry)) (now (src .entry))) (now (on .entry)) own (now (mem .entry)) (now (rows .entry)) (now (rows .exit)) ⌝ }
+    ensures { λ g. ⌜ Grown (rulesOf n words (now (head .entry)) (now (part .entry)) (now (first .entry)) (now (named .entry)) (now (src .entry)))
+        (now (on .entry)) own (now (mem .entry)) (now (rows .entry)) (now (rows .exit)) ⌝ }
 {
     if words == 1 {
         return meets(
@@ -77,7 +78,8 @@ pub fn run_plain<'a>(
     rows: &'a mut [u64; 260],
 )
     requires { ⌜ Fits (rulesOf n words (now head) (now part) (now first) (now named) (now src)) × (length (now rows) ≡ 260) ⌝ }
-    ensures { λ u. ⌜ Grown (rulesOf n words (now (head .entry)) (now (part .entry)) (now (first .entry)) (now (named .entry)) (now (src .entry))) (now (on .entry)) own (now (mem .entry)) (now (rows .entry)) (now (rows .exit)) ⌝ }
+    ensures { λ u. ⌜ Grown (rulesOf n words (now (head .entry)) (now (part .entry)) (now (first .entry)) (now (named .entry)) (now (src .entry)))
+        (now (on .entry)) own (now (mem .entry)) (now (rows .entry)) (now (rows .exit)) ⌝ }
 {
     let mut todo = Dirty { lo, hi };
     let mut fuel = 16384usize;

@@ -56,7 +56,8 @@ pub fn word<'a>(
     h: usize,
 ) -> u64
     requires { ⌜ (i < 128) × (h < 2) × Fits (rulesOf n words (now head) (now part) (now first) (now named) (now src)) ⌝ }
-    ensures { λ w. ⌜ WordOf (rulesOf n words (now (head .entry)) (now (part .entry)) (now (first .entry)) (now (named .entry)) (now (src .entry))) i h (now (vals .entry)) (now (mem .entry)) w ⌝ }
+    ensures { λ w. ⌜ WordOf (rulesOf n words (now (head .entry)) (now (part .entry)) (now (first .entry)) (now (named .entry)) (now (src .entry))) i h
+        (now (vals .entry)) (now (mem .entry)) w ⌝ }
 {
     let w = meet(
         vals,
@@ -88,7 +89,8 @@ fn gives<'a>(
     h: usize,
 ) -> u64
     requires { ⌜ (i < 128) × (h < 2) × Fits (rulesOf n words (now head) (now part) (now first) (now named) (now src)) ⌝ }
-    ensures { λ w. ⌜ WordOf (rulesOf n words (now (head .entry)) (now (part .entry)) (now (first .entry)) (now (named .entry)) (now (src .entry))) i h (now (vals .entry)) (memRows own (now (vals .entry)) (now (mem .entry))) w ⌝ }
+    ensures { λ w. ⌜ WordOf (rulesOf n words (now (head .entry)) (now (part .entry)) (now (first .entry)) (now (named .entry)) (now (src .entry))) i h
+        (now (vals .entry)) (memRows own (now (vals .entry)) (now (mem .entry))) w ⌝ }
 {
     if own {
         return word(n, words, head, part, first, named, src, vals, vals, i, h);
@@ -112,7 +114,8 @@ fn turn<'a>(
     rows: &'a mut [u64; 260],
 ) -> bool
     requires { ⌜ (i < 128) × (h < words) × Fits (rulesOf n words (now head) (now part) (now first) (now named) (now src)) × (length (now rows) ≡ 260) ⌝ }
-    ensures { λ r. ⌜ TurnOf (rulesOf n words (now (head .entry)) (now (part .entry)) (now (first .entry)) (now (named .entry)) (now (src .entry))) own (now (mem .entry)) i h (now (rows .entry)) (now (rows .exit)) r ⌝ }
+    ensures { λ r. ⌜ TurnOf (rulesOf n words (now (head .entry)) (now (part .entry)) (now (first .entry)) (now (named .entry)) (now (src .entry))) own
+        (now (mem .entry)) i h (now (rows .entry)) (now (rows .exit)) r ⌝ }
 {
     let at = head[i] * 2 + h;
     let old = rows[at];
@@ -156,7 +159,8 @@ pub fn rule<'a>(
     rows: &'a mut [u64; 260],
 ) -> bool
     requires { ⌜ (i < 128) × Fits (rulesOf n words (now head) (now part) (now first) (now named) (now src)) × (length (now rows) ≡ 260) ⌝ }
-    ensures { λ r. ⌜ RuleOf (rulesOf n words (now (head .entry)) (now (part .entry)) (now (first .entry)) (now (named .entry)) (now (src .entry))) (now (on .entry)) own (now (mem .entry)) i (now (rows .entry)) (now (rows .exit)) r ⌝ }
+    ensures { λ r. ⌜ RuleOf (rulesOf n words (now (head .entry)) (now (part .entry)) (now (first .entry)) (now (named .entry)) (now (src .entry)))
+        (now (on .entry)) own (now (mem .entry)) i (now (rows .entry)) (now (rows .exit)) r ⌝ }
 {
     if n <= i {
         return false;
@@ -232,8 +236,10 @@ fn rule_below<'a>(
     hi: u64,
     rows: &'a mut [u64; 260],
 ) -> bool
-    requires { ⌜ (i < 128) × Fits (rulesOf n words (now head) (now part) (now first) (now named) (now src)) × (length (now rows) ≡ 260) × Within (bits (now rows)) (level lo hi) ⌝ }
-    ensures { λ r. ⌜ RuleOf (rulesOf n words (now (head .entry)) (now (part .entry)) (now (first .entry)) (now (named .entry)) (now (src .entry))) (now (on .entry)) own (now (mem .entry)) i (now (rows .entry)) (now (rows .exit)) r ⌝ }
+    requires { ⌜ (i < 128) × Fits (rulesOf n words (now head) (now part) (now first) (now named) (now src)) × (length (now rows) ≡ 260)
+        × Within (bits (now rows)) (level lo hi) ⌝ }
+    ensures { λ r. ⌜ RuleOf (rulesOf n words (now (head .entry)) (now (part .entry)) (now (first .entry)) (now (named .entry)) (now (src .entry)))
+        (now (on .entry)) own (now (mem .entry)) i (now (rows .entry)) (now (rows .exit)) r ⌝ }
 {
     if is_full(words, lo, hi, head[i], rows) {
         return false;
@@ -269,7 +275,8 @@ pub fn pass<'a>(
     rows: &'a mut [u64; 260],
 ) -> usize
     requires { ⌜ Fits (rulesOf n words (now head) (now part) (now first) (now named) (now src)) × (length (now rows) ≡ 260) ⌝ }
-    ensures { λ r. ⌜ PassOf (rulesOf n words (now (head .entry)) (now (part .entry)) (now (first .entry)) (now (named .entry)) (now (src .entry))) (now (on .entry)) own (now (mem .entry)) (now (rows .entry)) (now (rows .exit)) r ⌝ }
+    ensures { λ r. ⌜ PassOf (rulesOf n words (now (head .entry)) (now (part .entry)) (now (first .entry)) (now (named .entry)) (now (src .entry)))
+        (now (on .entry)) own (now (mem .entry)) (now (rows .entry)) (now (rows .exit)) r ⌝ }
 {
     let lo = held(0, rows);
     let hi = held(1, rows);

@@ -25,7 +25,8 @@ pub fn meets<'a>(
     rows: &'a mut [u64; 260],
 ) -> bool
     requires { ⌜ (i < 128) × (0 < words) × Fits (rulesOf n words (now head) (now part) (now first) (now named) (now src)) × (length (now rows) ≡ 260) ⌝ }
-    ensures { λ g. ⌜ Grown (rulesOf n words (now (head .entry)) (now (part .entry)) (now (first .entry)) (now (named .entry)) (now (src .entry))) (now (on .entry)) own (now (mem .entry)) (now (rows .entry)) (now (rows .exit)) ⌝ }
+    ensures { λ g. ⌜ Grown (rulesOf n words (now (head .entry)) (now (part .entry)) (now (first .entry)) (now (named .entry)) (now (src .entry)))
+        (now (on .entry)) own (now (mem .entry)) (now (rows .entry)) (now (rows .exit)) ⌝ }
 {
     if n <= i {
         return false;
@@ -66,8 +67,10 @@ fn rests<'a>(
     i: usize,
     rows: &'a [u64; 260],
 ) -> bool
-    requires { ⌜ (i < 128) × (words ≡ 1) × Fits (rulesOf n words (now head) (now part) (now first) (now named) (now src)) × (length (now rows) ≡ 260) × FilledOf 64 (now rows) set × HeldOf 0 130 (now rows) lo ⌝ }
-    ensures { λ r. ⌜ RestsOf (rulesOf n words (now (head .entry)) (now (part .entry)) (now (first .entry)) (now (named .entry)) (now (src .entry))) (now (on .entry)) own (now (mem .entry)) i (now (rows .entry)) r ⌝ }
+    requires { ⌜ (i < 128) × (words ≡ 1) × Fits (rulesOf n words (now head) (now part) (now first) (now named) (now src)) × (length (now rows) ≡ 260)
+        × FilledOf 64 (now rows) set × HeldOf 0 130 (now rows) lo ⌝ }
+    ensures { λ r. ⌜ RestsOf (rulesOf n words (now (head .entry)) (now (part .entry)) (now (first .entry)) (now (named .entry)) (now (src .entry)))
+        (now (on .entry)) own (now (mem .entry)) i (now (rows .entry)) r ⌝ }
 {
     if on[i] != 1 {
         return true;
@@ -106,7 +109,8 @@ pub fn still<'a>(
     rows: &'a [u64; 260],
 ) -> bool
     requires { ⌜ Fits (rulesOf n words (now head) (now part) (now first) (now named) (now src)) × (length (now rows) ≡ 260) ⌝ }
-    ensures { λ r. ⌜ StillOf (rulesOf n words (now (head .entry)) (now (part .entry)) (now (first .entry)) (now (named .entry)) (now (src .entry))) (now (on .entry)) own (now (mem .entry)) (now (rows .entry)) r ⌝ }
+    ensures { λ r. ⌜ StillOf (rulesOf n words (now (head .entry)) (now (part .entry)) (now (first .entry)) (now (named .entry)) (now (src .entry)))
+        (now (on .entry)) own (now (mem .entry)) (now (rows .entry)) r ⌝ }
 {
     if words != 1 {
         return false;

@@ -117,7 +117,8 @@ fn follow_links<'a>(
     rows: &'a mut [u64; 260],
 ) -> bool
     requires { ⌜ (i < 128) × (0 < words) × Fits (rulesOf n words (now head) (now part) (now first) (now named) (now src)) × (length (now rows) ≡ 260) ⌝ }
-    ensures { λ g. ⌜ Grown (rulesOf n words (now (head .entry)) (now (part .entry)) (now (first .entry)) (now (named .entry)) (now (src .entry))) (now (on .entry)) own (now (mem .entry)) (now (rows .entry)) (now (rows .exit)) ⌝ }
+    ensures { λ g. ⌜ Grown (rulesOf n words (now (head .entry)) (now (part .entry)) (now (first .entry)) (now (named .entry)) (now (src .entry)))
+        (now (on .entry)) own (now (mem .entry)) (now (rows .entry)) (now (rows .exit)) ⌝ }
 {
     if n <= i {
         return false;
@@ -180,8 +181,11 @@ fn step<'a>(
     done: &'a mut [u64; 260],
     rows: &'a mut [u64; 260],
 ) -> bool
-    requires { ⌜ (i < 64) × (0 < words) × Fits (rulesOf n words (now head) (now part) (now first) (now named) (now src)) × (length (now seen) ≡ 260) × (length (now done) ≡ 260) × (length (now rows) ≡ 260) ⌝ }
-    ensures { λ g. ⌜ (length (now (seen .exit)) ≡ 260) × (length (now (done .exit)) ≡ 260) × Grown (rulesOf n words (now (head .entry)) (now (part .entry)) (now (first .entry)) (now (named .entry)) (now (src .entry))) (now (on .entry)) own (now (mem .entry)) (now (rows .entry)) (now (rows .exit)) ⌝ }
+    requires { ⌜ (i < 64) × (0 < words) × Fits (rulesOf n words (now head) (now part) (now first) (now named) (now src)) × (length (now seen) ≡ 260)
+        × (length (now done) ≡ 260) × (length (now rows) ≡ 260) ⌝ }
+    ensures { λ g. ⌜ (length (now (seen .exit)) ≡ 260) × (length (now (done .exit)) ≡ 260)
+        × Grown (rulesOf n words (now (head .entry)) (now (part .entry)) (now (first .entry)) (now (named .entry)) (now (src .entry)))
+        (now (on .entry)) own (now (mem .entry)) (now (rows .entry)) (now (rows .exit)) ⌝ }
 {
     if !test(links, i) {
         return rule(
@@ -368,7 +372,8 @@ pub fn run_word<'a>(
     rows: &'a mut [u64; 260],
 )
     requires { ⌜ (n ≤ 64) × (0 < words) × Fits (rulesOf n words (now head) (now part) (now first) (now named) (now src)) × (length (now rows) ≡ 260) ⌝ }
-    ensures { λ u. ⌜ Grown (rulesOf n words (now (head .entry)) (now (part .entry)) (now (first .entry)) (now (named .entry)) (now (src .entry))) (now (on .entry)) own (now (mem .entry)) (now (rows .entry)) (now (rows .exit)) ⌝ }
+    ensures { λ u. ⌜ Grown (rulesOf n words (now (head .entry)) (now (part .entry)) (now (first .entry)) (now (named .entry)) (now (src .entry)))
+        (now (on .entry)) own (now (mem .entry)) (now (rows .entry)) (now (rows .exit)) ⌝ }
 {
     let owners = owners_of(n, src);
     let all = all_named(n, named);

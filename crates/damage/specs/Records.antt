@@ -30,7 +30,8 @@ isTyped (Class a) = true
 
 -- a node by itself
 unfoldable pub nodeSound : List Name → Node → Bool
-nodeSound ns n = wellFormed (n .expression) && ltb 0 (n .subject) && ltb (n .verifier) 2 && legalState (n .expression) (n .state) && isTyped (typeOf ns (n .expression))
+nodeSound ns n =
+    wellFormed (n .expression) && ltb 0 (n .subject) && ltb (n .verifier) 2 && legalState (n .expression) (n .state) && isTyped (typeOf ns (n .expression))
 
 -- and among those before it: "Nodes are unique"
 unfoldable pub nodeFits : List Name → List Node → Node → Bool

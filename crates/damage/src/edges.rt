@@ -39,7 +39,9 @@ fn formed<'a>(
     e: Edge,
 ) -> bool
     requires { ⌜ (n ≤ 128) × (e .parent < n) × (e .child < n) ⌝ }
-    ensures { λ r. ⌜ r ≡ formedOf h (nodesOf (nodesFrom n (now (kind .entry)) (now (parts .entry)) (now (n0 .entry)) (now (n1 .entry)) (now (n2 .entry)) (now (n3 .entry)) (now (n4 .entry)) (now (n5 .entry)) (now (n6 .entry)) (now (n7 .entry)) (now (subject .entry)) (now (verifier .entry)) (now (state .entry)))) e ⌝ }
+    ensures { λ r. ⌜ r ≡ formedOf h (nodesOf (nodesFrom n (now (kind .entry)) (now (parts .entry)) (now (n0 .entry)) (now (n1 .entry))
+        (now (n2 .entry)) (now (n3 .entry)) (now (n4 .entry)) (now (n5 .entry)) (now (n6 .entry)) (now (n7 .entry)) (now (subject .entry))
+        (now (verifier .entry)) (now (state .entry)))) e ⌝ }
 {
     let p = node_at(
         n,
@@ -103,7 +105,10 @@ fn edge_fits<'a>(
     j: usize,
 ) -> bool
     requires { ⌜ (n ≤ 128) × (m ≤ 256) × (j < m) × (b ≡ brought (edgesOf (edgesFrom j (now edge) (now parent) (now child)))) × (b ≤ n) ⌝ }
-    ensures { λ r. ⌜ r ≡ edgeFits h (nodesOf (nodesFrom n (now (kind .entry)) (now (parts .entry)) (now (n0 .entry)) (now (n1 .entry)) (now (n2 .entry)) (now (n3 .entry)) (now (n4 .entry)) (now (n5 .entry)) (now (n6 .entry)) (now (n7 .entry)) (now (subject .entry)) (now (verifier .entry)) (now (state .entry)))) (edgesOf (edgesFrom j (now (edge .entry)) (now (parent .entry)) (now (child .entry)))) (edgeAt (edgesFrom m (now (edge .entry)) (now (parent .entry)) (now (child .entry))) j) ⌝ }
+    ensures { λ r. ⌜ r ≡ edgeFits h (nodesOf (nodesFrom n (now (kind .entry)) (now (parts .entry)) (now (n0 .entry)) (now (n1 .entry))
+        (now (n2 .entry)) (now (n3 .entry)) (now (n4 .entry)) (now (n5 .entry)) (now (n6 .entry)) (now (n7 .entry)) (now (subject .entry))
+        (now (verifier .entry)) (now (state .entry)))) (edgesOf (edgesFrom j (now (edge .entry)) (now (parent .entry)) (now (child .entry))))
+        (edgeAt (edgesFrom m (now (edge .entry)) (now (parent .entry)) (now (child .entry))) j) ⌝ }
 {
     let e = edge_at(m, edge, parent, child, j);
     if !placed(n, b, e) {
@@ -155,7 +160,9 @@ pub fn edges_fit<'a>(
     child: &'a [u8; 256],
 ) -> bool
     requires { ⌜ (0 < n) × (n ≤ 128) × (m ≤ 256) ⌝ }
-    ensures { λ r. ⌜ r ≡ allBrought h (nodesOf (nodesFrom n (now (kind .entry)) (now (parts .entry)) (now (n0 .entry)) (now (n1 .entry)) (now (n2 .entry)) (now (n3 .entry)) (now (n4 .entry)) (now (n5 .entry)) (now (n6 .entry)) (now (n7 .entry)) (now (subject .entry)) (now (verifier .entry)) (now (state .entry)))) (edgesOf (edgesFrom m (now (edge .entry)) (now (parent .entry)) (now (child .entry)))) ⌝ }
+    ensures { λ r. ⌜ r ≡ allBrought h (nodesOf (nodesFrom n (now (kind .entry)) (now (parts .entry)) (now (n0 .entry)) (now (n1 .entry))
+        (now (n2 .entry)) (now (n3 .entry)) (now (n4 .entry)) (now (n5 .entry)) (now (n6 .entry)) (now (n7 .entry)) (now (subject .entry))
+        (now (verifier .entry)) (now (state .entry)))) (edgesOf (edgesFrom m (now (edge .entry)) (now (parent .entry)) (now (child .entry)))) ⌝ }
 {
     let mut b = 1;
     let mut j = 0;

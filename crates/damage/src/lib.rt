@@ -34,6 +34,7 @@ ghost use Rattle.negotiation.specs.laws.State.{stateOf};
 ghost use Rattle.negotiation.specs.State.{within};
 ghost use Rattle.damage.specs.laws.Damage.{stateWith};
 ghost use Rattle.damage.specs.Damage.{recordsSound, edgesJustified, graphSound, sound as soundOf};
+ghost use Rattle.numbers.specs.Sizes.{MOST-NAMES, MOST-NODES, MOST-EDGES};
 
 mod edges;
 mod header;
@@ -66,7 +67,10 @@ fn records_sound<'a>(
     numbers: &'a [u16; 1024],
 ) -> bool
     requires { ⌜ (k ≤ 64) × Ascending k (now name) × (0 < n) × (n ≤ 128) × (q ≤ 128) ⌝ }
-    ensures { λ b. ⌜ ((es : List Edge) → b ≡ recordsSound (namesOf (namesFrom k (now (name .entry)) (now (class .entry)))) (stateWith h (nodesOf (nodesFrom n (now (kind .entry)) (now (parts .entry)) (now (n0 .entry)) (now (n1 .entry)) (now (n2 .entry)) (now (n3 .entry)) (now (n4 .entry)) (now (n5 .entry)) (now (n6 .entry)) (now (n7 .entry)) (now (subject .entry)) (now (verifier .entry)) (now (state .entry)))) es (credentials (poolOf q (now (heads .entry)) (now (kinds .entry)) (now (numbers .entry)))))) ⌝ }
+    ensures { λ b. ⌜ ((es : List Edge) → b ≡ recordsSound (namesOf (namesFrom k (now (name .entry)) (now (class .entry))))
+        (stateWith h (nodesOf (nodesFrom n (now (kind .entry)) (now (parts .entry)) (now (n0 .entry)) (now (n1 .entry)) (now (n2 .entry))
+        (now (n3 .entry)) (now (n4 .entry)) (now (n5 .entry)) (now (n6 .entry)) (now (n7 .entry)) (now (subject .entry)) (now (verifier .entry))
+        (now (state .entry)))) es (credentials (poolOf q (now (heads .entry)) (now (kinds .entry)) (now (numbers .entry)))))) ⌝ }
 {
     if !nodes_fit(
         k,
@@ -138,8 +142,14 @@ fn edges_justified<'a>(
     kinds: &'a [u8; 256],
     numbers: &'a [u16; 1024],
 ) -> bool
-    requires { ⌜ (n ≤ 128) × (m ≤ 256) × (q ≤ 128) × NodesFormed (nodesOf (nodesFrom n (now kind) (now parts) (now n0) (now n1) (now n2) (now n3) (now n4) (now n5) (now n6) (now n7) (now subject) (now verifier) (now state))) × Inside n (edgesFrom m (now edge) (now parent) (now child)) ⌝ }
-    ensures { λ b. ⌜ b ≡ edgesJustified (stateWith h (nodesOf (nodesFrom n (now (kind .entry)) (now (parts .entry)) (now (n0 .entry)) (now (n1 .entry)) (now (n2 .entry)) (now (n3 .entry)) (now (n4 .entry)) (now (n5 .entry)) (now (n6 .entry)) (now (n7 .entry)) (now (subject .entry)) (now (verifier .entry)) (now (state .entry)))) (edgesOf (edgesFrom m (now (edge .entry)) (now (parent .entry)) (now (child .entry)))) (credentials (poolOf q (now (heads .entry)) (now (kinds .entry)) (now (numbers .entry))))) ⌝ }
+    requires { ⌜ (n ≤ 128) × (m ≤ 256) × (q ≤ 128)
+        × NodesFormed (nodesOf (nodesFrom n (now kind) (now parts) (now n0) (now n1) (now n2) (now n3) (now n4) (now n5) (now n6) (now n7)
+        (now subject) (now verifier) (now state))) × Inside n (edgesFrom m (now edge) (now parent) (now child)) ⌝ }
+    ensures { λ b. ⌜ b ≡ edgesJustified (stateWith h
+        (nodesOf (nodesFrom n (now (kind .entry)) (now (parts .entry)) (now (n0 .entry)) (now (n1 .entry)) (now (n2 .entry)) (now (n3 .entry))
+        (now (n4 .entry)) (now (n5 .entry)) (now (n6 .entry)) (now (n7 .entry)) (now (subject .entry)) (now (verifier .entry)) (now (state .entry))))
+        (edgesOf (edgesFrom m (now (edge .entry)) (now (parent .entry)) (now (child .entry))))
+        (credentials (poolOf q (now (heads .entry)) (now (kinds .entry)) (now (numbers .entry))))) ⌝ }
 {
     if !edges_implied(
         n,
@@ -188,7 +198,8 @@ fn edges_justified<'a>(
 
 // Where a node stands.
 fn graph_sound(names: Names, h: Header, nodes: Nodes, edges: Edges, shown: Pool) -> bool
-    requires { ⌜ (names .count ≤ 64) × Ascending (names .count) (names .name) × (0 < nodes .count) × (nodes .count ≤ 128) × (edges .count ≤ 256) × (shown .count ≤ 128) ⌝ }
+    requires { ⌜ (names .count ≤ MOST-NAMES) × Ascending (names .count) (names .name) × (0 < nodes .count) × (nodes .count ≤ MOST-NODES)
+        × (edges .count ≤ MOST-EDGES) × (shown .count ≤ 128) ⌝ }
     ensures { λ b. ⌜ b ≡ graphSound (namesOf names) (stateWith h (nodesOf nodes) (edgesOf edges) (credentials shown)) ⌝ }
 {
     if !count_sound(h.messages) {

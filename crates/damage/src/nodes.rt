@@ -67,7 +67,11 @@ fn node_fits<'a>(
     i: usize,
 ) -> bool
     requires { ⌜ (k ≤ 64) × Ascending k (now name) × (i < n) × (n ≤ 128) ⌝ }
-    ensures { λ b. ⌜ b ≡ nodeFits (namesOf (namesFrom k (now (name .entry)) (now (class .entry)))) (nodesOf (nodesFrom i (now (kind .entry)) (now (parts .entry)) (now (n0 .entry)) (now (n1 .entry)) (now (n2 .entry)) (now (n3 .entry)) (now (n4 .entry)) (now (n5 .entry)) (now (n6 .entry)) (now (n7 .entry)) (now (subject .entry)) (now (verifier .entry)) (now (state .entry)))) (nodeAt (nodesFrom n (now (kind .entry)) (now (parts .entry)) (now (n0 .entry)) (now (n1 .entry)) (now (n2 .entry)) (now (n3 .entry)) (now (n4 .entry)) (now (n5 .entry)) (now (n6 .entry)) (now (n7 .entry)) (now (subject .entry)) (now (verifier .entry)) (now (state .entry))) i) ⌝ }
+    ensures { λ b. ⌜ b ≡ nodeFits (namesOf (namesFrom k (now (name .entry)) (now (class .entry))))
+        (nodesOf (nodesFrom i (now (kind .entry)) (now (parts .entry)) (now (n0 .entry)) (now (n1 .entry)) (now (n2 .entry)) (now (n3 .entry))
+        (now (n4 .entry)) (now (n5 .entry)) (now (n6 .entry)) (now (n7 .entry)) (now (subject .entry)) (now (verifier .entry)) (now (state .entry))))
+        (nodeAt (nodesFrom n (now (kind .entry)) (now (parts .entry)) (now (n0 .entry)) (now (n1 .entry)) (now (n2 .entry)) (now (n3 .entry))
+        (now (n4 .entry)) (now (n5 .entry)) (now (n6 .entry)) (now (n7 .entry)) (now (subject .entry)) (now (verifier .entry)) (now (state .entry))) i) ⌝ }
 {
     let x = node_at(
         n,
@@ -133,7 +137,9 @@ pub fn nodes_fit<'a>(
     state: &'a [u8; 128],
 ) -> bool
     requires { ⌜ (k ≤ 64) × Ascending k (now name) × (n ≤ 128) ⌝ }
-    ensures { λ b. ⌜ b ≡ inTurn (nodeFits (namesOf (namesFrom k (now (name .entry)) (now (class .entry))))) [] (nodesOf (nodesFrom n (now (kind .entry)) (now (parts .entry)) (now (n0 .entry)) (now (n1 .entry)) (now (n2 .entry)) (now (n3 .entry)) (now (n4 .entry)) (now (n5 .entry)) (now (n6 .entry)) (now (n7 .entry)) (now (subject .entry)) (now (verifier .entry)) (now (state .entry)))) ⌝ }
+    ensures { λ b. ⌜ b ≡ inTurn (nodeFits (namesOf (namesFrom k (now (name .entry)) (now (class .entry))))) []
+        (nodesOf (nodesFrom n (now (kind .entry)) (now (parts .entry)) (now (n0 .entry)) (now (n1 .entry)) (now (n2 .entry)) (now (n3 .entry))
+        (now (n4 .entry)) (now (n5 .entry)) (now (n6 .entry)) (now (n7 .entry)) (now (subject .entry)) (now (verifier .entry)) (now (state .entry)))) ⌝ }
 {
     let mut i = 0;
     while i < n {

@@ -33,7 +33,9 @@ fn credential_fits<'a>(
     i: usize,
 ) -> bool
     requires { ⌜ (k ≤ 64) × Ascending k (now name) × (i < n) × (n ≤ 128) ⌝ }
-    ensures { λ b. ⌜ b ≡ credentialFits (namesOf (namesFrom k (now (name .entry)) (now (class .entry)))) (credentials (poolOf i (now (heads .entry)) (now (kinds .entry)) (now (numbers .entry)))) (credentialAt (poolOf n (now (heads .entry)) (now (kinds .entry)) (now (numbers .entry))) i) ⌝ }
+    ensures { λ b. ⌜ b ≡ credentialFits (namesOf (namesFrom k (now (name .entry)) (now (class .entry))))
+        (credentials (poolOf i (now (heads .entry)) (now (kinds .entry)) (now (numbers .entry))))
+        (credentialAt (poolOf n (now (heads .entry)) (now (kinds .entry)) (now (numbers .entry))) i) ⌝ }
 {
     let c = Credential {
         head: head_at(n, heads, kinds, numbers, i),
@@ -56,7 +58,8 @@ pub fn shown_fit<'a>(
     numbers: &'a [u16; 1024],
 ) -> bool
     requires { ⌜ (k ≤ 64) × Ascending k (now name) × (n ≤ 128) ⌝ }
-    ensures { λ b. ⌜ b ≡ inTurn (credentialFits (namesOf (namesFrom k (now (name .entry)) (now (class .entry))))) [] (credentials (poolOf n (now (heads .entry)) (now (kinds .entry)) (now (numbers .entry)))) ⌝ }
+    ensures { λ b. ⌜ b ≡ inTurn (credentialFits (namesOf (namesFrom k (now (name .entry)) (now (class .entry))))) []
+        (credentials (poolOf n (now (heads .entry)) (now (kinds .entry)) (now (numbers .entry)))) ⌝ }
 {
     let mut i = 0;
     while i < n {

@@ -29,7 +29,8 @@ pub extern "C" fn lavutremo_begin(
     name: u16,
 ) -> u64
     ensures answered { λ r. ⌜ r ≡ answerOf noValue (beginOf (now (tables .entry)) (now (negotiation .entry)) other entity name) ⌝ }
-    ensures left { λ _. ⌜ now (negotiation .exit) ≡ bufferAfter stateBytes (now (negotiation .entry)) (beginOf (now (tables .entry)) (now (negotiation .entry)) other entity name) ⌝ }
+    ensures left { λ _. ⌜ now (negotiation .exit) ≡ bufferAfter stateBytes (now (negotiation .entry))
+        (beginOf (now (tables .entry)) (now (negotiation .entry)) other entity name) ⌝ }
 {
     begin::begin(tables, negotiation, other, entity, name)
 }
@@ -43,8 +44,10 @@ pub extern "C" fn lavutremo_take(
     scratch: &mut [u8],
 ) -> u64
     ensures answered { λ r. ⌜ r ≡ answerOf noValue (takeOf (now (tables .entry)) (now (negotiation .entry)) (now (message .entry)) (now (scratch .entry))) ⌝ }
-    ensures left { λ _. ⌜ now (negotiation .exit) ≡ bufferAfter stateBytes (now (negotiation .entry)) (takeOf (now (tables .entry)) (now (negotiation .entry)) (now (message .entry)) (now (scratch .entry))) ⌝ }
-    ensures cleared { λ _. ⌜ now (scratch .exit) ≡ scratchLeft (now (scratch .entry)) (takeOf (now (tables .entry)) (now (negotiation .entry)) (now (message .entry)) (now (scratch .entry))) ⌝ }
+    ensures left { λ _. ⌜ now (negotiation .exit) ≡ bufferAfter stateBytes (now (negotiation .entry))
+        (takeOf (now (tables .entry)) (now (negotiation .entry)) (now (message .entry)) (now (scratch .entry))) ⌝ }
+    ensures cleared { λ _. ⌜ now (scratch .exit) ≡ scratchLeft (now (scratch .entry))
+        (takeOf (now (tables .entry)) (now (negotiation .entry)) (now (message .entry)) (now (scratch .entry))) ⌝ }
 {
     take::take(tables, negotiation, message, scratch)
 }
@@ -59,9 +62,12 @@ pub extern "C" fn lavutremo_reply(
     scratch: &mut [u8],
 ) -> u64
     ensures answered { λ r. ⌜ r ≡ answerOf lengthOf (replyOf (now (tables .entry)) (now (negotiation .entry)) (now (reply .entry)) (now (scratch .entry))) ⌝ }
-    ensures left { λ _. ⌜ now (negotiation .exit) ≡ bufferAfter givenState (now (negotiation .entry)) (replyOf (now (tables .entry)) (now (negotiation .entry)) (now (reply .entry)) (now (scratch .entry))) ⌝ }
-    ensures written { λ _. ⌜ now (reply .exit) ≡ replyLeft (now (reply .entry)) (replyOf (now (tables .entry)) (now (negotiation .entry)) (now (reply .entry)) (now (scratch .entry))) ⌝ }
-    ensures cleared { λ _. ⌜ now (scratch .exit) ≡ scratchLeft (now (scratch .entry)) (replyOf (now (tables .entry)) (now (negotiation .entry)) (now (reply .entry)) (now (scratch .entry))) ⌝ }
+    ensures left { λ _. ⌜ now (negotiation .exit) ≡ bufferAfter givenState (now (negotiation .entry))
+        (replyOf (now (tables .entry)) (now (negotiation .entry)) (now (reply .entry)) (now (scratch .entry))) ⌝ }
+    ensures written { λ _. ⌜ now (reply .exit) ≡ replyLeft (now (reply .entry))
+        (replyOf (now (tables .entry)) (now (negotiation .entry)) (now (reply .entry)) (now (scratch .entry))) ⌝ }
+    ensures cleared { λ _. ⌜ now (scratch .exit) ≡ scratchLeft (now (scratch .entry))
+        (replyOf (now (tables .entry)) (now (negotiation .entry)) (now (reply .entry)) (now (scratch .entry))) ⌝ }
 {
     reply::reply(tables, negotiation, reply, scratch)
 }

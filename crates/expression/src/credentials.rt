@@ -14,7 +14,8 @@ ghost use mathlib.Core.Path.{_≡_};
 ghost use Prim.Native.Nat.{_+_, _≤_, _<_};
 ghost use lib.ListN.{length};
 ghost use Rattle.expression.specs.Bytes.{pasted};
-ghost use Rattle.expression.specs.Credential.{isBody, beginsWith, wellFormedCredential, checkedCredential, readCredential, roleAt, roleBytes, credentialBytes};
+ghost use Rattle.expression.specs.Credential.{isBody, beginsWith, wellFormedCredential, checkedCredential, readCredential, roleAt, roleBytes};
+ghost use Rattle.expression.specs.Credential.{credentialBytes};
 
 pub fn is_body(e: Expression) -> bool
     ensures { λ r. ⌜ r ≡ isBody e ⌝ }

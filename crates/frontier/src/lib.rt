@@ -50,7 +50,8 @@ fn join<'a>(
     i: usize,
 ) -> usize
     requires { ⌜ (i < n) × (n ≤ 128) × Queue (work (now found) (now queue) tail) ⌝ }
-    ensures { λ r. ⌜ Joined (poolOf n (now (heads .entry)) (now (kinds .entry)) (now (numbers .entry))) (now (on .entry)) (work (now (found .entry)) (now (queue .entry)) tail) (work (now (found .exit)) (now (queue .exit)) r) p i ⌝ }
+    ensures { λ r. ⌜ Joined (poolOf n (now (heads .entry)) (now (kinds .entry)) (now (numbers .entry))) (now (on .entry))
+        (work (now (found .entry)) (now (queue .entry)) tail) (work (now (found .exit)) (now (queue .exit)) r) p i ⌝ }
 {
     if found[i] == 1 {
         return tail;
@@ -76,7 +77,8 @@ fn enter<'a>(
     p: Role,
 ) -> usize
     requires { ⌜ (n ≤ 128) × Queue (work (now found) (now queue) tail) ⌝ }
-    ensures { λ r. ⌜ Entered (poolOf n (now (heads .entry)) (now (kinds .entry)) (now (numbers .entry))) (now (on .entry)) (work (now (found .entry)) (now (queue .entry)) tail) (work (now (found .exit)) (now (queue .exit)) r) (E.Role p) n ⌝ }
+    ensures { λ r. ⌜ Entered (poolOf n (now (heads .entry)) (now (kinds .entry)) (now (numbers .entry))) (now (on .entry))
+        (work (now (found .entry)) (now (queue .entry)) tail) (work (now (found .exit)) (now (queue .exit)) r) (E.Role p) n ⌝ }
 {
     let mut t = tail;
     let mut i = 0;
@@ -100,7 +102,8 @@ fn enter_body<'a>(
     x: Expression,
 ) -> usize
     requires { ⌜ (n ≤ 128) × Queue (work (now found) (now queue) tail) ⌝ }
-    ensures { λ r. ⌜ Entered (poolOf n (now (heads .entry)) (now (kinds .entry)) (now (numbers .entry))) (now (on .entry)) (work (now (found .entry)) (now (queue .entry)) tail) (work (now (found .exit)) (now (queue .exit)) r) x n ⌝ }
+    ensures { λ r. ⌜ Entered (poolOf n (now (heads .entry)) (now (kinds .entry)) (now (numbers .entry))) (now (on .entry))
+        (work (now (found .entry)) (now (queue .entry)) tail) (work (now (found .exit)) (now (queue .exit)) r) x n ⌝ }
 {
     match x {
         Expression::Entity(_) => tail,
@@ -125,7 +128,8 @@ fn follow<'a>(
     j: usize,
 ) -> usize
     requires { ⌜ (j < 128) × (n ≤ 128) × Queue (work (now found) (now queue) tail) ⌝ }
-    ensures { λ r. ⌜ Followed (poolOf n (now (heads .entry)) (now (kinds .entry)) (now (numbers .entry))) (now (on .entry)) (now (stop .entry)) (work (now (found .entry)) (now (queue .entry)) tail) (work (now (found .exit)) (now (queue .exit)) r) j ⌝ }
+    ensures { λ r. ⌜ Followed (poolOf n (now (heads .entry)) (now (kinds .entry)) (now (numbers .entry))) (now (on .entry)) (now (stop .entry))
+        (work (now (found .entry)) (now (queue .entry)) tail) (work (now (found .exit)) (now (queue .exit)) r) j ⌝ }
 {
     if stop[j] == 1 {
         return tail;

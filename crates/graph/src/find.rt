@@ -14,6 +14,7 @@ ghost use Rattle.graph.specs.laws.Graph.{nodesFrom, edgesFrom, expressio
 ghost use Rattle.graph.specs.Graph.{nodeIn};
 ghost use Rattle.graph.specs.Find.{isNode, findNode, sameEdge, hasEdge};
 ghost use mathlib.Core.Bool.{true};
+ghost use Rattle.numbers.specs.Sizes.{MOST-NODES};
 
 // The expression of node i.
 pub fn expression_at<'a>(
@@ -30,7 +31,8 @@ pub fn expression_at<'a>(
     i: usize,
 ) -> Expression
     requires { ⌜ i < 128 ⌝ }
-    ensures { λ r. ⌜ r ≡ expressionFrom (now (kind .entry)) (now (parts .entry)) (now (n0 .entry)) (now (n1 .entry)) (now (n2 .entry)) (now (n3 .entry)) (now (n4 .entry)) (now (n5 .entry)) (now (n6 .entry)) (now (n7 .entry)) i ⌝ }
+    ensures { λ r. ⌜ r ≡ expressionFrom (now (kind .entry)) (now (parts .entry)) (now (n0 .entry)) (now (n1 .entry)) (now (n2 .entry))
+        (now (n3 .entry)) (now (n4 .entry)) (now (n5 .entry)) (now (n6 .entry)) (now (n7 .entry)) i ⌝ }
 {
     expression_of(Raw {
         kind: kind[i],
@@ -65,7 +67,9 @@ pub fn node_at<'a>(
     i: usize,
 ) -> Node
     requires { ⌜ (i < n) × (n ≤ 128) ⌝ }
-    ensures { λ r. ⌜ r ≡ nodeIn (nodesOf (nodesFrom n (now (kind .entry)) (now (parts .entry)) (now (n0 .entry)) (now (n1 .entry)) (now (n2 .entry)) (now (n3 .entry)) (now (n4 .entry)) (now (n5 .entry)) (now (n6 .entry)) (now (n7 .entry)) (now (subject .entry)) (now (verifier .entry)) (now (state .entry)))) i ⌝ }
+    ensures { λ r. ⌜ r ≡ nodeIn (nodesOf (nodesFrom n (now (kind .entry)) (now (parts .entry)) (now (n0 .entry)) (now (n1 .entry)) (now (n2 .entry))
+        (now (n3 .entry)) (now (n4 .entry)) (now (n5 .entry)) (now (n6 .entry)) (now (n7 .entry)) (now (subject .entry)) (now (verifier .entry))
+        (now (state .entry)))) i ⌝ }
 {
     Node {
         expression: expression_at(kind, parts, n0, n1, n2, n3, n4, n5, n6, n7, i),
@@ -97,7 +101,9 @@ fn is_node<'a>(
     i: usize,
 ) -> bool
     requires { ⌜ i < 128 ⌝ }
-    ensures { λ r. ⌜ r ≡ isNode x v s (nodeAt (nodesFrom n (now (kind .entry)) (now (parts .entry)) (now (n0 .entry)) (now (n1 .entry)) (now (n2 .entry)) (now (n3 .entry)) (now (n4 .entry)) (now (n5 .entry)) (now (n6 .entry)) (now (n7 .entry)) (now (subject .entry)) (now (verifier .entry)) (now (state .entry))) i) ⌝ }
+    ensures { λ r. ⌜ r ≡ isNode x v s (nodeAt (nodesFrom n (now (kind .entry)) (now (parts .entry)) (now (n0 .entry)) (now (n1 .entry))
+        (now (n2 .entry)) (now (n3 .entry)) (now (n4 .entry)) (now (n5 .entry)) (now (n6 .entry)) (now (n7 .entry)) (now (subject .entry))
+        (now (verifier .entry)) (now (state .entry))) i) ⌝ }
 {
     if (verifier[i] != v) | (subject[i] != s) {
         return false;
@@ -129,7 +135,9 @@ pub fn find_node<'a>(
     s: u16,
 ) -> usize
     requires { ⌜ n ≤ 128 ⌝ }
-    ensures { λ r. ⌜ r ≡ findNode (nodesOf (nodesFrom n (now (kind .entry)) (now (parts .entry)) (now (n0 .entry)) (now (n1 .entry)) (now (n2 .entry)) (now (n3 .entry)) (now (n4 .entry)) (now (n5 .entry)) (now (n6 .entry)) (now (n7 .entry)) (now (subject .entry)) (now (verifier .entry)) (now (state .entry)))) x v s ⌝ }
+    ensures { λ r. ⌜ r ≡ findNode (nodesOf (nodesFrom n (now (kind .entry)) (now (parts .entry)) (now (n0 .entry)) (now (n1 .entry)) (now (n2 .entry))
+        (now (n3 .entry)) (now (n4 .entry)) (now (n5 .entry)) (now (n6 .entry)) (now (n7 .entry)) (now (subject .entry)) (now (verifier .entry))
+        (now (state .entry)))) x v s ⌝ }
 {
     let mut i = 0;
     while i < n {
@@ -216,7 +224,7 @@ pub fn has_edge<'a>(
 
 // Node i.
 pub fn node_of(nodes: Nodes, i: u8) -> Node
-    requires { ⌜ (i < nodes .count) × (nodes .count ≤ 128) ⌝ }
+    requires { ⌜ (i < nodes .count) × (nodes .count ≤ MOST-NODES) ⌝ }
     ensures { λ r. ⌜ r ≡ nodeIn (nodesOf nodes) i ⌝ }
 {
     node_at(

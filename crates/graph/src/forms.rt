@@ -4,7 +4,8 @@ use expression::Expression;
 use expression::Parts;
 use expression::same;
 ghost use mathlib.Core.Path.{_≡_};
-ghost use Rattle.graph.specs.Form.{isStandard, isTarget, isNamed, isMonitor, isSolution, isFirst, hasRole, isPart, sameVerifier, sameEnds, isControl, form as formOf, legalState};
+ghost use Rattle.graph.specs.Form.{isStandard, isTarget, isNamed, isMonitor, isSolution, isFirst, hasRole, isPart, sameVerifier, sameEnds, isControl};
+ghost use Rattle.graph.specs.Form.{form as formOf, legalState};
 
 // The kinds of edges.
 pub const IMPLICATION: u8 = 1;

@@ -70,8 +70,14 @@ fn implied_at<'a>(
     c: usize,
     j: usize,
 ) -> bool
-    requires { ⌜ (j < m) × (m ≤ 256) × Inside 128 (edgesFrom m (now edge) (now parent) (now child)) × (q ≤ 128) × Relation (poolOf q (now heads) (now kinds) (now numbers)) (now on) (now mem) × Answers (poolOf q (now heads) (now kinds) (now numbers)) (now on) e 0 (now vals) × (e ≡ expressionFrom (now kind) (now parts) (now n0) (now n1) (now n2) (now n3) (now n4) (now n5) (now n6) (now n7) c) ⌝ }
-    ensures { λ r. ⌜ r ≡ impliedFrom (chosen (poolOf q (now (heads .entry)) (now (kinds .entry)) (now (numbers .entry))) (now (on .entry))) (expressionFrom (now (kind .entry)) (now (parts .entry)) (now (n0 .entry)) (now (n1 .entry)) (now (n2 .entry)) (now (n3 .entry)) (now (n4 .entry)) (now (n5 .entry)) (now (n6 .entry)) (now (n7 .entry))) c (edgeAt (edgesFrom m (now (edge .entry)) (now (parent .entry)) (now (child .entry))) j) ⌝ }
+    requires { ⌜ (j < m) × (m ≤ 256) × Inside 128 (edgesFrom m (now edge) (now parent) (now child)) × (q ≤ 128)
+        × Relation (poolOf q (now heads) (now kinds) (now numbers)) (now on) (now mem)
+        × Answers (poolOf q (now heads) (now kinds) (now numbers)) (now on) e 0 (now vals)
+        × (e ≡ expressionFrom (now kind) (now parts) (now n0) (now n1) (now n2) (now n3) (now n4) (now n5) (now n6) (now n7) c) ⌝ }
+    ensures { λ r. ⌜ r ≡ impliedFrom (chosen (poolOf q (now (heads .entry)) (now (kinds .entry)) (now (numbers .entry))) (now (on .entry)))
+        (expressionFrom (now (kind .entry)) (now (parts .entry)) (now (n0 .entry)) (now (n1 .entry)) (now (n2 .entry)) (now (n3 .entry))
+        (now (n4 .entry)) (now (n5 .entry)) (now (n6 .entry)) (now (n7 .entry))) c
+        (edgeAt (edgesFrom m (now (edge .entry)) (now (parent .entry)) (now (child .entry))) j) ⌝ }
 {
     if (edge[j] != IMPLICATION) | (wide(child[j]) != c) {
         return true;
@@ -106,8 +112,14 @@ fn implied_from<'a>(
     e: Expression,
     c: usize,
 ) -> bool
-    requires { ⌜ (m ≤ 256) × Inside 128 (edgesFrom m (now edge) (now parent) (now child)) × (q ≤ 128) × Relation (poolOf q (now heads) (now kinds) (now numbers)) (now on) (now mem) × Answers (poolOf q (now heads) (now kinds) (now numbers)) (now on) e 0 (now vals) × (e ≡ expressionFrom (now kind) (now parts) (now n0) (now n1) (now n2) (now n3) (now n4) (now n5) (now n6) (now n7) c) ⌝ }
-    ensures { λ r. ⌜ r ≡ allFrom (chosen (poolOf q (now (heads .entry)) (now (kinds .entry)) (now (numbers .entry))) (now (on .entry))) (expressionFrom (now (kind .entry)) (now (parts .entry)) (now (n0 .entry)) (now (n1 .entry)) (now (n2 .entry)) (now (n3 .entry)) (now (n4 .entry)) (now (n5 .entry)) (now (n6 .entry)) (now (n7 .entry))) (edgesOf (edgesFrom m (now (edge .entry)) (now (parent .entry)) (now (child .entry)))) c ⌝ }
+    requires { ⌜ (m ≤ 256) × Inside 128 (edgesFrom m (now edge) (now parent) (now child)) × (q ≤ 128)
+        × Relation (poolOf q (now heads) (now kinds) (now numbers)) (now on) (now mem)
+        × Answers (poolOf q (now heads) (now kinds) (now numbers)) (now on) e 0 (now vals)
+        × (e ≡ expressionFrom (now kind) (now parts) (now n0) (now n1) (now n2) (now n3) (now n4) (now n5) (now n6) (now n7) c) ⌝ }
+    ensures { λ r. ⌜ r ≡ allFrom (chosen (poolOf q (now (heads .entry)) (now (kinds .entry)) (now (numbers .entry))) (now (on .entry)))
+        (expressionFrom (now (kind .entry)) (now (parts .entry)) (now (n0 .entry)) (now (n1 .entry)) (now (n2 .entry)) (now (n3 .entry))
+        (now (n4 .entry)) (now (n5 .entry)) (now (n6 .entry)) (now (n7 .entry)))
+        (edgesOf (edgesFrom m (now (edge .entry)) (now (parent .entry)) (now (child .entry)))) c ⌝ }
 {
     let mut j = 0;
     while j < m {
@@ -176,8 +188,14 @@ fn node_implied<'a>(
     used: &'a [u8; 128],
     c: usize,
 ) -> bool
-    requires { ⌜ (c < 128) × (m ≤ 256) × Inside 128 (edgesFrom m (now edge) (now parent) (now child)) × (q ≤ 128) × Ruled (poolOf q (now heads) (now kinds) (now numbers)) (rulesOf q words (now head) (now part) (now first) (now named) (now src)) × Relation (poolOf q (now heads) (now kinds) (now numbers)) (now on) (now mem) × Children (edgesFrom m (now edge) (now parent) (now child)) m (now used) ⌝ }
-    ensures { λ r. ⌜ r ≡ allFrom (chosen (poolOf q (now (heads .entry)) (now (kinds .entry)) (now (numbers .entry))) (now (on .entry))) (expressionFrom (now (kind .entry)) (now (parts .entry)) (now (n0 .entry)) (now (n1 .entry)) (now (n2 .entry)) (now (n3 .entry)) (now (n4 .entry)) (now (n5 .entry)) (now (n6 .entry)) (now (n7 .entry))) (edgesOf (edgesFrom m (now (edge .entry)) (now (parent .entry)) (now (child .entry)))) c ⌝ }
+    requires { ⌜ (c < 128) × (m ≤ 256) × Inside 128 (edgesFrom m (now edge) (now parent) (now child)) × (q ≤ 128)
+        × Ruled (poolOf q (now heads) (now kinds) (now numbers)) (rulesOf q words (now head) (now part) (now first) (now named) (now src))
+        × Relation (poolOf q (now heads) (now kinds) (now numbers)) (now on) (now mem)
+        × Children (edgesFrom m (now edge) (now parent) (now child)) m (now used) ⌝ }
+    ensures { λ r. ⌜ r ≡ allFrom (chosen (poolOf q (now (heads .entry)) (now (kinds .entry)) (now (numbers .entry))) (now (on .entry)))
+        (expressionFrom (now (kind .entry)) (now (parts .entry)) (now (n0 .entry)) (now (n1 .entry)) (now (n2 .entry)) (now (n3 .entry))
+        (now (n4 .entry)) (now (n5 .entry)) (now (n6 .entry)) (now (n7 .entry)))
+        (edgesOf (edgesFrom m (now (edge .entry)) (now (parent .entry)) (now (child .entry)))) c ⌝ }
 {
     if used[c] != 1 {
         return true;
@@ -258,8 +276,15 @@ fn nodes_implied<'a>(
     mem: &'a [u64; 260],
     used: &'a [u8; 128],
 ) -> bool
-    requires { ⌜ (n ≤ 128) × Inside n (edgesFrom m (now edge) (now parent) (now child)) × (m ≤ 256) × Inside 128 (edgesFrom m (now edge) (now parent) (now child)) × (q ≤ 128) × Ruled (poolOf q (now heads) (now kinds) (now numbers)) (rulesOf q words (now head) (now part) (now first) (now named) (now src)) × Relation (poolOf q (now heads) (now kinds) (now numbers)) (now on) (now mem) × Children (edgesFrom m (now edge) (now parent) (now child)) m (now used) ⌝ }
-    ensures { λ r. ⌜ r ≡ allImplied (chosen (poolOf q (now (heads .entry)) (now (kinds .entry)) (now (numbers .entry))) (now (on .entry))) (expressionFrom (now (kind .entry)) (now (parts .entry)) (now (n0 .entry)) (now (n1 .entry)) (now (n2 .entry)) (now (n3 .entry)) (now (n4 .entry)) (now (n5 .entry)) (now (n6 .entry)) (now (n7 .entry))) (edgesOf (edgesFrom m (now (edge .entry)) (now (parent .entry)) (now (child .entry)))) ⌝ }
+    requires { ⌜ (n ≤ 128) × Inside n (edgesFrom m (now edge) (now parent) (now child)) × (m ≤ 256)
+        × Inside 128 (edgesFrom m (now edge) (now parent) (now child)) × (q ≤ 128)
+        × Ruled (poolOf q (now heads) (now kinds) (now numbers)) (rulesOf q words (now head) (now part) (now first) (now named) (now src))
+        × Relation (poolOf q (now heads) (now kinds) (now numbers)) (now on) (now mem)
+        × Children (edgesFrom m (now edge) (now parent) (now child)) m (now used) ⌝ }
+    ensures { λ r. ⌜ r ≡ allImplied (chosen (poolOf q (now (heads .entry)) (now (kinds .entry)) (now (numbers .entry))) (now (on .entry)))
+        (expressionFrom (now (kind .entry)) (now (parts .entry)) (now (n0 .entry)) (now (n1 .entry)) (now (n2 .entry)) (now (n3 .entry))
+        (now (n4 .entry)) (now (n5 .entry)) (now (n6 .entry)) (now (n7 .entry)))
+        (edgesOf (edgesFrom m (now (edge .entry)) (now (parent .entry)) (now (child .entry)))) ⌝ }
 {
     let mut c = 0;
     while c < n {
@@ -324,7 +349,10 @@ pub fn edges_implied<'a>(
     numbers: &'a [u16; 1024],
 ) -> bool
     requires { ⌜ (n ≤ 128) × (m ≤ 256) × (q ≤ 128) × Inside n (edgesFrom m (now edge) (now parent) (now child)) ⌝ }
-    ensures { λ r. ⌜ ((o : Nodes) → r ≡ all (impliedIf (credentials (poolOf q (now (heads .entry)) (now (kinds .entry)) (now (numbers .entry)))) (nodesOf (nodesFrom n (now (kind .entry)) (now (parts .entry)) (now (n0 .entry)) (now (n1 .entry)) (now (n2 .entry)) (now (n3 .entry)) (now (n4 .entry)) (now (n5 .entry)) (now (n6 .entry)) (now (n7 .entry)) (o .subject) (o .verifier) (o .state)))) (edgesOf (edgesFrom m (now (edge .entry)) (now (parent .entry)) (now (child .entry))))) ⌝ }
+    ensures { λ r. ⌜ ((o : Nodes) → r ≡ all (impliedIf (credentials (poolOf q (now (heads .entry)) (now (kinds .entry)) (now (numbers .entry))))
+        (nodesOf (nodesFrom n (now (kind .entry)) (now (parts .entry)) (now (n0 .entry)) (now (n1 .entry)) (now (n2 .entry)) (now (n3 .entry))
+        (now (n4 .entry)) (now (n5 .entry)) (now (n6 .entry)) (now (n7 .entry)) (o .subject) (o .verifier) (o .state))))
+        (edgesOf (edgesFrom m (now (edge .entry)) (now (parent .entry)) (now (child .entry))))) ⌝ }
 {
     let used = children(m, edge, parent, child);
     let x = rules_of(q, heads, kinds, numbers);

@@ -48,8 +48,12 @@ fn is_monitored<'a>(
     sat: &'a [u8; 128],
     e: Edge,
 ) -> bool
-    requires { ⌜ (n ≤ 128) × (m ≤ 256) × (e .parent < n) × (e .child < n) × Says (nodesOf (nodesFrom n (now kind) (now parts) (now n0) (now n1) (now n2) (now n3) (now n4) (now n5) (now n6) (now n7) (now subject) (now verifier) (now state))) (edgesOf (edgesFrom m (now edge) (now parent) (now child))) (now sat) ⌝ }
-    ensures { λ r. ⌜ r ≡ monitored (nodesOf (nodesFrom n (now (kind .entry)) (now (parts .entry)) (now (n0 .entry)) (now (n1 .entry)) (now (n2 .entry)) (now (n3 .entry)) (now (n4 .entry)) (now (n5 .entry)) (now (n6 .entry)) (now (n7 .entry)) (now (subject .entry)) (now (verifier .entry)) (now (state .entry)))) (edgesOf (edgesFrom m (now (edge .entry)) (now (parent .entry)) (now (child .entry)))) e ⌝ }
+    requires { ⌜ (n ≤ 128) × (m ≤ 256) × (e .parent < n) × (e .child < n)
+        × Says (nodesOf (nodesFrom n (now kind) (now parts) (now n0) (now n1) (now n2) (now n3) (now n4) (now n5) (now n6) (now n7) (now subject)
+        (now verifier) (now state))) (edgesOf (edgesFrom m (now edge) (now parent) (now child))) (now sat) ⌝ }
+    ensures { λ r. ⌜ r ≡ monitored (nodesOf (nodesFrom n (now (kind .entry)) (now (parts .entry)) (now (n0 .entry)) (now (n1 .entry))
+        (now (n2 .entry)) (now (n3 .entry)) (now (n4 .entry)) (now (n5 .entry)) (now (n6 .entry)) (now (n7 .entry)) (now (subject .entry))
+        (now (verifier .entry)) (now (state .entry)))) (edgesOf (edgesFrom m (now (edge .entry)) (now (parent .entry)) (now (child .entry)))) e ⌝ }
 {
     let p = node_at(
         n,
@@ -135,8 +139,12 @@ fn is_monitored_if<'a>(
     sat: &'a [u8; 128],
     e: Edge,
 ) -> bool
-    requires { ⌜ (n ≤ 128) × (m ≤ 256) × (e .parent < n) × (e .child < n) × Says (nodesOf (nodesFrom n (now kind) (now parts) (now n0) (now n1) (now n2) (now n3) (now n4) (now n5) (now n6) (now n7) (now subject) (now verifier) (now state))) (edgesOf (edgesFrom m (now edge) (now parent) (now child))) (now sat) ⌝ }
-    ensures { λ r. ⌜ r ≡ monitoredIf (nodesOf (nodesFrom n (now (kind .entry)) (now (parts .entry)) (now (n0 .entry)) (now (n1 .entry)) (now (n2 .entry)) (now (n3 .entry)) (now (n4 .entry)) (now (n5 .entry)) (now (n6 .entry)) (now (n7 .entry)) (now (subject .entry)) (now (verifier .entry)) (now (state .entry)))) (edgesOf (edgesFrom m (now (edge .entry)) (now (parent .entry)) (now (child .entry)))) e ⌝ }
+    requires { ⌜ (n ≤ 128) × (m ≤ 256) × (e .parent < n) × (e .child < n)
+        × Says (nodesOf (nodesFrom n (now kind) (now parts) (now n0) (now n1) (now n2) (now n3) (now n4) (now n5) (now n6) (now n7) (now subject)
+        (now verifier) (now state))) (edgesOf (edgesFrom m (now edge) (now parent) (now child))) (now sat) ⌝ }
+    ensures { λ r. ⌜ r ≡ monitoredIf (nodesOf (nodesFrom n (now (kind .entry)) (now (parts .entry)) (now (n0 .entry)) (now (n1 .entry))
+        (now (n2 .entry)) (now (n3 .entry)) (now (n4 .entry)) (now (n5 .entry)) (now (n6 .entry)) (now (n7 .entry)) (now (subject .entry))
+        (now (verifier .entry)) (now (state .entry)))) (edgesOf (edgesFrom m (now (edge .entry)) (now (parent .entry)) (now (child .entry)))) e ⌝ }
 {
     if e.kind != LINKING_IMPLICATION {
         return true;
@@ -195,8 +203,18 @@ fn linked_in_turn<'a>(
     queue: &'a mut [u8; 128],
     tail: usize,
 ) -> bool
-    requires { ⌜ (n ≤ 128) × (m ≤ 256) × NodesFormed (nodesOf (nodesFrom n (now kind) (now parts) (now n0) (now n1) (now n2) (now n3) (now n4) (now n5) (now n6) (now n7) (now subject) (now verifier) (now state))) × Inside n (edgesFrom m (now edge) (now parent) (now child)) × Joined (nodesOf (nodesFrom n (now kind) (now parts) (now n0) (now n1) (now n2) (now n3) (now n4) (now n5) (now n6) (now n7) (now subject) (now verifier) (now state))) (edgesOf (edgesFrom m (now edge) (now parent) (now child))) (now from) (now slot) × Needs (nodesOf (nodesFrom n (now kind) (now parts) (now n0) (now n1) (now n2) (now n3) (now n4) (now n5) (now n6) (now n7) (now subject) (now verifier) (now state))) (now need) × Chained 0 (now from) (now head) (now next) × Done 0 (graph (now from) (now slot) (now need)) (work (now got) (now sat) (now queue) tail) tail ⌝ }
-    ensures { λ r. ⌜ r ≡ inTurn (monitoredIf (nodesOf (nodesFrom n (now (kind .entry)) (now (parts .entry)) (now (n0 .entry)) (now (n1 .entry)) (now (n2 .entry)) (now (n3 .entry)) (now (n4 .entry)) (now (n5 .entry)) (now (n6 .entry)) (now (n7 .entry)) (now (subject .entry)) (now (verifier .entry)) (now (state .entry))))) [] (edgesOf (edgesFrom m (now (edge .entry)) (now (parent .entry)) (now (child .entry)))) ⌝ }
+    requires { ⌜ (n ≤ 128) × (m ≤ 256) × NodesFormed
+        (nodesOf (nodesFrom n (now kind) (now parts) (now n0) (now n1) (now n2) (now n3) (now n4) (now n5) (now n6) (now n7) (now subject)
+        (now verifier) (now state))) × Inside n (edgesFrom m (now edge) (now parent) (now child))
+        × Joined (nodesOf (nodesFrom n (now kind) (now parts) (now n0) (now n1) (now n2) (now n3) (now n4) (now n5) (now n6) (now n7) (now subject)
+        (now verifier) (now state))) (edgesOf (edgesFrom m (now edge) (now parent) (now child))) (now from) (now slot)
+        × Needs (nodesOf (nodesFrom n (now kind) (now parts) (now n0) (now n1) (now n2) (now n3) (now n4) (now n5) (now n6) (now n7) (now subject)
+        (now verifier) (now state))) (now need) × Chained 0 (now from) (now head) (now next)
+        × Done 0 (graph (now from) (now slot) (now need)) (work (now got) (now sat) (now queue) tail) tail ⌝ }
+    ensures { λ r. ⌜ r ≡ inTurn (monitoredIf (nodesOf
+        (nodesFrom n (now (kind .entry)) (now (parts .entry)) (now (n0 .entry)) (now (n1 .entry)) (now (n2 .entry)) (now (n3 .entry))
+        (now (n4 .entry)) (now (n5 .entry)) (now (n6 .entry)) (now (n7 .entry)) (now (subject .entry)) (now (verifier .entry)) (now (state .entry)))))
+        [] (edgesOf (edgesFrom m (now (edge .entry)) (now (parent .entry)) (now (child .entry)))) ⌝ }
 {
     let mut t = tail;
     let mut j = 0;
@@ -269,8 +287,13 @@ pub fn links_justified<'a>(
     parent: &'a [u8; 256],
     child: &'a [u8; 256],
 ) -> bool
-    requires { ⌜ (n ≤ 128) × (m ≤ 256) × NodesFormed (nodesOf (nodesFrom n (now kind) (now parts) (now n0) (now n1) (now n2) (now n3) (now n4) (now n5) (now n6) (now n7) (now subject) (now verifier) (now state))) × Inside n (edgesFrom m (now edge) (now parent) (now child)) ⌝ }
-    ensures { λ r. ⌜ r ≡ inTurn (monitoredIf (nodesOf (nodesFrom n (now (kind .entry)) (now (parts .entry)) (now (n0 .entry)) (now (n1 .entry)) (now (n2 .entry)) (now (n3 .entry)) (now (n4 .entry)) (now (n5 .entry)) (now (n6 .entry)) (now (n7 .entry)) (now (subject .entry)) (now (verifier .entry)) (now (state .entry))))) [] (edgesOf (edgesFrom m (now (edge .entry)) (now (parent .entry)) (now (child .entry)))) ⌝ }
+    requires { ⌜ (n ≤ 128) × (m ≤ 256) × NodesFormed
+        (nodesOf (nodesFrom n (now kind) (now parts) (now n0) (now n1) (now n2) (now n3) (now n4) (now n5) (now n6) (now n7) (now subject)
+        (now verifier) (now state))) × Inside n (edgesFrom m (now edge) (now parent) (now child)) ⌝ }
+    ensures { λ r. ⌜ r ≡ inTurn (monitoredIf (nodesOf
+        (nodesFrom n (now (kind .entry)) (now (parts .entry)) (now (n0 .entry)) (now (n1 .entry)) (now (n2 .entry)) (now (n3 .entry))
+        (now (n4 .entry)) (now (n5 .entry)) (now (n6 .entry)) (now (n7 .entry)) (now (subject .entry)) (now (verifier .entry)) (now (state .entry)))))
+        [] (edgesOf (edgesFrom m (now (edge .entry)) (now (parent .entry)) (now (child .entry)))) ⌝ }
 {
     if !has_linking(m, edge) {
         return true;

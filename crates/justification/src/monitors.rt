@@ -52,8 +52,13 @@ fn solves_at<'a>(
     g: u8,
     j: usize,
 ) -> bool
-    requires { ⌜ (n ≤ 128) × (m ≤ 256) × (j < m) × Says (nodesOf (nodesFrom n (now kind) (now parts) (now n0) (now n1) (now n2) (now n3) (now n4) (now n5) (now n6) (now n7) (now subject) (now verifier) (now state))) (edgesOf (edgesFrom m (now edge) (now parent) (now child))) (now sat) ⌝ }
-    ensures { λ r. ⌜ r ≡ solves (nodesOf (nodesFrom n (now (kind .entry)) (now (parts .entry)) (now (n0 .entry)) (now (n1 .entry)) (now (n2 .entry)) (now (n3 .entry)) (now (n4 .entry)) (now (n5 .entry)) (now (n6 .entry)) (now (n7 .entry)) (now (subject .entry)) (now (verifier .entry)) (now (state .entry)))) (edgesOf (edgesFrom m (now (edge .entry)) (now (parent .entry)) (now (child .entry)))) x b g (edgeAt (edgesFrom m (now (edge .entry)) (now (parent .entry)) (now (child .entry))) j) ⌝ }
+    requires { ⌜ (n ≤ 128) × (m ≤ 256) × (j < m) × Says
+        (nodesOf (nodesFrom n (now kind) (now parts) (now n0) (now n1) (now n2) (now n3) (now n4) (now n5) (now n6) (now n7) (now subject)
+        (now verifier) (now state))) (edgesOf (edgesFrom m (now edge) (now parent) (now child))) (now sat) ⌝ }
+    ensures { λ r. ⌜ r ≡ solves (nodesOf (nodesFrom n (now (kind .entry)) (now (parts .entry)) (now (n0 .entry)) (now (n1 .entry)) (now (n2 .entry))
+        (now (n3 .entry)) (now (n4 .entry)) (now (n5 .entry)) (now (n6 .entry)) (now (n7 .entry)) (now (subject .entry)) (now (verifier .entry))
+        (now (state .entry)))) (edgesOf (edgesFrom m (now (edge .entry)) (now (parent .entry)) (now (child .entry)))) x b g
+        (edgeAt (edgesFrom m (now (edge .entry)) (now (parent .entry)) (now (child .entry))) j) ⌝ }
 {
     if (edge[j] != SOLUTION) | (parent[j] != g) {
         return false;
@@ -97,8 +102,12 @@ fn is_solved<'a>(
     b: u16,
     g: u8,
 ) -> bool
-    requires { ⌜ (n ≤ 128) × (m ≤ 256) × Says (nodesOf (nodesFrom n (now kind) (now parts) (now n0) (now n1) (now n2) (now n3) (now n4) (now n5) (now n6) (now n7) (now subject) (now verifier) (now state))) (edgesOf (edgesFrom m (now edge) (now parent) (now child))) (now sat) ⌝ }
-    ensures { λ r. ⌜ r ≡ solved (nodesOf (nodesFrom n (now (kind .entry)) (now (parts .entry)) (now (n0 .entry)) (now (n1 .entry)) (now (n2 .entry)) (now (n3 .entry)) (now (n4 .entry)) (now (n5 .entry)) (now (n6 .entry)) (now (n7 .entry)) (now (subject .entry)) (now (verifier .entry)) (now (state .entry)))) (edgesOf (edgesFrom m (now (edge .entry)) (now (parent .entry)) (now (child .entry)))) x b g ⌝ }
+    requires { ⌜ (n ≤ 128) × (m ≤ 256) × Says (nodesOf
+        (nodesFrom n (now kind) (now parts) (now n0) (now n1) (now n2) (now n3) (now n4) (now n5) (now n6) (now n7) (now subject) (now verifier)
+        (now state))) (edgesOf (edgesFrom m (now edge) (now parent) (now child))) (now sat) ⌝ }
+    ensures { λ r. ⌜ r ≡ solved (nodesOf (nodesFrom n (now (kind .entry)) (now (parts .entry)) (now (n0 .entry)) (now (n1 .entry)) (now (n2 .entry))
+        (now (n3 .entry)) (now (n4 .entry)) (now (n5 .entry)) (now (n6 .entry)) (now (n7 .entry)) (now (subject .entry)) (now (verifier .entry))
+        (now (state .entry)))) (edgesOf (edgesFrom m (now (edge .entry)) (now (parent .entry)) (now (child .entry)))) x b g ⌝ }
 {
     let mut j = 0;
     while j < m {
@@ -160,8 +169,13 @@ fn monitors_at<'a>(
     p: u8,
     j: usize,
 ) -> bool
-    requires { ⌜ (n ≤ 128) × (m ≤ 256) × (j < m) × Says (nodesOf (nodesFrom n (now kind) (now parts) (now n0) (now n1) (now n2) (now n3) (now n4) (now n5) (now n6) (now n7) (now subject) (now verifier) (now state))) (edgesOf (edgesFrom m (now edge) (now parent) (now child))) (now sat) ⌝ }
-    ensures { λ r. ⌜ r ≡ monitors (nodesOf (nodesFrom n (now (kind .entry)) (now (parts .entry)) (now (n0 .entry)) (now (n1 .entry)) (now (n2 .entry)) (now (n3 .entry)) (now (n4 .entry)) (now (n5 .entry)) (now (n6 .entry)) (now (n7 .entry)) (now (subject .entry)) (now (verifier .entry)) (now (state .entry)))) (edgesOf (edgesFrom m (now (edge .entry)) (now (parent .entry)) (now (child .entry)))) x b p (edgeAt (edgesFrom m (now (edge .entry)) (now (parent .entry)) (now (child .entry))) j) ⌝ }
+    requires { ⌜ (n ≤ 128) × (m ≤ 256) × (j < m) × Says
+        (nodesOf (nodesFrom n (now kind) (now parts) (now n0) (now n1) (now n2) (now n3) (now n4) (now n5) (now n6) (now n7) (now subject)
+        (now verifier) (now state))) (edgesOf (edgesFrom m (now edge) (now parent) (now child))) (now sat) ⌝ }
+    ensures { λ r. ⌜ r ≡ monitors (nodesOf (nodesFrom n (now (kind .entry)) (now (parts .entry)) (now (n0 .entry)) (now (n1 .entry)) (now (n2 .entry))
+        (now (n3 .entry)) (now (n4 .entry)) (now (n5 .entry)) (now (n6 .entry)) (now (n7 .entry)) (now (subject .entry)) (now (verifier .entry))
+        (now (state .entry)))) (edgesOf (edgesFrom m (now (edge .entry)) (now (parent .entry)) (now (child .entry)))) x b p
+        (edgeAt (edgesFrom m (now (edge .entry)) (now (parent .entry)) (now (child .entry))) j) ⌝ }
 {
     if (edge[j] != MONITOR) | (parent[j] != p) {
         return false;
@@ -221,8 +235,13 @@ pub fn is_monitored_for<'a>(
     b: u16,
     p: u8,
 ) -> bool
-    requires { ⌜ (n ≤ 128) × (m ≤ 256) × Says (nodesOf (nodesFrom n (now kind) (now parts) (now n0) (now n1) (now n2) (now n3) (now n4) (now n5) (now n6) (now n7) (now subject) (now verifier) (now state))) (edgesOf (edgesFrom m (now edge) (now parent) (now child))) (now sat) ⌝ }
-    ensures { λ r. ⌜ r ≡ any (monitors (nodesOf (nodesFrom n (now (kind .entry)) (now (parts .entry)) (now (n0 .entry)) (now (n1 .entry)) (now (n2 .entry)) (now (n3 .entry)) (now (n4 .entry)) (now (n5 .entry)) (now (n6 .entry)) (now (n7 .entry)) (now (subject .entry)) (now (verifier .entry)) (now (state .entry)))) (edgesOf (edgesFrom m (now (edge .entry)) (now (parent .entry)) (now (child .entry)))) x b p) (edgesOf (edgesFrom m (now (edge .entry)) (now (parent .entry)) (now (child .entry)))) ⌝ }
+    requires { ⌜ (n ≤ 128) × (m ≤ 256) × Says (nodesOf
+        (nodesFrom n (now kind) (now parts) (now n0) (now n1) (now n2) (now n3) (now n4) (now n5) (now n6) (now n7) (now subject) (now verifier)
+        (now state))) (edgesOf (edgesFrom m (now edge) (now parent) (now child))) (now sat) ⌝ }
+    ensures { λ r. ⌜ r ≡ any (monitors (nodesOf (nodesFrom n (now (kind .entry)) (now (parts .entry)) (now (n0 .entry)) (now (n1 .entry))
+        (now (n2 .entry)) (now (n3 .entry)) (now (n4 .entry)) (now (n5 .entry)) (now (n6 .entry)) (now (n7 .entry)) (now (subject .entry))
+        (now (verifier .entry)) (now (state .entry)))) (edgesOf (edgesFrom m (now (edge .entry)) (now (parent .entry)) (now (child .entry)))) x b p)
+        (edgesOf (edgesFrom m (now (edge .entry)) (now (parent .entry)) (now (child .entry)))) ⌝ }
 {
     let mut j = 0;
     while j < m {

@@ -19,7 +19,8 @@ use Rattle.message.specs.Message.{isEnd, messageBytes, bytesOf}
 -- "Each command carries the negotiation to its next state"
 pub data Updates (ns : List Name) (s : ℕ) : State → List Command → State → Type 0 where
   none : {S : State} → Updates ns s S [] S
-  next : {S T : State} {c : Command} {cs : List Command} → isEnd c ≡ false → formedCommand c ≡ true → Legal ns s S c → Updates ns s (stepped S s c) cs T → Updates ns s S (c ∷ cs) T
+  next : {S T : State} {c : Command} {cs : List Command} → isEnd c ≡ false → formedCommand c ≡ true → Legal ns s S c
+      → Updates ns s (stepped S s c) cs T → Updates ns s S (c ∷ cs) T
 
 -- the message m consists of these commands and an end, and they lead from S to T
 pub record Carries (ns : List Name) (s : ℕ) (m : List ℕ) (S : State) (cs : List Command) (T : State) : Type 0 where

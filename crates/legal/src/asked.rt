@@ -26,6 +26,7 @@ ghost use Rattle.message.specs.declared.Command.the-variants as C;
 ghost use Rattle.negotiation.specs.laws.State.{stateOf};
 ghost use Rattle.legal.specs.laws.Proved.{ProvedBy};
 ghost use Rattle.legal.specs.laws.Judged.{noImplication, implicationIn, ProvedFor, Proves};
+ghost use Rattle.numbers.specs.Sizes.{MOST-NODES};
 
 // Of no credential, and not to be asked.
 pub fn nothing_proved() -> Proved
@@ -97,7 +98,8 @@ fn is_from<'a>(
     f: Expression,
     e: Expression,
 ) -> bool
-    requires { ⌜ ProvedBy (poolOf n (now heads) (now kinds) (now numbers)) (rulesOf n words (now head) (now part) (now first) (now named) (now src)) (now rows) ⌝ }
+    requires { ⌜ ProvedBy (poolOf n (now heads) (now kinds) (now numbers)) (rulesOf n words (now head) (now part) (now first) (now named) (now src))
+        (now rows) ⌝ }
     ensures { λ r. ⌜ r ≡ fromOf (credentialsOf (poolOf n (now (heads .entry)) (now (kinds .entry)) (now (numbers .entry)))) f e ⌝ }
 {
     let on = [1u8; 128];
@@ -130,7 +132,7 @@ fn no_implication() -> Implication
 }
 
 fn bring_implication(nodes: Nodes, b: NewEdge) -> Implication
-    requires { ⌜ nodes .count ≤ 128 ⌝ }
+    requires { ⌜ nodes .count ≤ MOST-NODES ⌝ }
     ensures { λ r. ⌜ r ≡ implicationIn (nodesOf nodes) (C.Bring b) ⌝ }
 {
     let p = node_in(nodes, b.parent);
@@ -140,7 +142,7 @@ fn bring_implication(nodes: Nodes, b: NewEdge) -> Implication
 }
 
 fn join_implication(nodes: Nodes, e: Edge) -> Implication
-    requires { ⌜ nodes .count ≤ 128 ⌝ }
+    requires { ⌜ nodes .count ≤ MOST-NODES ⌝ }
     ensures { λ r. ⌜ r ≡ implicationIn (nodesOf nodes) (C.Join e) ⌝ }
 {
     let p = node_in(nodes, e.parent);
@@ -152,7 +154,7 @@ fn join_implication(nodes: Nodes, e: Edge) -> Implication
 
 // What the edge of a command asks if it is an implication.
 fn implication_of(nodes: Nodes, c: Command) -> Implication
-    requires { ⌜ nodes .count ≤ 128 ⌝ }
+    requires { ⌜ nodes .count ≤ MOST-NODES ⌝ }
     ensures { λ r. ⌜ r ≡ implicationIn (nodesOf nodes) c ⌝ }
 {
     match c {
@@ -182,7 +184,8 @@ pub fn is_proved<'a>(
     rows: &'a [u64; 260],
     c: Command,
 ) -> bool
-    requires { ⌜ (n .nodes .count ≤ 128) × ProvedFor c (poolOf count (now heads) (now kinds) (now numbers)) (rulesOf count words (now head) (now part) (now first) (now named) (now src)) (now rows) (n .shown) ⌝ }
+    requires { ⌜ (n .nodes .count ≤ MOST-NODES) × ProvedFor c (poolOf count (now heads) (now kinds) (now numbers))
+        (rulesOf count words (now head) (now part) (now first) (now named) (now src)) (now rows) (n .shown) ⌝ }
     ensures { λ r. ⌜ Proves (stateOf n) c r ⌝ }
 {
     if !is_implication(c) {

@@ -20,9 +20,10 @@ ghost use Prim.Native.Nat.{_≤_};
 ghost use Rattle.class.specs.laws.Names.{namesOf, Ascending};
 ghost use Rattle.negotiation.specs.laws.State.{stateOf};
 ghost use Rattle.legal.specs.Number.{showNumber, openNumber, markNumber, endNumber};
+ghost use Rattle.numbers.specs.Sizes.{MOST-NAMES, MOST-NODES, MOST-SHOWN};
 
 pub fn show_number(names: Names, n: Negotiation, c: Credential) -> u64
-    requires { ⌜ (names .count ≤ 64) × Ascending (names .count) (names .name) × (n .shown .count ≤ 64) ⌝ }
+    requires { ⌜ (names .count ≤ MOST-NAMES) × Ascending (names .count) (names .name) × (n .shown .count ≤ MOST-SHOWN) ⌝ }
     ensures { λ r. ⌜ r ≡ showNumber (namesOf names) (stateOf n) c ⌝ }
 {
     let k = credential_number(names.count, &names.name, &names.class, c);
@@ -44,7 +45,7 @@ pub fn show_number(names: Names, n: Negotiation, c: Credential) -> u64
 }
 
 pub fn open_number(names: Names, n: Negotiation, o: Opening) -> u64
-    requires { ⌜ (names .count ≤ 64) × Ascending (names .count) (names .name) ⌝ }
+    requires { ⌜ (names .count ≤ MOST-NAMES) × Ascending (names .count) (names .name) ⌝ }
     ensures { λ r. ⌜ r ≡ openNumber (namesOf names) (stateOf n) o ⌝ }
 {
     let role = o.role;
@@ -59,7 +60,7 @@ pub fn open_number(names: Names, n: Negotiation, o: Opening) -> u64
 }
 
 pub fn mark_number(side: u8, n: Negotiation, i: u8) -> u64
-    requires { ⌜ n .nodes .count ≤ 128 ⌝ }
+    requires { ⌜ n .nodes .count ≤ MOST-NODES ⌝ }
     ensures { λ r. ⌜ r ≡ markNumber side (stateOf n) i ⌝ }
 {
     let nodes = n.nodes;

@@ -29,6 +29,7 @@ ghost use Prim.Native.Nat.{_≤_, _<_};
 ghost use Rattle.class.specs.laws.Names.{namesOf, Ascending};
 ghost use Rattle.negotiation.specs.laws.State.{stateOf};
 ghost use Rattle.legal.specs.Number.{formedAs, joinWrong, joinNumber, typeNumber, bringWrong, bringNumber};
+ghost use Rattle.numbers.specs.Sizes.{MOST-NAMES, MOST-NODES, MOST-EDGES};
 
 // An edge from c to p has the form of its kind.
 fn formed_as(h: Header, kind: u8, p: Node, c: Node) -> bool
@@ -39,7 +40,7 @@ fn formed_as(h: Header, kind: u8, p: Node, c: Node) -> bool
 
 // An edge between nodes that may not be added by its form, or is there.
 fn join_wrong(n: Negotiation, e: Edge) -> bool
-    requires { ⌜ (e .parent < n .nodes .count) × (e .child < n .nodes .count) × (n .nodes .count ≤ 128) × (n .edges .count ≤ 256) ⌝ }
+    requires { ⌜ (e .parent < n .nodes .count) × (e .child < n .nodes .count) × (n .nodes .count ≤ MOST-NODES) × (n .edges .count ≤ MOST-EDGES) ⌝ }
     ensures { λ r. ⌜ r ≡ joinWrong (stateOf n) e ⌝ }
 {
     let h = n.header;
@@ -57,7 +58,7 @@ fn join_wrong(n: Negotiation, e: Edge) -> bool
 }
 
 pub fn join_number(side: u8, n: Negotiation, e: Edge, justified: bool) -> u64
-    requires { ⌜ (n .nodes .count ≤ 128) × (n .edges .count ≤ 256) ⌝ }
+    requires { ⌜ (n .nodes .count ≤ MOST-NODES) × (n .edges .count ≤ MOST-EDGES) ⌝ }
     ensures { λ r. ⌜ r ≡ joinNumber side (stateOf n) e justified ⌝ }
 {
     let nodes = n.nodes;
@@ -99,7 +100,7 @@ fn type_number(t: Typing) -> u64
 
 // A new child that its form does not allow, or that stands.
 fn bring_wrong(n: Negotiation, b: NewEdge) -> bool
-    requires { ⌜ (b .parent < n .nodes .count) × (n .nodes .count ≤ 128) ⌝ }
+    requires { ⌜ (b .parent < n .nodes .count) × (n .nodes .count ≤ MOST-NODES) ⌝ }
     ensures { λ r. ⌜ r ≡ bringWrong (stateOf n) b ⌝ }
 {
     let h = n.header;
@@ -133,7 +134,7 @@ fn bring_wrong(n: Negotiation, b: NewEdge) -> bool
 }
 
 pub fn bring_number(names: Names, side: u8, n: Negotiation, b: NewEdge, justified: bool) -> u64
-    requires { ⌜ (names .count ≤ 64) × Ascending (names .count) (names .name) × (n .nodes .count ≤ 128) × (n .edges .count ≤ 256) ⌝ }
+    requires { ⌜ (names .count ≤ MOST-NAMES) × Ascending (names .count) (names .name) × (n .nodes .count ≤ MOST-NODES) × (n .edges .count ≤ MOST-EDGES) ⌝ }
     ensures { λ r. ⌜ r ≡ bringNumber (namesOf names) side (stateOf n) b justified ⌝ }
 {
     let y = b.expression;

@@ -28,10 +28,11 @@ ghost use Rattle.negotiation.specs.laws.State.{stateOf};
 ghost use Rattle.negotiation.specs.State.{within};
 ghost use Rattle.legal.specs.Number.{justifiedIn};
 ghost use Rattle.legal.specs.laws.Judged.{isImplication, isLinking, Proves, SaysFor};
+ghost use Rattle.numbers.specs.Sizes.{MOST-NODES, MOST-EDGES};
 
 // Which nodes are satisfied.
 pub fn satisfied_nodes(nodes: Nodes, edges: Edges) -> [u8; 128]
-    requires { ⌜ (nodes .count ≤ 128) × (edges .count ≤ 256) × NodesFormed (nodesOf nodes) ⌝ }
+    requires { ⌜ (nodes .count ≤ MOST-NODES) × (edges .count ≤ MOST-EDGES) × NodesFormed (nodesOf nodes) ⌝ }
     ensures { λ r. ⌜ Says (nodesOf nodes) (edgesOf edges) r ⌝ }
 {
     let need = needs(nodes.count, &nodes.kind, &nodes.parts, &nodes.state);
@@ -57,7 +58,7 @@ pub fn satisfied_nodes(nodes: Nodes, edges: Edges) -> [u8; 128]
 
 // Node i; a blank one where there is none.
 pub fn node_in(nodes: Nodes, i: u8) -> Node
-    requires { ⌜ nodes .count ≤ 128 ⌝ }
+    requires { ⌜ nodes .count ≤ MOST-NODES ⌝ }
     ensures { λ r. ⌜ r ≡ nodeIn (nodesOf nodes) i ⌝ }
 {
     if nodes.count <= wide(i) {
@@ -73,7 +74,7 @@ pub fn node_in(nodes: Nodes, i: u8) -> Node
 
 // Whether a linking implication edge into node p is justified for B.
 fn is_linked_for<'a>(n: Negotiation, sat: &'a [u8; 128], p: u8, b: u16) -> bool
-    requires { ⌜ (n .nodes .count ≤ 128) × (n .edges .count ≤ 256) × Says (nodesOf (n .nodes)) (edgesOf (n .edges)) (now sat) ⌝ }
+    requires { ⌜ (n .nodes .count ≤ MOST-NODES) × (n .edges .count ≤ MOST-EDGES) × Says (nodesOf (n .nodes)) (edgesOf (n .edges)) (now sat) ⌝ }
     ensures { λ r. ⌜ r ≡ any (monitors (nodesOf (n .nodes)) (edgesOf (n .edges)) (nodeIn (nodesOf (n .nodes)) p .expression) b p) (edgesOf (n .edges)) ⌝ }
 {
     let nodes = n.nodes;
@@ -107,7 +108,8 @@ fn is_linked_for<'a>(n: Negotiation, sat: &'a [u8; 128], p: u8, b: u16) -> bool
 }
 
 fn is_join_linked<'a>(n: Negotiation, sat: &'a [u8; 128], e: Edge) -> bool
-    requires { ⌜ (n .nodes .count ≤ 128) × (n .edges .count ≤ 256) × (isLinking (C.Join e) ≡ true) × Says (nodesOf (n .nodes)) (edgesOf (n .edges)) (now sat) ⌝ }
+    requires { ⌜ (n .nodes .count ≤ MOST-NODES) × (n .edges .count ≤ MOST-EDGES) × (isLinking (C.Join e) ≡ true)
+        × Says (nodesOf (n .nodes)) (edgesOf (n .edges)) (now sat) ⌝ }
     ensures { λ r. ⌜ r ≡ justifiedIn (stateOf n) (C.Join e) ⌝ }
 {
     let nodes = n.nodes;
@@ -145,7 +147,8 @@ pub fn is_linking(c: Command) -> bool
 
 // Whether the linking implication edge of a command is justified.
 fn is_linked<'a>(n: Negotiation, sat: &'a [u8; 128], c: Command) -> bool
-    requires { ⌜ (n .nodes .count ≤ 128) × (n .edges .count ≤ 256) × (isLinking c ≡ true) × Says (nodesOf (n .nodes)) (edgesOf (n .edges)) (now sat) ⌝ }
+    requires { ⌜ (n .nodes .count ≤ MOST-NODES) × (n .edges .count ≤ MOST-EDGES) × (isLinking c ≡ true)
+        × Says (nodesOf (n .nodes)) (edgesOf (n .edges)) (now sat) ⌝ }
     ensures { λ r. ⌜ r ≡ justifiedIn (stateOf n) c ⌝ }
 {
     match c {

@@ -25,6 +25,7 @@ pub use justify::is_implication;
 pub use justify::is_justified;
 pub use justify::is_linking;
 pub use justify::satisfied_nodes;
+ghost use Rattle.numbers.specs.Sizes.{MOST-NAMES};
 
 mod asked;
 mod commands;
@@ -47,7 +48,7 @@ pub struct Implication {
 
 // Why a command of the sender is refused: zero where it is legal. Whether the edge that it adds is justified is given.
 pub fn legal(names: Names, sender: u8, n: Negotiation, c: Command, justified: bool) -> u64
-    requires { ⌜ (names .count ≤ 64) × Ascending (names .count) (names .name) × (within (stateOf n) ≡ true) ⌝ }
+    requires { ⌜ (names .count ≤ MOST-NAMES) × Ascending (names .count) (names .name) × (within (stateOf n) ≡ true) ⌝ }
     ensures { λ r. ⌜ r ≡ legalBy (namesOf names) sender (stateOf n) c justified ⌝ }
 {
     match c {

@@ -42,7 +42,9 @@ fn ask_times<'a>(
     e: Expression,
     times: u32,
 ) -> u64
-    requires { ⌜ (n ≤ 128) × Ruled (poolOf n (now heads) (now kinds) (now numbers)) (rulesOf n words (now head) (now part) (now first) (now named) (now src)) × Relation (poolOf n (now heads) (now kinds) (now numbers)) (now on) (now mem) ⌝ }
+    requires { ⌜ (n ≤ 128) × Ruled (poolOf n (now heads) (now kinds) (now numbers))
+        (rulesOf n words (now head) (now part) (now first) (now named) (now src))
+        × Relation (poolOf n (now heads) (now kinds) (now numbers)) (now on) (now mem) ⌝ }
     ensures { λ r. ⌜ r ≡ countOf (fromOf (chosen (poolOf n (now (heads .entry)) (now (kinds .entry)) (now (numbers .entry))) (now (on .entry))) f e) times ⌝ }
 {
     let mut yes = 0;

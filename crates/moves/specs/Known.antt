@@ -44,4 +44,5 @@ pub record KnownRole : Type 0 where
 
 -- nothing while the Ack target is unsatisfied, then what we hold
 unfoldable pub knownOf : Hidden → List Pair → State → List KnownRole
-knownOf H sensitive S = map (λ (p : Pair). record { role = p .role; ack = p .other; known = cond (isAcknowledged S (p .other)) (Seen (holdingOf H (p .role))) Waiting }) sensitive
+knownOf H sensitive S =
+    map (λ (p : Pair). record { role = p .role; ack = p .other; known = cond (isAcknowledged S (p .other)) (Seen (holdingOf H (p .role))) Waiting }) sensitive

@@ -57,7 +57,14 @@ module _ (o : End) where
   edgeCommand i w =
       cond (childStands (o .state .nodes) w)
       (Join (record { kind = w .kind; parent = i; child = childNumber (o .state .nodes) w }))
-      (Bring (record { kind = w .kind; parent = i; expression = w .expression; subject = w .subject; state = initialState (o .tables .names) (eqb (w .verifier) side) (w .expression) }))
+      (Bring (record {
+        kind = w .kind;
+        parent = i;
+        expression = w .expression;
+        subject = w .subject;
+        state = initialState (o .tables .names)
+            (eqb (w .verifier) side) (w .expression);
+      }))
 
   -- an edge goes out behind the credentials it needs
   abbrev pub moveFor : ℕ → Node → Choice → Move

@@ -73,7 +73,8 @@ implications n xs = ordered (map (λ x. childFor 1 n x (n .subject)) (keep (suit
 
 -- "If S ∈ ..Frontier(A.r)": the one edge to S; "When S ∉ ..": to each "that is not an entity"
 abbrev pub toSubject : Node → List Expression → List Candidate
-toSubject n xs = cond (any (same (E.Entity (n .subject))) xs) (childFor 1 n (E.Entity (n .subject)) (n .subject) ∷ []) (implications n (keep (λ x. not (isEntity x)) xs))
+toSubject n xs =
+    cond (any (same (E.Entity (n .subject))) xs) (childFor 1 n (E.Entity (n .subject)) (n .subject) ∷ []) (implications n (keep (λ x. not (isEntity x)) xs))
 
 -- "the k intersection edges"
 abbrev pub partEdges : Node → List Role → List Candidate
@@ -107,7 +108,8 @@ module _ (o : End) where
 
   -- "each entity B such that A.r1 ← B", "taken over 0x12 alone"
   abbrev pub membersOf : Role → List ℕ
-  membersOf a = keep (λ b. fromOf (o .tables .issuerStored) (E.Role a) (E.Entity b)) (gather (λ (c : Credential). entitiesIn (c .body)) (o .tables .issuerStored))
+  membersOf a =
+      keep (λ b. fromOf (o .tables .issuerStored) (E.Role a) (E.Entity b)) (gather (λ (c : Credential). entitiesIn (c .body)) (o .tables .issuerStored))
 
   abbrev pub oppoFrontier : List Expression → List Expression
   oppoFrontier xs = frontierOf (oppo (o .tables .names)) (o .tables .issuerStored) xs
@@ -160,7 +162,8 @@ module _ (o : End) where
   ownRules i n a [] = thenMark (toSubject n (sensFrontier (E.Role a ∷ [])))
   ownRules i n a (k ∷ ks) =
       cond (sameRole (k .role) a)
-      (sensitiveRules i n (controlEdge n (k .ack)) (implications n (keep (λ x. not (isEntity x)) (sensFrontier (bodiesOf (o .tables .subjectStored) (E.Role a))))) (k .known))
+      (sensitiveRules i n (controlEdge n (k .ack))
+      (implications n (keep (λ x. not (isEntity x)) (sensFrontier (bodiesOf (o .tables .subjectStored) (E.Role a))))) (k .known))
       (ownRules i n a ks)
 
   abbrev pub isNamed : ℕ → Role → Bool

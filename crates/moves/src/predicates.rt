@@ -33,7 +33,8 @@ fn stops_at<'a>(
     a: Role,
 ) -> bool
     requires { ⌜ (n ≤ 64) × Ascending n (now names) × (k ≤ 32) ⌝ }
-    ensures { λ b. ⌜ b ≡ predicateOf p (namesOf (namesFrom n (now (names .entry)) (now (classes .entry)))) (pairsOf (pairsFrom k (now (roles .entry)) (now (others .entry)))) (E.Role a) ⌝ }
+    ensures { λ b. ⌜ b ≡ predicateOf p (namesOf (namesFrom n (now (names .entry)) (now (classes .entry))))
+        (pairsOf (pairsFrom k (now (roles .entry)) (now (others .entry)))) (E.Role a) ⌝ }
 {
     match p {
         Predicate::Oppo => is_subject_all(n, names, classes, a.name),
@@ -54,7 +55,8 @@ fn is_stop<'a>(
     e: Expression,
 ) -> bool
     requires { ⌜ (n ≤ 64) × Ascending n (now names) × (k ≤ 32) ⌝ }
-    ensures { λ b. ⌜ b ≡ predicateOf p (namesOf (namesFrom n (now (names .entry)) (now (classes .entry)))) (pairsOf (pairsFrom k (now (roles .entry)) (now (others .entry)))) e ⌝ }
+    ensures { λ b. ⌜ b ≡ predicateOf p (namesOf (namesFrom n (now (names .entry)) (now (classes .entry))))
+        (pairsOf (pairsFrom k (now (roles .entry)) (now (others .entry)))) e ⌝ }
 {
     match e {
         Expression::Entity(_) => true,
@@ -80,7 +82,8 @@ pub fn stops<'a>(
     numbers: &'a [u16; 1024],
 ) -> [u8; 128]
     requires { ⌜ (n ≤ 64) × Ascending n (now names) × (k ≤ 32) × (m ≤ 128) ⌝ }
-    ensures { λ r. ⌜ Stops (predicateOf p (namesOf (namesFrom n (now (names .entry)) (now (classes .entry)))) (pairsOf (pairsFrom k (now (roles .entry)) (now (others .entry))))) (poolOf m (now (heads .entry)) (now (kinds .entry)) (now (numbers .entry))) r ⌝ }
+    ensures { λ r. ⌜ Stops (predicateOf p (namesOf (namesFrom n (now (names .entry)) (now (classes .entry))))
+        (pairsOf (pairsFrom k (now (roles .entry)) (now (others .entry))))) (poolOf m (now (heads .entry)) (now (kinds .entry)) (now (numbers .entry))) r ⌝ }
 {
     let mut r = [0u8; 128];
     let mut i = 0;

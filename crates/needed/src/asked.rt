@@ -107,7 +107,8 @@ fn follow<'a>(
     done: &'a mut [u8; 128],
 ) -> bool
     requires { ⌜ (n ≤ 128) × (j < n) × Work (poolOf n (now heads) (now kinds) (now numbers)) (now flags) (now done) ⌝ }
-    ensures { λ b. ⌜ Followed (poolOf n (now (heads .entry)) (now (kinds .entry)) (now (numbers .entry))) j (now (flags .entry)) (now (done .entry)) (now (flags .exit)) (now (done .exit)) b ⌝ }
+    ensures { λ b. ⌜ Followed (poolOf n (now (heads .entry)) (now (kinds .entry)) (now (numbers .entry))) j (now (flags .entry)) (now (done .entry))
+        (now (flags .exit)) (now (done .exit)) b ⌝ }
 {
     if flags[j] != 1 {
         return false;
@@ -131,7 +132,8 @@ fn pass<'a>(
     done: &'a mut [u8; 128],
 ) -> bool
     requires { ⌜ (n ≤ 128) × Work (poolOf n (now heads) (now kinds) (now numbers)) (now flags) (now done) ⌝ }
-    ensures { λ b. ⌜ Swept (poolOf n (now (heads .entry)) (now (kinds .entry)) (now (numbers .entry))) (now (flags .entry)) (now (flags .exit)) (now (done .exit)) b n ⌝ }
+    ensures { λ b. ⌜ Swept (poolOf n (now (heads .entry)) (now (kinds .entry)) (now (numbers .entry))) (now (flags .entry)) (now (flags .exit))
+        (now (done .exit)) b n ⌝ }
 {
     let mut some = false;
     let mut j = 0;

@@ -76,7 +76,9 @@ fn keep<'a>(
     f: Expression,
     e: Expression,
 ) -> Kept
-    requires { ⌜ (n ≤ 128) × (s ≤ n) × Ruled (poolOf n (now heads) (now kinds) (now numbers)) (rulesOf n words (now head) (now part) (now first) (now named) (now src)) × FirstOn s (now on) × Relation (poolOf n (now heads) (now kinds) (now numbers)) (now on) (now rows) ⌝ }
+    requires { ⌜ (n ≤ 128) × (s ≤ n) × Ruled (poolOf n (now heads) (now kinds) (now numbers))
+        (rulesOf n words (now head) (now part) (now first) (now named) (now src)) × FirstOn s (now on)
+        × Relation (poolOf n (now heads) (now kinds) (now numbers)) (now on) (now rows) ⌝ }
     ensures { λ r. ⌜ Needed (poolOf n (now (heads .entry)) (now (kinds .entry)) (now (numbers .entry))) s f e (r .holds) (r .own) ⌝ }
 {
     let mut r = [0u8; 128];
@@ -136,7 +138,9 @@ pub fn needed<'a>(
     requires { ⌜ (n ≤ 128) × (shown ≤ n) ⌝ }
     ensures holds { λ r. ⌜ r .holds ≡ fromOf (credentials (poolOf n (now (heads .entry)) (now (kinds .entry)) (now (numbers .entry)))) f e ⌝ }
     ensures own { λ r. ⌜ ((i : ℕ) → el (r .own) i ≡ 1 → (shown ≤ i) × (i < n)) ⌝ }
-    ensures all { λ r. ⌜ chosen (poolOf n (now (heads .entry)) (now (kinds .entry)) (now (numbers .entry))) (r .own) ≡ neededOf (firstOf (poolOf n (now (heads .entry)) (now (kinds .entry)) (now (numbers .entry))) shown) f e (restOf (poolOf n (now (heads .entry)) (now (kinds .entry)) (now (numbers .entry))) shown) ⌝ }
+    ensures all { λ r. ⌜ chosen (poolOf n (now (heads .entry)) (now (kinds .entry)) (now (numbers .entry))) (r .own)
+        ≡ neededOf (firstOf (poolOf n (now (heads .entry)) (now (kinds .entry)) (now (numbers .entry))) shown) f e
+        (restOf (poolOf n (now (heads .entry)) (now (kinds .entry)) (now (numbers .entry))) shown) ⌝ }
 {
     let x = rules_of(n, heads, kinds, numbers);
     let deps = dependents(n, &x.part, &x.first, &x.named);

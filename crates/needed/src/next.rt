@@ -32,7 +32,9 @@ fn holds_with<'a>(
     f: Expression,
     e: Expression,
 ) -> bool
-    requires { ⌜ (n ≤ 128) × Ruled (poolOf n (now heads) (now kinds) (now numbers)) (rulesOf n words (now head) (now part) (now first) (now named) (now src)) × (length (now on) ≡ 128) × Relation (poolOf n (now heads) (now kinds) (now numbers)) (now on) (now rows) ⌝ }
+    requires { ⌜ (n ≤ 128) × Ruled (poolOf n (now heads) (now kinds) (now numbers))
+        (rulesOf n words (now head) (now part) (now first) (now named) (now src)) × (length (now on) ≡ 128)
+        × Relation (poolOf n (now heads) (now kinds) (now numbers)) (now on) (now rows) ⌝ }
     ensures switched { λ _. ⌜ now (on .exit) ≡ withOne n i (now (on .entry)) ⌝ }
     ensures related { λ _. ⌜ Relation (poolOf n (now (heads .entry)) (now (kinds .entry)) (now (numbers .entry))) (now (on .exit)) (now (rows .exit)) ⌝ }
     ensures answered { λ r. ⌜ r ≡ fromOf (chosen (poolOf n (now (heads .entry)) (now (kinds .entry)) (now (numbers .entry))) (now (on .exit))) f e ⌝ }
@@ -94,7 +96,9 @@ fn last_needed<'a>(
     f: Expression,
     e: Expression,
 ) -> usize
-    requires { ⌜ (n ≤ 128) × (a ≤ n) × Ruled (poolOf n (now heads) (now kinds) (now numbers)) (rulesOf n words (now head) (now part) (now first) (now named) (now src)) × (length (now was) ≡ 128) × Relation (poolOf n (now heads) (now kinds) (now numbers)) (now was) (now held) ⌝ }
+    requires { ⌜ (n ≤ 128) × (a ≤ n) × Ruled (poolOf n (now heads) (now kinds) (now numbers))
+        (rulesOf n words (now head) (now part) (now first) (now named) (now src)) × (length (now was) ≡ 128)
+        × Relation (poolOf n (now heads) (now kinds) (now numbers)) (now was) (now held) ⌝ }
     ensures { λ r. ⌜ LastNeeded (poolOf n (now (heads .entry)) (now (kinds .entry)) (now (numbers .entry))) (now (was .entry)) f e a r ⌝ }
 {
     let mut on = *was;
@@ -145,10 +149,13 @@ pub fn next_kept<'a>(
     f: Expression,
     e: Expression,
 ) -> usize
-    requires { ⌜ (n ≤ 128) × (a ≤ n) × Ruled (poolOf n (now heads) (now kinds) (now numbers)) (rulesOf n words (now head) (now part) (now first) (now named) (now src)) × (length (now on) ≡ 128) × Relation (poolOf n (now heads) (now kinds) (now numbers)) (now on) (now rows) ⌝ }
+    requires { ⌜ (n ≤ 128) × (a ≤ n) × Ruled (poolOf n (now heads) (now kinds) (now numbers))
+        (rulesOf n words (now head) (now part) (now first) (now named) (now src)) × (length (now on) ≡ 128)
+        × Relation (poolOf n (now heads) (now kinds) (now numbers)) (now on) (now rows) ⌝ }
     ensures last { λ r. ⌜ LastNeeded (poolOf n (now (heads .entry)) (now (kinds .entry)) (now (numbers .entry))) (now (on .entry)) f e a r ⌝ }
     ensures switched { λ r. ⌜ (r < n → now (on .exit) ≡ set (now (on .entry)) r 1) ⌝ }
-    ensures related { λ r. ⌜ (r < n → Relation (poolOf n (now (heads .entry)) (now (kinds .entry)) (now (numbers .entry))) (now (on .exit)) (now (rows .exit))) ⌝ }
+    ensures related { λ r. ⌜ (r < n → Relation (poolOf n (now (heads .entry)) (now (kinds .entry)) (now (numbers .entry))) (now (on .exit))
+        (now (rows .exit))) ⌝ }
 {
     let k = last_needed(
         n,

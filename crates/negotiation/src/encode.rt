@@ -107,7 +107,10 @@ fn write_nodes<'a>(
     state: &'a [u8; 128],
 )
     requires { ⌜ (n ≤ 128) × (2944 ≤ length (now buf)) ⌝ }
-    ensures { λ _. ⌜ now (buf .exit) ≡ pasted (now (buf .entry)) 128 (part 2816 nodeBytes (nodesOf (nodesFrom n (now (kind .entry)) (now (parts .entry)) (now (n0 .entry)) (now (n1 .entry)) (now (n2 .entry)) (now (n3 .entry)) (now (n4 .entry)) (now (n5 .entry)) (now (n6 .entry)) (now (n7 .entry)) (now (subject .entry)) (now (verifier .entry)) (now (state .entry))))) ⌝ }
+    ensures { λ _. ⌜ now (buf .exit) ≡ pasted (now (buf .entry)) 128
+        (part 2816 nodeBytes (nodesOf (nodesFrom n (now (kind .entry)) (now (parts .entry)) (now (n0 .entry)) (now (n1 .entry)) (now (n2 .entry))
+        (now (n3 .entry)) (now (n4 .entry)) (now (n5 .entry)) (now (n6 .entry)) (now (n7 .entry)) (now (subject .entry)) (now (verifier .entry))
+        (now (state .entry))))) ⌝ }
 {
     let mut i = 0;
     while i < n {
@@ -143,7 +146,8 @@ fn write_edges<'a>(
     child: &'a [u8; 256],
 )
     requires { ⌜ (m ≤ 256) × (3712 ≤ length (now buf)) ⌝ }
-    ensures { λ _. ⌜ now (buf .exit) ≡ pasted (now (buf .entry)) 2944 (part 768 edgeBytes (edgesOf (edgesFrom m (now (kind .entry)) (now (parent .entry)) (now (child .entry))))) ⌝ }
+    ensures { λ _. ⌜ now (buf .exit) ≡ pasted (now (buf .entry)) 2944
+        (part 768 edgeBytes (edgesOf (edgesFrom m (now (kind .entry)) (now (parent .entry)) (now (child .entry))))) ⌝ }
 {
     let mut j = 0;
     while j < m {
@@ -166,7 +170,8 @@ fn write_shown<'a>(
     numbers: &'a [u16; 1024],
 )
     requires { ⌜ (count ≤ 64) × (5120 ≤ length (now buf)) ⌝ }
-    ensures { λ _. ⌜ now (buf .exit) ≡ pasted (now (buf .entry)) 3712 (part 1408 credentialBytes (credentials (poolOf count (now (heads .entry)) (now (kinds .entry)) (now (numbers .entry))))) ⌝ }
+    ensures { λ _. ⌜ now (buf .exit) ≡ pasted (now (buf .entry)) 3712
+        (part 1408 credentialBytes (credentials (poolOf count (now (heads .entry)) (now (kinds .entry)) (now (numbers .entry))))) ⌝ }
 {
     let mut k = 0;
     while k < count {

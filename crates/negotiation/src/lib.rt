@@ -22,6 +22,7 @@ pub use ends::MEDIATOR;
 pub use ends::REQUESTER;
 pub use ends::entity_of;
 pub use ends::requester;
+ghost use Rattle.numbers.specs.Sizes.{MOST-NODES, MOST-EDGES, MOST-SHOWN};
 
 mod decode;
 mod encode;
@@ -84,7 +85,7 @@ impl Negotiation {
     }
 
     pub fn show(mut self, c: Credential) -> Self
-        requires { ⌜ self .shown .count < 64 ⌝ }
+        requires { ⌜ self .shown .count < MOST-SHOWN ⌝ }
         ensures { λ r. ⌜ stateOf r ≡ withShown (stateOf self) c ⌝ }
     {
         let shown = self.shown;
@@ -94,7 +95,7 @@ impl Negotiation {
     }
 
     pub fn add_node(mut self, x: Node) -> Self
-        requires { ⌜ self .nodes .count < 128 ⌝ }
+        requires { ⌜ self .nodes .count < MOST-NODES ⌝ }
         ensures { λ r. ⌜ stateOf r ≡ withNode (stateOf self) x ⌝ }
     {
         let nodes = self.nodes;
@@ -104,7 +105,7 @@ impl Negotiation {
     }
 
     pub fn add_edge(mut self, e: Edge) -> Self
-        requires { ⌜ self .edges .count < 256 ⌝ }
+        requires { ⌜ self .edges .count < MOST-EDGES ⌝ }
         ensures { λ r. ⌜ stateOf r ≡ withEdge (stateOf self) e ⌝ }
     {
         let edges = self.edges;
@@ -115,7 +116,7 @@ impl Negotiation {
 
     // Node i goes into another state.
     pub fn mark(mut self, i: usize, state: u8) -> Self
-        requires { ⌜ (i < self .nodes .count) × (self .nodes .count ≤ 128) ⌝ }
+        requires { ⌜ (i < self .nodes .count) × (self .nodes .count ≤ MOST-NODES) ⌝ }
         ensures { λ r. ⌜ stateOf r ≡ withMark (stateOf self) i state ⌝ }
     {
         let nodes = self.nodes;

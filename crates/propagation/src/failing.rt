@@ -67,8 +67,11 @@ fn fail_node<'a>(
     p: usize,
     hit: bool,
 ) -> usize
-    requires { ⌜ (p < 128) × (tail ≤ 128) × (hit ≡ true → childOf m (graph (now from) (now slot) (now way)) (at (failedOf m (graph (now from) (now slot) (now way)))) p ≡ true) × Failing m (graph (now from) (now slot) (now way)) (now failed) (now left) (now gone) ⌝ }
-    ensures { λ r. ⌜ (r ≤ 128) × Failing m (graph (now (from .entry)) (now (slot .entry)) (now (way .entry))) (now (failed .exit)) (now (left .entry)) (now (gone .entry)) ⌝ }
+    requires { ⌜ (p < 128) × (tail ≤ 128) × (hit ≡ true
+        → childOf m (graph (now from) (now slot) (now way)) (at (failedOf m (graph (now from) (now slot) (now way)))) p ≡ true)
+        × Failing m (graph (now from) (now slot) (now way)) (now failed) (now left) (now gone) ⌝ }
+    ensures { λ r. ⌜ (r ≤ 128) × Failing m (graph (now (from .entry)) (now (slot .entry)) (now (way .entry))) (now (failed .exit)) (now (left .entry))
+        (now (gone .entry)) ⌝ }
 {
     if 128 <= tail {
         return tail;
@@ -98,7 +101,8 @@ fn drop_edge<'a>(
     j: usize,
 ) -> usize
     requires { ⌜ (j < m) × (tail ≤ 128) × Failing m (graph (now from) (now slot) (now way)) (now failed) (now left) (now gone) ⌝ }
-    ensures { λ r. ⌜ (r ≤ 128) × Failing m (graph (now (from .entry)) (now (slot .entry)) (now (way .entry))) (now (failed .exit)) (now (left .exit)) (now (gone .exit)) ⌝ }
+    ensures { λ r. ⌜ (r ≤ 128) × Failing m (graph (now (from .entry)) (now (slot .entry)) (now (way .entry))) (now (failed .exit)) (now (left .exit))
+        (now (gone .exit)) ⌝ }
 {
     let f = wide(from[j]);
     if !is_at(failed, f, true) {
@@ -127,8 +131,10 @@ fn drop_chain<'a>(
     tail: usize,
     first: usize,
 ) -> usize
-    requires { ⌜ (first ≤ m) × (tail ≤ 128) × ((j : ℕ) → getD (now next) j 0 ≤ j) × Failing m (graph (now from) (now slot) (now way)) (now failed) (now left) (now gone) ⌝ }
-    ensures { λ r. ⌜ (r ≤ 128) × Failing m (graph (now (from .entry)) (now (slot .entry)) (now (way .entry))) (now (failed .exit)) (now (left .exit)) (now (gone .exit)) ⌝ }
+    requires { ⌜ (first ≤ m) × (tail ≤ 128) × ((j : ℕ) → getD (now next) j 0 ≤ j)
+        × Failing m (graph (now from) (now slot) (now way)) (now failed) (now left) (now gone) ⌝ }
+    ensures { λ r. ⌜ (r ≤ 128) × Failing m (graph (now (from .entry)) (now (slot .entry)) (now (way .entry))) (now (failed .exit)) (now (left .exit))
+        (now (gone .exit)) ⌝ }
 {
     let mut t = tail;
     let mut h = first;
@@ -154,7 +160,8 @@ fn run_queue<'a>(
     queue: &'a mut [u8; 128],
     tail: usize,
 )
-    requires { ⌜ (tail ≤ 128) × Chained m (now from) (now head) (now next) × Failing m (graph (now from) (now slot) (now way)) (now failed) (now left) (now gone) ⌝ }
+    requires { ⌜ (tail ≤ 128) × Chained m (now from) (now head) (now next)
+        × Failing m (graph (now from) (now slot) (now way)) (now failed) (now left) (now gone) ⌝ }
     ensures { λ u. ⌜ Failing m (graph (now (from .entry)) (now (slot .entry)) (now (way .entry))) (now (failed .exit)) (now (left .exit)) (now (gone .exit)) ⌝ }
 {
     let mut t = tail;
@@ -180,7 +187,8 @@ fn fail_childless<'a>(
     queue: &'a mut [u8; 128],
 ) -> usize
     requires { ⌜ (n ≤ 128) × Failing m (graph (now from) (now slot) (now way)) (now failed) (now left) (now gone) ⌝ }
-    ensures { λ r. ⌜ (r ≤ 128) × Failing m (graph (now (from .entry)) (now (slot .entry)) (now (way .entry))) (now (failed .exit)) (now (left .entry)) (now (gone .entry)) ⌝ }
+    ensures { λ r. ⌜ (r ≤ 128) × Failing m (graph (now (from .entry)) (now (slot .entry)) (now (way .entry))) (now (failed .exit)) (now (left .entry))
+        (now (gone .entry)) ⌝ }
 {
     let mut t = 0;
     let mut i = 0;

@@ -37,7 +37,8 @@ fn mark<'a>(
     p: usize,
 ) -> usize
     requires { ⌜ (p < 128) × Base m (graph (now from) (now slot) (now need)) (work (now got) (now sat) (now queue) tail) ⌝ }
-    ensures { λ r. ⌜ Marked m (graph (now (from .entry)) (now (slot .entry)) (now (need .entry))) (work (now (got .entry)) (now (sat .entry)) (now (queue .entry)) tail) (work (now (got .entry)) (now (sat .exit)) (now (queue .exit)) r) p ⌝ }
+    ensures { λ r. ⌜ Marked m (graph (now (from .entry)) (now (slot .entry)) (now (need .entry)))
+        (work (now (got .entry)) (now (sat .entry)) (now (queue .entry)) tail) (work (now (got .entry)) (now (sat .exit)) (now (queue .exit)) r) p ⌝ }
 {
     if sat[p] == 1 {
         return tail;
@@ -62,8 +63,11 @@ fn bring<'a>(
     tail: usize,
     j: usize,
 ) -> usize
-    requires { ⌜ (j < m) × (flag (now sat) (getD (now from) j 0) ≡ true) × Base m (graph (now from) (now slot) (now need)) (work (now got) (now sat) (now queue) tail) × Full 128 (graph (now from) (now slot) (now need)) (work (now got) (now sat) (now queue) tail) ⌝ }
-    ensures { λ r. ⌜ Brought m (graph (now (from .entry)) (now (slot .entry)) (now (need .entry))) (work (now (got .entry)) (now (sat .entry)) (now (queue .entry)) tail) (work (now (got .exit)) (now (sat .exit)) (now (queue .exit)) r) j ⌝ }
+    requires { ⌜ (j < m) × (flag (now sat) (getD (now from) j 0) ≡ true)
+        × Base m (graph (now from) (now slot) (now need)) (work (now got) (now sat) (now queue) tail)
+        × Full 128 (graph (now from) (now slot) (now need)) (work (now got) (now sat) (now queue) tail) ⌝ }
+    ensures { λ r. ⌜ Brought m (graph (now (from .entry)) (now (slot .entry)) (now (need .entry)))
+        (work (now (got .entry)) (now (sat .entry)) (now (queue .entry)) tail) (work (now (got .exit)) (now (sat .exit)) (now (queue .exit)) r) j ⌝ }
 {
     let s = wide16(slot[j]);
     got[s] = 1;
@@ -84,8 +88,11 @@ fn visit<'a>(
     tail: usize,
     v: u8,
 ) -> usize
-    requires { ⌜ (flag (now sat) v ≡ true) × Chained m (now from) (now head) (now next) × Base m (graph (now from) (now slot) (now need)) (work (now got) (now sat) (now queue) tail) × Full 128 (graph (now from) (now slot) (now need)) (work (now got) (now sat) (now queue) tail) ⌝ }
-    ensures { λ r. ⌜ Visited m (graph (now (from .entry)) (now (slot .entry)) (now (need .entry))) (work (now (got .entry)) (now (sat .entry)) (now (queue .entry)) tail) (work (now (got .exit)) (now (sat .exit)) (now (queue .exit)) r) v 0 ⌝ }
+    requires { ⌜ (flag (now sat) v ≡ true) × Chained m (now from) (now head) (now next)
+        × Base m (graph (now from) (now slot) (now need)) (work (now got) (now sat) (now queue) tail)
+        × Full 128 (graph (now from) (now slot) (now need)) (work (now got) (now sat) (now queue) tail) ⌝ }
+    ensures { λ r. ⌜ Visited m (graph (now (from .entry)) (now (slot .entry)) (now (need .entry)))
+        (work (now (got .entry)) (now (sat .entry)) (now (queue .entry)) tail) (work (now (got .exit)) (now (sat .exit)) (now (queue .exit)) r) v 0 ⌝ }
 {
     let mut t = tail;
     let f = wide(v);
@@ -116,8 +123,10 @@ fn settle<'a>(
     tail: usize,
     first: usize,
 ) -> usize
-    requires { ⌜ Chained m (now from) (now head) (now next) × Done m (graph (now from) (now slot) (now need)) (work (now got) (now sat) (now queue) tail) first ⌝ }
-    ensures { λ r. ⌜ Done m (graph (now (from .entry)) (now (slot .entry)) (now (need .entry))) (work (now (got .exit)) (now (sat .exit)) (now (queue .exit)) r) r ⌝ }
+    requires { ⌜ Chained m (now from) (now head) (now next)
+        × Done m (graph (now from) (now slot) (now need)) (work (now got) (now sat) (now queue) tail) first ⌝ }
+    ensures { λ r. ⌜ Done m (graph (now (from .entry)) (now (slot .entry)) (now (need .entry)))
+        (work (now (got .exit)) (now (sat .exit)) (now (queue .exit)) r) r ⌝ }
 {
     let mut t = tail;
     let mut q = first;
@@ -140,7 +149,8 @@ pub fn seed<'a>(
     queue: &'a mut [u8; 128],
 ) -> usize
     requires { ⌜ (n ≤ 128) × Beyond n 5 (now need) × Base 0 (graph (now from) (now slot) (now need)) (work (now got) (now sat) (now queue) 0) ⌝ }
-    ensures { λ r. ⌜ Done 0 (graph (now (from .entry)) (now (slot .entry)) (now (need .entry))) (work (now (got .entry)) (now (sat .exit)) (now (queue .exit)) r) r ⌝ }
+    ensures { λ r. ⌜ Done 0 (graph (now (from .entry)) (now (slot .entry)) (now (need .entry)))
+        (work (now (got .entry)) (now (sat .exit)) (now (queue .exit)) r) r ⌝ }
 {
     let mut t = 0;
     let mut i = 0;
@@ -164,8 +174,11 @@ pub fn insert<'a>(
     queue: &'a mut [u8; 128],
     tail: usize,
 ) -> usize
-    requires { ⌜ (m < 256) × Chained m (now from) (now head) (now next) × Done m (graph (now from) (now slot) (now need)) (work (now got) (now sat) (now queue) tail) tail ⌝ }
-    ensures { λ r. ⌜ Chained (m + 1) (now (from .entry)) (now (head .exit)) (now (next .exit)) × Done (m + 1) (graph (now (from .entry)) (now (slot .entry)) (now (need .entry))) (work (now (got .exit)) (now (sat .exit)) (now (queue .exit)) r) r ⌝ }
+    requires { ⌜ (m < 256) × Chained m (now from) (now head) (now next)
+        × Done m (graph (now from) (now slot) (now need)) (work (now got) (now sat) (now queue) tail) tail ⌝ }
+    ensures { λ r. ⌜ Chained (m + 1) (now (from .entry)) (now (head .exit)) (now (next .exit))
+        × Done (m + 1) (graph (now (from .entry)) (now (slot .entry)) (now (need .entry)))
+        (work (now (got .exit)) (now (sat .exit)) (now (queue .exit)) r) r ⌝ }
 {
     link(m, from, head, next);
     let f = wide(from[m]);

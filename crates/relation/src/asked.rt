@@ -82,8 +82,10 @@ fn asked_body<'a>(
     i: usize,
     old: Four,
 ) -> Four
-    requires { ⌜ (i < 128) × (old ≡ fourRows (rowOf (poolOf n (now heads) (now kinds) (now numbers))) (bodyAt (poolOf n (now heads) (now kinds) (now numbers)) i)) ⌝ }
-    ensures { λ r. ⌜ r ≡ fourRows (rowFor (poolOf n (now (heads .entry)) (now (kinds .entry)) (now (numbers .entry))) e) (bodyAt (poolOf n (now (heads .entry)) (now (kinds .entry)) (now (numbers .entry))) i) ⌝ }
+    requires { ⌜ (i < 128) × (old ≡ fourRows (rowOf (poolOf n (now heads) (now kinds) (now numbers)))
+        (bodyAt (poolOf n (now heads) (now kinds) (now numbers)) i)) ⌝ }
+    ensures { λ r. ⌜ r ≡ fourRows (rowFor (poolOf n (now (heads .entry)) (now (kinds .entry)) (now (numbers .entry))) e)
+        (bodyAt (poolOf n (now (heads .entry)) (now (kinds .entry)) (now (numbers .entry))) i) ⌝ }
 {
     if (old.a != 128) & ((old.b != 128) & ((old.c != 128) & (old.d != 128))) {
         return old;
@@ -109,7 +111,8 @@ pub fn asked_parts<'a>(
     e: Expression,
 ) -> [usize; 512]
     requires { ⌜ (n ≤ 128) × PartsTo (rowOf (poolOf n (now heads) (now kinds) (now numbers))) (poolOf n (now heads) (now kinds) (now numbers)) n (now part) ⌝ }
-    ensures { λ r. ⌜ PartsTo (rowFor (poolOf n (now (heads .entry)) (now (kinds .entry)) (now (numbers .entry))) e) (poolOf n (now (heads .entry)) (now (kinds .entry)) (now (numbers .entry))) n r ⌝ }
+    ensures { λ r. ⌜ PartsTo (rowFor (poolOf n (now (heads .entry)) (now (kinds .entry)) (now (numbers .entry))) e)
+        (poolOf n (now (heads .entry)) (now (kinds .entry)) (now (numbers .entry))) n r ⌝ }
 {
     let mut next = [128usize; 512];
     let mut i = 0;

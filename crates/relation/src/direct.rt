@@ -22,7 +22,8 @@ pub fn seed<'a>(
     i: usize,
     rows: &'a mut [u64; 260],
 )
-    requires { ⌜ (n ≤ 128) × (i < n) × Column (headRow (poolOf n (now heads) (now kinds) (now numbers))) 128 130 n (now head) × BodiesIn (poolOf n (now heads) (now kinds) (now numbers)) n (now body) × (length (now rows) ≡ 260) ⌝ }
+    requires { ⌜ (n ≤ 128) × (i < n) × Column (headRow (poolOf n (now heads) (now kinds) (now numbers))) 128 130 n (now head)
+        × BodiesIn (poolOf n (now heads) (now kinds) (now numbers)) n (now body) × (length (now rows) ≡ 260) ⌝ }
     ensures { λ _. ⌜ Seeded (poolOf n (now (heads .entry)) (now (kinds .entry)) (now (numbers .entry))) i (now (rows .entry)) (now (rows .exit)) ⌝ }
 {
     if kinds[i * 2] != 1 {

@@ -55,7 +55,8 @@ fn meet_from<'a>(
     p: Parts,
 ) -> bool
     requires { ⌜ (n ≤ 128) × (z < 128) × Answers (poolOf n (now heads) (now kinds) (now numbers)) (now on) e z (now vals) ⌝ }
-    ensures { λ r. ⌜ r ≡ fromOf (chosen (poolOf n (now (heads .entry)) (now (kinds .entry)) (now (numbers .entry))) (now (on .entry))) (Expression.Intersection p) e ⌝ }
+    ensures { λ r. ⌜ r ≡ fromOf (chosen (poolOf n (now (heads .entry)) (now (kinds .entry)) (now (numbers .entry))) (now (on .entry)))
+        (Expression.Intersection p) e ⌝ }
 {
     if same(Expression::Intersection(p), e) {
         return true;
@@ -117,7 +118,8 @@ fn leads_on<'a>(
     m: u16,
 ) -> bool
     requires { ⌜ (n ≤ 128) × (z < 128) × (r < 130) ⌝ }
-    ensures { λ b. ⌜ b ≡ anyTo n (leadsAt (poolOf n (now (heads .entry)) (now (kinds .entry)) (now (numbers .entry))) (now (mem .entry)) (now (vals .entry)) z r m) ⌝ }
+    ensures { λ b. ⌜ b ≡ anyTo n (leadsAt (poolOf n (now (heads .entry)) (now (kinds .entry)) (now (numbers .entry))) (now (mem .entry))
+        (now (vals .entry)) z r m) ⌝ }
 {
     let mut body = [0u64; 260];
     note_bodies(n, heads, kinds, numbers, &mut body);
@@ -145,8 +147,10 @@ fn link_from<'a>(
     a: Role,
     m: u16,
 ) -> bool
-    requires { ⌜ (n ≤ 128) × (z < 128) × Relation (poolOf n (now heads) (now kinds) (now numbers)) (now on) (now mem) × Answers (poolOf n (now heads) (now kinds) (now numbers)) (now on) e z (now vals) ⌝ }
-    ensures { λ r. ⌜ r ≡ fromOf (chosen (poolOf n (now (heads .entry)) (now (kinds .entry)) (now (numbers .entry))) (now (on .entry))) (Expression.Linked a m) e ⌝ }
+    requires { ⌜ (n ≤ 128) × (z < 128) × Relation (poolOf n (now heads) (now kinds) (now numbers)) (now on) (now mem)
+        × Answers (poolOf n (now heads) (now kinds) (now numbers)) (now on) e z (now vals) ⌝ }
+    ensures { λ r. ⌜ r ≡ fromOf (chosen (poolOf n (now (heads .entry)) (now (kinds .entry)) (now (numbers .entry))) (now (on .entry)))
+        (Expression.Linked a m) e ⌝ }
 {
     let r = row(n, heads, kinds, numbers, a);
     if once(
@@ -177,7 +181,8 @@ pub fn by_form<'a>(
     f: Expression,
     e: Expression,
 ) -> bool
-    requires { ⌜ (n ≤ 128) × (z < 128) × Relation (poolOf n (now heads) (now kinds) (now numbers)) (now on) (now mem) × Answers (poolOf n (now heads) (now kinds) (now numbers)) (now on) e z (now vals) ⌝ }
+    requires { ⌜ (n ≤ 128) × (z < 128) × Relation (poolOf n (now heads) (now kinds) (now numbers)) (now on) (now mem)
+        × Answers (poolOf n (now heads) (now kinds) (now numbers)) (now on) e z (now vals) ⌝ }
     ensures { λ r. ⌜ r ≡ fromOf (chosen (poolOf n (now (heads .entry)) (now (kinds .entry)) (now (numbers .entry))) (now (on .entry))) f e ⌝ }
 {
     match f {

@@ -45,7 +45,8 @@ pub fn relation<'a>(
     deps: &'a [u64; 260],
     on: &'a [u8; 128],
 ) -> [u64; 260]
-    requires { ⌜ (n ≤ 128) × Ruled (poolOf n (now heads) (now kinds) (now numbers)) (rulesOf n words (now head) (now part) (now first) (now named) (now src)) ⌝ }
+    requires { ⌜ (n ≤ 128) × Ruled (poolOf n (now heads) (now kinds) (now numbers))
+        (rulesOf n words (now head) (now part) (now first) (now named) (now src)) ⌝ }
     ensures { λ r. ⌜ Relation (poolOf n (now (heads .entry)) (now (kinds .entry)) (now (numbers .entry))) (now (on .entry)) r ⌝ }
 {
     let mut rows = seeds(n, heads, kinds, numbers, head, on);
@@ -87,7 +88,9 @@ pub fn switch_on<'a>(
     on: &'a mut [u8; 128],
     rows: &'a mut [u64; 260],
 )
-    requires { ⌜ (n ≤ 128) × (i < n) × Ruled (poolOf n (now heads) (now kinds) (now numbers)) (rulesOf n words (now head) (now part) (now first) (now named) (now src)) × (length (now on) ≡ 128) × Relation (poolOf n (now heads) (now kinds) (now numbers)) (now on) (now rows) ⌝ }
+    requires { ⌜ (n ≤ 128) × (i < n) × Ruled (poolOf n (now heads) (now kinds) (now numbers))
+        (rulesOf n words (now head) (now part) (now first) (now named) (now src)) × (length (now on) ≡ 128)
+        × Relation (poolOf n (now heads) (now kinds) (now numbers)) (now on) (now rows) ⌝ }
     ensures switched { λ _. ⌜ now (on .exit) ≡ set (now (on .entry)) i 1 ⌝ }
     ensures related { λ _. ⌜ Relation (poolOf n (now (heads .entry)) (now (kinds .entry)) (now (numbers .entry))) (now (on .exit)) (now (rows .exit)) ⌝ }
 {
@@ -126,7 +129,8 @@ fn by_entity<'a>(
     b: u16,
 ) -> bool
     requires { ⌜ (n ≤ 128) × Relation (poolOf n (now heads) (now kinds) (now numbers)) (now on) (now mem) ⌝ }
-    ensures { λ r. ⌜ r ≡ fromOf (chosen (poolOf n (now (heads .entry)) (now (kinds .entry)) (now (numbers .entry))) (now (on .entry))) f (Expression.Entity b) ⌝ }
+    ensures { λ r. ⌜ r ≡ fromOf (chosen (poolOf n (now (heads .entry)) (now (kinds .entry)) (now (numbers .entry))) (now (on .entry))) f
+        (Expression.Entity b) ⌝ }
 {
     let s = source(n, heads, kinds, numbers, b);
     if s >= 128 {
@@ -158,7 +162,8 @@ pub fn in_column<'a>(
     f: Expression,
     e: Expression,
 ) -> bool
-    requires { ⌜ (n ≤ 128) × Relation (poolOf n (now heads) (now kinds) (now numbers)) (now on) (now mem) × Answers (poolOf n (now heads) (now kinds) (now numbers)) (now on) e 0 (now vals) ⌝ }
+    requires { ⌜ (n ≤ 128) × Relation (poolOf n (now heads) (now kinds) (now numbers)) (now on) (now mem)
+        × Answers (poolOf n (now heads) (now kinds) (now numbers)) (now on) e 0 (now vals) ⌝ }
     ensures { λ r. ⌜ r ≡ fromOf (chosen (poolOf n (now (heads .entry)) (now (kinds .entry)) (now (numbers .entry))) (now (on .entry))) f e ⌝ }
 {
     by_form(n, heads, kinds, numbers, on, mem, vals, 0, f, e)
@@ -182,7 +187,9 @@ pub fn ask<'a>(
     f: Expression,
     e: Expression,
 ) -> bool
-    requires { ⌜ (n ≤ 128) × Ruled (poolOf n (now heads) (now kinds) (now numbers)) (rulesOf n words (now head) (now part) (now first) (now named) (now src)) × Relation (poolOf n (now heads) (now kinds) (now numbers)) (now on) (now mem) ⌝ }
+    requires { ⌜ (n ≤ 128) × Ruled (poolOf n (now heads) (now kinds) (now numbers))
+        (rulesOf n words (now head) (now part) (now first) (now named) (now src))
+        × Relation (poolOf n (now heads) (now kinds) (now numbers)) (now on) (now mem) ⌝ }
     ensures { λ r. ⌜ r ≡ fromOf (chosen (poolOf n (now (heads .entry)) (now (kinds .entry)) (now (numbers .entry))) (now (on .entry))) f e ⌝ }
 {
     if let Expression::Entity(b) = e {

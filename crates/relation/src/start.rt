@@ -129,8 +129,10 @@ fn leads_to<'a>(
     s: usize,
     i: usize,
 ) -> bool
-    requires { ⌜ (n ≤ 128) × (i < n) × Column (bodyFirst (poolOf n (now heads) (now kinds) (now numbers))) 128 130 n (now first) × (m ≡ rawOf e .n1) × (s ≡ ownBit (poolOf n (now heads) (now kinds) (now numbers)) e) ⌝ }
-    ensures { λ r. ⌜ r ≡ ownLink (poolOf n (now (heads .entry)) (now (kinds .entry)) (now (numbers .entry))) (now (rows .entry)) e (bodyAt (poolOf n (now (heads .entry)) (now (kinds .entry)) (now (numbers .entry))) i) ⌝ }
+    requires { ⌜ (n ≤ 128) × (i < n) × Column (bodyFirst (poolOf n (now heads) (now kinds) (now numbers))) 128 130 n (now first) × (m ≡ rawOf e .n1)
+        × (s ≡ ownBit (poolOf n (now heads) (now kinds) (now numbers)) e) ⌝ }
+    ensures { λ r. ⌜ r ≡ ownLink (poolOf n (now (heads .entry)) (now (kinds .entry)) (now (numbers .entry))) (now (rows .entry)) e
+        (bodyAt (poolOf n (now (heads .entry)) (now (kinds .entry)) (now (numbers .entry))) i) ⌝ }
 {
     if kinds[i * 2] != 3 {
         return false;
@@ -186,7 +188,8 @@ fn starts<'a>(
     s: usize,
     i: usize,
 ) -> bool
-    requires { ⌜ (n ≤ 128) × (i < n) × Column (bodyFirst (poolOf n (now heads) (now kinds) (now numbers))) 128 130 n (now first) × (raw ≡ rawOf e) × (s ≡ ownBit (poolOf n (now heads) (now kinds) (now numbers)) e) ⌝ }
+    requires { ⌜ (n ≤ 128) × (i < n) × Column (bodyFirst (poolOf n (now heads) (now kinds) (now numbers))) 128 130 n (now first) × (raw ≡ rawOf e)
+        × (s ≡ ownBit (poolOf n (now heads) (now kinds) (now numbers)) e) ⌝ }
     ensures { λ r. ⌜ r ≡ startsAt (poolOf n (now (heads .entry)) (now (kinds .entry)) (now (numbers .entry))) (now (on .entry)) (now (rows .entry)) e i ⌝ }
 {
     if on[i] != 1 {
@@ -222,8 +225,11 @@ pub fn asked<'a>(
     e: Expression,
     rows: &'a mut [u64; 260],
 ) -> Dirty
-    requires { ⌜ (n ≤ 128) × Column (headRow (poolOf n (now heads) (now kinds) (now numbers))) 128 130 n (now head) × Column (bodyFirst (poolOf n (now heads) (now kinds) (now numbers))) 128 130 n (now first) × Relation (poolOf n (now heads) (now kinds) (now numbers)) (now on) (now mem) × (now rows ≡ replicate 260 0) ⌝ }
-    ensures { λ _. ⌜ Asked (poolOf n (now (heads .entry)) (now (kinds .entry)) (now (numbers .entry))) (now (on .entry)) (now (mem .entry)) e (now (rows .exit)) ⌝ }
+    requires { ⌜ (n ≤ 128) × Column (headRow (poolOf n (now heads) (now kinds) (now numbers))) 128 130 n (now head)
+        × Column (bodyFirst (poolOf n (now heads) (now kinds) (now numbers))) 128 130 n (now first)
+        × Relation (poolOf n (now heads) (now kinds) (now numbers)) (now on) (now mem) × (now rows ≡ replicate 260 0) ⌝ }
+    ensures { λ _. ⌜ Asked (poolOf n (now (heads .entry)) (now (kinds .entry)) (now (numbers .entry))) (now (on .entry)) (now (mem .entry)) e
+        (now (rows .exit)) ⌝ }
 {
     let raw = raw_of(e);
     let s = own_source(n, heads, kinds, numbers, e);

@@ -55,11 +55,20 @@ meet = (roleOf 1 1 ← both (roleOf 2 2) (roleOf 3 3)) ∷ (roleOf 2 2 ← E.Ent
 
 -- "Studio 3 .. has 0x12 3.1←4.3 and 0x13 1.2←3"
 abbrev studio : Tables
-studio = record { own = 3; names = names; issuerStored = (roleOf 3 1 ← E.Role (roleOf 4 3)) ∷ []; subjectStored = (roleOf 1 2 ← E.Entity 3) ∷ []; sensitive = []; access = [] }
+studio =
+    record {
+      own = 3;
+      names = names;
+      issuerStored = (roleOf 3 1 ← E.Role (roleOf 4 3)) ∷ [];
+      subjectStored = (roleOf 1 2 ← E.Entity 3) ∷ [];
+      sensitive = [];
+      access = [];
+    }
 
 -- "House has 0x13 4.3←2, 4.3 sensitive, Ack 1.2, no AC"; (j) "House without 4.3←2"
 abbrev house : List Credential → Tables
-house held = record { own = 2; names = names; issuerStored = []; subjectStored = held; sensitive = record { role = roleOf 4 3; other = roleOf 1 2 } ∷ []; access = [] }
+house held =
+    record { own = 2; names = names; issuerStored = []; subjectStored = held; sensitive = record { role = roleOf 4 3; other = roleOf 1 2 } ∷ []; access = [] }
 
 -- a message as both ends see it: its length, whether each of its commands is a legal update at the end that takes it, and the end and the nodes there
 -- afterwards

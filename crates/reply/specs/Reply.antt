@@ -45,11 +45,13 @@ withMove next S cs (c ∷ ms) =
 -- "The reply stops when no move remains, the primary is satisfied, .." The first number is at least that of the moves bufferAfter.
 unfoldable pub replyFrom : ℕ → Tables → State → List Command → Replied
 replyFrom zero T S cs = stopped cs S false
-replyFrom (suc f) T S cs = cond (eqb (propagated (S .nodes) (S .edges) 0) 1) (stopped cs S false) (withMove (λ U ds. replyFrom f T U ds) S cs (nextMove (endIn T S)))
+replyFrom (suc f) T S cs =
+    cond (eqb (propagated (S .nodes) (S .edges) 0) 1) (stopped cs S false) (withMove (λ U ds. replyFrom f T U ds) S cs (nextMove (endIn T S)))
 
 -- "The mediator's first reply starts with open"
 abbrev pub opening : Tables → State → List Command
-opening T S = cond (eqb (length (S .nodes)) 0) (Open (record { role = S .header .wanted; state = initialState (T .names) true (E.Role (S .header .wanted)) }) ∷ []) []
+opening T S =
+    cond (eqb (length (S .nodes)) 0) (Open (record { role = S .header .wanted; state = initialState (T .names) true (E.Role (S .header .wanted)) }) ∷ []) []
 
 -- a move has two bytes or more, so there are fewer than 4,096
 unfoldable pub replyIn : Tables → State → Replied

@@ -17,7 +17,6 @@ use negotiation::write_zeros;
 use numbers::ENDED;
 use numbers::LEAST_REPLY_BYTES;
 use numbers::LENGTH;
-use numbers::MOST_MESSAGE_BYTES;
 use numbers::SCRATCH_BYTES;
 use numbers::TURN;
 use sending::prepare;
@@ -103,9 +102,12 @@ fn replied_in(house: House, n: Negotiation, s: &mut [u8]) -> Replying
 // The negotiation goes on by our reply, which is written into its buffer: 256 times its length, or a refusal number, and then nothing changes.
 pub fn reply(tables: &[u8], negotiation: &mut [u8], reply: &mut [u8], scratch: &mut [u8]) -> u64
     ensures answered { λ r. ⌜ r ≡ answerOf lengthOf (replyOf (now (tables .entry)) (now (negotiation .entry)) (now (reply .entry)) (now (scratch .entry))) ⌝ }
-    ensures left { λ _. ⌜ now (negotiation .exit) ≡ bufferAfter givenState (now (negotiation .entry)) (replyOf (now (tables .entry)) (now (negotiation .entry)) (now (reply .entry)) (now (scratch .entry))) ⌝ }
-    ensures written { λ _. ⌜ now (reply .exit) ≡ replyLeft (now (reply .entry)) (replyOf (now (tables .entry)) (now (negotiation .entry)) (now (reply .entry)) (now (scratch .entry))) ⌝ }
-    ensures cleared { λ _. ⌜ now (scratch .exit) ≡ scratchLeft (now (scratch .entry)) (replyOf (now (tables .entry)) (now (negotiation .entry)) (now (reply .entry)) (now (scratch .entry))) ⌝ }
+    ensures left { λ _. ⌜ now (negotiation .exit) ≡ bufferAfter givenState (now (negotiation .entry))
+        (replyOf (now (tables .entry)) (now (negotiation .entry)) (now (reply .entry)) (now (scratch .entry))) ⌝ }
+    ensures written { λ _. ⌜ now (reply .exit) ≡ replyLeft (now (reply .entry))
+        (replyOf (now (tables .entry)) (now (negotiation .entry)) (now (reply .entry)) (now (scratch .entry))) ⌝ }
+    ensures cleared { λ _. ⌜ now (scratch .exit) ≡ scratchLeft (now (scratch .entry))
+        (replyOf (now (tables .entry)) (now (negotiation .entry)) (now (reply .entry)) (now (scratch .entry))) ⌝ }
 {
     if !fits(reply.len(), scratch.len()) {
         return LENGTH;

@@ -98,7 +98,8 @@ fn credential_of(pool: Pool, k: usize) -> Credential
 
 // Credential k of a pool is written and shown, if its flag is on.
 fn show_at(s: &mut [u8], at: usize, n: Negotiation, pool: Pool, flag: u8, k: usize) -> Negotiation
-    requires { ⌜ (k < 128) × (hasRoomFor 0 (stateOf n) (shows (onAt pool flag k)) ≡ true) × (at + length (bytesOf (shows (onAt pool flag k))) ≤ length (now s)) ⌝ }
+    requires { ⌜ (k < 128) × (hasRoomFor 0 (stateOf n) (shows (onAt pool flag k)) ≡ true)
+        × (at + length (bytesOf (shows (onAt pool flag k))) ≤ length (now s)) ⌝ }
     ensures shown { λ r. ⌜ stateOf r ≡ carried 0 (stateOf n) (shows (onAt pool flag k)) ⌝ }
     ensures written { λ _. ⌜ now (s .exit) ≡ pasted (now (s .entry)) at (bytesOf (shows (onAt pool flag k))) ⌝ }
 {
@@ -112,7 +113,8 @@ fn show_at(s: &mut [u8], at: usize, n: Negotiation, pool: Pool, flag: u8, k: usi
 
 // All that are on.
 fn show_all(s: &mut [u8], from: usize, start: Negotiation, pool: Pool, on: [u8; 128]) -> Negotiation
-    requires { ⌜ (pool .count ≤ 128) × (hasRoomFor 0 (stateOf start) (shows (chosen pool on)) ≡ true) × (from + length (bytesOf (shows (chosen pool on))) ≤ 4096) × (4096 ≤ length (now s)) ⌝ }
+    requires { ⌜ (pool .count ≤ 128) × (hasRoomFor 0 (stateOf start) (shows (chosen pool on)) ≡ true)
+        × (from + length (bytesOf (shows (chosen pool on))) ≤ 4096) × (4096 ≤ length (now s)) ⌝ }
     ensures shown { λ r. ⌜ stateOf r ≡ carried 0 (stateOf start) (shows (chosen pool on)) ⌝ }
     ensures written { λ _. ⌜ now (s .exit) ≡ pasted (now (s .entry)) from (bytesOf (shows (chosen pool on))) ⌝ }
 {
@@ -131,7 +133,8 @@ fn show_all(s: &mut [u8], from: usize, start: Negotiation, pool: Pool, on: [u8; 
 
 // A move is written from an index, and the negotiation goes on by it.
 pub fn carry(s: &mut [u8], at: usize, n: Negotiation, out: Outgoing) -> Negotiation
-    requires { ⌜ (within (stateOf n) ≡ true) × (out .pool .count ≤ 128) × (hasRoomFor (n .header .side) (stateOf n) (commandsOf out) ≡ true) × (at + length (bytesOf (commandsOf out)) ≤ 4096) × (4096 ≤ length (now s)) ⌝ }
+    requires { ⌜ (within (stateOf n) ≡ true) × (out .pool .count ≤ 128) × (hasRoomFor (n .header .side) (stateOf n) (commandsOf out) ≡ true)
+        × (at + length (bytesOf (commandsOf out)) ≤ 4096) × (4096 ≤ length (now s)) ⌝ }
     ensures led { λ r. ⌜ stateOf r ≡ carried (n .header .side) (stateOf n) (commandsOf out) ⌝ }
     ensures written { λ _. ⌜ now (s .exit) ≡ pasted (now (s .entry)) at (bytesOf (commandsOf out)) ⌝ }
 {

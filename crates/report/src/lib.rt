@@ -11,6 +11,7 @@ ghost use Rattle.negotiation.specs.laws.State.{stateOf};
 ghost use Rattle.report.specs.laws.Report.{numbered};
 ghost use Rattle.report.specs.Report.{reportOn, reportOf, packed};
 ghost use Rattle.numbers.specs.Answer.{answerOf};
+ghost use Rattle.numbers.specs.Sizes.{MOST-NODES, MOST-EDGES, MOST-SHOWN};
 
 fn wide(x: u8) -> u64
     ensures { λ r. ⌜ (r ≡ x) × (r < 256) ⌝ }
@@ -53,7 +54,8 @@ fn pack(
 
 // What is reported on node i, in one number.
 fn report_on(n: Negotiation, i: usize) -> u64
-    requires { ⌜ (i < n .nodes .count) × (n .nodes .count ≤ 128) × (n .edges .count ≤ 256) × (n .shown .count ≤ 64) × NodesFormed (nodesOf (n .nodes)) × EdgesFormed (nodesOf (n .nodes)) (edgesOf (n .edges)) ⌝ }
+    requires { ⌜ (i < n .nodes .count) × (n .nodes .count ≤ MOST-NODES) × (n .edges .count ≤ MOST-EDGES) × (n .shown .count ≤ MOST-SHOWN)
+        × NodesFormed (nodesOf (n .nodes)) × EdgesFormed (nodesOf (n .nodes)) (edgesOf (n .edges)) ⌝ }
     ensures { λ r. ⌜ (r ≡ packed (reportOn (stateOf n) i)) × (r < 36028797018963968) ⌝ }
 {
     let h = n.header;

@@ -61,7 +61,8 @@ pub fn store<'a>(
     c: Credential,
 )
     requires { ⌜ (i < 128) × Sized (poolOf i (now heads) (now kinds) (now numbers)) ⌝ }
-    ensures { λ _. ⌜ Stored i c (poolOf i (now (heads .entry)) (now (kinds .entry)) (now (numbers .entry))) (poolOf (i + 1) (now (heads .exit)) (now (kinds .exit)) (now (numbers .exit))) ⌝ }
+    ensures { λ _. ⌜ Stored i c (poolOf i (now (heads .entry)) (now (kinds .entry)) (now (numbers .entry)))
+        (poolOf (i + 1) (now (heads .exit)) (now (kinds .exit)) (now (numbers .exit))) ⌝ }
 {
     let head = c.head;
     let body = c.body;

@@ -257,7 +257,8 @@ fn part_rows<'a>(
     name: &'a [u64; 260],
 ) -> [usize; 512]
     requires { ⌜ (n ≤ 128) × HeadsIn (poolOf n (now heads) (now kinds) (now numbers)) n (now entity) (now name) ⌝ }
-    ensures { λ r. ⌜ PartsTo (rowOf (poolOf n (now (heads .entry)) (now (kinds .entry)) (now (numbers .entry)))) (poolOf n (now (heads .entry)) (now (kinds .entry)) (now (numbers .entry))) n r ⌝ }
+    ensures { λ r. ⌜ PartsTo (rowOf (poolOf n (now (heads .entry)) (now (kinds .entry)) (now (numbers .entry))))
+        (poolOf n (now (heads .entry)) (now (kinds .entry)) (now (numbers .entry))) n r ⌝ }
 {
     let mut part = [128usize; 512];
     let mut i = 0;

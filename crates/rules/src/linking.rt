@@ -58,7 +58,8 @@ fn link_source<'a>(
     body: &'a [u64; 260],
     j: usize,
 ) -> usize
-    requires { ⌜ (n ≤ 128) × (j < n) × Column (headRow (poolOf n (now heads) (now kinds) (now numbers))) 128 130 n (now head) × BodiesIn (poolOf n (now heads) (now kinds) (now numbers)) n (now body) ⌝ }
+    requires { ⌜ (n ≤ 128) × (j < n) × Column (headRow (poolOf n (now heads) (now kinds) (now numbers))) 128 130 n (now head)
+        × BodiesIn (poolOf n (now heads) (now kinds) (now numbers)) n (now body) ⌝ }
     ensures { λ r. ⌜ r ≡ linkSource (poolOf n (now (heads .entry)) (now (kinds .entry)) (now (numbers .entry))) j ⌝ }
 {
     if head[j] != j {
@@ -126,7 +127,8 @@ fn name_row<'a>(
     named: &'a mut [u64; 260],
 )
     requires { ⌜ (n ≤ 128) × (i < 128) × (length (now named) ≡ 260) ⌝ }
-    ensures { λ _. ⌜ NamedRow (poolOf n (now (heads .entry)) (now (kinds .entry)) (now (numbers .entry))) (now (able .entry)) i m n (now (named .entry)) (now (named .exit)) ⌝ }
+    ensures { λ _. ⌜ NamedRow (poolOf n (now (heads .entry)) (now (kinds .entry)) (now (numbers .entry))) (now (able .entry)) i m n
+        (now (named .entry)) (now (named .exit)) ⌝ }
 {
     let mut j = 0;
     while j < n {
@@ -149,7 +151,8 @@ pub fn name_link<'a>(
     named: &'a mut [u64; 260],
 )
     requires { ⌜ (n ≤ 128) × (i < 128) × (length (now named) ≡ 260) ⌝ }
-    ensures { λ _. ⌜ NamedLink (poolOf n (now (heads .entry)) (now (kinds .entry)) (now (numbers .entry))) (now (able .entry)) i n x (now (named .entry)) (now (named .exit)) ⌝ }
+    ensures { λ _. ⌜ NamedLink (poolOf n (now (heads .entry)) (now (kinds .entry)) (now (numbers .entry))) (now (able .entry)) i n x
+        (now (named .entry)) (now (named .exit)) ⌝ }
 {
     match x {
         Expression::Entity(_) => {}
@@ -203,7 +206,8 @@ fn name_next<'a>(
     i: usize,
     named: &'a mut [u64; 260],
 )
-    requires { ⌜ (n ≤ 128) × (i < n) × (k < 128) × (hasLink (poolOf n (now heads) (now kinds) (now numbers)) i ≡ true) × NamesTo (poolOf n (now heads) (now kinds) (now numbers)) (now able) i (now named) ⌝ }
+    requires { ⌜ (n ≤ 128) × (i < n) × (k < 128) × (hasLink (poolOf n (now heads) (now kinds) (now numbers)) i ≡ true)
+        × NamesTo (poolOf n (now heads) (now kinds) (now numbers)) (now able) i (now named) ⌝ }
     ensures { λ _. ⌜ NamesTo (poolOf n (now (heads .entry)) (now (kinds .entry)) (now (numbers .entry))) (now (able .entry)) (i + 1) (now (named .exit)) ⌝ }
 {
     if same_link(n, heads, kinds, numbers, k, i) {

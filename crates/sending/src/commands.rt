@@ -13,10 +13,11 @@ ghost use Rattle.class.specs.laws.Names.{namesOf, Ascending};
 ghost use Rattle.graph.specs.laws.Graph.{nodesOf};
 ghost use Rattle.moves.specs.Candidates.{childNumber};
 ghost use Rattle.sending.specs.laws.Sent.{commandFor};
+ghost use Rattle.numbers.specs.Sizes.{MOST-NAMES, MOST-NODES};
 
 // The number of the wanted child, or 128.
 fn child_number(nodes: Nodes, w: Candidate) -> usize
-    requires { ⌜ nodes .count ≤ 128 ⌝ }
+    requires { ⌜ nodes .count ≤ MOST-NODES ⌝ }
     ensures { λ r. ⌜ r ≡ childNumber (nodesOf nodes) w ⌝ }
 {
     let expression = w.expression;
@@ -43,7 +44,7 @@ fn child_number(nodes: Nodes, w: Candidate) -> usize
 
 // An old child is joined to node i, a new one brought.
 pub fn edge_command(names: Names, side: u8, nodes: Nodes, i: u8, w: Candidate) -> Command
-    requires { ⌜ (names .count ≤ 64) × Ascending (names .count) (names .name) × (nodes .count ≤ 128) ⌝ }
+    requires { ⌜ (names .count ≤ MOST-NAMES) × Ascending (names .count) (names .name) × (nodes .count ≤ MOST-NODES) ⌝ }
     ensures { λ r. ⌜ r ≡ commandFor (namesOf names) side (nodesOf nodes) i w ⌝ }
 {
     let j = child_number(nodes, w);

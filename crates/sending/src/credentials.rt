@@ -22,6 +22,7 @@ ghost use Rattle.tables.specs.Public.{publicOf};
 ghost use Rattle.moves.specs.laws.Own.{Prepared};
 ghost use Rattle.sending.specs.laws.Unshown.{unshownOf};
 ghost use Rattle.sending.specs.laws.Sent.{Sends, directIn, sideSetOf};
+ghost use Rattle.numbers.specs.Sizes.{MOST-SHOWN};
 
 // A command alone.
 pub fn alone(command: Command) -> Outgoing
@@ -36,7 +37,7 @@ pub fn alone(command: Command) -> Outgoing
 
 // One credential, unless shown.
 fn with_one(shown: Pool, c: Credential, command: Command) -> Outgoing
-    requires { ⌜ shown .count ≤ 64 ⌝ }
+    requires { ⌜ shown .count ≤ MOST-SHOWN ⌝ }
     ensures { λ r. ⌜ Sends (unshownOf (credentials shown) (c ∷ [])) command r ⌝ }
 {
     if is_shown(shown.count, &shown.heads, &shown.kinds, &shown.numbers, c) {
@@ -52,7 +53,7 @@ fn with_one(shown: Pool, c: Credential, command: Command) -> Outgoing
 
 // The direct credential of a role, unless shown. The rule that asks for it has looked whether we hold it.
 pub fn direct_for(own: u16, shown: Pool, f: Expression, command: Command) -> Outgoing
-    requires { ⌜ shown .count ≤ 64 ⌝ }
+    requires { ⌜ shown .count ≤ MOST-SHOWN ⌝ }
     ensures { λ r. ⌜ Sends (directIn (credentials shown) own f) command r ⌝ }
 {
     match f {
@@ -81,7 +82,7 @@ fn needed_of(
     e: Expression,
     command: Command,
 ) -> Outgoing
-    requires { ⌜ (shown .count ≤ 64) × (set .count ≤ 64) ⌝ }
+    requires { ⌜ (shown .count ≤ MOST-SHOWN) × (set .count ≤ 64) ⌝ }
     ensures { λ r. ⌜ Sends (neededOf (credentials shown) f e (unshownOf (credentials shown) (chosen set on))) command r ⌝ }
 {
     let pool = own_pool(shown, set.count, &set.heads, &set.kinds, &set.numbers, &on);
@@ -131,8 +132,9 @@ pub fn needed_for(
     e: Expression,
     command: Command,
 ) -> Outgoing
-    requires { ⌜ Prepared own × (shown .count ≤ 64) ⌝ }
-    ensures { λ r. ⌜ Sends (neededOf (credentials shown) (x .expression) e (unshownOf (credentials shown) (sideSetOf (publicOf (tablesOf (own .house))) side x))) command r ⌝ }
+    requires { ⌜ Prepared own × (shown .count ≤ MOST-SHOWN) ⌝ }
+    ensures { λ r. ⌜ Sends (neededOf (credentials shown) (x .expression) e
+        (unshownOf (credentials shown) (sideSetOf (publicOf (tablesOf (own .house))) side x))) command r ⌝ }
 {
     let f = x.expression;
     if x.verifier == side {

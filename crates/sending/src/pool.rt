@@ -15,6 +15,7 @@ ghost use Rattle.rules.specs.laws.Table.{chosen};
 ghost use Rattle.sending.specs.laws.Unshown.{unshownOf, isNew};
 ghost use Rattle.sending.specs.laws.Behind.{StoredIf};
 ghost use Rattle.sending.specs.laws.Relevant.{Selected, PartOf};
+ghost use Rattle.numbers.specs.Sizes.{MOST-SHOWN};
 
 // A pool, the first credentials of which are shown.
 pub struct Part {
@@ -67,7 +68,8 @@ fn store_if<'a>(
     c: Credential,
 ) -> usize
     requires { ⌜ (k < 128) × Sized (poolOf k (now heads) (now kinds) (now numbers)) ⌝ }
-    ensures { λ r. ⌜ StoredIf new c (poolOf k (now (heads .entry)) (now (kinds .entry)) (now (numbers .entry))) (poolOf r (now (heads .exit)) (now (kinds .exit)) (now (numbers .exit))) ⌝ }
+    ensures { λ r. ⌜ StoredIf new c (poolOf k (now (heads .entry)) (now (kinds .entry)) (now (numbers .entry)))
+        (poolOf r (now (heads .exit)) (now (kinds .exit)) (now (numbers .exit))) ⌝ }
 {
     if !new {
         return k;
@@ -85,9 +87,10 @@ pub fn own_pool<'a>(
     numbers: &'a [u16; 1024],
     on: &'a [u8; 128],
 ) -> Pool
-    requires { ⌜ (shown .count ≤ 64) × (m ≤ 64) ⌝ }
+    requires { ⌜ (shown .count ≤ MOST-SHOWN) × (m ≤ 64) ⌝ }
     ensures few { λ r. ⌜ r .count ≤ 128 ⌝ }
-    ensures all { λ r. ⌜ credentials r ≡ credentials shown ++ unshownOf (credentials shown) (chosen (poolOf m (now (heads .entry)) (now (kinds .entry)) (now (numbers .entry))) (now (on .entry))) ⌝ }
+    ensures all { λ r. ⌜ credentials r ≡ credentials shown ++ unshownOf (credentials shown)
+        (chosen (poolOf m (now (heads .entry)) (now (kinds .entry)) (now (numbers .entry))) (now (on .entry))) ⌝ }
 {
     let mut h = shown.heads;
     let mut k = shown.kinds;
@@ -129,7 +132,8 @@ fn store_flagged<'a>(
     m: usize,
 ) -> usize
     requires { ⌜ (i < 128) × (m < 128) × Sized (poolOf m (now h) (now k) (now u)) ⌝ }
-    ensures { λ r. ⌜ StoredIf (eqb flag 1) (credentialAt (poolOf n (now (heads .entry)) (now (kinds .entry)) (now (numbers .entry))) i) (poolOf m (now (h .entry)) (now (k .entry)) (now (u .entry))) (poolOf r (now (h .exit)) (now (k .exit)) (now (u .exit))) ⌝ }
+    ensures { λ r. ⌜ StoredIf (eqb flag 1) (credentialAt (poolOf n (now (heads .entry)) (now (kinds .entry)) (now (numbers .entry))) i)
+        (poolOf m (now (h .entry)) (now (k .entry)) (now (u .entry))) (poolOf r (now (h .exit)) (now (k .exit)) (now (u .exit))) ⌝ }
 {
     if flag != 1 {
         return m;
@@ -154,7 +158,8 @@ fn store_range<'a>(
     m: usize,
 ) -> usize
     requires { ⌜ (n ≤ 128) × (a ≤ b) × (b ≤ n) × (m ≤ a) × Sized (poolOf m (now h) (now k) (now u)) ⌝ }
-    ensures { λ r. ⌜ Selected (poolOf n (now (heads .entry)) (now (kinds .entry)) (now (numbers .entry))) (now (flags .entry)) a (b - a) (poolOf m (now (h .entry)) (now (k .entry)) (now (u .entry))) (poolOf r (now (h .exit)) (now (k .exit)) (now (u .exit))) ⌝ }
+    ensures { λ r. ⌜ Selected (poolOf n (now (heads .entry)) (now (kinds .entry)) (now (numbers .entry))) (now (flags .entry)) a (b - a)
+        (poolOf m (now (h .entry)) (now (k .entry)) (now (u .entry))) (poolOf r (now (h .exit)) (now (k .exit)) (now (u .exit))) ⌝ }
 {
     let mut count = m;
     let mut i = a;

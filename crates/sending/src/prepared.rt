@@ -47,7 +47,9 @@ fn visible_of<'a>(
     numbers: &'a [u16; 1024],
 ) -> [u8; 128]
     requires { ⌜ (k ≤ 32) × (m ≤ 128) ⌝ }
-    ensures { λ r. ⌜ chosen (poolOf m (now (heads .entry)) (now (kinds .entry)) (now (numbers .entry))) r ≡ lessDirect own (pairsOf (pairsFrom k (now (roles .entry)) (now (others .entry)))) (credentials (poolOf m (now (heads .entry)) (now (kinds .entry)) (now (numbers .entry)))) ⌝ }
+    ensures { λ r. ⌜ chosen (poolOf m (now (heads .entry)) (now (kinds .entry)) (now (numbers .entry))) r
+        ≡ lessDirect own (pairsOf (pairsFrom k (now (roles .entry)) (now (others .entry))))
+        (credentials (poolOf m (now (heads .entry)) (now (kinds .entry)) (now (numbers .entry)))) ⌝ }
 {
     let mut on = [0u8; 128];
     let mut i = 0;

@@ -60,7 +60,9 @@ pub fn needs<'a>(
     state: &'a [u8; 128],
 ) -> [u8; 128]
     requires { ⌜ n ≤ 128 ⌝ }
-    ensures { λ r. ⌜ ((o : Nodes) → Needs (nodesOf (nodesFrom n (now (kind .entry)) (now (parts .entry)) (o .n0) (o .n1) (o .n2) (o .n3) (o .n4) (o .n5) (o .n6) (o .n7) (o .subject) (o .verifier) (now (state .entry)))) r) ⌝ }
+    ensures { λ r. ⌜ ((o : Nodes) → Needs (nodesOf
+        (nodesFrom n (now (kind .entry)) (now (parts .entry)) (o .n0) (o .n1) (o .n2) (o .n3) (o .n4) (o .n5) (o .n6) (o .n7) (o .subject)
+        (o .verifier) (now (state .entry)))) r) ⌝ }
 {
     let mut r = [NEVER; 128];
     let mut i = 0;
@@ -74,7 +76,8 @@ pub fn needs<'a>(
 // How the nodes fail, whatever their other columns.
 pub fn ways<'a>(n: usize, kind: &'a [u8; 128], state: &'a [u8; 128]) -> [u8; 128]
     requires { ⌜ n ≤ 128 ⌝ }
-    ensures { λ r. ⌜ ((o : Nodes) → Ways (nodesOf (nodesFrom n (now (kind .entry)) (o .parts) (o .n0) (o .n1) (o .n2) (o .n3) (o .n4) (o .n5) (o .n6) (o .n7) (o .subject) (o .verifier) (now (state .entry)))) r) ⌝ }
+    ensures { λ r. ⌜ ((o : Nodes) → Ways (nodesOf (nodesFrom n (now (kind .entry)) (o .parts) (o .n0) (o .n1) (o .n2) (o .n3) (o .n4) (o .n5) (o .n6)
+        (o .n7) (o .subject) (o .verifier) (now (state .entry)))) r) ⌝ }
 {
     let mut r = [NO_WAY; 128];
     let mut i = 0;
@@ -131,7 +134,10 @@ fn slot_as<'a>(
     c: usize,
 ) -> u16
     requires { ⌜ (p < 128) × (c < 128) ⌝ }
-    ensures { λ r. ⌜ r ≡ slotAs k (expressionFrom (now (kind .entry)) (now (parts .entry)) (now (n0 .entry)) (now (n1 .entry)) (now (n2 .entry)) (now (n3 .entry)) (now (n4 .entry)) (now (n5 .entry)) (now (n6 .entry)) (now (n7 .entry)) p) (expressionFrom (now (kind .entry)) (now (parts .entry)) (now (n0 .entry)) (now (n1 .entry)) (now (n2 .entry)) (now (n3 .entry)) (now (n4 .entry)) (now (n5 .entry)) (now (n6 .entry)) (now (n7 .entry)) c) ⌝ }
+    ensures { λ r. ⌜ r ≡ slotAs k (expressionFrom (now (kind .entry)) (now (parts .entry)) (now (n0 .entry)) (now (n1 .entry)) (now (n2 .entry))
+        (now (n3 .entry)) (now (n4 .entry)) (now (n5 .entry)) (now (n6 .entry)) (now (n7 .entry)) p)
+        (expressionFrom (now (kind .entry)) (now (parts .entry)) (now (n0 .entry)) (now (n1 .entry)) (now (n2 .entry)) (now (n3 .entry))
+        (now (n4 .entry)) (now (n5 .entry)) (now (n6 .entry)) (now (n7 .entry)) c) ⌝ }
 {
     let t = kind[p];
     if (t == 2) | (t == 3) {
@@ -188,7 +194,10 @@ fn slot_by<'a>(
     c: u8,
 ) -> u16
     requires { ⌜ n ≤ 128 ⌝ }
-    ensures { λ r. ⌜ r ≡ slotBy n k p c (expressionFrom (now (kind .entry)) (now (parts .entry)) (now (n0 .entry)) (now (n1 .entry)) (now (n2 .entry)) (now (n3 .entry)) (now (n4 .entry)) (now (n5 .entry)) (now (n6 .entry)) (now (n7 .entry)) p) (expressionFrom (now (kind .entry)) (now (parts .entry)) (now (n0 .entry)) (now (n1 .entry)) (now (n2 .entry)) (now (n3 .entry)) (now (n4 .entry)) (now (n5 .entry)) (now (n6 .entry)) (now (n7 .entry)) c) ⌝ }
+    ensures { λ r. ⌜ r ≡ slotBy n k p c (expressionFrom (now (kind .entry)) (now (parts .entry)) (now (n0 .entry)) (now (n1 .entry)) (now (n2 .entry))
+        (now (n3 .entry)) (now (n4 .entry)) (now (n5 .entry)) (now (n6 .entry)) (now (n7 .entry)) p)
+        (expressionFrom (now (kind .entry)) (now (parts .entry)) (now (n0 .entry)) (now (n1 .entry)) (now (n2 .entry)) (now (n3 .entry))
+        (now (n4 .entry)) (now (n5 .entry)) (now (n6 .entry)) (now (n7 .entry)) c) ⌝ }
 {
     let x = wide(p);
     let y = wide(c);
@@ -221,7 +230,10 @@ pub fn links<'a>(
     child: &'a [u8; 256],
 ) -> EdgeColumns
     requires { ⌜ (n ≤ 128) × (m ≤ 256) ⌝ }
-    ensures { λ r. ⌜ ((o : Nodes) → Joined (nodesOf (nodesFrom n (now (kind .entry)) (now (parts .entry)) (now (n0 .entry)) (now (n1 .entry)) (now (n2 .entry)) (now (n3 .entry)) (now (n4 .entry)) (now (n5 .entry)) (now (n6 .entry)) (now (n7 .entry)) (o .subject) (o .verifier) (o .state))) (edgesOf (edgesFrom m (now (edge .entry)) (now (parent .entry)) (now (child .entry)))) (r .from) (r .slot)) ⌝ }
+    ensures { λ r. ⌜ ((o : Nodes) → Joined (nodesOf
+        (nodesFrom n (now (kind .entry)) (now (parts .entry)) (now (n0 .entry)) (now (n1 .entry)) (now (n2 .entry)) (now (n3 .entry))
+        (now (n4 .entry)) (now (n5 .entry)) (now (n6 .entry)) (now (n7 .entry)) (o .subject) (o .verifier) (o .state)))
+        (edgesOf (edgesFrom m (now (edge .entry)) (now (parent .entry)) (now (child .entry)))) (r .from) (r .slot)) ⌝ }
 {
     let mut from = [NO_NODE; 256];
     let mut slot = [0u16; 256];

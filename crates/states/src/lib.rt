@@ -14,6 +14,7 @@ ghost use Rattle.states.specs.laws.Complete.{isUnknown, completeBy, Stat
 pub use fill::links;
 pub use fill::needs;
 pub use fill::ways;
+ghost use Rattle.numbers.specs.Sizes.{MOST-NODES, MOST-EDGES};
 
 mod fill;
 
@@ -42,7 +43,8 @@ fn is_open<'a>(
     j: usize,
 ) -> bool
     requires { ⌜ (n ≤ 128) × (j < 256) ⌝ }
-    ensures { λ r. ⌜ r ≡ isUnknown n (now (sat .entry)) (now (failed .entry)) i (edgeAt (edgesFrom m (now (kind .entry)) (now (parent .entry)) (now (child .entry))) j) ⌝ }
+    ensures { λ r. ⌜ r ≡ isUnknown n (now (sat .entry)) (now (failed .entry)) i
+        (edgeAt (edgesFrom m (now (kind .entry)) (now (parent .entry)) (now (child .entry))) j) ⌝ }
 {
     let p = wide(parent[j]);
     if (kind[j] != 3) | (p != i) {
@@ -67,7 +69,8 @@ fn has_open<'a>(
     i: usize,
 ) -> bool
     requires { ⌜ (n ≤ 128) × (m ≤ 256) ⌝ }
-    ensures { λ r. ⌜ r ≡ any (isUnknown n (now (sat .entry)) (now (failed .entry)) i) (edgesOf (edgesFrom m (now (kind .entry)) (now (parent .entry)) (now (child .entry)))) ⌝ }
+    ensures { λ r. ⌜ r ≡ any (isUnknown n (now (sat .entry)) (now (failed .entry)) i)
+        (edgesOf (edgesFrom m (now (kind .entry)) (now (parent .entry)) (now (child .entry)))) ⌝ }
 {
     let mut j = 0;
     while j < m {
@@ -110,8 +113,12 @@ pub fn is_complete<'a>(
     failed: &'a [u8; 128],
     i: usize,
 ) -> bool
-    requires { ⌜ (i < n) × (n ≤ 128) × (m ≤ 256) × StateColumns (nodesOf (nodesFrom n (now kind) (now parts) (now n0) (now n1) (now n2) (now n3) (now n4) (now n5) (now n6) (now n7) (now subject) (now verifier) (now state))) (edgesOf (edgesFrom m (now edge) (now parent) (now child))) (now sat) (now failed) ⌝ }
-    ensures { λ r. ⌜ r ≡ completeB (nodesOf (nodesFrom n (now (kind .entry)) (now (parts .entry)) (now (n0 .entry)) (now (n1 .entry)) (now (n2 .entry)) (now (n3 .entry)) (now (n4 .entry)) (now (n5 .entry)) (now (n6 .entry)) (now (n7 .entry)) (now (subject .entry)) (now (verifier .entry)) (now (state .entry)))) (edgesOf (edgesFrom m (now (edge .entry)) (now (parent .entry)) (now (child .entry)))) i ⌝ }
+    requires { ⌜ (i < n) × (n ≤ 128) × (m ≤ 256) × StateColumns
+        (nodesOf (nodesFrom n (now kind) (now parts) (now n0) (now n1) (now n2) (now n3) (now n4) (now n5) (now n6) (now n7) (now subject)
+        (now verifier) (now state))) (edgesOf (edgesFrom m (now edge) (now parent) (now child))) (now sat) (now failed) ⌝ }
+    ensures { λ r. ⌜ r ≡ completeB (nodesOf (nodesFrom n (now (kind .entry)) (now (parts .entry)) (now (n0 .entry)) (now (n1 .entry))
+        (now (n2 .entry)) (now (n3 .entry)) (now (n4 .entry)) (now (n5 .entry)) (now (n6 .entry)) (now (n7 .entry)) (now (subject .entry))
+        (now (verifier .entry)) (now (state .entry)))) (edgesOf (edgesFrom m (now (edge .entry)) (now (parent .entry)) (now (child .entry)))) i ⌝ }
 {
     let any_open = has_open(n, m, edge, parent, child, sat, failed, i);
     complete_by(kind[i], state[i], any_open)
@@ -119,7 +126,7 @@ pub fn is_complete<'a>(
 
 // Which nodes are satisfied, and which have failed.
 pub fn node_states(nodes: Nodes, edges: Edges) -> NodeStates
-    requires { ⌜ (nodes .count ≤ 128) × (edges .count ≤ 256) × NodesFormed (nodesOf nodes) × EdgesFormed (nodesOf nodes) (edgesOf edges) ⌝ }
+    requires { ⌜ (nodes .count ≤ MOST-NODES) × (edges .count ≤ MOST-EDGES) × NodesFormed (nodesOf nodes) × EdgesFormed (nodesOf nodes) (edgesOf edges) ⌝ }
     ensures { λ r. ⌜ StateColumns (nodesOf nodes) (edgesOf edges) (r .satisfied) (r .failed) ⌝ }
 {
     let m = edges.count;
@@ -152,7 +159,8 @@ pub fn node_states(nodes: Nodes, edges: Edges) -> NodeStates
 
 // The propagated state of node i: 0 unknown or incomplete, 1 satisfied or complete, 2 failed.
 pub fn state_of(nodes: Nodes, edges: Edges, i: usize) -> u8
-    requires { ⌜ (i < nodes .count) × (nodes .count ≤ 128) × (edges .count ≤ 256) × NodesFormed (nodesOf nodes) × EdgesFormed (nodesOf nodes) (edgesOf edges) ⌝ }
+    requires { ⌜ (i < nodes .count) × (nodes .count ≤ MOST-NODES) × (edges .count ≤ MOST-EDGES) × NodesFormed (nodesOf nodes)
+        × EdgesFormed (nodesOf nodes) (edgesOf edges) ⌝ }
     ensures { λ r. ⌜ r ≡ propagatedState (nodesOf nodes) (edgesOf edges) i ⌝ }
 {
     let m = edges.count;

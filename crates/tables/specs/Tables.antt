@@ -22,19 +22,24 @@ abbrev pub unread : Tables
 unread = record { own = 0; names = []; issuerStored = []; subjectStored = []; sensitive = []; access = [] }
 
 abbrev pub withNames : Tables → List Name → Tables
-withNames T L = record { own = T .own; names = L; issuerStored = T .issuerStored; subjectStored = T .subjectStored; sensitive = T .sensitive; access = T .access }
+withNames T L =
+    record { own = T .own; names = L; issuerStored = T .issuerStored; subjectStored = T .subjectStored; sensitive = T .sensitive; access = T .access }
 
 abbrev pub withStored : Bool → Tables → List Credential → Tables
 withStored true T L = record { own = T .own; names = T .names; issuerStored = T .issuerStored; subjectStored = L; sensitive = T .sensitive; access = T .access }
-withStored false T L = record { own = T .own; names = T .names; issuerStored = L; subjectStored = T .subjectStored; sensitive = T .sensitive; access = T .access }
+withStored false T L =
+    record { own = T .own; names = T .names; issuerStored = L; subjectStored = T .subjectStored; sensitive = T .sensitive; access = T .access }
 
 abbrev pub withPairs : Bool → Tables → List Pair → Tables
-withPairs true T L = record { own = T .own; names = T .names; issuerStored = T .issuerStored; subjectStored = T .subjectStored; sensitive = T .sensitive; access = L }
-withPairs false T L = record { own = T .own; names = T .names; issuerStored = T .issuerStored; subjectStored = T .subjectStored; sensitive = L; access = T .access }
+withPairs true T L =
+    record { own = T .own; names = T .names; issuerStored = T .issuerStored; subjectStored = T .subjectStored; sensitive = T .sensitive; access = L }
+withPairs false T L =
+    record { own = T .own; names = T .names; issuerStored = T .issuerStored; subjectStored = T .subjectStored; sensitive = L; access = T .access }
 
 -- the tables with one record more
 abbrev pub added : Tables → Record → Tables
-added T (Own e) = record { own = e; names = T .names; issuerStored = T .issuerStored; subjectStored = T .subjectStored; sensitive = T .sensitive; access = T .access }
+added T (Own e) =
+    record { own = e; names = T .names; issuerStored = T .issuerStored; subjectStored = T .subjectStored; sensitive = T .sensitive; access = T .access }
 added T (Named n) = withNames T (T .names ++ (n ∷ []))
 added T (IssuerStored c) = withStored false T (T .issuerStored ++ (c ∷ []))
 added T (SubjectStored c) = withStored true T (T .subjectStored ++ (c ∷ []))

@@ -32,6 +32,7 @@ ghost use Rattle.tables.specs.laws.Check.{outcomeOf};
 ghost use Rattle.tables.specs.laws.Reading.{tablesFor};
 ghost use Rattle.tables.specs.laws.BehindRecords.{BehindRecords};
 ghost use Rattle.tables.specs.laws.Decoding.{firstRecord, leftNumber, withoutPairs, Housed, Decodes};
+ghost use Rattle.numbers.specs.Sizes.{MOST-NAMES};
 
 // Whether tables may have so many bytes.
 fn sized(n: usize) -> bool
@@ -75,7 +76,9 @@ fn class_number<'a>(
     r: Record,
 ) -> u64
     requires { ⌜ (n ≤ 64) × Ascending n (now name) × (c ≤ 128) × (p ≤ 32) ⌝ }
-    ensures { λ k. ⌜ k ≡ classNumber (tablesFor own (namesOf (namesFrom n (now (name .entry)) (now (class .entry)))) (credentials (poolOf c (now (heads .entry)) (now (kinds .entry)) (now (numbers .entry)))) (pairsOf (pairsFrom p (now (roles .entry)) (now (others .entry))))) r ⌝ }
+    ensures { λ k. ⌜ k ≡ classNumber (tablesFor own (namesOf (namesFrom n (now (name .entry)) (now (class .entry))))
+        (credentials (poolOf c (now (heads .entry)) (now (kinds .entry)) (now (numbers .entry))))
+        (pairsOf (pairsFrom p (now (roles .entry)) (now (others .entry))))) r ⌝ }
 {
     match r {
         Record::Own(_) => 0,
@@ -132,7 +135,10 @@ fn left_over<'a>(
     others: &'a [u16; 64],
 ) -> u64
     requires { ⌜ (n ≤ 64) × Ascending n (now name) × (c ≤ 128) × (p ≤ 32) ⌝ }
-    ensures { λ k. ⌜ k ≡ leftNumber (now (s .entry)) at (tablesFor own (namesOf (namesFrom n (now (name .entry)) (now (class .entry)))) (credentials (poolOf c (now (heads .entry)) (now (kinds .entry)) (now (numbers .entry)))) (pairsOf (pairsFrom p (now (roles .entry)) (now (others .entry))))) ⌝ }
+    ensures { λ k. ⌜ k ≡ leftNumber (now (s .entry)) at
+        (tablesFor own (namesOf (namesFrom n (now (name .entry)) (now (class .entry))))
+        (credentials (poolOf c (now (heads .entry)) (now (kinds .entry)) (now (numbers .entry))))
+        (pairsOf (pairsFrom p (now (roles .entry)) (now (others .entry))))) ⌝ }
 {
     if s.len() <= at {
         return 0;
@@ -172,7 +178,8 @@ fn refused(k: u64) -> Decoded
 
 // Sensitive roles and AC records behind self, names and credentials, and nothing behind these.
 fn decode_pairs(s: &[u8], at: usize, own: u16, names: Names, issuer: Pool, subject: Pool) -> Decoded
-    requires { ⌜ (names .count ≤ 64) × Ascending (names .count) (names .name) × (issuer .count ≤ 64) × (subject .count ≤ 64) × BehindRecords 4 (now s) at (withoutPairs own (namesOf names) (credentials issuer) (credentials subject)) ⌝ }
+    requires { ⌜ (names .count ≤ MOST-NAMES) × Ascending (names .count) (names .name) × (issuer .count ≤ 64) × (subject .count ≤ 64)
+        × BehindRecords 4 (now s) at (withoutPairs own (namesOf names) (credentials issuer) (credentials subject)) ⌝ }
     ensures { λ r. ⌜ Decodes (now (s .entry)) at (withoutPairs own (namesOf names) (credentials issuer) (credentials subject)) r ⌝ }
 {
     let none = [0u16; 64];
@@ -246,7 +253,7 @@ fn decode_pairs(s: &[u8], at: usize, own: u16, names: Names, issuer: Pool, subje
 
 // The credentials of both storages behind self and names, and what comes behind these.
 fn decode_stored(s: &[u8], at: usize, own: u16, names: Names) -> Decoded
-    requires { ⌜ (names .count ≤ 64) × Ascending (names .count) (names .name) × BehindRecords 2 (now s) at (withoutPairs own (namesOf names) [] []) ⌝ }
+    requires { ⌜ (names .count ≤ MOST-NAMES) × Ascending (names .count) (names .name) × BehindRecords 2 (now s) at (withoutPairs own (namesOf names) [] []) ⌝ }
     ensures { λ r. ⌜ Decodes (now (s .entry)) at (withoutPairs own (namesOf names) [] []) r ⌝ }
 {
     let a = read_stored(s, at, names.count, &names.name, &names.class, false);

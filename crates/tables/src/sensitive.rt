@@ -57,7 +57,8 @@ fn suits_pair<'a>(
     r: Role,
 ) -> bool
     requires { ⌜ (c ≤ 128) × (p ≤ 32) ⌝ }
-    ensures { λ b. ⌜ b ≡ cond access (holdsOf own (credentials (poolOf c (now (heads .entry)) (now (kinds .entry)) (now (numbers .entry)))) r && isSensitive (pairsOf (pairsFrom p (now (roles .entry)) (now (others .entry)))) r) (eqb k 3) ⌝ }
+    ensures { λ b. ⌜ b ≡ cond access (holdsOf own (credentials (poolOf c (now (heads .entry)) (now (kinds .entry)) (now (numbers .entry)))) r
+        && isSensitive (pairsOf (pairsFrom p (now (roles .entry)) (now (others .entry)))) r) (eqb k 3) ⌝ }
 {
     if !access {
         return k == SUBJECT_ALL;
@@ -82,7 +83,9 @@ pub fn pair_number<'a>(
     x: Pair,
 ) -> u64
     requires { ⌜ (n ≤ 64) × Ascending n (now name) × (c ≤ 128) × (p ≤ 32) ⌝ }
-    ensures { λ r. ⌜ r ≡ pairNumber access (tablesFor own (namesOf (namesFrom n (now (name .entry)) (now (class .entry)))) (credentials (poolOf c (now (heads .entry)) (now (kinds .entry)) (now (numbers .entry)))) (pairsOf (pairsFrom p (now (roles .entry)) (now (others .entry))))) x ⌝ }
+    ensures { λ r. ⌜ r ≡ pairNumber access (tablesFor own (namesOf (namesFrom n (now (name .entry)) (now (class .entry))))
+        (credentials (poolOf c (now (heads .entry)) (now (kinds .entry)) (now (numbers .entry))))
+        (pairsOf (pairsFrom p (now (roles .entry)) (now (others .entry))))) x ⌝ }
 {
     let role = x.role;
     let other = x.other;
@@ -167,7 +170,11 @@ fn next_pair<'a>(
     last: Pair,
 ) -> PairStep
     requires { ⌜ (at < length (now s)) × (n ≤ 64) × Ascending n (now name) × (c ≤ 128) × (p ≤ 32) ⌝ }
-    ensures { λ r. ⌜ pairStep r ≡ stepOf (pairsGroup access) (numberBehind (pairsGroup access) (pairNumber access (tablesFor own (namesOf (namesFrom n (now (name .entry)) (now (class .entry)))) (credentials (poolOf c (now (heads .entry)) (now (kinds .entry)) (now (numbers .entry)))) (pairsOf (pairsFrom p (now (roles .entry)) (now (others .entry)))))) count last) (recordAt (now (s .entry)) at) ⌝ }
+    ensures { λ r. ⌜ pairStep r ≡ stepOf (pairsGroup access)
+        (numberBehind (pairsGroup access) (pairNumber access
+        (tablesFor own (namesOf (namesFrom n (now (name .entry)) (now (class .entry))))
+        (credentials (poolOf c (now (heads .entry)) (now (kinds .entry)) (now (numbers .entry))))
+        (pairsOf (pairsFrom p (now (roles .entry)) (now (others .entry)))))) count last) (recordAt (now (s .entry)) at) ⌝ }
 {
     let a = read_record(s, at);
     let RecordAnswer::Read(r) = a else {
@@ -214,7 +221,9 @@ pub fn read_pairs<'a>(
     others: &'a [u16; 64],
 ) -> PairsRead
     requires { ⌜ (n ≤ 64) × Ascending n (now name) × (c ≤ 128) × (p ≤ 32) ⌝ }
-    ensures { λ r. ⌜ PairsGone (tablesFor own (namesOf (namesFrom n (now (name .entry)) (now (class .entry)))) (credentials (poolOf c (now (heads .entry)) (now (kinds .entry)) (now (numbers .entry)))) (pairsOf (pairsFrom p (now (roles .entry)) (now (others .entry))))) access (now (s .entry)) start r ⌝ }
+    ensures { λ r. ⌜ PairsGone (tablesFor own (namesOf (namesFrom n (now (name .entry)) (now (class .entry))))
+        (credentials (poolOf c (now (heads .entry)) (now (kinds .entry)) (now (numbers .entry))))
+        (pairsOf (pairsFrom p (now (roles .entry)) (now (others .entry))))) access (now (s .entry)) start r ⌝ }
 {
     let mut first = [0u16; 64];
     let mut second = [0u16; 64];

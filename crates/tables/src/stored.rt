@@ -71,7 +71,8 @@ fn judged_stored<'a>(
     last: Credential,
 ) -> StoredStep
     requires { ⌜ (n ≤ 64) × Ascending n (now name) ⌝ }
-    ensures { λ r. ⌜ storedStep r ≡ judgedStep (numberBehind (credentialsOf subject) (storedNumber (namesOf (namesFrom n (now (name .entry)) (now (class .entry)))) subject) count last c) c ⌝ }
+    ensures { λ r. ⌜ storedStep r ≡ judgedStep (numberBehind (credentialsOf subject)
+        (storedNumber (namesOf (namesFrom n (now (name .entry)) (now (class .entry)))) subject) count last c) c ⌝ }
 {
     let up = (count == 0) | before_credential(last, c);
     let k = or_else(
@@ -120,7 +121,9 @@ fn next_stored<'a>(
     last: Credential,
 ) -> StoredStep
     requires { ⌜ (at < length (now s)) × (n ≤ 64) × Ascending n (now name) ⌝ }
-    ensures { λ r. ⌜ storedStep r ≡ stepOf (credentialsOf subject) (numberBehind (credentialsOf subject) (storedNumber (namesOf (namesFrom n (now (name .entry)) (now (class .entry)))) subject) count last) (recordAt (now (s .entry)) at) ⌝ }
+    ensures { λ r. ⌜ storedStep r ≡ stepOf (credentialsOf subject)
+        (numberBehind (credentialsOf subject) (storedNumber (namesOf (namesFrom n (now (name .entry)) (now (class .entry)))) subject) count last)
+        (recordAt (now (s .entry)) at) ⌝ }
 {
     let a = read_record(s, at);
     let RecordAnswer::Read(r) = a else {

@@ -40,8 +40,11 @@ pub data Refusal (tables negotiation message scratch : List ℕ) (k : ℕ) : Typ
   -- the negotiation's length 1, the tables 1 to 6, "20 negotiation damaged"
   unrestored : messageSize (length message) (length scratch) ≡ true → restoreOf tables negotiation ≡ refused k → Refusal tables negotiation message scratch k
   -- "22 already ended"
-  ended : {T : Tables} {S : State} → Stands tables negotiation message scratch T S → (S .header .end ≡ 0 → ⊥) → k ≡ ENDED → Refusal tables negotiation message scratch k
+  ended : {T : Tables} {S : State} → Stands tables negotiation message scratch T S → (S .header .end ≡ 0 → ⊥) → k ≡ ENDED
+      → Refusal tables negotiation message scratch k
   -- "21 not that side's turn"
-  out-of-turn : {T : Tables} {S : State} → Stands tables negotiation message scratch T S → S .header .end ≡ 0 → sends (senderTo S) (S .header .messages) ≡ false → k ≡ TURN → Refusal tables negotiation message scratch k
+  out-of-turn : {T : Tables} {S : State} → Stands tables negotiation message scratch T S → S .header .end ≡ 0
+      → sends (senderTo S) (S .header .messages) ≡ false → k ≡ TURN → Refusal tables negotiation message scratch k
   -- a command
-  stopped : {T : Tables} {S : State} → Stands tables negotiation message scratch T S → InTurn S → RefusedAt (T .names) (senderTo S) message S k → Refusal tables negotiation message scratch k
+  stopped : {T : Tables} {S : State} → Stands tables negotiation message scratch T S → InTurn S → RefusedAt (T .names) (senderTo S) message S k
+      → Refusal tables negotiation message scratch k

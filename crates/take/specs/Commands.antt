@@ -14,10 +14,12 @@ use Rattle.message.specs.Message.{isEnd}
 use Rattle.numbers.specs.Answer.{Answer, refused, accepted, judged}
 use Rattle.numbers.specs.Refusals.{COMMAND}
 
--- the state that commands lead to, and whether an open, an edge or a mark was among them: an end ends the message; another command is carried out, and the next is read
+-- the state that commands lead to, and whether an open, an edge or a mark was among them: an end ends the message; another command is carried out, and the
+-- next is read
 abbrev pub onCommand : (ℕ → State → Bool → Answer (State × Bool)) → List Name → ℕ → State → Bool → CommandAnswer → Answer (State × Bool)
 onCommand next ns s S moved (Refused k) = refused k
-onCommand next ns s S moved (Read c) = judged (legalNumber ns s S c) (cond (isEnd c) (accepted (S, moved)) (next (sizeOf c) (stepped S s c) (moved || isMove c)))
+onCommand next ns s S moved (Read c) =
+    judged (legalNumber ns s S c) (cond (isEnd c) (accepted (S, moved)) (next (sizeOf c) (stepped S s c) (moved || isMove c)))
 
 -- the commands from an index on, sent by side s. The first number is at least that of the bytes left.
 unfoldable pub commandsFrom : ℕ → List Name → ℕ → List ℕ → ℕ → State → Bool → Answer (State × Bool)

@@ -62,8 +62,10 @@ fn taken_in(house: House, n: Negotiation, message: &[u8]) -> Taking
 // The negotiation goes on by the message: 0, or a refusal number, and then nothing changes.
 pub fn take(tables: &[u8], negotiation: &mut [u8], message: &[u8], scratch: &mut [u8]) -> u64
     ensures answered { λ r. ⌜ r ≡ answerOf noValue (takeOf (now (tables .entry)) (now (negotiation .entry)) (now (message .entry)) (now (scratch .entry))) ⌝ }
-    ensures left { λ _. ⌜ now (negotiation .exit) ≡ bufferAfter stateBytes (now (negotiation .entry)) (takeOf (now (tables .entry)) (now (negotiation .entry)) (now (message .entry)) (now (scratch .entry))) ⌝ }
-    ensures cleared { λ _. ⌜ now (scratch .exit) ≡ scratchLeft (now (scratch .entry)) (takeOf (now (tables .entry)) (now (negotiation .entry)) (now (message .entry)) (now (scratch .entry))) ⌝ }
+    ensures left { λ _. ⌜ now (negotiation .exit) ≡ bufferAfter stateBytes (now (negotiation .entry))
+        (takeOf (now (tables .entry)) (now (negotiation .entry)) (now (message .entry)) (now (scratch .entry))) ⌝ }
+    ensures cleared { λ _. ⌜ now (scratch .exit) ≡ scratchLeft (now (scratch .entry))
+        (takeOf (now (tables .entry)) (now (negotiation .entry)) (now (message .entry)) (now (scratch .entry))) ⌝ }
 {
     if !fits(message.len(), scratch.len()) {
         return LENGTH;

@@ -30,6 +30,7 @@ ghost use Rattle.legal.specs.laws.Judged.{Proves, SaysFor};
 ghost use Rattle.message.specs.Message.{isEnd};
 ghost use Rattle.take.specs.Commands.{commandsFrom};
 ghost use Rattle.take.specs.laws.Commands.{takenOf, refusalOf, Room};
+ghost use Rattle.numbers.specs.Sizes.{MOST-NAMES};
 
 // The number of a command that was not read.
 fn refusal_of(a: CommandAnswer) -> u64
@@ -73,7 +74,8 @@ fn judge<'a>(
     sat: &'a [u8; 128],
     c: Command,
 ) -> u64
-    requires { ⌜ (names .count ≤ 64) × Ascending (names .count) (names .name) × (within (stateOf n) ≡ true) × Proves (stateOf n) c proved × SaysFor c (nodesOf (n .nodes)) (edgesOf (n .edges)) (now sat) ⌝ }
+    requires { ⌜ (names .count ≤ MOST-NAMES) × Ascending (names .count) (names .name) × (within (stateOf n) ≡ true) × Proves (stateOf n) c proved
+        × SaysFor c (nodesOf (n .nodes)) (edgesOf (n .edges)) (now sat) ⌝ }
     ensures { λ r. ⌜ r ≡ legalNumber (namesOf names) sender (stateOf n) c ⌝ }
 {
     let justified = is_justified(n, proved, sat, c);
@@ -83,7 +85,8 @@ fn judge<'a>(
 // Each command is judged and carried out before the next is read. What the credentials shown prove and which nodes are satisfied is kept beside: the
 // former stands here alone, and is lent.
 pub fn take_commands(names: Names, sender: u8, start: Negotiation, message: &[u8]) -> Taking
-    requires { ⌜ (names .count ≤ 64) × Ascending (names .count) (names .name) × (within (stateOf start) ≡ true) × NodesFormed (nodesOf (start .nodes)) ⌝ }
+    requires { ⌜ (names .count ≤ MOST-NAMES) × Ascending (names .count) (names .name) × (within (stateOf start) ≡ true)
+        × NodesFormed (nodesOf (start .nodes)) ⌝ }
     ensures taken { λ r. ⌜ takenOf r ≡ commandsFrom (length (now (message .entry))) (namesOf names) sender (now (message .entry)) 0 (stateOf start) false ⌝ }
     ensures sized { λ r. ⌜ Room r ⌝ }
 {

@@ -17,6 +17,7 @@ ghost use Rattle.states.specs.laws.Brings.{NodesFormed};
 ghost use Rattle.negotiation.specs.laws.State.{stateOf};
 ghost use Rattle.negotiation.specs.State.{within};
 ghost use Rattle.take.specs.laws.Progress.{isCredential, CurrentStates, Ready, Carried};
+ghost use Rattle.numbers.specs.Sizes.{MOST-NODES};
 
 // Whether a command shows a credential.
 pub fn is_credential(c: Command) -> bool
@@ -47,7 +48,8 @@ pub fn no_progress() -> Progress
 // When a command is judged: what it asks of the credentials shown is known, and the satisfied nodes are found if it asks them. Where an edge leads
 // into no node they are found each time: a new node might be satisfied.
 pub fn ready(k: Progress, n: Negotiation, c: Command) -> Progress
-    requires { ⌜ (within (stateOf n) ≡ true) × NodesFormed (nodesOf (n .nodes)) × CurrentStates (k .unsettled) (k .sat) (nodesOf (n .nodes)) (edgesOf (n .edges)) ⌝ }
+    requires { ⌜ (within (stateOf n) ≡ true) × NodesFormed (nodesOf (n .nodes))
+        × CurrentStates (k .unsettled) (k .sat) (nodesOf (n .nodes)) (edgesOf (n .edges)) ⌝ }
     ensures { λ r. ⌜ Ready k n c r ⌝ }
 {
     let stale = k.stale & !is_implication(c);
@@ -74,7 +76,7 @@ pub fn ready(k: Progress, n: Negotiation, c: Command) -> Progress
 
 // Past a command.
 pub fn carried(k: Progress, n: Negotiation, c: Command) -> Progress
-    requires { ⌜ n .nodes .count ≤ 128 ⌝ }
+    requires { ⌜ n .nodes .count ≤ MOST-NODES ⌝ }
     ensures { λ r. ⌜ Carried k (nodesOf (n .nodes)) c r ⌝ }
 {
     let sat = k.sat;

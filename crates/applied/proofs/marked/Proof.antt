@@ -4,7 +4,9 @@ use Rattle.applied.proofs.marked.Statement.{statement}
 use Rattle.applied.proofs.marked.Tie as tie
 
 returns : tie.Need-returns
-returns c = step-mark _ _ _ (c .before .before .before .node-of .ensures) (c .before .before .wide .ensures) (c .before .marked-state .ensures) (c .mark .ensures)
+returns c =
+    let c3 = c .before .before .before in
+    step-mark _ _ _ (c3 .node-of .ensures) (c .before .before .wide .ensures) (c .before .marked-state .ensures) (c .mark .ensures)
 
 pub marked-spec : {M : Type 1} → statement M
 marked-spec =

@@ -16,7 +16,9 @@ add-edge-requires : tie.Need-add-edge-requires
 add-edge-requires c κs = room-join _ _ (room-for _ _ _ (c .before .c4 .given .1) (c .before .before .before .pre .1))
 
 marked-requires : tie.Need-marked-requires
-marked-requires c κs = (room-mark _ _ (room-for _ _ _ (c .before .c5 .given .1) (c .before .before .before .pre .1)), nodes-few _ (c .before .before .before .pre .0))
+marked-requires c κs =
+    let c3 = c .before .before .before in
+    (room-mark _ _ (room-for _ _ _ (c .before .c5 .given .1) (c3 .pre .1)), nodes-few _ (c3 .pre .0))
 
 returns : tie.Need-returns
 returns c = step-for _ _ _ _ (c .before .before .c .given .1) (step-show _ _ _ (c .show .ensures))

@@ -41,11 +41,22 @@ module _ (p : ℕ) (s f : Bool) where
 
 -- a header of these numbers
 pub header-is : (p : ℕ) (moved full : Bool) (h : Header) {b : Bool} {e i : ℕ} → b ≡ isStalled moved (h .idle) → e ≡ endOf p b full → i ≡ idleOf moved
-    → _≡_ {A = Header} (record { side = h .side; own = h .own; other = h .other; wanted = h .wanted; end = e; idle = i; messages = h .messages + 1 }) (headerAfter p moved full h)
+    → _≡_ {A = Header} (record { side = h .side; own = h .own; other = h .other; wanted = h .wanted; end = e; idle = i; messages = h .messages + 1 })
+    (headerAfter p moved full h)
 unfolding headerAfter
-header-is p moved full h x y z = λ t. record { side = h .side; own = h .own; other = h .other; wanted = h .wanted; end = (y ∙ ap (λ (b : Bool). endOf p b full) x) t; idle = z t; messages = h .messages + 1 }
+header-is p moved full h x y z =
+    λ t. record {
+      side = h .side;
+      own = h .own;
+      other = h .other;
+      wanted = h .wanted;
+      end = (y ∙ ap (λ (b : Bool). endOf p b full) x) t;
+      idle = z t;
+      messages = h .messages + 1;
+    }
 
-pub after-is : (n m : Negotiation) (moved full : Bool) {p : ℕ} {h : Header} → p ≡ propagated (nodesOf (n .nodes)) (edgesOf (n .edges)) 0 → h ≡ headerAfter p moved full (n .header) → stateOf m ≡ withHeader (stateOf n) h
+pub after-is : (n m : Negotiation) (moved full : Bool) {p : ℕ} {h : Header} → p ≡ propagated (nodesOf (n .nodes)) (edgesOf (n .edges)) 0
+    → h ≡ headerAfter p moved full (n .header) → stateOf m ≡ withHeader (stateOf n) h
     → stateOf m ≡ afterMessage (stateOf n) moved full
 unfolding afterMessage stateOf
 after-is n m moved full x y z = z ∙ ap (withHeader (stateOf n)) (y ∙ ap (λ (k : ℕ). headerAfter k moved full (n .header)) x)

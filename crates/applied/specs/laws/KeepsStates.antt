@@ -30,7 +30,8 @@ use Rattle.message.specs.declared.Command.the-variants.{Show, Open, Bring, Join
 use Rattle.negotiation.specs.State.{State, withShown, withNode, withEdge, withMark}
 use Rattle.applied.specs.Step.{stepped, primaryOf, childOf, childIn, edgeIn}
 use Rattle.graph.specs.Processed.{markedState}
-use Rattle.applied.specs.laws.SameStates.{Still, still-none, still-both, still-same, Inside, Idle, still-edge, inside-edge, still-node, inside-node, idle-new, isParts, still-mark, inside-mark}
+use Rattle.applied.specs.laws.SameStates.{Still, still-none, still-both, still-same, Inside, Idle, still-edge, inside-edge, still-node, inside-node}
+use Rattle.applied.specs.laws.SameStates.{idle-new, isParts, still-mark, inside-mark}
 
 -- an edge of kind k into a node in state s brings it nothing; c and p say whether its child is satisfied, and its parent. A part counts only
 -- where the intersection is fully processed.
@@ -76,34 +77,40 @@ module _ (ns : List Node) (es : List Edge) (sat : List ℕ) (says : Says ns es s
         part = λ t z g. ⊎-elim
             (λ w. already w g)
             (λ w.
-            absurd (⊎-elim (λ y. not-both (eqb k 5) y t) (λ y. not-both (eqb s 3) y (eq-eqb s 3 z)) (or-cases (not (eqb k 5)) (not (eqb s 3)) (and-parts other part w .1))))
+            absurd (⊎-elim (λ y. not-both (eqb k 5) y t) (λ y. not-both (eqb s 3) y (eq-eqb s 3 z))
+            (or-cases (not (eqb k 5)) (not (eqb s 3)) (and-parts other part w .1))))
             (or-cases settled (other && part) h);
       }
     where
       already : (not (flag sat (e .child)) || flag sat (e .parent)) ≡ true → Satisfied ns es (e .child) → Satisfied ns es (e .parent)
       already w g =
-          ⊎-elim (λ z. absurd (not-both (flag sat (e .child)) z (sat-is (e .child) g))) (λ z. is-sat (e .parent) z) (or-cases (not (flag sat (e .child))) (flag sat (e .parent)) w)
+          ⊎-elim (λ z. absurd (not-both (flag sat (e .child)) z (sat-is (e .child) g))) (λ z. is-sat (e .parent) z)
+          (or-cases (not (flag sat (e .child))) (flag sat (e .parent)) w)
 
 not-is : (a : Bool) → not a ≡ true → a ≡ false
 not-is true h = absurd (false-true h)
 not-is false h = refl
 
-still-step : (S : State) (s : ℕ) (c : Command) (sat : List ℕ) → Says (S .nodes) (S .edges) sat → Inside (S .nodes) (S .edges) → keepsStates (S .nodes) sat c ≡ true
+still-step : (S : State) (s : ℕ) (c : Command) (sat : List ℕ) → Says (S .nodes) (S .edges) sat → Inside (S .nodes) (S .edges)
+    → keepsStates (S .nodes) sat c ≡ true
     → Still (S .nodes) (S .edges) (stepped S s c .nodes) (stepped S s c .edges) × Inside (stepped S s c .nodes) (stepped S s c .edges)
 unfolding keepsStates stepped withShown withNode withEdge withMark primaryOf childOf
 still-step S s (Show c) sat says inside h = (still-none (S .nodes) (S .edges), inside)
-still-step S s (Open o) sat says inside h = (still-node (S .nodes) (S .edges) (primaryOf (S .header) o) inside refl, inside-node (S .nodes) (S .edges) (primaryOf (S .header) o) inside)
+still-step S s (Open o) sat says inside h =
+    (still-node (S .nodes) (S .edges) (primaryOf (S .header) o) inside refl, inside-node (S .nodes) (S .edges) (primaryOf (S .header) o) inside)
 still-step S s (Bring n) sat says inside h =
     let x : Node = childIn S n in
     let e : Edge = edgeIn S n in
     let q = and-parts (ltb (n .parent) (length (S .nodes))) (not (isEntity (n .expression))) h in
     let plain : isEntity (n .expression) ≡ false = not-is (isEntity (n .expression)) (q .1) in
     let l : n .parent < length (S .nodes) = ltb-true (n .parent) (length (S .nodes)) (q .0) in (
-      still-both (still-node (S .nodes) (S .edges) x inside plain) (still-edge (S .nodes ++ (x ∷ [])) (S .edges) e (idle-new (S .nodes) (S .edges) x inside plain e refl)),
+      still-both (still-node (S .nodes) (S .edges) x inside plain)
+          (still-edge (S .nodes ++ (x ∷ [])) (S .edges) e (idle-new (S .nodes) (S .edges) x inside plain e refl)),
       inside-edge (S .nodes ++ (x ∷ [])) (S .edges) e (inside-node (S .nodes) (S .edges) x inside) (omega (arith, l, length-append (S .nodes) (x ∷ []))),
     )
 still-step S s (Join e) sat says inside h =
-    let q = and-parts (ltb (e .parent) (length (S .nodes))) (bringsNothing (e .kind) (nodeIn (S .nodes) (e .parent) .state) (flag sat (e .child)) (flag sat (e .parent))) h in (
+    let q = and-parts (ltb (e .parent) (length (S .nodes)))
+    (bringsNothing (e .kind) (nodeIn (S .nodes) (e .parent) .state) (flag sat (e .child)) (flag sat (e .parent))) h in (
       still-edge (S .nodes) (S .edges) e (idle-by (S .nodes) (S .edges) sat says e (q .1)),
       inside-edge (S .nodes) (S .edges) e inside (ltb-true (e .parent) (length (S .nodes)) (q .0)),
     )
@@ -115,7 +122,8 @@ still-step S s (Mark i) sat says inside h =
 still-step S s End sat says inside h = (still-none (S .nodes) (S .edges), inside)
 
 -- the column still says which nodes are satisfied, and each edge still leads into a node
-pub keeps-states : (S : State) (s : ℕ) (c : Command) (sat : List ℕ) → Says (S .nodes) (S .edges) sat → Inside (S .nodes) (S .edges) → keepsStates (S .nodes) sat c ≡ true
+pub keeps-states : (S : State) (s : ℕ) (c : Command) (sat : List ℕ) → Says (S .nodes) (S .edges) sat → Inside (S .nodes) (S .edges)
+    → keepsStates (S .nodes) sat c ≡ true
     → Says (stepped S s c .nodes) (stepped S s c .edges) sat × Inside (stepped S s c .nodes) (stepped S s c .edges)
 keeps-states S s c sat says inside h =
     let w = still-step S s c sat says inside h in
@@ -161,16 +169,19 @@ module _ (N : Nodes) (sat : List ℕ) where
   unfolding keepsStates
   join-absent e l = absent (e .parent) (bringsNothing (e .kind) (nodeIn (nodesOf N) (e .parent) .state) (flag sat (e .child)) (flag sat (e .parent))) l
 
-  pub join-keeps : (e : Edge) {P : Node} {c p r : Bool} → e .parent < N .count → P ≡ nodeIn (nodesOf N) (e .parent) → c ≡ flag sat (e .child) → p ≡ flag sat (e .parent) → r ≡ bringsNothing (e .kind) (P .state) c p → r ≡ keepsStates (nodesOf N) sat (Join e)
+  pub join-keeps : (e : Edge) {P : Node} {c p r : Bool} → e .parent < N .count → P ≡ nodeIn (nodesOf N) (e .parent) → c ≡ flag sat (e .child)
+      → p ≡ flag sat (e .parent) → r ≡ bringsNothing (e .kind) (P .state) c p → r ≡ keepsStates (nodesOf N) sat (Join e)
   unfolding keepsStates
   join-keeps e l pe ce qe h =
-      h ∙ (λ i. bringsNothing (e .kind) (pe i .state) (ce i) (qe i)) ∙ present (e .parent) (bringsNothing (e .kind) (nodeIn (nodesOf N) (e .parent) .state) (flag sat (e .child)) (flag sat (e .parent))) l
+      h ∙ (λ i. bringsNothing (e .kind) (pe i .state) (ce i) (qe i))
+      ∙ present (e .parent) (bringsNothing (e .kind) (nodeIn (nodesOf N) (e .parent) .state) (flag sat (e .child)) (flag sat (e .parent))) l
 
   pub mark-absent : (i : ℕ) → N .count ≤ i → false ≡ keepsStates (nodesOf N) sat (Mark i)
   unfolding keepsStates
   mark-absent i l = absent i (not (isParts (nodeIn (nodesOf N) i .expression))) l
 
-  pub mark-keeps : (i : ℕ) {P : Node} {t : Bool} → i < N .count → P ≡ nodeIn (nodesOf N) i → t ≡ isParts (P .expression) → not t ≡ keepsStates (nodesOf N) sat (Mark i)
+  pub mark-keeps : (i : ℕ) {P : Node} {t : Bool} → i < N .count → P ≡ nodeIn (nodesOf N) i → t ≡ isParts (P .expression)
+      → not t ≡ keepsStates (nodesOf N) sat (Mark i)
   unfolding keepsStates
   mark-keeps i l pe e = ap not (e ∙ ap (λ (n : Node). isParts (n .expression)) pe) ∙ present i (not (isParts (nodeIn (nodesOf N) i .expression))) l
 
@@ -184,7 +195,11 @@ pub inside-start : (n : ℕ) (P : List ℕ) → InsideTo n P 0
 inside-start n P = record { parents = λ i l. absurd (omega arith) }
 
 pub inside-add : (n : ℕ) (P : List ℕ) (j : ℕ) → InsideTo n P j → getD P j 0 < n → InsideTo n P (j + 1)
-inside-add n P j h l = record { parents = λ i k. ⊎-elim (λ e. subst (λ (x : ℕ). getD P x 0 < n) (sym (eqb-true i j e)) l) (λ e. h .parents i (omega (arith, eqb-false i j e))) (decided (eqb i j)) }
+inside-add n P j h l =
+    record {
+      parents = λ i k. ⊎-elim (λ e. subst (λ (x : ℕ). getD P x 0 < n) (sym (eqb-true i j e)) l)
+          (λ e. h .parents i (omega (arith, eqb-false i j e))) (decided (eqb i j));
+    }
 
 pub inside-all : (N : Nodes) (E : Edges) (j : ℕ) → E .count ≤ j → InsideTo (N .count) (E .parent) j → Inside (nodesOf N) (edgesOf E)
 inside-all N E j l h =

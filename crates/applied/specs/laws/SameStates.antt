@@ -41,7 +41,8 @@ still-both g h = record { onward = λ z. h .onward (g .onward z); back = λ z. g
 -- by number
 pub still-same : {ns ns′ : List Node} {es es′ : List Edge} → Still ns es ns′ es′ → (i : ℕ) → at (satisfiedB ns es) i ≡ at (satisfiedB ns′ es′) i
 still-same {ns} {ns′} {es} {es′} h i =
-    bool-iff _ _ (λ z. satisfied-exact ns′ es′ i .1 (h .onward (satisfied-exact ns es i .0 z))) (λ z. satisfied-exact ns es i .1 (h .back (satisfied-exact ns′ es′ i .0 z)))
+    bool-iff _ _ (λ z. satisfied-exact ns′ es′ i .1 (h .onward (satisfied-exact ns es i .0 z)))
+    (λ z. satisfied-exact ns es i .1 (h .back (satisfied-exact ns′ es′ i .0 z)))
 
 -- each edge leads into a node
 pub record Inside (ns : List Node) (es : List Edge) : Type 0 where
@@ -61,7 +62,8 @@ module _ (ns : List Node) (es : List Edge) (e : Edge) where
   edge-onward : {i : ℕ} → Satisfied ns es i → Satisfied ns (es ++ (e ∷ [])) i
   edge-onward (trivial x) = trivial x
   edge-onward (standard s k h) = standard s (child-more k) (edge-onward h)
-  edge-onward (intersection x p f w h) = intersection x p f (λ a m. record { child = child-more (w a m .child); role = w a m .role }) (λ a m. edge-onward (h a m))
+  edge-onward (intersection x p f w h) =
+      intersection x p f (λ a m. record { child = child-more (w a m .child); role = w a m .role }) (λ a m. edge-onward (h a m))
 
   module _ (idle : Idle ns es e) where
     -- an implication child that the edge brings, or an older one
@@ -77,17 +79,20 @@ module _ (ns : List Node) (es : List Edge) (e : Edge) where
 
     -- all parts, one of which the edge may bring
     by-parts : {i : ℕ} {p : Parts} → nodeIn ns i .expression ≡ E.Intersection p → FullyProcessed ns i → (f : (a : Role) → List·Memᴰ a (rolesOf p) → ℕ)
-        → ((a : Role) (m : List·Memᴰ a (rolesOf p)) → Part ns (es ++ (e ∷ [])) i a (f a m)) → ((a : Role) (m : List·Memᴰ a (rolesOf p)) → Satisfied ns es (f a m)) → Satisfied ns es i
+        → ((a : Role) (m : List·Memᴰ a (rolesOf p)) → Part ns (es ++ (e ∷ [])) i a (f a m))
+        → ((a : Role) (m : List·Memᴰ a (rolesOf p)) → Satisfied ns es (f a m)) → Satisfied ns es i
     by-parts {i} {p} x z f w h = go (at (satisfiedB ns es) i) refl
       where
-        old : at (satisfiedB ns es) i ≡ false → (a : Role) (m : List·Memᴰ a (rolesOf p)) → List·Memᴰ (record { kind = w a m .child .kind; parent = i; child = f a m }) es
+        old : at (satisfiedB ns es) i ≡ false → (a : Role) (m : List·Memᴰ a (rolesOf p))
+            → List·Memᴰ (record { kind = w a m .child .kind; parent = i; child = f a m }) es
         old n a m =
             ⊎-elim (λ j. j)
             (λ j.
             let q : record { kind = w a m .child .kind; parent = i; child = f a m } ≡ e = List·Memᴰ·eq-of-singleton j in
             let g : Satisfied ns es i =
             subst (Satisfied ns es) (sym (ap (λ (d : Edge). d .parent) q))
-            (idle .part (sym (ap (λ (d : Edge). intersectionKind (d .kind)) q) ∙ w a m .child .passes) (sym (ap (λ (d : Edge). nodeIn ns (d .parent) .state) q) ∙ z) (subst (Satisfied ns es) (ap (λ (d : Edge). d .child) q) (h a m))) in
+            (idle .part (sym (ap (λ (d : Edge). intersectionKind (d .kind)) q) ∙ w a m .child .passes)
+            (sym (ap (λ (d : Edge). nodeIn ns (d .parent) .state) q) ∙ z) (subst (Satisfied ns es) (ap (λ (d : Edge). d .child) q) (h a m))) in
             absurd (false-true (sym n ∙ satisfied-exact ns es i .1 g)))
             (List·Memᴰ·append-cases es (w a m .child .edge))
 
@@ -95,7 +100,16 @@ module _ (ns : List Node) (es : List Edge) (e : Edge) where
         go true n = satisfied-exact ns es i .0 n
         go false n =
             intersection x z f
-            (λ a m. record { child = record { kind = w a m .child .kind; passes = w a m .child .passes; edge = old n a m; inside = w a m .child .inside }; role = w a m .role })
+            (λ a m. record {
+              child = record {
+                kind = w a m .child .kind;
+                passes = w a m .child .passes;
+                edge = old n a m;
+                inside = w a
+                    m .child .inside;
+              };
+              role = w a m .role;
+            })
             h
 
     edge-back : {i : ℕ} → Satisfied ns (es ++ (e ∷ [])) i → Satisfied ns es i
@@ -108,7 +122,10 @@ module _ (ns : List Node) (es : List Edge) (e : Edge) where
 
   pub inside-edge : Inside ns es → e .parent < length ns → Inside ns (es ++ (e ∷ []))
   inside-edge h l =
-      record { parent = λ d m. ⊎-elim (λ k. h .parent d k) (λ k. subst (λ (x : Edge). x .parent < length ns) (sym (List·Memᴰ·eq-of-singleton k)) l) (List·Memᴰ·append-cases es m) }
+      record {
+        parent = λ d m. ⊎-elim (λ k. h .parent d k) (λ k. subst (λ (x : Edge). x .parent < length ns) (sym (List·Memᴰ·eq-of-singleton k)) l)
+            (List·Memᴰ·append-cases es m);
+      }
 
 -- A node more
 
@@ -140,7 +157,8 @@ module _ (ns : List Node) (es : List Edge) (x : Node) (inside : Inside ns es) wh
       where
         go : (b : Bool) → eqb i (length ns) ≡ b → Satisfied ns es i
         go true q =
-            absurd (false-true (sym plain ∙ ap (λ (n : Node). isEntity (n .expression)) (sym (getD-append-seam ns x [] blank)) ∙ ap (λ (j : ℕ). isEntity (nodeIn more j .expression)) (sym (eqb-true i (length ns) q)) ∙ ap isEntity e))
+            absurd (false-true (sym plain ∙ ap (λ (n : Node). isEntity (n .expression)) (sym (getD-append-seam ns x [] blank))
+            ∙ ap (λ (j : ℕ). isEntity (nodeIn more j .expression)) (sym (eqb-true i (length ns) q)) ∙ ap isEntity e))
         go false q =
             let l : i < length ns = omega (arith, satisfied-inside {ns = more} {es = es} (trivial e), length-append ns (x ∷ []), eqb-false i (length ns) q) in
             trivial (sym (old-expression i l) ∙ e)
@@ -150,11 +168,16 @@ module _ (ns : List Node) (es : List Edge) (x : Node) (inside : Inside ns es) wh
 
     node-back : {i : ℕ} → Satisfied more es i → Satisfied ns es i
     node-back (trivial e) = trivial-back e
-    node-back (standard {i} s k h) = standard (sym (ap isStandard (old-expression i (inside .parent _ (k .edge)))) ∙ s) (child-inner k (node-back h)) (node-back h)
+    node-back (standard {i} s k h) =
+        standard (sym (ap isStandard (old-expression i (inside .parent _ (k .edge)))) ∙ s) (child-inner k (node-back h)) (node-back h)
     node-back (intersection {i} {p} e z f w h) =
         let l : i < length ns = inside .parent _ (w (p .first) (List·Memᴰ·head refl) .child .edge) in
         intersection (sym (old-expression i l) ∙ e) (sym (ap (λ (n : Node). n .state) (old-node i l)) ∙ z) f
-        (λ a m. record { child = child-inner (w a m .child) (node-back (h a m)); role = sym (old-expression (f a m) (satisfied-inside (node-back (h a m)))) ∙ w a m .role })
+        (λ a m. record {
+          child = child-inner (w a m .child) (node-back (h a m));
+          role = sym
+              (old-expression (f a m) (satisfied-inside (node-back (h a m)))) ∙ w a m .role;
+        })
         (λ a m. node-back (h a m))
 
     pub still-node : Still ns es more es
@@ -209,11 +232,19 @@ module _ (ns : List Node) (es : List Edge) (i s : ℕ) (l : i < length ns) where
     mark-onward : {j : ℕ} → Satisfied ns es j → Satisfied marked es j
     mark-onward (trivial {i = j} e) = trivial (same-expression j ∙ e)
     mark-onward (standard {i = j} t k h) =
-        standard (ap isStandard (same-expression j) ∙ t) (record { kind = k .kind; passes = k .passes; edge = k .edge; inside = omega (arith, k .inside, wide) }) (mark-onward h)
+        standard (ap isStandard (same-expression j) ∙ t)
+        (record { kind = k .kind; passes = k .passes; edge = k .edge; inside = omega (arith, k .inside, wide) }) (mark-onward h)
     mark-onward (intersection {i = j} e z f w h) =
         intersection (same-expression j ∙ e) (ap (λ (n : Node). n .state) (same-state j e) ∙ z) f
         (λ a m. record {
-          child = record { kind = w a m .child .kind; passes = w a m .child .passes; edge = w a m .child .edge; inside = omega (arith, w a m .child .inside, wide) };
+          child =
+              record {
+                kind = w a m .child .kind;
+                passes = w a m .child .passes;
+                edge = w a m .child .edge;
+                inside = omega
+                    (arith, w a m .child .inside, wide);
+              };
           role = same-expression (f a m) ∙ w a m .role;
         })
         (λ a m. mark-onward (h a m))
@@ -221,11 +252,19 @@ module _ (ns : List Node) (es : List Edge) (i s : ℕ) (l : i < length ns) where
     mark-back : {j : ℕ} → Satisfied marked es j → Satisfied ns es j
     mark-back (trivial {i = j} e) = trivial (sym (same-expression j) ∙ e)
     mark-back (standard {i = j} t k h) =
-        standard (sym (ap isStandard (same-expression j)) ∙ t) (record { kind = k .kind; passes = k .passes; edge = k .edge; inside = omega (arith, k .inside, wide) }) (mark-back h)
+        standard (sym (ap isStandard (same-expression j)) ∙ t)
+        (record { kind = k .kind; passes = k .passes; edge = k .edge; inside = omega (arith, k .inside, wide) }) (mark-back h)
     mark-back (intersection {i = j} e z f w h) =
         intersection (sym (same-expression j) ∙ e) (sym (ap (λ (n : Node). n .state) (same-state j (sym (same-expression j) ∙ e))) ∙ z) f
         (λ a m. record {
-          child = record { kind = w a m .child .kind; passes = w a m .child .passes; edge = w a m .child .edge; inside = omega (arith, w a m .child .inside, wide) };
+          child =
+              record {
+                kind = w a m .child .kind;
+                passes = w a m .child .passes;
+                edge = w a m .child .edge;
+                inside = omega
+                    (arith, w a m .child .inside, wide);
+              };
           role = sym (same-expression (f a m)) ∙ w a m .role;
         })
         (λ a m. mark-back (h a m))

@@ -29,6 +29,7 @@ use Rattle.negotiation.specs.declared.Negotiation.{Negotiation}
 use Rattle.negotiation.specs.laws.State.{stateOf}
 use Rattle.negotiation.specs.Ends.{requester, otherSide}
 use Rattle.graph.specs.Processed.{markedState}
+use Rattle.numbers.specs.Sizes.{MOST-NODES, MOST-EDGES, MOST-SHOWN}
 
 -- One command
 
@@ -74,11 +75,13 @@ module _ (k : ℕ) (p : Node) where
   pub verifier-mediator : (k ≡ 6) → (p .verifier ≡ 0 → ⊥) → 0 ≡ verifierOf k p
   verifier-mediator e h = ap (λ (b : Bool). cond b 1 0) (sym (ne-eqb (p .verifier) 0 h)) ∙ verifier-control e
 
-pub primary-is : (h : Header) (o : Opening) {s : ℕ} → s ≡ requester h → record { expression = E.Role (o .role); subject = s; verifier = 0; state = o .state } ≡ primaryOf h o
+pub primary-is : (h : Header) (o : Opening) {s : ℕ} → s ≡ requester h
+    → record { expression = E.Role (o .role); subject = s; verifier = 0; state = o .state } ≡ primaryOf h o
 unfolding primaryOf
 primary-is h o e = λ i. record { expression = E.Role (o .role); subject = e i; verifier = 0; state = o .state }
 
-pub child-is : (p : Node) (n : NewEdge) {v : ℕ} → v ≡ verifierOf (n .kind) p → record { expression = n .expression; subject = n .subject; verifier = v; state = n .state } ≡ childOf p n
+pub child-is : (p : Node) (n : NewEdge) {v : ℕ} → v ≡ verifierOf (n .kind) p
+    → record { expression = n .expression; subject = n .subject; verifier = v; state = n .state } ≡ childOf p n
 unfolding childOf
 child-is p n e = λ i. record { expression = n .expression; subject = n .subject; verifier = e i; state = n .state }
 
@@ -90,19 +93,26 @@ module _ (n : Negotiation) where
   unfolding stateOf withNode
   edges-kept r x h = sym (edges-length (r .edges)) ∙ ap (λ (S : State). length (S .edges)) h ∙ edges-length (n .edges)
 
-  pub nodes-few : within (stateOf n) ≡ true → n .nodes .count ≤ 128
+  pub nodes-few : within (stateOf n) ≡ true → n .nodes .count ≤ MOST-NODES
   unfolding within stateOf
-  nodes-few h = omega (arith, nodes-length (n .nodes), leb-true (length (nodesOf (n .nodes))) 128 (and-left _ (leb (length (edgesOf (n .edges))) 256) (and-left _ (leb (length (credentials (n .shown))) 64) h)))
+  nodes-few h =
+      omega (
+        arith,
+        nodes-length (n .nodes),
+        leb-true (length (nodesOf (n .nodes))) 128
+            (and-left _ (leb (length (edgesOf (n .edges))) 256) (and-left _ (leb (length (credentials (n .shown))) 64) h)),
+      )
 
-  pub room-show : (c : Credential) → hasRoom (stateOf n) (Show c) ≡ true → n .shown .count < 64
+  pub room-show : (c : Credential) → hasRoom (stateOf n) (Show c) ≡ true → n .shown .count < MOST-SHOWN
   unfolding hasRoom stateOf
   room-show c h = omega (arith, count-length (n .shown), ltb-true (length (credentials (n .shown))) 64 h)
 
-  pub room-open : (o : Opening) → hasRoom (stateOf n) (Open o) ≡ true → n .nodes .count < 128
+  pub room-open : (o : Opening) → hasRoom (stateOf n) (Open o) ≡ true → n .nodes .count < MOST-NODES
   unfolding hasRoom stateOf
   room-open o h = omega (arith, nodes-length (n .nodes), ltb-true (length (nodesOf (n .nodes))) 128 h)
 
-  pub room-bring : (b : NewEdge) → hasRoom (stateOf n) (Bring b) ≡ true → (b .parent < n .nodes .count) × (n .nodes .count < 128) × (n .edges .count < 256)
+  pub room-bring : (b : NewEdge) → hasRoom (stateOf n) (Bring b) ≡ true
+      → (b .parent < n .nodes .count) × (n .nodes .count < MOST-NODES) × (n .edges .count < MOST-EDGES)
   unfolding hasRoom stateOf
   room-bring b h =
       let p : Bool = ltb (b .parent) (length (nodesOf (n .nodes))) in
@@ -113,7 +123,7 @@ module _ (n : Negotiation) where
         omega (arith, edges-length (n .edges), ltb-true (length (edgesOf (n .edges))) 256 (and-right (p && q) r h)),
       )
 
-  pub room-join : (e : Edge) → hasRoom (stateOf n) (Join e) ≡ true → n .edges .count < 256
+  pub room-join : (e : Edge) → hasRoom (stateOf n) (Join e) ≡ true → n .edges .count < MOST-EDGES
   unfolding hasRoom stateOf
   room-join e h = omega (arith, edges-length (n .edges), ltb-true (length (edgesOf (n .edges))) 256 h)
 
@@ -131,9 +141,11 @@ module _ (n : Negotiation) where
       → R ≡ withEdge Q (record { kind = b .kind; parent = b .parent; child = n .nodes .count }) → R ≡ stepped (stateOf n) s (Bring b)
   unfolding stepped stateOf
   step-bring s b {p} {x} pe xe h k =
-      k ∙ (λ i. withEdge ((h ∙ ap (withNode (stateOf n)) (xe ∙ ap (λ (y : Node). childOf y b) pe)) i) (record { kind = b .kind; parent = b .parent; child = sym (nodes-length (n .nodes)) i }))
+      k ∙ (λ i. withEdge ((h ∙ ap (withNode (stateOf n)) (xe ∙ ap (λ (y : Node). childOf y b) pe)) i)
+      (record { kind = b .kind; parent = b .parent; child = sym (nodes-length (n .nodes)) i }))
 
-  pub step-mark : (s i : ℕ) {x : Node} {j t : ℕ} {R : State} → x ≡ nodeIn (nodesOf (n .nodes)) i → j ≡ i → t ≡ markedState s x → R ≡ withMark (stateOf n) j t → R ≡ stepped (stateOf n) s (Mark i)
+  pub step-mark : (s i : ℕ) {x : Node} {j t : ℕ} {R : State} → x ≡ nodeIn (nodesOf (n .nodes)) i → j ≡ i → t ≡ markedState s x
+      → R ≡ withMark (stateOf n) j t → R ≡ stepped (stateOf n) s (Mark i)
   unfolding stepped stateOf
   step-mark s i xe je te h = h ∙ (λ k. withMark (stateOf n) (je k) ((te ∙ ap (markedState s) xe) k))
 

@@ -22,11 +22,13 @@ use Rattle.negotiation.specs.Layout.{stateBytes}
 use Rattle.begin.specs.Begin.{isRequester, roleNumber, otherNumber, beginNumber, sideOf, begunState, behindTables, beginOf}
 use Rattle.numbers.specs.Answer.{Answer, refused, accepted, answerOf, noValue, bufferAfter, judged}
 use Rattle.tables.specs.Tables.{Tables}
+use Rattle.numbers.specs.Refusals.{LENGTH}
 
 -- The wanted role and the other end
 
 module _ (ns : List Name) (entity name : ℕ) where
-  by-tests : (a b c : Bool) → a ≡ isRequester entity name → b ≡ (eqb entity 0 || eqb name 0) → c ≡ eqb (classOf ns name) 0 → _≡_ {A = ℕ} (cond a 0 (cond b 3 (cond c 4 0))) (roleNumber ns entity name)
+  by-tests : (a b c : Bool) → a ≡ isRequester entity name → b ≡ (eqb entity 0 || eqb name 0) → c ≡ eqb (classOf ns name) 0
+      → _≡_ {A = ℕ} (cond a 0 (cond b 3 (cond c 4 0))) (roleNumber ns entity name)
   unfolding roleNumber
   by-tests a b c h k l = λ i. cond (h i) 0 (cond (k i) 3 (cond (l i) 4 0))
 
@@ -77,13 +79,13 @@ or-else-second k m z = ap (λ (b : Bool). cond b m k) (eq-eqb k 0 z)
 pub begin-outside : (s n : List ℕ) (other entity name : ℕ) → (length n ≡ NEGOTIATION-BYTES → ⊥) → Leaves n (beginOf s n other entity name) 1 n
 unfolding beginOf
 begin-outside s n other entity name h =
-    leaves-refused n _ 1 (ap (λ (b : Bool). cond b (behindTables other entity name (readTables s)) (refused 1)) (ne-eqb (length n) NEGOTIATION-BYTES h))
+    leaves-refused n _ 1 (ap (λ (b : Bool). cond b (behindTables other entity name (readTables s)) (refused LENGTH)) (ne-eqb (length n) NEGOTIATION-BYTES h))
 
 module _ (s n : List ℕ) (other entity name : ℕ) (d : Decoded) (size : length n ≡ NEGOTIATION-BYTES) (h : outcomeOf d ≡ readTables s) where
   inside : (o : Answer Tables) → outcomeOf d ≡ o → beginOf s n other entity name ≡ behindTables other entity name o
   unfolding beginOf
   inside o q =
-      ap (λ (b : Bool). cond b (behindTables other entity name (readTables s)) (refused 1)) (eq-eqb (length n) NEGOTIATION-BYTES size)
+      ap (λ (b : Bool). cond b (behindTables other entity name (readTables s)) (refused LENGTH)) (eq-eqb (length n) NEGOTIATION-BYTES size)
       ∙ ap (behindTables other entity name) (sym h ∙ q)
 
   -- the tables are refused
@@ -91,7 +93,8 @@ module _ (s n : List ℕ) (other entity name : ℕ) (d : Decoded) (size : length
   begin-tables z = leaves-refused n _ (d .refusal) (inside (refused (d .refusal)) (outcome-refused d (d .refusal) refl z))
 
   module _ (ok : d .refusal ≡ 0) {k : ℕ} (role : k ≡ roleNumber (namesOf (d .house .names)) entity name) where
-    numbers : (m : ℕ) → beginNumber (tablesOf (d .house)) other entity name ≡ m → beginOf s n other entity name ≡ judged m (accepted (begunState (tablesOf (d .house)) other entity name))
+    numbers : (m : ℕ) → beginNumber (tablesOf (d .house)) other entity name ≡ m
+        → beginOf s n other entity name ≡ judged m (accepted (begunState (tablesOf (d .house)) other entity name))
     unfolding outcomeOf
     numbers m q =
         inside (accepted (tablesOf (d .house))) (ap (λ (b : Bool). cond b (accepted (tablesOf (d .house))) (refused (d .refusal))) (eq-eqb (d .refusal) 0 ok))
@@ -100,7 +103,8 @@ module _ (s n : List ℕ) (other entity name : ℕ) (d : Decoded) (size : length
     -- the role is refused
     pub begin-role : (k ≡ 0 → ⊥) → Leaves n (beginOf s n other entity name) k n
     unfolding beginNumber tablesOf
-    begin-role z = leaves-refused n _ k (numbers k (ap (λ (j : ℕ). orElse j (otherNumber (d .house .own) other)) (sym role) ∙ or-else-first k _ z) ∙ judged-refused k _ z)
+    begin-role z =
+        leaves-refused n _ k (numbers k (ap (λ (j : ℕ). orElse j (otherNumber (d .house .own) other)) (sym role) ∙ or-else-first k _ z) ∙ judged-refused k _ z)
 
     module _ (free : k ≡ 0) {m : ℕ} (end : m ≡ otherNumber (d .house .own) other) where
       second : beginNumber (tablesOf (d .house)) other entity name ≡ m
@@ -112,12 +116,16 @@ module _ (s n : List ℕ) (other entity name : ℕ) (d : Decoded) (size : length
       begin-other z = leaves-refused n _ m (numbers m second ∙ judged-refused m _ z)
 
       -- the fresh negotiation
-      pub begin-fresh : m ≡ 0 → {S : State} {side : ℕ} {b : List ℕ} → side ≡ sideOf entity name → S ≡ freshState side (d .house .own) other (roleOf entity name) → b ≡ stateBytes S
+      pub begin-fresh : m ≡ 0 → {S : State} {side : ℕ} {b : List ℕ} → side ≡ sideOf entity name
+          → S ≡ freshState side (d .house .own) other (roleOf entity name) → b ≡ stateBytes S
           → Leaves n (beginOf s n other entity name) 0 b
       unfolding begunState tablesOf
       begin-fresh z e f w =
-          let q = numbers 0 (second ∙ z) in
-          (sym (ap (answerOf noValue) q), w ∙ ap stateBytes (f ∙ ap (λ (x : ℕ). freshState x (d .house .own) other (roleOf entity name)) e) ∙ sym (ap (bufferAfter stateBytes n) q))
+          let q = numbers 0 (second ∙ z) in (
+            sym (ap (answerOf noValue) q),
+            w ∙ ap stateBytes (f ∙ ap (λ (x : ℕ). freshState x (d .house .own) other (roleOf entity name)) e)
+                ∙ sym (ap (bufferAfter stateBytes n) q),
+          )
 
 -- a fresh negotiation is within the sizes
 pub within-fresh : (S : State) (side own other : ℕ) (wanted : Role) → S ≡ freshState side own other wanted → within S ≡ true

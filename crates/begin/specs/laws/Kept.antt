@@ -25,10 +25,12 @@ use Rattle.damage.specs.Damage.{sound, ifSound, readSound}
 use Rattle.begin.specs.Begin.{isRequester, roleNumber, otherNumber, beginNumber, sideOf, begunState, behindTables, beginOf}
 use Rattle.begin.specs.laws.Begin.{within-fresh}
 use Rattle.numbers.specs.Answer.{Answer, refused, accepted, judged}
+use Rattle.numbers.specs.Refusals.{LENGTH}
 
 -- Not damaged
 
-fresh-sound : (T : Tables) (side other : ℕ) (wanted : Role) → ltb side 2 ≡ true → otherSound (T .own) other ≡ true → wantedSound (T .names) side wanted ≡ true → sound T (freshState side (T .own) other wanted) ≡ true
+fresh-sound : (T : Tables) (side other : ℕ) (wanted : Role) → ltb side 2 ≡ true → otherSound (T .own) other ≡ true
+    → wantedSound (T .names) side wanted ≡ true → sound T (freshState side (T .own) other wanted) ≡ true
 unfolding sound headerSound emptySound freshState
 fresh-sound T side other wanted s o w = λ i. s i && eq-eqb (T .own) (T .own) refl i && o i && w i && true
 
@@ -57,7 +59,8 @@ wanted-free : (ns : List Name) (entity name : ℕ) → roleNumber ns entity name
 unfolding roleNumber wantedSound
 wanted-free ns entity name h = go (isRequester entity name) refl h
   where
-    role : (a b c : Bool) → eqb entity 0 ≡ a → eqb name 0 ≡ b → eqb (classOf ns name) 0 ≡ c → _≡_ {A = ℕ} (cond (a || b) 3 (cond c 4 0)) 0 → (ltb 0 entity && ltb 0 name && not (eqb (classOf ns name) 0)) ≡ true
+    role : (a b c : Bool) → eqb entity 0 ≡ a → eqb name 0 ≡ b → eqb (classOf ns name) 0 ≡ c → _≡_ {A = ℕ} (cond (a || b) 3 (cond c 4 0)) 0
+        → (ltb 0 entity && ltb 0 name && not (eqb (classOf ns name) 0)) ≡ true
     role true b c p q r z = absurd (omega arith)
     role false true c p q r z = absurd (omega arith)
     role false false true p q r z = absurd (omega arith)
@@ -82,12 +85,14 @@ pub begun-sound : (T : Tables) (other entity name : ℕ) → beginNumber T other
 unfolding beginNumber begunState
 begun-sound T other entity name h =
     let z = both-zero (roleNumber (T .names) entity name) (otherNumber (T .own) other) h in
-    fresh-sound T (sideOf entity name) other (roleOf entity name) (side-two entity name) (other-free (T .own) other (z .1)) (wanted-free (T .names) entity name (z .0))
+    fresh-sound T (sideOf entity name) other (roleOf entity name) (side-two entity name) (other-free (T .own) other (z .1))
+    (wanted-free (T .names) entity name (z .0))
 
 -- Over bytes
 
 -- an accepted begin makes the state of its tables
-module _ (tables negotiation : List ℕ) (other entity name : ℕ) {T : Tables} {S : State} (h : beginOf tables negotiation other entity name ≡ accepted S) (t : readTables tables ≡ accepted T) where
+module _ (tables negotiation : List ℕ) (other entity name : ℕ) {T : Tables} {S : State}
+    (h : beginOf tables negotiation other entity name ≡ accepted S) (t : readTables tables ≡ accepted T) where
   begun-number : (k : ℕ) (U : State) → judged k (accepted U) ≡ accepted S → (k ≡ 0) × (U ≡ S)
   begun-number zero U e = (refl, cc)
   begun-number (suc k) U e = absurd (let z : _≡_ {A = ℕ} 0 1 = cc in omega arith)
@@ -96,7 +101,8 @@ module _ (tables negotiation : List ℕ) (other entity name : ℕ) {T : Tables} 
   unfolding beginOf
   begun-only = go (eqb (length negotiation) NEGOTIATION-BYTES) h
     where
-      go : (b : Bool) → cond b (behindTables other entity name (readTables tables)) (refused 1) ≡ accepted S → (beginNumber T other entity name ≡ 0) × (begunState T other entity name ≡ S)
+      go : (b : Bool) → cond b (behindTables other entity name (readTables tables)) (refused LENGTH) ≡ accepted S
+          → (beginNumber T other entity name ≡ 0) × (begunState T other entity name ≡ S)
       go true e = begun-number (beginNumber T other entity name) (begunState T other entity name) (sym (ap (behindTables other entity name) t) ∙ e)
       go false e = absurd (let z : _≡_ {A = ℕ} 0 1 = cc in omega arith)
 
@@ -106,12 +112,14 @@ module _ (tables negotiation : List ℕ) (other entity name : ℕ) {T : Tables} 
   begin-undamaged =
       let r = begun-only in
       let s : sound T S ≡ true = sym (ap (sound T) (r .1)) ∙ begun-sound T other entity name (r .0) in
-      ap (ifSound T) (state-back S (within-fresh S (sideOf entity name) (T .own) other (roleOf entity name) (sym (r .1)))) ∙ ap (λ (b : Bool). cond b (some S) none) s
+      ap (ifSound T) (state-back S (within-fresh S (sideOf entity name) (T .own) other (roleOf entity name) (sym (r .1))))
+      ∙ ap (λ (b : Bool). cond b (some S) none) s
 
 -- Nothing hidden
 
 -- begin goes by what may show of the tables
-pub begin-public : (T U : Tables) (other entity name : ℕ) → publicOf T ≡ publicOf U → (beginNumber T other entity name ≡ beginNumber U other entity name) × (begunState T other entity name ≡ begunState U other entity name)
+pub begin-public : (T U : Tables) (other entity name : ℕ) → publicOf T ≡ publicOf U
+    → (beginNumber T other entity name ≡ beginNumber U other entity name) × (begunState T other entity name ≡ begunState U other entity name)
 unfolding publicOf beginNumber begunState
 begin-public T U other entity name h = (
   ap (λ (P : Public). orElse (roleNumber (P .names) entity name) (otherNumber (P .own) other)) h,
@@ -119,9 +127,10 @@ begin-public T U other entity name h = (
 )
 
 -- "Begin, given the same arguments and, but for the tables, the same buffers in both runs, answers alike and leaves the same bytes"
-pub begin-alike : (s t negotiation : List ℕ) (other entity name : ℕ) {T U : Tables} → readTables s ≡ accepted T → readTables t ≡ accepted U → publicOf T ≡ publicOf U → beginOf s negotiation other entity name ≡ beginOf t negotiation other entity name
+pub begin-alike : (s t negotiation : List ℕ) (other entity name : ℕ) {T U : Tables} → readTables s ≡ accepted T → readTables t ≡ accepted U
+    → publicOf T ≡ publicOf U → beginOf s negotiation other entity name ≡ beginOf t negotiation other entity name
 unfolding beginOf
 begin-alike s t negotiation other entity name {T} {U} p q h =
     let e = begin-public T U other entity name h in
-    ap (λ (x : Answer State). cond (eqb (length negotiation) NEGOTIATION-BYTES) x (refused 1))
+    ap (λ (x : Answer State). cond (eqb (length negotiation) NEGOTIATION-BYTES) x (refused LENGTH))
     (ap (behindTables other entity name) p ∙ (λ i. judged (e .0 i) (accepted (e .1 i))) ∙ sym (ap (behindTables other entity name) q))

@@ -68,7 +68,8 @@ module _ (I : List Credential) (a : Role) {x : Expression} where
   unfolding isFrom
   from-other e h = sym (ap (λ (z : Bool). z && fromOf I (E.Role a) x) (ap isEntity e ∙ h))
 
-pub told-on : (P : Pool) (a : Role) {k : ℕ} {F : List ℕ} → P .count ≤ 128 → Told (isFrom (chosen P (replicate 128 1)) a) P k F → Told (isFrom (credentials P) a) P k F
+pub told-on : (P : Pool) (a : Role) {k : ℕ} {F : List ℕ} → P .count ≤ 128 → Told (isFrom (chosen P (replicate 128 1)) a) P k F
+    → Told (isFrom (credentials P) a) P k F
 told-on P a {k} {F} l t = subst (λ (I : List Credential). Told (isFrom I a) P k F) (all-on P l) t
 
 pub told-count : {pred : Expression → Bool} {P : Pool} {k m : ℕ} {F : List ℕ} → Told pred P k F → m ≤ k → k ≤ m → Told pred P m F
@@ -88,7 +89,8 @@ module _ {P : Pool} {F : List ℕ} (a : Role) (T : Told (isFrom (credentials P) 
   flagged-member {b} x =
       let z : isFrom (credentials P) a (E.Entity b) ≡ true = ap (isFrom (credentials P) a) (sym (x .body)) ∙ (sym (T .says (x .at) (x .below)) ∙ x .flagged) in
       let i : List·Memᴰ b (entitiesIn (bodyAt P (x .at))) = subst (λ (y : Expression). List·Memᴰ b (entitiesIn y)) (sym (x .body)) (List·Memᴰ·head refl) in
-      keep-mem (λ b. fromOf (credentials P) (E.Role a) (E.Entity b)) (gather-mem (λ (c : Credential). entitiesIn (c .body)) (upTo-mem (P .count) (credentialAt P) (x .at) (x .below)) i) z
+      keep-mem (λ b. fromOf (credentials P) (E.Role a) (E.Entity b))
+      (gather-mem (λ (c : Credential). entitiesIn (c .body)) (upTo-mem (P .count) (credentialAt P) (x .at) (x .below)) i) z
 
   member-flagged : {b : ℕ} → List·Memᴰ b (allMembers (credentials P) a) → MemberTo P F (P .count) b
   unfolding credentials isFrom
@@ -126,7 +128,8 @@ offer-none d n r b (E.Intersection p) z = refl
 offer-none d n r b (E.Goal s) z = refl
 
 module _ (d : Candidate → Bool) (n : Node) (r : ℕ) (b : Choice) {x : Expression} where
-  pub offer-entity : {a : ℕ} {w : Candidate} {c : Choice} → x ≡ E.Entity a → w ≡ childFor 1 n (E.Role (roleOf a r)) (n .subject) → c ≡ better d b w → c ≡ offerRole d n r b x
+  pub offer-entity : {a : ℕ} {w : Candidate} {c : Choice} → x ≡ E.Entity a → w ≡ childFor 1 n (E.Role (roleOf a r)) (n .subject) → c ≡ better d b w
+      → c ≡ offerRole d n r b x
   unfolding offerRole
   offer-entity e f q = q ∙ (ap (better d b) f ∙ ap (offerRole d n r b) (sym e))
 
@@ -144,7 +147,8 @@ module _ (d : Candidate → Bool) (P : Pool) (F : List ℕ) (n : Node) (r : ℕ)
   unfolding offerRoles
   roles-skip k h b = ap (λ (t : Bool). cond t (offerRole d n r b (bodyAt P k)) b) h
 
-  pub roles-taken : (k : ℕ) (b : Choice) {c : Choice} {x : Expression} → flag F k ≡ true → x ≡ bodyAt P k → c ≡ offerRole d n r b x → c ≡ offerRoles d P F n r b k
+  pub roles-taken : (k : ℕ) (b : Choice) {c : Choice} {x : Expression} → flag F k ≡ true → x ≡ bodyAt P k → c ≡ offerRole d n r b x
+      → c ≡ offerRoles d P F n r b k
   unfolding offerRoles
   roles-taken k b h e q = q ∙ (ap (offerRole d n r b) e ∙ sym (ap (λ (t : Bool). cond t (offerRole d n r b (bodyAt P k)) b) h))
 
@@ -159,7 +163,8 @@ module _ (d : Candidate → Bool) (P : Pool) (F : List ℕ) (n : Node) (r : ℕ)
       entity : (a : ℕ) → bodyAt P k ≡ E.Entity a → Best d (λ w. Q w ⊎ Leads P n r k w) (better d b (childFor 1 n (E.Role (roleOf a r)) (n .subject)))
       entity a e =
           best-next (childFor 1 n (E.Role (roleOf a r)) (n .subject)) (λ w q. inl q) (inr (record { member = a; body = e; edge = refl }))
-          (λ w y. ⊎-elim (λ q. inl q) (λ l. inr (l .edge ∙ ap (λ (c : ℕ). childFor 1 n (E.Role (roleOf c r)) (n .subject)) (entity-eq (sym (l .body) ∙ e)))) y) B
+          (λ w y. ⊎-elim (λ q. inl q) (λ l. inr (l .edge
+          ∙ ap (λ (c : ℕ). childFor 1 n (E.Role (roleOf c r)) (n .subject)) (entity-eq (sym (l .body) ∙ e)))) y) B
 
       go : (x : Expression) → bodyAt P k ≡ x → Best d (λ w. Q w ⊎ Leads P n r k w) (offerRole d n r b x)
       go (E.Entity a) e = subst (λ (c : Choice). Best d (λ w. Q w ⊎ Leads P n r k w) c) (offer-entity d n r b refl refl refl) (entity a e)
@@ -192,7 +197,8 @@ module _ (d : Candidate → Bool) (P : Pool) (F : List ℕ) (n : Node) (r : ℕ)
         let l = x .leads in
         let i = flagged-member a T (record { at = x .at; below = x .below; flagged = x .passes; body = l .body }) in
         let y = frontier-mem pred (credentials P) (rolesFor (credentials P) a r) (map-mem (λ b. E.Role (roleOf b r)) i) (here (h (l .member))) in
-        subst (λ (v : Candidate). List·Memᴰ v (edgesTo true n targets)) (sym (l .edge)) (map-mem (λ x. childFor 1 n x (n .subject)) (keep-mem (admits true n) y refl))
+        subst (λ (v : Candidate). List·Memᴰ v (edgesTo true n targets)) (sym (l .edge))
+        (map-mem (λ x. childFor 1 n x (n .subject)) (keep-mem (admits true n) y refl))
 
     roles-first : {c : Choice} → c ≡ folded (P .count) (offerRoles d P F n r) C.Nothing → c ≡ firstNot d C.Nothing (implications n targets)
     unfolding offerRoles
@@ -200,7 +206,8 @@ module _ (d : Candidate → Bool) (P : Pool) (F : List ℕ) (n : Node) (r : ℕ)
         e
         ∙ sym (best-first (edgesTo true n targets) (edges-uniform true n targets) d
         (best-same (λ w x. ⊎-elim (λ z. absurd z) (λ y. leads-edge w y) x) (λ w y. inr (edge-leads w y))
-        (among-best (flag F) (Leads P n r) (λ b k. offerRole d n r b (bodyAt P k)) (λ Q b k f B. one-more Q b k B) (λ w. ⊥) C.Nothing (P .count) (best-start (λ v z. z)))))
+        (among-best (flag F) (Leads P n r) (λ b k. offerRole d n r b (bodyAt P k)) (λ Q b k f B. one-more Q b k B) (λ w. ⊥) C.Nothing (P .count)
+        (best-start (λ v z. z)))))
         ∙ ap (firstNot d C.Nothing) (all-implications n targets)
 
 -- Where it is not: the frontiers of all of them at once
@@ -221,7 +228,14 @@ module _ {P : Pool} {on stop F : List ℕ} {r : ℕ} {pred : Expression → Bool
           let g = frontier-find pred (chosen P on) (rolesFor (credentials P) a r) m in
           let o = map-find (λ b. E.Role (roleOf b r)) (allMembers (credentials P) a) (g .1) in
           let w = frontier-stopped S (h (o .0)) (subst (λ (y : Expression). Frontier pred (chosen P on) y x) (o .2) (g .2)) in
-          record { at = w .at; below = chain-below (w .chain); flagged = C .complete (o .0) (w .at) (member-flagged a T (o .1)) (w .chain); ends = w .ends; body = w .body }
+          record {
+            at = w .at;
+            below = chain-below (w .chain);
+            flagged = C .complete (o .0) (w .at) (member-flagged a T (o .1)) (w .chain);
+            ends =
+                w .ends;
+            body = w .body;
+          }
 
       fro : (x : Expression) → Member P stop all x → List·Memᴰ x (frontierOf pred (chosen P on) (rolesFor (credentials P) a r))
       fro x m =
@@ -241,10 +255,14 @@ module _ {P : Pool} {on stop F : List ℕ} {r : ℕ} {pred : Expression → Bool
 -- by the class of the roles' name
 module _ (o : Preparation) (R : Prepared o) (d : Candidate → Bool) (n : Node) (a : Role) (r : ℕ) {F : List ℕ} {c : Choice} {k : ℕ}
     (T : Told (isFrom (credentials (o .house .issuer)) a) (o .house .issuer) (o .house .issuer .count) F) (p : k ≡ classOf (namesOf (o .house .names)) r) where
-  pub all-roles : k ≡ 3 → c ≡ folded (o .house .issuer .count) (offerRoles d (o .house .issuer) F n r) C.Nothing → c ≡ firstNot d C.Nothing (allEdges (tablesOf (o .house)) n a r)
+  pub all-roles : k ≡ 3 → c ≡ folded (o .house .issuer .count) (offerRoles d (o .house .issuer) F n r) C.Nothing
+      → c ≡ firstNot d C.Nothing (allEdges (tablesOf (o .house)) n a r)
   unfolding tablesOf
-  all-roles h e = roles-first d (o .house .issuer) F n r (oppo (namesOf (o .house .names))) a T (λ b. eq-eqb (classOf (namesOf (o .house .names)) r) 3 (sym p ∙ h)) e
+  all-roles h e =
+      roles-first d (o .house .issuer) F n r (oppo (namesOf (o .house .names))) a T (λ b. eq-eqb (classOf (namesOf (o .house .names)) r) 3 (sym p ∙ h)) e
 
-  pub all-frontiers : (k ≡ 3 → ⊥) → Together d (o .house .issuer) (replicate 128 1) (o .oppo) F n r c → c ≡ firstNot d C.Nothing (allEdges (tablesOf (o .house)) n a r)
+  pub all-frontiers : (k ≡ 3 → ⊥) → Together d (o .house .issuer) (replicate 128 1) (o .oppo) F n r c
+      → c ≡ firstNot d C.Nothing (allEdges (tablesOf (o .house)) n a r)
   unfolding tablesOf predicateOf
-  all-frontiers h X = together-first a (R .oppo) T (λ b. ne-eqb (classOf (namesOf (o .house .names)) r) 3 (λ z. h (p ∙ z))) d n (all-on (o .house .issuer) (issuer-few R)) X
+  all-frontiers h X =
+      together-first a (R .oppo) T (λ b. ne-eqb (classOf (namesOf (o .house .names)) r) 3 (λ z. h (p ∙ z))) d n (all-on (o .house .issuer) (issuer-few R)) X

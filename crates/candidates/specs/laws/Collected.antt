@@ -45,7 +45,8 @@ module _ {P : Pool} {F : List ℕ} where
     where
       go : (j : ℕ) → j < k + 1 → flag F j ≡ true → bodyAt P j ≡ E.Entity b → MemberTo P F k b ⊎ (bodyAt P k ≡ E.Entity b)
       go j l f y =
-          ⊎-elim (λ z. inr (ap (bodyAt P) (sym (eqb-true j k z)) ∙ y)) (λ z. inl (record { at = j; below = omega (arith, eqb-false j k z); flagged = f; body = y })) (decided (eqb j k))
+          ⊎-elim (λ z. inr (ap (bodyAt P) (sym (eqb-true j k z)) ∙ y))
+          (λ z. inl (record { at = j; below = omega (arith, eqb-false j k z); flagged = f; body = y })) (decided (eqb j k))
 
   -- none of the credentials from k to m is flagged
   fewer : {k m n b : ℕ} → Skipped (flag F) k n m → MemberTo P F m b → MemberTo P F k b
@@ -53,7 +54,8 @@ module _ {P : Pool} {F : List ℕ} where
     where
       go : (j : ℕ) → j < m → flag F j ≡ true → bodyAt P j ≡ E.Entity b → MemberTo P F k b
       go j l f y =
-          ⊎-elim (λ z. record { at = j; below = ltb-true j k z; flagged = f; body = y }) (λ z. absurd (false-true (sym (S .none j (ltb-false j k z) l) ∙ f))) (decided (ltb j k))
+          ⊎-elim (λ z. record { at = j; below = ltb-true j k z; flagged = f; body = y })
+          (λ z. absurd (false-true (sym (S .none j (ltb-false j k z) l) ∙ f))) (decided (ltb j k))
 
 -- Flags of one column in another
 
@@ -66,11 +68,13 @@ pub record Added (k : ℕ) (all found out : List ℕ) : Type 0 where
 pub added-start : (all found : List ℕ) → length all ≡ 128 → Added 0 all found all
 added-start all found l = record { sized = l; joined = λ i h. absurd (omega arith); kept = λ i h. refl }
 
-pub added-next : {k v : ℕ} {all found out next : List ℕ} {b : Bool} → Added k all found out → k < 128 → b ≡ (flag out k || flag found k) → v ≡ cond b 1 0 → next ≡ set out k v → Added (k + 1) all found next
+pub added-next : {k v : ℕ} {all found out next : List ℕ} {b : Bool} → Added k all found out → k < 128 → b ≡ (flag out k || flag found k)
+    → v ≡ cond b 1 0 → next ≡ set out k v → Added (k + 1) all found next
 added-next {k} {v} {all} {found} {out} {next} {b} A l e f q =
     record {
       sized = ap length q ∙ length-set out k v ∙ A .sized;
-      joined = λ i h. ⊎-elim (λ z. here-at i (eqb-true i k z)) (λ z. other i (eqb-false i k z) ∙ A .joined i (omega (arith, eqb-false i k z))) (decided (eqb i k));
+      joined =
+          λ i h. ⊎-elim (λ z. here-at i (eqb-true i k z)) (λ z. other i (eqb-false i k z) ∙ A .joined i (omega (arith, eqb-false i k z))) (decided (eqb i k));
       kept = λ i h. other i (λ z. omega (arith, z)) ∙ A .kept i (omega arith);
     }
   where
@@ -102,11 +106,14 @@ pub record Grown (P : Pool) (on stop : List ℕ) (r : ℕ) (x : Expression) (all
   pub only : (i : ℕ) → flag out i ≡ true → (flag all i ≡ true) ⊎ ((b : ℕ) × (x ≡ E.Entity b) × Chain P on stop (roleOf b r) i)
 
 module _ {P : Pool} {on stop : List ℕ} {r : ℕ} {x : Expression} {all : List ℕ} where
-  pub grown-entity : {a : ℕ} {found out : List ℕ} → x ≡ E.Entity a → Reaches P on stop (roleOf a r) found → Added (P .count) all found out → Grown P on stop r x all out
+  pub grown-entity : {a : ℕ} {found out : List ℕ} → x ≡ E.Entity a → Reaches P on stop (roleOf a r) found → Added (P .count) all found out
+      → Grown P on stop r x all out
   grown-entity {a} {found} {out} e R A =
       record {
         sized = A .sized;
-        grows = λ i h. ⊎-elim (λ z. A .joined i (ltb-true i (P .count) z) ∙ or-left (flag all i) (flag found i) h) (λ z. A .kept i (ltb-false i (P .count) z) ∙ h) (decided (ltb i (P .count)));
+        grows =
+            λ i h. ⊎-elim (λ z. A .joined i (ltb-true i (P .count) z) ∙ or-left (flag all i) (flag found i) h)
+            (λ z. A .kept i (ltb-false i (P .count) z) ∙ h) (decided (ltb i (P .count)));
         seen = λ b i q c.
             let z : Chain P on stop (roleOf a r) i = subst (λ (t : ℕ). Chain P on stop (roleOf t r) i) (entity-eq (sym q ∙ e)) c in
             A .joined i (chain-below z) ∙ or-right (flag all i) (flag found i) (R .complete i z);
@@ -144,7 +151,8 @@ module _ (P : Pool) (on stop F : List ℕ) (r : ℕ) where
         complete = λ b i x c. C .complete b i (fewer S x) c;
       }
 
-  pub collected-next : {k : ℕ} {all out : List ℕ} {x : Expression} → Collected P on stop F r k all → flag F k ≡ true → x ≡ bodyAt P k → Grown P on stop r x all out → Collected P on stop F r (k + 1) out
+  pub collected-next : {k : ℕ} {all out : List ℕ} {x : Expression} → Collected P on stop F r k all → flag F k ≡ true → x ≡ bodyAt P k
+      → Grown P on stop r x all out → Collected P on stop F r (k + 1) out
   collected-next {k} C f e G =
       record {
         sized = G .sized;

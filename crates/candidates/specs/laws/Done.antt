@@ -64,14 +64,16 @@ module _ (ns : List Node) (es : List Edge) (i : ℕ) (w : Candidate) {n c : ℕ}
   pub done-absent : n ≤ c → false ≡ isDone ns es i w
   unfolding isDone
   done-absent h =
-      sym (ap (λ (b : Bool). cond b (eqb i (childNumber ns w) || hasEdge es (record { kind = w .kind; parent = i; child = childNumber ns w })) false) (le-ltb (childNumber ns w) (length ns) (omega (arith, p, l))))
+      sym (ap (λ (b : Bool). cond b (eqb i (childNumber ns w) || hasEdge es (record { kind = w .kind; parent = i; child = childNumber ns w })) false)
+      (le-ltb (childNumber ns w) (length ns) (omega (arith, p, l))))
 
   module _ (h : c < n) where
     stands : (eqb i c || hasEdge es (record { kind = w .kind; parent = i; child = c })) ≡ isDone ns es i w
     unfolding isDone
     stands =
         ap (λ (m : ℕ). eqb i m || hasEdge es (record { kind = w .kind; parent = i; child = m })) p
-        ∙ sym (ap (λ (b : Bool). cond b (eqb i (childNumber ns w) || hasEdge es (record { kind = w .kind; parent = i; child = childNumber ns w })) false) (lt-ltb (childNumber ns w) (length ns) (omega (arith, p, l))))
+        ∙ sym (ap (λ (b : Bool). cond b (eqb i (childNumber ns w) || hasEdge es (record { kind = w .kind; parent = i; child = childNumber ns w }))
+        false) (lt-ltb (childNumber ns w) (length ns) (omega (arith, p, l))))
 
     pub done-self : {j : ℕ} → j ≡ i → j ≡ c → true ≡ isDone ns es i w
     done-self e q = sym (ap (λ (b : Bool). b || hasEdge es (record { kind = w .kind; parent = i; child = c })) (eq-eqb i c (sym e ∙ q))) ∙ stands

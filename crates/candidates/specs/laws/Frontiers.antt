@@ -45,20 +45,28 @@ module _ (o : Preparation) (R : Prepared o) (d : Candidate → Bool) (n : Node) 
   unfolding tablesOf predicateOf
   issuer-first X =
       members-first (reads-bodies (R .oppo) (X .reaches)) true n d (X .best)
-      ∙ (ap (λ (ws : List Candidate). firstNot d C.Nothing ws) (all-implications n (frontierOf (oppo (T .names)) (chosen (o .house .issuer) (replicate 128 1)) (bodiesOf (chosen (o .house .issuer) (replicate 128 1)) (E.Role a))))
-      ∙ ap (λ (I : List Credential). firstNot d C.Nothing (implications n (frontierOf (oppo (T .names)) I (bodiesOf I (E.Role a))))) (all-on (o .house .issuer) (issuer-few R)))
+      ∙ (ap (λ (ws : List Candidate). firstNot d C.Nothing ws)
+      (all-implications n (frontierOf (oppo (T .names)) (chosen (o .house .issuer) (replicate 128 1))
+      (bodiesOf (chosen (o .house .issuer) (replicate 128 1)) (E.Role a))))
+      ∙ ap (λ (I : List Credential). firstNot d C.Nothing (implications n (frontierOf (oppo (T .names)) I (bodiesOf I (E.Role a)))))
+      (all-on (o .house .issuer) (issuer-few R)))
 
   -- 0x13: the edges to what is no entity of the sens frontier of the bodies
   pub rest-first : {c : Choice} → Extended d (o .house .subject) (o .visible) (o .sens) false n a C.Nothing c
-      → c ≡ firstNot d C.Nothing (implications n (keep (λ x. not (isEntity x)) (frontierOf (sens (T .sensitive)) (publicOf T .subjectStored) (bodiesOf (publicOf T .subjectStored) (E.Role a)))))
+      → c ≡ firstNot d C.Nothing (implications n (keep (λ x. not (isEntity x))
+      (frontierOf (sens (T .sensitive)) (publicOf T .subjectStored) (bodiesOf (publicOf T .subjectStored) (E.Role a)))))
   unfolding predicateOf
   rest-first X =
       members-first (reads-bodies (R .sens) (X .reaches)) false n d (X .best)
-      ∙ (ap (λ (ws : List Candidate). firstNot d C.Nothing (ordered ws)) (no-entities n (frontierOf (sens (T .sensitive)) (chosen (o .house .subject) (o .visible)) (bodiesOf (chosen (o .house .subject) (o .visible)) (E.Role a))))
-      ∙ ap (λ (K : List Credential). firstNot d C.Nothing (implications n (keep (λ x. not (isEntity x)) (frontierOf (sens (T .sensitive)) K (bodiesOf K (E.Role a)))))) (R .visible))
+      ∙ (ap (λ (ws : List Candidate). firstNot d C.Nothing (ordered ws))
+      (no-entities n (frontierOf (sens (T .sensitive)) (chosen (o .house .subject) (o .visible))
+      (bodiesOf (chosen (o .house .subject) (o .visible)) (E.Role a))))
+      ∙ ap (λ (K : List Credential). firstNot d C.Nothing
+      (implications n (keep (λ x. not (isEntity x)) (frontierOf (sens (T .sensitive)) K (bodiesOf K (E.Role a)))))) (R .visible))
 
   -- 0x13: the edge to the subject, or to what is no entity, of the simp frontier, and of the sens frontier of a role that is not sensitive
-  pub simp-first : {c : Choice} → SubjectLeads d (o .house .subject) (o .visible) (o .simp) n a c → c ≡ firstNot d C.Nothing (toSubject n (frontierOf simp (publicOf T .subjectStored) (E.Role a ∷ [])))
+  pub simp-first : {c : Choice} → SubjectLeads d (o .house .subject) (o .visible) (o .simp) n a c
+      → c ≡ firstNot d C.Nothing (toSubject n (frontierOf simp (publicOf T .subjectStored) (E.Role a ∷ [])))
   unfolding predicateOf
   simp-first X =
       subject-first (reads-role (R .simp) (X .reaches) refl) d n (X .best)
@@ -76,4 +84,5 @@ pub public-solutions : (o : Preparation) → Prepared o → (n : Node) (r : ℕ)
     → c ≡ firstNot d C.Nothing (ordered (map (solutionEdge n) (namedRoles r (pairsOf (o .house .sensitive)) (chosen (o .house .subject) (o .visible)))))
     → c ≡ firstNot d C.Nothing (ordered (map (solutionEdge n) (namedRoles r (tablesOf (o .house) .sensitive) (publicOf (tablesOf (o .house)) .subjectStored))))
 unfolding tablesOf
-public-solutions o R n r d p = p ∙ ap (λ (K : List Credential). firstNot d C.Nothing (ordered (map (solutionEdge n) (namedRoles r (pairsOf (o .house .sensitive)) K)))) (R .visible)
+public-solutions o R n r d p =
+    p ∙ ap (λ (K : List Credential). firstNot d C.Nothing (ordered (map (solutionEdge n) (namedRoles r (pairsOf (o .house .sensitive)) K)))) (R .visible)

@@ -58,7 +58,9 @@ module _ (d : Candidate → Bool) (Q : Pairs) (n : Node) (r : ℕ) (b : Choice) 
 
   pub pair-edge : a .name ≡ r → {w : Candidate} {c : Choice} → w ≡ solutionEdge n a → c ≡ better d b w → c ≡ offer d (isNamedPair Q r) (pairEdge Q n) b k
   unfolding isNamedPair pairEdge
-  pair-edge h f q = offer-taken d (isNamedPair Q r) (pairEdge Q n) b k (eq-eqb (pairAt Q k .role .name) r (sym (ap (λ (x : Role). x .name) p) ∙ h)) (q ∙ ap (better d b) (f ∙ ap (solutionEdge n) p))
+  pair-edge h f q =
+      offer-taken d (isNamedPair Q r) (pairEdge Q n) b k (eq-eqb (pairAt Q k .role .name) r (sym (ap (λ (x : Role). x .name) p) ∙ h))
+      (q ∙ ap (better d b) (f ∙ ap (solutionEdge n) p))
 
 module _ (d : Candidate → Bool) (P : Pool) (on : List ℕ) (n : Node) (r : ℕ) (b : Choice) (k : ℕ) where
   pub head-off : (getD on k 0 ≡ 1 → ⊥) → b ≡ offer d (isNamedHead P on r) (headEdge P n) b k
@@ -75,7 +77,9 @@ module _ (d : Candidate → Bool) (P : Pool) (on : List ℕ) (n : Node) (r : ℕ
 
     pub head-edge : a .name ≡ r → {w : Candidate} {c : Choice} → w ≡ solutionEdge n a → c ≡ better d b w → c ≡ offer d (isNamedHead P on r) (headEdge P n) b k
     unfolding headEdge
-    head-edge z f q = offer-taken d (isNamedHead P on r) (headEdge P n) b k (named true (eq-eqb (headAt P k .name) r (sym (ap (λ (x : Role). x .name) p) ∙ z))) (q ∙ ap (better d b) (f ∙ ap (solutionEdge n) p))
+    head-edge z f q =
+        offer-taken d (isNamedHead P on r) (headEdge P n) b k (named true (eq-eqb (headAt P k .name) r (sym (ap (λ (x : Role). x .name) p) ∙ z)))
+        (q ∙ ap (better d b) (f ∙ ap (solutionEdge n) p))
 
 -- Both loops
 
@@ -101,7 +105,13 @@ module _ (n : Node) (r : ℕ) (Q : Pairs) (P : Pool) (on : List ℕ) where
       let p = map-find (λ (p : Pair). p .role) (pairsOf Q) z in
       let u = upTo-find (Q .count) (pairAt Q) (p .0) (p .1) in
       let e : f .0 ≡ pairAt Q (u .0) .role = p .2 ∙ ap (λ (q : Pair). q .role) (u .2) in
-      inl (record { at = u .0; below = u .1; passes = ap (λ (a : Role). eqb (a .name) r) (sym e) ∙ k .1; leads = record { same = f .2 ∙ ap (solutionEdge n) e } }))
+      inl (record {
+        at = u .0;
+        below = u .1;
+        passes = ap (λ (a : Role). eqb (a .name) r) (sym e)
+            ∙ k .1;
+        leads = record { same = f .2 ∙ ap (solutionEdge n) e };
+      }))
       (λ z.
       let c = map-find (λ (c : Credential). c .head) (chosen P on) z in
       let u = chosen-find P on (P .count) (c .0) (c .1) in
@@ -109,7 +119,8 @@ module _ (n : Node) (r : ℕ) (Q : Pairs) (P : Pool) (on : List ℕ) where
       inr (record {
         at = u .0;
         below = u .1;
-        passes = and-both (flag on (u .0)) (eqb (headAt P (u .0) .name) r) (eq-eqb (getD on (u .0) 0) 1 (u .2)) (ap (λ (a : Role). eqb (a .name) r) (sym e) ∙ k .1);
+        passes =
+            and-both (flag on (u .0)) (eqb (headAt P (u .0) .name) r) (eq-eqb (getD on (u .0) 0) 1 (u .2)) (ap (λ (a : Role). eqb (a .name) r) (sym e) ∙ k .1);
         leads = record { same = f .2 ∙ ap (solutionEdge n) e };
       }))
       (List·Memᴰ·append-cases (map (λ (p : Pair). p .role) (pairsOf Q)) (k .0))
@@ -118,24 +129,37 @@ module _ (n : Node) (r : ℕ) (Q : Pairs) (P : Pool) (on : List ℕ) where
   unfolding pairsOf chosen isNamedPair pairEdge isNamedHead headEdge
   fro w (inl a) =
       subst (λ (v : Candidate). List·Memᴰ v edges) (sym (a .leads .same))
-      (map-mem (solutionEdge n) (keep-mem (λ (a : Role). eqb (a .name) r) (Memᴰ·append-left (map (λ (c : Credential). c .head) (chosen P on)) (map-mem (λ (p : Pair). p .role) (upTo-mem (Q .count) (pairAt Q) (a .at) (a .below)))) (a .passes)))
+      (map-mem (solutionEdge n) (keep-mem (λ (a : Role). eqb (a .name) r)
+      (Memᴰ·append-left (map (λ (c : Credential). c .head) (chosen P on))
+      (map-mem (λ (p : Pair). p .role) (upTo-mem (Q .count) (pairAt Q) (a .at) (a .below)))) (a .passes)))
   fro w (inr a) =
       let p = and-parts (flag on (a .at)) (eqb (headAt P (a .at) .name) r) (a .passes) in
       subst (λ (v : Candidate). List·Memᴰ v edges) (sym (a .leads .same))
-      (map-mem (solutionEdge n) (keep-mem (λ (a : Role). eqb (a .name) r) (Memᴰ·append-right (map (λ (p : Pair). p .role) (pairsOf Q)) (map-mem (λ (c : Credential). c .head) (chosen-mem P on (P .count) (a .at) (a .below) (eqb-true (getD on (a .at) 0) 1 (p .0))))) (p .1)))
+      (map-mem (solutionEdge n) (keep-mem (λ (a : Role). eqb (a .name) r)
+      (Memᴰ·append-right (map (λ (p : Pair). p .role) (pairsOf Q))
+      (map-mem (λ (c : Credential). c .head) (chosen-mem P on (P .count) (a .at) (a .below) (eqb-true (getD on (a .at) 0) 1 (p .0))))) (p .1)))
 
   uniform : Uniform 3 (n .verifier) edges
-  uniform = record { each = λ w m. let f = map-find (solutionEdge n) (namedRoles r (pairsOf Q) (chosen P on)) m in (ap (λ (v : Candidate). v .kind) (f .2), ap (λ (v : Candidate). v .verifier) (f .2), ap (λ (v : Candidate). v .direct) (f .2)) }
+  uniform =
+      record {
+        each = λ w m. let f = map-find (solutionEdge n) (namedRoles r (pairsOf Q) (chosen P on)) m in
+            (ap (λ (v : Candidate). v .kind) (f .2), ap (λ (v : Candidate). v .verifier) (f .2), ap (λ (v : Candidate). v .direct) (f .2));
+      }
 
   -- the first solution in order that is not done
-  pub solutions-first : (d : Candidate → Bool) {b c : Choice} → b ≡ folded (Q .count) (offer d (isNamedPair Q r) (pairEdge Q n)) C.Nothing → c ≡ folded (P .count) (offer d (isNamedHead P on r) (headEdge P n)) b
+  pub solutions-first : (d : Candidate → Bool) {b c : Choice} → b ≡ folded (Q .count) (offer d (isNamedPair Q r) (pairEdge Q n)) C.Nothing
+      → c ≡ folded (P .count) (offer d (isNamedHead P on r) (headEdge P n)) b
       → c ≡ firstNot d C.Nothing (ordered (map (solutionEdge n) (namedRoles r (pairsOf Q) (chosen P on))))
   solutions-first d {b} {c} p q =
       q ∙ (ap (folded (P .count) (offer d (isNamedHead P on r) (headEdge P n))) p
-      ∙ sym (best-first edges uniform d (best-same (λ w x. ⊎-elim (λ y. ⊎-elim (λ z. absurd z) (λ z. fro w (inl z)) y) (λ z. fro w (inr z)) x) (λ w m. ⊎-elim (λ y. inl (inr y)) (λ y. inr y) (to w m)) both)))
+      ∙ sym (best-first edges uniform d (best-same (λ w x. ⊎-elim (λ y. ⊎-elim (λ z. absurd z) (λ z. fro w (inl z)) y) (λ z. fro w (inr z)) x)
+      (λ w m. ⊎-elim (λ y. inl (inr y)) (λ y. inr y) (to w m)) both)))
     where
       first : Choice
       first = folded (Q .count) (offer d (isNamedPair Q r) (pairEdge Q n)) C.Nothing
 
-      both : Best d (λ w. (⊥ ⊎ Among (Q .count) (isNamedPair Q r) (Is (pairEdge Q n)) w) ⊎ Among (P .count) (isNamedHead P on r) (Is (headEdge P n)) w) (folded (P .count) (offer d (isNamedHead P on r) (headEdge P n)) first)
-      both = offers-best d (isNamedHead P on r) (headEdge P n) (λ w. ⊥ ⊎ Among (Q .count) (isNamedPair Q r) (Is (pairEdge Q n)) w) first (P .count) (offers-best d (isNamedPair Q r) (pairEdge Q n) (λ w. ⊥) C.Nothing (Q .count) (best-start (λ v z. z)))
+      both : Best d (λ w. (⊥ ⊎ Among (Q .count) (isNamedPair Q r) (Is (pairEdge Q n)) w)
+          ⊎ Among (P .count) (isNamedHead P on r) (Is (headEdge P n)) w) (folded (P .count) (offer d (isNamedHead P on r) (headEdge P n)) first)
+      both =
+          offers-best d (isNamedHead P on r) (headEdge P n) (λ w. ⊥ ⊎ Among (Q .count) (isNamedPair Q r) (Is (pairEdge Q n)) w) first (P .count)
+          (offers-best d (isNamedPair Q r) (pairEdge Q n) (λ w. ⊥) C.Nothing (Q .count) (best-start (λ v z. z)))

@@ -11,7 +11,8 @@ use Rattle.moves.specs.declared.Candidate.{Candidate}
 use Rattle.moves.specs.declared.Choice.{Choice}
 use Rattle.moves.specs.declared.Choice.the-variants as C
 use Rattle.moves.specs.Candidates.{precedes, equals, ordered, firstNot}
-use Rattle.moves.specs.laws.Candidates.{equals-self, equals-parts, equals-after, precedes-strict, precedes-total, First, first-here, first-next, alike-one, ordered-first, least-first, ordered-all}
+use Rattle.moves.specs.laws.Candidates.{equals-self, equals-parts, equals-after, precedes-strict, precedes-total, First, first-here, first-next, alike-one}
+use Rattle.moves.specs.laws.Candidates.{ordered-first, least-first, ordered-all}
 
 -- One edge more
 
@@ -39,13 +40,15 @@ module _ {d : Candidate → Bool} where
   best-same f g (some w q n l) = some w (f w q) n (λ v r. l v (g v r))
 
   -- with w among the edges
-  pub best-next : {Q R : Candidate → Type 0} {b : Choice} (w : Candidate) → ((v : Candidate) → Q v → R v) → R w → ((v : Candidate) → R v → Q v ⊎ (v ≡ w)) → Best d Q b → Best d R (better d b w)
+  pub best-next : {Q R : Candidate → Type 0} {b : Choice} (w : Candidate) → ((v : Candidate) → Q v → R v) → R w
+      → ((v : Candidate) → R v → Q v ⊎ (v ≡ w)) → Best d Q b → Best d R (better d b w)
   unfolding better
   best-next {Q} {R} w f rw g (none h) = go (d w) refl
     where
       go : (a : Bool) → d w ≡ a → Best d R (cond a C.Nothing (C.Edge w))
       go true k = none (λ v r. ⊎-elim (λ q. h v q) (λ e. ap d e ∙ k) (g v r))
-      go false k = some w rw k (λ v r n. ⊎-elim (λ q. absurd (false-true (sym n ∙ h v q))) (λ e. inl (ap (λ (z : Candidate). equals z w) e ∙ equals-self w)) (g v r))
+      go false k =
+          some w rw k (λ v r n. ⊎-elim (λ q. absurd (false-true (sym n ∙ h v q))) (λ e. inl (ap (λ (z : Candidate). equals z w) e ∙ equals-self w)) (g v r))
   best-next {Q} {R} w f rw g (some u q n l) = go (precedes w u) (d w) refl refl
     where
       -- w is not before u
@@ -81,7 +84,8 @@ module _ (d : Candidate → Bool) where
   first-rest rest [] = refl
   first-rest rest (w ∷ ws) = go (d w) (first-rest rest ws)
     where
-      go : (b : Bool) → firstNot d rest ws ≡ orElse (firstNot d C.Nothing ws) rest → cond b (firstNot d rest ws) (C.Edge w) ≡ orElse (cond b (firstNot d C.Nothing ws) (C.Edge w)) rest
+      go : (b : Bool) → firstNot d rest ws ≡ orElse (firstNot d C.Nothing ws) rest
+          → cond b (firstNot d rest ws) (C.Edge w) ≡ orElse (cond b (firstNot d C.Nothing ws) (C.Edge w)) rest
       go true ih = ih
       go false ih = refl
 
@@ -121,4 +125,6 @@ module _ {k v : ℕ} (vs : List Candidate) (U : Uniform k v vs) where
       first-mem-of h = ordered-first vs (alike-one d vs pairs) h .there
 
       one : (x : Candidate) → List·Memᴰ x vs → equals w x ≡ true → w ≡ x
-      one x o e = let p = pairs w x m o in let q = equals-parts w x e in λ i. record { kind = p .0 i; verifier = p .1 i; expression = q .0 i; subject = q .1 i; direct = p .2 i }
+      one x o e =
+          let p = pairs w x m o in let q = equals-parts w x e in λ i.
+          record { kind = p .0 i; verifier = p .1 i; expression = q .0 i; subject = q .1 i; direct = p .2 i }

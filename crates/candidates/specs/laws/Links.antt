@@ -41,6 +41,7 @@ use Rattle.moves.specs.Candidates.{ordered, firstNot, markIf, chosenIn, isDone}
 use Rattle.moves.specs.Rules.{End, ownersIn, childFor, childrenBy, isSatisfied, solutionsOf, linkRules}
 use Rattle.candidates.specs.laws.Least.{better, Uniform, orElse, first-rest}
 use Rattle.candidates.specs.laws.Offers.{folded, offer, offer-taken, offer-left, Among, Is, offers-first}
+use Rattle.numbers.specs.Sizes.{MOST-NODES}
 
 -- The goals that a node monitors
 
@@ -52,20 +53,25 @@ pub record Monitoring (E : Edges) (i k : ℕ) (r : List ℕ) : Type 0 where
 
 module _ (E : Edges) (i : ℕ) where
   pub monitoring-start : Monitoring E i 0 (replicate 128 0)
-  monitoring-start = record { sized = length-replicate {A = ℕ} 128 0; from = λ g h. absurd (false-true (sym (flag-zeros 128 g) ∙ h)); all = λ j h. absurd (omega arith) }
+  monitoring-start =
+      record { sized = length-replicate {A = ℕ} 128 0; from = λ g h. absurd (false-true (sym (flag-zeros 128 g) ∙ h)); all = λ j h. absurd (omega arith) }
 
   -- edge k is none, or its child has no place in the column
-  pub monitoring-skip : {k : ℕ} {r : List ℕ} → Monitoring E i k r → (getD (E .kind) k 0 ≡ 2 → getD (E .parent) k 0 ≡ i → getD (E .child) k 0 < 128 → ⊥) → Monitoring E i (k + 1) r
+  pub monitoring-skip : {k : ℕ} {r : List ℕ} → Monitoring E i k r
+      → (getD (E .kind) k 0 ≡ 2 → getD (E .parent) k 0 ≡ i → getD (E .child) k 0 < 128 → ⊥) → Monitoring E i (k + 1) r
   monitoring-skip {k} {r} M h =
       record {
         sized = M .sized;
         from = λ g f. let w = M .from g f in let l : w .0 < k = w .1 in (w .0, omega arith, w .2, w .3, w .4);
         all = λ j l a b c.
-            ⊎-elim (λ z. let q : j ≡ k = eqb-true j k z in absurd (h (ap (λ (x : ℕ). getD (E .kind) x 0) (sym q) ∙ a) (ap (λ (x : ℕ). getD (E .parent) x 0) (sym q) ∙ b) (subst (λ (x : ℕ). getD (E .child) x 0 < 128) q c)))
+            ⊎-elim (λ z. let q : j ≡ k = eqb-true j k z in absurd
+            (h (ap (λ (x : ℕ). getD (E .kind) x 0) (sym q) ∙ a) (ap (λ (x : ℕ). getD (E .parent) x 0) (sym q) ∙ b)
+            (subst (λ (x : ℕ). getD (E .child) x 0 < 128) q c)))
             (λ z. M .all j (omega (arith, eqb-false j k z)) a b c) (decided (eqb j k));
       }
 
-  pub monitoring-next : {k : ℕ} {r q : List ℕ} {c : ℕ} → Monitoring E i k r → getD (E .kind) k 0 ≡ 2 → getD (E .parent) k 0 ≡ i → c ≡ getD (E .child) k 0 → c < 128 → q ≡ set r c 1 → Monitoring E i (k + 1) q
+  pub monitoring-next : {k : ℕ} {r q : List ℕ} {c : ℕ} → Monitoring E i k r → getD (E .kind) k 0 ≡ 2 → getD (E .parent) k 0 ≡ i
+      → c ≡ getD (E .child) k 0 → c < 128 → q ≡ set r c 1 → Monitoring E i (k + 1) q
   monitoring-next {k} {r} {q} {c} M a b e l s =
       let inside : c < length r = omega (arith, M .sized) in
       record {
@@ -78,7 +84,8 @@ module _ (E : Edges) (i : ℕ) where
             (λ z.
             let y : getD (E .child) j 0 ≡ c = ap (λ (x : ℕ). getD (E .child) x 0) (eqb-true j k z) ∙ sym e in
             ap (flag q) y ∙ (ap (λ (x : List ℕ). flag x c) s ∙ flag-same r c inside))
-            (λ z. ap (λ (x : List ℕ). flag x (getD (E .child) j 0)) s ∙ flag-grows r c (getD (E .child) j 0) inside (M .all j (omega (arith, eqb-false j k z)) u v t))
+            (λ z. ap (λ (x : List ℕ). flag x (getD (E .child) j 0)) s
+            ∙ flag-grows r c (getD (E .child) j 0) inside (M .all j (omega (arith, eqb-false j k z)) u v t))
             (decided (eqb j k));
       }
 
@@ -93,7 +100,10 @@ module _ (E : Edges) (i : ℕ) where
     pub monitoring-miss : (eqb (getD (E .kind) k 0) 2 && eqb (getD (E .parent) k 0) i && ltb c 128) ≡ false → q ≡ r → Monitoring E i (k + 1) q
     monitoring-miss h s =
         subst (Monitoring E i (k + 1)) (sym s)
-        (monitoring-skip M (λ a b l. false-true (sym h ∙ and-both (eqb (getD (E .kind) k 0) 2 && eqb (getD (E .parent) k 0) i) (ltb c 128) (and-both (eqb (getD (E .kind) k 0) 2) (eqb (getD (E .parent) k 0) i) (eq-eqb (getD (E .kind) k 0) 2 a) (eq-eqb (getD (E .parent) k 0) i b)) (lt-ltb c 128 (omega (arith, e, l))))))
+        (monitoring-skip M (λ a b l. false-true (sym h
+        ∙ and-both (eqb (getD (E .kind) k 0) 2 && eqb (getD (E .parent) k 0) i) (ltb c 128)
+        (and-both (eqb (getD (E .kind) k 0) 2) (eqb (getD (E .parent) k 0) i) (eq-eqb (getD (E .kind) k 0) 2 a)
+        (eq-eqb (getD (E .parent) k 0) i b)) (lt-ltb c 128 (omega (arith, e, l))))))
 
 pub monitoring-room : (E : Edges) (i k c : ℕ) → (eqb (getD (E .kind) k 0) 2 && eqb (getD (E .parent) k 0) i && ltb c 128) ≡ true → c < 128
 monitoring-room E i k c h = ltb-true c 128 (and-parts (eqb (getD (E .kind) k 0) 2 && eqb (getD (E .parent) k 0) i) (ltb c 128) h .1)
@@ -148,14 +158,16 @@ module _ (n : ℕ) (K P C mon sat : List ℕ) (j : ℕ) where
 
   pub solution-kind : (getD K j 0 ≡ 3 → ⊥) → false ≡ isSolution
   unfolding isSolution
-  solution-kind h = sym (ap (λ (b : Bool). behind b (leb n (getD P j 0) || leb n (getD C j 0)) (flag mon (getD P j 0) && flag sat (getD C j 0))) (ne-eqb (getD K j 0) 3 h))
+  solution-kind h =
+      sym (ap (λ (b : Bool). behind b (leb n (getD P j 0) || leb n (getD C j 0)) (flag mon (getD P j 0) && flag sat (getD C j 0))) (ne-eqb (getD K j 0) 3 h))
 
   module _ (k : getD K j 0 ≡ 3) {g c : ℕ} (p : g ≡ getD P j 0) (q : c ≡ getD C j 0) where
     by-room : (b : Bool) → (leb n g || leb n c) ≡ b → cond b false (flag mon g && flag sat c) ≡ isSolution
     unfolding isSolution
     by-room b h =
         let o : (leb n (getD P j 0) || leb n (getD C j 0)) ≡ b = sym (λ i. leb n (p i) || leb n (q i)) ∙ h in
-        sym (ap (λ (x : Bool). behind x (leb n (getD P j 0) || leb n (getD C j 0)) (flag mon (getD P j 0) && flag sat (getD C j 0))) (eq-eqb (getD K j 0) 3 k) ∙ (λ i. cond (o i) false (sym (λ t. flag mon (p t) && flag sat (q t)) i)))
+        sym (ap (λ (x : Bool). behind x (leb n (getD P j 0) || leb n (getD C j 0)) (flag mon (getD P j 0) && flag sat (getD C j 0)))
+        (eq-eqb (getD K j 0) 3 k) ∙ (λ i. cond (o i) false (sym (λ t. flag mon (p t) && flag sat (q t)) i)))
 
     pub solution-outside : (leb n g || leb n c) ≡ true → false ≡ isSolution
     solution-outside h = by-room true h
@@ -164,7 +176,8 @@ module _ (n : ℕ) (K P C mon sat : List ℕ) (j : ℕ) where
     solution-flags h e = e ∙ by-room false h
 
   -- what it says
-  pub solution-parts : isSolution ≡ true → (getD K j 0 ≡ 3) × (getD P j 0 < n) × (getD C j 0 < n) × (flag mon (getD P j 0) ≡ true) × (flag sat (getD C j 0) ≡ true)
+  pub solution-parts : isSolution ≡ true → (getD K j 0 ≡ 3) × (getD P j 0 < n) × (getD C j 0 < n) × (flag mon (getD P j 0) ≡ true)
+      × (flag sat (getD C j 0) ≡ true)
   unfolding isSolution
   solution-parts h =
       let w = behind-parts (eqb (getD K j 0) 3) (leb n (getD P j 0) || leb n (getD C j 0)) (flag mon (getD P j 0) && flag sat (getD C j 0)) h in
@@ -196,16 +209,20 @@ module _ (N : Nodes) (E : Edges) (mon sat : List ℕ) (r : ℕ) (j : ℕ) where
 
   -- what it says
   pub solved-parts : isSolved ≡ true
-      → (getD (E .kind) j 0 ≡ 3) × (goalAt < N .count) × (solutionAt < N .count) × (flag mon goalAt ≡ true) × (flag sat solutionAt ≡ true) × (isNamed r (nodeAt N solutionAt .expression) ≡ true)
+      → (getD (E .kind) j 0 ≡ 3) × (goalAt < N .count) × (solutionAt < N .count) × (flag mon goalAt ≡ true) × (flag sat solutionAt ≡ true)
+      × (isNamed r (nodeAt N solutionAt .expression) ≡ true)
   unfolding isSolved isNamedAt
   solved-parts h =
       let w = and-parts (isSolution (N .count) (E .kind) (E .parent) (E .child) mon sat j) (isNamedAt N r solutionAt) h in
       let s = solution-parts (N .count) (E .kind) (E .parent) (E .child) mon sat j (w .0) in
       (s .0, s .1, s .2, s .3, s .4, w .1)
 
-  pub solved-of : getD (E .kind) j 0 ≡ 3 → goalAt < N .count → solutionAt < N .count → flag mon goalAt ≡ true → flag sat solutionAt ≡ true → isNamed r (nodeAt N solutionAt .expression) ≡ true → isSolved ≡ true
+  pub solved-of : getD (E .kind) j 0 ≡ 3 → goalAt < N .count → solutionAt < N .count → flag mon goalAt ≡ true → flag sat solutionAt ≡ true
+      → isNamed r (nodeAt N solutionAt .expression) ≡ true → isSolved ≡ true
   unfolding isSolved isNamedAt
-  solved-of k a b m s x = and-both (isSolution (N .count) (E .kind) (E .parent) (E .child) mon sat j) (isNamedAt N r solutionAt) (solution-of (N .count) (E .kind) (E .parent) (E .child) mon sat j k a b m s) x
+  solved-of k a b m s x =
+      and-both (isSolution (N .count) (E .kind) (E .parent) (E .child) mon sat j) (isNamedAt N r solutionAt)
+      (solution-of (N .count) (E .kind) (E .parent) (E .child) mon sat j k a b m s) x
 
 abbrev pub linkEdge : Node → Role → ℕ → Candidate
 linkEdge n a b = childFor 4 n (E.Role a) b
@@ -217,7 +234,8 @@ solutionEdge N n a c = linkEdge n a (entityIn (nodeAt N c .expression))
 unfoldable pub solvedEdge : Nodes → Edges → Node → Role → ℕ → Candidate
 solvedEdge N X n a j = solutionEdge N n a (getD (X .child) j 0)
 
-module _ (d : Candidate → Bool) (N : Nodes) (n : Node) (a : Role) (r c : ℕ) (b : Choice) {x : Expression} (e : x ≡ nodeAt N c .expression) {t : Bool} (p : t ≡ isNamed r x) where
+module _ (d : Candidate → Bool) (N : Nodes) (n : Node) (a : Role) (r c : ℕ) (b : Choice) {x : Expression} (e : x ≡ nodeAt N c .expression) {t : Bool}
+    (p : t ≡ isNamed r x) where
   named : t ≡ isNamedAt N r c
   unfolding isNamedAt
   named = p ∙ ap (isNamed r) e
@@ -225,27 +243,33 @@ module _ (d : Candidate → Bool) (N : Nodes) (n : Node) (a : Role) (r c : ℕ) 
   pub named-other : not t ≡ true → b ≡ offer d (isNamedAt N r) (solutionEdge N n a) b c
   named-other h = offer-left d (isNamedAt N r) (solutionEdge N n a) b c (sym named ∙ not-true t h)
 
-  pub named-edge : not t ≡ false → {o : ℕ} {w : Candidate} {z : Choice} → o ≡ entityIn x → w ≡ linkEdge n a o → z ≡ better d b w → z ≡ offer d (isNamedAt N r) (solutionEdge N n a) b c
+  pub named-edge : not t ≡ false → {o : ℕ} {w : Candidate} {z : Choice} → o ≡ entityIn x → w ≡ linkEdge n a o → z ≡ better d b w
+      → z ≡ offer d (isNamedAt N r) (solutionEdge N n a) b c
   unfolding solutionEdge
-  named-edge h u v q = offer-taken d (isNamedAt N r) (solutionEdge N n a) b c (sym named ∙ not-false t h) (q ∙ ap (better d b) (v ∙ ap (linkEdge n a) (u ∙ ap entityIn e)))
+  named-edge h u v q =
+      offer-taken d (isNamedAt N r) (solutionEdge N n a) b c (sym named ∙ not-false t h) (q ∙ ap (better d b) (v ∙ ap (linkEdge n a) (u ∙ ap entityIn e)))
 
 module _ (d : Candidate → Bool) (N : Nodes) (E : Edges) (mon sat : List ℕ) (r : ℕ) (n : Node) (a : Role) (j : ℕ) where
   -- an edge that brings a solution offers what the solution does
-  pub solved-here : isSolution (N .count) (E .kind) (E .parent) (E .child) mon sat j ≡ true → (b : Choice) {z : Choice} {c : ℕ} → c ≡ getD (E .child) j 0 → z ≡ offer d (isNamedAt N r) (solutionEdge N n a) b c
+  pub solved-here : isSolution (N .count) (E .kind) (E .parent) (E .child) mon sat j ≡ true → (b : Choice) {z : Choice} {c : ℕ}
+      → c ≡ getD (E .child) j 0 → z ≡ offer d (isNamedAt N r) (solutionEdge N n a) b c
       → z ≡ offer d (isSolved N E mon sat r) (solvedEdge N E n a) b j
   unfolding offer isSolved solvedEdge
   solved-here h b e q =
-      q ∙ (ap (offer d (isNamedAt N r) (solutionEdge N n a) b) e ∙ sym (ap (λ (x : Bool). cond (x && isNamedAt N r (getD (E .child) j 0)) (better d b (solvedEdge N E n a j)) b) h))
+      q ∙ (ap (offer d (isNamedAt N r) (solutionEdge N n a) b) e
+      ∙ sym (ap (λ (x : Bool). cond (x && isNamedAt N r (getD (E .child) j 0)) (better d b (solvedEdge N E n a j)) b) h))
 
   -- any other is passed over
-  pub solved-skip : isSolution (N .count) (E .kind) (E .parent) (E .child) mon sat j ≡ false → (b : Choice) → offer d (isSolved N E mon sat r) (solvedEdge N E n a) b j ≡ b
+  pub solved-skip : isSolution (N .count) (E .kind) (E .parent) (E .child) mon sat j ≡ false → (b : Choice)
+      → offer d (isSolved N E mon sat r) (solvedEdge N E n a) b j ≡ b
   unfolding isSolved
   solved-skip h b = sym (offer-left d (isSolved N E mon sat r) (solvedEdge N E n a) b j (ap (λ (x : Bool). x && isNamedAt N r (getD (E .child) j 0)) h))
 
 -- All of them
 
 -- every edge of the columns joins nodes
-inside : (N : Nodes) (E : Edges) → EdgesFormed (nodesOf N) (edgesOf E) → (j : ℕ) → j < E .count → (getD (E .parent) j 0 < N .count) × (getD (E .child) j 0 < N .count)
+inside : (N : Nodes) (E : Edges) → EdgesFormed (nodesOf N) (edgesOf E) → (j : ℕ) → j < E .count
+    → (getD (E .parent) j 0 < N .count) × (getD (E .child) j 0 < N .count)
 inside N E F j l =
     let e = edge-in E j l in
     let h : j < length (edgesOf E) = omega (arith, edges-length E) in
@@ -260,22 +284,31 @@ child-inside N E F j l p = omega (arith, inside N E F j l .1)
 
 module _ (o : End) (N : Nodes) (E : Edges) (ne : o .state .nodes ≡ nodesOf N) (ee : o .state .edges ≡ edgesOf E) where
   -- a child by an edge of kind k is one of the columns
-  pub child-find : (k i : ℕ) {g : ℕ} → List·Memᴰ g (childrenBy o k i) → (j : ℕ) × (j < E .count) × (getD (E .kind) j 0 ≡ k) × (getD (E .parent) j 0 ≡ i) × (g ≡ getD (E .child) j 0)
+  pub child-find : (k i : ℕ) {g : ℕ} → List·Memᴰ g (childrenBy o k i)
+      → (j : ℕ) × (j < E .count) × (getD (E .kind) j 0 ≡ k) × (getD (E .parent) j 0 ≡ i) × (g ≡ getD (E .child) j 0)
   unfolding edgesOf
   child-find k i m =
       let f = map-find (λ (e : Edge). e .child) (keep (λ (e : Edge). eqb (e .kind) k && eqb (e .parent) i) (o .state .edges)) m in
       let e = keep-find (λ (e : Edge). eqb (e .kind) k && eqb (e .parent) i) (o .state .edges) (f .1) in
       let u = upTo-find (E .count) (edgeAt E) (f .0) (subst (λ (es : List Edge). List·Memᴰ (f .0) es) ee (e .0)) in
-      let p = and-parts (eqb (f .0 .kind) k) (eqb (f .0 .parent) i) (e .1) in
-      (u .0, u .1, sym (ap (λ (x : Edge). x .kind) (u .2)) ∙ eqb-true (f .0 .kind) k (p .0), sym (ap (λ (x : Edge). x .parent) (u .2)) ∙ eqb-true (f .0 .parent) i (p .1), f .2 ∙ ap (λ (x : Edge). x .child) (u .2))
+      let p = and-parts (eqb (f .0 .kind) k) (eqb (f .0 .parent) i) (e .1) in (
+        u .0,
+        u .1,
+        sym (ap (λ (x : Edge). x .kind) (u .2)) ∙ eqb-true (f .0 .kind) k (p .0),
+        sym (ap (λ (x : Edge). x .parent) (u .2))
+            ∙ eqb-true (f .0 .parent) i (p .1),
+        f .2 ∙ ap (λ (x : Edge). x .child) (u .2),
+      )
 
   pub child-mem : (k i j : ℕ) → j < E .count → getD (E .kind) j 0 ≡ k → getD (E .parent) j 0 ≡ i → List·Memᴰ (getD (E .child) j 0) (childrenBy o k i)
   unfolding edgesOf
   child-mem k i j l a b =
-      map-mem (λ (e : Edge). e .child) (keep-mem (λ (e : Edge). eqb (e .kind) k && eqb (e .parent) i) (subst (λ (es : List Edge). List·Memᴰ (edgeAt E j) es) (sym ee) (upTo-mem (E .count) (edgeAt E) j l))
+      map-mem (λ (e : Edge). e .child) (keep-mem (λ (e : Edge). eqb (e .kind) k && eqb (e .parent) i)
+      (subst (λ (es : List Edge). List·Memᴰ (edgeAt E j) es) (sym ee) (upTo-mem (E .count) (edgeAt E) j l))
       (and-both (eqb (getD (E .kind) j 0) k) (eqb (getD (E .parent) j 0) i) (eq-eqb (getD (E .kind) j 0) k a) (eq-eqb (getD (E .parent) j 0) i b)))
 
-  module _ (F : EdgesFormed (nodesOf N) (edgesOf E)) (few : N .count ≤ 128) {mon sat failed : List ℕ} {i : ℕ} (M : Monitoring E i (E .count) mon) (S : StateColumns (nodesOf N) (edgesOf E) sat failed) (r : ℕ) (n : Node) (a : Role) where
+  module _ (F : EdgesFormed (nodesOf N) (edgesOf E)) (few : N .count ≤ MOST-NODES) {mon sat failed : List ℕ} {i : ℕ}
+      (M : Monitoring E i (E .count) mon) (S : StateColumns (nodesOf N) (edgesOf E) sat failed) (r : ℕ) (n : Node) (a : Role) where
     abbrev edges : List Candidate
     edges = map (linkEdge n a) (solutionsOf o r i)
 
@@ -290,7 +323,8 @@ module _ (o : End) (N : Nodes) (E : Edges) (ne : o .state .nodes ≡ nodesOf N) 
     unfolding solvedEdge solutionEdge
     to w m =
         let f = map-find (linkEdge n a) (solutionsOf o r i) m in
-        let g = gather-find (λ g. gather (λ c. ownersIn r (nodeIn (o .state .nodes) c .expression)) (keep (isSatisfied o) (childrenBy o 3 g))) (childrenBy o 2 i) (f .1) in
+        let g = gather-find (λ g. gather (λ c. ownersIn r (nodeIn (o .state .nodes) c .expression)) (keep (isSatisfied o) (childrenBy o 3 g)))
+        (childrenBy o 2 i) (f .1) in
         let x = child-find 2 i (g .1) in
         let c = gather-find (λ c. ownersIn r (nodeIn (o .state .nodes) c .expression)) (keep (isSatisfied o) (childrenBy o 3 (g .0))) (g .2) in
         let s = keep-find (isSatisfied o) (childrenBy o 3 (g .0)) (c .1) in
@@ -300,13 +334,16 @@ module _ (o : End) (N : Nodes) (E : Edges) (ne : o .state .nodes ≡ nodesOf N) 
         let ij = inside N E F j (y .1) in
         let ix = inside N E F (x .0) (x .1) in
         let e : c .0 ≡ getD (E .child) j 0 = y .4 in
-        let z : nodeIn (o .state .nodes) (c .0) .expression ≡ nodeAt N (getD (E .child) j 0) .expression = ap (λ (t : ℕ). nodeIn (o .state .nodes) t .expression) e ∙ expressed (getD (E .child) j 0) (ij .1) in
+        let z : nodeIn (o .state .nodes) (c .0) .expression
+        ≡ nodeAt N (getD (E .child) j 0) .expression = ap (λ (t : ℕ). nodeIn (o .state .nodes) t .expression) e ∙ expressed (getD (E .child) j 0) (ij .1) in
         let q : getD (E .parent) j 0 ≡ getD (E .child) (x .0) 0 = y .3 ∙ x .4 in
         let small : getD (E .child) (x .0) 0 < 128 = omega (arith, ix .1, few) in
         record {
           at = j;
           below = y .1;
-          passes = solved-of N E mon sat r j (y .2) (ij .0) (ij .1) (ap (flag mon) q ∙ M .all (x .0) (x .1) (x .2) (x .3) small) (ap (flag sat) (sym e) ∙ (sym (satisfied (c .0)) ∙ s .1)) (ap (isNamed r) (sym z) ∙ v .0);
+          passes =
+              solved-of N E mon sat r j (y .2) (ij .0) (ij .1) (ap (flag mon) q ∙ M .all (x .0) (x .1) (x .2) (x .3) small)
+              (ap (flag sat) (sym e) ∙ (sym (satisfied (c .0)) ∙ s .1)) (ap (isNamed r) (sym z) ∙ v .0);
           leads = record { same = f .2 ∙ ap (linkEdge n a) (v .1 ∙ ap entityIn z) };
         }
 
@@ -323,14 +360,20 @@ module _ (o : End) (N : Nodes) (E : Edges) (ne : o .state .nodes ≡ nodesOf N) 
         (map-mem (linkEdge n a)
         (gather-mem (λ g. gather (λ c. ownersIn r (nodeIn (o .state .nodes) c .expression)) (keep (isSatisfied o) (childrenBy o 3 g)))
         (subst (λ (t : ℕ). List·Memᴰ t (childrenBy o 2 i)) (m .4) (child-mem 2 i (m .0) (m .1) (m .2) (m .3)))
-        (gather-mem (λ c. ownersIn r (nodeIn (o .state .nodes) c .expression)) (keep-mem (isSatisfied o) (child-mem 3 g j (h .below) (p .0) refl) (satisfied c ∙ p .4))
+        (gather-mem (λ c. ownersIn r (nodeIn (o .state .nodes) c .expression))
+        (keep-mem (isSatisfied o) (child-mem 3 g j (h .below) (p .0) refl) (satisfied c ∙ p .4))
         (subst (λ (x : Expression). List·Memᴰ (entityIn (nodeAt N c .expression)) (ownersIn r x)) (sym z) (owners-mem r (nodeAt N c .expression) (p .5))))))
 
     uniform : Uniform 4 (n .verifier) edges
-    uniform = record { each = λ w m. let f = map-find (linkEdge n a) (solutionsOf o r i) m in (ap (λ (v : Candidate). v .kind) (f .2), ap (λ (v : Candidate). v .verifier) (f .2), ap (λ (v : Candidate). v .direct) (f .2)) }
+    uniform =
+        record {
+          each = λ w m. let f = map-find (linkEdge n a) (solutionsOf o r i) m in
+              (ap (λ (v : Candidate). v .kind) (f .2), ap (λ (v : Candidate). v .verifier) (f .2), ap (λ (v : Candidate). v .direct) (f .2));
+        }
 
     -- the first linking implication in order that is not done
-    pub links-first : (d : Candidate → Bool) {c : Choice} → c ≡ folded (E .count) (offer d (isSolved N E mon sat r) (solvedEdge N E n a)) C.Nothing → c ≡ firstNot d C.Nothing (ordered (map (linkEdge n a) (solutionsOf o r i)))
+    pub links-first : (d : Candidate → Bool) {c : Choice} → c ≡ folded (E .count) (offer d (isSolved N E mon sat r) (solvedEdge N E n a)) C.Nothing
+        → c ≡ firstNot d C.Nothing (ordered (map (linkEdge n a) (solutionsOf o r i)))
     links-first d q = q ∙ offers-first d (isSolved N E mon sat r) (solvedEdge N E n a) (E .count) edges uniform to fro
 
 -- Whether a goal is complete
@@ -348,13 +391,16 @@ module _ (N : Nodes) (E : Edges) (i j : ℕ) where
   unfolding isCompleteAt
   complete-skip h = ap (λ (b : Bool). b && completeB (nodesOf N) (edgesOf E) (getD (E .child) j 0)) h
 
-  pub complete-goal : isMonitor (E .kind) (E .parent) i j ≡ true → {b : Bool} {g : ℕ} → g ≡ getD (E .child) j 0 → b ≡ completeB (nodesOf N) (edgesOf E) g → b ≡ isCompleteAt N E i j
+  pub complete-goal : isMonitor (E .kind) (E .parent) i j ≡ true → {b : Bool} {g : ℕ} → g ≡ getD (E .child) j 0
+      → b ≡ completeB (nodesOf N) (edgesOf E) g → b ≡ isCompleteAt N E i j
   unfolding isCompleteAt
   complete-goal h p q = q ∙ (ap (completeB (nodesOf N) (edgesOf E)) p ∙ sym (ap (λ (b : Bool). b && completeB (nodesOf N) (edgesOf E) (getD (E .child) j 0)) h))
 
-pub any-complete : (o : End) (N : Nodes) (E : Edges) → o .state .nodes ≡ nodesOf N → o .state .edges ≡ edgesOf E → (i : ℕ) → any (isCompleteAt N E i) (upTo (E .count) (λ j. j)) ≡ any (completeB (o .state .nodes) (o .state .edges)) (childrenBy o 2 i)
+pub any-complete : (o : End) (N : Nodes) (E : Edges) → o .state .nodes ≡ nodesOf N → o .state .edges ≡ edgesOf E → (i : ℕ)
+    → any (isCompleteAt N E i) (upTo (E .count) (λ j. j)) ≡ any (completeB (o .state .nodes) (o .state .edges)) (childrenBy o 2 i)
 unfolding isCompleteAt isMonitor
-any-complete o N E ne ee i = bool-iff (any (isCompleteAt N E i) (upTo (E .count) (λ j. j))) (any (completeB (o .state .nodes) (o .state .edges)) (childrenBy o 2 i)) to fro
+any-complete o N E ne ee i =
+    bool-iff (any (isCompleteAt N E i) (upTo (E .count) (λ j. j))) (any (completeB (o .state .nodes) (o .state .edges)) (childrenBy o 2 i)) to fro
   where
     both : (g : ℕ) → completeB (o .state .nodes) (o .state .edges) g ≡ completeB (nodesOf N) (edgesOf E) g
     both g = λ t. completeB (ne t) (ee t) g
@@ -368,14 +414,17 @@ any-complete o N E ne ee i = bool-iff (any (isCompleteAt N E i) (upTo (E .count)
         let p = and-parts (eqb (getD (E .kind) j 0) 2) (eqb (getD (E .parent) j 0) i) (q .0) in
         let z : j ≡ u .0 = u .2 in
         let l : u .0 < E .count = u .1 in
-        any-here (completeB (o .state .nodes) (o .state .edges)) (child-mem o N E ne ee 2 i j (omega (arith, z, l)) (eqb-true (getD (E .kind) j 0) 2 (p .0)) (eqb-true (getD (E .parent) j 0) i (p .1))) (both (getD (E .child) j 0) ∙ q .1)
+        any-here (completeB (o .state .nodes) (o .state .edges))
+        (child-mem o N E ne ee 2 i j (omega (arith, z, l)) (eqb-true (getD (E .kind) j 0) 2 (p .0)) (eqb-true (getD (E .parent) j 0) i (p .1)))
+        (both (getD (E .child) j 0) ∙ q .1)
 
     fro : any (completeB (o .state .nodes) (o .state .edges)) (childrenBy o 2 i) ≡ true → any (isCompleteAt N E i) (upTo (E .count) (λ j. j)) ≡ true
     fro h =
         let w = any-find (completeB (o .state .nodes) (o .state .edges)) (childrenBy o 2 i) h in
         let x = child-find o N E ne ee 2 i (w .1) in
         let j : ℕ = x .0 in
-        let z : completeB (nodesOf N) (edgesOf E) (getD (E .child) j 0) ≡ true = sym (both (getD (E .child) j 0)) ∙ (ap (completeB (o .state .nodes) (o .state .edges)) (sym (x .4)) ∙ w .2) in
+        let z : completeB (nodesOf N) (edgesOf E) (getD (E .child) j 0) ≡ true = sym (both (getD (E .child) j 0))
+        ∙ (ap (completeB (o .state .nodes) (o .state .edges)) (sym (x .4)) ∙ w .2) in
         any-here (isCompleteAt N E i) (upTo-mem (E .count) (λ j. j) j (x .1))
         (λ t. (eq-eqb (getD (E .kind) j 0) 2 (x .2) t && eq-eqb (getD (E .parent) j 0) i (x .3) t) && z t)
 
@@ -388,24 +437,30 @@ goalEdge n r = childFor 2 n (E.Goal r) (n .subject)
 pub data Linked (N : Nodes) (X : Edges) (sat : List ℕ) (i : ℕ) (n : Node) (a : Role) (r : ℕ) (c : Choice) : Type 0 where
   goal-first : isDone (nodesOf N) (edgesOf X) i (goalEdge n r) ≡ false → c ≡ C.Edge (goalEdge n r) → Linked N X sat i n a r c
   goal-done : isDone (nodesOf N) (edgesOf X) i (goalEdge n r) ≡ true → (monitors : List ℕ) → Monitoring X i (X .count) monitors
-      → c ≡ orElse (folded (X .count) (offer (isDone (nodesOf N) (edgesOf X) i) (isSolved N X monitors sat r) (solvedEdge N X n a)) C.Nothing) (markIf (any (isCompleteAt N X i) (upTo (X .count) (λ j. j))))
+      → c ≡ orElse (folded (X .count) (offer (isDone (nodesOf N) (edgesOf X) i) (isSolved N X monitors sat r) (solvedEdge N X n a)) C.Nothing)
+      (markIf (any (isCompleteAt N X i) (upTo (X .count) (λ j. j))))
       → Linked N X sat i n a r c
 
-pub goal-edge : {N : Nodes} {X : Edges} {sat : List ℕ} {i : ℕ} {n : Node} {a : Role} {r : ℕ} {w : Candidate} {b : Bool} → w ≡ goalEdge n r → b ≡ isDone (nodesOf N) (edgesOf X) i w → not b ≡ true → Linked N X sat i n a r (C.Edge w)
+pub goal-edge : {N : Nodes} {X : Edges} {sat : List ℕ} {i : ℕ} {n : Node} {a : Role} {r : ℕ} {w : Candidate} {b : Bool} → w ≡ goalEdge n r
+    → b ≡ isDone (nodesOf N) (edgesOf X) i w → not b ≡ true → Linked N X sat i n a r (C.Edge w)
 goal-edge {N} {X} {i = i} {b = b} e p h = goal-first (sym (ap (isDone (nodesOf N) (edgesOf X) i) e) ∙ (sym p ∙ not-true b h)) (ap C.Edge e)
 
-pub goal-stands : (N : Nodes) (X : Edges) (i : ℕ) (n : Node) {r : ℕ} {w : Candidate} {b : Bool} → w ≡ goalEdge n r → b ≡ isDone (nodesOf N) (edgesOf X) i w → not b ≡ false → isDone (nodesOf N) (edgesOf X) i (goalEdge n r) ≡ true
+pub goal-stands : (N : Nodes) (X : Edges) (i : ℕ) (n : Node) {r : ℕ} {w : Candidate} {b : Bool} → w ≡ goalEdge n r
+    → b ≡ isDone (nodesOf N) (edgesOf X) i w → not b ≡ false → isDone (nodesOf N) (edgesOf X) i (goalEdge n r) ≡ true
 goal-stands N X i n {b = b} e p h = sym (ap (isDone (nodesOf N) (edgesOf X) i) e) ∙ (sym p ∙ not-false b h)
 
 pub link-parts : {best mark c : Choice} {m : Bool} {x : Choice} {z : Bool} → best ≡ x → m ≡ z → mark ≡ markIf m → c ≡ orElse best mark → c ≡ orElse x (markIf z)
 link-parts {x = x} p q r s = s ∙ ((λ t. orElse (p t) (r t)) ∙ ap (λ (b : Bool). orElse x (markIf b)) q)
 
 -- it is what the rules give
-pub linked-rules : (o : End) (N : Nodes) (X : Edges) → o .state .nodes ≡ nodesOf N → o .state .edges ≡ edgesOf X → EdgesFormed (nodesOf N) (edgesOf X) → N .count ≤ 128
-    → {sat failed : List ℕ} → StateColumns (nodesOf N) (edgesOf X) sat failed → {i : ℕ} {n : Node} {a : Role} {r : ℕ} {c : Choice} → Linked N X sat i n a r c → c ≡ chosenIn (isDone (nodesOf N) (edgesOf X) i) (linkRules o i n a r)
+pub linked-rules : (o : End) (N : Nodes) (X : Edges) → o .state .nodes ≡ nodesOf N → o .state .edges ≡ edgesOf X → EdgesFormed (nodesOf N) (edgesOf X)
+    → N .count ≤ MOST-NODES
+    → {sat failed : List ℕ} → StateColumns (nodesOf N) (edgesOf X) sat failed → {i : ℕ} {n : Node} {a : Role} {r : ℕ} {c : Choice}
+    → Linked N X sat i n a r c → c ≡ chosenIn (isDone (nodesOf N) (edgesOf X) i) (linkRules o i n a r)
 unfolding chosenIn firstNot
 linked-rules o N X ne ee F few S {i} {n} {a} {r} (goal-first h e) =
-    e ∙ sym (ap (λ (b : Bool). cond b (firstNot (isDone (nodesOf N) (edgesOf X) i) (markIf (linkRules o i n a r .marks)) (ordered (map (linkEdge n a) (solutionsOf o r i)))) (C.Edge (goalEdge n r))) h)
+    e ∙ sym (ap (λ (b : Bool). cond b (firstNot (isDone (nodesOf N) (edgesOf X) i) (markIf (linkRules o i n a r .marks))
+    (ordered (map (linkEdge n a) (solutionsOf o r i)))) (C.Edge (goalEdge n r))) h)
 linked-rules o N X ne ee F few S {i} {n} {a} {r} {c} (goal-done h monitors M e) =
     let d : Candidate → Bool = isDone (nodesOf N) (edgesOf X) i in
     let rest : Choice = firstNot d (markIf (linkRules o i n a r .marks)) (ordered (map (linkEdge n a) (solutionsOf o r i))) in

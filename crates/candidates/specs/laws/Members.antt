@@ -44,7 +44,8 @@ pub all-implications : (n : Node) (xs : List Expression) → ordered (edgesTo tr
 unfolding admits
 all-implications n xs = refl
 
-pub no-entities : (n : Node) (xs : List Expression) → edgesTo false n xs ≡ map (λ x. childFor 1 n x (n .subject)) (keep (suitsNode n) (keep (λ x. not (isEntity x)) xs))
+pub no-entities : (n : Node) (xs : List Expression)
+    → edgesTo false n xs ≡ map (λ x. childFor 1 n x (n .subject)) (keep (suitsNode n) (keep (λ x. not (isEntity x)) xs))
 unfolding admits
 no-entities n xs = ap (map (λ x. childFor 1 n x (n .subject))) (twice xs)
   where
@@ -56,11 +57,17 @@ no-entities n xs = ap (map (λ x. childFor 1 n x (n .subject))) (twice xs)
             → cond (not a || false) (y ∷ keep (admits false n) ys) (keep (admits false n) ys)
             ≡ keep (suitsNode n) (cond (not a) (y ∷ keep (λ x. not (isEntity x)) ys) (keep (λ x. not (isEntity x)) ys))
         go true e ih = ih
-        go false e ih = ap (λ (zs : List Expression). y ∷ zs) ih ∙ sym (ap (λ (b : Bool). cond (not b || same y (E.Entity (n .subject))) (y ∷ keep (suitsNode n) (keep (λ x. not (isEntity x)) ys)) (keep (suitsNode n) (keep (λ x. not (isEntity x)) ys))) e)
+        go false e ih =
+            ap (λ (zs : List Expression). y ∷ zs) ih
+            ∙ sym (ap (λ (b : Bool). cond (not b || same y (E.Entity (n .subject))) (y ∷ keep (suitsNode n) (keep (λ x. not (isEntity x)) ys))
+            (keep (suitsNode n) (keep (λ x. not (isEntity x)) ys))) e)
 
 pub edges-uniform : (entities : Bool) (n : Node) (xs : List Expression) → Uniform 1 (n .verifier) (edgesTo entities n xs)
 edges-uniform entities n xs =
-    record { each = λ w m. let f = map-find (λ x. childFor 1 n x (n .subject)) (keep (admits entities n) xs) m in (ap (λ (v : Candidate). v .kind) (f .2), ap (λ (v : Candidate). v .verifier) (f .2), ap (λ (v : Candidate). v .direct) (f .2)) }
+    record {
+      each = λ w m. let f = map-find (λ x. childFor 1 n x (n .subject)) (keep (admits entities n) xs) m in
+          (ap (λ (v : Candidate). v .kind) (f .2), ap (λ (v : Candidate). v .verifier) (f .2), ap (λ (v : Candidate). v .direct) (f .2));
+    }
 
 -- What is read off the columns
 
@@ -99,20 +106,24 @@ module _ {P : Pool} {on stop found : List ℕ} {e : Role} {pred : Expression →
           let f = frontier-find pred (chosen P on) (bodiesOf (chosen P on) (E.Role e)) m in
           let b = map-find (λ (c : Credential). c .body) K (f .1) in
           let c = keep-find (λ (c : Credential). same (E.Role (c .head)) (E.Role e)) (chosen P on) (b .1) in
-          stopped-member S R (body-stopped S (b .0) (c .0) (role-eq (same-eq (E.Role (b .0 .head)) (E.Role e) (c .1))) (subst (λ (y : Expression). Frontier pred (chosen P on) y x) (b .2) (f .2)))
+          stopped-member S R (body-stopped S (b .0) (c .0) (role-eq (same-eq (E.Role (b .0 .head)) (E.Role e) (c .1)))
+          (subst (λ (y : Expression). Frontier pred (chosen P on) y x) (b .2) (f .2)))
 
       fro : (x : Expression) → Member P stop found x → List·Memᴰ x (frontierOf pred (chosen P on) (bodiesOf (chosen P on) (E.Role e)))
       fro x m =
           let b = stopped-body S (member-stopped S R m) in
           frontier-mem pred (chosen P on) (bodiesOf (chosen P on) (E.Role e))
-          (map-mem (λ (c : Credential). c .body) (keep-mem (λ (c : Credential). same (E.Role (c .head)) (E.Role e)) (b .1) (eq-same (E.Role (b .0 .head)) (E.Role e) (ap E.Role (b .2)))))
+          (map-mem (λ (c : Credential). c .body) (keep-mem (λ (c : Credential). same (E.Role (c .head)) (E.Role e)) (b .1)
+          (eq-same (E.Role (b .0 .head)) (E.Role e) (ap E.Role (b .2)))))
           (b .3)
 
   -- the frontier of a role of which the predicate is not true
   pub reads-role : pred (E.Role e) ≡ false → Reads P stop found (frontierOf pred (chosen P on) (E.Role e ∷ []))
   reads-role n =
       record {
-        to = λ x m. let f = frontier-find pred (chosen P on) (E.Role e ∷ []) m in frontier-member S n R .0 (subst (λ (y : Expression). Frontier pred (chosen P on) y x) (alone (f .1)) (f .2));
+        to =
+            λ x m. let f = frontier-find pred (chosen P on) (E.Role e ∷ []) m in frontier-member S n R .0
+            (subst (λ (y : Expression). Frontier pred (chosen P on) y x) (alone (f .1)) (f .2));
         fro = λ x m. frontier-mem pred (chosen P on) (E.Role e ∷ []) (List·Memᴰ·head refl) (frontier-member S n R .1 m);
       }
     where
@@ -129,7 +140,9 @@ module _ {P : Pool} {stop found : List ℕ} {xs : List Expression} (D : Reads P 
       record {
         at = q .at;
         below = q .below;
-        passes = and-both (flag found (q .at) && flag stop (q .at)) (admits entities n (bodyAt P (q .at))) (and-both (flag found (q .at)) (flag stop (q .at)) (q .flagged) (q .ends)) (ap (admits entities n) (q .body) ∙ k .1);
+        passes =
+            and-both (flag found (q .at) && flag stop (q .at)) (admits entities n (bodyAt P (q .at)))
+            (and-both (flag found (q .at)) (flag stop (q .at)) (q .flagged) (q .ends)) (ap (admits entities n) (q .body) ∙ k .1);
         leads = record { same = f .2 ∙ ap (λ (x : Expression). childFor 1 n x (n .subject)) (sym (q .body)) };
       }
 
@@ -139,8 +152,13 @@ module _ {P : Pool} {stop found : List ℕ} {xs : List Expression} (D : Reads P 
       let p = and-parts (flag found (a .at) && flag stop (a .at)) (admits entities n (bodyAt P (a .at))) (a .passes) in
       let q = and-parts (flag found (a .at)) (flag stop (a .at)) (p .0) in
       subst (λ (v : Candidate). List·Memᴰ v (edgesTo entities n xs)) (sym (a .leads .same))
-      (map-mem (λ x. childFor 1 n x (n .subject)) (keep-mem (admits entities n) (D .fro (bodyAt P (a .at)) (record { at = a .at; below = a .below; flagged = q .0; ends = q .1; body = refl })) (p .1)))
+      (map-mem (λ x. childFor 1 n x (n .subject)) (keep-mem (admits entities n)
+      (D .fro (bodyAt P (a .at)) (record { at = a .at; below = a .below; flagged = q .0; ends = q .1; body = refl })) (p .1)))
 
   -- the first edge in order that is not done
-  pub members-first : (d : Candidate → Bool) {r : Choice} → r ≡ folded (P .count) (offer d (isMember P stop found entities n) (memberEdge P n)) C.Nothing → r ≡ firstNot d C.Nothing (ordered (edgesTo entities n xs))
-  members-first d e = e ∙ offers-first d (isMember P stop found entities n) (memberEdge P n) (P .count) (edgesTo entities n xs) (edges-uniform entities n xs) edges-among among-edges
+  pub members-first : (d : Candidate → Bool) {r : Choice}
+      → r ≡ folded (P .count) (offer d (isMember P stop found entities n) (memberEdge P n)) C.Nothing
+      → r ≡ firstNot d C.Nothing (ordered (edgesTo entities n xs))
+  members-first d e =
+      e ∙ offers-first d (isMember P stop found entities n) (memberEdge P n) (P .count) (edgesTo entities n xs) (edges-uniform entities n xs)
+      edges-among among-edges

@@ -52,9 +52,11 @@ flags-both false b c h = absurd (false-true (sym h))
 module _ (d : Candidate → Bool) (P : Pool) (stop found : List ℕ) (entities : Bool) (n : Node) (b : Choice) (k : ℕ) where
   pub member-none : (not (eqb (getD found k 0) 1) || not (eqb (getD stop k 0) 1)) ≡ true → b ≡ offer d (isMember P stop found entities n) (memberEdge P n) b k
   unfolding isMember
-  member-none h = offer-left d (isMember P stop found entities n) (memberEdge P n) b k (flags-none (flag found k) (flag stop k) (admits entities n (bodyAt P k)) h)
+  member-none h =
+      offer-left d (isMember P stop found entities n) (memberEdge P n) b k (flags-none (flag found k) (flag stop k) (admits entities n (bodyAt P k)) h)
 
-  module _ (h : (not (eqb (getD found k 0) 1) || not (eqb (getD stop k 0) 1)) ≡ false) {x : Expression} (p : x ≡ bodyAt P k) {a : Bool} (q : a ≡ admits entities n x) where
+  module _ (h : (not (eqb (getD found k 0) 1) || not (eqb (getD stop k 0) 1)) ≡ false) {x : Expression} (p : x ≡ bodyAt P k) {a : Bool}
+      (q : a ≡ admits entities n x) where
     is-admitted : isMember P stop found entities n k ≡ a
     unfolding isMember
     is-admitted = flags-both (flag found k) (flag stop k) (admits entities n (bodyAt P k)) h ∙ sym (q ∙ ap (admits entities n) p)
@@ -62,13 +64,16 @@ module _ (d : Candidate → Bool) (P : Pool) (stop found : List ℕ) (entities :
     pub member-other : not a ≡ true → b ≡ offer d (isMember P stop found entities n) (memberEdge P n) b k
     member-other z = offer-left d (isMember P stop found entities n) (memberEdge P n) b k (is-admitted ∙ not-true a z)
 
-    pub member-edge : not a ≡ false → {w : Candidate} {r : Choice} → w ≡ childFor 1 n x (n .subject) → r ≡ better d b w → r ≡ offer d (isMember P stop found entities n) (memberEdge P n) b k
+    pub member-edge : not a ≡ false → {w : Candidate} {r : Choice} → w ≡ childFor 1 n x (n .subject) → r ≡ better d b w
+        → r ≡ offer d (isMember P stop found entities n) (memberEdge P n) b k
     unfolding memberEdge
     member-edge z {w} {r} e f =
         offer-taken d (isMember P stop found entities n) (memberEdge P n) b k (is-admitted ∙ not-false a z)
         (f ∙ ap (better d b) (e ∙ ap (λ (y : Expression). childFor 1 n y (n .subject)) p))
 
 -- what is not found, or no stop, is passed over
-pub member-skip : (d : Candidate → Bool) (P : Pool) (stop found : List ℕ) (entities : Bool) (n : Node) (k : ℕ) → isStopped stop found k ≡ false → (b : Choice) → offer d (isMember P stop found entities n) (memberEdge P n) b k ≡ b
+pub member-skip : (d : Candidate → Bool) (P : Pool) (stop found : List ℕ) (entities : Bool) (n : Node) (k : ℕ) → isStopped stop found k ≡ false
+    → (b : Choice) → offer d (isMember P stop found entities n) (memberEdge P n) b k ≡ b
 unfolding isStopped isMember
-member-skip d P stop found entities n k h b = sym (offer-left d (isMember P stop found entities n) (memberEdge P n) b k (ap (λ (x : Bool). x && admits entities n (bodyAt P k)) h))
+member-skip d P stop found entities n k h b =
+    sym (offer-left d (isMember P stop found entities n) (memberEdge P n) b k (ap (λ (x : Bool). x && admits entities n (bodyAt P k)) h))

@@ -40,7 +40,8 @@ module _ (f : Choice → ℕ → Choice) (b : Choice) where
 unfoldable pub offer : (Candidate → Bool) → (ℕ → Bool) → (ℕ → Candidate) → Choice → ℕ → Choice
 offer d is edge b k = cond (is k) (better d b (edge k)) b
 
-pub offer-taken : (d : Candidate → Bool) (is : ℕ → Bool) (edge : ℕ → Candidate) (b : Choice) (k : ℕ) {r : Choice} → is k ≡ true → r ≡ better d b (edge k) → r ≡ offer d is edge b k
+pub offer-taken : (d : Candidate → Bool) (is : ℕ → Bool) (edge : ℕ → Candidate) (b : Choice) (k : ℕ) {r : Choice} → is k ≡ true
+    → r ≡ better d b (edge k) → r ≡ offer d is edge b k
 unfolding offer
 offer-taken d is edge b k h e = e ∙ sym (ap (λ (x : Bool). cond x (better d b (edge k)) b) h)
 
@@ -63,7 +64,8 @@ pub record Is (edge : ℕ → Candidate) (k : ℕ) (w : Candidate) : Type 0 wher
 
 module _ {d : Candidate → Bool} (is : ℕ → Bool) (L : ℕ → Candidate → Type 0) (g : Choice → ℕ → Choice)
     (step : (Q : Candidate → Type 0) (b : Choice) (k : ℕ) → is k ≡ true → Best d Q b → Best d (λ w. Q w ⊎ L k w) (g b k)) where
-  one-more : (Q : Candidate → Type 0) (b : Choice) (m : ℕ) (a : Bool) → is m ≡ a → Best d (λ w. Q w ⊎ Among m is L w) b → Best d (λ w. Q w ⊎ Among (suc m) is L w) (cond a (g b m) b)
+  one-more : (Q : Candidate → Type 0) (b : Choice) (m : ℕ) (a : Bool) → is m ≡ a → Best d (λ w. Q w ⊎ Among m is L w) b
+      → Best d (λ w. Q w ⊎ Among (suc m) is L w) (cond a (g b m) b)
   one-more Q b m true e h = best-same to fro (step (λ w. Q w ⊎ Among m is L w) b m e h)
     where
       to : (w : Candidate) → (Q w ⊎ Among m is L w) ⊎ L m w → Q w ⊎ Among (suc m) is L w
@@ -76,7 +78,9 @@ module _ {d : Candidate → Bool} (is : ℕ → Bool) (L : ℕ → Candidate →
       fro w (inr x) = last (x .at) (x .below) (x .passes) (x .leads)
         where
           last : (j : ℕ) → j < suc m → is j ≡ true → L j w → (Q w ⊎ Among m is L w) ⊎ L m w
-          last j l p y = ⊎-elim (λ z. inr (subst (λ (t : ℕ). L t w) (eqb-true j m z) y)) (λ z. inl (inr (record { at = j; below = omega (arith, eqb-false j m z); passes = p; leads = y }))) (decided (eqb j m))
+          last j l p y =
+              ⊎-elim (λ z. inr (subst (λ (t : ℕ). L t w) (eqb-true j m z) y))
+              (λ z. inl (inr (record { at = j; below = omega (arith, eqb-false j m z); passes = p; leads = y }))) (decided (eqb j m))
   one-more Q b m false e h = best-same to fro h
     where
       to : (w : Candidate) → Q w ⊎ Among m is L w → Q w ⊎ Among (suc m) is L w
@@ -88,7 +92,9 @@ module _ {d : Candidate → Bool} (is : ℕ → Bool) (L : ℕ → Candidate →
       fro w (inr x) = other (x .at) (x .below) (x .passes) (x .leads)
         where
           other : (j : ℕ) → j < suc m → is j ≡ true → L j w → Q w ⊎ Among m is L w
-          other j l p y = ⊎-elim (λ z. absurd (false-true (sym e ∙ (ap is (sym (eqb-true j m z)) ∙ p)))) (λ z. inr (record { at = j; below = omega (arith, eqb-false j m z); passes = p; leads = y })) (decided (eqb j m))
+          other j l p y =
+              ⊎-elim (λ z. absurd (false-true (sym e ∙ (ap is (sym (eqb-true j m z)) ∙ p))))
+              (λ z. inr (record { at = j; below = omega (arith, eqb-false j m z); passes = p; leads = y })) (decided (eqb j m))
 
   -- the best of what was there and of all that the numbers lead to
   pub among-best : (Q : Candidate → Type 0) (b : Choice) (m : ℕ) → Best d Q b → Best d (λ w. Q w ⊎ Among m is L w) (folded m (λ c k. cond (is k) (g c k) c) b)
@@ -97,7 +103,8 @@ module _ {d : Candidate → Bool} (is : ℕ → Bool) (L : ℕ → Candidate →
   among-best Q b (suc m) h = one-more Q (turned m (λ c k. cond (is k) (g c k) c) b) m (is m) refl (among-best Q b m h)
 
 -- the edges of the numbers themselves
-pub offers-best : (d : Candidate → Bool) (is : ℕ → Bool) (edge : ℕ → Candidate) (Q : Candidate → Type 0) (b : Choice) (m : ℕ) → Best d Q b → Best d (λ w. Q w ⊎ Among m is (Is edge) w) (folded m (offer d is edge) b)
+pub offers-best : (d : Candidate → Bool) (is : ℕ → Bool) (edge : ℕ → Candidate) (Q : Candidate → Type 0) (b : Choice) (m : ℕ) → Best d Q b
+    → Best d (λ w. Q w ⊎ Among m is (Is edge) w) (folded m (offer d is edge) b)
 unfolding offer
 offers-best d is edge Q b m h =
     among-best is (Is edge) (λ c k. better d c (edge k))
@@ -109,7 +116,8 @@ pub offers-first : (d : Candidate → Bool) {kind verifier : ℕ} (is : ℕ → 
     → ((w : Candidate) → List·Memᴰ w vs → Among m is (Is edge) w) → ((w : Candidate) → Among m is (Is edge) w → List·Memᴰ w vs)
     → folded m (offer d is edge) C.Nothing ≡ firstNot d C.Nothing (ordered vs)
 offers-first d is edge m vs U f g =
-    sym (best-first vs U d (best-same (λ w x. ⊎-elim (λ z. absurd z) (λ y. g w y) x) (λ w y. inr (f w y)) (offers-best d is edge (λ w. ⊥) C.Nothing m (best-start (λ v z. z)))))
+    sym (best-first vs U d (best-same (λ w x. ⊎-elim (λ z. absurd z) (λ y. g w y) x) (λ w y. inr (f w y))
+    (offers-best d is edge (λ w. ⊥) C.Nothing m (best-start (λ v z. z)))))
 
 -- A list of edges
 
@@ -125,6 +133,7 @@ list-best {d} Q b (v ∷ ws) h =
     (λ w x. ⊎-elim (λ q. inl (inl q)) (λ y. ⊎-elim (λ z. inl (inr z)) (λ z. inr z) (List·Memᴰ·cases-cons y)) x)
     (list-best (λ w. Q w ⊎ (w ≡ v)) (better d b v) ws (best-next v (λ w q. inl q) (inr refl) (λ w y. y) h))
 
-pub list-first : (d : Candidate → Bool) {kind verifier : ℕ} (vs : List Candidate) → Uniform kind verifier vs → bestOf d C.Nothing vs ≡ firstNot d C.Nothing (ordered vs)
+pub list-first : (d : Candidate → Bool) {kind verifier : ℕ} (vs : List Candidate) → Uniform kind verifier vs
+    → bestOf d C.Nothing vs ≡ firstNot d C.Nothing (ordered vs)
 list-first d vs U =
     sym (best-first vs U d (best-same (λ w x. ⊎-elim (λ z. absurd z) (λ y. y) x) (λ w y. inr y) (list-best (λ w. ⊥) C.Nothing vs (best-start (λ v z. z)))))

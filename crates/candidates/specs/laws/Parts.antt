@@ -23,7 +23,11 @@ partEdge n a = childFor 5 n (E.Role a) (n .subject)
 
 module _ (d : Candidate → Bool) (n : Node) (p : Parts) where
   uniform : (rs : List Role) → Uniform 5 (n .verifier) (map (partEdge n) rs)
-  uniform rs = record { each = λ w m. let f = map-find (partEdge n) rs m in (ap (λ (v : Candidate). v .kind) (f .2), ap (λ (v : Candidate). v .verifier) (f .2), ap (λ (v : Candidate). v .direct) (f .2)) }
+  uniform rs =
+      record {
+        each = λ w m. let f = map-find (partEdge n) rs m in
+            (ap (λ (v : Candidate). v .kind) (f .2), ap (λ (v : Candidate). v .verifier) (f .2), ap (λ (v : Candidate). v .direct) (f .2));
+      }
 
   listed : bestOf d C.Nothing (map (partEdge n) (rolesOf p)) ≡ firstNot d C.Nothing (partEdges n (rolesOf p))
   listed = list-first d (map (partEdge n) (rolesOf p)) (uniform (rolesOf p))
@@ -49,4 +53,6 @@ module _ (d : Candidate → Bool) (n : Node) (p : Parts) where
       parts-three k = third ∙ (sym (λ i. by-count (ne-eqb (p .count) 2 h i) (eq-eqb (p .count) 3 k i)) ∙ listed)
 
       pub parts-four : (p .count ≡ 3 → ⊥) → {v : Choice} → v ≡ better d z (partEdge n (p .fourth)) → v ≡ firstNot d C.Nothing (partEdges n (rolesOf p))
-      parts-four k u = u ∙ (ap (λ (c : Choice). better d c (partEdge n (p .fourth))) third ∙ (sym (λ i. by-count (ne-eqb (p .count) 2 h i) (ne-eqb (p .count) 3 k i)) ∙ listed))
+      parts-four k u =
+          u ∙ (ap (λ (c : Choice). better d c (partEdge n (p .fourth))) third
+          ∙ (sym (λ i. by-count (ne-eqb (p .count) 2 h i) (ne-eqb (p .count) 3 k i)) ∙ listed))

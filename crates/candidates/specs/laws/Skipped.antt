@@ -56,4 +56,5 @@ module _ (f : Choice → ℕ → Choice) (b : Choice) where
 
   pub folded-skip : {a r : ℕ} {c : Choice} → c ≡ folded a f b → a ≤ r → ((j : ℕ) → a ≤ j → j < r → (x : Choice) → f x j ≡ x) → c ≡ folded r f b
   unfolding folded
-  folded-skip {a} {r} p l h = let z : a + (r - a) ≡ r = omega arith in p ∙ (sym (over a (r - a) (λ j u v x. h j u (omega (arith, z)) x)) ∙ ap (λ (n : ℕ). turned n f b) z)
+  folded-skip {a} {r} p l h =
+      let z : a + (r - a) ≡ r = omega arith in p ∙ (sym (over a (r - a) (λ j u v x. h j u (omega (arith, z)) x)) ∙ ap (λ (n : ℕ). turned n f b) z)

@@ -44,7 +44,8 @@ module _ (P : Pool) (stop found : List ℕ) (s k : ℕ) where
   unfolding isSubjectAt
   subject-none h = sym (flags-none (flag found k) (flag stop k) (same (bodyAt P k) (E.Entity s)) h)
 
-  pub subject-same : (not (eqb (getD found k 0) 1) || not (eqb (getD stop k 0) 1)) ≡ false → {x : Expression} {r : Bool} → x ≡ bodyAt P k → r ≡ same x (E.Entity s) → r ≡ isSubjectAt P stop found s k
+  pub subject-same : (not (eqb (getD found k 0) 1) || not (eqb (getD stop k 0) 1)) ≡ false → {x : Expression} {r : Bool} → x ≡ bodyAt P k
+      → r ≡ same x (E.Entity s) → r ≡ isSubjectAt P stop found s k
   unfolding isSubjectAt
   subject-same h p q = q ∙ (ap (λ (y : Expression). same y (E.Entity s)) p ∙ sym (flags-both (flag found k) (flag stop k) (same (bodyAt P k) (E.Entity s)) h))
 
@@ -70,7 +71,14 @@ module _ {P : Pool} {stop found : List ℕ} {xs : List Expression} (D : Reads P 
           let z : w .0 ≡ u .0 = u .2 in
           let b : bodyAt P (w .0) ≡ E.Entity s = same-eq (bodyAt P (w .0)) (E.Entity s) (p .1) in
           any-here (same (E.Entity s))
-          (D .fro (E.Entity s) (record { at = u .0; below = u .1; flagged = ap (flag found) (sym z) ∙ q .0; ends = ap (flag stop) (sym z) ∙ q .1; body = ap (bodyAt P) (sym z) ∙ b }))
+          (D .fro (E.Entity s) (record {
+            at = u .0;
+            below = u .1;
+            flagged = ap (flag found) (sym z) ∙ q .0;
+            ends = ap (flag stop) (sym z)
+                ∙ q .1;
+            body = ap (bodyAt P) (sym z) ∙ b;
+          }))
           (eq-same (E.Entity s) (E.Entity s) refl)
 
       fro : any (same (E.Entity s)) xs ≡ true → any (isSubjectAt P stop found s) (upTo (P .count) (λ k. k)) ≡ true
@@ -78,12 +86,14 @@ module _ {P : Pool} {stop found : List ℕ} {xs : List Expression} (D : Reads P 
           let w = any-find (same (E.Entity s)) xs h in
           let m = D .to (w .0) (w .1) in
           any-here (isSubjectAt P stop found s) (upTo-mem (P .count) (λ k. k) (m .at) (m .below))
-          (and-both (flag found (m .at) && flag stop (m .at)) (same (bodyAt P (m .at)) (E.Entity s)) (and-both (flag found (m .at)) (flag stop (m .at)) (m .flagged) (m .ends))
+          (and-both (flag found (m .at) && flag stop (m .at)) (same (bodyAt P (m .at)) (E.Entity s))
+          (and-both (flag found (m .at)) (flag stop (m .at)) (m .flagged) (m .ends))
           (eq-same (bodyAt P (m .at)) (E.Entity s) (m .body ∙ sym (same-eq (E.Entity s) (w .0) (w .2)))))
 
   -- the first edge of "If S ∈ ..", "When S ∉ .." that is not done
   pub subject-first : (d : Candidate → Bool) (n : Node) {r : Choice}
-      → r ≡ cond (hasSubject P stop found (n .subject)) (better d C.Nothing (childFor 1 n (E.Entity (n .subject)) (n .subject))) (folded (P .count) (offer d (isMember P stop found false n) (memberEdge P n)) C.Nothing)
+      → r ≡ cond (hasSubject P stop found (n .subject)) (better d C.Nothing (childFor 1 n (E.Entity (n .subject)) (n .subject)))
+      (folded (P .count) (offer d (isMember P stop found false n) (memberEdge P n)) C.Nothing)
       → r ≡ firstNot d C.Nothing (toSubject n xs)
   unfolding better firstNot
   subject-first d n h = h ∙ go (hasSubject P stop found (n .subject)) (any (same (E.Entity (n .subject))) xs) (subject-read (n .subject))
@@ -94,23 +104,32 @@ module _ {P : Pool} {stop found : List ℕ} {xs : List Expression} (D : Reads P 
       others : Choice
       others = folded (P .count) (offer d (isMember P stop found false n) (memberEdge P n)) C.Nothing
 
-      go : (a b : Bool) → a ≡ b → cond a (better d C.Nothing one) others ≡ firstNot d C.Nothing (cond b (one ∷ []) (implications n (keep (λ x. not (isEntity x)) xs)))
+      go : (a b : Bool) → a ≡ b → cond a (better d C.Nothing one) others
+          ≡ firstNot d C.Nothing (cond b (one ∷ []) (implications n (keep (λ x. not (isEntity x)) xs)))
       go a true e = ap (λ (x : Bool). cond x (better d C.Nothing one) others) e
-      go a false e = ap (λ (x : Bool). cond x (better d C.Nothing one) others) e ∙ (members-first D false n d refl ∙ ap (λ (ws : List Candidate). firstNot d C.Nothing (ordered ws)) (no-entities n xs))
+      go a false e =
+          ap (λ (x : Bool). cond x (better d C.Nothing one) others) e
+          ∙ (members-first D false n d refl ∙ ap (λ (ws : List Candidate). firstNot d C.Nothing (ordered ws)) (no-entities n xs))
 
 -- by whether the subject is a member
-module _ (d : Candidate → Bool) {P : Pool} {on stop found : List ℕ} (n : Node) {e : Role} (R : Reaches P on stop e found) {h : Bool} (p : h ≡ hasSubject P stop found (n .subject)) where
+module _ (d : Candidate → Bool) {P : Pool} {on stop found : List ℕ} (n : Node) {e : Role} (R : Reaches P on stop e found) {h : Bool}
+    (p : h ≡ hasSubject P stop found (n .subject)) where
   chosen-by : (b : Bool) → h ≡ b → {r : Choice}
-      → r ≡ cond b (better d C.Nothing (childFor 1 n (E.Entity (n .subject)) (n .subject))) (folded (P .count) (offer d (isMember P stop found false n) (memberEdge P n)) C.Nothing) → SubjectLeads d P on stop n e r
+      → r ≡ cond b (better d C.Nothing (childFor 1 n (E.Entity (n .subject)) (n .subject)))
+      (folded (P .count) (offer d (isMember P stop found false n) (memberEdge P n)) C.Nothing) → SubjectLeads d P on stop n e r
   chosen-by b k q =
       record {
         found = found;
         reaches = R;
-        best = q ∙ sym (ap (λ (x : Bool). cond x (better d C.Nothing (childFor 1 n (E.Entity (n .subject)) (n .subject))) (folded (P .count) (offer d (isMember P stop found false n) (memberEdge P n)) C.Nothing)) (sym p ∙ k));
+        best =
+            q ∙ sym (ap (λ (x : Bool). cond x (better d C.Nothing (childFor 1 n (E.Entity (n .subject)) (n .subject)))
+            (folded (P .count) (offer d (isMember P stop found false n) (memberEdge P n)) C.Nothing)) (sym p ∙ k));
       }
 
-  pub subject-found : h ≡ true → {w : Candidate} {r : Choice} → w ≡ childFor 1 n (E.Entity (n .subject)) (n .subject) → r ≡ better d C.Nothing w → SubjectLeads d P on stop n e r
+  pub subject-found : h ≡ true → {w : Candidate} {r : Choice} → w ≡ childFor 1 n (E.Entity (n .subject)) (n .subject) → r ≡ better d C.Nothing w
+      → SubjectLeads d P on stop n e r
   subject-found k f q = chosen-by true k (q ∙ ap (better d C.Nothing) f)
 
-  pub subject-others : h ≡ false → {r : Choice} → r ≡ folded (P .count) (offer d (isMember P stop found false n) (memberEdge P n)) C.Nothing → SubjectLeads d P on stop n e r
+  pub subject-others : h ≡ false → {r : Choice} → r ≡ folded (P .count) (offer d (isMember P stop found false n) (memberEdge P n)) C.Nothing
+      → SubjectLeads d P on stop n e r
   subject-others k q = chosen-by false k q

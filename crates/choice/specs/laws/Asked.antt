@@ -30,7 +30,9 @@ use Rattle.choice.specs.laws.RuleChoice.{opponent-as, about-us, sensitiv
 
 -- rule (4) for the role a at node n
 abbrev pub restEdges : Tables → Node → Role → List Candidate
-restEdges T n a = implications n (keep (λ x. not (isEntity x)) (frontierOf (sens (T .sensitive)) (publicOf T .subjectStored) (bodiesOf (publicOf T .subjectStored) (E.Role a))))
+restEdges T n a =
+    implications n (keep (λ x. not (isEntity x)) (frontierOf (sens (T .sensitive)) (publicOf T .subjectStored)
+    (bodiesOf (publicOf T .subjectStored) (E.Role a))))
 
 -- node i is n, for e; the other side is its verifier, and our side has not processed it
 pub record Asked (S : State) (i : ℕ) (n : Node) (e : Expression) : Type 0 where
@@ -57,6 +59,8 @@ module _ (T : Tables) (S : State) (i : ℕ) (n : Node) (a ack : Role) where
   pub sensitive-at : Asked S i n (E.Role a) → n .subject ≡ T .own → otherOf (T .sensitive) a ≡ A.Found ack → sensitiveAt ≡ choiceAt (endIn T S) i n
   sensitive-at q s f =
       let k : Known = knownAs S (hiddenOf T) a ack in
-      let own : sensitiveAt ≡ chosenIn done (ownRules (endIn T S) i n a (endIn T S .known)) = sensitive-choice T S done i n a {c = sensitiveAt} {r = otherOf (T .sensitive) a} {ack = ack} refl f {rest = restAt} {k = k} {b = knownChoice S done i n restAt k} refl refl refl refl in
-      let role : sensitiveAt ≡ chosenIn done (opponentRules (endIn T S) i n (n .expression)) = opponent-as T S done i n {c = sensitiveAt} (q .expression) (about-us T S done i n a {c = sensitiveAt} s own) in
+      let own : sensitiveAt ≡ chosenIn done (ownRules (endIn T S) i n a (endIn T S .known)) = sensitive-choice T S done i n a {c = sensitiveAt}
+      {r = otherOf (T .sensitive) a} {ack = ack} refl f {rest = restAt} {k = k} {b = knownChoice S done i n restAt k} refl refl refl refl in
+      let role : sensitiveAt ≡ chosenIn done (opponentRules (endIn T S) i n (n .expression)) = opponent-as T S done i n {c = sensitiveAt}
+      (q .expression) (about-us T S done i n a {c = sensitiveAt} s own) in
       at-opponent T S i n {p = false} (sym (q .unprocessed)) refl {c = sensitiveAt} (q .opponent) role

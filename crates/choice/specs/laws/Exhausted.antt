@@ -33,6 +33,7 @@ use Rattle.choice.specs.laws.Sensitive.{alone, controlFor, ownFor, satis
 use Rattle.choice.specs.laws.Asked.{restEdges, Asked, restAt, sensitive-at}
 use Rattle.choice.specs.laws.Later.{or-nothing, Later, asked-back, rest-stays, carried-later}
 use Rattle.choice.specs.laws.Next.{NothingBefore}
+use Rattle.numbers.specs.Sizes.{MOST-NODES}
 
 -- below p the edges of rule (4) of sensitive roles about us are done
 pub record Exhausted (T : Tables) (S : State) (p : ℕ) : Type 0 where
@@ -66,11 +67,13 @@ known-nothing S d i n rest (Seen (Guarded r)) h =
     or-nothing rest (markIf (a || satisfiedIn S i)) (or-nothing o m (or-nothing (alone d (controlFor S n r)) (orElse o m) h .1) .1) .0
 
 module _ (T : Tables) (S : State) where
-  idle-done : (i : ℕ) (n : Node) (a ack : Role) → Asked S i n (E.Role a) → n .subject ≡ T .own → otherOf (T .sensitive) a ≡ A.Found ack → choiceAt (endIn T S) i n ≡ C.Nothing → restAt T S i n a ack ≡ C.Nothing
+  idle-done : (i : ℕ) (n : Node) (a ack : Role) → Asked S i n (E.Role a) → n .subject ≡ T .own → otherOf (T .sensitive) a ≡ A.Found ack
+      → choiceAt (endIn T S) i n ≡ C.Nothing → restAt T S i n a ack ≡ C.Nothing
   idle-done i n a ack q s f h =
       let d : Candidate → Bool = isDone (S .nodes) (S .edges) i in
       let k : Known = knownAs S (hiddenOf T) a ack in
-      known-nothing S d i n (restAt T S i n a ack) k (or-nothing (alone d (controlFor S n ack)) (knownChoice S d i n (restAt T S i n a ack) k) (sensitive-at T S i n a ack q s f ∙ h) .1)
+      known-nothing S d i n (restAt T S i n a ack) k
+      (or-nothing (alone d (controlFor S n ack)) (knownChoice S d i n (restAt T S i n a ack) k) (sensitive-at T S i n a ack q s f ∙ h) .1)
 
   pub idle-exhausted : (m : ℕ) → m ≤ length (S .nodes) → NothingBefore (endIn T S) m → Exhausted T S m
   unfolding endIn
@@ -78,7 +81,7 @@ module _ (T : Tables) (S : State) where
 
 -- Growth
 
-exhausted-grown : (T : Tables) (S R : State) (p : ℕ) → Later S R → length (S .nodes) ≤ 128 → Exhausted T S p → Exhausted T R p
+exhausted-grown : (T : Tables) (S R : State) (p : ℕ) → Later S R → length (S .nodes) ≤ MOST-NODES → Exhausted T S p → Exhausted T R p
 exhausted-grown T S R p u few f = record { stands = omega (arith, f .stands, u .more .more); done = later }
   where
     later : (i : ℕ) → i < p → (n : Node) (a ack : Role) → Asked R i n (E.Role a) → n .subject ≡ T .own → otherOf (T .sensitive) a ≡ A.Found ack
@@ -90,5 +93,6 @@ exhausted-grown T S R p u few f = record { stands = omega (arith, f .stands, u .
         ∙ rest-stays u inside T few a (f .done i l (nodeIn (S .nodes) i) a ack (asked-back u inside q) (subject ∙ s) k)
 
 -- commands of our side leave done what is done
-pub exhausted-carried : (T : Tables) (S : State) (p : ℕ) → length (S .nodes) ≤ 128 → Exhausted T S p → (cs : List Command) → Exhausted T (carried (S .header .side) S cs) p
+pub exhausted-carried : (T : Tables) (S : State) (p : ℕ) → length (S .nodes) ≤ MOST-NODES → Exhausted T S p → (cs : List Command)
+    → Exhausted T (carried (S .header .side) S cs) p
 exhausted-carried T S p few f cs = exhausted-grown T S (carried (S .header .side) S cs) p (carried-later S (S .header .side) refl cs) few f

@@ -32,7 +32,8 @@ use Rattle.moves.specs.laws.Known.{held-exact}
 
 -- An Ack or AC target
 
-module _ (S : State) (r : Role) {n i : ℕ} {sat : List ℕ} (l : length (S .nodes) ≡ n) (p : i ≡ findNode (S .nodes) (E.Role r) (S .header .side) (S .header .other)) (s : Says (S .nodes) (S .edges) sat) where
+module _ (S : State) (r : Role) {n i : ℕ} {sat : List ℕ} (l : length (S .nodes) ≡ n)
+    (p : i ≡ findNode (S .nodes) (E.Role r) (S .header .side) (S .header .other)) (s : Says (S .nodes) (S .edges) sat) where
   pub acknowledged-absent : n ≤ i → false ≡ isAcknowledged S r
   unfolding isAcknowledged
   acknowledged-absent h =
@@ -43,7 +44,8 @@ module _ (S : State) (r : Role) {n i : ℕ} {sat : List ℕ} (l : length (S .nod
   unfolding isAcknowledged
   acknowledged-flag h =
       let j : ℕ = findNode (S .nodes) (E.Role r) (S .header .side) (S .header .other) in
-      (s .says i ∙ ap (at (satisfiedB (S .nodes) (S .edges))) p) ∙ sym (ap (λ (b : Bool). b && at (satisfiedB (S .nodes) (S .edges)) j) (lt-ltb j (length (S .nodes)) (omega (arith, l, p))))
+      (s .says i ∙ ap (at (satisfiedB (S .nodes) (S .edges))) p)
+      ∙ sym (ap (λ (b : Bool). b && at (satisfiedB (S .nodes) (S .edges)) j) (lt-ltb j (length (S .nodes)) (omega (arith, l, p))))
 
 -- What we hold
 
@@ -60,7 +62,8 @@ found-sensitive [] a ack h = absurd (absent-found h)
     absent-found e = false-true (ap isFound e)
 found-sensitive (p ∷ ps) a ack h = go (sameRole (p .role) a) refl h (λ k. found-sensitive ps a ack k)
   where
-    go : (b : Bool) → sameRole (p .role) a ≡ b → cond b (A.Found (p .other)) (otherOf ps a) ≡ A.Found ack → (otherOf ps a ≡ A.Found ack → isSensitive ps a ≡ true) → isSensitive (p ∷ ps) a ≡ true
+    go : (b : Bool) → sameRole (p .role) a ≡ b → cond b (A.Found (p .other)) (otherOf ps a) ≡ A.Found ack
+        → (otherOf ps a ≡ A.Found ack → isSensitive ps a ≡ true) → isSensitive (p ∷ ps) a ≡ true
     go true e k ih = or-left (sameRole (p .role) a) (any (λ (q : Pair). sameRole (q .role) a) ps) e
     go false e k ih = or-right (sameRole (p .role) a) (any (λ (q : Pair). sameRole (q .role) a) ps) (ih k)
 

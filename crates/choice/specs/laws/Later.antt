@@ -36,6 +36,7 @@ use Rattle.moves.specs.Carried.{carried}
 use Rattle.candidates.specs.laws.Least.{orElse}
 use Rattle.choice.specs.laws.Asked.{restEdges, Asked}
 use Rattle.choice.specs.laws.Next.{isNothing}
+use Rattle.numbers.specs.Sizes.{MOST-NODES}
 
 -- Where there is nothing to do
 
@@ -44,12 +45,14 @@ or-nothing (C.Edge w) c h = absurd (false-true (ap isNothing h))
 or-nothing C.Mark c h = absurd (false-true (ap isNothing h))
 or-nothing C.Nothing c h = (refl, h)
 
-pub first-stays : (d e : Candidate → Bool) → ((w : Candidate) → d w ≡ true → e w ≡ true) → (ws : List Candidate) → firstNot d C.Nothing ws ≡ C.Nothing → firstNot e C.Nothing ws ≡ C.Nothing
+pub first-stays : (d e : Candidate → Bool) → ((w : Candidate) → d w ≡ true → e w ≡ true) → (ws : List Candidate) → firstNot d C.Nothing ws ≡ C.Nothing
+    → firstNot e C.Nothing ws ≡ C.Nothing
 unfolding firstNot
 first-stays d e f [] h = refl
 first-stays d e f (w ∷ ws) h = go (d w) refl h (λ k. first-stays d e f ws k)
   where
-    go : (b : Bool) → d w ≡ b → cond b (firstNot d C.Nothing ws) (C.Edge w) ≡ C.Nothing → (firstNot d C.Nothing ws ≡ C.Nothing → firstNot e C.Nothing ws ≡ C.Nothing)
+    go : (b : Bool) → d w ≡ b → cond b (firstNot d C.Nothing ws) (C.Edge w) ≡ C.Nothing
+        → (firstNot d C.Nothing ws ≡ C.Nothing → firstNot e C.Nothing ws ≡ C.Nothing)
         → cond (e w) (firstNot e C.Nothing ws) (C.Edge w) ≡ C.Nothing
     go true q k ih = ap (λ (b : Bool). cond b (firstNot e C.Nothing ws) (C.Edge w)) (f w q) ∙ ih k
     go false q k ih = absurd (false-true (ap isNothing k))
@@ -58,7 +61,8 @@ module _ {ns ns′ : List Node} {es es′ : List Edge} (g : More ns es ns′ es�
   -- a child that stands is found at the same number
   same-child : (w : Candidate) → childStands ns w ≡ true → childNumber ns′ w ≡ childNumber ns w
   same-child w h =
-      ⊎-elim (λ a. absurd (omega (arith, few, a .number, ltb-true (childNumber ns w) (length ns) h))) (λ f. found-more g (w .expression) (w .verifier) (w .subject) f)
+      ⊎-elim (λ a. absurd (omega (arith, few, a .number, ltb-true (childNumber ns w) (length ns) h)))
+      (λ f. found-more g (w .expression) (w .verifier) (w .subject) f)
       (F.find-cases ns (w .expression) (w .verifier) (w .subject))
 
   abbrev edge : ℕ → Candidate → ℕ → Edge
@@ -68,10 +72,12 @@ module _ {ns ns′ : List Node} {es es′ : List Edge} (g : More ns es ns′ es�
   unfolding isDone
   done-stays i w h = go (childStands ns w) refl h
     where
-      joined : (eqb i (childNumber ns w) || hasEdge es (edge i w (childNumber ns w))) ≡ true → (eqb i (childNumber ns w) || hasEdge es′ (edge i w (childNumber ns w))) ≡ true
+      joined : (eqb i (childNumber ns w) || hasEdge es (edge i w (childNumber ns w))) ≡ true
+          → (eqb i (childNumber ns w) || hasEdge es′ (edge i w (childNumber ns w))) ≡ true
       joined k =
           let c : ℕ = childNumber ns w in
-          ⊎-elim (λ z. or-left (eqb i c) (hasEdge es′ (edge i w c)) z) (λ z. or-right (eqb i c) (hasEdge es′ (edge i w c)) (F.has-exact es′ (edge i w c) .1 (g .edges (edge i w c) (F.has-exact es (edge i w c) .0 z))))
+          ⊎-elim (λ z. or-left (eqb i c) (hasEdge es′ (edge i w c)) z)
+          (λ z. or-right (eqb i c) (hasEdge es′ (edge i w c)) (F.has-exact es′ (edge i w c) .1 (g .edges (edge i w c) (F.has-exact es (edge i w c) .0 z))))
           (or-cases (eqb i c) (hasEdge es (edge i w c)) k)
 
       go : (b : Bool) → childStands ns w ≡ b → cond b (eqb i (childNumber ns w) || hasEdge es (edge i w (childNumber ns w))) false ≡ true
@@ -88,7 +94,8 @@ module _ {ns ns′ : List Node} {es es′ : List Edge} (g : More ns es ns′ es�
 pub record Later (S R : State) : Type 0 where
   pub more : Onward S R
   pub header : R .header ≡ S .header
-  pub back : (i : ℕ) → i < length (S .nodes) → processedBy (S .header .side) (nodeIn (R .nodes) i) ≡ false → processedBy (S .header .side) (nodeIn (S .nodes) i) ≡ false
+  pub back : (i : ℕ) → i < length (S .nodes) → processedBy (S .header .side) (nodeIn (R .nodes) i) ≡ false
+      → processedBy (S .header .side) (nodeIn (S .nodes) i) ≡ false
 
 module _ {S R : State} (u : Later S R) {i : ℕ} (l : i < length (S .nodes)) where
   abbrev old : Node
@@ -109,12 +116,14 @@ module _ {S R : State} (u : Later S R) {i : ℕ} (l : i < length (S .nodes)) whe
       }
 
   -- the edges of rule (4) that are done stay done
-  pub rest-stays : (T : Tables) → length (S .nodes) ≤ 128 → (a : Role) → firstNot (isDone (S .nodes) (S .edges) i) C.Nothing (restEdges T old a) ≡ C.Nothing
+  pub rest-stays : (T : Tables) → length (S .nodes) ≤ MOST-NODES → (a : Role)
+      → firstNot (isDone (S .nodes) (S .edges) i) C.Nothing (restEdges T old a) ≡ C.Nothing
       → firstNot (isDone (R .nodes) (R .edges) i) C.Nothing (restEdges T (nodeIn (R .nodes) i) a) ≡ C.Nothing
   rest-stays T few a h =
       let x = u .more .alike i l in
       let n : Node = nodeIn (R .nodes) i in
-      (λ t. firstNot (isDone (R .nodes) (R .edges) i) C.Nothing (restEdges T (record { expression = n .expression; subject = x .subject t; verifier = x .verifier t; state = n .state }) a))
+      (λ t. firstNot (isDone (R .nodes) (R .edges) i) C.Nothing
+      (restEdges T (record { expression = n .expression; subject = x .subject t; verifier = x .verifier t; state = n .state }) a))
       ∙ first-stays (isDone (S .nodes) (S .edges) i) (isDone (R .nodes) (R .edges) i) (λ w k. done-stays (u .more) few i w k) (restEdges T old a) h
 
 -- Commands
@@ -140,10 +149,13 @@ later-both {S} {R} {U} f g =
     record {
       more = more-both (f .more) (g .more);
       header = g .header ∙ f .header;
-      back = λ i l h. f .back i l ((λ t. processedBy (sym side t) (nodeIn (R .nodes) i)) ∙ g .back i (omega (arith, l, f .more .more)) ((λ t. processedBy (side t) (nodeIn (U .nodes) i)) ∙ h));
+      back =
+          λ i l h. f .back i l ((λ t. processedBy (sym side t) (nodeIn (R .nodes) i))
+          ∙ g .back i (omega (arith, l, f .more .more)) ((λ t. processedBy (side t) (nodeIn (U .nodes) i)) ∙ h));
     }
 
-step-open : (S : State) (c : Command) (i : ℕ) → i < length (S .nodes) → processedBy (S .header .side) (nodeIn (stepped S (S .header .side) c .nodes) i) ≡ false → processedBy (S .header .side) (nodeIn (S .nodes) i) ≡ false
+step-open : (S : State) (c : Command) (i : ℕ) → i < length (S .nodes)
+    → processedBy (S .header .side) (nodeIn (stepped S (S .header .side) c .nodes) i) ≡ false → processedBy (S .header .side) (nodeIn (S .nodes) i) ≡ false
 unfolding stepped withNode withEdge withShown withMark
 step-open S (Show c) i l h = h
 step-open S (Open o) i l h = sym (ap (processedBy (S .header .side)) (List·getD-append (S .nodes) (primaryOf (S .header) o ∷ []) blank i l)) ∙ h
@@ -159,7 +171,8 @@ step-open S (Mark k) i l h = go (eqb i k) refl
 
     go : (b : Bool) → eqb i k ≡ b → processedBy s (nodeIn (S .nodes) i) ≡ false
     go true e =
-        let same : nodeIn (set (S .nodes) k marked) i ≡ marked = ap (nodeIn (set (S .nodes) k marked)) (eqb-true i k e) ∙ getD-set-same (S .nodes) k marked blank (omega (arith, l, eqb-true i k e)) in
+        let same : nodeIn (set (S .nodes) k marked) i ≡ marked = ap (nodeIn (set (S .nodes) k marked)) (eqb-true i k e)
+        ∙ getD-set-same (S .nodes) k marked blank (omega (arith, l, eqb-true i k e)) in
         absurd (false-true (sym h ∙ (ap (processedBy s) same ∙ marked-processed s (nodeIn (S .nodes) k))))
     go false e = sym (ap (processedBy s) (getD-set-other (S .nodes) k i marked blank (eqb-false i k e))) ∙ h
 step-open S End i l h = h
@@ -170,4 +183,10 @@ carried-later S s e (c ∷ cs) =
     later-both (step-later c) (carried-later (stepped S s c) s (e ∙ sym (ap (λ (h : Header). h .side) (step-header S s c))) cs)
   where
     step-later : (c : Command) → Later S (stepped S s c)
-    step-later c = record { more = step-onward S s c; header = step-header S s c; back = λ i l h. step-open S c i l (ap (λ (k : ℕ). processedBy (S .header .side) (nodeIn (stepped S k c .nodes) i)) (sym e) ∙ h) }
+    step-later c =
+        record {
+          more = step-onward S s c;
+          header = step-header S s c;
+          back = λ i l h. step-open S c i l
+              (ap (λ (k : ℕ). processedBy (S .header .side) (nodeIn (stepped S k c .nodes) i)) (sym e) ∙ h);
+        }

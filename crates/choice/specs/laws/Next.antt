@@ -55,7 +55,8 @@ module _ (o : End) where
   or-first i n C.Nothing m h = absurd (false-true (sym h))
 
   -- nothing is to be done at the first j nodes, numbered from k on
-  found-from : (k : ℕ) (ns : List Node) (j : ℕ) → j < length ns → ((t : ℕ) → t < j → choiceAt o (k + t) (nodeIn ns t) ≡ C.Nothing) → isNothing (choiceAt o (k + j) (nodeIn ns j)) ≡ false
+  found-from : (k : ℕ) (ns : List Node) (j : ℕ) → j < length ns → ((t : ℕ) → t < j → choiceAt o (k + t) (nodeIn ns t) ≡ C.Nothing)
+      → isNothing (choiceAt o (k + j) (nodeIn ns j)) ≡ false
       → movesFrom o k ns ≡ moveFor o (k + j) (nodeIn ns j) (choiceAt o (k + j) (nodeIn ns j))
   unfolding movesFrom
   found-from k [] j l h z = absurd (omega arith)
@@ -68,7 +69,8 @@ module _ (o : End) where
       let s : suc k + j ≡ k + suc j = omega arith in
       let first : choiceAt o k n ≡ C.Nothing = sym (ap (λ (m : ℕ). choiceAt o m n) e) ∙ h 0 (omega arith) in
       ap (λ (c : Choice). orNext o (moveFor o k n c) (movesFrom o (suc k) ns)) first
-      ∙ (found-from (suc k) ns j (omega arith) (λ t q. let u : suc k + t ≡ k + suc t = omega arith in ap (λ (m : ℕ). choiceAt o m (nodeIn ns t)) u ∙ h (suc t) (omega arith)) (ap (λ (m : ℕ). isNothing (choiceAt o m (nodeIn ns j))) s ∙ z)
+      ∙ (found-from (suc k) ns j (omega arith) (λ t q. let u : suc k + t ≡ k + suc t = omega arith in ap (λ (m : ℕ). choiceAt o m (nodeIn ns t)) u
+      ∙ h (suc t) (omega arith)) (ap (λ (m : ℕ). isNothing (choiceAt o m (nodeIn ns j))) s ∙ z)
       ∙ ap (λ (m : ℕ). moveFor o m (nodeIn ns j) (choiceAt o m (nodeIn ns j))) s)
 
   none-from : (k : ℕ) (ns : List Node) → ((t : ℕ) → t < length ns → choiceAt o (k + t) (nodeIn ns t) ≡ C.Nothing) → movesFrom o k ns ≡ []
@@ -111,7 +113,8 @@ pub record NothingBefore (o : End) (i : ℕ) : Type 0 where
 pub nothing-start : (o : End) → NothingBefore o 0
 nothing-start o = record { none = λ j l. absurd (omega arith) }
 
-module _ (o : End) {i : ℕ} (P : NothingBefore o i) {n : Node} (ne : n ≡ nodeIn (o .state .nodes) i) {c : Choice} (ce : c ≡ choiceAt o i n) {b : Bool} (be : b ≡ isNothing c) where
+module _ (o : End) {i : ℕ} (P : NothingBefore o i) {n : Node} (ne : n ≡ nodeIn (o .state .nodes) i) {c : Choice} (ce : c ≡ choiceAt o i n) {b : Bool}
+    (be : b ≡ isNothing c) where
   here : c ≡ choiceAt o i (nodeIn (o .state .nodes) i)
   here = ce ∙ ap (choiceAt o i) ne
 
@@ -120,7 +123,8 @@ module _ (o : End) {i : ℕ} (P : NothingBefore o i) {n : Node} (ne : n ≡ node
       record {
         none = λ j l.
             ⊎-elim
-            (λ z. let q : j ≡ i = eqb-true j i z in ap (λ (m : ℕ). choiceAt o m (nodeIn (o .state .nodes) m)) q ∙ (sym here ∙ nothing-is c (sym be ∙ not-false b h)))
+            (λ z. let q : j ≡ i = eqb-true j i z in ap (λ (m : ℕ). choiceAt o m (nodeIn (o .state .nodes) m)) q
+            ∙ (sym here ∙ nothing-is c (sym be ∙ not-false b h)))
             (λ z. P .none j (omega (arith, eqb-false j i z))) (decided (eqb j i));
       }
 
@@ -129,8 +133,10 @@ module _ (o : End) {i : ℕ} (P : NothingBefore o i) {n : Node} (ne : n ≡ node
   found-here h l e =
       let z : 0 + i ≡ i = omega arith in
       let q : isNothing (choiceAt o i (nodeIn (o .state .nodes) i)) ≡ false = ap isNothing (sym here) ∙ (sym be ∙ not-true b h) in
-      found-from o 0 (o .state .nodes) i l (λ t k. from-zero o (o .state .nodes) t (P .none t k)) (ap (λ (m : ℕ). isNothing (choiceAt o m (nodeIn (o .state .nodes) i))) z ∙ q)
-      ∙ (ap (λ (m : ℕ). moveFor o m (nodeIn (o .state .nodes) i) (choiceAt o m (nodeIn (o .state .nodes) i))) z ∙ ((λ t. moveFor o i (nodeIn (o .state .nodes) i) (sym here t)) ∙ ap (λ (j : ℕ). moveFor o j (nodeIn (o .state .nodes) j) c) (sym e)))
+      found-from o 0 (o .state .nodes) i l (λ t k. from-zero o (o .state .nodes) t (P .none t k))
+      (ap (λ (m : ℕ). isNothing (choiceAt o m (nodeIn (o .state .nodes) i))) z ∙ q)
+      ∙ (ap (λ (m : ℕ). moveFor o m (nodeIn (o .state .nodes) i) (choiceAt o m (nodeIn (o .state .nodes) i))) z
+      ∙ ((λ t. moveFor o i (nodeIn (o .state .nodes) i) (sym here t)) ∙ ap (λ (j : ℕ). moveFor o j (nodeIn (o .state .nodes) j) c) (sym e)))
 
 pub found-nothing : (o : End) {i : ℕ} → NothingBefore o i → length (o .state .nodes) ≤ i → nextMove o ≡ foundMove o (record { node = 0; choice = C.Nothing })
 unfolding nextMove foundMove
@@ -144,16 +150,30 @@ pub record Resting (T : Tables) (S : State) (q : ℕ) : Type 0 where
 unfoldable pub openAt : List ℕ → List ℕ → List ℕ → ℕ → ℕ → ℕ → Bool
 openAt K W S s q i = isUnprocessed s (getD W i 0) (getD S i 0) && not (ltb i q && eqb (getD K i 0) 2)
 
-pub open-test : (K W S : List ℕ) (s q i : ℕ) {b : Bool} → b ≡ isUnprocessed s (getD W i 0) (getD S i 0) → (b && not (ltb i q && eqb (getD K i 0) 2)) ≡ openAt K W S s q i
+pub open-test : (K W S : List ℕ) (s q i : ℕ) {b : Bool} → b ≡ isUnprocessed s (getD W i 0) (getD S i 0)
+    → (b && not (ltb i q && eqb (getD K i 0) 2)) ≡ openAt K W S s q i
 unfolding openAt
 open-test K W S s q i e = ap (λ (b : Bool). b && not (ltb i q && eqb (getD K i 0) 2)) e
 
 -- an expression of kind 2 is a role
 role-kind : (r : Raw) → r .kind ≡ 2 → isRoleExpression (expressionOf r) ≡ true
-role-kind r h = ap (λ (k : ℕ). isRoleExpression (expressionOf (record { kind = k; count = r .count; n0 = r .n0; n1 = r .n1; n2 = r .n2; n3 = r .n3; n4 = r .n4; n5 = r .n5; n6 = r .n6; n7 = r .n7 }))) h
+role-kind r h =
+    ap (λ (k : ℕ). isRoleExpression (expressionOf (record {
+      kind = k;
+      count = r .count;
+      n0 = r .n0;
+      n1 = r .n1;
+      n2 = r .n2;
+      n3 = r .n3;
+      n4 = r .n4;
+      n5 = r .n5;
+      n6 = r .n6;
+      n7 = r .n7;
+    }))) h
 
 -- nodes that our side has processed are passed over, and role targets at which there is nothing to do
-pub nothing-skip : (T : Tables) (n : Negotiation) {q i r : ℕ} → Resting T (stateOf n) q → NothingBefore (endIn T (stateOf n)) i → Skipped (openAt (n .nodes .kind) (n .nodes .verifier) (n .nodes .state) (n .header .side) q) i (n .nodes .count) r
+pub nothing-skip : (T : Tables) (n : Negotiation) {q i r : ℕ} → Resting T (stateOf n) q → NothingBefore (endIn T (stateOf n)) i
+    → Skipped (openAt (n .nodes .kind) (n .nodes .verifier) (n .nodes .state) (n .header .side) q) i (n .nodes .count) r
     → NothingBefore (endIn T (stateOf n)) r
 unfolding endIn stateOf openAt expressionFrom
 nothing-skip T n {q} {i} {r} R P S =
@@ -175,7 +195,9 @@ nothing-skip T n {q} {i} {r} R P S =
         let p = and-parts (ltb j q) (eqb (getD (N .kind) j 0) 2) h in
         R .none j (ltb-true j q (p .0)) (ap (λ (x : Node). isRoleExpression (x .expression)) e ∙ role-kind _ (eqb-true (getD (N .kind) j 0) 2 (p .1)))
 
-    by-test : (j : ℕ) → nodeIn (nodesOf N) j ≡ nodeAt N j → (a b : Bool) → isUnprocessed (n .header .side) (getD (N .verifier) j 0) (getD (N .state) j 0) ≡ a → (ltb j q && eqb (getD (N .kind) j 0) 2) ≡ b → (a && not b) ≡ false → Idle j
+    by-test : (j : ℕ) → nodeIn (nodesOf N) j ≡ nodeAt N j → (a b : Bool)
+        → isUnprocessed (n .header .side) (getD (N .verifier) j 0) (getD (N .state) j 0) ≡ a → (ltb j q && eqb (getD (N .kind) j 0) 2) ≡ b
+        → (a && not b) ≡ false → Idle j
     by-test j e false b x y h = processed j e x
     by-test j e true true x y h = resting j e y
     by-test j e true false x y h = absurd (false-true (sym h))

@@ -35,21 +35,27 @@ unfolding otherOf isSensitive isFound
 absent-sensitive [] a h = refl
 absent-sensitive (p ∷ ps) a h = go (sameRole (p .role) a) h (λ k. absent-sensitive ps a k)
   where
-    go : (b : Bool) → cond b (A.Found (p .other)) (otherOf ps a) ≡ A.Absent → (otherOf ps a ≡ A.Absent → isSensitive ps a ≡ false) → (b || isSensitive ps a) ≡ false
+    go : (b : Bool) → cond b (A.Found (p .other)) (otherOf ps a) ≡ A.Absent → (otherOf ps a ≡ A.Absent → isSensitive ps a ≡ false)
+        → (b || isSensitive ps a) ≡ false
     go true k ih = absurd (false-true (sym (ap isFound k)))
     go false k ih = ih k
 
 module _ (o : End) (i : ℕ) (n : Node) (a : Role) (H : Hidden) (S : State) where
   abbrev restPlan : Role → Plan
-  restPlan ack = sensitiveRules o i n (controlEdge o n ack) (implications n (keep (λ x. not (isEntity x)) (sensFrontier o (bodiesOf (o .tables .subjectStored) (E.Role a))))) (knownAs S H a ack)
+  restPlan ack =
+      sensitiveRules o i n (controlEdge o n ack) (implications n
+      (keep (λ x. not (isEntity x)) (sensFrontier o (bodiesOf (o .tables .subjectStored) (E.Role a))))) (knownAs S H a ack)
 
   pub own-plain : (P : List Pair) → otherOf P a ≡ A.Absent → ownRules o i n a (knownOf H P S) ≡ thenMark (toSubject n (sensFrontier o (E.Role a ∷ [])))
   unfolding otherOf knownOf isFound
   own-plain [] h = refl
   own-plain (p ∷ ps) h = go (sameRole (p .role) a) h (λ k. own-plain ps k)
     where
-      go : (b : Bool) → cond b (A.Found (p .other)) (otherOf ps a) ≡ A.Absent → (otherOf ps a ≡ A.Absent → ownRules o i n a (knownOf H ps S) ≡ thenMark (toSubject n (sensFrontier o (E.Role a ∷ []))))
-          → cond b (sensitiveRules o i n (controlEdge o n (p .other)) (implications n (keep (λ x. not (isEntity x)) (sensFrontier o (bodiesOf (o .tables .subjectStored) (E.Role a))))) (knownAs S H (p .role) (p .other))) (ownRules o i n a (knownOf H ps S))
+      go : (b : Bool) → cond b (A.Found (p .other)) (otherOf ps a) ≡ A.Absent
+          → (otherOf ps a ≡ A.Absent → ownRules o i n a (knownOf H ps S) ≡ thenMark (toSubject n (sensFrontier o (E.Role a ∷ []))))
+          → cond b (sensitiveRules o i n (controlEdge o n (p .other))
+          (implications n (keep (λ x. not (isEntity x)) (sensFrontier o (bodiesOf (o .tables .subjectStored) (E.Role a)))))
+          (knownAs S H (p .role) (p .other))) (ownRules o i n a (knownOf H ps S))
           ≡ thenMark (toSubject n (sensFrontier o (E.Role a ∷ [])))
       go true k ih = absurd (false-true (sym (ap isFound k)))
       go false k ih = ih k
@@ -59,11 +65,15 @@ module _ (o : End) (i : ℕ) (n : Node) (a : Role) (H : Hidden) (S : State) wher
   own-sensitive [] ack h = absurd (false-true (ap isFound h))
   own-sensitive (p ∷ ps) ack h = go (sameRole (p .role) a) refl h (λ k. own-sensitive ps ack k)
     where
-      go : (b : Bool) → sameRole (p .role) a ≡ b → cond b (A.Found (p .other)) (otherOf ps a) ≡ A.Found ack → (otherOf ps a ≡ A.Found ack → ownRules o i n a (knownOf H ps S) ≡ restPlan ack)
-          → cond b (sensitiveRules o i n (controlEdge o n (p .other)) (implications n (keep (λ x. not (isEntity x)) (sensFrontier o (bodiesOf (o .tables .subjectStored) (E.Role a))))) (knownAs S H (p .role) (p .other))) (ownRules o i n a (knownOf H ps S))
+      go : (b : Bool) → sameRole (p .role) a ≡ b → cond b (A.Found (p .other)) (otherOf ps a) ≡ A.Found ack
+          → (otherOf ps a ≡ A.Found ack → ownRules o i n a (knownOf H ps S) ≡ restPlan ack)
+          → cond b (sensitiveRules o i n (controlEdge o n (p .other))
+          (implications n (keep (λ x. not (isEntity x)) (sensFrontier o (bodiesOf (o .tables .subjectStored) (E.Role a)))))
+          (knownAs S H (p .role) (p .other))) (ownRules o i n a (knownOf H ps S))
           ≡ restPlan ack
       go true e k ih =
           let r : p .role ≡ a = sameRole-eq (p .role) a e in
           let q : p .other ≡ ack = ap (otherRole a) k in
-          λ t. sensitiveRules o i n (controlEdge o n (q t)) (implications n (keep (λ x. not (isEntity x)) (sensFrontier o (bodiesOf (o .tables .subjectStored) (E.Role a))))) (knownAs S H (r t) (q t))
+          λ t. sensitiveRules o i n (controlEdge o n (q t))
+          (implications n (keep (λ x. not (isEntity x)) (sensFrontier o (bodiesOf (o .tables .subjectStored) (E.Role a))))) (knownAs S H (r t) (q t))
       go false e k ih = ih k

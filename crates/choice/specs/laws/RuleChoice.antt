@@ -57,12 +57,14 @@ module _ (T : Tables) (S : State) (d : Candidate → Bool) (i : ℕ) (n : Node) 
   unfolding verifierRules chosenIn firstNot
   verifier-goal r p = p
 
-  pub verifier-role : {c : Choice} → (a : Role) {b : Choice} → b ≡ firstNot d C.Nothing (implications n (frontierOf (oppo (T .names)) (T .issuerStored) (bodiesOf (T .issuerStored) (E.Role a)))) → c ≡ orElse b C.Mark
+  pub verifier-role : {c : Choice} → (a : Role) {b : Choice}
+      → b ≡ firstNot d C.Nothing (implications n (frontierOf (oppo (T .names)) (T .issuerStored) (bodiesOf (T .issuerStored) (E.Role a)))) → c ≡ orElse b C.Mark
       → c ≡ chosenIn d (verifierRules o i n (E.Role a))
   unfolding verifierRules endIn publicOf
   verifier-role a p q = then-mark d (implications n (frontierOf (oppo (T .names)) (T .issuerStored) (bodiesOf (T .issuerStored) (E.Role a)))) p q
 
-  pub verifier-parts : {c : Choice} → (p : Parts) {b : Choice} → b ≡ firstNot d C.Nothing (partEdges n (rolesOf p)) → c ≡ orElse b C.Mark → c ≡ chosenIn d (verifierRules o i n (E.Intersection p))
+  pub verifier-parts : {c : Choice} → (p : Parts) {b : Choice} → b ≡ firstNot d C.Nothing (partEdges n (rolesOf p)) → c ≡ orElse b C.Mark
+      → c ≡ chosenIn d (verifierRules o i n (E.Intersection p))
   unfolding verifierRules
   verifier-parts p h q = then-mark d (partEdges n (rolesOf p)) h q
 
@@ -78,7 +80,8 @@ module _ (T : Tables) (S : State) (d : Candidate → Bool) (i : ℕ) (n : Node) 
     pub link-def : {c : Choice} → k ≡ 1 → c ≡ chosenIn d (linkRules o i n a r) → c ≡ chosenIn d (verifierRules o i n (E.Linked a r))
     link-def h p = p ∙ by-class true (eqb k 2) (eq-eqb k 1 h) refl
 
-    pub link-all : {c : Choice} → (k ≡ 1 → ⊥) → k ≡ 2 → {b : Choice} → b ≡ firstNot d C.Nothing (allEdges T n a r) → c ≡ orElse b C.Mark → c ≡ chosenIn d (verifierRules o i n (E.Linked a r))
+    pub link-all : {c : Choice} → (k ≡ 1 → ⊥) → k ≡ 2 → {b : Choice} → b ≡ firstNot d C.Nothing (allEdges T n a r) → c ≡ orElse b C.Mark
+        → c ≡ chosenIn d (verifierRules o i n (E.Linked a r))
     link-all h z p q = then-mark d (allEdges T n a r) p q ∙ by-class false true (ne-eqb k 1 h) (eq-eqb k 2 z)
 
     pub link-subject : {c : Choice} → (k ≡ 1 → ⊥) → (k ≡ 2 → ⊥) → c ≡ C.Mark → c ≡ chosenIn d (verifierRules o i n (E.Linked a r))
@@ -98,40 +101,54 @@ module _ (T : Tables) (S : State) (d : Candidate → Bool) (i : ℕ) (n : Node) 
   unfolding opponentRules
   opponent-link a r p = p
 
-  pub opponent-parts : {c : Choice} → (p : Parts) {b : Choice} → b ≡ firstNot d C.Nothing (partEdges n (rolesOf p)) → c ≡ orElse b C.Mark → c ≡ chosenIn d (opponentRules o i n (E.Intersection p))
+  pub opponent-parts : {c : Choice} → (p : Parts) {b : Choice} → b ≡ firstNot d C.Nothing (partEdges n (rolesOf p)) → c ≡ orElse b C.Mark
+      → c ≡ chosenIn d (opponentRules o i n (E.Intersection p))
   unfolding opponentRules
   opponent-parts p h q = then-mark d (partEdges n (rolesOf p)) h q
 
-  pub opponent-goal : {c : Choice} → (r : ℕ) {b : Choice} → b ≡ firstNot d C.Nothing (ordered (map (solutionEdge n) (namedRoles r (T .sensitive) (publicOf T .subjectStored)))) → c ≡ orElse b C.Mark → c ≡ chosenIn d (opponentRules o i n (E.Goal r))
+  pub opponent-goal : {c : Choice} → (r : ℕ) {b : Choice}
+      → b ≡ firstNot d C.Nothing (ordered (map (solutionEdge n) (namedRoles r (T .sensitive) (publicOf T .subjectStored)))) → c ≡ orElse b C.Mark
+      → c ≡ chosenIn d (opponentRules o i n (E.Goal r))
   unfolding opponentRules endIn publicOf
   opponent-goal r h q = then-mark d (ordered (map (solutionEdge n) (namedRoles r (T .sensitive) (publicOf T .subjectStored)))) h q
 
   module _ (a : Role) where
     about : (b : Bool) → eqb (n .subject) (T .own) ≡ b
-        → chosenIn d (cond b (ownRules o i n a (o .known)) (thenMark (toSubject n (frontierOf simp (publicOf T .subjectStored) (E.Role a ∷ []))))) ≡ chosenIn d (opponentRules o i n (E.Role a))
+        → chosenIn d (cond b (ownRules o i n a (o .known)) (thenMark (toSubject n (frontierOf simp (publicOf T .subjectStored) (E.Role a ∷ [])))))
+        ≡ chosenIn d (opponentRules o i n (E.Role a))
     unfolding opponentRules endIn publicOf
-    about b h = sym (ap (λ (x : Bool). chosenIn d (cond x (ownRules o i n a (o .known)) (thenMark (toSubject n (frontierOf simp (publicOf T .subjectStored) (E.Role a ∷ [])))))) h)
+    about b h =
+        sym (ap (λ (x : Bool). chosenIn d (cond x (ownRules o i n a (o .known))
+        (thenMark (toSubject n (frontierOf simp (publicOf T .subjectStored) (E.Role a ∷ [])))))) h)
 
     pub about-us : {c : Choice} → n .subject ≡ T .own → c ≡ chosenIn d (ownRules o i n a (o .known)) → c ≡ chosenIn d (opponentRules o i n (E.Role a))
     about-us h p = p ∙ about true (eq-eqb (n .subject) (T .own) h)
 
-    pub about-other : {c : Choice} → (n .subject ≡ T .own → ⊥) → {b : Choice} → b ≡ firstNot d C.Nothing (toSubject n (frontierOf simp (publicOf T .subjectStored) (E.Role a ∷ []))) → c ≡ orElse b C.Mark → c ≡ chosenIn d (opponentRules o i n (E.Role a))
-    about-other h p q = then-mark d (toSubject n (frontierOf simp (publicOf T .subjectStored) (E.Role a ∷ []))) p q ∙ about false (ne-eqb (n .subject) (T .own) h)
+    pub about-other : {c : Choice} → (n .subject ≡ T .own → ⊥) → {b : Choice}
+        → b ≡ firstNot d C.Nothing (toSubject n (frontierOf simp (publicOf T .subjectStored) (E.Role a ∷ []))) → c ≡ orElse b C.Mark
+        → c ≡ chosenIn d (opponentRules o i n (E.Role a))
+    about-other h p q =
+        then-mark d (toSubject n (frontierOf simp (publicOf T .subjectStored) (E.Role a ∷ []))) p q ∙ about false (ne-eqb (n .subject) (T .own) h)
 
     -- a role about us
-    pub plain-choice : {c : Choice} → {r : RoleAnswer} → r ≡ otherOf (T .sensitive) a → r ≡ A.Absent → {b : Choice} → b ≡ firstNot d C.Nothing (toSubject n (frontierOf (sens (T .sensitive)) (publicOf T .subjectStored) (E.Role a ∷ []))) → c ≡ orElse b C.Mark
+    pub plain-choice : {c : Choice} → {r : RoleAnswer} → r ≡ otherOf (T .sensitive) a → r ≡ A.Absent → {b : Choice}
+        → b ≡ firstNot d C.Nothing (toSubject n (frontierOf (sens (T .sensitive)) (publicOf T .subjectStored) (E.Role a ∷ []))) → c ≡ orElse b C.Mark
         → c ≡ chosenIn d (ownRules o i n a (o .known))
     unfolding endIn publicOf
     plain-choice p h q u =
         then-mark d (toSubject n (frontierOf (sens (T .sensitive)) (publicOf T .subjectStored) (E.Role a ∷ []))) q u
         ∙ sym (ap (chosenIn d) (own-plain o i n a (hiddenOf T) S (T .sensitive) (sym p ∙ h)))
 
-    pub sensitive-choice : {c : Choice} → {r : RoleAnswer} {ack : Role} → r ≡ otherOf (T .sensitive) a → r ≡ A.Found ack → {rest : Choice} {k : Known} {b : Choice}
-        → rest ≡ firstNot d C.Nothing (implications n (keep (λ x. not (isEntity x)) (frontierOf (sens (T .sensitive)) (publicOf T .subjectStored) (bodiesOf (publicOf T .subjectStored) (E.Role a)))))
-        → k ≡ knownAs S (hiddenOf T) a ack → b ≡ knownChoice S d i n rest k → c ≡ orElse (alone d (controlFor S n ack)) b → c ≡ chosenIn d (ownRules o i n a (o .known))
+    pub sensitive-choice : {c : Choice} → {r : RoleAnswer} {ack : Role} → r ≡ otherOf (T .sensitive) a → r ≡ A.Found ack
+        → {rest : Choice} {k : Known} {b : Choice}
+        → rest ≡ firstNot d C.Nothing (implications n
+        (keep (λ x. not (isEntity x)) (frontierOf (sens (T .sensitive)) (publicOf T .subjectStored) (bodiesOf (publicOf T .subjectStored) (E.Role a)))))
+        → k ≡ knownAs S (hiddenOf T) a ack → b ≡ knownChoice S d i n rest k → c ≡ orElse (alone d (controlFor S n ack)) b
+        → c ≡ chosenIn d (ownRules o i n a (o .known))
     unfolding endIn publicOf
     sensitive-choice {ack = ack} p h u v w q =
-        let ws : List Candidate = implications n (keep (λ x. not (isEntity x)) (frontierOf (sens (T .sensitive)) (publicOf T .subjectStored) (bodiesOf (publicOf T .subjectStored) (E.Role a)))) in
+        let ws : List Candidate = implications n (keep (λ x. not (isEntity x))
+        (frontierOf (sens (T .sensitive)) (publicOf T .subjectStored) (bodiesOf (publicOf T .subjectStored) (E.Role a)))) in
         q ∙ (ap (orElse (alone d (controlFor S n ack))) (w ∙ (λ t. knownChoice S d i n (u t) (v t)))
         ∙ (sensitive-rules o d i n (controlFor S n ack) ws (knownAs S (hiddenOf T) a ack)
         ∙ sym (ap (chosenIn d) (own-sensitive o i n a (hiddenOf T) S (T .sensitive) ack (sym p ∙ h)))))
@@ -144,12 +161,18 @@ module _ (T : Tables) (S : State) (i : ℕ) (n : Node) {p : Bool} (pe : p ≡ pr
   at-processed h q = q ∙ sym (ap (λ (b : Bool). cond b C.Nothing (chosenIn (isDone (S .nodes) (S .edges) i) (planAt (endIn T S) i n))) (sym pe ∙ h))
 
   module _ (h : p ≡ false) where
-    by-side : (b : Bool) → eqb (n .verifier) (S .header .side) ≡ b → chosenIn (isDone (S .nodes) (S .edges) i) (cond b (verifierRules (endIn T S) i n (n .expression)) (opponentRules (endIn T S) i n (n .expression))) ≡ choiceAt (endIn T S) i n
+    by-side : (b : Bool) → eqb (n .verifier) (S .header .side) ≡ b
+        → chosenIn (isDone (S .nodes) (S .edges) i)
+        (cond b (verifierRules (endIn T S) i n (n .expression)) (opponentRules (endIn T S) i n (n .expression))) ≡ choiceAt (endIn T S) i n
     unfolding choiceAt endIn
-    by-side b k = sym (λ t. cond ((sym pe ∙ h) t) C.Nothing (chosenIn (isDone (S .nodes) (S .edges) i) (cond (k t) (verifierRules (endIn T S) i n (n .expression)) (opponentRules (endIn T S) i n (n .expression)))))
+    by-side b k =
+        sym (λ t. cond ((sym pe ∙ h) t) C.Nothing (chosenIn (isDone (S .nodes) (S .edges) i)
+        (cond (k t) (verifierRules (endIn T S) i n (n .expression)) (opponentRules (endIn T S) i n (n .expression)))))
 
-    pub at-verifier : {c : Choice} → n .verifier ≡ S .header .side → c ≡ chosenIn (isDone (S .nodes) (S .edges) i) (verifierRules (endIn T S) i n (n .expression)) → c ≡ choiceAt (endIn T S) i n
+    pub at-verifier : {c : Choice} → n .verifier ≡ S .header .side
+        → c ≡ chosenIn (isDone (S .nodes) (S .edges) i) (verifierRules (endIn T S) i n (n .expression)) → c ≡ choiceAt (endIn T S) i n
     at-verifier k q = q ∙ by-side true (eq-eqb (n .verifier) (S .header .side) k)
 
-    pub at-opponent : {c : Choice} → (n .verifier ≡ S .header .side → ⊥) → c ≡ chosenIn (isDone (S .nodes) (S .edges) i) (opponentRules (endIn T S) i n (n .expression)) → c ≡ choiceAt (endIn T S) i n
+    pub at-opponent : {c : Choice} → (n .verifier ≡ S .header .side → ⊥)
+        → c ≡ chosenIn (isDone (S .nodes) (S .edges) i) (opponentRules (endIn T S) i n (n .expression)) → c ≡ choiceAt (endIn T S) i n
     at-opponent k q = q ∙ by-side false (ne-eqb (n .verifier) (S .header .side) k)

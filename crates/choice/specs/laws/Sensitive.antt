@@ -70,7 +70,9 @@ module _ (o : End) (d : Candidate → Bool) (i : ℕ) (n : Node) (ack : Candidat
   behind-all : (m : Bool) → firstNot d (markIf m) rest ≡ orElse (firstNot d C.Nothing rest) (markIf m)
   behind-all m = first-rest d (markIf m) rest
 
-  policy-rules : (r : Role) → policyChoice (o .state) d i n (firstNot d C.Nothing rest) r ≡ firstNot d (markIf (isAcknowledged (o .state) r || isSatisfied o i)) (controlEdge o n r ∷ (cond (isAcknowledged (o .state) r) (ownEdge o n ∷ []) [] ++ rest))
+  policy-rules : (r : Role) → policyChoice (o .state) d i n (firstNot d C.Nothing rest) r
+      ≡ firstNot d (markIf (isAcknowledged (o .state) r || isSatisfied o i))
+      (controlEdge o n r ∷ (cond (isAcknowledged (o .state) r) (ownEdge o n ∷ []) [] ++ rest))
   unfolding policyChoice
   policy-rules r =
       let a : Bool = isAcknowledged (o .state) r in
@@ -83,7 +85,8 @@ module _ (o : End) (d : Candidate → Bool) (i : ℕ) (n : Node) (ack : Candidat
       go false m = refl
 
   -- the rules for a sensitive role come to this
-  pub sensitive-rules : (k : Known) → orElse (alone d ack) (knownChoice (o .state) d i n (firstNot d C.Nothing rest) k) ≡ chosenIn d (sensitiveRules o i n ack rest k)
+  pub sensitive-rules : (k : Known) → orElse (alone d ack) (knownChoice (o .state) d i n (firstNot d C.Nothing rest) k)
+      ≡ chosenIn d (sensitiveRules o i n ack rest k)
   unfolding knownChoice holdingChoice sensitiveRules chosenIn
   sensitive-rules Waiting = ap (orElse (alone d ack)) (sym (behind-all (isSatisfied o i))) ∙ sym (first-cons d (markIf (isSatisfied o i)) ack rest)
   sensitive-rules (Seen Absent) = ap (orElse (alone d ack)) (sym (behind-all true)) ∙ sym (first-cons d C.Mark ack rest)
@@ -92,7 +95,8 @@ module _ (o : End) (d : Candidate → Bool) (i : ℕ) (n : Node) (ack : Candidat
       ∙ (ap (orElse (alone d ack)) (sym (first-cons d C.Mark (ownEdge o n) rest)) ∙ sym (first-cons d C.Mark ack (ownEdge o n ∷ rest)))
   sensitive-rules (Seen (Guarded r)) =
       ap (orElse (alone d ack)) (policy-rules r)
-      ∙ sym (first-cons d (markIf (isAcknowledged (o .state) r || isSatisfied o i)) ack (controlEdge o n r ∷ (cond (isAcknowledged (o .state) r) (ownEdge o n ∷ []) [] ++ rest)))
+      ∙ sym (first-cons d (markIf (isAcknowledged (o .state) r || isSatisfied o i)) ack
+      (controlEdge o n r ∷ (cond (isAcknowledged (o .state) r) (ownEdge o n ∷ []) [] ++ rest)))
 
 -- What the code finds
 
@@ -109,7 +113,8 @@ module _ (S : State) (d : Candidate → Bool) (i : ℕ) (n : Node) (rest : Choic
   unfolding holdingChoice
   by-absent e p = p ∙ sym (ap (holdingChoice S d i n rest) e)
 
-  pub by-free : {a b : Choice} {w : Candidate} {h : Holding} → h ≡ Free → w ≡ ownFor n → a ≡ alone d w → b ≡ orElse rest C.Mark → c ≡ orElse a b → c ≡ holdingChoice S d i n rest h
+  pub by-free : {a b : Choice} {w : Candidate} {h : Holding} → h ≡ Free → w ≡ ownFor n → a ≡ alone d w → b ≡ orElse rest C.Mark → c ≡ orElse a b
+      → c ≡ holdingChoice S d i n rest h
   unfolding holdingChoice
   by-free e w p q r = r ∙ ((λ t. orElse ((p ∙ ap (alone d) w) t) (q t)) ∙ sym (ap (holdingChoice S d i n rest) e))
 
@@ -118,19 +123,24 @@ module _ (S : State) (d : Candidate → Bool) (i : ℕ) (n : Node) (rest : Choic
   by-guarded e p = p ∙ sym (ap (holdingChoice S d i n rest) e)
 
   module _ (r : Role) {w : Candidate} {control : Choice} (we : w ≡ controlFor S n r) (ce : control ≡ alone d w) {a : Bool} (ae : a ≡ isAcknowledged S r) where
-    pub policy-waits : {s : Bool} {m b : Choice} → not a ≡ true → s ≡ satisfiedIn S i → m ≡ markIf s → b ≡ orElse rest m → c ≡ orElse control b → c ≡ policyChoice S d i n rest r
+    pub policy-waits : {s : Bool} {m b : Choice} → not a ≡ true → s ≡ satisfiedIn S i → m ≡ markIf s → b ≡ orElse rest m → c ≡ orElse control b
+        → c ≡ policyChoice S d i n rest r
     unfolding policyChoice
     policy-waits h p q u v =
         v ∙ ((λ t. orElse ((ce ∙ ap (alone d) we) t) ((u ∙ ap (orElse rest) (q ∙ ap markIf p)) t))
-        ∙ sym (ap (λ (x : Bool). orElse (alone d (controlFor S n r)) (orElse (cond x (alone d (ownFor n)) C.Nothing) (orElse rest (markIf (x || satisfiedIn S i))))) (sym ae ∙ not-true a h)))
+        ∙ sym (ap (λ (x : Bool). orElse (alone d (controlFor S n r))
+        (orElse (cond x (alone d (ownFor n)) C.Nothing) (orElse rest (markIf (x || satisfiedIn S i))))) (sym ae ∙ not-true a h)))
 
-    pub policy-met : {o : Candidate} {own b e : Choice} → not a ≡ false → o ≡ ownFor n → own ≡ alone d o → b ≡ orElse rest C.Mark → e ≡ orElse own b → c ≡ orElse control e → c ≡ policyChoice S d i n rest r
+    pub policy-met : {o : Candidate} {own b e : Choice} → not a ≡ false → o ≡ ownFor n → own ≡ alone d o → b ≡ orElse rest C.Mark → e ≡ orElse own b
+        → c ≡ orElse control e → c ≡ policyChoice S d i n rest r
     unfolding policyChoice
     policy-met h p q u f v =
         v ∙ ((λ t. orElse ((ce ∙ ap (alone d) we) t) ((f ∙ (λ z. orElse ((q ∙ ap (alone d) p) z) (u z))) t))
-        ∙ sym (ap (λ (x : Bool). orElse (alone d (controlFor S n r)) (orElse (cond x (alone d (ownFor n)) C.Nothing) (orElse rest (markIf (x || satisfiedIn S i))))) (sym ae ∙ not-false a h)))
+        ∙ sym (ap (λ (x : Bool). orElse (alone d (controlFor S n r))
+        (orElse (cond x (alone d (ownFor n)) C.Nothing) (orElse rest (markIf (x || satisfiedIn S i))))) (sym ae ∙ not-false a h)))
 
-pub control-verifier : (S : State) (n : Node) (r : Role) {v : ℕ} → v ≡ otherSide (n .verifier) → record { kind = 6; verifier = v; expression = E.Role r; subject = S .header .other; direct = false } ≡ controlFor S n r
+pub control-verifier : (S : State) (n : Node) (r : Role) {v : ℕ} → v ≡ otherSide (n .verifier)
+    → record { kind = 6; verifier = v; expression = E.Role r; subject = S .header .other; direct = false } ≡ controlFor S n r
 control-verifier S n r e = λ t. record { kind = 6; verifier = e t; expression = E.Role r; subject = S .header .other; direct = false }
 
 pub satisfied-flag : (S : State) {sat : List ℕ} → Says (S .nodes) (S .edges) sat → {i j : ℕ} → j ≡ i → flag sat j ≡ satisfiedIn S i

@@ -47,10 +47,12 @@ use Rattle.moves.specs.Carried.{carried}
 use Rattle.candidates.specs.laws.Least.{better, orElse}
 use Rattle.choice.specs.laws.Known.{knownAs}
 use Rattle.choice.specs.laws.Sensitive.{alone, controlFor, ownFor, satisfiedIn, policyChoice, holdingChoice, knownChoice}
-use Rattle.choice.specs.laws.RuleChoice.{verifier-as, verifier-role, opponent-as, about-us, about-other, plain-choice, at-processed, at-verifier, at-opponent}
+use Rattle.choice.specs.laws.RuleChoice.{verifier-as, verifier-role, opponent-as, about-us, about-other, plain-choice, at-processed, at-verifier}
+use Rattle.choice.specs.laws.RuleChoice.{at-opponent}
 use Rattle.choice.specs.laws.Asked.{Asked, restAt, sensitiveAt, sensitive-at}
 use Rattle.choice.specs.laws.Later.{or-nothing, Later, done-stays, same-side, asked-back, rest-stays, carried-later}
 use Rattle.choice.specs.laws.Next.{isNothing, NothingBefore, Resting}
+use Rattle.numbers.specs.Sizes.{MOST-NODES}
 
 -- A mark ends all other rules
 
@@ -71,7 +73,8 @@ both-nothing p q = (λ t. orElse (p t) (q t))
 
 -- The negotiation went on, and the satisfied nodes are the same
 
-module _ (S R : State) (u : Later S R) (few : length (S .nodes) ≤ 128) (alike : (j : ℕ) → j < length (R .nodes) → satisfiedIn S j ≡ satisfiedIn R j) where
+module _ (S R : State) (u : Later S R) (few : length (S .nodes) ≤ MOST-NODES)
+    (alike : (j : ℕ) → j < length (R .nodes) → satisfiedIn S j ≡ satisfiedIn R j) where
   abbrev target : State → Role → ℕ
   target U r = findNode (U .nodes) (E.Role r) (U .header .side) (U .header .other)
 
@@ -104,7 +107,8 @@ module _ (S R : State) (u : Later S R) (few : length (S .nodes) ≤ 128) (alike 
                   let j : ℕ = findNode (R .nodes) (E.Role r) (S .header .side) (S .header .other) in
                   let k : j < length (S .nodes) = omega (arith, moved, l) in
                   let x = u .more .alike j k in
-                  let test : isNode (E.Role r) (S .header .side) (S .header .other) (nodeIn (R .nodes) j) ≡ isNode (E.Role r) (S .header .side) (S .header .other) (nodeIn (S .nodes) j) =
+                  let test : isNode (E.Role r) (S .header .side) (S .header .other) (nodeIn (R .nodes) j)
+                  ≡ isNode (E.Role r) (S .header .side) (S .header .other) (nodeIn (S .nodes) j) =
                   λ t. eqb (x .verifier t) (S .header .side) && eqb (x .subject t) (S .header .other) && same (x .expression t) (E.Role r) in
                   false-true (sym (a .none j k) ∙ (sym test ∙ f .here))
 
@@ -131,7 +135,15 @@ module _ (S R : State) (u : Later S R) (few : length (S .nodes) ≤ 128) (alike 
     e = isDone (R .nodes) (R .edges) i
 
     same-control : (r : Role) → controlFor S was r ≡ controlFor R is r
-    same-control r = λ t. record { kind = 6; verifier = otherSide (sym (u .more .alike i inside .verifier) t); expression = E.Role r; subject = sym (u .header) t .other; direct = false }
+    same-control r =
+        λ t. record {
+          kind = 6;
+          verifier = otherSide (sym (u .more .alike i inside .verifier) t);
+          expression = E.Role r;
+          subject = sym (u .header)
+              t .other;
+          direct = false;
+        }
 
     control-stays : (r : Role) → alone d (controlFor S was r) ≡ C.Nothing → alone e (controlFor R is r) ≡ C.Nothing
     control-stays r h = alone-stays d e (λ w k. done-stays (u .more) few i w k) (controlFor R is r) (ap (alone d) (sym (same-control r)) ∙ h)
@@ -144,9 +156,13 @@ module _ (S R : State) (u : Later S R) (few : length (S .nodes) ≤ 128) (alike 
       unfolding policyChoice
       policy-stays r h = go (isAcknowledged S r) (acknowledged-same r) h
         where
-          go : (a : Bool) → a ≡ isAcknowledged R r → orElse (alone d (controlFor S was r)) (orElse (cond a (alone d (ownFor was)) C.Nothing) (orElse x (markIf (a || satisfiedIn S i)))) ≡ C.Nothing
-              → orElse (alone e (controlFor R is r)) (orElse (cond (isAcknowledged R r) (alone e (ownFor is)) C.Nothing) (orElse y (markIf (isAcknowledged R r || satisfiedIn R i)))) ≡ C.Nothing
-          go true q k = absurd (mark-some x (or-nothing (alone d (ownFor was)) (orElse x C.Mark) (or-nothing (alone d (controlFor S was r)) (orElse (alone d (ownFor was)) (orElse x C.Mark)) k .1) .1))
+          go : (a : Bool) → a ≡ isAcknowledged R r
+              → orElse (alone d (controlFor S was r)) (orElse (cond a (alone d (ownFor was)) C.Nothing) (orElse x (markIf (a || satisfiedIn S i)))) ≡ C.Nothing
+              → orElse (alone e (controlFor R is r))
+              (orElse (cond (isAcknowledged R r) (alone e (ownFor is)) C.Nothing) (orElse y (markIf (isAcknowledged R r || satisfiedIn R i)))) ≡ C.Nothing
+          go true q k =
+              absurd (mark-some x (or-nothing (alone d (ownFor was)) (orElse x C.Mark)
+              (or-nothing (alone d (controlFor S was r)) (orElse (alone d (ownFor was)) (orElse x C.Mark)) k .1) .1))
           go false q k =
               let p = or-nothing (alone d (controlFor S was r)) (orElse x (markIf (satisfiedIn S i))) k in
               let z = or-nothing x (markIf (satisfiedIn S i)) (p .1) in
@@ -177,10 +193,13 @@ module _ (S R : State) (u : Later S R) (few : length (S .nodes) ≤ 128) (alike 
     role-stays : (T : Tables) (a : Role) → is .expression ≡ E.Role a → choiceAt (endIn T S) i was ≡ C.Nothing → choiceAt (endIn T R) i is ≡ C.Nothing
     role-stays T a x h = by-mark (processedBy (R .header .side) is) refl
       where
-        by-answer : (q : Asked R i is (E.Role a)) → was .subject ≡ T .own → (o : RoleAnswer) → otherOf (T .sensitive) a ≡ o → choiceAt (endIn T R) i is ≡ C.Nothing
+        by-answer : (q : Asked R i is (E.Role a)) → was .subject ≡ T .own → (o : RoleAnswer) → otherOf (T .sensitive) a ≡ o
+            → choiceAt (endIn T R) i is ≡ C.Nothing
         by-answer q s A.Absent o =
             let b : Asked S i was (E.Role a) = asked-back u inside q in
-            absurd (mark-some (firstNot d C.Nothing (toSubject was (frontierOf (sens (T .sensitive)) (publicOf T .subjectStored) (E.Role a ∷ [])))) (at-opponent T S i was {p = false} (sym (b .unprocessed)) refl (b .opponent) (opponent-as T S d i was (b .expression) (about-us T S d i was a s (plain-choice T S d i was a {r = A.Absent} (sym o) refl refl refl))) ∙ h))
+            absurd (mark-some (firstNot d C.Nothing (toSubject was (frontierOf (sens (T .sensitive)) (publicOf T .subjectStored) (E.Role a ∷ []))))
+            (at-opponent T S i was {p = false} (sym (b .unprocessed)) refl (b .opponent)
+            (opponent-as T S d i was (b .expression) (about-us T S d i was a s (plain-choice T S d i was a {r = A.Absent} (sym o) refl refl refl))) ∙ h))
         by-answer q s (A.Found ack) o =
             let b : Asked S i was (E.Role a) = asked-back u inside q in
             let subject : is .subject ≡ T .own = u .more .alike i inside .subject ∙ s in
@@ -190,14 +209,22 @@ module _ (S R : State) (u : Later S R) (few : length (S .nodes) ≤ 128) (alike 
         by-subject q true z = by-answer q (eqb-true (was .subject) (T .own) z) (otherOf (T .sensitive) a) refl
         by-subject q false z =
             let b : Asked S i was (E.Role a) = asked-back u inside q in
-            absurd (mark-some (firstNot d C.Nothing (toSubject was (frontierOf simp (publicOf T .subjectStored) (E.Role a ∷ [])))) (at-opponent T S i was {p = false} (sym (b .unprocessed)) refl (b .opponent) (opponent-as T S d i was (b .expression) (about-other T S d i was a (eqb-false (was .subject) (T .own) z) refl refl)) ∙ h))
+            absurd (mark-some (firstNot d C.Nothing (toSubject was (frontierOf simp (publicOf T .subjectStored) (E.Role a ∷ []))))
+            (at-opponent T S i was {p = false} (sym (b .unprocessed)) refl (b .opponent)
+            (opponent-as T S d i was (b .expression) (about-other T S d i was a (eqb-false (was .subject) (T .own) z) refl refl)) ∙ h))
 
         by-side : processedBy (R .header .side) is ≡ false → (z : Bool) → eqb (is .verifier) (R .header .side) ≡ z → choiceAt (endIn T R) i is ≡ C.Nothing
         by-side p true z =
-            let v : was .verifier ≡ S .header .side = sym (u .more .alike i inside .verifier) ∙ (eqb-true (is .verifier) (R .header .side) z ∙ same-side u inside) in
+            let v : was .verifier ≡ S .header .side = sym (u .more .alike i inside .verifier)
+            ∙ (eqb-true (is .verifier) (R .header .side) z ∙ same-side u inside) in
             let unprocessed : processedBy (S .header .side) was ≡ false = u .back i inside (ap (λ (k : ℕ). processedBy k is) (sym (same-side u inside)) ∙ p) in
-            absurd (mark-some (firstNot d C.Nothing (implications was (frontierOf (oppo (T .names)) (T .issuerStored) (bodiesOf (T .issuerStored) (E.Role a))))) (at-verifier T S i was {p = false} (sym unprocessed) refl v (verifier-as T S d i was (sym (u .more .alike i inside .expression) ∙ x) (verifier-role T S d i was a refl refl)) ∙ h))
-        by-side p false z = by-subject (record { number = refl; expression = x; unprocessed = p; opponent = eqb-false (is .verifier) (R .header .side) z }) (eqb (was .subject) (T .own)) refl
+            absurd (mark-some (firstNot d C.Nothing
+            (implications was (frontierOf (oppo (T .names)) (T .issuerStored) (bodiesOf (T .issuerStored) (E.Role a)))))
+            (at-verifier T S i was {p = false} (sym unprocessed) refl v
+            (verifier-as T S d i was (sym (u .more .alike i inside .expression) ∙ x) (verifier-role T S d i was a refl refl)) ∙ h))
+        by-side p false z =
+            by-subject (record { number = refl; expression = x; unprocessed = p; opponent = eqb-false (is .verifier) (R .header .side) z })
+            (eqb (was .subject) (T .own)) refl
 
         by-mark : (p : Bool) → processedBy (R .header .side) is ≡ p → choiceAt (endIn T R) i is ≡ C.Nothing
         by-mark true p = sym (at-processed T R i is {p = true} (sym p) refl refl)
@@ -227,7 +254,11 @@ pub flags-start : (sat last : List ℕ) → SameFlags sat last 0
 flags-start sat last = record { same = λ j l. absurd (omega (arith, l)) }
 
 pub flags-next : {sat last : List ℕ} {n : ℕ} → SameFlags sat last n → getD sat n 0 ≡ getD last n 0 → SameFlags sat last (n + 1)
-flags-next {sat} {last} {n} f e = record { same = λ j l. ⊎-elim (λ z. ap (λ (k : ℕ). getD sat k 0) (eqb-true j n z) ∙ (e ∙ sym (ap (λ (k : ℕ). getD last k 0) (eqb-true j n z)))) (λ z. f .same j (omega (arith, l, eqb-false j n z))) (decided (eqb j n)) }
+flags-next {sat} {last} {n} f e =
+    record {
+      same = λ j l. ⊎-elim (λ z. ap (λ (k : ℕ). getD sat k 0) (eqb-true j n z) ∙ (e ∙ sym (ap (λ (k : ℕ). getD last k 0) (eqb-true j n z))))
+          (λ z. f .same j (omega (arith, l, eqb-false j n z))) (decided (eqb j n));
+    }
 
 -- q where the columns are alike, or none
 pub record Unchanged (sat last : List ℕ) (n q r : ℕ) : Type 0 where
@@ -239,7 +270,8 @@ unchanged-none = record { rests = inl refl }
 pub unchanged-all : {sat last : List ℕ} {n q m : ℕ} → SameFlags sat last m → n ≤ m → Unchanged sat last n q q
 unchanged-all f l = record { rests = inr (refl, record { same = λ j k. f .same j (omega (arith, k, l)) }) }
 
-pub waits-rests : (T : Tables) (S : State) {sat last : List ℕ} {n q r : ℕ} → n ≡ length (S .nodes) → Waits T S last q → ((j : ℕ) → flag sat j ≡ satisfiedIn S j) → Unchanged sat last n q r → Resting T S r
+pub waits-rests : (T : Tables) (S : State) {sat last : List ℕ} {n q r : ℕ} → n ≡ length (S .nodes) → Waits T S last q
+    → ((j : ℕ) → flag sat j ≡ satisfiedIn S j) → Unchanged sat last n q r → Resting T S r
 waits-rests T S {sat} {last} {n} {q} {r} ne w s c =
     ⊎-elim
     (λ e. record { none = λ i l x. absurd (omega (arith, l, e)) })
@@ -247,7 +279,8 @@ waits-rests T S {sat} {last} {n} {q} {r} ne w s c =
     (c .rests)
 
 -- below the node of a move there was nothing to do
-pub waits-carried : (T : Tables) (S : State) (sat : List ℕ) (m : ℕ) → length (S .nodes) ≤ 128 → m ≤ length (S .nodes) → NothingBefore (endIn T S) m → ((j : ℕ) → flag sat j ≡ satisfiedIn S j) → (cs : List Command) → Waits T (carried (S .header .side) S cs) sat m
+pub waits-carried : (T : Tables) (S : State) (sat : List ℕ) (m : ℕ) → length (S .nodes) ≤ MOST-NODES → m ≤ length (S .nodes)
+    → NothingBefore (endIn T S) m → ((j : ℕ) → flag sat j ≡ satisfiedIn S j) → (cs : List Command) → Waits T (carried (S .header .side) S cs) sat m
 unfolding endIn
 waits-carried T S sat m few l P s cs =
     record {

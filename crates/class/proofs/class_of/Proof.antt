@@ -14,19 +14,32 @@ loop-holds : tie.Need-loop-holds Inv-loop μ-loop
 loop-holds c = between-start (c .args .m)
 
 loop-again : tie.Need-loop-again Inv-loop μ-loop
-loop-again c = between-low (c .before .before .before .before .pre .1) (c .before .before .before .loop .inv) (c .before .before .before .loop .low + (c .before .before .before .loop .high - c .before .before .before .loop .low) / 2) (omega arith) (c .if1 .taken)
+loop-again c =
+    between-low (c .before .before .before .before .pre .1) (c .before .before .before .loop .inv)
+    (c .before .before .before .loop .low + (c .before .before .before .loop .high - c .before .before .before .loop .low) / 2) (omega arith) (c .if1 .taken)
 
 loop-again-2 : tie.Need-loop-again-2 Inv-loop μ-loop
-loop-again-2 c = between-high (c .before .before .before .before .pre .1) (c .before .before .before .loop .inv) (c .before .before .before .loop .low + (c .before .before .before .loop .high - c .before .before .before .loop .low) / 2) (omega arith) (omega arith) (c .if1 .left)
+loop-again-2 c =
+    between-high (c .before .before .before .before .pre .1) (c .before .before .before .loop .inv)
+    (c .before .before .before .loop .low + (c .before .before .before .loop .high - c .before .before .before .loop .low) / 2) (omega arith)
+    (omega arith) (c .if1 .left)
 
 returns : tie.Need-returns Inv-loop μ-loop
-returns c = class-none (c .before .before .before .args .class .now) (c .before .before .before .pre .1) (c .before .before .loop .inv) (c .before .loop-test .left) (λ l. absurd (omega arith))
+returns c =
+    class-none (c .before .before .before .args .class .now) (c .before .before .before .pre .1) (c .before .before .loop .inv)
+    (c .before .loop-test .left) (λ l. absurd (omega arith))
 
 returns-2 : tie.Need-returns-2 Inv-loop μ-loop
-returns-2 c = class-none (c .before .before .before .before .before .args .class .now) (c .before .before .before .before .before .pre .1) (c .before .before .before .before .loop .inv) (c .before .before .before .loop-test .left) (λ l. c .if3 .taken)
+returns-2 c =
+    let c3 = c .before .before .before in
+    let c4 = c3 .before in
+    let c5 = c4 .before in
+    class-none (c5 .args .class .now) (c5 .pre .1) (c4 .loop .inv) (c3 .loop-test .left) (λ l. c .if3 .taken)
 
 returns-3 : tie.Need-returns-3 Inv-loop μ-loop
-returns-3 c = class-here (c .before .before .before .before .before .before .args .class .now) (c .before .before .before .before .before .loop .inv) (omega arith) (c .before .if3 .left)
+returns-3 c =
+    class-here (c .before .before .before .before .before .before .args .class .now) (c .before .before .before .before .before .loop .inv)
+    (omega arith) (c .before .if3 .left)
 
 pub class-of-spec : {M : Type 1} → statement M
 class-of-spec =

@@ -12,7 +12,10 @@ returns c = rw (eq-eqb _ _ (sym (c .before .class-of .ensures) ∙ c .if1 .taken
 
 returns-2 : tie.Need-returns-2
 unfolding credentialNumber
-returns-2 c = rw (ne-eqb _ _ (λ q. c .before .before .if1 .left (c .before .before .before .class-of .ensures ∙ q))) (c .suits .ensures ∙ (λ i. cond (isUnnamed (c .before .type-of .ensures i)) 4 (cond (suits (c .before .type-of .ensures i) (c .before .before .before .class-of .ensures i)) 0 5)))
+returns-2 c =
+    rw (ne-eqb _ _ (λ q. c .before .before .if1 .left (c .before .before .before .class-of .ensures ∙ q)))
+    (c .suits .ensures ∙ (λ i. cond (isUnnamed (c .before .type-of .ensures i)) 4
+    (cond (suits (c .before .type-of .ensures i) (c .before .before .before .class-of .ensures i)) 0 5)))
 
 pub credential-number-spec : {M : Type 1} → statement M
 credential-number-spec =

@@ -14,7 +14,9 @@ returns-2 c = rw (c .before .before .before .x .given .1) (c .named .ensures ∙
 
 returns-3 : tie.Need-returns-3
 unfolding typeOf
-returns-3 c = rw (c .before .before .before .before .x2 .given .1) (c .linked .ensures ∙ (λ i. linkedOf (c .before .before .class-of2 .ensures i) (c .before .class-of3 .ensures i)))
+returns-3 c =
+    rw (c .before .before .before .before .x2 .given .1)
+    (c .linked .ensures ∙ (λ i. linkedOf (c .before .before .class-of2 .ensures i) (c .before .class-of3 .ensures i)))
 
 returns-4 : tie.Need-returns-4
 returns-4 c = rw (c .before .before .x3 .given .1) (c .type-of-parts .ensures)

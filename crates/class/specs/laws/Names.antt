@@ -58,12 +58,17 @@ module _ {n : ℕ} {M : List ℕ} where
   -- the search ends at the name m: its class is the one beside it
   pub class-here : (C : List ℕ) {m low high : ℕ} → Between n M m low high → low < n → getD M low 0 ≡ m → getD C low 0 ≡ classOf (namesOf (namesFrom n M C)) m
   unfolding classOf namesOf
-  class-here C {m} {low} b l e = sym (first-at {t = λ (k : Name). eqb (k .name) m} {g = nameAt (namesFrom n M C)} (λ (k : Name). k .class) 0 n (record { none = λ i h. ne-eqb (getD M i 0) m (λ q. omega (arith, b .below i h)) }) l (eq-eqb (getD M low 0) m e))
+  class-here C {m} {low} b l e =
+      sym (first-at {t = λ (k : Name). eqb (k .name) m} {g = nameAt (namesFrom n M C)} (λ (k : Name). k .class) 0 n
+      (record { none = λ i h. ne-eqb (getD M i 0) m (λ q. omega (arith, b .below i h)) }) l (eq-eqb (getD M low 0) m e))
 
   -- the search ends at another name or past them all: the name m has no class
-  pub class-none : (C : List ℕ) {m low high : ℕ} → Ascending n M → Between n M m low high → high ≤ low → (low < n → getD M low 0 ≡ m → ⊥) → 0 ≡ classOf (namesOf (namesFrom n M C)) m
+  pub class-none : (C : List ℕ) {m low high : ℕ} → Ascending n M → Between n M m low high → high ≤ low → (low < n → getD M low 0 ≡ m → ⊥)
+      → 0 ≡ classOf (namesOf (namesFrom n M C)) m
   unfolding classOf namesOf
-  class-none C {m} {low} a b l h = sym (first-none {t = λ (k : Name). eqb (k .name) m} {g = nameAt (namesFrom n M C)} (λ (k : Name). k .class) 0 n (record { none = λ i k. ne-eqb (getD M i 0) m (other i k) }))
+  class-none C {m} {low} a b l h =
+      sym (first-none {t = λ (k : Name). eqb (k .name) m} {g = nameAt (namesFrom n M C)} (λ (k : Name). k .class) 0 n
+      (record { none = λ i k. ne-eqb (getD M i 0) m (other i k) }))
     where
       other : (i : ℕ) → i < n → getD M i 0 ≡ m → ⊥
       other i k q = go (ltb i low) (eqb i low) refl refl

@@ -40,21 +40,26 @@ module _ {A : Type 0} (f : A → Bool) (a : A) where
 -- the first class given once more at the end changes nothing
 together-again : (a : ℕ) (xs : List ℕ) → together (a ∷ (xs ++ (a ∷ []))) ≡ together (a ∷ xs)
 unfolding together
-together-again a xs = λ i. cond (any-again (λ k. eqb k 0) a xs i) Unnamed (cond (all-again (λ k. eqb k 3) a xs i) (Class 3) (cond (all-again (λ k. eqb k 2) a xs i) (Class 2) (Class 1)))
+together-again a xs =
+    λ i. cond (any-again (λ k. eqb k 0) a xs i) Unnamed
+    (cond (all-again (λ k. eqb k 3) a xs i) (Class 3) (cond (all-again (λ k. eqb k 2) a xs i) (Class 2) (Class 1)))
 
 module _ (ns : List Name) (p : Parts) {a b : ℕ} {r : Typing} where
   -- two roles: the first class stands for the third and the fourth
-  pub parts-two : p .count ≡ 2 → a ≡ classOf ns (p .first .name) → b ≡ classOf ns (p .second .name) → r ≡ together (a ∷ b ∷ a ∷ a ∷ []) → r ≡ typeOf ns (E.Intersection p)
+  pub parts-two : p .count ≡ 2 → a ≡ classOf ns (p .first .name) → b ≡ classOf ns (p .second .name) → r ≡ together (a ∷ b ∷ a ∷ a ∷ [])
+      → r ≡ typeOf ns (E.Intersection p)
   unfolding typeOf
   parts-two n x y h = rw (eq-eqb (p .count) 2 n) (h ∙ (together-again a (b ∷ a ∷ []) ∙ (together-again a (b ∷ []) ∙ (λ i. together (x i ∷ y i ∷ [])))))
 
   -- three roles: the first class stands for the fourth
-  pub parts-three : {c : ℕ} → (p .count ≡ 2 → ⊥) → p .count ≡ 3 → a ≡ classOf ns (p .first .name) → b ≡ classOf ns (p .second .name) → c ≡ classOf ns (p .third .name) → r ≡ together (a ∷ b ∷ c ∷ a ∷ []) → r ≡ typeOf ns (E.Intersection p)
+  pub parts-three : {c : ℕ} → (p .count ≡ 2 → ⊥) → p .count ≡ 3 → a ≡ classOf ns (p .first .name) → b ≡ classOf ns (p .second .name)
+      → c ≡ classOf ns (p .third .name) → r ≡ together (a ∷ b ∷ c ∷ a ∷ []) → r ≡ typeOf ns (E.Intersection p)
   unfolding typeOf
   parts-three {c} m n x y z h = rw (ne-eqb (p .count) 2 m, eq-eqb (p .count) 3 n) (h ∙ (together-again a (b ∷ c ∷ []) ∙ (λ i. together (x i ∷ y i ∷ z i ∷ []))))
 
   -- four roles
-  pub parts-four : {c d : ℕ} → (p .count ≡ 2 → ⊥) → (p .count ≡ 3 → ⊥) → a ≡ classOf ns (p .first .name) → b ≡ classOf ns (p .second .name) → c ≡ classOf ns (p .third .name) → d ≡ classOf ns (p .fourth .name) → r ≡ together (a ∷ b ∷ c ∷ d ∷ []) → r ≡ typeOf ns (E.Intersection p)
+  pub parts-four : {c d : ℕ} → (p .count ≡ 2 → ⊥) → (p .count ≡ 3 → ⊥) → a ≡ classOf ns (p .first .name) → b ≡ classOf ns (p .second .name)
+      → c ≡ classOf ns (p .third .name) → d ≡ classOf ns (p .fourth .name) → r ≡ together (a ∷ b ∷ c ∷ d ∷ []) → r ≡ typeOf ns (E.Intersection p)
   unfolding typeOf
   parts-four m n x y z w h = rw (ne-eqb (p .count) 2 m, ne-eqb (p .count) 3 n) (h ∙ (λ i. together (x i ∷ y i ∷ z i ∷ w i ∷ [])))
 
@@ -73,6 +78,10 @@ all-four true true true true = refl
 all-four true true true false = refl
 
 -- four classes, by the tests of the code
-pub together-four : (a b c d : ℕ) → together (a ∷ b ∷ c ∷ d ∷ []) ≡ cond (((eqb a 0 || eqb b 0) || eqb c 0) || eqb d 0) Unnamed (cond (((eqb a 3 && eqb b 3) && eqb c 3) && eqb d 3) (Class 3) (cond (((eqb a 2 && eqb b 2) && eqb c 2) && eqb d 2) (Class 2) (Class 1)))
+pub together-four : (a b c d : ℕ) → together (a ∷ b ∷ c ∷ d ∷ [])
+    ≡ cond (((eqb a 0 || eqb b 0) || eqb c 0) || eqb d 0) Unnamed
+    (cond (((eqb a 3 && eqb b 3) && eqb c 3) && eqb d 3) (Class 3) (cond (((eqb a 2 && eqb b 2) && eqb c 2) && eqb d 2) (Class 2) (Class 1)))
 unfolding together
-together-four a b c d = sym (λ i. cond (any-four (eqb a 0) (eqb b 0) (eqb c 0) (eqb d 0) i) Unnamed (cond (all-four (eqb a 3) (eqb b 3) (eqb c 3) (eqb d 3) i) (Class 3) (cond (all-four (eqb a 2) (eqb b 2) (eqb c 2) (eqb d 2) i) (Class 2) (Class 1))))
+together-four a b c d =
+    sym (λ i. cond (any-four (eqb a 0) (eqb b 0) (eqb c 0) (eqb d 0) i) Unnamed
+    (cond (all-four (eqb a 3) (eqb b 3) (eqb c 3) (eqb d 3) i) (Class 3) (cond (all-four (eqb a 2) (eqb b 2) (eqb c 2) (eqb d 2) i) (Class 2) (Class 1))))

@@ -6,7 +6,8 @@ use Rattle.closure.proofs.close.Statement.{statement}
 use Rattle.closure.proofs.close.Tie as tie
 
 abbrev Inv-loop : tie.InvT-loop
-Inv-loop n words head part first named src on mem own deps lo hi rows₀ more₀ rows more = CloseTo (rulesOf n words head part first named src) on own mem rows₀ rows more
+Inv-loop n words head part first named src on mem own deps lo hi rows₀ more₀ rows more =
+    CloseTo (rulesOf n words head part first named src) on own mem rows₀ rows more
 
 abbrev μ-loop : tie.MeasureT-loop
 μ-loop n words head part first named src on mem own deps lo hi rows₀ more₀ rows more = left rows more
@@ -33,7 +34,9 @@ loop-again : tie.Need-loop-again Inv-loop μ-loop
 loop-again c = close-pass (rulesOf _ _ _ _ _ _ _) _ _ _ (c .pass .ensures) (λ e. omega (arith, ltb-false)) (c .before .before .before .loop .inv)
 
 returns-2 : tie.Need-returns-2 Inv-loop μ-loop
-returns-2 c = close-all (rulesOf _ _ _ _ _ _ _) _ _ _ (c .loop-test .left) (c .before .before .before .before .before .run-worklist .ensures) (c .before .loop .inv)
+returns-2 c =
+    let c5 = c .before .before .before .before .before in
+    close-all (rulesOf _ _ _ _ _ _ _) _ _ _ (c .loop-test .left) (c5 .run-worklist .ensures) (c .before .loop .inv)
 
 pub close-spec : {M : Type 1} → statement M
 close-spec =

@@ -15,7 +15,8 @@ use Rattle.word.specs.laws.Bit.{bitAt, only, bit-or, bit-and, bit-zero, bit-onl
 use Rattle.word.specs.laws.Bools.{false-true, or-neither, and-parts}
 use Rattle.closure.specs.declared.Rules.{Rules}
 use Rattle.closure.specs.laws.Rules.{el, bits, Fits, Takes, memOf, memRows, Used, Model, Within, Grown, Closed, Marked}
-use Rattle.closure.specs.laws.Words.{InWord, LinksOf, meetOf, WordOf, room, Unchanged, TurnOf, RuleOf, PassOf, Poured, HeldOf, FullOf, level, FilledOf, RestsOf, StillOf}
+use Rattle.closure.specs.laws.Words.{InWord, LinksOf, meetOf, WordOf, room, Unchanged, TurnOf, RuleOf, PassOf, Poured, HeldOf, FullOf, level}
+use Rattle.closure.specs.laws.Words.{FilledOf, RestsOf, StillOf}
 
 or-cases : (a b s : ℕ) → bitAt (bitOr a b) s ≡ true → (bitAt a s ≡ true) ⊎ (bitAt b s ≡ true)
 or-cases a b s h = go (bitAt a s) refl (sym (bit-or a b s) ∙ h)
@@ -100,9 +101,11 @@ module _ (N b h f : ℕ) (S L M : List ℕ) where
             (λ e. absurd (false-true (sym p ∙ subst (λ (k : ℕ). bits M f (el S (b + k)) ≡ true) e y))) (split m j k z);
       }
 
-  pub links-next : (m w j : ℕ) → j < 64 → bitAt m j ≡ true → (b′ : Bool) → b′ ≡ bits M f (el S (b + j)) → (m′ w′ : ℕ) → m′ ≡ without m j → w′ ≡ cond b′ (bitOr w (el L ((b + j) * 2 + h))) w
+  pub links-next : (m w j : ℕ) → j < 64 → bitAt m j ≡ true → (b′ : Bool) → b′ ≡ bits M f (el S (b + j)) → (m′ w′ : ℕ) → m′ ≡ without m j
+      → w′ ≡ cond b′ (bitOr w (el L ((b + j) * 2 + h))) w
       → LinksTo N b h f S L M m w → LinksTo N b h f S L M m′ w′
-  links-next m w j l q b′ e m′ w′ d g inv = subst (λ (x : ℕ). LinksTo N b h f S L M x w′) (sym d) (subst (λ (x : ℕ). LinksTo N b h f S L M (without m j) x) (sym g) (go b′ e))
+  links-next m w j l q b′ e m′ w′ d g inv =
+      subst (λ (x : ℕ). LinksTo N b h f S L M x w′) (sym d) (subst (λ (x : ℕ). LinksTo N b h f S L M (without m j) x) (sym g) (go b′ e))
     where
       go : (t : Bool) → t ≡ bits M f (el S (b + j)) → LinksTo N b h f S L M (without m j) (cond t (bitOr w (el L ((b + j) * 2 + h))) w)
       go true z = links-add m w j l q (sym z) inv
@@ -136,8 +139,12 @@ module _ (X : Rules) (i h : ℕ) (L M : List ℕ) where
       let r = l (s % 64) b in
       let z : r .0 < 64 = r .1 in
       let d : (q * 64 + r .0) / 64 ≡ q = omega arith in
-      let m : r .0 ≡ (q * 64 + r .0) % 64 = omega arith in
-      (q * 64 + r .0, word-bits (X .named) i (q * 64 + r .0) q u d (subst (λ (x : ℕ). bitAt (el (X .named) (i * 2 + q)) x ≡ true) m (r .2)), r .3, word-bits L (q * 64 + r .0) s h v e (r .4))
+      let m : r .0 ≡ (q * 64 + r .0) % 64 = omega arith in (
+        q * 64 + r .0,
+        word-bits (X .named) i (q * 64 + r .0) q u d (subst (λ (x : ℕ). bitAt (el (X .named) (i * 2 + q)) x ≡ true) m (r .2)),
+        r .3,
+        word-bits L (q * 64 + r .0) s h v e (r .4),
+      )
 
   abbrev shared : ℕ
   shared = meetOf L (el (X .part) (i * 4)) (el (X .part) (i * 4 + 1)) (el (X .part) (i * 4 + 2)) (el (X .part) (i * 4 + 3)) h
@@ -145,9 +152,11 @@ module _ (X : Rules) (i h : ℕ) (L M : List ℕ) where
   meet-in : (s : ℕ) → s / 64 ≡ h → bits L (el (X .part) (i * 4)) s ≡ true → bits L (el (X .part) (i * 4 + 1)) s ≡ true
       → bits L (el (X .part) (i * 4 + 2)) s ≡ true → bits L (el (X .part) (i * 4 + 3)) s ≡ true → bitAt shared (s % 64) ≡ true
   meet-in s z a b c d =
-      and-both _ _ (s % 64) (and-both _ _ (s % 64) (and-both _ _ (s % 64) (bits-word L _ s h z a) (bits-word L _ s h z b)) (bits-word L _ s h z c)) (bits-word L _ s h z d)
+      and-both _ _ (s % 64) (and-both _ _ (s % 64) (and-both _ _ (s % 64) (bits-word L _ s h z a) (bits-word L _ s h z b)) (bits-word L _ s h z c))
+      (bits-word L _ s h z d)
 
-  meet-out : h < 2 → (s : ℕ) → s / 64 ≡ h → bitAt shared (s % 64) ≡ true → (bits L (el (X .part) (i * 4)) s ≡ true) × (bits L (el (X .part) (i * 4 + 1)) s ≡ true)
+  meet-out : h < 2 → (s : ℕ) → s / 64 ≡ h → bitAt shared (s % 64) ≡ true
+      → (bits L (el (X .part) (i * 4)) s ≡ true) × (bits L (el (X .part) (i * 4 + 1)) s ≡ true)
       × (bits L (el (X .part) (i * 4 + 2)) s ≡ true) × (bits L (el (X .part) (i * 4 + 3)) s ≡ true)
   meet-out u s z q =
       let x = and-cases _ _ (s % 64) q in
@@ -216,7 +225,8 @@ module _ (K : List ℕ) (r h w : ℕ) (u : h < 2) (l : r * 2 + h < length K) whe
           (sym (ap (λ (x : ℕ). bitAt x (t % 64)) take-same) ∙ subst (λ (x : ℕ). bitAt (el (take K (r * 2 + h) w) x) (t % 64) ≡ true) i c))
       go false e =
           inl (word-bits K q t (t / 64) z refl
-          (sym (ap (λ (x : ℕ). bitAt x (t % 64)) (getD-set-other K (r * 2 + h) (q * 2 + t / 64) (bitOr (el K (r * 2 + h)) w) 0 (eqb-false (q * 2 + t / 64) (r * 2 + h) e))) ∙ c))
+          (sym (ap (λ (x : ℕ). bitAt x (t % 64)) (getD-set-other K (r * 2 + h) (q * 2 + t / 64) (bitOr (el K (r * 2 + h)) w) 0
+          (eqb-false (q * 2 + t / 64) (r * 2 + h) e))) ∙ c))
 
   take-in : (G : ℕ → ℕ → Bool) → Within (bits K) G → ((s : ℕ) → s / 64 ≡ h → bitAt w (s % 64) ≡ true → G r s ≡ true) → Within (bits (take K (r * 2 + h) w)) G
   take-in G k g =
@@ -243,7 +253,8 @@ module _ (K : List ℕ) (r h w : ℕ) (u : h < 2) (l : r * 2 + h < length K) whe
               subst (λ (x : ℕ). bitAt (el (take K (r * 2 + h) w) x) (t % 64) ≡ true) (sym i)
               (ap (λ (x : ℕ). bitAt x (t % 64)) take-same ∙ or-left (el K (r * 2 + h)) w (t % 64) (subst (λ (x : ℕ). bitAt (el K x) (t % 64) ≡ true) i c))
           up false e =
-              ap (λ (x : ℕ). bitAt x (t % 64)) (getD-set-other K (r * 2 + h) (q * 2 + t / 64) (bitOr (el K (r * 2 + h)) w) 0 (eqb-false (q * 2 + t / 64) (r * 2 + h) e)) ∙ c
+              ap (λ (x : ℕ). bitAt x (t % 64)) (getD-set-other K (r * 2 + h) (q * 2 + t / 64) (bitOr (el K (r * 2 + h)) w) 0
+              (eqb-false (q * 2 + t / 64) (r * 2 + h) e)) ∙ c
 
 pub mark-at : (K : List ℕ) (r s b : ℕ) → r < 130 → s < 128 → length K ≡ 260 → b ≡ only (s % 64) → Marked K r s (take K (r * 2 + s / 64) b)
 mark-at K r s b l m n e =
@@ -294,7 +305,8 @@ takes-part f t = record { meet = λ s z. t .meet s (f s z); link = λ j s z. t .
 
 -- One turn
 
-module _ (X : Rules) (own : Bool) (M : List ℕ) (i h : ℕ) (K : List ℕ) (w : ℕ) (fits : Fits X) (lt : h < X .words) (size : length K ≡ 260) (word : WordOf X i h K (memRows own K M) w) where
+module _ (X : Rules) (own : Bool) (M : List ℕ) (i h : ℕ) (K : List ℕ) (w : ℕ) (fits : Fits X) (lt : h < X .words) (size : length K ≡ 260)
+    (word : WordOf X i h K (memRows own K M) w) where
   pub turn-new : (v : ℕ) → v ≡ bitOr (el K (el (X .head) i * 2 + h)) w → (v ≡ el K (el (X .head) i * 2 + h) → ⊥) → el K (el (X .head) i * 2 + h) < 2 ^ 64
       → TurnOf X own M i h K (set K (el (X .head) i * 2 + h) v) true
   turn-new v e new b =
@@ -398,7 +410,8 @@ module _ (X : Rules) (on : List ℕ) (own : Bool) (M : List ℕ) where
   pub pass-start : (K : List ℕ) → length K ≡ 260 → PassTo K K 0 0
   pass-start K h = record { upto = omega arith; few = omega arith; grown = grow-start K h; fewer = omega arith; still = λ z j l. absurd (omega arith) }
 
-  pub pass-more : {i added : ℕ} {K₀ K K′ : List ℕ} {r : Bool} → i < X .count → r ≡ true → RuleOf X on own M i K K′ r → PassTo K₀ K added i → PassTo K₀ K′ (added + 1) (i + 1)
+  pub pass-more : {i added : ℕ} {K₀ K K′ : List ℕ} {r : Bool} → i < X .count → r ≡ true → RuleOf X on own M i K K′ r → PassTo K₀ K added i
+      → PassTo K₀ K′ (added + 1) (i + 1)
   pass-more {i} {added} {K₀} {K} {K′} l e rule inv =
       record {
         upto = omega arith;
@@ -408,7 +421,8 @@ module _ (X : Rules) (on : List ℕ) (own : Bool) (M : List ℕ) where
         still = λ z. absurd (omega arith);
       }
 
-  pub pass-unchanged : {i added : ℕ} {K₀ K K′ : List ℕ} {r : Bool} → i < X .count → r ≡ false → RuleOf X on own M i K K′ r → PassTo K₀ K added i → PassTo K₀ K′ added (i + 1)
+  pub pass-unchanged : {i added : ℕ} {K₀ K K′ : List ℕ} {r : Bool} → i < X .count → r ≡ false → RuleOf X on own M i K K′ r → PassTo K₀ K added i
+      → PassTo K₀ K′ added (i + 1)
   pass-unchanged {i} {added} {K₀} {K} {K′} {r} l e rule inv =
       record {
         upto = omega arith;
@@ -436,7 +450,8 @@ module _ (X : Rules) (on : List ℕ) (own : Bool) (M : List ℕ) where
   pub close-start : (K : List ℕ) → length K ≡ 260 → CloseTo K K true
   close-start K h = record { grown = grow-start K h; done = λ q. absurd (true-false q) }
 
-  pub close-pass : {K₀ K K′ : List ℕ} {more more′ : Bool} {added : ℕ} → PassOf X on own M K K′ added → (more′ ≡ false → added ≡ 0) → CloseTo K₀ K more → CloseTo K₀ K′ more′
+  pub close-pass : {K₀ K K′ : List ℕ} {more more′ : Bool} {added : ℕ} → PassOf X on own M K K′ added → (more′ ≡ false → added ≡ 0) → CloseTo K₀ K more
+      → CloseTo K₀ K′ more′
   close-pass p f inv = record { grown = grow-more (inv .grown) (p .grown); done = λ q. p .still (f q) }
 
   pub close-all : {K₀ K₁ K : List ℕ} {more : Bool} → more ≡ false → Grown X on own M K₀ K₁ → CloseTo K₁ K more → Closed X on own M K₀ K
@@ -490,8 +505,14 @@ links-grown X on own M K i m w fits some size l o links =
     let u : _<_ 0 2 = omega arith in
     let z : r * 2 + 0 < length K = omega (arith, fits .head .under i) in
     let says : Says X i 0 K (memRows own K M) 0 w = λ t b.
-    (let q = links .says t b in
-    (q .0, q .1, subst (λ (x : ℕ). bitAt (el (X .named) x) (q .0) ≡ true) (sym (add-zero (i * 2))) (and-cases m (el (X .named) (i * 2)) (q .0) (q .2) .1), q .3, q .4)) in
+    (let q = links .says t b in (
+      q .0,
+      q .1,
+      subst (λ (x : ℕ). bitAt (el (X .named) x) (q .0) ≡ true) (sym (add-zero (i * 2)))
+          (and-cases m (el (X .named) (i * 2)) (q .0) (q .2) .1),
+      q .3,
+      q .4,
+    )) in
     subst (λ (x : ℕ). Grown X on own M K (take K x w)) e
     record {
       sized = length-set K (r * 2 + 0) _ ∙ size;
@@ -528,8 +549,10 @@ level-start K lo hi size low high =
       within = λ r s b.
           let l : s < 128 = bits-low K r s b in
           ⊎-elim
-          (λ e. let q = bits-word K r s 0 e b in word-bits (lo ∷ hi ∷ []) 0 s 0 (omega arith) e (low .all r (s % 64) (row-low K r 0 (s % 64) size (omega arith) q) q))
-          (λ e. let q = bits-word K r s 1 e b in word-bits (lo ∷ hi ∷ []) 0 s 1 (omega arith) e (high .all r (s % 64) (row-low K r 1 (s % 64) size (omega arith) q) q))
+          (λ e. let q = bits-word K r s 0 e b in word-bits (lo ∷ hi ∷ []) 0 s 0 (omega arith) e
+          (low .all r (s % 64) (row-low K r 0 (s % 64) size (omega arith) q) q))
+          (λ e. let q = bits-word K r s 1 e b in word-bits (lo ∷ hi ∷ []) 0 s 1 (omega arith) e
+          (high .all r (s % 64) (row-low K r 1 (s % 64) size (omega arith) q) q))
           (in-half s l);
     }
   where
@@ -541,11 +564,13 @@ level-start K lo hi size low high =
         go false e = let z : 64 ≤ j = ltb-false j 64 e in inr (omega arith)
 
 -- what grows by rules stays within the words
-pub level-grown : {X : Rules} {on : List ℕ} {own : Bool} {M K K′ : List ℕ} (lo hi : ℕ) → Grown X on own M K K′ → Within (bits K) (level lo hi) → Within (bits K′) (level lo hi)
+pub level-grown : {X : Rules} {on : List ℕ} {own : Bool} {M K K′ : List ℕ} (lo hi : ℕ) → Grown X on own M K K′ → Within (bits K) (level lo hi)
+    → Within (bits K′) (level lo hi)
 unfolding level
 level-grown lo hi g k = g .least (λ r s. bits (lo ∷ hi ∷ []) 0 s) (record { rule = λ i l o. record { meet = λ s z a b c d. a; link = λ j s z n m v. v } }) k
 
-pub rule-full : (X : Rules) (on : List ℕ) (own : Bool) (M K : List ℕ) (i lo hi : ℕ) {b : Bool} → Fits X → length K ≡ 260 → Within (bits K) (level lo hi) → FullOf (X .words) lo hi (el (X .head) i) K b → b ≡ true
+pub rule-full : (X : Rules) (on : List ℕ) (own : Bool) (M K : List ℕ) (i lo hi : ℕ) {b : Bool} → Fits X → length K ≡ 260
+    → Within (bits K) (level lo hi) → FullOf (X .words) lo hi (el (X .head) i) K b → b ≡ true
     → RuleOf X on own M i K K false
 unfolding level
 rule-full X on own M K i lo hi fits size within full e =
@@ -569,7 +594,8 @@ rule-full X on own M K i lo hi fits size within full e =
         go true q =
             let y : s < 64 = ltb-true s 64 q in
             let h : s / 64 ≡ 0 = omega arith in
-            word-bits K r s 0 (omega arith) h (ap (λ (x : ℕ). bitAt x (s % 64)) (ap (el K) (add-zero (r * 2)) ∙ full .low e) ∙ bits-word (lo ∷ hi ∷ []) 0 s 0 h b)
+            word-bits K r s 0 (omega arith) h (ap (λ (x : ℕ). bitAt x (s % 64)) (ap (el K) (add-zero (r * 2)) ∙ full .low e)
+            ∙ bits-word (lo ∷ hi ∷ []) 0 s 0 h b)
         go false q =
             let y : 64 ≤ s = ltb-false s 64 q in
             let h : s / 64 ≡ 1 = omega arith in
@@ -579,7 +605,8 @@ rule-full X on own M K i lo hi fits size within full e =
 
 -- a rule's row takes in what its parts share
 pub meet-grown : (X : Rules) (on : List ℕ) (own : Bool) (M K : List ℕ) (i w : ℕ) → Fits X → 0 < X .words → length K ≡ 260 → i < X .count → el on i ≡ 1
-    → w ≡ meetOf K (el (X .part) (i * 4)) (el (X .part) (i * 4 + 1)) (el (X .part) (i * 4 + 2)) (el (X .part) (i * 4 + 3)) 0 → Grown X on own M K (take K (el (X .head) i * 2) w)
+    → w ≡ meetOf K (el (X .part) (i * 4)) (el (X .part) (i * 4 + 1)) (el (X .part) (i * 4 + 2)) (el (X .part) (i * 4 + 3)) 0
+    → Grown X on own M K (take K (el (X .head) i * 2) w)
 meet-grown X on own M K i w fits some size l o is =
     let r = el (X .head) i in
     let e : r * 2 + 0 ≡ r * 2 = add-zero (r * 2) in
@@ -623,7 +650,8 @@ module _ (X : Rules) (on : List ℕ) (own : Bool) (M : List ℕ) (i : ℕ) (K : 
 
   old-row : (old s : ℕ) → old ≡ el K (el (X .head) i * 2) → s / 64 ≡ 0 → bitAt old (s % 64) ≡ true → bits K (el (X .head) i) s ≡ true
   old-row old s e z b =
-      word-bits K (el (X .head) i) s 0 (omega arith) z (subst (λ (x : ℕ). bitAt (el K x) (s % 64) ≡ true) (sym (add-zero (el (X .head) i * 2))) (sym (ap (λ (x : ℕ). bitAt x (s % 64)) e) ∙ b))
+      word-bits K (el (X .head) i) s 0 (omega arith) z
+      (subst (λ (x : ℕ). bitAt (el K x) (s % 64) ≡ true) (sym (add-zero (el (X .head) i * 2))) (sym (ap (λ (x : ℕ). bitAt x (s % 64)) e) ∙ b))
 
   -- a row that holds all that a row holds
   pub rests-full : (old lo : ℕ) → X .words ≡ 1 → length K ≡ 260 → HeldOf 0 130 K lo → old ≡ el K (el (X .head) i * 2) → old ≡ lo → RestsOf X on own M i K true
@@ -662,7 +690,8 @@ module _ (X : Rules) (on : List ℕ) (own : Bool) (M : List ℕ) (i : ℕ) (K : 
               (λ h. absurd (false-true (sym (bit-zero (j % 64)) ∙ (sym (ap (λ (x : ℕ). bitAt x (j % 64)) none) ∙ bits-word (X .named) i j 1 h n))))
               (half X i 0 K M j (bits-low (X .named) i j n))
 
-          via : (j s : ℕ) → s / 64 ≡ 0 → bits (X .named) i j ≡ true → bits (memRows own K M) (el (X .first) i) (el (X .src) j) ≡ true → bits K j s ≡ true → bitAt k (s % 64) ≡ true
+          via : (j s : ℕ) → s / 64 ≡ 0 → bits (X .named) i j ≡ true → bits (memRows own K M) (el (X .first) i) (el (X .src) j) ≡ true
+              → bits K j s ≡ true → bitAt k (s % 64) ≡ true
           via j s h n p v =
               let l : j / 64 ≡ 0 = low j n in
               let d : j % 64 ≡ j = omega arith in
@@ -670,7 +699,8 @@ module _ (X : Rules) (on : List ℕ) (own : Bool) (M : List ℕ) (i : ℕ) (K : 
               let a : (0 + j) * 2 + 0 ≡ j * 2 = omega arith in
               let w : bitAt (el K (j * 2)) (s % 64) ≡ true = subst (λ (x : ℕ). bitAt (el K x) (s % 64) ≡ true) (add-zero (j * 2)) (bits-word K j s 0 h v) in
               let q : bitAt (el (X .named) (i * 2)) j ≡ true =
-              subst (λ (x : ℕ). bitAt (el (X .named) (i * 2)) x ≡ true) d (subst (λ (x : ℕ). bitAt (el (X .named) x) (j % 64) ≡ true) (add-zero (i * 2)) (bits-word (X .named) i j 0 l n)) in
+              subst (λ (x : ℕ). bitAt (el (X .named) (i * 2)) x ≡ true) d
+              (subst (λ (x : ℕ). bitAt (el (X .named) x) (j % 64) ≡ true) (add-zero (i * 2)) (bits-word (X .named) i j 0 l n)) in
               links .all j (s % 64) (and-both (el (X .named) (i * 2)) F j q (filled .all j (s % 64) (omega arith) w))
               (subst (λ (x : ℕ). bits (memRows own K M) (el (X .first) i) (el (X .src) x) ≡ true) (sym z) p)
               (subst (λ (x : ℕ). bitAt (el K x) (s % 64) ≡ true) (sym a) w)

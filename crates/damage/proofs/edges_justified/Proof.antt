@@ -6,7 +6,9 @@ use Rattle.damage.proofs.edges_justified.Tie as tie
 
 -- the nodes of the columns
 abbrev N : tie.Start → Nodes
-N s = nodesFrom (s .args .n) (s .args .kind .now) (s .args .parts .now) (s .args .n0 .now) (s .args .n1 .now) (s .args .n2 .now) (s .args .n3 .now) (s .args .n4 .now) (s .args .n5 .now) (s .args .n6 .now) (s .args .n7 .now) (s .args .subject .now) (s .args .verifier .now) (s .args .state .now)
+N s =
+    nodesFrom (s .args .n) (s .args .kind .now) (s .args .parts .now) (s .args .n0 .now) (s .args .n1 .now) (s .args .n2 .now) (s .args .n3 .now)
+    (s .args .n4 .now) (s .args .n5 .now) (s .args .n6 .now) (s .args .n7 .now) (s .args .subject .now) (s .args .verifier .now) (s .args .state .now)
 
 edges-implied-requires : tie.Need-edges-implied-requires
 edges-implied-requires c κs = (c .pre .0, c .pre .1, c .pre .2, c .pre .4)
@@ -18,7 +20,9 @@ links-justified-requires : tie.Need-links-justified-requires
 links-justified-requires c κs = (c .before .before .pre .0, c .before .before .pre .1, c .before .before .pre .3, c .before .before .pre .4)
 
 returns-2 : tie.Need-returns-2
-returns-2 c = let s = c .before .before .before in both-justified _ (c .before .before .edges-implied .ensures (N s)) (c .before .if1 .left) (c .links-justified .ensures)
+returns-2 c =
+    let c3 = c .before .before .before in
+    let s = c3 in both-justified _ (c .before .before .edges-implied .ensures (N s)) (c .before .if1 .left) (c .links-justified .ensures)
 
 pub edges-justified-spec : {M : Type 1} → statement M
 edges-justified-spec =

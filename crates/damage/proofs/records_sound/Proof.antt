@@ -10,13 +10,23 @@ node-at-requires : tie.Need-node-at-requires
 node-at-requires c κs = ((c .before .before .pre .2), (c .before .before .pre .3))
 
 returns-2 : tie.Need-returns-2
-returns-2 c = λ es. records-primary _ _ (c .before .before .before .before .nodes-fit .ensures) (c .before .before .before .if1 .left) (c .before .before .node-at .ensures) (c .before .primary-sound .ensures) (c .if2 .taken)
+returns-2 c =
+    let c3 = c .before .before .before in
+    let c4 = c3 .before in
+    λ es. records-primary _ _ (c4 .nodes-fit .ensures) (c3 .if1 .left) (c .before .before .node-at .ensures) (c .before .primary-sound .ensures) (c .if2 .taken)
 
 shown-fit-requires : tie.Need-shown-fit-requires
-shown-fit-requires c κs = ((c .before .before .before .before .before .pre .0), (c .before .before .before .before .before .pre .1), (c .before .before .before .before .before .pre .4))
+shown-fit-requires c κs =
+    let c5 = c .before .before .before .before .before in
+    ((c5 .pre .0), (c5 .pre .1), (c5 .pre .4))
 
 returns-3 : tie.Need-returns-3
-returns-3 c = λ es. records-shown _ _ (c .before .before .before .before .before .nodes-fit .ensures) (c .before .before .before .before .if1 .left) (c .before .before .before .node-at .ensures) (c .before .before .primary-sound .ensures) (c .before .if2 .left) (c .shown-fit .ensures)
+returns-3 c =
+    let c3 = c .before .before .before in
+    let c4 = c3 .before in
+    let c5 = c4 .before in
+    λ es. records-shown _ _ (c5 .nodes-fit .ensures) (c4 .if1 .left) (c3 .node-at .ensures) (c .before .before .primary-sound .ensures)
+    (c .before .if2 .left) (c .shown-fit .ensures)
 
 pub records-sound-spec : {M : Type 1} → statement M
 records-sound-spec =

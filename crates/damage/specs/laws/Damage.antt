@@ -45,6 +45,7 @@ use Rattle.negotiation.specs.laws.State.{stateOf as stateHeld}
 use Rattle.negotiation.specs.laws.Within.{within-few}
 use Rattle.damage.specs.laws.Edges.{fits-placed, placed-inside, brought-more}
 use Rattle.damage.specs.Damage.{recordsSound, edgesJustified, graphSound, sound}
+use Rattle.numbers.specs.Sizes.{MOST-NODES}
 
 -- a state of these parts
 abbrev pub stateWith : Header → List Node → List Edge → List Credential → State
@@ -65,20 +66,22 @@ sound-formed ns n h =
 pub sound-legal : (ns : List Name) (n : Node) → nodeSound ns n ≡ true → legalState (n .expression) (n .state) ≡ true
 unfolding nodeSound
 sound-legal ns n h =
-    and-parts (wellFormed (n .expression) && ltb 0 (n .subject) && ltb (n .verifier) 2) (legalState (n .expression) (n .state)) (and-parts (wellFormed (n .expression) && ltb 0 (n .subject) && ltb (n .verifier) 2 && legalState (n .expression) (n .state)) _ h .0) .1
+    and-parts (wellFormed (n .expression) && ltb 0 (n .subject) && ltb (n .verifier) 2) (legalState (n .expression) (n .state))
+    (and-parts (wellFormed (n .expression) && ltb 0 (n .subject) && ltb (n .verifier) 2 && legalState (n .expression) (n .state)) _ h .0) .1
 
 pub fits-sound : (ns : List Name) (before : List Node) (n : Node) → nodeFits ns before n ≡ true → nodeSound ns n ≡ true
 unfolding nodeFits
 fits-sound ns before n h = and-parts (nodeSound ns n) _ h .0
 
-pub nodes-formed : (ns : List Name) (N : Nodes) → N .count ≤ 128 → inTurn (nodeFits ns) [] (nodesOf N) ≡ true → NodesFormed (nodesOf N)
+pub nodes-formed : (ns : List Name) (N : Nodes) → N .count ≤ MOST-NODES → inTurn (nodeFits ns) [] (nodesOf N) ≡ true → NodesFormed (nodesOf N)
 unfolding nodesOf
 nodes-formed ns N few h =
     record {
       few = omega (arith, nodes-length N);
       formed = λ i l.
           let k : i < N .count = omega (arith, nodes-length N) in
-          ap (λ (n : Node). wellFormed (n .expression)) (node-in N i k) ∙ sound-formed ns (nodeAt N i) (fits-sound ns _ (nodeAt N i) (turn-each (nodeFits ns) (nodeAt N) (N .count) h i k));
+          ap (λ (n : Node). wellFormed (n .expression)) (node-in N i k)
+          ∙ sound-formed ns (nodeAt N i) (fits-sound ns _ (nodeAt N i) (turn-each (nodeFits ns) (nodeAt N) (N .count) h i k));
     }
 
 -- edges that fit join nodes by their forms
@@ -92,15 +95,19 @@ module _ (h : Header) (N : Nodes) (E : Edges) (some : 0 < N .count) (fit : inTur
   brought-few zero l = omega arith
   brought-few (suc j) l =
       let few : brought (upTo j (edgeAt E)) ≤ N .count = brought-few j (omega arith) in
-      let in-side : edgeAt E j .child < N .count = placed-inside (N .count) (brought (upTo j (edgeAt E))) (edgeAt E j) few (fits-placed h N (upTo j (edgeAt E)) (edgeAt E j) refl (each-fits j (omega arith))) .1 in
-      subst (λ (b : ℕ). b ≤ N .count) (sym (brought-more 1 (upTo j (edgeAt E)) (edgeAt E j))) (next (brought (upTo j (edgeAt E))) few (eqb (edgeAt E j .child) (brought (upTo j (edgeAt E)))) refl in-side)
+      let in-side : edgeAt E j .child < N .count = placed-inside (N .count) (brought (upTo j (edgeAt E))) (edgeAt E j) few
+      (fits-placed h N (upTo j (edgeAt E)) (edgeAt E j) refl (each-fits j (omega arith))) .1 in
+      subst (λ (b : ℕ). b ≤ N .count) (sym (brought-more 1 (upTo j (edgeAt E)) (edgeAt E j)))
+      (next (brought (upTo j (edgeAt E))) few (eqb (edgeAt E j .child) (brought (upTo j (edgeAt E)))) refl in-side)
     where
       next : (b : ℕ) → b ≤ N .count → (t : Bool) → eqb (edgeAt E j .child) b ≡ t → edgeAt E j .child < N .count → cond t (suc b) b ≤ N .count
       next b few true e k = let z : edgeAt E j .child ≡ b = eqb-true (edgeAt E j .child) b e in omega arith
       next b few false e k = few
 
   edge-ends : (j : ℕ) → j < E .count → (edgeAt E j .parent < N .count) × (edgeAt E j .child < N .count)
-  edge-ends j l = placed-inside (N .count) (brought (upTo j (edgeAt E))) (edgeAt E j) (brought-few j (omega arith)) (fits-placed h N (upTo j (edgeAt E)) (edgeAt E j) refl (each-fits j l))
+  edge-ends j l =
+      placed-inside (N .count) (brought (upTo j (edgeAt E))) (edgeAt E j) (brought-few j (omega arith))
+      (fits-placed h N (upTo j (edgeAt E)) (edgeAt E j) refl (each-fits j l))
 
   pub edges-inside : Inside (N .count) E
   edges-inside = record { parent = λ j l. edge-ends j l .0; child = λ j l. edge-ends j l .1 }
@@ -109,16 +116,27 @@ module _ (h : Header) (N : Nodes) (E : Edges) (some : 0 < N .count) (fit : inTur
   unfolding edgeFits formed
   edges-formed =
       record {
-        parent = λ j l. let k : j < E .count = omega (arith, edges-length E) in subst (λ (e : Edge). e .parent < length (nodesOf N)) (sym (edge-in E j k)) (omega (arith, nodes-length N, edge-ends j k .0));
-        child = λ j l. let k : j < E .count = omega (arith, edges-length E) in subst (λ (e : Edge). e .child < length (nodesOf N)) (sym (edge-in E j k)) (omega (arith, nodes-length N, edge-ends j k .1));
+        parent =
+            λ j l. let k : j < E .count = omega (arith, edges-length E) in subst (λ (e : Edge). e .parent < length (nodesOf N)) (sym (edge-in E j k))
+            (omega (arith, nodes-length N, edge-ends j k .0));
+        child =
+            λ j l. let k : j < E .count = omega (arith, edges-length E) in subst (λ (e : Edge). e .child < length (nodesOf N)) (sym (edge-in E j k))
+            (omega (arith, nodes-length N, edge-ends j k .1));
         formed = λ j l.
             let k : j < E .count = omega (arith, edges-length E) in
-            let f = and-parts (placed (length (nodesOf N)) (brought (upTo j (edgeAt E))) (edgeAt E j) && formed h (nodesOf N) (edgeAt E j)) _ (each-fits j k) .0 in
-            (entityOf h (nodeIn (nodesOf N) (edgeAt E j .parent) .verifier), ap (λ (e : Edge). form (e .kind) (entityOf h (nodeIn (nodesOf N) (edgeAt E j .parent) .verifier)) (nodeIn (nodesOf N) (e .parent)) (nodeIn (nodesOf N) (e .child))) (edge-in E j k) ∙ and-parts (placed (length (nodesOf N)) (brought (upTo j (edgeAt E))) (edgeAt E j)) (formed h (nodesOf N) (edgeAt E j)) f .1);
+            let f = and-parts (placed (length (nodesOf N)) (brought (upTo j (edgeAt E))) (edgeAt E j) && formed h (nodesOf N) (edgeAt E j)) _
+            (each-fits j k) .0 in (
+              entityOf h (nodeIn (nodesOf N) (edgeAt E j .parent) .verifier),
+              ap
+                  (λ (e : Edge). form (e .kind) (entityOf h (nodeIn (nodesOf N) (edgeAt E j .parent) .verifier)) (nodeIn (nodesOf N) (e .parent))
+                  (nodeIn (nodesOf N) (e .child))) (edge-in E j k)
+                  ∙ and-parts (placed (length (nodesOf N)) (brought (upTo j (edgeAt E))) (edgeAt E j)) (formed h (nodesOf N) (edgeAt E j)) f .1,
+            );
       }
 
 -- all edges fit
-pub brought-fit : (h : Header) (N : Nodes) (E : Edges) {b : Bool} → b ≡ allBrought h (nodesOf N) (edgesOf E) → not b ≡ false → inTurn (edgeFits h (nodesOf N)) [] (upTo (E .count) (edgeAt E)) ≡ true
+pub brought-fit : (h : Header) (N : Nodes) (E : Edges) {b : Bool} → b ≡ allBrought h (nodesOf N) (edgesOf E) → not b ≡ false
+    → inTurn (edgeFits h (nodesOf N)) [] (upTo (E .count) (edgeAt E)) ≡ true
 unfolding allBrought edgesOf
 brought-fit h N E {b} e k = and-parts (inTurn (edgeFits h (nodesOf N)) [] (upTo (E .count) (edgeAt E))) _ (sym e ∙ not-false b k) .0
 
@@ -140,7 +158,8 @@ module _ (S : State) {a : Bool} (ae : a ≡ all (impliedIf (S .shown) (S .nodes)
 -- Records
 
 module _ (ns : List Name) (S : State) where
-  by-records : (a b c : Bool) → a ≡ inTurn (nodeFits ns) [] (S .nodes) → b ≡ primarySound (S .header) (nodeIn (S .nodes) 0) → c ≡ inTurn (credentialFits ns) [] (S .shown) → (a && b && c) ≡ recordsSound ns S
+  by-records : (a b c : Bool) → a ≡ inTurn (nodeFits ns) [] (S .nodes) → b ≡ primarySound (S .header) (nodeIn (S .nodes) 0)
+      → c ≡ inTurn (credentialFits ns) [] (S .shown) → (a && b && c) ≡ recordsSound ns S
   unfolding recordsSound
   by-records a b c p q r = λ i. p i && q i && r i
 
@@ -156,15 +175,19 @@ module _ (ns : List Name) (S : State) where
       records-shown {c} k ce = by-records true true c (sym (not-false a h) ∙ ae) (sym (not-false b k) ∙ be ∙ ap (primarySound (S .header)) pe) ce
 
 -- nodes of sound records
-pub records-formed : (ns : List Name) (N : Nodes) (S : State) {a : Bool} → N .count ≤ 128 → S .nodes ≡ nodesOf N → a ≡ recordsSound ns S → not a ≡ false → NodesFormed (nodesOf N)
+pub records-formed : (ns : List Name) (N : Nodes) (S : State) {a : Bool} → N .count ≤ MOST-NODES → S .nodes ≡ nodesOf N → a ≡ recordsSound ns S
+    → not a ≡ false → NodesFormed (nodesOf N)
 unfolding recordsSound
 records-formed ns N S {a} few se ae h =
-    nodes-formed ns N few (ap (inTurn (nodeFits ns) []) (sym se) ∙ and-parts (inTurn (nodeFits ns) [] (S .nodes)) _ (and-parts (inTurn (nodeFits ns) [] (S .nodes) && primarySound (S .header) (nodeIn (S .nodes) 0)) _ (sym ae ∙ not-false a h) .0) .0)
+    nodes-formed ns N few (ap (inTurn (nodeFits ns) []) (sym se)
+    ∙ and-parts (inTurn (nodeFits ns) [] (S .nodes)) _
+    (and-parts (inTurn (nodeFits ns) [] (S .nodes) && primarySound (S .header) (nodeIn (S .nodes) 0)) _ (sym ae ∙ not-false a h) .0) .0)
 
 -- The graph
 
 module _ (ns : List Name) (S : State) where
-  by-graph : (a b c d e : Bool) → a ≡ countSound (S .header .messages) → b ≡ recordsSound ns S → c ≡ allBrought (S .header) (S .nodes) (S .edges) → d ≡ edgesJustified S → e ≡ endSound (propagatedState (S .nodes) (S .edges) 0) (S .header .end) (S .header .idle)
+  by-graph : (a b c d e : Bool) → a ≡ countSound (S .header .messages) → b ≡ recordsSound ns S → c ≡ allBrought (S .header) (S .nodes) (S .edges)
+      → d ≡ edgesJustified S → e ≡ endSound (propagatedState (S .nodes) (S .edges) 0) (S .header .end) (S .header .idle)
       → (a && b && c && d && e) ≡ graphSound ns S
   unfolding graphSound
   by-graph a b c d e p q r s t = λ i. p i && q i && r i && s i && t i
@@ -183,17 +206,23 @@ module _ (ns : List Name) (S : State) where
 
         module _ (ch : not c ≡ false) {d : Bool} (de : d ≡ edgesJustified S) where
           pub graph-unjustified : not d ≡ true → false ≡ graphSound ns S
-          graph-unjustified h = by-graph true true true false _ (sym (not-false a ah) ∙ ae) (sym (not-false b bh) ∙ be) (sym (not-false c ch) ∙ ce) (sym (not-true d h) ∙ de) refl
+          graph-unjustified h =
+              by-graph true true true false _ (sym (not-false a ah) ∙ ae) (sym (not-false b bh) ∙ be) (sym (not-false c ch) ∙ ce) (sym (not-true d h) ∙ de) refl
 
-          pub graph-end : {p : ℕ} {e : Bool} → not d ≡ false → p ≡ propagatedState (S .nodes) (S .edges) 0 → e ≡ endSound p (S .header .end) (S .header .idle) → e ≡ graphSound ns S
-          graph-end {p} {e} h pe ee = by-graph true true true true e (sym (not-false a ah) ∙ ae) (sym (not-false b bh) ∙ be) (sym (not-false c ch) ∙ ce) (sym (not-false d h) ∙ de) (ee ∙ ap (λ (k : ℕ). endSound k (S .header .end) (S .header .idle)) pe)
+          pub graph-end : {p : ℕ} {e : Bool} → not d ≡ false → p ≡ propagatedState (S .nodes) (S .edges) 0
+              → e ≡ endSound p (S .header .end) (S .header .idle) → e ≡ graphSound ns S
+          graph-end {p} {e} h pe ee =
+              by-graph true true true true e (sym (not-false a ah) ∙ ae) (sym (not-false b bh) ∙ be) (sym (not-false c ch) ∙ ce)
+              (sym (not-false d h) ∙ de) (ee ∙ ap (λ (k : ℕ). endSound k (S .header .end) (S .header .idle)) pe)
 
 -- The whole
 
 module _ (T : Tables) (S : State) where
-  by-whole : (a b : Bool) → a ≡ headerSound (T .own) (T .names) (S .header) → b ≡ eqb (length (S .nodes)) 0 → (e : Bool) → e ≡ cond b (emptySound (S .header) (length (S .edges)) (length (S .shown))) (graphSound (T .names) S) → (a && e) ≡ sound T S
+  by-whole : (a b : Bool) → a ≡ headerSound (T .own) (T .names) (S .header) → b ≡ eqb (length (S .nodes)) 0 → (e : Bool)
+      → e ≡ cond b (emptySound (S .header) (length (S .edges)) (length (S .shown))) (graphSound (T .names) S) → (a && e) ≡ sound T S
   unfolding sound
-  by-whole a b p q e r = λ i. p i && (r ∙ ap (λ (t : Bool). cond t (emptySound (S .header) (length (S .edges)) (length (S .shown))) (graphSound (T .names) S)) q) i
+  by-whole a b p q e r =
+      λ i. p i && (r ∙ ap (λ (t : Bool). cond t (emptySound (S .header) (length (S .edges)) (length (S .shown))) (graphSound (T .names) S)) q) i
 
   module _ {a : Bool} (ae : a ≡ headerSound (T .own) (T .names) (S .header)) where
     pub whole-header : not a ≡ true → false ≡ sound T S
@@ -201,7 +230,8 @@ module _ (T : Tables) (S : State) where
 
     module _ (ah : not a ≡ false) {n : ℕ} (ne : n ≡ length (S .nodes)) where
       pub whole-empty : {m k : ℕ} {b : Bool} → n ≡ 0 → m ≡ length (S .edges) → k ≡ length (S .shown) → b ≡ emptySound (S .header) m k → b ≡ sound T S
-      whole-empty {b} z me ke be = by-whole true true (sym (not-false a ah) ∙ ae) (sym (eq-eqb (length (S .nodes)) 0 (sym ne ∙ z))) b (be ∙ (λ i. emptySound (S .header) (me i) (ke i)))
+      whole-empty {b} z me ke be =
+          by-whole true true (sym (not-false a ah) ∙ ae) (sym (eq-eqb (length (S .nodes)) 0 (sym ne ∙ z))) b (be ∙ (λ i. emptySound (S .header) (me i) (ke i)))
 
       pub whole-graph : {b : Bool} → (n ≡ 0 → ⊥) → b ≡ graphSound (T .names) S → b ≡ sound T S
       whole-graph {b} z be = by-whole true false (sym (not-false a ah) ∙ ae) (sym (ne-eqb (length (S .nodes)) 0 (λ w. z (ne ∙ w)))) b be
@@ -216,16 +246,21 @@ module _ (H : House) (G : Negotiation) where
     module _ (ah : not a ≡ false) where
       pub sound-empty : {b : Bool} → G .nodes .count ≡ 0 → b ≡ emptySound (G .header) (G .edges .count) (G .shown .count) → b ≡ sound (tablesOf H) (stateHeld G)
       unfolding tablesOf stateHeld credentials
-      sound-empty z be = whole-empty (tablesOf H) (stateHeld G) ae ah (sym (nodes-length (G .nodes))) z (sym (edges-length (G .edges))) (sym (length-upTo (G .shown .count) (credentialAt (G .shown)))) be
+      sound-empty z be =
+          whole-empty (tablesOf H) (stateHeld G) ae ah (sym (nodes-length (G .nodes))) z (sym (edges-length (G .edges)))
+          (sym (length-upTo (G .shown .count) (credentialAt (G .shown)))) be
 
-      pub sound-graph : {b : Bool} → (G .nodes .count ≡ 0 → ⊥) → b ≡ graphSound (namesOf (H .names)) (stateWith (G .header) (nodesOf (G .nodes)) (edgesOf (G .edges)) (credentials (G .shown))) → b ≡ sound (tablesOf H) (stateHeld G)
+      pub sound-graph : {b : Bool} → (G .nodes .count ≡ 0 → ⊥)
+          → b ≡ graphSound (namesOf (H .names)) (stateWith (G .header) (nodesOf (G .nodes)) (edgesOf (G .edges)) (credentials (G .shown)))
+          → b ≡ sound (tablesOf H) (stateHeld G)
       unfolding tablesOf stateHeld
       sound-graph z be = whole-graph (tablesOf H) (stateHeld G) ae ah (sym (nodes-length (G .nodes))) z be
 
 -- What a sound negotiation with a node has
 
 pub graph-parts : (ns : List Name) (S : State) → graphSound ns S ≡ true
-    → (countSound (S .header .messages) ≡ true) × (recordsSound ns S ≡ true) × (allBrought (S .header) (S .nodes) (S .edges) ≡ true) × (edgesJustified S ≡ true) × (endSound (propagatedState (S .nodes) (S .edges) 0) (S .header .end) (S .header .idle) ≡ true)
+    → (countSound (S .header .messages) ≡ true) × (recordsSound ns S ≡ true) × (allBrought (S .header) (S .nodes) (S .edges) ≡ true)
+    × (edgesJustified S ≡ true) × (endSound (propagatedState (S .nodes) (S .edges) 0) (S .header .end) (S .header .idle) ≡ true)
 unfolding graphSound
 graph-parts ns S h =
     let a = and-parts (countSound (S .header .messages) && recordsSound ns S && allBrought (S .header) (S .nodes) (S .edges) && edgesJustified S) _ h in
@@ -237,7 +272,8 @@ graph-parts ns S h =
 pub sound-some : (T : Tables) (S : State) → sound T S ≡ true → (length (S .nodes) ≡ 0 → ⊥) → graphSound (T .names) S ≡ true
 unfolding sound
 sound-some T S h z =
-    sym (ap (λ (b : Bool). cond b (emptySound (S .header) (length (S .edges)) (length (S .shown))) (graphSound (T .names) S)) (ne-eqb (length (S .nodes)) 0 z)) ∙ and-parts (headerSound (T .own) (T .names) (S .header)) _ h .1
+    sym (ap (λ (b : Bool). cond b (emptySound (S .header) (length (S .edges)) (length (S .shown))) (graphSound (T .names) S))
+    (ne-eqb (length (S .nodes)) 0 z)) ∙ and-parts (headerSound (T .own) (T .names) (S .header)) _ h .1
 
 -- a negotiation as it is held: its nodes and its edges have their forms
 module _ (H : House) (G : Negotiation) (w : within (stateHeld G) ≡ true) (h : sound (tablesOf H) (stateHeld G) ≡ true) (some : 0 < G .nodes .count) where
@@ -250,8 +286,10 @@ module _ (H : House) (G : Negotiation) (w : within (stateHeld G) ≡ true) (h : 
   unfolding nodesOf recordsSound
   held-legal i l =
       let r = graph-parts (namesOf (H .names)) _ held-graph .1 in
-      let f = and-parts (inTurn (nodeFits (namesOf (H .names))) [] (nodesOf (G .nodes))) _ (and-parts (inTurn (nodeFits (namesOf (H .names))) [] (nodesOf (G .nodes)) && primarySound (G .header) (nodeIn (nodesOf (G .nodes)) 0)) _ r .0) .0 in
-      sound-legal (namesOf (H .names)) (nodeAt (G .nodes) i) (fits-sound (namesOf (H .names)) _ (nodeAt (G .nodes) i) (turn-each (nodeFits (namesOf (H .names))) (nodeAt (G .nodes)) (G .nodes .count) f i l))
+      let f = and-parts (inTurn (nodeFits (namesOf (H .names))) [] (nodesOf (G .nodes))) _
+      (and-parts (inTurn (nodeFits (namesOf (H .names))) [] (nodesOf (G .nodes)) && primarySound (G .header) (nodeIn (nodesOf (G .nodes)) 0)) _ r .0) .0 in
+      sound-legal (namesOf (H .names)) (nodeAt (G .nodes) i)
+      (fits-sound (namesOf (H .names)) _ (nodeAt (G .nodes) i) (turn-each (nodeFits (namesOf (H .names))) (nodeAt (G .nodes)) (G .nodes .count) f i l))
 
   pub held-nodes : NodesFormed (nodesOf (G .nodes))
   held-nodes = records-formed (namesOf (H .names)) (G .nodes) _ (within-few G w .0) refl (sym (graph-parts _ _ held-graph .1)) refl

@@ -26,7 +26,8 @@ use Rattle.damage.specs.Edges.{nextBrought, broughtFrom, brought, placed
 
 -- One edge
 
-pub placed-is : (n b : ℕ) (e : Edge) {p c d : ℕ} → p ≡ e .parent → c ≡ e .child → d ≡ e .child → (ltb p b && leb c b && ltb d n && not (eqb (e .parent) (e .child))) ≡ placed n b e
+pub placed-is : (n b : ℕ) (e : Edge) {p c d : ℕ} → p ≡ e .parent → c ≡ e .child → d ≡ e .child
+    → (ltb p b && leb c b && ltb d n && not (eqb (e .parent) (e .child))) ≡ placed n b e
 unfolding placed
 placed-is n b e f g h = λ i. ltb (f i) b && leb (g i) b && ltb (h i) n && not (eqb (e .parent) (e .child))
 
@@ -40,7 +41,8 @@ placed-inside n b e l h =
     (omega (arith, ltb-true (e .parent) b (r .0)), ltb-true (e .child) n (q .1))
 
 -- P and C are the nodes i and k, the parent and the child of e
-pub formed-is : (h : Header) (ns : List Node) (e : Edge) {i k v : ℕ} {P C : Node} {b : Bool} → i ≡ e .parent → P ≡ nodeIn ns i → k ≡ e .child → C ≡ nodeIn ns k → v ≡ entityOf h (P .verifier)
+pub formed-is : (h : Header) (ns : List Node) (e : Edge) {i k v : ℕ} {P C : Node} {b : Bool} → i ≡ e .parent → P ≡ nodeIn ns i → k ≡ e .child
+    → C ≡ nodeIn ns k → v ≡ entityOf h (P .verifier)
     → b ≡ form (e .kind) v P C → b ≡ formed h ns e
 unfolding formed
 formed-is h ns e {i} {k} {v} {P} {C} ie pe ke ce ve f =
@@ -54,7 +56,8 @@ module _ (h : Header) (N : Nodes) (before : List Edge) (e : Edge) {b : ℕ} (be 
   by-edge p f x pe fe xe = λ i. (pe ∙ (λ t. placed (sym (nodes-length N) t) (be t) e)) i && fe i && not (xe i)
 
 -- X is edge j, behind those before it, which brought b nodes
-module _ (h : Header) (N : Nodes) (E : Edges) (before : List Edge) {b j : ℕ} {X : Edge} {p : Bool} (be : b ≡ brought before) (l : j < E .count) (e : X ≡ edgeIn (edgesOf E) j) (pe : p ≡ placed (N .count) b X) where
+module _ (h : Header) (N : Nodes) (E : Edges) (before : List Edge) {b j : ℕ} {X : Edge} {p : Bool} (be : b ≡ brought before) (l : j < E .count)
+    (e : X ≡ edgeIn (edgesOf E) j) (pe : p ≡ placed (N .count) b X) where
   there : {r : Bool} → r ≡ edgeFits h (nodesOf N) before X → r ≡ edgeFits h (nodesOf N) before (edgeAt E j)
   there {r} = subst (λ (d : Edge). r ≡ edgeFits h (nodesOf N) before d) (e ∙ edge-in E j l)
 
@@ -69,9 +72,13 @@ module _ (h : Header) (N : Nodes) (E : Edges) (before : List Edge) {b j : ℕ} {
     edge-new m xe = there (by-edge h N before X be true true _ (sym (not-false p k) ∙ pe) (sym (not-false f m) ∙ fe) xe)
 
 -- an edge that fits is placed
-pub fits-placed : (h : Header) (N : Nodes) (before : List Edge) (e : Edge) {b : ℕ} → b ≡ brought before → edgeFits h (nodesOf N) before e ≡ true → placed (N .count) b e ≡ true
+pub fits-placed : (h : Header) (N : Nodes) (before : List Edge) (e : Edge) {b : ℕ} → b ≡ brought before → edgeFits h (nodesOf N) before e ≡ true
+    → placed (N .count) b e ≡ true
 unfolding edgeFits
-fits-placed h N before e {b} be k = (λ t. placed (sym (nodes-length N) t) (be t) e) ∙ and-parts (placed (length (nodesOf N)) (brought before) e) (formed h (nodesOf N) e) (and-parts (placed (length (nodesOf N)) (brought before) e && formed h (nodesOf N) e) (not (hasEdge before e)) k .0) .0
+fits-placed h N before e {b} be k =
+    (λ t. placed (sym (nodes-length N) t) (be t) e)
+    ∙ and-parts (placed (length (nodesOf N)) (brought before) e) (formed h (nodesOf N) e)
+    (and-parts (placed (length (nodesOf N)) (brought before) e && formed h (nodesOf N) e) (not (hasEdge before e)) k .0) .0
 
 -- Nodes brought
 
@@ -91,7 +98,8 @@ module _ (h : Header) (N : Nodes) (E : Edges) where
   unfolding brought broughtFrom edgesOf
   bringing-none l = record { judged = judged-none _ _ _; brings = refl; few = omega arith }
 
-  module _ {b j : ℕ} {r : Bool} (g : Bringing h N E b j) (l : j < E .count) (e : r ≡ edgeFits h (nodesOf N) (edgesOf (edgesFrom j (E .kind) (E .parent) (E .child))) (edgeAt E j)) where
+  module _ {b j : ℕ} {r : Bool} (g : Bringing h N E b j) (l : j < E .count)
+      (e : r ≡ edgeFits h (nodesOf N) (edgesOf (edgesFrom j (E .kind) (E .parent) (E .child))) (edgeAt E j)) where
     pub bringing-stop : not r ≡ true → false ≡ allBrought h (nodesOf N) (edgesOf E)
     unfolding allBrought
     bringing-stop k = ap (λ (t : Bool). t && eqb (brought (edgesOf E)) (length (nodesOf N))) (edges-stop (edgeFits h (nodesOf N)) E (g .judged) l e k)
@@ -99,7 +107,9 @@ module _ (h : Header) (N : Nodes) (E : Edges) where
     module _ (k : not r ≡ false) where
       step : brought (edgesOf (edgesFrom (j + 1) (E .kind) (E .parent) (E .child))) ≡ nextBrought b (edgeAt E j)
       unfolding brought edgesOf
-      step = ap (λ (n : ℕ). brought (upTo n (edgeAt E))) (add-one j) ∙ brought-more 1 (upTo j (edgeAt E)) (edgeAt E j) ∙ ap (λ (n : ℕ). nextBrought n (edgeAt E j)) (sym (g .brings))
+      step =
+          ap (λ (n : ℕ). brought (upTo n (edgeAt E))) (add-one j) ∙ brought-more 1 (upTo j (edgeAt E)) (edgeAt E j)
+          ∙ ap (λ (n : ℕ). nextBrought n (edgeAt E j)) (sym (g .brings))
 
       inside : placed (N .count) b (edgeAt E j) ≡ true
       inside = fits-placed h N _ (edgeAt E j) (g .brings) (sym e ∙ not-false r k)
@@ -119,10 +129,15 @@ module _ (h : Header) (N : Nodes) (E : Edges) where
       -- it brings none
       pub bringing-same : {c b′ : ℕ} → c ≡ getD (E .child) j 0 → (c ≡ b → ⊥) → b′ ≡ b → Bringing h N E b′ (j + 1)
       bringing-same {c} {b′} ce q n =
-          record { judged = next; brings = n ∙ sym (step ∙ ap (λ (t : Bool). cond t (suc b) b) (ne-eqb (edgeAt E j .child) b (λ z. q (ce ∙ z)))); few = omega (arith, g .few) }
+          record {
+            judged = next;
+            brings = n ∙ sym (step ∙ ap (λ (t : Bool). cond t (suc b) b) (ne-eqb (edgeAt E j .child) b (λ z. q (ce ∙ z))));
+            few = omega (arith, g .few);
+          }
 
   pub bringing-done : {b j : ℕ} → Bringing h N E b j → E .count ≤ j → eqb b (N .count) ≡ allBrought h (nodesOf N) (edgesOf E)
   unfolding allBrought edgesOf
   bringing-done {b} {j} g l =
       let z : j ≡ E .count = omega (arith, g .judged .few) in
-      (λ t. edges-done (edgeFits h (nodesOf N)) E (g .judged) l t && eqb ((g .brings ∙ ap (λ (n : ℕ). brought (upTo n (edgeAt E))) z) t) (sym (nodes-length N) t))
+      (λ t. edges-done (edgeFits h (nodesOf N)) E (g .judged) l t
+      && eqb ((g .brings ∙ ap (λ (n : ℕ). brought (upTo n (edgeAt E))) z) t) (sym (nodes-length N) t))

@@ -17,6 +17,7 @@ use Rattle.negotiation.specs.State.{State}
 use Rattle.damage.specs.Header.{otherSound, wantedSound, headerSound, emptySound, countSound, endSound}
 use Rattle.damage.specs.Damage.{graphSound, sound}
 use Rattle.damage.specs.laws.Damage.{graph-parts, sound-some}
+use Rattle.numbers.specs.Sizes.{MOST-MESSAGES}
 
 -- What a header has
 
@@ -43,14 +44,17 @@ module _ (T : Tables) (S : State) (h : sound T S ≡ true) where
 
   pub no-nodes : length (S .nodes) ≡ 0 → emptySound (S .header) (length (S .edges)) (length (S .shown)) ≡ true
   unfolding sound
-  no-nodes z = sym (ap (λ (b : Bool). cond b (emptySound (S .header) (length (S .edges)) (length (S .shown))) (graphSound (T .names) S)) (eq-eqb (length (S .nodes)) 0 z)) ∙ and-parts (headerSound (T .own) (T .names) (S .header)) _ h .1
+  no-nodes z =
+      sym (ap (λ (b : Bool). cond b (emptySound (S .header) (length (S .edges)) (length (S .shown))) (graphSound (T .names) S))
+      (eq-eqb (length (S .nodes)) 0 z)) ∙ and-parts (headerSound (T .own) (T .names) (S .header)) _ h .1
 
   -- the count is within its bound
-  pub sound-count : S .header .messages ≤ 1027
+  pub sound-count : S .header .messages ≤ MOST-MESSAGES
   unfolding countSound
   sound-count =
       ⊎-elim (λ z. omega (arith, empty-parts (S .header) (length (S .edges)) (length (S .shown)) (no-nodes (eqb-true (length (S .nodes)) 0 z)) .0))
-      (λ z. leb-true (S .header .messages) 1027 (and-parts (ltb 0 (S .header .messages)) (leb (S .header .messages) 1027) (graph-parts (T .names) S (sound-some T S h (eqb-false (length (S .nodes)) 0 z)) .0) .1))
+      (λ z. leb-true (S .header .messages) 1027 (and-parts (ltb 0 (S .header .messages)) (leb (S .header .messages) 1027)
+      (graph-parts (T .names) S (sound-some T S h (eqb-false (length (S .nodes)) 0 z)) .0) .1))
       (decided (eqb (length (S .nodes)) 0))
 
 -- while it goes on, the primary is neither satisfied nor failed
@@ -58,7 +62,9 @@ pub going-on : (p e i : ℕ) → e ≡ 0 → endSound p e i ≡ true → (p ≡ 
 unfolding endSound
 going-on p e i z h = go (eqb p 1) refl (eqb p 2) refl (sym (ap (λ (k : ℕ). endSound p k i) z) ∙ h)
   where
-    go : (a : Bool) → eqb p 1 ≡ a → (b : Bool) → eqb p 2 ≡ b → cond a (eqb 0 1 && eqb i 0) (cond b (eqb 0 2 && eqb i 0) (((eqb 0 0 || eqb 0 4) && ltb i 2) || (eqb 0 3 && eqb i 1))) ≡ true → (p ≡ 1 → ⊥) × (p ≡ 2 → ⊥)
+    go : (a : Bool) → eqb p 1 ≡ a → (b : Bool) → eqb p 2 ≡ b
+        → cond a (eqb 0 1 && eqb i 0) (cond b (eqb 0 2 && eqb i 0) (((eqb 0 0 || eqb 0 4) && ltb i 2) || (eqb 0 3 && eqb i 1))) ≡ true
+        → (p ≡ 1 → ⊥) × (p ≡ 2 → ⊥)
     go true x b y k = absurd (false-true k)
     go false x true y k = absurd (false-true k)
     go false x false y k = (eqb-false p 1 x, eqb-false p 2 y)

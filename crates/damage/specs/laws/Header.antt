@@ -44,7 +44,8 @@ module _ (primary end idle : ℕ) where
   unfoldable unknown : Bool
   unknown = ((eqb end 0 || eqb end 4) && ltb idle 2) || (eqb end 3 && eqb idle 1)
 
-  by-primary : (a b : Bool) → a ≡ eqb primary 1 → b ≡ eqb primary 2 → cond a (eqb end 1 && eqb idle 0) (cond b (eqb end 2 && eqb idle 0) unknown) ≡ endSound primary end idle
+  by-primary : (a b : Bool) → a ≡ eqb primary 1 → b ≡ eqb primary 2
+      → cond a (eqb end 1 && eqb idle 0) (cond b (eqb end 2 && eqb idle 0) unknown) ≡ endSound primary end idle
   unfolding endSound unknown
   by-primary a b e f = λ i. cond (e i) (eqb end 1 && eqb idle 0) (cond (f i) (eqb end 2 && eqb idle 0) unknown)
 

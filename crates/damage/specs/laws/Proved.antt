@@ -5,7 +5,8 @@ use native.Mathlib.Omega.{arith}
 use mathlib.Core.Path.{_≡_, refl, sym, _∙_, ap, subst}
 use mathlib.Core.Logic.{_⊎_, inl, inr, ⊎-elim}
 use mathlib.Core.Bool.{Bool, true, false, not, cond, _&&_, _||_}
-use mathlib.Core.List.{List, [], _∷_, _++_, List·Memᴰ, List·Memᴰ·head, List·Memᴰ·tail, List·Memᴰ·not-nil, List·Memᴰ·cases-cons, List·Memᴰ·append-cases, Memᴰ·append-left, Memᴰ·append-right}
+use mathlib.Core.List.{List, [], _∷_, _++_, List·Memᴰ, List·Memᴰ·head, List·Memᴰ·tail, List·Memᴰ·not-nil, List·Memᴰ·cases-cons, List·Memᴰ·append-cases}
+use mathlib.Core.List.{Memᴰ·append-left, Memᴰ·append-right}
 use borrow.Author.Tests.{eq-eqb, eqb-true, eqb-false, not-true, ltb-true, ltb-false}
 use lib.Dec.{eqb, ltb}
 use lib.ListN.{length, getD}
@@ -65,14 +66,18 @@ module _ {A : Type 0} (t : List A → A → Bool) where
     unfolding inTurn
     earlier-apart before [] h m j l = absurd (omega arith)
     earlier-apart before (x ∷ xs) h {y} m zero l = parted before x y (and-parts (t before x) (inTurn t (before ++ (x ∷ [])) xs) h .0) m
-    earlier-apart before (x ∷ xs) h m (suc j) l = earlier-apart (before ++ (x ∷ [])) xs (and-parts (t before x) (inTurn t (before ++ (x ∷ [])) xs) h .1) (Memᴰ·append-left (x ∷ []) m) j (omega arith)
+    earlier-apart before (x ∷ xs) h m (suc j) l =
+        earlier-apart (before ++ (x ∷ [])) xs (and-parts (t before x) (inTurn t (before ++ (x ∷ [])) xs) h .1) (Memᴰ·append-left (x ∷ []) m) j (omega arith)
 
     turn-apart : (before xs : List A) → inTurn t before xs ≡ true → (i j : ℕ) → i < j → j < length xs → apart (getD xs j d) (getD xs i d)
     unfolding inTurn
     turn-apart before [] h i j k l = absurd (omega arith)
     turn-apart before (x ∷ xs) h i zero k l = absurd (omega arith)
-    turn-apart before (x ∷ xs) h zero (suc j) k l = earlier-apart (before ++ (x ∷ [])) xs (and-parts (t before x) (inTurn t (before ++ (x ∷ [])) xs) h .1) (Memᴰ·append-right before (List·Memᴰ·head refl)) j (omega arith)
-    turn-apart before (x ∷ xs) h (suc i) (suc j) k l = turn-apart (before ++ (x ∷ [])) xs (and-parts (t before x) (inTurn t (before ++ (x ∷ [])) xs) h .1) i j (omega arith) (omega arith)
+    turn-apart before (x ∷ xs) h zero (suc j) k l =
+        earlier-apart (before ++ (x ∷ [])) xs (and-parts (t before x) (inTurn t (before ++ (x ∷ [])) xs) h .1)
+        (Memᴰ·append-right before (List·Memᴰ·head refl)) j (omega arith)
+    turn-apart before (x ∷ xs) h (suc i) (suc j) k l =
+        turn-apart (before ++ (x ∷ [])) xs (and-parts (t before x) (inTurn t (before ++ (x ∷ [])) xs) h .1) i j (omega arith) (omega arith)
 
 -- What the forms give
 
@@ -133,7 +138,9 @@ module _ (a : ℕ) where
   form-entity : (k v : ℕ) (p c : Node) → c .expression ≡ E.Entity a → form k v p c ≡ true → a ≡ c .subject
   unfolding form
   form-entity k v p c z h =
-      ⊎-elim (λ b. eqb-true a (c .subject) (sym (ap (λ (x : Expression). isTarget x (c .subject)) z) ∙ and-parts (isStandard (p .expression)) _ (and-parts (isStandard (p .expression) && isTarget (c .expression) (c .subject)) (sameEnds p c) (b .1) .0) .1))
+      ⊎-elim (λ b. eqb-true a (c .subject) (sym (ap (λ (x : Expression). isTarget x (c .subject)) z)
+      ∙ and-parts (isStandard (p .expression)) _
+      (and-parts (isStandard (p .expression) && isTarget (c .expression) (c .subject)) (sameEnds p c) (b .1) .0) .1))
       (λ b. ⊎-elim (λ d. absurd (not-monitor (p .expression) (sym (ap (isMonitor (p .expression)) z) ∙ and-parts _ (sameEnds p c) (d .1) .0)))
       (λ d. ⊎-elim (λ e. absurd (not-solution (p .expression) (sym (ap (isSolution (p .expression)) z) ∙ and-parts _ (sameEnds p c) (e .1) .0)))
       (λ e. ⊎-elim (λ f. absurd (not-first (p .expression) (sym (ap (isFirst (p .expression)) z) ∙ and-parts _ (sameVerifier p c) (f .1) .0)))
@@ -158,15 +165,18 @@ by-chain : {C : List Credential} (p c : Node) → From C (p .expression) (c .exp
 by-chain {C} p c h s g = transitive h (subst (λ (n : ℕ). From C (c .expression) (E.Entity n)) s g)
 
 -- A.r1 from B and B.r2 from S give A.r1.r2 from S
-by-link : {C : List Credential} {a : Role} {r b s : ℕ} → From C (E.Role a) (E.Entity b) → From C (E.Role (roleOf b r)) (E.Entity s) → From C (E.Linked a r) (E.Entity s)
+by-link : {C : List Credential} {a : Role} {r b s : ℕ} → From C (E.Role a) (E.Entity b) → From C (E.Role (roleOf b r)) (E.Entity s)
+    → From C (E.Linked a r) (E.Entity s)
 by-link h k = transitive (linking h) k
 
 -- the same by the tests: x is the parent's expression, y that of the child, whose subject is b, and z that of the solution
-link-proved : {C : List Credential} {s : ℕ} (x y z : Expression) (b : ℕ) → isFirst x y ≡ true → isSolutionFor x b z ≡ true → From C y (E.Entity b) → From C z (E.Entity s) → From C x (E.Entity s)
+link-proved : {C : List Credential} {s : ℕ} (x y z : Expression) (b : ℕ) → isFirst x y ≡ true → isSolutionFor x b z ≡ true → From C y (E.Entity b)
+    → From C z (E.Entity s) → From C x (E.Entity s)
 link-proved (E.Entity a) y z b f g h k = absurd (false-true f)
 link-proved (E.Role a) y z b f g h k = absurd (false-true f)
 link-proved {C} {s} (E.Linked a r) y z b f g h k =
-    by-link (subst (λ (x : Expression). From C x (E.Entity b)) (same-eq y (E.Role a) f) h) (subst (λ (x : Expression). From C x (E.Entity s)) (same-eq z (E.Role (roleOf b r)) g) k)
+    by-link (subst (λ (x : Expression). From C x (E.Entity b)) (same-eq y (E.Role a) f) h)
+    (subst (λ (x : Expression). From C x (E.Entity s)) (same-eq z (E.Role (roleOf b r)) g) k)
 link-proved (E.Intersection p) y z b f g h k = absurd (false-true f)
 link-proved (E.Goal r) y z b f g h k = absurd (false-true f)
 
@@ -189,26 +199,31 @@ module _ (C : List Credential) (ns : List Node) where
     part-proved : {i c : ℕ} {a : Role} → Part ns es i a c → Proved C (nodeIn ns c) → From C (E.Role a) (E.Entity (nodeIn ns i .subject))
     part-proved {i} {c} {a} w g =
         let z : w .child .kind ≡ 5 = eqb-true (w .child .kind) 5 (w .child .passes) in
-        let s : nodeIn ns c .subject ≡ nodeIn ns i .subject = leads-subject (lead (record { kind = w .child .kind; parent = i; child = c }) (w .child .edge)) (λ y. omega arith) (λ y. omega arith) in
+        let s : nodeIn ns c .subject ≡ nodeIn ns i .subject = leads-subject
+        (lead (record { kind = w .child .kind; parent = i; child = c }) (w .child .edge)) (λ y. omega arith) (λ y. omega arith) in
         subst (λ (n : ℕ). From C (E.Role a) (E.Entity n)) s (subst (λ (x : Expression). From C x (E.Entity (nodeIn ns c .subject))) (w .role) g)
 
     leads-proved : {i : ℕ} → Satisfied ns es i → Proved C (nodeIn ns i)
-    leads-proved (trivial {i} {a} e) = subst (λ (x : Expression). From C x (E.Entity (nodeIn ns i .subject))) (sym (e ∙ ap E.Entity (self .own i a e))) reflexive
+    leads-proved (trivial {i} {a} e) =
+        subst (λ (x : Expression). From C x (E.Entity (nodeIn ns i .subject))) (sym (e ∙ ap E.Entity (self .own i a e))) reflexive
     leads-proved (standard {i} {c} s k g) = lead (record { kind = k .kind; parent = i; child = c }) (k .edge) .upward (k .passes) (leads-proved g)
     leads-proved (intersection {i} {p} e full f w g) =
-        subst (λ (x : Expression). From C x (E.Entity (nodeIn ns i .subject))) (sym e) (intersection-from {p = p} (λ a m. part-proved (w a m) (leads-proved (g a m))))
+        subst (λ (x : Expression). From C x (E.Entity (nodeIn ns i .subject))) (sym e)
+        (intersection-from {p = p} (λ a m. part-proved (w a m) (leads-proved (g a m))))
 
   -- By kind 1 "parent from child holds over the credentials shown". By kind 4 a linking-monitor child of the parent "has a link-solution child
   -- ⟨V : B.r2 ← S⟩ that is satisfied" by earlier edges.
   module _ (before : List Edge) (self : Trivial) (lead : (e : Edge) → List·Memᴰ e before → Leads e) where
-    kind-subject : (n : ℕ) (d : Edge) → (n ≡ 4 → ⊥) → (n ≡ 6 → ⊥) → List·Memᴰ d before → (i : ℕ) → isChild ns before (λ k. eqb k n) i d ≡ true → nodeIn ns (d .child) .subject ≡ nodeIn ns i .subject
+    kind-subject : (n : ℕ) (d : Edge) → (n ≡ 4 → ⊥) → (n ≡ 6 → ⊥) → List·Memᴰ d before → (i : ℕ) → isChild ns before (λ k. eqb k n) i d ≡ true
+        → nodeIn ns (d .child) .subject ≡ nodeIn ns i .subject
     kind-subject n d four six m i h =
         let p = and-parts (eqb (d .kind) n && eqb (d .parent) i) (ltb (d .child) (length ns)) h in
         let q = and-parts (eqb (d .kind) n) (eqb (d .parent) i) (p .0) in
         let k : d .kind ≡ n = eqb-true (d .kind) n (q .0) in
         leads-subject (lead d m) (λ z. four (sym k ∙ z)) (λ z. six (sym k ∙ z)) ∙ ap (λ (j : ℕ). nodeIn ns j .subject) (eqb-true (d .parent) i (q .1))
 
-    solution-proved : (x : Expression) (b g : ℕ) → solved ns before x b g ≡ true → (z : Expression) × (isSolutionFor x b z ≡ true) × From C z (E.Entity (nodeIn ns g .subject))
+    solution-proved : (x : Expression) (b g : ℕ) → solved ns before x b g ≡ true
+        → (z : Expression) × (isSolutionFor x b z ≡ true) × From C z (E.Entity (nodeIn ns g .subject))
     unfolding solved solves
     solution-proved x b g h =
         let r = any-find (solves ns before x b g) before h in
@@ -220,7 +235,8 @@ module _ (C : List Credential) (ns : List Node) where
         (z, q .1, subst (λ (n : ℕ). From C z (E.Entity n)) s (leads-proved before self lead (satisfied-exact ns before (d .child) .0 (p .1))))
 
     monitored-proved : (e : Edge) → monitored ns before e ≡ true
-        → (z : Expression) × (isSolutionFor (nodeIn ns (e .parent) .expression) (nodeIn ns (e .child) .subject) z ≡ true) × From C z (E.Entity (nodeIn ns (e .parent) .subject))
+        → (z : Expression) × (isSolutionFor (nodeIn ns (e .parent) .expression) (nodeIn ns (e .child) .subject) z ≡ true)
+        × From C z (E.Entity (nodeIn ns (e .parent) .subject))
     unfolding monitored monitors
     monitored-proved e h =
         let x : Expression = nodeIn ns (e .parent) .expression in
@@ -243,7 +259,8 @@ module _ (C : List Credential) (ns : List Node) where
           upward = λ k g. ⊎-elim
               (λ one. by-chain p c (from-exact C (p .expression) (c .expression) .0 (if-so (eqb (e .kind) 1) one (j .0)))
               (let z : e .kind ≡ 1 = eqb-true (e .kind) 1 one in form-subject p c (e .kind) v f (λ w. omega arith) (λ w. omega arith)) g)
-              (λ four. let w = monitored-proved e (if-so (eqb (e .kind) 4) four (j .1)) in link-proved (p .expression) (c .expression) (w .0) (c .subject) (form-first p c (e .kind) v (eqb-true (e .kind) 4 four) f) (w .1) g (w .2))
+              (λ four. let w = monitored-proved e (if-so (eqb (e .kind) 4) four (j .1)) in link-proved (p .expression) (c .expression) (w .0)
+              (c .subject) (form-first p c (e .kind) v (eqb-true (e .kind) 4 four) f) (w .1) g (w .2))
               (or-cases (eqb (e .kind) 1) (eqb (e .kind) 4) k);
         }
       where
@@ -262,7 +279,9 @@ module _ (C : List Credential) (ns : List Node) where
       let f = forms d (List·Memᴰ·head refl) in
       let first : Leads d = justified-leads before self lead d (f .0) (f .1) (p .0) in
       ⊎-elim (λ q. subst Leads (sym q) first)
-      (λ k. turn-leads self (before ++ (d ∷ [])) es (λ x n. ⊎-elim (lead x) (λ o. ⊎-elim (λ q. subst Leads (sym q) first) (λ y. absurd (List·Memᴰ·not-nil y)) (List·Memᴰ·cases-cons o)) (List·Memᴰ·append-cases before n)) (λ x n. forms x (List·Memᴰ·tail n)) (p .1) e k)
+      (λ k. turn-leads self (before ++ (d ∷ [])) es
+      (λ x n. ⊎-elim (lead x) (λ o. ⊎-elim (λ q. subst Leads (sym q) first) (λ y. absurd (List·Memᴰ·not-nil y)) (List·Memᴰ·cases-cons o))
+      (List·Memᴰ·append-cases before n)) (λ x n. forms x (List·Memᴰ·tail n)) (p .1) e k)
       (List·Memᴰ·cases-cons m)
 
 -- The graph of a sound negotiation
@@ -277,7 +296,9 @@ primary-role h n k =
 -- and its subject the requester
 primary-subject : (h : Header) (n : Node) → primarySound h n ≡ true → n .subject ≡ requester h
 unfolding primarySound
-primary-subject h n k = eqb-true (n .subject) (requester h) (and-parts (eqb (n .verifier) 0) (eqb (n .subject) (requester h)) (and-parts (eqb (n .verifier) 0 && eqb (n .subject) (requester h)) _ k .0) .1)
+primary-subject h n k =
+    eqb-true (n .subject) (requester h) (and-parts (eqb (n .verifier) 0) (eqb (n .subject) (requester h))
+    (and-parts (eqb (n .verifier) 0 && eqb (n .subject) (requester h)) _ k .0) .1)
 
 -- each node stood before, or an edge brought it
 brought-by : (b : ℕ) (es : List Edge) (i : ℕ) → i < broughtFrom b es → (i < b) ⊎ ((e : Edge) × List·Memᴰ e es × (e .child ≡ i))
@@ -287,7 +308,8 @@ brought-by b (e ∷ es) i l = ⊎-elim (λ k. next (eqb (e .child) b) refl k) (�
   where
     next : (t : Bool) → eqb (e .child) b ≡ t → i < cond t (suc b) b → (i < b) ⊎ ((d : Edge) × List·Memᴰ d (e ∷ es) × (d .child ≡ i))
     next true q k =
-        ⊎-elim (λ y. inr (e, List·Memᴰ·head refl, eqb-true (e .child) b q ∙ sym (eqb-true i b y))) (λ y. inl (omega (arith, eqb-false i b y))) (decided (eqb i b))
+        ⊎-elim (λ y. inr (e, List·Memᴰ·head refl, eqb-true (e .child) b q ∙ sym (eqb-true i b y))) (λ y. inl (omega (arith, eqb-false i b y)))
+        (decided (eqb i b))
     next false q k = inl k
 
 -- end 1 is where the primary's state is 1
@@ -298,7 +320,8 @@ end-one p end idle z k =
     (cond-cases (eqb p 1) (sym (ap (λ (n : ℕ). endSound p n idle) z) ∙ k))
 
 module _ (names : List Name) (S : State) (h : graphSound names S ≡ true) where
-  parts : (recordsSound names S ≡ true) × (allBrought (S .header) (S .nodes) (S .edges) ≡ true) × (edgesJustified S ≡ true) × (endSound (propagatedState (S .nodes) (S .edges) 0) (S .header .end) (S .header .idle) ≡ true)
+  parts : (recordsSound names S ≡ true) × (allBrought (S .header) (S .nodes) (S .edges) ≡ true) × (edgesJustified S ≡ true)
+      × (endSound (propagatedState (S .nodes) (S .edges) 0) (S .header .end) (S .header .idle) ≡ true)
   unfolding graphSound
   parts =
       let a = and-parts (countSound (S .header .messages) && recordsSound names S && allBrought (S .header) (S .nodes) (S .edges) && edgesJustified S) _ h in
@@ -329,7 +352,11 @@ module _ (names : List Name) (S : State) (h : graphSound names S ≡ true) where
   unfolding nodeFits
   nodes-apart =
       turn-apart (nodeFits names) blank Apart
-      (λ b x y t m. record { apart = λ k. false-true (sym (not-true (any (isNode (x .expression) (x .verifier) (x .subject)) b) (and-parts (nodeSound names x) _ t .1)) ∙ any-here (isNode (x .expression) (x .verifier) (x .subject)) m k) })
+      (λ b x y t m. record {
+        apart = λ k. false-true
+            (sym (not-true (any (isNode (x .expression) (x .verifier) (x .subject)) b) (and-parts (nodeSound names x) _ t .1))
+            ∙ any-here (isNode (x .expression) (x .verifier) (x .subject)) m k);
+      })
       [] (S .nodes) (records .0)
 
   graph-formed : Formed (S .nodes) (S .edges)
@@ -337,7 +364,8 @@ module _ (names : List Name) (S : State) (h : graphSound names S ≡ true) where
       record {
         formed = has-form;
         unique = λ i j l m x v s. ⊎-elim (λ e. eqb-true i j e)
-            (λ e. ⊎-elim (λ k. absurd (twice i j (ltb-true i j k) m x v s)) (λ k. absurd (twice j i (omega (arith, eqb-false i j e, ltb-false i j k)) l (sym x) (sym v) (sym s))) (decided (ltb i j)))
+            (λ e. ⊎-elim (λ k. absurd (twice i j (ltb-true i j k) m x v s))
+            (λ k. absurd (twice j i (omega (arith, eqb-false i j e, ltb-false i j k)) l (sym x) (sym v) (sym s))) (decided (ltb i j)))
             (decided (eqb i j));
       }
     where
@@ -346,7 +374,9 @@ module _ (names : List Name) (S : State) (h : graphSound names S ≡ true) where
       twice i j l m x v s =
           let a : Node = nodeIn (S .nodes) i in
           let b : Node = nodeIn (S .nodes) j in
-          nodes-apart i j l m .apart (and-both (eqb (a .verifier) (b .verifier) && eqb (a .subject) (b .subject)) (same (a .expression) (b .expression)) (and-both (eqb (a .verifier) (b .verifier)) (eqb (a .subject) (b .subject)) (eq-eqb _ _ v) (eq-eqb _ _ s)) (eq-same _ _ x))
+          nodes-apart i j l m .apart (and-both (eqb (a .verifier) (b .verifier) && eqb (a .subject) (b .subject))
+          (same (a .expression) (b .expression))
+          (and-both (eqb (a .verifier) (b .verifier)) (eqb (a .subject) (b .subject)) (eq-eqb _ _ v) (eq-eqb _ _ s)) (eq-same _ _ x))
 
   -- an entity is its own subject: it is not the primary, so an edge brought it
   graph-trivial : Trivial (S .shown) (S .nodes)
@@ -355,15 +385,21 @@ module _ (names : List Name) (S : State) (h : graphSound names S ≡ true) where
       record {
         own = λ i a e.
             let l : i < length (S .nodes) = satisfied-inside {ns = S .nodes} {es = []} (trivial e) in
-            let n : broughtFrom 1 (S .edges) ≡ length (S .nodes) = eqb-true (brought (S .edges)) (length (S .nodes)) (and-parts (inTurn (edgeFits (S .header) (S .nodes)) [] (S .edges)) _ (parts .1) .1) in
-            ⊎-elim (λ k. let z : i ≡ 0 = omega arith in absurd (false-true (sym (ap isRoleExpression (sym (ap (λ (j : ℕ). nodeIn (S .nodes) j .expression) z) ∙ e)) ∙ primary-role (S .header) (nodeIn (S .nodes) 0) (records .1))))
-            (λ r. let f = has-form (r .0) (r .1) in form-entity a (r .0 .kind) (f .0) (nodeIn (S .nodes) (r .0 .parent)) (nodeIn (S .nodes) i) e (ap (λ (j : ℕ). form (r .0 .kind) (f .0) (nodeIn (S .nodes) (r .0 .parent)) (nodeIn (S .nodes) j)) (sym (r .2)) ∙ f .1))
+            let n : broughtFrom 1 (S .edges) ≡ length (S .nodes) = eqb-true (brought (S .edges)) (length (S .nodes))
+            (and-parts (inTurn (edgeFits (S .header) (S .nodes)) [] (S .edges)) _ (parts .1) .1) in
+            ⊎-elim (λ k. let z : i ≡ 0 = omega arith in absurd
+            (false-true (sym (ap isRoleExpression (sym (ap (λ (j : ℕ). nodeIn (S .nodes) j .expression) z) ∙ e))
+            ∙ primary-role (S .header) (nodeIn (S .nodes) 0) (records .1))))
+            (λ r. let f = has-form (r .0) (r .1) in form-entity a (r .0 .kind) (f .0) (nodeIn (S .nodes) (r .0 .parent)) (nodeIn (S .nodes) i) e
+            (ap (λ (j : ℕ). form (r .0 .kind) (f .0) (nodeIn (S .nodes) (r .0 .parent)) (nodeIn (S .nodes) j)) (sym (r .2)) ∙ f .1))
             (brought-by 1 (S .edges) i (omega arith));
       }
 
   graph-proved : (i : ℕ) → Satisfied (S .nodes) (S .edges) i → Proved (S .shown) (nodeIn (S .nodes) i)
   unfolding edgesJustified
-  graph-proved i s = leads-proved (S .shown) (S .nodes) (S .edges) graph-trivial (turn-leads (S .shown) (S .nodes) graph-trivial [] (S .edges) (λ e m. absurd (List·Memᴰ·not-nil m)) has-form (parts .2)) s
+  graph-proved i s =
+      leads-proved (S .shown) (S .nodes) (S .edges) graph-trivial
+      (turn-leads (S .shown) (S .nodes) graph-trivial [] (S .edges) (λ e m. absurd (List·Memᴰ·not-nil m)) has-form (parts .2)) s
 
   end-satisfied : S .header .end ≡ 1 → Satisfied (S .nodes) (S .edges) 0
   end-satisfied e =
@@ -377,15 +413,19 @@ no-edge [] z m = List·Memᴰ·not-nil m
 no-edge (d ∷ es) z m = omega arith
 
 module _ (T : Tables) (S : State) (h : sound T S ≡ true) where
-  by-count : {b : Bool} → eqb (length (S .nodes)) 0 ≡ b → cond b (emptySound (S .header) (length (S .edges)) (length (S .shown))) (graphSound (T .names) S) ≡ true
+  by-count : {b : Bool} → eqb (length (S .nodes)) 0 ≡ b
+      → cond b (emptySound (S .header) (length (S .edges)) (length (S .shown))) (graphSound (T .names) S) ≡ true
   unfolding sound
-  by-count z = sym (ap (λ (b : Bool). cond b (emptySound (S .header) (length (S .edges)) (length (S .shown))) (graphSound (T .names) S)) z) ∙ and-parts (headerSound (T .own) (T .names) (S .header)) _ h .1
+  by-count z =
+      sym (ap (λ (b : Bool). cond b (emptySound (S .header) (length (S .edges)) (length (S .shown))) (graphSound (T .names) S)) z)
+      ∙ and-parts (headerSound (T .own) (T .names) (S .header)) _ h .1
 
   -- without a node it has neither edge nor end
   without-node : eqb (length (S .nodes)) 0 ≡ true → (length (S .edges) ≡ 0) × (S .header .end ≡ 0)
   unfolding emptySound
   without-node z =
-      let p = and-parts (eqb (S .header .messages) 0 && eqb (S .header .end) 0 && eqb (S .header .idle) 0 && eqb (length (S .edges)) 0) (eqb (length (S .shown)) 0) (by-count z) in
+      let p = and-parts (eqb (S .header .messages) 0 && eqb (S .header .end) 0 && eqb (S .header .idle) 0 && eqb (length (S .edges)) 0)
+      (eqb (length (S .shown)) 0) (by-count z) in
       let q = and-parts (eqb (S .header .messages) 0 && eqb (S .header .end) 0 && eqb (S .header .idle) 0) (eqb (length (S .edges)) 0) (p .0) in
       let r = and-parts (eqb (S .header .messages) 0 && eqb (S .header .end) 0) (eqb (S .header .idle) 0) (q .0) in
       (eqb-true (length (S .edges)) 0 (q .1), eqb-true (S .header .end) 0 (and-parts (eqb (S .header .messages) 0) (eqb (S .header .end) 0) (r .0) .1))
@@ -393,7 +433,11 @@ module _ (T : Tables) (S : State) (h : sound T S ≡ true) where
   -- edges have their forms, and nodes are unique
   pub sound-graph-formed : Formed (S .nodes) (S .edges)
   sound-graph-formed =
-      ⊎-elim (λ z. record { formed = λ e m. absurd (no-edge (S .edges) (without-node z .0) m); unique = λ i j l m x v s. absurd (omega (arith, eqb-true (length (S .nodes)) 0 z)) }) (λ z. graph-formed (T .names) S (by-count z))
+      ⊎-elim (λ z. record {
+        formed = λ e m. absurd (no-edge (S .edges) (without-node z .0) m);
+        unique = λ i j l m x v s. absurd
+            (omega (arith, eqb-true (length (S .nodes)) 0 z));
+      }) (λ z. graph-formed (T .names) S (by-count z))
       (decided (eqb (length (S .nodes)) 0))
 
   -- no node is both satisfied and failed
@@ -401,9 +445,11 @@ module _ (T : Tables) (S : State) (h : sound T S ≡ true) where
   states-exclusive = satisfied-failed sound-graph-formed
 
   -- a target is satisfied only if the credentials shown prove it
-  pub satisfied-proved : (i : ℕ) → Satisfied (S .nodes) (S .edges) i → From (S .shown) (nodeIn (S .nodes) i .expression) (E.Entity (nodeIn (S .nodes) i .subject))
+  pub satisfied-proved : (i : ℕ) → Satisfied (S .nodes) (S .edges) i
+      → From (S .shown) (nodeIn (S .nodes) i .expression) (E.Entity (nodeIn (S .nodes) i .subject))
   satisfied-proved i s =
-      ⊎-elim (λ z. absurd (omega (arith, satisfied-inside s, eqb-true (length (S .nodes)) 0 z))) (λ z. graph-proved (T .names) S (by-count z) i s) (decided (eqb (length (S .nodes)) 0))
+      ⊎-elim (λ z. absurd (omega (arith, satisfied-inside s, eqb-true (length (S .nodes)) 0 z))) (λ z. graph-proved (T .names) S (by-count z) i s)
+      (decided (eqb (length (S .nodes)) 0))
 
   -- end 1, "success", means that they prove the requester in the primary's role
   pub primary-proved : S .header .end ≡ 1 → From (S .shown) (nodeIn (S .nodes) 0 .expression) (E.Entity (requester (S .header)))
@@ -411,5 +457,6 @@ module _ (T : Tables) (S : State) (h : sound T S ≡ true) where
       ⊎-elim (λ z. absurd (omega (arith, without-node z .1)))
       (λ z.
       let g = by-count z in
-      subst (λ (n : ℕ). From (S .shown) (nodeIn (S .nodes) 0 .expression) (E.Entity n)) (primary-subject (S .header) (nodeIn (S .nodes) 0) (records (T .names) S g .1)) (satisfied-proved 0 (end-satisfied (T .names) S g e)))
+      subst (λ (n : ℕ). From (S .shown) (nodeIn (S .nodes) 0 .expression) (E.Entity n))
+      (primary-subject (S .header) (nodeIn (S .nodes) 0) (records (T .names) S g .1)) (satisfied-proved 0 (end-satisfied (T .names) S g e)))
       (decided (eqb (length (S .nodes)) 0))

@@ -29,11 +29,15 @@ module _ {A : Type 0} (t : List A → A → Bool) (f : ℕ → A) (n : ℕ) wher
 -- Nodes
 
 module _ (t : List Node → Node → Bool) (X : Nodes) {j : ℕ} (h : Judged t (nodeAt X) (X .count) j) where
-  pub nodes-next : {b : Bool} → j < X .count → b ≡ t (nodesOf (nodesFrom j (X .kind) (X .parts) (X .n0) (X .n1) (X .n2) (X .n3) (X .n4) (X .n5) (X .n6) (X .n7) (X .subject) (X .verifier) (X .state))) (nodeAt X j) → not b ≡ false → Judged t (nodeAt X) (X .count) (j + 1)
+  pub nodes-next : {b : Bool} → j < X .count → b ≡ t
+      (nodesOf (nodesFrom j (X .kind) (X .parts) (X .n0) (X .n1) (X .n2) (X .n3) (X .n4) (X .n5) (X .n6) (X .n7) (X .subject) (X .verifier)
+      (X .state))) (nodeAt X j) → not b ≡ false → Judged t (nodeAt X) (X .count) (j + 1)
   unfolding nodesOf
   nodes-next {b} l e p = record { few = omega arith; pass = turn-next t (nodeAt X) (h .pass) e (not-false b p) }
 
-  pub nodes-stop : {b : Bool} → j < X .count → b ≡ t (nodesOf (nodesFrom j (X .kind) (X .parts) (X .n0) (X .n1) (X .n2) (X .n3) (X .n4) (X .n5) (X .n6) (X .n7) (X .subject) (X .verifier) (X .state))) (nodeAt X j) → not b ≡ true → false ≡ inTurn t [] (nodesOf X)
+  pub nodes-stop : {b : Bool} → j < X .count → b ≡ t
+      (nodesOf (nodesFrom j (X .kind) (X .parts) (X .n0) (X .n1) (X .n2) (X .n3) (X .n4) (X .n5) (X .n6) (X .n7) (X .subject) (X .verifier)
+      (X .state))) (nodeAt X j) → not b ≡ true → false ≡ inTurn t [] (nodesOf X)
   unfolding nodesOf
   nodes-stop {b} l e p = turn-stop t (nodeAt X) (X .count) l e (not-true b p)
 
@@ -44,11 +48,13 @@ module _ (t : List Node → Node → Bool) (X : Nodes) {j : ℕ} (h : Judged t (
 -- Edges
 
 module _ (t : List Edge → Edge → Bool) (X : Edges) {j : ℕ} (h : Judged t (edgeAt X) (X .count) j) where
-  pub edges-next : {b : Bool} → j < X .count → b ≡ t (edgesOf (edgesFrom j (X .kind) (X .parent) (X .child))) (edgeAt X j) → not b ≡ false → Judged t (edgeAt X) (X .count) (j + 1)
+  pub edges-next : {b : Bool} → j < X .count → b ≡ t (edgesOf (edgesFrom j (X .kind) (X .parent) (X .child))) (edgeAt X j) → not b ≡ false
+      → Judged t (edgeAt X) (X .count) (j + 1)
   unfolding edgesOf
   edges-next {b} l e p = record { few = omega arith; pass = turn-next t (edgeAt X) (h .pass) e (not-false b p) }
 
-  pub edges-stop : {b : Bool} → j < X .count → b ≡ t (edgesOf (edgesFrom j (X .kind) (X .parent) (X .child))) (edgeAt X j) → not b ≡ true → false ≡ inTurn t [] (edgesOf X)
+  pub edges-stop : {b : Bool} → j < X .count → b ≡ t (edgesOf (edgesFrom j (X .kind) (X .parent) (X .child))) (edgeAt X j) → not b ≡ true
+      → false ≡ inTurn t [] (edgesOf X)
   unfolding edgesOf
   edges-stop {b} l e p = turn-stop t (edgeAt X) (X .count) l e (not-true b p)
 
@@ -59,11 +65,13 @@ module _ (t : List Edge → Edge → Bool) (X : Edges) {j : ℕ} (h : Judged t (
 -- Credentials
 
 module _ (t : List Credential → Credential → Bool) (X : Pool) {j : ℕ} (h : Judged t (credentialAt X) (X .count) j) where
-  pub shown-next : {b : Bool} → j < X .count → b ≡ t (credentials (poolOf j (X .heads) (X .kinds) (X .numbers))) (credentialAt X j) → not b ≡ false → Judged t (credentialAt X) (X .count) (j + 1)
+  pub shown-next : {b : Bool} → j < X .count → b ≡ t (credentials (poolOf j (X .heads) (X .kinds) (X .numbers))) (credentialAt X j) → not b ≡ false
+      → Judged t (credentialAt X) (X .count) (j + 1)
   unfolding credentials bodyAt
   shown-next {b} l e p = record { few = omega arith; pass = turn-next t (credentialAt X) (h .pass) e (not-false b p) }
 
-  pub shown-stop : {b : Bool} → j < X .count → b ≡ t (credentials (poolOf j (X .heads) (X .kinds) (X .numbers))) (credentialAt X j) → not b ≡ true → false ≡ inTurn t [] (credentials X)
+  pub shown-stop : {b : Bool} → j < X .count → b ≡ t (credentials (poolOf j (X .heads) (X .kinds) (X .numbers))) (credentialAt X j) → not b ≡ true
+      → false ≡ inTurn t [] (credentials X)
   unfolding credentials bodyAt
   shown-stop {b} l e p = turn-stop t (credentialAt X) (X .count) l e (not-true b p)
 

@@ -30,9 +30,11 @@ use Rattle.reply.specs.Reply.{replyIn, repliedState, replyBytes}
 use Rattle.exchange.specs.Mirror.{otherAfter}
 use Rattle.reply.specs.laws.ReplyLegal.{reply-going, reply-updates, reply-mirrored}
 use Rattle.numbers.specs.Answer.{Answer, refused, accepted}
+use Rattle.numbers.specs.Refusals.{TURN, ENDED}
 
 -- what the other end reaches with it
-module _ (T : Tables) (t : Sound T) (S : State) (h : sound T S ≡ true) (w : within S ≡ true) (turn : sends (S .header .side) (S .header .messages) ≡ true) (R : State) (m : Mirror S R) where
+module _ (T : Tables) (t : Sound T) (S : State) (h : sound T S ≡ true) (w : within S ≡ true)
+    (turn : sends (S .header .side) (S .header .messages) ≡ true) (R : State) (m : Mirror S R) where
   sender : senderTo R ≡ S .header .side
   sender = ap otherSide (m .header .other-side) ∙ go (eqb (S .header .side) 0) refl
     where
@@ -45,18 +47,23 @@ module _ (T : Tables) (t : Sound T) (S : State) (h : sound T S ≡ true) (w : wi
   end-legal ns = record { some = omega (arith, reply-going T t S h w turn .some) }
 
   -- the commands are carried out
-  reply-carried : (b : List ℕ) → b ≡ messageBytes (replyIn T S .commands) → C.commandsFrom (length b) (T .names) (S .header .side) b 0 (withHeader S (R .header)) false ≡ accepted (withHeader (replyIn T S .state) (R .header), moved (replyIn T S .commands))
-  reply-carried b e = commands-taken (T .names) (S .header .side) b (reply-mirrored T t S h w turn (R .header) (m .header)) (end-legal (T .names)) (length b) 0 false e (omega (arith, ap length e))
+  reply-carried : (b : List ℕ) → b ≡ messageBytes (replyIn T S .commands)
+      → C.commandsFrom (length b) (T .names) (S .header .side) b 0 (withHeader S (R .header)) false
+      ≡ accepted (withHeader (replyIn T S .state) (R .header), moved (replyIn T S .commands))
+  reply-carried b e =
+      commands-taken (T .names) (S .header .side) b (reply-mirrored T t S h w turn (R .header) (m .header)) (end-legal (T .names)) (length b) 0 false
+      e (omega (arith, ap length e))
 
   -- another end that has the same names and holds the same graph and credentials takes the reply, where it is our turn and its negotiation has not ended
-  pub reply-legal : (U : Tables) → U .names ≡ T .names → R .header .messages ≡ S .header .messages → R .header .end ≡ 0 → takenIn (replyBytes (replyIn T S)) U R ≡ accepted (otherAfter T S R)
+  pub reply-legal : (U : Tables) → U .names ≡ T .names → R .header .messages ≡ S .header .messages → R .header .end ≡ 0
+      → takenIn (replyBytes (replyIn T S)) U R ≡ accepted (otherAfter T S R)
   unfolding takenIn replyBytes
   reply-legal U names count going =
       let b : List ℕ = messageBytes (replyIn T S .commands) in
       let x : Answer (State × Bool) = C.commandsFrom (length b) (U .names) (senderTo R) b 0 R false in
       let e : eqb (R .header .end) 0 ≡ true = eq-eqb (R .header .end) 0 going in
       let f : sends (senderTo R) (R .header .messages) ≡ true = (λ i. sends (sender i) (count i)) ∙ turn in
-      (λ i. cond (not (e i)) (refused 22) (cond (not (f i)) (refused 21) (behindCommands x)))
+      (λ i. cond (not (e i)) (refused ENDED) (cond (not (f i)) (refused TURN) (behindCommands x)))
       ∙ ap behindCommands ((λ i. C.commandsFrom (length b) (names i) (sender i) b 0 (mirror-state S R m i) false) ∙ reply-carried b refl)
 
   -- it reaches the same graph and the same credentials as we do

@@ -8,7 +8,8 @@ returns : tie.Need-returns
 returns c =
     let d = c .before .before in
     let a = d .before .before .before .before .before .before in
-    d .copy-in .ensures ∙ ap (pasted (a .args .s .now) (a .args .at)) (d .before .before .before .raw-bytes .ensures ∙ ap rawBytes (d .before .before .before .before .raw-of .ensures))
+    d .copy-in .ensures ∙ ap (pasted (a .args .s .now) (a .args .at))
+    (d .before .before .before .raw-bytes .ensures ∙ ap rawBytes (d .before .before .before .before .raw-of .ensures))
 
 pub write-expression-spec : {M : Type 1} → statement M
 write-expression-spec =

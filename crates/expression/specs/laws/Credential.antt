@@ -16,7 +16,8 @@ use Rattle.expression.specs.Bytes.{numberAt, rawBytes, pasted}
 use Rattle.expression.specs.Form.{rawOf, readOf, isRole, wellFormed}
 use Rattle.expression.specs.laws.Laws.{and-left, and-right}
 use Rattle.expression.specs.laws.Codec.{number-paste, paste-paste, read-write, read-only, high-byte, low-byte, next-byte}
-use Rattle.expression.specs.Credential.{isBody, beginsWith, wellFormedCredential, pickCredential, checkedCredential, roleAt, credentialOf, readCredential, roleBytes, credentialBytes}
+use Rattle.expression.specs.Credential.{isBody, beginsWith, wellFormedCredential, pickCredential, checkedCredential, roleAt, credentialOf}
+use Rattle.expression.specs.Credential.{readCredential, roleBytes, credentialBytes}
 
 -- the reader, where the body is of wrong form
 pub wrong-body : (s : List ℕ) (at : ℕ) → readOf s (at + 4) ≡ e.Wrong → readCredential s at ≡ Wrong

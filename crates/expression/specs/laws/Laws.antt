@@ -111,7 +111,15 @@ candidate-some r h = go (eqb k 1) (eqb k 2) (eqb k 3) (eqb k 4) refl refl refl r
 
 -- other numbers may not
 pub candidate-none : (r : Raw) → ltb 0 (r .kind) && ltb (r .kind) 6 ≡ false → candidateOf r ≡ Wrong
-candidate-none r h = simp (other 1 (omega arith) (omega arith), other 2 (omega arith) (omega arith), other 3 (omega arith) (omega arith), other 4 (omega arith) (omega arith), other 5 (omega arith) (omega arith))
+candidate-none r h =
+    simp (
+      other 1 (omega arith) (omega arith),
+      other 2 (omega arith) (omega arith),
+      other 3 (omega arith) (omega arith),
+      other 4 (omega arith)
+          (omega arith),
+      other 5 (omega arith) (omega arith),
+    )
   where
     k : ℕ
     k = r .kind

@@ -15,8 +15,11 @@ use Rattle.word.specs.laws.Bools.{and-parts, and-both}
 pub other-head : (d c : Credential) {r : Role} {a : Bool} → r ≡ d .head → a ≡ sameRole r (c .head) → not a ≡ true → false ≡ sameCredential d c
 other-head d c {r} {a} h e k = ap (λ (b : Bool). b && same (d .body) (c .body)) (sym (not-true a k) ∙ e ∙ ap (λ (r : Role). sameRole r (c .head)) h)
 
-pub same-head : (d c : Credential) {r : Role} {x : Expression} {a b : Bool} → r ≡ d .head → a ≡ sameRole r (c .head) → not a ≡ false → x ≡ d .body → b ≡ same x (c .body) → b ≡ sameCredential d c
-same-head d c {r} {x} {a} {b} h e k y f = f ∙ ap (λ (z : Expression). same z (c .body)) y ∙ ap (λ (t : Bool). t && same (d .body) (c .body)) (sym (not-false a k) ∙ e ∙ ap (λ (r : Role). sameRole r (c .head)) h)
+pub same-head : (d c : Credential) {r : Role} {x : Expression} {a b : Bool} → r ≡ d .head → a ≡ sameRole r (c .head) → not a ≡ false → x ≡ d .body
+    → b ≡ same x (c .body) → b ≡ sameCredential d c
+same-head d c {r} {x} {a} {b} h e k y f =
+    f ∙ ap (λ (z : Expression). same z (c .body)) y
+    ∙ ap (λ (t : Bool). t && same (d .body) (c .body)) (sym (not-false a k) ∙ e ∙ ap (λ (r : Role). sameRole r (c .head)) h)
 
 -- roles that pass the test are equal
 pub sameRole-eq : (p q : Role) → sameRole p q ≡ true → p ≡ q
@@ -49,4 +52,5 @@ sameCredential-eq d c h =
     λ i. record { head = a i; body = b i }
 
 pub sameCredential-refl : (c : Credential) → sameCredential c c ≡ true
-sameCredential-refl c = and-both (sameRole (c .head) (c .head)) (same (c .body) (c .body)) (eq-sameRole (c .head) (c .head) refl) (eq-same (c .body) (c .body) refl)
+sameCredential-refl c =
+    and-both (sameRole (c .head) (c .head)) (same (c .body) (c .body)) (eq-sameRole (c .head) (c .head) refl) (eq-same (c .body) (c .body) refl)

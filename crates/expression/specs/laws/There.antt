@@ -77,4 +77,9 @@ number-there s at n l h =
     sym ((λ i. high i * 256 + low i) ∙ div-add-mod' n 256)
 
 pub role-there : (s : List ℕ) (at : ℕ) (r : Role) (l : List ℕ) → drop at s ≡ roleBytes r ++ l → r ≡ roleAt s at
-role-there s at r l h = λ i. record { entity = number-there s at (r .entity) (numberBytes (r .name) ++ l) h i; name = number-there s (at + 2) (r .name) l (skip s at 2 (roleBytes r ++ l) h) i }
+role-there s at r l h =
+    λ i. record {
+      entity = number-there s at (r .entity) (numberBytes (r .name) ++ l) h i;
+      name = number-there s (at + 2) (r .name) l
+          (skip s at 2 (roleBytes r ++ l) h) i;
+    }

@@ -8,7 +8,8 @@ use Rattle.frontier.proofs.enter.Statement.{statement}
 use Rattle.frontier.proofs.enter.Tie as tie
 
 abbrev Inv-loop : tie.InvT-loop
-Inv-loop n heads kinds numbers on found₀ queue₀ tail p t₀ i₀ found queue t i = Entered (poolOf n heads kinds numbers) on (work found₀ queue₀ tail) (work found queue t) (E.Role p) i
+Inv-loop n heads kinds numbers on found₀ queue₀ tail p t₀ i₀ found queue t i =
+    Entered (poolOf n heads kinds numbers) on (work found₀ queue₀ tail) (work found queue t) (E.Role p) i
 
 abbrev μ-loop : tie.MeasureT-loop
 μ-loop n heads kinds numbers on found₀ queue₀ tail p t₀ i₀ found queue t i = n - i

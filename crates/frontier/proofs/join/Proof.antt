@@ -19,7 +19,9 @@ add-result : tie.Need-add-result
 add-result c = omega (arith, join-room _ _ (c .before .before .before .before .pre .2) (omega arith) (c .before .before .if1 .left))
 
 returns-3 : tie.Need-returns-3
-returns-3 c = join-new _ _ _ _ _ (c .before .before .before .before .pre .2) (c .before .before .before .before .pre .0) (omega arith) (c .before .before .if1 .left) (sym (c .before .is-next .ensures) ∙ not-false _ (c .if2 .left))
+returns-3 c =
+    join-new _ _ _ _ _ (c .before .before .before .before .pre .2) (c .before .before .before .before .pre .0) (omega arith)
+    (c .before .before .if1 .left) (sym (c .before .is-next .ensures) ∙ not-false _ (c .if2 .left))
 
 pub join-spec : {M : Type 1} → statement M
 join-spec =

@@ -7,7 +7,8 @@ use Rattle.frontier.proofs.reached.Statement.{statement}
 use Rattle.frontier.proofs.reached.Tie as tie
 
 abbrev Inv-loop : tie.InvT-loop
-Inv-loop n heads kinds numbers on stop found₀ queue₀ t₀ q₀ found queue t q = Running (poolOf n heads kinds numbers) on stop (work found₀ queue₀ t₀) (work found queue t) q
+Inv-loop n heads kinds numbers on stop found₀ queue₀ t₀ q₀ found queue t q =
+    Running (poolOf n heads kinds numbers) on stop (work found₀ queue₀ t₀) (work found queue t) q
 
 abbrev μ-loop : tie.MeasureT-loop
 μ-loop n heads kinds numbers on stop found₀ queue₀ t₀ q₀ found queue t q = 128 - q
@@ -26,8 +27,11 @@ wide-requires c κs = tt
 
 follow-requires : tie.Need-follow-requires Inv-loop μ-loop
 follow-requires c κs =
-    let l = c .before .before .before .before .loop in
-    (queue-read _ (l .inv .base) (c .before .before .before .loop-test .taken) (c .before .before .wide .ensures), c .before .before .before .before .before .before .before .before .pre, l .inv .base)
+    let c3 = c .before .before .before in
+    let c4 = c3 .before in
+    let c8 = c4 .before .before .before .before in
+    let l = c4 .loop in
+    (queue-read _ (l .inv .base) (c3 .loop-test .taken) (c .before .before .wide .ensures), c8 .pre, l .inv .base)
 
 add-q : tie.Need-add-q Inv-loop μ-loop
 add-q c = omega (arith, tail-few (c .before .before .before .before .before .loop .inv .base))
@@ -36,7 +40,11 @@ loop-less : tie.Need-loop-less Inv-loop μ-loop
 loop-less c = omega (arith, tail-few (c .before .before .before .before .before .loop .inv .base))
 
 loop-again : tie.Need-loop-again Inv-loop μ-loop
-loop-again c = run-next _ (c .before .before .before .before .loop-test .taken) (c .before .before .before .wide .ensures) (c .before .before .before .before .before .loop .inv) (c .follow .ensures)
+loop-again c =
+    let c3 = c .before .before .before in
+    let c4 = c3 .before in
+    let c5 = c4 .before in
+    run-next _ (c4 .loop-test .taken) (c3 .wide .ensures) (c5 .loop .inv) (c .follow .ensures)
 
 returns : tie.Need-returns Inv-loop μ-loop
 returns c = run-end _ (c .loop-test .left) (c .before .before .enter .ensures) (c .before .loop .inv)

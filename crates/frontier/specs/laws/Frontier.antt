@@ -54,7 +54,8 @@ module _ {pred : Expression → Bool} where
   frontier-here t (through n m q k) = absurd (false-true (sym n ∙ t))
 
   -- with more credentials a frontier has more members
-  pub frontier-more : {C D : List Credential} {e f : Expression} → ((c : Credential) → List·Memᴰ c C → List·Memᴰ c D) → Frontier pred C e f → Frontier pred D e f
+  pub frontier-more : {C D : List Credential} {e f : Expression} → ((c : Credential) → List·Memᴰ c C → List·Memᴰ c D) → Frontier pred C e f
+      → Frontier pred D e f
   frontier-more s (here h) = here h
   frontier-more s (through {c = c} n m q k) = through n (s c m) q (frontier-more s k)
 
@@ -98,10 +99,12 @@ module _ {P : Pool} {on stop : List ℕ} {e : Role} where
         → (c : Credential) × List·Memᴰ c (chosen P on) × (c .head ≡ e) × Frontier pred (chosen P on) (c .body) f
     unfolding chosen
     begun i (first l o h) k = (credentialAt P i, chosen-mem P on (P .count) i l o, h, k)
-    begun i (next {j = j} c s q l o) k = begun j c (through {c = credentialAt P i} (sym (S .stops j (chain-below c)) ∙ s) (chosen-mem P on (P .count) i l o) q k)
+    begun i (next {j = j} c s q l o) k =
+        begun j c (through {c = credentialAt P i} (sym (S .stops j (chain-below c)) ∙ s) (chosen-mem P on (P .count) i l o) q k)
 
     -- a chain leads to each member of the frontier of the body of a credential of the role
-    pub body-stopped : {f : Expression} (c : Credential) → List·Memᴰ c (chosen P on) → c .head ≡ e → Frontier pred (chosen P on) (c .body) f → Stopped P on stop e f
+    pub body-stopped : {f : Expression} (c : Credential) → List·Memᴰ c (chosen P on) → c .head ≡ e → Frontier pred (chosen P on) (c .body) f
+        → Stopped P on stop e f
     unfolding chosen
     body-stopped c m h k =
         let w = chosen-find P on (P .count) c m in
@@ -110,9 +113,11 @@ module _ {P : Pool} {on stop : List ℕ} {e : Role} where
         walk (w .0) (first (w .1) (w .2) (z ∙ h)) b k
 
     -- and each stop that a chain leads to is a member of such a frontier
-    pub stopped-body : {f : Expression} → Stopped P on stop e f → (c : Credential) × List·Memᴰ c (chosen P on) × (c .head ≡ e) × Frontier pred (chosen P on) (c .body) f
+    pub stopped-body : {f : Expression} → Stopped P on stop e f
+        → (c : Credential) × List·Memᴰ c (chosen P on) × (c .head ≡ e) × Frontier pred (chosen P on) (c .body) f
     stopped-body {f} w =
-        begun (w .at) (w .chain) (subst (λ (x : Expression). Frontier pred (chosen P on) (bodyAt P (w .at)) x) (w .body) (here (sym (S .stops (w .at) (chain-below (w .chain))) ∙ w .ends)))
+        begun (w .at) (w .chain) (subst (λ (x : Expression). Frontier pred (chosen P on) (bodyAt P (w .at)) x) (w .body)
+        (here (sym (S .stops (w .at) (chain-below (w .chain))) ∙ w .ends)))
 
     -- where pred is false of a role, a chain leads to each member of its frontier
     pub frontier-stopped : {f : Expression} → pred (E.Role e) ≡ false → Frontier pred (chosen P on) (E.Role e) f → Stopped P on stop e f
@@ -124,7 +129,8 @@ module _ {P : Pool} {on stop : List ℕ} {e : Role} where
     stopped-frontier n w = let b = stopped-body w in through {c = b .0} n (b .1) (ap E.Role (sym (b .2))) (b .3)
 
     -- both: the members are the stops that the chains come to
-    pub frontier-chain : {f : Expression} → pred (E.Role e) ≡ false → (Frontier pred (chosen P on) (E.Role e) f → Stopped P on stop e f) × (Stopped P on stop e f → Frontier pred (chosen P on) (E.Role e) f)
+    pub frontier-chain : {f : Expression} → pred (E.Role e) ≡ false
+        → (Frontier pred (chosen P on) (E.Role e) f → Stopped P on stop e f) × (Stopped P on stop e f → Frontier pred (chosen P on) (E.Role e) f)
     frontier-chain n = (frontier-stopped n, stopped-frontier n)
 
     -- the stops as they are read off a column of the credentials found
@@ -136,5 +142,6 @@ module _ {P : Pool} {on stop : List ℕ} {e : Role} where
       member-stopped m = record { at = m .at; chain = R .sound (m .at) (m .flagged); ends = m .ends; body = m .body }
 
     -- the frontier as it is read off the column
-    pub frontier-member : {r : List ℕ} {f : Expression} → pred (E.Role e) ≡ false → Reaches P on stop e r → (Frontier pred (chosen P on) (E.Role e) f → Member P stop r f) × (Member P stop r f → Frontier pred (chosen P on) (E.Role e) f)
+    pub frontier-member : {r : List ℕ} {f : Expression} → pred (E.Role e) ≡ false → Reaches P on stop e r
+        → (Frontier pred (chosen P on) (E.Role e) f → Member P stop r f) × (Member P stop r f → Frontier pred (chosen P on) (E.Role e) f)
     frontier-member n R = (λ h. stopped-member R (frontier-stopped n h), λ m. stopped-frontier n (member-stopped R m))

@@ -19,7 +19,8 @@ use Rattle.rt0.specs.declared.Pool.{Pool}
 use Rattle.rt0.specs.laws.Pool.{headAt, bodyAt}
 use Rattle.word.specs.laws.Bools.{false-true, and-parts, and-both}
 use Rattle.closure.specs.laws.Rules.{el}
-use Rattle.propagation.specs.laws.Flags.{decided, cnt, cnt-le, cnt-one, cnt-none, cnt-room, flag, flag-same, flag-other, flag-grows, flag-cases, flag-zeros, flag-past}
+use Rattle.propagation.specs.laws.Flags.{decided, cnt, cnt-le, cnt-one, cnt-none, cnt-room, flag, flag-same, flag-other, flag-grows, flag-cases}
+use Rattle.propagation.specs.laws.Flags.{flag-zeros, flag-past}
 use Rattle.frontier.specs.laws.Frontier.{Chain, first, next, Reaches, role-eq}
 use Rattle.frontier.specs.laws.Queue.{isNext, Next, Work, work, Queue, Later, Joined, Entered, Followed, Done, Running}
 
@@ -51,12 +52,14 @@ pub join-not : (P : Pool) (on : List ℕ) (W : Work) (p : Role) (i : ℕ) → Qu
 join-not P on W p i b h = record { base = b; later = later-refl W; here = λ z. absurd (false-true (sym h ∙ of-next P on p i z)); only = λ j t. inl t }
 
 pub join-room : (W : Work) (i : ℕ) → Queue W → i < 128 → (getD (W .found) i 0 ≡ 1 → ⊥) → W .tail < 128
-join-room W i b l h = let c : W .tail ≡ cnt 128 (flag (W .found)) = b .counted in omega (arith, cnt-room 128 (flag (W .found)) i l (ne-eqb (getD (W .found) i 0) 1 h))
+join-room W i b l h =
+    let c : W .tail ≡ cnt 128 (flag (W .found)) = b .counted in omega (arith, cnt-room 128 (flag (W .found)) i l (ne-eqb (getD (W .found) i 0) 1 h))
 
 abbrev joined : Work → ℕ → Work
 joined W i = work (set (W .found) i 1) (set (W .queue) (W .tail) i) (W .tail + 1)
 
-pub join-new : (P : Pool) (on : List ℕ) (W : Work) (p : Role) (i : ℕ) → Queue W → i < P .count → i < 128 → (getD (W .found) i 0 ≡ 1 → ⊥) → isNext P on p i ≡ true → Joined P on W (joined W i) p i
+pub join-new : (P : Pool) (on : List ℕ) (W : Work) (p : Role) (i : ℕ) → Queue W → i < P .count → i < 128 → (getD (W .found) i 0 ≡ 1 → ⊥)
+    → isNext P on p i ≡ true → Joined P on W (joined W i) p i
 join-new P on W p i b c l h is =
     let off : flag (W .found) i ≡ false = ne-eqb (getD (W .found) i 0) 1 h in
     let fs : length (W .found) ≡ 128 = b .found-size in
@@ -66,18 +69,23 @@ join-new P on W p i b c l h is =
     let ts : W .tail < length (W .queue) = omega arith in
     let stands : flag (set (W .found) i 1) i ≡ true = flag-same (W .found) i ps in
     let grows : (j : ℕ) → flag (W .found) j ≡ true → flag (set (W .found) i 1) j ≡ true = λ j t. flag-grows (W .found) i j ps t in
-    let kept : (r : ℕ) → r < W .tail → getD (set (W .queue) (W .tail) i) r 0 ≡ getD (W .queue) r 0 = λ r t. getD-set-other (W .queue) (W .tail) r i 0 (λ (z : r ≡ W .tail). omega arith) in
+    let kept : (r : ℕ) → r < W .tail → getD (set (W .queue) (W .tail) i) r 0
+    ≡ getD (W .queue) r 0 = λ r t. getD-set-other (W .queue) (W .tail) r i 0 (λ (z : r ≡ W .tail). omega arith) in
     let last : getD (set (W .queue) (W .tail) i) (W .tail) 0 ≡ i = getD-set-same (W .queue) (W .tail) i 0 ts in
     record {
       base = record {
         found-size = length-set (W .found) i 1 ∙ fs;
         queue-size = length-set (W .queue) (W .tail) i ∙ qs;
-        counted = ap (λ (k : ℕ). k + 1) (b .counted) ∙ sym (cnt-one 128 (flag (W .found)) (flag (set (W .found) i 1)) i l off stands (λ j o. flag-other (W .found) i j o));
+        counted =
+            ap (λ (k : ℕ). k + 1) (b .counted) ∙ sym
+            (cnt-one 128 (flag (W .found)) (flag (set (W .found) i 1)) i l off stands (λ j o. flag-other (W .found) i j o));
         queued = λ j t. ⊎-elim (λ e. (W .tail, omega arith, last ∙ sym e))
             (λ e. let r = b .queued j e in let rl : r .0 < W .tail = r .1 in (r .0, omega arith, kept (r .0) rl ∙ r .2)) (flag-cases (W .found) i j t);
         standing = λ r t. ⊎-elim
-            (λ e. let z : r ≡ W .tail = eqb-true r (W .tail) e in ap (flag (set (W .found) i 1)) (ap (λ (n : ℕ). getD (set (W .queue) (W .tail) i) n 0) z ∙ last) ∙ stands)
-            (λ e. let z : r < W .tail = omega (arith, eqb-false r (W .tail) e) in ap (flag (set (W .found) i 1)) (kept r z) ∙ grows (getD (W .queue) r 0) (b .standing r z))
+            (λ e. let z : r ≡ W .tail = eqb-true r (W .tail) e in ap (flag (set (W .found) i 1))
+            (ap (λ (n : ℕ). getD (set (W .queue) (W .tail) i) n 0) z ∙ last) ∙ stands)
+            (λ e. let z : r < W .tail = omega (arith, eqb-false r (W .tail) e) in ap (flag (set (W .found) i 1)) (kept r z)
+            ∙ grows (getD (W .queue) r 0) (b .standing r z))
             (decided (eqb r (W .tail)));
       };
       later = record { grows = grows; kept = kept; more = omega arith };
@@ -90,7 +98,8 @@ join-new P on W p i b c l h is =
 pub enter-start : (P : Pool) (on : List ℕ) (W : Work) (x : Expression) → Queue W → Entered P on W W x 0
 enter-start P on W x b = record { base = b; later = later-refl W; seen = λ i l. absurd (omega arith); only = λ j t. inl t }
 
-pub enter-next : {P : Pool} {on : List ℕ} {W X Y : Work} {p : Role} (k : ℕ) → Entered P on W X (E.Role p) k → Joined P on X Y p k → Entered P on W Y (E.Role p) (k + 1)
+pub enter-next : {P : Pool} {on : List ℕ} {W X Y : Work} {p : Role} (k : ℕ) → Entered P on W X (E.Role p) k → Joined P on X Y p k
+    → Entered P on W Y (E.Role p) (k + 1)
 enter-next {P} {on} {W} {X} {Y} {p} k a d =
     record {
       base = d .base;
@@ -116,7 +125,8 @@ pub enter-linked : {P : Pool} {on : List ℕ} {x : Expression} {a : Role} {m : �
 enter-linked {a = a} {m = m} W q h = enter-none W q (λ p k. let z : E.Linked a m ≡ E.Role p = sym h ∙ k in absurd (let d : _≡_ {A = ℕ} 0 1 = cc in omega arith))
 
 pub enter-intersection : {P : Pool} {on : List ℕ} {x : Expression} {s : Parts} (W : Work) → Queue W → x ≡ E.Intersection s → Entered P on W W x (P .count)
-enter-intersection {s = s} W q h = enter-none W q (λ p k. let z : E.Intersection s ≡ E.Role p = sym h ∙ k in absurd (let d : _≡_ {A = ℕ} 0 1 = cc in omega arith))
+enter-intersection {s = s} W q h =
+    enter-none W q (λ p k. let z : E.Intersection s ≡ E.Role p = sym h ∙ k in absurd (let d : _≡_ {A = ℕ} 0 1 = cc in omega arith))
 
 pub enter-goal : {P : Pool} {on : List ℕ} {x : Expression} {m : ℕ} (W : Work) → Queue W → x ≡ E.Goal m → Entered P on W W x (P .count)
 enter-goal {m = m} W q h = enter-none W q (λ p k. let z : E.Goal m ≡ E.Role p = sym h ∙ k in absurd (let d : _≡_ {A = ℕ} 0 1 = cc in omega arith))
@@ -127,7 +137,8 @@ pub follow-stop : (P : Pool) (on stop : List ℕ) (W : Work) (j : ℕ) → Queue
 follow-stop P on stop W j b h =
     record { base = b; later = later-refl W; seen = λ i o n. absurd (false-true (sym o ∙ eq-eqb (getD stop j 0) 1 h)); only = λ i t. inl t }
 
-pub follow-on : {P : Pool} {on stop : List ℕ} {W X : Work} {x : Expression} (j : ℕ) → (getD stop j 0 ≡ 1 → ⊥) → x ≡ bodyAt P j → Entered P on W X x (P .count) → Followed P on stop W X j
+pub follow-on : {P : Pool} {on stop : List ℕ} {W X : Work} {x : Expression} (j : ℕ) → (getD stop j 0 ≡ 1 → ⊥) → x ≡ bodyAt P j
+    → Entered P on W X x (P .count) → Followed P on stop W X j
 follow-on {P} {on} {stop} {W} {X} {x} j o e a =
     record {
       base = a .base;
@@ -157,7 +168,8 @@ queue-low {W} b r l = ⊎-elim
     (λ e. absurd (false-true (sym (flag-past (W .found) (getD (W .queue) r 0) (ltb-false _ _ e)) ∙ b .standing r l)))
     (decided (ltb (getD (W .queue) r 0) (length (W .found))))
 
-done-start : {P : Pool} {on stop : List ℕ} {e : Role} {X : Work} (q : List ℕ) → Entered P on (work (replicate 128 0) q 0) X (E.Role e) (P .count) → Done P on stop e X 0
+done-start : {P : Pool} {on stop : List ℕ} {e : Role} {X : Work} (q : List ℕ) → Entered P on (work (replicate 128 0) q 0) X (E.Role e) (P .count)
+    → Done P on stop e X 0
 done-start q a =
     record {
       base = a .base;
@@ -167,7 +179,8 @@ done-start q a =
       done = λ r i l. absurd (omega arith);
     }
 
-done-next : {P : Pool} {on stop : List ℕ} {e : Role} {W X : Work} {j : ℕ} (q : ℕ) → q < W .tail → j ≡ getD (W .queue) q 0 → Done P on stop e W q → Followed P on stop W X j → Done P on stop e X (q + 1)
+done-next : {P : Pool} {on stop : List ℕ} {e : Role} {W X : Work} {j : ℕ} (q : ℕ) → q < W .tail → j ≡ getD (W .queue) q 0 → Done P on stop e W q
+    → Followed P on stop W X j → Done P on stop e X (q + 1)
 done-next {P} {on} {stop} {e} {W} {X} {j} q l je d a =
     let more : W .tail ≤ X .tail = a .later .more in
     let stands : flag (W .found) j ≡ true = ap (flag (W .found)) je ∙ d .base .standing q l in
@@ -202,10 +215,12 @@ done-all {P} {on} {stop} {e} {W} q l d = record { sized = d .base .found-size; s
 pub run-start : {P : Pool} {on stop : List ℕ} {W : Work} → Queue W → Running P on stop W W 0
 run-start b = record { base = b; goes = λ e d. d }
 
-pub run-next : {P : Pool} {on stop : List ℕ} {W X Y : Work} {j : ℕ} (q : ℕ) → q < X .tail → j ≡ getD (X .queue) q 0 → Running P on stop W X q → Followed P on stop X Y j → Running P on stop W Y (q + 1)
+pub run-next : {P : Pool} {on stop : List ℕ} {W X Y : Work} {j : ℕ} (q : ℕ) → q < X .tail → j ≡ getD (X .queue) q 0 → Running P on stop W X q
+    → Followed P on stop X Y j → Running P on stop W Y (q + 1)
 run-next q l e r a = record { base = a .base; goes = λ f d. done-next q l e (r .goes f d) a }
 
-pub run-end : {P : Pool} {on stop : List ℕ} {e : Role} {W X : Work} {s : List ℕ} (q : ℕ) → X .tail ≤ q → Entered P on (work (replicate 128 0) s 0) W (E.Role e) (P .count) → Running P on stop W X q → Reaches P on stop e (X .found)
+pub run-end : {P : Pool} {on stop : List ℕ} {e : Role} {W X : Work} {s : List ℕ} (q : ℕ) → X .tail ≤ q
+    → Entered P on (work (replicate 128 0) s 0) W (E.Role e) (P .count) → Running P on stop W X q → Reaches P on stop e (X .found)
 run-end {e = e} q l a r = done-all q l (r .goes e (done-start _ a))
 
 -- the credential next in the queue is one of the pool's 128

@@ -18,6 +18,7 @@ use Rattle.graph.specs.declared.Nodes.{Nodes}
 use Rattle.graph.specs.declared.Edges.{Edges}
 use Rattle.graph.specs.laws.Graph.{rawFrom, expressionFrom, nodeAt, edgeAt, nodesOf, edgesOf, edgeIn}
 use Rattle.graph.specs.Graph.{blank, nodeIn, inState}
+use Rattle.numbers.specs.Sizes.{MOST-NODES, MOST-EDGES}
 
 module _ {A : Type 0} where
   -- the element at an index
@@ -35,12 +36,15 @@ module _ {A : Type 0} where
 
   -- another element at an index
   set-upTo : (n : ℕ) (f g : ℕ → A) (i : ℕ) (x d : A) → i < n → f i ≡ x → ((j : ℕ) → (j ≡ i → ⊥) → f j ≡ g j) → upTo n f ≡ set (upTo n g) i x
-  set-upTo n f g i x d l e h = ext-getD d (upTo n f) (set (upTo n g) i x) (length-upTo n f ∙ sym (length-set (upTo n g) i x ∙ length-upTo n g)) (λ j k. go j (omega (arith, length-upTo n f)) (eqb j i) refl)
+  set-upTo n f g i x d l e h =
+      ext-getD d (upTo n f) (set (upTo n g) i x) (length-upTo n f ∙ sym (length-set (upTo n g) i x ∙ length-upTo n g))
+      (λ j k. go j (omega (arith, length-upTo n f)) (eqb j i) refl)
     where
       go : (j : ℕ) → j < n → (b : Bool) → eqb j i ≡ b → getD (upTo n f) j d ≡ getD (set (upTo n g) i x) j d
       go j k true q =
           let z : j ≡ i = eqb-true j i q in
-          getD-upTo n f j d k ∙ (ap f z ∙ e) ∙ sym (ap (λ (m : ℕ). getD (set (upTo n g) i x) m d) z ∙ getD-set-same (upTo n g) i x d (omega (arith, length-upTo n g)))
+          getD-upTo n f j d k ∙ (ap f z ∙ e) ∙ sym
+          (ap (λ (m : ℕ). getD (set (upTo n g) i x) m d) z ∙ getD-set-same (upTo n g) i x d (omega (arith, length-upTo n g)))
       go j k false q = getD-upTo n f j d k ∙ h j (eqb-false j i q) ∙ sym (getD-set-other (upTo n g) i j x d (eqb-false j i q) ∙ getD-upTo n g j d k)
 
 -- Reading
@@ -144,7 +148,7 @@ module _ (N : Nodes) (x : Node) (r : Raw) where
   abbrev M : Nodes
   M = addedNode N x r
 
-  raw-last : NodesSized N → N .count < 128 → rawFrom (M .kind) (M .parts) (M .n0) (M .n1) (M .n2) (M .n3) (M .n4) (M .n5) (M .n6) (M .n7) (N .count) ≡ r
+  raw-last : NodesSized N → N .count < MOST-NODES → rawFrom (M .kind) (M .parts) (M .n0) (M .n1) (M .n2) (M .n3) (M .n4) (M .n5) (M .n6) (M .n7) (N .count) ≡ r
   raw-last z l = λ j. record {
     kind = last (N .count) 128 (N .kind) (r .kind) l (z .kind) j;
     count = last (N .count) 128 (N .parts) (r .count) l (z .parts) j;
@@ -158,7 +162,7 @@ module _ (N : Nodes) (x : Node) (r : Raw) where
     n7 = last (N .count) 128 (N .n7) (r .n7) l (z .n7) j;
   }
 
-  node-last : NodesSized N → N .count < 128 → expressionOf r ≡ x .expression → nodeAt (addedNode N x r) (N .count) ≡ x
+  node-last : NodesSized N → N .count < MOST-NODES → expressionOf r ≡ x .expression → nodeAt (addedNode N x r) (N .count) ≡ x
   unfolding expressionFrom
   node-last z l e = λ j. record {
     expression = (ap expressionOf (raw-last z l) ∙ e) j;
@@ -168,7 +172,7 @@ module _ (N : Nodes) (x : Node) (r : Raw) where
   }
 
   -- a node added stands behind the others
-  pub add-node : NodesSized N → N .count < 128 → expressionOf r ≡ x .expression → nodesOf (addedNode N x r) ≡ nodesOf N ++ (x ∷ [])
+  pub add-node : NodesSized N → N .count < MOST-NODES → expressionOf r ≡ x .expression → nodesOf (addedNode N x r) ≡ nodesOf N ++ (x ∷ [])
   unfolding nodesOf
   add-node z l e = snoc-upTo (N .count) (nodeAt (addedNode N x r)) (nodeAt N) x node-before (node-last z l e)
 
@@ -194,7 +198,7 @@ pub added-edge-sized : (E : Edges) (x : Edge) → EdgesSized E → EdgesSized (a
 added-edge-sized E x z = record { kind = simp length-set (z .kind); parent = simp length-set (z .parent); child = simp length-set (z .child) }
 
 -- an edge added stands behind the others
-pub add-edge : (E : Edges) (x : Edge) → EdgesSized E → E .count < 256 → edgesOf (addedEdge E x) ≡ edgesOf E ++ (x ∷ [])
+pub add-edge : (E : Edges) (x : Edge) → EdgesSized E → E .count < MOST-EDGES → edgesOf (addedEdge E x) ≡ edgesOf E ++ (x ∷ [])
 unfolding edgesOf
 add-edge E x z l =
     snoc-upTo (E .count) (edgeAt (addedEdge E x)) (edgeAt E) x
@@ -231,7 +235,8 @@ markedNodes N i s =
     }
 
 -- of a node marked only the state changes
-pub mark-node : (N : Nodes) (i s : ℕ) → length (N .state) ≡ 128 → N .count ≤ 128 → i < N .count → nodesOf (markedNodes N i s) ≡ set (nodesOf N) i (inState s (nodeIn (nodesOf N) i))
+pub mark-node : (N : Nodes) (i s : ℕ) → length (N .state) ≡ 128 → N .count ≤ MOST-NODES → i < N .count
+    → nodesOf (markedNodes N i s) ≡ set (nodesOf N) i (inState s (nodeIn (nodesOf N) i))
 unfolding nodesOf
 mark-node N i s z few l =
     set-upTo (N .count) (nodeAt (markedNodes N i s)) (nodeAt N) i (inState s (nodeIn (nodesOf N) i)) blank l

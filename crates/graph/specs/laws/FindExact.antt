@@ -69,5 +69,8 @@ sameEdge-refl e =
 
 pub has-exact : (es : List Edge) (d : Edge) → (hasEdge es d ≡ true) ↔ List·Memᴰ d es
 unfolding hasEdge
-has-exact es d =
-    (λ h. let r = any-find (λ e. sameEdge e d) es h in subst (λ (e : Edge). List·Memᴰ e es) (sameEdge-eq (r .0) d (r .2)) (r .1), λ m. any-here (λ e. sameEdge e d) m (sameEdge-refl d))
+has-exact es d = (
+  λ h. let r = any-find (λ e. sameEdge e d) es h in subst (λ (e : Edge). List·Memᴰ e es) (sameEdge-eq (r .0) d (r .2)) (r .1),
+  λ m. any-here
+      (λ e. sameEdge e d) m (sameEdge-refl d),
+)

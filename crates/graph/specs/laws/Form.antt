@@ -17,4 +17,5 @@ legal-few (E.Entity a) t h = let z : t ≡ 3 = eqb-true t 3 h in omega arith
 legal-few (E.Role a) t h = ltb-true t 4 h
 legal-few (E.Linked a r) t h = ltb-true t 4 h
 legal-few (E.Intersection p) t h = ltb-true t 4 (and-parts (ltb 0 t) (ltb t 4) h .1)
-legal-few (E.Goal r) t h = ⊎-elim (λ a. let z : t ≡ 1 = eqb-true t 1 a in omega arith) (λ a. let z : t ≡ 3 = eqb-true t 3 a in omega arith) (or-cases (eqb t 1) (eqb t 3) h)
+legal-few (E.Goal r) t h =
+    ⊎-elim (λ a. let z : t ≡ 1 = eqb-true t 1 a in omega arith) (λ a. let z : t ≡ 3 = eqb-true t 3 a in omega arith) (or-cases (eqb t 1) (eqb t 3) h)

@@ -21,13 +21,15 @@ use Rattle.graph.specs.declared.Node.{Node}
 use Rattle.graph.specs.declared.Edge.{Edge}
 use Rattle.graph.specs.Graph.{nodeIn}
 use Rattle.graph.specs.Form.{isStandard, Formed}
-use Rattle.graph.specs.States.{implicationKind, solutionKind, intersectionKind, Child, Part, Satisfied, trivial, standard, intersection, Failed, failed-standard, failed-intersection, Complete}
+use Rattle.graph.specs.States.{implicationKind, solutionKind, intersectionKind, Child, Part, Satisfied, trivial, standard, intersection, Failed}
+use Rattle.graph.specs.States.{failed-standard, failed-intersection, Complete}
 use Rattle.graph.specs.laws.States.{satisfied-failed, complete-failed, satisfied-inside, failed-inside, satisfied-stays, failed-stays, complete-stays}
 use Rattle.graph.specs.Growth.{Grown}
 use Rattle.propagation.specs.laws.Flags.{decided}
 use Rattle.propagation.specs.Flags.{at}
 use Rattle.propagation.specs.laws.Least.{Monotone, least-closed, least-into}
-use Rattle.graph.specs.Propagated.{isChild, anyChild, allChildren, anyPart, satisfiedAs, failedAs, satisfiedRule, failedRule, satisfiedB, failedB, completeAs, completeB, propagatedState}
+use Rattle.graph.specs.Propagated.{isChild, anyChild, allChildren, anyPart, satisfiedAs, failedAs, satisfiedRule, failedRule, satisfiedB, failedB}
+use Rattle.graph.specs.Propagated.{completeAs, completeB, propagatedState}
 
 module _ (ns : List Node) (es : List Edge) where
   -- Children
@@ -69,7 +71,8 @@ module _ (ns : List Node) (es : List Edge) where
     children-all : ((c : ℕ) → Child ns es t i c → s c ≡ true) → allChildren ns es t s i ≡ true
     children-all h =
         all-of (λ e. not (isChild ns es t i e) || s (e .child)) es
-        (λ e m. ⊎-elim (λ b. or-right (not (isChild ns es t i e)) (s (e .child)) (h (e .child) (child-of e m b))) (λ b. or-left (not (isChild ns es t i e)) (s (e .child)) (ap not b)) (decided (isChild ns es t i e)))
+        (λ e m. ⊎-elim (λ b. or-right (not (isChild ns es t i e)) (s (e .child)) (h (e .child) (child-of e m b)))
+        (λ b. or-left (not (isChild ns es t i e)) (s (e .child)) (ap not b)) (decided (isChild ns es t i e)))
 
   module _ (s : ℕ → Bool) (i : ℕ) (a : Role) where
     any-part : anyPart ns es s i a ≡ true → (c : ℕ) × Part ns es i a c × (s c ≡ true)
@@ -84,24 +87,28 @@ module _ (ns : List Node) (es : List Edge) where
     part-any {c} w h =
         let x : Expression = nodeIn ns c .expression in
         any-here (λ e. isChild ns es intersectionKind i e && same (nodeIn ns (e .child) .expression) (E.Role a) && s (e .child)) (w .child .edge)
-        (and-both (isChild ns es intersectionKind i (edgeOf (w .child)) && same x (E.Role a)) (s c) (and-both (isChild ns es intersectionKind i (edgeOf (w .child))) (same x (E.Role a)) (is-child (w .child)) (eq-same x (E.Role a) (w .role))) h)
+        (and-both (isChild ns es intersectionKind i (edgeOf (w .child)) && same x (E.Role a)) (s c)
+        (and-both (isChild ns es intersectionKind i (edgeOf (w .child))) (same x (E.Role a)) (is-child (w .child)) (eq-same x (E.Role a) (w .role))) h)
 
   -- Satisfied
 
   satisfied-mono : Monotone (satisfiedRule ns es)
   satisfied-mono = record { mono = λ s t h i g. go s t h i (nodeIn ns i .expression) g }
     where
-      more : (s t : ℕ → Bool) → ((i : ℕ) → s i ≡ true → t i ≡ true) → (i : ℕ) → anyChild ns es implicationKind s i ≡ true → anyChild ns es implicationKind t i ≡ true
+      more : (s t : ℕ → Bool) → ((i : ℕ) → s i ≡ true → t i ≡ true) → (i : ℕ) → anyChild ns es implicationKind s i ≡ true
+          → anyChild ns es implicationKind t i ≡ true
       more s t h i g = let r = any-child implicationKind s i g in child-any implicationKind t i (r .1) (h (r .0) (r .2))
 
-      go : (s t : ℕ → Bool) → ((i : ℕ) → s i ≡ true → t i ≡ true) → (i : ℕ) (x : Expression) → satisfiedAs ns es s i (nodeIn ns i .state) x ≡ true → satisfiedAs ns es t i (nodeIn ns i .state) x ≡ true
+      go : (s t : ℕ → Bool) → ((i : ℕ) → s i ≡ true → t i ≡ true) → (i : ℕ) (x : Expression) → satisfiedAs ns es s i (nodeIn ns i .state) x ≡ true
+          → satisfiedAs ns es t i (nodeIn ns i .state) x ≡ true
       go s t h i (E.Entity a) g = refl
       go s t h i (E.Role a) g = more s t h i g
       go s t h i (E.Linked a r) g = more s t h i g
       go s t h i (E.Intersection q) g =
           let p = and-parts (eqb (nodeIn ns i .state) 3) (all (anyPart ns es s i) (rolesOf q)) g in
           and-both (eqb (nodeIn ns i .state) 3) (all (anyPart ns es t i) (rolesOf q)) (p .0)
-          (all-of (anyPart ns es t i) (rolesOf q) (λ a m. let r = any-part s i a (all-each (anyPart ns es s i) m (p .1)) in part-any t i a (r .1) (h (r .0) (r .2))))
+          (all-of (anyPart ns es t i) (rolesOf q) (λ a m. let r = any-part s i a (all-each (anyPart ns es s i) m (p .1)) in part-any t i a (r .1)
+          (h (r .0) (r .2))))
       go s t h i (E.Goal r) g = absurd (false-true g)
 
   -- what the rule brings is satisfied
@@ -117,7 +124,8 @@ module _ (ns : List Node) (es : List Edge) where
       go (E.Linked a r) e g = implied (ap isStandard e) g
       go (E.Intersection q) e g =
           let p = and-parts (eqb (nodeIn ns i .state) 3) (all (anyPart ns es s i) (rolesOf q)) g in
-          let part : (a : Role) → List·Memᴰ a (rolesOf q) → (c : ℕ) × Part ns es i a c × (s c ≡ true) = λ a m. any-part s i a (all-each (anyPart ns es s i) m (p .1)) in
+          let part : (a : Role) → List·Memᴰ a (rolesOf q)
+          → (c : ℕ) × Part ns es i a c × (s c ≡ true) = λ a m. any-part s i a (all-each (anyPart ns es s i) m (p .1)) in
           intersection e (eqb-true (nodeIn ns i .state) 3 (p .0)) (λ a m. part a m .0) (λ a m. part a m .1) (λ a m. ih (part a m .0) (part a m .2))
       go (E.Goal r) e g = absurd (false-true g)
 
@@ -131,31 +139,39 @@ module _ (ns : List Node) (es : List Edge) where
 
   satisfied-found : {i : ℕ} → Satisfied ns es i → at (satisfiedB ns es) i ≡ true
   unfolding satisfiedB
-  satisfied-found (trivial {i} e) = least-closed (satisfiedRule ns es) (length ns) satisfied-mono i (satisfied-inside {ns = ns} {es = es} (trivial e)) (ap (satisfiedAs ns es (at (satisfiedB ns es)) i (nodeIn ns i .state)) e)
+  satisfied-found (trivial {i} e) =
+      least-closed (satisfiedRule ns es) (length ns) satisfied-mono i (satisfied-inside {ns = ns} {es = es} (trivial e))
+      (ap (satisfiedAs ns es (at (satisfiedB ns es)) i (nodeIn ns i .state)) e)
   satisfied-found (standard {i} e k g) =
       least-closed (satisfiedRule ns es) (length ns) satisfied-mono i (satisfied-inside (standard e k g))
-      (standard-rule (at (satisfiedB ns es)) i (nodeIn ns i .state) (nodeIn ns i .expression) e (child-any implicationKind (at (satisfiedB ns es)) i k (satisfied-found g)))
+      (standard-rule (at (satisfiedB ns es)) i (nodeIn ns i .state) (nodeIn ns i .expression) e
+      (child-any implicationKind (at (satisfiedB ns es)) i k (satisfied-found g)))
   satisfied-found (intersection {i} {p} e full f w g) =
       let s : ℕ → Bool = at (satisfiedB ns es) in
       least-closed (satisfiedRule ns es) (length ns) satisfied-mono i (satisfied-inside (intersection e full f w g))
       (ap (satisfiedAs ns es s i (nodeIn ns i .state)) e
-      ∙ and-both (eqb (nodeIn ns i .state) 3) (all (anyPart ns es s i) (rolesOf p)) (eq-eqb (nodeIn ns i .state) 3 full) (all-of (anyPart ns es s i) (rolesOf p) (λ a m. part-any s i a (w a m) (satisfied-found (g a m)))))
+      ∙ and-both (eqb (nodeIn ns i .state) 3) (all (anyPart ns es s i) (rolesOf p)) (eq-eqb (nodeIn ns i .state) 3 full)
+      (all-of (anyPart ns es s i) (rolesOf p) (λ a m. part-any s i a (w a m) (satisfied-found (g a m)))))
 
   pub satisfied-exact : (i : ℕ) → (at (satisfiedB ns es) i ≡ true) ↔ Satisfied ns es i
   unfolding satisfiedB
-  satisfied-exact i = (least-into (satisfiedRule ns es) (length ns) satisfied-mono (Satisfied ns es) (λ s ih j l h. satisfied-step s ih j h) i, λ h. satisfied-found h)
+  satisfied-exact i =
+      (least-into (satisfiedRule ns es) (length ns) satisfied-mono (Satisfied ns es) (λ s ih j l h. satisfied-step s ih j h) i, λ h. satisfied-found h)
 
   -- Failed
 
   failed-mono : Monotone (failedRule ns es)
   failed-mono = record { mono = λ s t h i g. go s t h i (nodeIn ns i .expression) g }
     where
-      more : (s t : ℕ → Bool) → ((i : ℕ) → s i ≡ true → t i ≡ true) → (i p : ℕ) → (eqb p 3 && allChildren ns es implicationKind s i) ≡ true → (eqb p 3 && allChildren ns es implicationKind t i) ≡ true
+      more : (s t : ℕ → Bool) → ((i : ℕ) → s i ≡ true → t i ≡ true) → (i p : ℕ) → (eqb p 3 && allChildren ns es implicationKind s i) ≡ true
+          → (eqb p 3 && allChildren ns es implicationKind t i) ≡ true
       more s t h i p g =
           let r = and-parts (eqb p 3) (allChildren ns es implicationKind s i) g in
-          and-both (eqb p 3) (allChildren ns es implicationKind t i) (r .0) (children-all implicationKind t i (λ c k. h c (all-children implicationKind s i (r .1) c k)))
+          and-both (eqb p 3) (allChildren ns es implicationKind t i) (r .0)
+          (children-all implicationKind t i (λ c k. h c (all-children implicationKind s i (r .1) c k)))
 
-      go : (s t : ℕ → Bool) → ((i : ℕ) → s i ≡ true → t i ≡ true) → (i : ℕ) (x : Expression) → failedAs ns es s i (nodeIn ns i .state) x ≡ true → failedAs ns es t i (nodeIn ns i .state) x ≡ true
+      go : (s t : ℕ → Bool) → ((i : ℕ) → s i ≡ true → t i ≡ true) → (i : ℕ) (x : Expression) → failedAs ns es s i (nodeIn ns i .state) x ≡ true
+          → failedAs ns es t i (nodeIn ns i .state) x ≡ true
       go s t h i (E.Entity a) g = absurd (false-true g)
       go s t h i (E.Role a) g = more s t h i (nodeIn ns i .state) g
       go s t h i (E.Linked a r) g = more s t h i (nodeIn ns i .state) g
@@ -179,7 +195,8 @@ module _ (ns : List Node) (es : List Edge) where
       go (E.Goal r) e g = absurd (false-true g)
 
   -- a fully processed standard target whose implication children are all failed
-  unimplied-rule : (s : ℕ → Bool) (i p : ℕ) (x : Expression) → isStandard x ≡ true → (eqb p 3 && allChildren ns es implicationKind s i) ≡ true → failedAs ns es s i p x ≡ true
+  unimplied-rule : (s : ℕ → Bool) (i p : ℕ) (x : Expression) → isStandard x ≡ true → (eqb p 3 && allChildren ns es implicationKind s i) ≡ true
+      → failedAs ns es s i p x ≡ true
   unimplied-rule s i p (E.Entity a) e g = absurd (false-true e)
   unimplied-rule s i p (E.Role a) e g = g
   unimplied-rule s i p (E.Linked a r) e g = g
@@ -192,7 +209,8 @@ module _ (ns : List Node) (es : List Edge) where
       let s : ℕ → Bool = at (failedB ns es) in
       least-closed (failedRule ns es) (length ns) failed-mono i (failed-inside (failed-standard e full h))
       (unimplied-rule s i (nodeIn ns i .state) (nodeIn ns i .expression) e
-      (and-both (eqb (nodeIn ns i .state) 3) (allChildren ns es implicationKind s i) (eq-eqb (nodeIn ns i .state) 3 full) (children-all implicationKind s i (λ c k. failed-found (h c k)))))
+      (and-both (eqb (nodeIn ns i .state) 3) (allChildren ns es implicationKind s i) (eq-eqb (nodeIn ns i .state) 3 full)
+      (children-all implicationKind s i (λ c k. failed-found (h c k)))))
   failed-found (failed-intersection {i} e k h) =
       let s : ℕ → Bool = at (failedB ns es) in
       least-closed (failedRule ns es) (length ns) failed-mono i (failed-inside (failed-intersection e k h))
@@ -223,14 +241,17 @@ module _ (ns : List Node) (es : List Edge) where
             name = r;
             goal = e;
             processed = eqb-true (nodeIn ns i .state) 3 (p .0);
-            solved = λ c k. ⊎-elim (λ b. inl (satisfied-exact c .0 b)) (λ b. inr (failed-exact c .0 b)) (or-cases (at (satisfiedB ns es) c) (at (failedB ns es) c) (all-children solutionKind settled i (p .1) c k));
+            solved =
+                λ c k. ⊎-elim (λ b. inl (satisfied-exact c .0 b)) (λ b. inr (failed-exact c .0 b))
+                (or-cases (at (satisfiedB ns es) c) (at (failedB ns es) c) (all-children solutionKind settled i (p .1) c k));
           }
 
       back : Complete ns es i → completeAs ns es i (nodeIn ns i .state) (nodeIn ns i .expression) ≡ true
       back h =
           ap (completeAs ns es i (nodeIn ns i .state)) (h .goal)
           ∙ and-both (eqb (nodeIn ns i .state) 3) (allChildren ns es solutionKind settled i) (eq-eqb (nodeIn ns i .state) 3 (h .processed))
-          (children-all solutionKind settled i (λ c k. ⊎-elim (λ b. or-left (at (satisfiedB ns es) c) (at (failedB ns es) c) (satisfied-exact c .1 b)) (λ b. or-right (at (satisfiedB ns es) c) (at (failedB ns es) c) (failed-exact c .1 b)) (h .solved c k)))
+          (children-all solutionKind settled i (λ c k. ⊎-elim (λ b. or-left (at (satisfiedB ns es) c) (at (failedB ns es) c) (satisfied-exact c .1 b))
+          (λ b. or-right (at (satisfiedB ns es) c) (at (failedB ns es) c) (failed-exact c .1 b)) (h .solved c k)))
 
   -- The propagated state
 
@@ -258,7 +279,9 @@ module _ (ns : List Node) (es : List Edge) where
     good h = ⊎-elim (λ b. inl (satisfied-exact i .0 b)) (λ b. inr (complete-exact i .0 b)) (or-cases (at (satisfiedB ns es) i) (completeB ns es i) h)
 
     good-found : Satisfied ns es i ⊎ Complete ns es i → (at (satisfiedB ns es) i || completeB ns es i) ≡ true
-    good-found h = ⊎-elim (λ g. or-left (at (satisfiedB ns es) i) (completeB ns es i) (satisfied-exact i .1 g)) (λ g. or-right (at (satisfiedB ns es) i) (completeB ns es i) (complete-exact i .1 g)) h
+    good-found h =
+        ⊎-elim (λ g. or-left (at (satisfiedB ns es) i) (completeB ns es i) (satisfied-exact i .1 g))
+        (λ g. or-right (at (satisfiedB ns es) i) (completeB ns es i) (complete-exact i .1 g)) h
 
     not-good : ((Satisfied ns es i ⊎ Complete ns es i) → ⊥) → (at (satisfiedB ns es) i || completeB ns es i) ≡ false
     not-good h = ⊎-elim (λ b. absurd (h (good b))) (λ b. b) (decided (at (satisfiedB ns es) i || completeB ns es i))
@@ -269,21 +292,28 @@ module _ (ns : List Node) (es : List Edge) where
     -- 1: satisfied or complete
     pub state-one : (propagatedState ns es i ≡ 1) ↔ (Satisfied ns es i ⊎ Complete ns es i)
     unfolding propagatedState
-    state-one = (λ h. good (chosen-one (at (satisfiedB ns es) i || completeB ns es i) (at (failedB ns es) i) h), λ h. ap (λ (b : Bool). chosen b (at (failedB ns es) i)) (good-found h))
+    state-one = (
+      λ h. good (chosen-one (at (satisfiedB ns es) i || completeB ns es i) (at (failedB ns es) i) h),
+      λ h. ap
+          (λ (b : Bool). chosen b (at (failedB ns es) i)) (good-found h),
+    )
 
     -- 2: failed
     pub state-two : Formed ns es → (propagatedState ns es i ≡ 2) ↔ Failed ns es i
     unfolding propagatedState
     state-two formed = (
       λ h. failed-exact i .0 (chosen-two (at (satisfiedB ns es) i || completeB ns es i) (at (failedB ns es) i) h),
-      λ h. let a : (at (satisfiedB ns es) i || completeB ns es i) ≡ false = not-good (λ g. ⊎-elim (λ s. satisfied-failed formed s h) (λ c. complete-failed c h) g) in (λ j. chosen (a j) (failed-exact i .1 h j)),
+      λ h. let a : (at (satisfiedB ns es) i || completeB ns es i)
+          ≡ false = not-good (λ g. ⊎-elim (λ s. satisfied-failed formed s h) (λ c. complete-failed c h) g) in (λ j. chosen (a j) (failed-exact i .1 h j)),
     )
 
     -- 0: none of these
     pub state-zero : (propagatedState ns es i ≡ 0) ↔ (((Satisfied ns es i ⊎ Complete ns es i) → ⊥) × (Failed ns es i → ⊥))
     unfolding propagatedState
     state-zero = (
-      λ h. let r = chosen-zero (at (satisfiedB ns es) i || completeB ns es i) (at (failedB ns es) i) h in (λ g. false-true (sym (r .0) ∙ good-found g), λ f. false-true (sym (r .1) ∙ failed-exact i .1 f)),
+      λ h. let r =
+          chosen-zero (at (satisfiedB ns es) i || completeB ns es i) (at (failedB ns es) i) h in
+          (λ g. false-true (sym (r .0) ∙ good-found g), λ f. false-true (sym (r .1) ∙ failed-exact i .1 f)),
       λ h. (λ j. chosen (not-good (h .0) j) (not-failed (h .1) j)),
     )
 

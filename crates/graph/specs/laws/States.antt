@@ -23,7 +23,8 @@ use Rattle.graph.specs.declared.Edge.{Edge}
 use Rattle.propagation.specs.laws.Flags.{decided}
 use Rattle.graph.specs.Graph.{nodeIn, blank}
 use Rattle.graph.specs.Form.{isStandard, hasRole, isPart, sameVerifier, sameEnds, form, Formed}
-use Rattle.graph.specs.States.{intersectionKind, Child, FullyProcessed, Part, Satisfied, trivial, standard, intersection, Failed, failed-standard, failed-intersection, Complete}
+use Rattle.graph.specs.States.{intersectionKind, Child, FullyProcessed, Part, Satisfied, trivial, standard, intersection, Failed, failed-standard}
+use Rattle.graph.specs.States.{failed-intersection, Complete}
 use Rattle.graph.specs.Growth.{gains, Grown}
 
 -- the kind of an expression
@@ -48,18 +49,23 @@ form-intersection k v p c z h = and-parts (isPart (p .expression) (c .expression
 module _ {ns : List Node} {es : List Edge} (good : Formed ns es) where
   -- an intersection child is for one of the roles, and has its parent's verifier and subject
   part-child : {i c : ℕ} {p : Parts} → nodeIn ns i .expression ≡ E.Intersection p → Child ns es intersectionKind i c
-      → ((a : Role) × List·Memᴰ a (rolesOf p) × (nodeIn ns c .expression ≡ E.Role a)) × (nodeIn ns c .verifier ≡ nodeIn ns i .verifier) × (nodeIn ns c .subject ≡ nodeIn ns i .subject)
+      → ((a : Role) × List·Memᴰ a (rolesOf p) × (nodeIn ns c .expression ≡ E.Role a)) × (nodeIn ns c .verifier ≡ nodeIn ns i .verifier)
+      × (nodeIn ns c .subject ≡ nodeIn ns i .subject)
   unfolding hasRole
   part-child {i} {c} {p} e h =
       let g = good .formed (record { kind = h .kind; parent = i; child = c }) (h .edge) in
       let f = form-intersection (h .kind) (g .0) (nodeIn ns i) (nodeIn ns c) (eqb-true (h .kind) 5 (h .passes)) (g .1) in
       let has : hasRole p (nodeIn ns c .expression) ≡ true = sym (ap (λ (x : Expression). isPart x (nodeIn ns c .expression)) e) ∙ f .0 in
       let r = any-find (λ (a : Role). same (nodeIn ns c .expression) (E.Role a)) (rolesOf p) has in
-      let s = and-parts (sameVerifier (nodeIn ns i) (nodeIn ns c)) (eqb (nodeIn ns c .subject) (nodeIn ns i .subject)) (f .1) in
-      ((r .0, r .1, same-eq (nodeIn ns c .expression) (E.Role (r .0)) (r .2)), eqb-true (nodeIn ns c .verifier) (nodeIn ns i .verifier) (s .0), eqb-true (nodeIn ns c .subject) (nodeIn ns i .subject) (s .1))
+      let s = and-parts (sameVerifier (nodeIn ns i) (nodeIn ns c)) (eqb (nodeIn ns c .subject) (nodeIn ns i .subject)) (f .1) in (
+        (r .0, r .1, same-eq (nodeIn ns c .expression) (E.Role (r .0)) (r .2)),
+        eqb-true (nodeIn ns c .verifier) (nodeIn ns i .verifier) (s .0),
+        eqb-true (nodeIn ns c .subject) (nodeIn ns i .subject) (s .1),
+      )
 
   -- an intersection has one child for each role
-  one-child : {i c d : ℕ} {a : Role} {p : Parts} → nodeIn ns i .expression ≡ E.Intersection p → Child ns es intersectionKind i c → nodeIn ns c .expression ≡ E.Role a → Part ns es i a d → c ≡ d
+  one-child : {i c d : ℕ} {a : Role} {p : Parts} → nodeIn ns i .expression ≡ E.Intersection p → Child ns es intersectionKind i c
+      → nodeIn ns c .expression ≡ E.Role a → Part ns es i a d → c ≡ d
   one-child {i} {c} {d} e h r w =
       let x = part-child e h in
       let y = part-child e (w .child) in
@@ -86,20 +92,24 @@ gains-all s t z h = ⊎-elim (λ b. eqb-true t 3 b) (λ b. sym (eqb-true 3 t b))
 
 -- a node past the end is blank
 inside : (ns : List Node) (i : ℕ) → (nodeIn ns i ≡ blank → ⊥) → i < length ns
-inside ns i h = ⊎-elim (λ b. ltb-true i (length ns) b) (λ b. absurd (h (List·getD-eq-default ns blank (ltb-false i (length ns) b)))) (decided (ltb i (length ns)))
+inside ns i h =
+    ⊎-elim (λ b. ltb-true i (length ns) b) (λ b. absurd (h (List·getD-eq-default ns blank (ltb-false i (length ns) b)))) (decided (ltb i (length ns)))
 
 -- so it is neither processed nor satisfied nor failed
 pub processed-inside : (ns : List Node) (i : ℕ) → FullyProcessed ns i → i < length ns
 processed-inside ns i p = inside ns i (λ z. let w : _≡_ {A = ℕ} 0 3 = sym (ap (λ (n : Node). n .state) z) ∙ p in omega arith)
 
 pub satisfied-inside : {ns : List Node} {es : List Edge} {i : ℕ} → Satisfied ns es i → i < length ns
-satisfied-inside {ns} {es} (trivial {i} e) = inside ns i (λ z. let w : _≡_ {A = ℕ} 5 1 = sym (ap (λ (n : Node). kindOf (n .expression)) z) ∙ ap kindOf e in omega arith)
+satisfied-inside {ns} {es} (trivial {i} e) =
+    inside ns i (λ z. let w : _≡_ {A = ℕ} 5 1 = sym (ap (λ (n : Node). kindOf (n .expression)) z) ∙ ap kindOf e in omega arith)
 satisfied-inside {ns} {es} (standard {i} s k g) = inside ns i (λ z. false-true (sym (ap (λ (n : Node). isStandard (n .expression)) z) ∙ s))
-satisfied-inside {ns} {es} (intersection {i} e p f w g) = inside ns i (λ z. let w : _≡_ {A = ℕ} 5 4 = sym (ap (λ (n : Node). kindOf (n .expression)) z) ∙ ap kindOf e in omega arith)
+satisfied-inside {ns} {es} (intersection {i} e p f w g) =
+    inside ns i (λ z. let w : _≡_ {A = ℕ} 5 4 = sym (ap (λ (n : Node). kindOf (n .expression)) z) ∙ ap kindOf e in omega arith)
 
 pub failed-inside : {ns : List Node} {es : List Edge} {i : ℕ} → Failed ns es i → i < length ns
 failed-inside {ns} {es} (failed-standard {i} s p h) = inside ns i (λ z. false-true (sym (ap (λ (n : Node). isStandard (n .expression)) z) ∙ s))
-failed-inside {ns} {es} (failed-intersection {i} e k b) = inside ns i (λ z. let w : _≡_ {A = ℕ} 5 4 = sym (ap (λ (n : Node). kindOf (n .expression)) z) ∙ ap kindOf e in omega arith)
+failed-inside {ns} {es} (failed-intersection {i} e k b) =
+    inside ns i (λ z. let w : _≡_ {A = ℕ} 5 4 = sym (ap (λ (n : Node). kindOf (n .expression)) z) ∙ ap kindOf e in omega arith)
 
 module _ {ns ns′ : List Node} {es es′ : List Edge} (g : Grown ns es ns′ es′) where
   same-expression : (i : ℕ) → i < length ns → nodeIn ns′ i .expression ≡ nodeIn ns i .expression
@@ -127,7 +137,8 @@ module _ {ns ns′ : List Node} {es es′ : List Edge} (g : Grown ns es ns′ es
 
   pub satisfied-stays : {i : ℕ} → Satisfied ns es i → Satisfied ns′ es′ i
   satisfied-stays (trivial {i} e) = trivial (same-expression i (satisfied-inside {ns = ns} {es = es} (trivial e)) ∙ e)
-  satisfied-stays (standard {i} s k h) = standard (ap isStandard (same-expression i (satisfied-inside (standard s k h))) ∙ s) (child-stays k) (satisfied-stays h)
+  satisfied-stays (standard {i} s k h) =
+      standard (ap isStandard (same-expression i (satisfied-inside (standard s k h))) ∙ s) (child-stays k) (satisfied-stays h)
   satisfied-stays (intersection {i} e p f w h) =
       let l : i < length ns = satisfied-inside (intersection e p f w h) in
       intersection (same-expression i l ∙ e) (processed-stays i l p) f
@@ -138,7 +149,8 @@ module _ {ns ns′ : List Node} {es es′ : List Edge} (g : Grown ns es ns′ es
   failed-stays (failed-standard {i} s p h) =
       let l : i < length ns = failed-inside (failed-standard s p h) in
       failed-standard (ap isStandard (same-expression i l) ∙ s) (processed-stays i l p) (λ c k. failed-stays (h c (child-back p k)))
-  failed-stays (failed-intersection {i} e k h) = failed-intersection (same-expression i (failed-inside (failed-intersection e k h)) ∙ e) (child-stays k) (failed-stays h)
+  failed-stays (failed-intersection {i} e k h) =
+      failed-intersection (same-expression i (failed-inside (failed-intersection e k h)) ∙ e) (child-stays k) (failed-stays h)
 
   pub complete-stays : {i : ℕ} → Complete ns es i → Complete ns′ es′ i
   complete-stays {i} h =

@@ -75,7 +75,9 @@ module _ (ns : List Node) (es : List Edge) (joined : Joined ns es) where
       }
     where
       here : (k : ℕ) → k < length ns → k ≡ i → nodeIn (set ns i (inState s (nodeIn ns i))) k ≡ inState s (nodeIn ns k)
-      here k l e = ap (nodeIn (set ns i (inState s (nodeIn ns i)))) e ∙ getD-set-same ns i (inState s (nodeIn ns i)) blank (omega arith) ∙ ap (λ (n : ℕ). inState s (nodeIn ns n)) (sym e)
+      here k l e =
+          ap (nodeIn (set ns i (inState s (nodeIn ns i)))) e ∙ getD-set-same ns i (inState s (nodeIn ns i)) blank (omega arith)
+          ∙ ap (λ (n : ℕ). inState s (nodeIn ns n)) (sym e)
 
       other : (k : ℕ) → (k ≡ i → ⊥) → nodeIn (set ns i (inState s (nodeIn ns i))) k ≡ nodeIn ns k
       other k o = getD-set-other ns i k (inState s (nodeIn ns i)) blank o
@@ -84,13 +86,15 @@ module _ (ns : List Node) (es : List Edge) (joined : Joined ns es) where
       in-state : {x : Node} (y : Node) (t : ℕ) → x ≡ inState t y → x ≡ inState (x .state) y
       in-state y t e = e ∙ ap (λ (u : ℕ). inState u y) (sym (ap (λ (n : Node). n .state) e))
 
-      same : (k : ℕ) → k < length ns → (b : Bool) → eqb k i ≡ b → nodeIn (set ns i (inState s (nodeIn ns i))) k ≡ inState (nodeIn (set ns i (inState s (nodeIn ns i))) k .state) (nodeIn ns k)
+      same : (k : ℕ) → k < length ns → (b : Bool) → eqb k i ≡ b
+          → nodeIn (set ns i (inState s (nodeIn ns i))) k ≡ inState (nodeIn (set ns i (inState s (nodeIn ns i))) k .state) (nodeIn ns k)
       same k l true q = in-state (nodeIn ns k) s (here k l (eqb-true k i q))
       same k l false q = in-state (nodeIn ns k) (nodeIn ns k .state) (other k (eqb-false k i q))
 
       gained : (k : ℕ) → k < length ns → (b : Bool) → eqb k i ≡ b → gains (nodeIn ns k .state) (nodeIn (set ns i (inState s (nodeIn ns i))) k .state) ≡ true
       gained k l true q =
-          ap (λ (x : Node). gains (nodeIn ns k .state) (x .state)) (here k l (eqb-true k i q)) ∙ ap (λ (n : ℕ). gains (nodeIn ns n .state) s) (eqb-true k i q) ∙ g
+          ap (λ (x : Node). gains (nodeIn ns k .state) (x .state)) (here k l (eqb-true k i q))
+          ∙ ap (λ (n : ℕ). gains (nodeIn ns n .state) s) (eqb-true k i q) ∙ g
       gained k l false q = ap (λ (x : Node). gains (nodeIn ns k .state) (x .state)) (other k (eqb-false k i q)) ∙ gains-same (nodeIn ns k .state)
 
 pub grown-both : {ns ns′ ns″ : List Node} {es es′ es″ : List Edge} → Grown ns es ns′ es′ → Grown ns′ es′ ns″ es″ → Grown ns es ns″ es″
@@ -103,6 +107,7 @@ grown-both {ns} {ns′} {ns″} {es} {es′} {es″} g h =
       added = g .added ++ h .added;
       edges = h .edges ∙ ap (λ (l : List Edge). l ++ h .added) (g .edges) ∙ append-assoc es (g .added) (h .added);
       unprocessed = λ e m p.
-          ⊎-elim (λ k. g .unprocessed e k p) (λ k. h .unprocessed e k (processed-stays g (e .parent) (processed-inside ns (e .parent) p) p)) (List·Memᴰ·append-cases (g .added) m);
+          ⊎-elim (λ k. g .unprocessed e k p) (λ k. h .unprocessed e k (processed-stays g (e .parent) (processed-inside ns (e .parent) p) p))
+          (List·Memᴰ·append-cases (g .added) m);
       joined = g .joined;
     }

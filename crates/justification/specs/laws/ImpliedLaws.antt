@@ -39,7 +39,8 @@ module _ (E : Edges) {j : ℕ} {r : List ℕ} (g : Children E j r) where
       (record {
         size = length-set r c 1 ∙ g .size;
         marked = λ i k h. ⊎-elim
-            (λ q. let z : getD (E .child) i 0 ≡ c = ap (λ (n : ℕ). getD (E .child) n 0) (eqb-true i j q) ∙ sym ce in subst (λ (n : ℕ). flag (set r c 1) n ≡ true) (sym z) (flag-same r c (omega (arith, g .size))))
+            (λ q. let z : getD (E .child) i 0 ≡ c = ap (λ (n : ℕ). getD (E .child) n 0) (eqb-true i j q)
+            ∙ sym ce in subst (λ (n : ℕ). flag (set r c 1) n ≡ true) (sym z) (flag-same r c (omega (arith, g .size))))
             (λ q. flag-grows r c (getD (E .child) i 0) (omega (arith, g .size)) (g .marked i (omega (arith, eqb-false i j q)) h))
             (decided (eqb i j));
       })
@@ -47,7 +48,11 @@ module _ (E : Edges) {j : ℕ} {r : List ℕ} (g : Children E j r) where
   -- one of another kind
   pub children-skip : {r′ : List ℕ} → (getD (E .kind) j 0 ≡ 1 → ⊥) → r′ ≡ r → Children E (j + 1) r′
   children-skip o e = subst (Children E (j + 1)) (sym e)
-      (record { size = g .size; marked = λ i k h. ⊎-elim (λ q. absurd (o (ap (λ (n : ℕ). getD (E .kind) n 0) (sym (eqb-true i j q)) ∙ h))) (λ q. g .marked i (omega (arith, eqb-false i j q)) h) (decided (eqb i j)) })
+      (record {
+        size = g .size;
+        marked = λ i k h. ⊎-elim (λ q. absurd (o (ap (λ (n : ℕ). getD (E .kind) n 0) (sym (eqb-true i j q)) ∙ h)))
+            (λ q. g .marked i (omega (arith, eqb-false i j q)) h) (decided (eqb i j));
+      })
 
   pub children-all : (m : ℕ) → j ≤ m → m ≤ j → Children E m r
   children-all m a b = let z : j ≡ m = omega arith in subst (λ (k : ℕ). Children E k r) z g
@@ -62,7 +67,8 @@ module _ (C : List Credential) (x : ℕ → Expression) (c : ℕ) (d : Edge) whe
   pub from-other : {k : ℕ} → k ≡ d .child → (not (eqb (d .kind) 1) || not (eqb k c)) ≡ true → true ≡ impliedFrom C x c d
   from-other {k} e h = by-from true _ (sym h ∙ ap (λ (n : ℕ). not (eqb (d .kind) 1) || not (eqb n c)) e) refl
 
-  pub from-here : {k p : ℕ} {e f : Expression} {b : Bool} → k ≡ d .child → (not (eqb (d .kind) 1) || not (eqb k c)) ≡ false → p ≡ d .parent → f ≡ x p → e ≡ x c → b ≡ fromOf C f e → b ≡ impliedFrom C x c d
+  pub from-here : {k p : ℕ} {e f : Expression} {b : Bool} → k ≡ d .child → (not (eqb (d .kind) 1) || not (eqb k c)) ≡ false → p ≡ d .parent → f ≡ x p
+      → e ≡ x c → b ≡ fromOf C f e → b ≡ impliedFrom C x c d
   from-here {k} {p} {e} {f} {b} ke h pe fe ee be =
       be ∙ (λ i. fromOf C ((fe ∙ ap x pe) i) (ee i)) ∙ by-from false _ (sym h ∙ ap (λ (n : ℕ). not (eqb (d .kind) 1) || not (eqb n c)) ke) refl
 
@@ -83,11 +89,13 @@ module _ (C : List Credential) (x : ℕ → Expression) (E : Edges) (c : ℕ) wh
 
     pub from-stop : {b : Bool} → j < E .count → b ≡ impliedFrom C x c (edgeAt E j) → not b ≡ true → false ≡ allFrom C x (edgesOf E) c
     unfolding allFrom edgesOf
-    from-stop {b} l e h = turn-stop (λ b d. impliedFrom C x c d) (edgeAt E) {j = j} (E .count) l e (not-true b h) ∙ turn-all (impliedFrom C x c) [] (upTo (E .count) (edgeAt E))
+    from-stop {b} l e h =
+        turn-stop (λ b d. impliedFrom C x c d) (edgeAt E) {j = j} (E .count) l e (not-true b h) ∙ turn-all (impliedFrom C x c) [] (upTo (E .count) (edgeAt E))
 
     pub from-done : E .count ≤ j → true ≡ allFrom C x (edgesOf E) c
     unfolding allFrom edgesOf
-    from-done l = turn-done (λ b d. impliedFrom C x c d) (edgeAt E) (E .count) (g .few) l (g .pass) ∙ turn-all (impliedFrom C x c) [] (upTo (E .count) (edgeAt E))
+    from-done l =
+        turn-done (λ b d. impliedFrom C x c d) (edgeAt E) (E .count) (g .few) l (g .pass) ∙ turn-all (impliedFrom C x c) [] (upTo (E .count) (edgeAt E))
 
 -- All edges
 
@@ -95,7 +103,9 @@ module _ (C : List Credential) (x : ℕ → Expression) (E : Edges) (c : ℕ) wh
 module _ (f : Edge → Bool) (E : Edges) where
   pub each-edge : all f (edgesOf E) ≡ true → (j : ℕ) → j < E .count → f (edgeAt E j) ≡ true
   unfolding edgesOf
-  each-edge h j l = ⊎-elim (λ t. t) (λ t. absurd (false-true (turn-stop (λ b d. f d) (edgeAt E) {j = j} (E .count) l refl t ∙ turn-all f [] (upTo (E .count) (edgeAt E)) ∙ h))) (decided (f (edgeAt E j)))
+  each-edge h j l =
+      ⊎-elim (λ t. t) (λ t. absurd (false-true (turn-stop (λ b d. f d) (edgeAt E) {j = j} (E .count) l refl t
+      ∙ turn-all f [] (upTo (E .count) (edgeAt E)) ∙ h))) (decided (f (edgeAt E j)))
 
   pub all-edges : ((j : ℕ) → j < E .count → f (edgeAt E j) ≡ true) → all f (edgesOf E) ≡ true
   unfolding edgesOf
@@ -103,14 +113,17 @@ module _ (f : Edge → Bool) (E : Edges) where
     where
       go : (n : ℕ) → n ≤ E .count → inTurn (λ b d. f d) [] (upTo n (edgeAt E)) ≡ true
       go zero l = turn-start (λ b d. f d) (edgeAt E)
-      go (suc n) l = ap (λ (k : ℕ). inTurn (λ b d. f d) [] (upTo k (edgeAt E))) (sym (add-one n)) ∙ turn-next (λ b d. f d) (edgeAt E) {j = n} (go n (omega arith)) refl (h n (omega arith))
+      go (suc n) l =
+          ap (λ (k : ℕ). inTurn (λ b d. f d) [] (upTo k (edgeAt E))) (sym (add-one n))
+          ∙ turn-next (λ b d. f d) (edgeAt E) {j = n} (go n (omega arith)) refl (h n (omega arith))
 
 module _ (C : List Credential) (x : ℕ → Expression) where
   -- of an edge from c both tests say the same
   from-by : (d : Edge) → impliedFrom C x (d .child) d ≡ true → impliedBy C x d ≡ true
   unfolding impliedFrom impliedBy
   from-by d h = ⊎-elim
-      (λ a. ⊎-elim (λ k. or-left (not (eqb (d .kind) 1)) _ k) (λ k. absurd (false-true (ap not (sym (eq-eqb (d .child) (d .child) refl)) ∙ k))) (or-cases (not (eqb (d .kind) 1)) (not (eqb (d .child) (d .child))) a))
+      (λ a. ⊎-elim (λ k. or-left (not (eqb (d .kind) 1)) _ k) (λ k. absurd (false-true (ap not (sym (eq-eqb (d .child) (d .child) refl)) ∙ k)))
+      (or-cases (not (eqb (d .kind) 1)) (not (eqb (d .child) (d .child))) a))
       (λ b. or-right (not (eqb (d .kind) 1)) _ b)
       (or-cases (not (eqb (d .kind) 1) || not (eqb (d .child) (d .child))) _ h)
 
@@ -130,7 +143,9 @@ module _ (C : List Credential) (x : ℕ → Expression) where
     unfolding allFrom impliedFrom
     from-none {m} {r} c l g o = sym (all-edges (impliedFrom C x c) E (λ j k. or-left (not (eqb (getD (E .kind) j 0) 1) || not (eqb (getD (E .child) j 0) c)) _
         (⊎-elim
-        (λ a. or-right (not (eqb (getD (E .kind) j 0) 1)) (not (eqb (getD (E .child) j 0) c)) (ap not (ne-eqb (getD (E .child) j 0) c (λ z. o (eqb-true (getD r c 0) 1 (subst (λ (n : ℕ). flag r n ≡ true) z (g .marked j (omega arith) (eqb-true (getD (E .kind) j 0) 1 a))))))))
+        (λ a. or-right (not (eqb (getD (E .kind) j 0) 1)) (not (eqb (getD (E .child) j 0) c))
+        (ap not (ne-eqb (getD (E .child) j 0) c
+        (λ z. o (eqb-true (getD r c 0) 1 (subst (λ (n : ℕ). flag r n ≡ true) z (g .marked j (omega arith) (eqb-true (getD (E .kind) j 0) 1 a))))))))
         (λ a. or-left (not (eqb (getD (E .kind) j 0) 1)) (not (eqb (getD (E .child) j 0) c)) (ap not a))
         (decided (eqb (getD (E .kind) j 0) 1)))))
 
@@ -145,15 +160,24 @@ module _ (C : List Credential) (x : ℕ → Expression) where
     module _ {n c : ℕ} (g : Below n c) where
       pub below-next : {b : Bool} → c < n → b ≡ allFrom C x (edgesOf E) c → not b ≡ false → Below n (c + 1)
       below-next {b} l e h =
-          record { few = omega arith; pass = λ k m. ⊎-elim (λ q. subst (λ (i : ℕ). allFrom C x (edgesOf E) i ≡ true) (sym (eqb-true k c q)) (sym e ∙ not-false b h)) (λ q. g .pass k (omega (arith, eqb-false k c q))) (decided (eqb k c)) }
+          record {
+            few = omega arith;
+            pass = λ k m. ⊎-elim
+                (λ q. subst (λ (i : ℕ). allFrom C x (edgesOf E) i ≡ true) (sym (eqb-true k c q)) (sym e ∙ not-false b h))
+                (λ q. g .pass k (omega (arith, eqb-false k c q))) (decided (eqb k c));
+          }
 
       pub below-stop : {b : Bool} → b ≡ allFrom C x (edgesOf E) c → not b ≡ true → false ≡ allImplied C x (edgesOf E)
       unfolding allFrom allImplied
-      below-stop {b} e h = sym (not-of (all (impliedBy C x) (edgesOf E)) (λ t. false-true (sym (not-true b h) ∙ e ∙ all-edges (impliedFrom C x c) E (λ j l. by-from-any c (edgeAt E j) (each-edge (impliedBy C x) E t j l)))))
+      below-stop {b} e h =
+          sym (not-of (all (impliedBy C x) (edgesOf E))
+          (λ t. false-true (sym (not-true b h) ∙ e ∙ all-edges (impliedFrom C x c) E (λ j l. by-from-any c (edgeAt E j) (each-edge (impliedBy C x) E t j l)))))
 
       pub below-done : Inside n E → n ≤ c → true ≡ allImplied C x (edgesOf E)
       unfolding allFrom allImplied
-      below-done i l = sym (all-edges (impliedBy C x) E (λ j k. from-by (edgeAt E j) (each-edge (impliedFrom C x (getD (E .child) j 0)) E (g .pass (getD (E .child) j 0) (omega (arith, i .child j k))) j k)))
+      below-done i l =
+          sym (all-edges (impliedBy C x) E (λ j k. from-by (edgeAt E j)
+          (each-edge (impliedFrom C x (getD (E .child) j 0)) E (g .pass (getD (E .child) j 0) (omega (arith, i .child j k))) j k)))
 
 -- with the expressions of the nodes
 module _ (C : List Credential) (N : Nodes) (E : Edges) (i : Inside (N .count) E) where
@@ -162,7 +186,9 @@ module _ (C : List Credential) (N : Nodes) (E : Edges) (i : Inside (N .count) E)
 
   same-test : (j : ℕ) → j < E .count → impliedBy C expressionsOf (edgeAt E j) ≡ impliedIf C (nodesOf N) (edgeAt E j)
   unfolding impliedBy impliedIf implied
-  same-test j l = λ t. not (eqb (getD (E .kind) j 0) 1) || fromOf C (sym (node-in N (getD (E .parent) j 0) (i .parent j l)) t .expression) (sym (node-in N (getD (E .child) j 0) (i .child j l)) t .expression)
+  same-test j l =
+      λ t. not (eqb (getD (E .kind) j 0) 1) || fromOf C (sym (node-in N (getD (E .parent) j 0) (i .parent j l)) t .expression)
+      (sym (node-in N (getD (E .child) j 0) (i .child j l)) t .expression)
 
   pub implied-nodes : {b : Bool} {D : List Credential} → D ≡ C → b ≡ allImplied D expressionsOf (edgesOf E) → b ≡ all (impliedIf C (nodesOf N)) (edgesOf E)
   unfolding allImplied

@@ -25,7 +25,9 @@ module _ {A : Type 0} where
   pub turn-and : (t u : List A → A → Bool) (before xs : List A) → inTurn (λ b x. t b x && u b x) before xs ≡ (inTurn t before xs && inTurn u before xs)
   unfolding inTurn
   turn-and t u before [] = refl
-  turn-and t u before (x ∷ xs) = ap (λ (r : Bool). (t before x && u before x) && r) (turn-and t u (before ++ (x ∷ [])) xs) ∙ swap (t before x) (u before x) (inTurn t (before ++ (x ∷ [])) xs) (inTurn u (before ++ (x ∷ [])) xs)
+  turn-and t u before (x ∷ xs) =
+      ap (λ (r : Bool). (t before x && u before x) && r) (turn-and t u (before ++ (x ∷ [])) xs)
+      ∙ swap (t before x) (u before x) (inTurn t (before ++ (x ∷ [])) xs) (inTurn u (before ++ (x ∷ [])) xs)
 
   -- a test that looks at nothing before
   pub turn-all : (f : A → Bool) (before xs : List A) → inTurn (λ b x. f x) before xs ≡ all f xs
@@ -38,7 +40,8 @@ module _ {A : Type 0} where
   unfolding inTurn
   turn-snoc t before [] x = and-true (t before x) ∙ ap (λ (l : List A). t l x) (sym (append-nil before))
   turn-snoc t before (y ∷ ys) x =
-      ap (λ (r : Bool). t before y && r) (turn-snoc t (before ++ (y ∷ [])) ys x ∙ ap (λ (l : List A). inTurn t (before ++ (y ∷ [])) ys && t l x) (append-assoc before (y ∷ []) ys))
+      ap (λ (r : Bool). t before y && r) (turn-snoc t (before ++ (y ∷ [])) ys x
+      ∙ ap (λ (l : List A). inTurn t (before ++ (y ∷ [])) ys && t l x) (append-assoc before (y ∷ []) ys))
       ∙ sym (and-assoc (t before y) (inTurn t (before ++ (y ∷ [])) ys) (t (before ++ (y ∷ ys)) x))
 
   module _ (t : List A → A → Bool) (f : ℕ → A) where
@@ -60,7 +63,9 @@ module _ {A : Type 0} where
     turn-stop {j} (suc m) l e p = step (eqb j m) refl (λ k. turn-stop m k e p)
       where
         step : (d : Bool) → eqb j m ≡ d → (j < m → false ≡ inTurn t [] (upTo m f)) → false ≡ inTurn t [] (upTo (suc m) f)
-        step true q h = sym (turn-snoc t [] (upTo m f) (f m) ∙ ap (λ (r : Bool). inTurn t [] (upTo m f) && r) (ap (λ (i : ℕ). t (upTo i f) (f i)) (sym (eqb-true j m q)) ∙ sym e ∙ p) ∙ and-false (inTurn t [] (upTo m f)))
+        step true q h =
+            sym (turn-snoc t [] (upTo m f) (f m) ∙ ap (λ (r : Bool). inTurn t [] (upTo m f) && r)
+            (ap (λ (i : ℕ). t (upTo i f) (f i)) (sym (eqb-true j m q)) ∙ sym e ∙ p) ∙ and-false (inTurn t [] (upTo m f)))
         step false q h = sym (turn-snoc t [] (upTo m f) (f m) ∙ ap (λ (r : Bool). r && t (upTo m f) (f m)) (sym (h (omega (arith, eqb-false j m q)))))
 
     -- all are judged
@@ -74,4 +79,5 @@ module _ {A : Type 0} where
     -- a list that passes, cut off
     pub turn-front : (n : ℕ) → inTurn t [] (upTo n f) ≡ true → (j : ℕ) → j ≤ n → inTurn t [] (upTo j f) ≡ true
     turn-front n h zero l = turn-start
-    turn-front n h (suc j) l = ap (λ (k : ℕ). inTurn t [] (upTo k f)) (sym (add-one j)) ∙ turn-next {j = j} (turn-front n h j (omega arith)) refl (turn-each n h j (omega arith))
+    turn-front n h (suc j) l =
+        ap (λ (k : ℕ). inTurn t [] (upTo k f)) (sym (add-one j)) ∙ turn-next {j = j} (turn-front n h j (omega arith)) refl (turn-each n h j (omega arith))

@@ -62,7 +62,8 @@ module _ (N : Nodes) (es : List Edge) (x : Expression) (b p : ℕ) (d : Edge) wh
   past : {c : ℕ} → c ≡ d .child → N .count ≤ c → ltb (d .child) (length (nodesOf N)) ≡ false
   past e l = le-ltb (d .child) (length (nodesOf N)) (omega (arith, nodes-length N))
 
-  by-solves : (u v w z : Bool) → u ≡ (eqb (d .kind) 3 && eqb (d .parent) p) → v ≡ ltb (d .child) (length (nodesOf N)) → w ≡ isSolutionFor x b (nodeIn (nodesOf N) (d .child) .expression) → z ≡ at (satisfiedB (nodesOf N) es) (d .child)
+  by-solves : (u v w z : Bool) → u ≡ (eqb (d .kind) 3 && eqb (d .parent) p) → v ≡ ltb (d .child) (length (nodesOf N))
+      → w ≡ isSolutionFor x b (nodeIn (nodesOf N) (d .child) .expression) → z ≡ at (satisfiedB (nodesOf N) es) (d .child)
       → (u && v && w && z) ≡ solves (nodesOf N) es x b p d
   unfolding solves
   by-solves u v w z e f g h = λ i. e i && f i && g i && h i
@@ -88,14 +89,16 @@ module _ (N : Nodes) (es : List Edge) (x : Expression) (b p : ℕ) (d : Edge) wh
       last (u && v && w) ∙ by-solves u v w false refl refl refl (sym (ne-eqb (getD sat c 0) 1 h) ∙ s .says c ∙ ap (at (satisfiedB (nodesOf N) es)) e)
 
   -- a satisfied child, by its expression
-  pub solves-is : {c : ℕ} {sat : List ℕ} {r : Bool} → (not (eqb (d .kind) 3) || not (eqb (d .parent) p)) ≡ false → c ≡ d .child → c < N .count → Says (nodesOf N) es sat → getD sat c 0 ≡ 1
+  pub solves-is : {c : ℕ} {sat : List ℕ} {r : Bool} → (not (eqb (d .kind) 3) || not (eqb (d .parent) p)) ≡ false → c ≡ d .child → c < N .count
+      → Says (nodesOf N) es sat → getD sat c 0 ≡ 1
       → r ≡ isSolutionFor x b (nodeAt N c .expression) → r ≡ solves (nodesOf N) es x b p d
   solves-is {c} {sat} {r} h e l s o q =
       sym (and-true r) ∙ by-solves true true r true (sym (same-both (eqb (d .kind) 3) (eqb (d .parent) p) h)) (sym (inside e l))
       (q ∙ ap (λ (n : Node). isSolutionFor x b (n .expression)) (sym (node-in N c l) ∙ ap (nodeIn (nodesOf N)) e))
       (sym (eq-eqb (getD sat c 0) 1 o) ∙ s .says c ∙ ap (at (satisfiedB (nodesOf N) es)) e)
 
-  by-monitors : (u v w : Bool) → u ≡ (eqb (d .kind) 2 && eqb (d .parent) p) → v ≡ ltb (d .child) (length (nodesOf N)) → w ≡ solved (nodesOf N) es x b (d .child) → (u && v && w) ≡ monitors (nodesOf N) es x b p d
+  by-monitors : (u v w : Bool) → u ≡ (eqb (d .kind) 2 && eqb (d .parent) p) → v ≡ ltb (d .child) (length (nodesOf N))
+      → w ≡ solved (nodesOf N) es x b (d .child) → (u && v && w) ≡ monitors (nodesOf N) es x b p d
   unfolding monitors
   by-monitors u v w e f g = λ i. e i && f i && g i
 
@@ -108,7 +111,8 @@ module _ (N : Nodes) (es : List Edge) (x : Expression) (b p : ℕ) (d : Edge) wh
       let w : Bool = solved (nodesOf N) es x b (d .child) in
       second-of u w ∙ by-monitors u false w refl (sym (past e l)) refl
 
-  pub monitors-is : {c : ℕ} {r : Bool} → (not (eqb (d .kind) 2) || not (eqb (d .parent) p)) ≡ false → c ≡ d .child → c < N .count → r ≡ solved (nodesOf N) es x b (d .child) → r ≡ monitors (nodesOf N) es x b p d
+  pub monitors-is : {c : ℕ} {r : Bool} → (not (eqb (d .kind) 2) || not (eqb (d .parent) p)) ≡ false → c ≡ d .child → c < N .count
+      → r ≡ solved (nodesOf N) es x b (d .child) → r ≡ monitors (nodesOf N) es x b p d
   monitors-is {c} {r} h e l q = by-monitors true true r (sym (same-both (eqb (d .kind) 2) (eqb (d .parent) p) h)) (sym (inside e l)) q
 
 -- The searches
@@ -124,7 +128,8 @@ module _ (ns : List Node) (E : Edges) (x : Expression) (b p : ℕ) {j : ℕ} whe
     solved-none l = any-none (E .count) h l
 
   module _ (h : Missed (monitors ns (edgesOf E) x b p) (edgeAt E) j) where
-    pub linked-at : {r : Bool} → j < E .count → r ≡ monitors ns (edgesOf E) x b p (edgeAt E j) → r ≡ true → true ≡ any (monitors ns (edgesOf E) x b p) (edgesOf E)
+    pub linked-at : {r : Bool} → j < E .count → r ≡ monitors ns (edgesOf E) x b p (edgeAt E j) → r ≡ true
+        → true ≡ any (monitors ns (edgesOf E) x b p) (edgesOf E)
     unfolding edgesOf
     linked-at l e t = any-at (E .count) h l e t
 
@@ -133,7 +138,9 @@ module _ (ns : List Node) (E : Edges) (x : Expression) (b p : ℕ) {j : ℕ} whe
     linked-none l = any-none (E .count) h l
 
 -- P is the node i, the parent of e, and C the node k, its child
-pub monitored-by : (ns : List Node) (es : List Edge) (e : Edge) {P C : Node} {i k : ℕ} {r : Bool} → i ≡ e .parent → P ≡ nodeIn ns i → k ≡ e .child → C ≡ nodeIn ns k
+pub monitored-by : (ns : List Node) (es : List Edge) (e : Edge) {P C : Node} {i k : ℕ} {r : Bool} → i ≡ e .parent → P ≡ nodeIn ns i → k ≡ e .child
+    → C ≡ nodeIn ns k
     → r ≡ any (monitors ns es (P .expression) (C .subject) (e .parent)) es → r ≡ monitored ns es e
 unfolding monitored
-monitored-by ns es e ie pe ke ce h = h ∙ (λ t. any (monitors ns es ((pe ∙ ap (nodeIn ns) ie) t .expression) ((ce ∙ ap (nodeIn ns) ke) t .subject) (e .parent)) es)
+monitored-by ns es e ie pe ke ce h =
+    h ∙ (λ t. any (monitors ns es ((pe ∙ ap (nodeIn ns) ie) t .expression) ((ce ∙ ap (nodeIn ns) ke) t .subject) (e .parent)) es)

@@ -12,7 +12,9 @@ open-number-requires : tie.Need-open-number-requires
 open-number-requires c κs = ((c .before .before .before .pre .0), (c .before .before .before .pre .1))
 
 bring-number-requires : tie.Need-bring-number-requires
-bring-number-requires c κs = ((c .before .before .before .pre .0), (c .before .before .before .pre .1), within-few _ (c .before .before .before .pre .2) .0, within-few _ (c .before .before .before .pre .2) .1)
+bring-number-requires c κs =
+    let c3 = c .before .before .before in
+    ((c3 .pre .0), (c3 .pre .1), within-few _ (c3 .pre .2) .0, within-few _ (c3 .pre .2) .1)
 
 join-number-requires : tie.Need-join-number-requires
 join-number-requires c κs = (within-few _ (c .before .before .before .pre .2) .0, within-few _ (c .before .before .before .pre .2) .1)

@@ -24,9 +24,11 @@ use Rattle.damage.specs.Damage.{recordsSound, edgesJustified, sound}
 use Rattle.damage.specs.laws.Damage.{whole-graph, graph-end}
 use Rattle.applied.specs.After.{endOf, isStalled, idleOf, headerAfter, afterMessage}
 use Rattle.legal.specs.laws.Kept.{GraphKept}
+use Rattle.numbers.specs.Sizes.{MOST-MESSAGES}
 
 -- the end that is judged is not contradicted: without a move the primary is neither satisfied nor failed, for the negotiation had not ended
-pub end-judged : (p idle : ℕ) (moved full : Bool) → (moved ≡ false → (p ≡ 1 → ⊥) × (p ≡ 2 → ⊥)) → endSound p (endOf p (isStalled moved idle) full) (idleOf moved) ≡ true
+pub end-judged : (p idle : ℕ) (moved full : Bool) → (moved ≡ false → (p ≡ 1 → ⊥) × (p ≡ 2 → ⊥))
+    → endSound p (endOf p (isStalled moved idle) full) (idleOf moved) ≡ true
 unfolding endSound endOf isStalled idleOf
 end-judged p idle moved full h = go (eqb p 1) refl (eqb p 2) refl moved h (eqb idle 1) full
   where
@@ -65,16 +67,22 @@ module _ (T : Tables) (U : State) (moved full : Bool) where
   unfolding edgesJustified afterMessage withHeader
   same-justified = refl
 
-  counted : U .header .messages < 1027 → countSound (afterMessage U moved full .header .messages) ≡ true
+  counted : U .header .messages < MOST-MESSAGES → countSound (afterMessage U moved full .header .messages) ≡ true
   unfolding countSound afterMessage withHeader headerAfter
-  counted l = and-both (ltb 0 (U .header .messages + 1)) (leb (U .header .messages + 1) 1027) (lt-ltb 0 (U .header .messages + 1) (omega arith)) (le-leb (U .header .messages + 1) 1027 (omega arith))
+  counted l =
+      and-both (ltb 0 (U .header .messages + 1)) (leb (U .header .messages + 1) 1027) (lt-ltb 0 (U .header .messages + 1) (omega arith))
+      (le-leb (U .header .messages + 1) 1027 (omega arith))
 
-  pub after-sound : headerSound (T .own) (T .names) (U .header) ≡ true → GraphKept (T .names) U → (length (U .nodes) ≡ 0 → ⊥) → U .header .messages < 1027
-      → (moved ≡ false → (propagated (U .nodes) (U .edges) 0 ≡ 1 → ⊥) × (propagated (U .nodes) (U .edges) 0 ≡ 2 → ⊥)) → sound T (afterMessage U moved full) ≡ true
+  pub after-sound : headerSound (T .own) (T .names) (U .header) ≡ true → GraphKept (T .names) U → (length (U .nodes) ≡ 0 → ⊥)
+      → U .header .messages < MOST-MESSAGES
+      → (moved ≡ false → (propagated (U .nodes) (U .edges) 0 ≡ 1 → ⊥) × (propagated (U .nodes) (U .edges) 0 ≡ 2 → ⊥))
+      → sound T (afterMessage U moved full) ≡ true
   unfolding afterMessage withHeader headerAfter
   after-sound h g some few still =
       let p : ℕ = propagated (U .nodes) (U .edges) 0 in
       sym
       (whole-graph T (afterMessage U moved full) {a = true} (sym (sym (same-header p moved full (U .header) (T .own) (T .names)) ∙ h)) refl refl some
-      (graph-end (T .names) (afterMessage U moved full) {a = true} (sym (counted few)) refl {b = true} (sym (sym same-records ∙ g .records)) refl {c = true} (sym (sym (same-brought p moved full (U .header) (U .nodes) (U .edges)) ∙ g .edges)) refl {d = true} (sym (sym same-justified ∙ g .justified)) refl refl
+      (graph-end (T .names) (afterMessage U moved full) {a = true} (sym (counted few)) refl {b = true} (sym (sym same-records ∙ g .records)) refl
+      {c = true} (sym (sym (same-brought p moved full (U .header) (U .nodes) (U .edges)) ∙ g .edges)) refl {d = true}
+      (sym (sym same-justified ∙ g .justified)) refl refl
       (sym (end-judged p (U .header .idle) moved full still))))

@@ -31,6 +31,7 @@ use Rattle.negotiation.specs.Ends.{entityOf}
 use Rattle.damage.specs.laws.Records.{found-none}
 use Rattle.applied.specs.Step.{childOf}
 use Rattle.legal.specs.Number.{formedAs, joinWrong, bringWrong, justifiedBy, justifiedFor}
+use Rattle.numbers.specs.Sizes.{MOST-NODES}
 
 -- the satisfied nodes, by the columns of propagation
 pub says-is : (N : Nodes) (E : Edges) (F S : List ℕ) → NodesFormed (nodesOf N) → Joined (nodesOf N) (edgesOf E) F S → (M sat : List ℕ) → Needs (nodesOf N) M
@@ -40,7 +41,8 @@ says-is N E F S nf jn M sat nd h = record { says = satisfied-read N E F S nf jn 
 -- Justification
 
 -- of an edge between old nodes
-pub join-justified : (S : State) (e : Edge) {C : Node} → C ≡ nodeIn (S .nodes) (e .child) → justifiedFor S (e .kind) (e .parent) (C .expression) (C .subject) ≡ justified (S .shown) (S .nodes) (S .edges) e
+pub join-justified : (S : State) (e : Edge) {C : Node} → C ≡ nodeIn (S .nodes) (e .child)
+    → justifiedFor S (e .kind) (e .parent) (C .expression) (C .subject) ≡ justified (S .shown) (S .nodes) (S .edges) e
 unfolding justifiedFor justifiedBy justified impliedIf implied monitoredIf monitored
 join-justified S e h = λ i.
     (not (eqb (e .kind) 1) || fromOf (S .shown) (nodeIn (S .nodes) (e .parent) .expression) (h i .expression))
@@ -56,7 +58,8 @@ pub formed-is : (h : Header) (k : ℕ) (p c : Node) {v : ℕ} {r : Bool} → v �
 unfolding formedAs
 formed-is h k p c ve e = e ∙ ap (λ (w : ℕ). form k w p c) ve
 
-module _ (n : Negotiation) (e : Edge) (p c : Node) {f : Bool} (pe : p ≡ nodeIn (nodesOf (n .nodes)) (e .parent)) (ce : c ≡ nodeIn (nodesOf (n .nodes)) (e .child))
+module _ (n : Negotiation) (e : Edge) (p c : Node) {f : Bool} (pe : p ≡ nodeIn (nodesOf (n .nodes)) (e .parent))
+    (ce : c ≡ nodeIn (nodesOf (n .nodes)) (e .child))
     (fe : f ≡ formedAs (n .header) (e .kind) p c) where
   by-join : (a b h : Bool) → a ≡ f → b ≡ eqb (e .parent) (e .child) → h ≡ hasEdge (edgesOf (n .edges)) e → (not a || (b || h)) ≡ joinWrong (stateOf n) e
   unfolding joinWrong stateOf
@@ -85,7 +88,9 @@ module _ (n : Negotiation) (b : NewEdge) (p c : Node) {f : Bool} (pe : p ≡ nod
   pub bring-unformed : not f ≡ true → true ≡ bringWrong (stateOf n) b
   bring-unformed h = by-bring false _ (sym (not-true f h)) refl
 
-  pub bring-there : {r : ℕ} → n .nodes .count ≤ 128 → not f ≡ false → r ≡ findNode (nodesOf (n .nodes)) (b .expression) (c .verifier) (b .subject) → not (eqb r 128) ≡ bringWrong (stateOf n) b
+  pub bring-there : {r : ℕ} → n .nodes .count ≤ MOST-NODES → not f ≡ false
+      → r ≡ findNode (nodesOf (n .nodes)) (b .expression) (c .verifier) (b .subject) → not (eqb r 128) ≡ bringWrong (stateOf n) b
   bring-there {r} few h q =
       by-bring true (not (eqb r 128)) (sym (not-false f h))
-      (ap (λ (k : ℕ). not (eqb k 128)) q ∙ ap not (found-none (n .nodes) (b .expression) (c .verifier) (b .subject) few) ∙ not-not (any (isNode (b .expression) (c .verifier) (b .subject)) (nodesOf (n .nodes))))
+      (ap (λ (k : ℕ). not (eqb k 128)) q ∙ ap not (found-none (n .nodes) (b .expression) (c .verifier) (b .subject) few)
+      ∙ not-not (any (isNode (b .expression) (c .verifier) (b .subject)) (nodesOf (n .nodes))))

@@ -45,7 +45,8 @@ use Rattle.damage.specs.Records.{isTyped}
 use Rattle.rt0.specs.Shown.{isShown}
 use Rattle.graph.specs.Processed.{processedBy}
 use Rattle.applied.specs.Step.{parentIn, childIn}
-use Rattle.legal.specs.Number.{refuse, first, isFresh, isAbsent, formedAs, showNumber, openNumber, markNumber, endNumber, joinWrong, justifiedBy, justifiedFor, joinNumber, typeNumber, bringWrong, bringNumber, justifiedIn, legalBy, legalNumber}
+use Rattle.legal.specs.Number.{refuse, first, isFresh, isAbsent, formedAs, showNumber, openNumber, markNumber, endNumber, joinWrong, justifiedBy}
+use Rattle.legal.specs.Number.{justifiedFor, joinNumber, typeNumber, bringWrong, bringNumber, justifiedIn, legalBy, legalNumber}
 use Rattle.legal.specs.laws.Number.{passes, first-passes, refuse-none, first-none}
 use Rattle.legal.specs.laws.Edge.{join-justified}
 use Rattle.legal.specs.Legal.{Monitored, Justifies, Legal}
@@ -142,7 +143,8 @@ module _ (xs : List Node) (y : Expression) (v b : ℕ) where
   no-node-of : any (isNode y v b) xs ≡ false → NoNode
   no-node-of h x m e f g =
       any-not (isNode y v b) xs h m
-      (and-both (eqb (x .verifier) v && eqb (x .subject) b) (same (x .expression) y) (and-both (eqb (x .verifier) v) (eqb (x .subject) b) (eq-eqb (x .verifier) v f) (eq-eqb (x .subject) b g)) (eq-same (x .expression) y e))
+      (and-both (eqb (x .verifier) v && eqb (x .subject) b) (same (x .expression) y)
+      (and-both (eqb (x .verifier) v) (eqb (x .subject) b) (eq-eqb (x .verifier) v f) (eq-eqb (x .subject) b g)) (eq-same (x .expression) y e))
 
   of-no-node : NoNode → any (isNode y v b) xs ≡ false
   of-no-node h =
@@ -190,7 +192,8 @@ module _ (xs : List Node) (es : List Edge) (t : ℕ → Bool) (i : ℕ) where
       }
 
   of-child : (c : ℕ) (k : Child xs es t i c) → isChild xs es t i (record { kind = k .kind; parent = i; child = c }) ≡ true
-  of-child c k = and-both (t (k .kind) && eqb i i) (ltb c (length xs)) (and-both (t (k .kind)) (eqb i i) (k .passes) (eq-eqb i i refl)) (lt-ltb c (length xs) (k .inside))
+  of-child c k =
+      and-both (t (k .kind) && eqb i i) (ltb c (length xs)) (and-both (t (k .kind)) (eqb i i) (k .passes) (eq-eqb i i refl)) (lt-ltb c (length xs) (k .inside))
 
 module _ (S : State) (x : Expression) (b p : ℕ) where
   monitored-of : any (monitors (S .nodes) (S .edges) x b p) (S .edges) ≡ true → Monitored S x b p
@@ -202,7 +205,8 @@ module _ (S : State) (x : Expression) (b p : ℕ) where
       let n = any-find (solves (S .nodes) (S .edges) x b (d .child)) (S .edges) (u .1) in
       let f : Edge = n .0 in
       let y : Expression = nodeIn (S .nodes) (f .child) .expression in
-      let v = and-parts (isChild (S .nodes) (S .edges) solutionKind (d .child) f && isSolutionFor x b y) (at (satisfiedB (S .nodes) (S .edges)) (f .child)) (n .2) in
+      let v = and-parts (isChild (S .nodes) (S .edges) solutionKind (d .child) f && isSolutionFor x b y)
+      (at (satisfiedB (S .nodes) (S .edges)) (f .child)) (n .2) in
       let w = and-parts (isChild (S .nodes) (S .edges) solutionKind (d .child) f) (isSolutionFor x b y) (v .0) in
       let z = solution-of x b y (w .1) in
       record {
@@ -224,10 +228,12 @@ module _ (S : State) (x : Expression) (b p : ℕ) where
       let f : Edge = record { kind = m .solving .kind; parent = m .goal; child = m .solution } in
       let y : Expression = nodeIn (S .nodes) (m .solution) .expression in
       any-here (monitors (S .nodes) (S .edges) x b p) (m .monitor .edge)
-      (and-both (isChild (S .nodes) (S .edges) monitorKind p d) (solved (S .nodes) (S .edges) x b (m .goal)) (of-child (S .nodes) (S .edges) monitorKind p (m .goal) (m .monitor))
+      (and-both (isChild (S .nodes) (S .edges) monitorKind p d) (solved (S .nodes) (S .edges) x b (m .goal))
+      (of-child (S .nodes) (S .edges) monitorKind p (m .goal) (m .monitor))
       (any-here (solves (S .nodes) (S .edges) x b (m .goal)) (m .solving .edge)
       (and-both (isChild (S .nodes) (S .edges) solutionKind (m .goal) f && isSolutionFor x b y) (at (satisfiedB (S .nodes) (S .edges)) (m .solution))
-      (and-both (isChild (S .nodes) (S .edges) solutionKind (m .goal) f) (isSolutionFor x b y) (of-child (S .nodes) (S .edges) solutionKind (m .goal) (m .solution) (m .solving)) (of-solution x b y (m .first) (m .second) (m .linked) (m .role)))
+      (and-both (isChild (S .nodes) (S .edges) solutionKind (m .goal) f) (isSolutionFor x b y)
+      (of-child (S .nodes) (S .edges) solutionKind (m .goal) (m .solution) (m .solving)) (of-solution x b y (m .first) (m .second) (m .linked) (m .role)))
       (satisfied-exact (S .nodes) (S .edges) (m .solution) .1 (m .satisfied)))))
 
 module _ (S : State) (k p : ℕ) (y : Expression) (b : ℕ) where
@@ -240,7 +246,8 @@ module _ (S : State) (k p : ℕ) (y : Expression) (b : ℕ) where
       let m : Bool = any (monitors (S .nodes) (S .edges) x b p) (S .edges) in (
         λ h. let q = and-parts (not (eqb k 1) || i) (not (eqb k 4) || m) h in
             record { implied = λ e. from-exact (S .shown) x y .0 (if-kind k 1 i (q .0) e); monitored = λ e. monitored-of S x b p (if-kind k 4 m (q .1) e) },
-        λ j. and-both (not (eqb k 1) || i) (not (eqb k 4) || m) (kind-if k 1 i (λ e. from-exact (S .shown) x y .1 (j .implied e))) (kind-if k 4 m (λ e. of-monitored S x b p (j .monitored e))),
+        λ j. and-both (not (eqb k 1) || i) (not (eqb k 4) || m) (kind-if k 1 i (λ e. from-exact (S .shown) x y .1 (j .implied e)))
+            (kind-if k 4 m (λ e. of-monitored S x b p (j .monitored e))),
       )
 
 -- The commands
@@ -272,7 +279,8 @@ module _ (ns : List Name) (s : ℕ) (S : State) where
         let a = refuse-none (eqb (classOf ns (o .role .name)) 0) 4 _ (omega arith) h in
         let b = refuse-none (not (isFresh S)) 23 _ (omega arith) (a .1) in
         record { classes = eqb-false (classOf ns (o .role .name)) 0 (a .0); fresh = none-of S (b .0) },
-    λ l. goes-on (eqb (classOf ns (o .role .name)) 0) 4 _ (ne-eqb (classOf ns (o .role .name)) 0 (l .classes)) (goes-on (not (isFresh S)) 23 0 (of-none S (l .fresh)) refl),
+    λ l. goes-on (eqb (classOf ns (o .role .name)) 0) 4 _ (ne-eqb (classOf ns (o .role .name)) 0 (l .classes))
+        (goes-on (not (isFresh S)) 23 0 (of-none S (l .fresh)) refl),
   )
 
   new-child-exactly : (n : NewEdge) → Exactly ns s S (Bring n)
@@ -307,10 +315,12 @@ module _ (ns : List Name) (s : ℕ) (S : State) where
             goes-first (typeNumber (typeOf ns (n .expression))) _ (of-typed (typeOf ns (n .expression)) (l .classes))
             (goes-on (isFresh S) 23 _ (of-some S (omega (arith, l .parent)))
             (goes-on (isAbsent S (n .parent)) 24 _ (of-stands S (n .parent) (l .parent))
-            (goes-on (not f || g) 25 _ (or-none (not f) g (ap not (l .form)) (of-no-node (S .nodes) (n .expression) (childIn S n .verifier) (n .subject) (l .absent)))
+            (goes-on (not f || g) 25 _ (or-none (not f) g (ap not (l .form))
+            (of-no-node (S .nodes) (n .expression) (childIn S n .verifier) (n .subject) (l .absent)))
             (goes-on (not j) 26 _ (ap not (exact .1 (l .justified)))
             (goes-on (processedBy s (parentIn S n)) 27 _ (l .unprocessed)
-            (goes-on (u || v) 28 0 (or-none u v (lt-leb MOST-NODES (length (S .nodes)) (l .node-room)) (lt-leb MOST-EDGES (length (S .edges)) (l .edge-room))) refl)))))),
+            (goes-on (u || v) 28 0 (or-none u v (lt-leb MOST-NODES (length (S .nodes)) (l .node-room))
+            (lt-leb MOST-EDGES (length (S .edges)) (l .edge-room))) refl)))))),
       )
 
   old-child-exactly : (e : Edge) → Exactly ns s S (Join e)
@@ -346,8 +356,10 @@ module _ (ns : List Name) (s : ℕ) (S : State) where
             },
         λ l.
             goes-on (isFresh S) 23 _ (of-some S (omega (arith, l .parent)))
-            (goes-on (isAbsent S (e .parent) || isAbsent S (e .child)) 24 _ (or-none (isAbsent S (e .parent)) (isAbsent S (e .child)) (of-stands S (e .parent) (l .parent)) (of-stands S (e .child) (l .child)))
-            (goes-on (not f || (o || g)) 25 _ (or-none (not f) (o || g) (ap not (l .form)) (or-none o g (ne-eqb (e .parent) (e .child) (l .other)) (of-not-joined (S .edges) e (l .absent))))
+            (goes-on (isAbsent S (e .parent) || isAbsent S (e .child)) 24 _
+            (or-none (isAbsent S (e .parent)) (isAbsent S (e .child)) (of-stands S (e .parent) (l .parent)) (of-stands S (e .child) (l .child)))
+            (goes-on (not f || (o || g)) 25 _ (or-none (not f) (o || g) (ap not (l .form))
+            (or-none o g (ne-eqb (e .parent) (e .child) (l .other)) (of-not-joined (S .edges) e (l .absent))))
             (goes-on (not j) 26 _ (ap not (sym same-test ∙ exact .1 (l .justified)))
             (goes-on (processedBy s p) 27 _ (l .unprocessed)
             (goes-on (leb MOST-EDGES (length (S .edges))) 28 0 (lt-leb MOST-EDGES (length (S .edges)) (l .room)) refl))))),
@@ -372,7 +384,8 @@ module _ (ns : List Name) (s : ℕ) (S : State) where
   end-exactly = (λ h. record { some = some-of S (refuse-none (isFresh S) 23 _ (omega arith) h .0) }, λ l. goes-on (isFresh S) 23 0 (of-some S (l .some)) refl)
 
 -- a command is legal exactly where it is not refused
-pub legal-exactly : (ns : List Name) (s : ℕ) (S : State) (c : Command) → (legalNumber ns s S c ≡ 0 → Legal ns s S c) × (Legal ns s S c → legalNumber ns s S c ≡ 0)
+pub legal-exactly : (ns : List Name) (s : ℕ) (S : State) (c : Command)
+    → (legalNumber ns s S c ≡ 0 → Legal ns s S c) × (Legal ns s S c → legalNumber ns s S c ≡ 0)
 legal-exactly ns s S (Show c) = credential-exactly ns s S c
 legal-exactly ns s S (Open o) = open-exactly ns s S o
 legal-exactly ns s S (Bring n) = new-child-exactly ns s S n

@@ -4,7 +4,8 @@ use native.Mathlib.Omega.{arith}
 use mathlib.Core.Path.{_≡_, refl, sym, _∙_, ap, subst}
 use mathlib.Core.Logic.{⊎-elim}
 use mathlib.Core.Bool.{Bool, true, false, not, cond, _&&_, _||_}
-use mathlib.Core.List.{List, [], _∷_, _++_, append-assoc, append-nil, List·Memᴰ, List·Memᴰ·head, List·Memᴰ·tail, List·Memᴰ·not-nil, List·Memᴰ·cases-cons, List·Memᴰ·append-cases, List·Memᴰ·eq-of-singleton}
+use mathlib.Core.List.{List, [], _∷_, _++_, append-assoc, append-nil, List·Memᴰ, List·Memᴰ·head, List·Memᴰ·tail, List·Memᴰ·not-nil, List·Memᴰ·cases-cons}
+use mathlib.Core.List.{List·Memᴰ·append-cases, List·Memᴰ·eq-of-singleton}
 use borrow.Author.Tests.{lt-ltb, le-leb, ltb-true, eqb-true}
 use lib.Dec.{eqb, ltb, leb}
 use lib.ListN.{length, getD}
@@ -43,7 +44,8 @@ module _ {A : Type 0} where
   each-more P xs x h p y m = ⊎-elim (h y) (λ k. subst P (sym (List·Memᴰ·eq-of-singleton k)) p) (List·Memᴰ·append-cases xs m)
 
   -- one element more at the end
-  pub turn-last : (t : List A → A → Bool) (before xs : List A) (x : A) → inTurn t before xs ≡ true → t (before ++ xs) x ≡ true → inTurn t before (xs ++ (x ∷ [])) ≡ true
+  pub turn-last : (t : List A → A → Bool) (before xs : List A) (x : A) → inTurn t before xs ≡ true → t (before ++ xs) x ≡ true
+      → inTurn t before (xs ++ (x ∷ [])) ≡ true
   unfolding inTurn
   turn-last t before [] x h k = and-both (t before x) true (ap (λ (l : List A). t l x) (sym (append-nil before)) ∙ k) refl
   turn-last t before (y ∷ ys) x h k =
@@ -63,7 +65,8 @@ module _ {A : Type 0} where
       (turn-more P t u f (before ++ (x ∷ [])) xs (each-more P before x b here) (λ y m. e y (List·Memᴰ·tail m)) (p .1))
 
   -- each element passes behind some others
-  pub turn-at : (t : List A → A → Bool) (d : A) (before xs : List A) → inTurn t before xs ≡ true → (i : ℕ) → i < length xs → (b : List A) × (t b (getD xs i d) ≡ true)
+  pub turn-at : (t : List A → A → Bool) (d : A) (before xs : List A) → inTurn t before xs ≡ true → (i : ℕ) → i < length xs
+      → (b : List A) × (t b (getD xs i d) ≡ true)
   unfolding inTurn
   turn-at t d before [] h i l = absurd (omega arith)
   turn-at t d before (x ∷ xs) h zero l = (before, and-parts (t before x) (inTurn t (before ++ (x ∷ [])) xs) h .0)
@@ -75,14 +78,16 @@ abbrev pub Ends : ℕ → Edge → Type 0
 Ends n e = (e .parent < n) × (e .child < n)
 
 module _ (h : Header) (ns : List Node) where
-  pub fits-parts : (before : List Edge) (e : Edge) → edgeFits h ns before e ≡ true → (placed (length ns) (brought before) e ≡ true) × (formed h ns e ≡ true) × (not (hasEdge before e) ≡ true)
+  pub fits-parts : (before : List Edge) (e : Edge) → edgeFits h ns before e ≡ true
+      → (placed (length ns) (brought before) e ≡ true) × (formed h ns e ≡ true) × (not (hasEdge before e) ≡ true)
   unfolding edgeFits
   fits-parts before e k =
       let p = and-parts (placed (length ns) (brought before) e && formed h ns e) (not (hasEdge before e)) k in
       let q = and-parts (placed (length ns) (brought before) e) (formed h ns e) (p .0) in
       (q .0, q .1, p .1)
 
-  pub fits-of : (before : List Edge) (e : Edge) → e .parent < brought before → e .child ≤ brought before → e .child < length ns → eqb (e .parent) (e .child) ≡ false → formed h ns e ≡ true → hasEdge before e ≡ false
+  pub fits-of : (before : List Edge) (e : Edge) → e .parent < brought before → e .child ≤ brought before → e .child < length ns
+      → eqb (e .parent) (e .child) ≡ false → formed h ns e ≡ true → hasEdge before e ≡ false
       → edgeFits h ns before e ≡ true
   unfolding edgeFits placed
   fits-of before e p c i d f x =
@@ -90,12 +95,15 @@ module _ (h : Header) (ns : List Node) where
       and-both (placed (length ns) b e && formed h ns e) (not (hasEdge before e))
       (and-both (placed (length ns) b e) (formed h ns e)
       (and-both (ltb (e .parent) b && leb (e .child) b && ltb (e .child) (length ns)) (not (eqb (e .parent) (e .child)))
-      (and-both (ltb (e .parent) b && leb (e .child) b) (ltb (e .child) (length ns)) (and-both (ltb (e .parent) b) (leb (e .child) b) (lt-ltb (e .parent) b p) (le-leb (e .child) b c)) (lt-ltb (e .child) (length ns) i)) (ap not d)) f) (ap not x)
+      (and-both (ltb (e .parent) b && leb (e .child) b) (ltb (e .child) (length ns))
+      (and-both (ltb (e .parent) b) (leb (e .child) b) (lt-ltb (e .parent) b p) (le-leb (e .child) b c)) (lt-ltb (e .child) (length ns) i))
+      (ap not d)) f) (ap not x)
 
   -- no more nodes are brought than stand
   brought-few : (before : List Edge) (e : Edge) → brought before ≤ length ns → e .child < length ns → brought (before ++ (e ∷ [])) ≤ length ns
   unfolding brought
-  brought-few before e few l = subst (λ (b : ℕ). b ≤ length ns) (sym (brought-more 1 before e)) (next (brought before) few (eqb (e .child) (brought before)) refl)
+  brought-few before e few l =
+      subst (λ (b : ℕ). b ≤ length ns) (sym (brought-more 1 before e)) (next (brought before) few (eqb (e .child) (brought before)) refl)
     where
       next : (b : ℕ) → b ≤ length ns → (t : Bool) → eqb (e .child) b ≡ t → cond t (suc b) b ≤ length ns
       next b few true q = let z : e .child ≡ b = eqb-true (e .child) b q in omega arith
@@ -107,7 +115,8 @@ module _ (h : Header) (ns : List Node) where
   edges-ends before (d ∷ es) few k e m =
       let p = and-parts (edgeFits h ns before d) (inTurn (edgeFits h ns) (before ++ (d ∷ [])) es) k in
       let i = placed-inside (length ns) (brought before) d few (fits-parts before d (p .0) .0) in
-      ⊎-elim (λ z. subst (Ends (length ns)) (sym z) i) (λ l. edges-ends (before ++ (d ∷ [])) es (brought-few before d few (i .1)) (p .1) e l) (List·Memᴰ·cases-cons m)
+      ⊎-elim (λ z. subst (Ends (length ns)) (sym z) i) (λ l. edges-ends (before ++ (d ∷ [])) es (brought-few before d few (i .1)) (p .1) e l)
+      (List·Memᴰ·cases-cons m)
 
 -- Growth
 
@@ -207,4 +216,5 @@ module _ {ns ns′ : List Node} (grow : (b : List Edge) → Each (Ends (length n
   all-fit h = turn-more (Ends (length ns)) (edgeFits h ns) (edgeFits h ns′) (λ b e u v k. fits-stays (grow b u) h b e v k) [] es none ends
 
   pub all-justified : (shown : List Credential) → inTurn (justified shown ns) [] es ≡ true → inTurn (justified shown ns′) [] es ≡ true
-  all-justified shown = turn-more (Ends (length ns)) (justified shown ns) (justified shown ns′) (λ b e u v k. justified-stays (grow b u) shown e v k) [] es none ends
+  all-justified shown =
+      turn-more (Ends (length ns)) (justified shown ns) (justified shown ns′) (λ b e u v k. justified-stays (grow b u) shown e v k) [] es none ends

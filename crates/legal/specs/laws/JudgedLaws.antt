@@ -37,7 +37,8 @@ pub node-none : (N : Nodes) (i : ℕ) → N .count ≤ i → blank ≡ nodeIn (n
 node-none N i l = sym (List·getD-eq-default (nodesOf N) blank (omega (arith, nodes-length N)))
 
 -- its expression, read from the node
-pub monitored-at : (ns : List Node) (es : List Edge) (p b : ℕ) {P : Node} {r : Bool} → P ≡ nodeIn ns p → r ≡ any (monitors ns es (P .expression) b p) es → r ≡ any (monitors ns es (nodeIn ns p .expression) b p) es
+pub monitored-at : (ns : List Node) (es : List Edge) (p b : ℕ) {P : Node} {r : Bool} → P ≡ nodeIn ns p
+    → r ≡ any (monitors ns es (P .expression) b p) es → r ≡ any (monitors ns es (nodeIn ns p .expression) b p) es
 monitored-at ns es p b pe e = e ∙ ap (λ (x : Node). any (monitors ns es (x .expression) b p) es) pe
 
 -- an implication
@@ -45,19 +46,22 @@ module _ (n : Negotiation) (c : Command) where
   pub proves-none : (r : Bool) {i : Bool} → i ≡ isImplication c → not i ≡ true → Proves (stateOf n) c r
   proves-none r ie z = record { proves = λ y. absurd (false-true (ap not (sym (ie ∙ y)) ∙ z)) }
 
-  pub proves-asked : (P : Pool) (R : Rules) (rows : List ℕ) {q : Implication} {r : Bool} → ProvedFor c P R rows (n .shown) → q ≡ implicationIn (nodesOf (n .nodes)) c → r ≡ fromOf (credentials P) (q .parent) (q .child) → Proves (stateOf n) c r
+  pub proves-asked : (P : Pool) (R : Rules) (rows : List ℕ) {q : Implication} {r : Bool} → ProvedFor c P R rows (n .shown)
+      → q ≡ implicationIn (nodesOf (n .nodes)) c → r ≡ fromOf (credentials P) (q .parent) (q .child) → Proves (stateOf n) c r
   unfolding stateOf
   proves-asked P R rows k qe e = record { proves = λ y. e ∙ (λ t. fromOf (k .same y t) (qe t .parent) (qe t .child)) }
 
 -- a linking implication
 module _ (n : Negotiation) {r : Bool} where
   pub bring-linked : (b : NewEdge) → isLinking (Bring b) ≡ true
-      → r ≡ any (monitors (nodesOf (n .nodes)) (edgesOf (n .edges)) (nodeIn (nodesOf (n .nodes)) (b .parent) .expression) (b .subject) (b .parent)) (edgesOf (n .edges)) → r ≡ justifiedIn (stateOf n) (Bring b)
+      → r ≡ any (monitors (nodesOf (n .nodes)) (edgesOf (n .edges)) (nodeIn (nodesOf (n .nodes)) (b .parent) .expression) (b .subject) (b .parent))
+      (edgesOf (n .edges)) → r ≡ justifiedIn (stateOf n) (Bring b)
   unfolding justifiedIn justifiedFor stateOf
   bring-linked b h e = by-monitored (b .kind) _ _ (eqb-true (b .kind) 4 h) e
 
   pub join-linked : (e : Edge) {C : Node} → C ≡ nodeIn (nodesOf (n .nodes)) (e .child) → isLinking (Join e) ≡ true
-      → r ≡ any (monitors (nodesOf (n .nodes)) (edgesOf (n .edges)) (nodeIn (nodesOf (n .nodes)) (e .parent) .expression) (C .subject) (e .parent)) (edgesOf (n .edges)) → r ≡ justifiedIn (stateOf n) (Join e)
+      → r ≡ any (monitors (nodesOf (n .nodes)) (edgesOf (n .edges)) (nodeIn (nodesOf (n .nodes)) (e .parent) .expression) (C .subject) (e .parent))
+      (edgesOf (n .edges)) → r ≡ justifiedIn (stateOf n) (Join e)
   unfolding justifiedIn justifiedFor stateOf
   join-linked e ce h q = by-monitored (e .kind) _ _ (eqb-true (e .kind) 4 h) q ∙ join-justified (stateOf n) e ce
 
@@ -71,11 +75,13 @@ plain S (Join e) p h z = by-proved (e .kind) _ _ z (h .proves) ∙ join-justifie
 plain S (Mark i) p h z = refl
 plain S End p h z = refl
 
-pub plain-justified : (S : State) (c : Command) (p : Bool) {l i : Bool} → Proves S c p → l ≡ isLinking c → l ≡ false → i ≡ isImplication c → (not i || p) ≡ justifiedIn S c
+pub plain-justified : (S : State) (c : Command) (p : Bool) {l i : Bool} → Proves S c p → l ≡ isLinking c → l ≡ false → i ≡ isImplication c
+    → (not i || p) ≡ justifiedIn S c
 plain-justified S c p h le z ie = ap (λ (b : Bool). not b || p) ie ∙ plain S c p h (sym le ∙ z)
 
 -- a command that is judged with its justification
-pub legal-judged : (ns : List Name) (s : ℕ) (S : State) (c : Command) {j : Bool} {r : ℕ} → j ≡ justifiedIn S c → r ≡ legalBy ns s S c j → r ≡ legalNumber ns s S c
+pub legal-judged : (ns : List Name) (s : ℕ) (S : State) (c : Command) {j : Bool} {r : ℕ} → j ≡ justifiedIn S c → r ≡ legalBy ns s S c j
+    → r ≡ legalNumber ns s S c
 unfolding legalNumber
 legal-judged ns s S c je e = e ∙ ap (legalBy ns s S c) je
 

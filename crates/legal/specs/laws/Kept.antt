@@ -54,14 +54,16 @@ present S i h = leb-false (length (S .nodes)) i h
 -- What an undamaged graph has
 
 module _ (ns : List Name) (S : State) where
-  pub record-parts : recordsSound ns S ≡ true → (inTurn (nodeFits ns) [] (S .nodes) ≡ true) × (primarySound (S .header) (nodeIn (S .nodes) 0) ≡ true) × (inTurn (credentialFits ns) [] (S .shown) ≡ true)
+  pub record-parts : recordsSound ns S ≡ true → (inTurn (nodeFits ns) [] (S .nodes) ≡ true) × (primarySound (S .header) (nodeIn (S .nodes) 0) ≡ true)
+      × (inTurn (credentialFits ns) [] (S .shown) ≡ true)
   unfolding recordsSound
   record-parts h =
       let p = and-parts (inTurn (nodeFits ns) [] (S .nodes) && primarySound (S .header) (nodeIn (S .nodes) 0)) (inTurn (credentialFits ns) [] (S .shown)) h in
       let q = and-parts (inTurn (nodeFits ns) [] (S .nodes)) (primarySound (S .header) (nodeIn (S .nodes) 0)) (p .0) in
       (q .0, q .1, p .1)
 
-  pub records-of : inTurn (nodeFits ns) [] (S .nodes) ≡ true → primarySound (S .header) (nodeIn (S .nodes) 0) ≡ true → inTurn (credentialFits ns) [] (S .shown) ≡ true → recordsSound ns S ≡ true
+  pub records-of : inTurn (nodeFits ns) [] (S .nodes) ≡ true → primarySound (S .header) (nodeIn (S .nodes) 0) ≡ true
+      → inTurn (credentialFits ns) [] (S .shown) ≡ true → recordsSound ns S ≡ true
   unfolding recordsSound
   records-of a b c =
       and-both (inTurn (nodeFits ns) [] (S .nodes) && primarySound (S .header) (nodeIn (S .nodes) 0)) (inTurn (credentialFits ns) [] (S .shown))
@@ -88,10 +90,12 @@ implied-more : (cs : List Credential) (c : Credential) (xs : List Node) (e : Edg
 unfolding impliedIf implied
 implied-more cs c xs e h =
     ⊎-elim (λ z. or-left (not (eqb (e .kind) 1)) (implied (cs ++ (c ∷ [])) xs e) z)
-    (λ z. or-right (not (eqb (e .kind) 1)) (implied (cs ++ (c ∷ [])) xs e) (from?-grows cs (c ∷ []) (nodeIn xs (e .parent) .expression) (nodeIn xs (e .child) .expression) z))
+    (λ z. or-right (not (eqb (e .kind) 1)) (implied (cs ++ (c ∷ [])) xs e)
+    (from?-grows cs (c ∷ []) (nodeIn xs (e .parent) .expression) (nodeIn xs (e .child) .expression) z))
     (or-cases (not (eqb (e .kind) 1)) (implied cs xs e) h)
 
-justified-more : (cs : List Credential) (c : Credential) (xs : List Node) (b : List Edge) (e : Edge) → justified cs xs b e ≡ true → justified (cs ++ (c ∷ [])) xs b e ≡ true
+justified-more : (cs : List Credential) (c : Credential) (xs : List Node) (b : List Edge) (e : Edge) → justified cs xs b e ≡ true
+    → justified (cs ++ (c ∷ [])) xs b e ≡ true
 unfolding justified
 justified-more cs c xs b e h =
     let p = and-parts (impliedIf cs xs e) (monitoredIf xs b e) h in
@@ -104,7 +108,8 @@ module _ (ns : List Name) (s : ℕ) (S : State) (c : Credential) where
       let p = first-none (credentialNumber ns c) _ l in
       let q = refuse-none (isFresh S) 23 _ (omega arith) (p .1) in
       let r = refuse-none (isShown (S .shown) c) 25 _ (omega arith) (q .1) in
-      and-both (credentialSound ns c) (not (isShown (S .shown) c)) (and-both (wellFormedCredential c) (eqb (credentialNumber ns c) 0) f (eq-eqb (credentialNumber ns c) 0 (p .0))) (ap not (r .0))
+      and-both (credentialSound ns c) (not (isShown (S .shown) c))
+      (and-both (wellFormedCredential c) (eqb (credentialNumber ns c) 0) f (eq-eqb (credentialNumber ns c) 0 (p .0))) (ap not (r .0))
 
   pub show-kept : GraphKept ns S → formedCommand (Show c) ≡ true → legalNumber ns s S (Show c) ≡ 0 → GraphKept ns (stepped S s (Show c))
   unfolding stepped withShown edgesJustified
@@ -113,7 +118,9 @@ module _ (ns : List Name) (s : ℕ) (S : State) (c : Credential) where
       record {
         records = records-of ns (withShown S c) (p .0) (p .1) (turn-last (credentialFits ns) [] (S .shown) c (p .2) (show-fits f l));
         edges = g .edges;
-        justified = turn-more (λ e. e ≡ e) (justified (S .shown) (S .nodes)) (justified (S .shown ++ (c ∷ [])) (S .nodes)) (λ b e u v h. justified-more (S .shown) c (S .nodes) b e h) [] (S .edges) (λ e m. refl) (λ e m. refl) (g .justified);
+        justified =
+            turn-more (λ e. e ≡ e) (justified (S .shown) (S .nodes)) (justified (S .shown ++ (c ∷ [])) (S .nodes))
+            (λ b e u v h. justified-more (S .shown) c (S .nodes) b e h) [] (S .edges) (λ e m. refl) (λ e m. refl) (g .justified);
       }
 
 -- 0x04
@@ -121,7 +128,8 @@ module _ (ns : List Name) (s : ℕ) (S : State) (c : Credential) where
 module _ (ns : List Name) (s : ℕ) (S : State) (e : Edge) where
   -- what a legal edge between old nodes has
   join-parts : legalNumber ns s S (Join e) ≡ 0
-      → (e .parent < length (S .nodes)) × (e .child < length (S .nodes)) × (formed (S .header) (S .nodes) e ≡ true) × (eqb (e .parent) (e .child) ≡ false) × (hasEdge (S .edges) e ≡ false) × (justified (S .shown) (S .nodes) (S .edges) e ≡ true)
+      → (e .parent < length (S .nodes)) × (e .child < length (S .nodes)) × (formed (S .header) (S .nodes) e ≡ true)
+      × (eqb (e .parent) (e .child) ≡ false) × (hasEdge (S .edges) e ≡ false) × (justified (S .shown) (S .nodes) (S .edges) e ≡ true)
   unfolding legalNumber legalBy justifiedIn joinNumber joinWrong formed formedAs
   join-parts l =
       let a = refuse-none (isFresh S) 23 _ (omega arith) l in
@@ -131,8 +139,15 @@ module _ (ns : List Name) (s : ℕ) (S : State) (e : Edge) where
       let d = refuse-none (not (justified (S .shown) (S .nodes) (S .edges) e)) 26 _ (omega arith) (c .1) in
       let f : Bool = formedAs (S .header) (e .kind) (nodeIn (S .nodes) (e .parent)) (nodeIn (S .nodes) (e .child)) in
       let y = or-neither (not f) (eqb (e .parent) (e .child) || hasEdge (S .edges) e) (c .0) in
-      let z = or-neither (eqb (e .parent) (e .child)) (hasEdge (S .edges) e) (y .1) in
-      (present S (e .parent) (k .0), present S (e .child) (k .1), not-false f (y .0), z .0, z .1, not-false (justified (S .shown) (S .nodes) (S .edges) e) (d .0))
+      let z = or-neither (eqb (e .parent) (e .child)) (hasEdge (S .edges) e) (y .1) in (
+        present S (e .parent) (k .0),
+        present S (e .child) (k .1),
+        not-false f (y .0),
+        z .0,
+        z .1,
+        not-false
+            (justified (S .shown) (S .nodes) (S .edges) e) (d .0),
+      )
 
   pub join-kept : GraphKept ns S → legalNumber ns s S (Join e) ≡ 0 → GraphKept ns (stepped S s (Join e))
   unfolding stepped withEdge edgesJustified brought
@@ -141,7 +156,8 @@ module _ (ns : List Name) (s : ℕ) (S : State) (e : Edge) where
       let r = record-parts ns S (g .records) in
       let q = brought-parts (S .header) (S .nodes) (S .edges) (g .edges) in
       let b : ℕ = brought (S .edges) in
-      let fits : edgeFits (S .header) (S .nodes) (S .edges) e ≡ true = fits-of (S .header) (S .nodes) (S .edges) e (omega (arith, p .0, q .1)) (omega (arith, p .1, q .1)) (p .1) (p .3) (p .2) (p .4) in
+      let fits : edgeFits (S .header) (S .nodes) (S .edges) e
+      ≡ true = fits-of (S .header) (S .nodes) (S .edges) e (omega (arith, p .0, q .1)) (omega (arith, p .1, q .1)) (p .1) (p .3) (p .2) (p .4) in
       record {
         records = records-of ns (withEdge S e) (r .0) (r .1) (r .2);
         edges = brought-of (S .header) (S .nodes) (S .edges ++ (e ∷ [])) (turn-last (edgeFits (S .header) (S .nodes)) [] (S .edges) e (q .0) fits)
@@ -165,11 +181,14 @@ module _ (ns : List Name) (s : ℕ) (S : State) (i : ℕ) where
       let q = brought-parts (S .header) (S .nodes) (S .edges) (g .edges) in
       let at-node = turn-at (nodeFits ns) blank [] (S .nodes) (p .0) i (mark-present l) in
       let legal : legalState (n .expression) (n .state) ≡ true = sound-legal ns n (fits-sound ns (at-node .0) n (at-node .1)) in
-      let grow : (b : List Edge) → Each (Ends (length (S .nodes))) b → Grown (S .nodes) b (set (S .nodes) i (inState t n)) b = λ b u. grown-mark (S .nodes) b (λ e m. u e m .1) i t (marked-gains s n legal) in
+      let grow : (b : List Edge) → Each (Ends (length (S .nodes))) b
+      → Grown (S .nodes) b (set (S .nodes) i (inState t n)) b = λ b u. grown-mark (S .nodes) b (λ e m. u e m .1) i t (marked-gains s n legal) in
       let ends = all-ends (S .header) (S .nodes) (S .edges) (g .edges) some in
       record {
         records = records-of ns (withMark S i t) (turn-marked ns [] [] (S .nodes) i t (λ x v u. refl) (marked-legal s n legal) (p .0))
             (ap (primarySound (S .header)) (grow [] (λ e m. absurd (List·Memᴰ·not-nil m)) .same 0 (omega (arith, some))) ∙ p .1) (p .2);
-        edges = brought-of (S .header) (set (S .nodes) i (inState t n)) (S .edges) (all-fit grow (S .edges) ends (S .header) (q .0)) (q .1 ∙ sym (length-set (S .nodes) i (inState t n)));
+        edges =
+            brought-of (S .header) (set (S .nodes) i (inState t n)) (S .edges) (all-fit grow (S .edges) ends (S .header) (q .0))
+            (q .1 ∙ sym (length-set (S .nodes) i (inState t n)));
         justified = all-justified grow (S .edges) ends (S .shown) (g .justified);
       }

@@ -80,8 +80,10 @@ new-edge es e h =
 module _ (ns : List Name) (s : ℕ) (S : State) (n : NewEdge) where
   -- what a legal edge with a new child has
   bring-parts : legalNumber ns s S (Bring n) ≡ 0
-      → (isTyped (typeOf ns (n .expression)) ≡ true) × (n .parent < length (S .nodes)) × (formedAs (S .header) (n .kind) (nodeIn (S .nodes) (n .parent)) (childIn S n) ≡ true)
-      × (any (isNode (n .expression) (childIn S n .verifier) (n .subject)) (S .nodes) ≡ false) × (justifiedFor S (n .kind) (n .parent) (n .expression) (n .subject) ≡ true)
+      → (isTyped (typeOf ns (n .expression)) ≡ true) × (n .parent < length (S .nodes))
+      × (formedAs (S .header) (n .kind) (nodeIn (S .nodes) (n .parent)) (childIn S n) ≡ true)
+      × (any (isNode (n .expression) (childIn S n .verifier) (n .subject)) (S .nodes) ≡ false)
+      × (justifiedFor S (n .kind) (n .parent) (n .expression) (n .subject) ≡ true)
   unfolding legalNumber legalBy justifiedIn bringNumber bringWrong
   bring-parts l =
       let v : ℕ = childIn S n .verifier in
@@ -91,10 +93,17 @@ module _ (ns : List Name) (s : ℕ) (S : State) (n : NewEdge) where
       let c = refuse-none (bringWrong S n) 25 _ (omega arith) (b .1) in
       let d = refuse-none (not (justifiedFor S (n .kind) (n .parent) (n .expression) (n .subject))) 26 _ (omega arith) (c .1) in
       let f : Bool = formedAs (S .header) (n .kind) (nodeIn (S .nodes) (n .parent)) (childIn S n) in
-      let w = or-neither (not f) (any (isNode (n .expression) v (n .subject)) (S .nodes)) (c .0) in
-      (typed (typeOf ns (n .expression)) (t .0), present S (n .parent) (b .0), not-false f (w .0), w .1, not-false (justifiedFor S (n .kind) (n .parent) (n .expression) (n .subject)) (d .0))
+      let w = or-neither (not f) (any (isNode (n .expression) v (n .subject)) (S .nodes)) (c .0) in (
+        typed (typeOf ns (n .expression)) (t .0),
+        present S (n .parent) (b .0),
+        not-false f (w .0),
+        w .1,
+        not-false
+            (justifiedFor S (n .kind) (n .parent) (n .expression) (n .subject)) (d .0),
+      )
 
-  child-sound : nodeIn (S .nodes) (n .parent) .verifier < 2 → formedCommand (Bring n) ≡ true → isTyped (typeOf ns (n .expression)) ≡ true → nodeSound ns (childIn S n) ≡ true
+  child-sound : nodeIn (S .nodes) (n .parent) .verifier < 2 → formedCommand (Bring n) ≡ true → isTyped (typeOf ns (n .expression)) ≡ true
+      → nodeSound ns (childIn S n) ≡ true
   unfolding formedCommand nodeSound childOf
   child-sound v f t =
       let p : Node = nodeIn (S .nodes) (n .parent) in
@@ -105,7 +114,8 @@ module _ (ns : List Name) (s : ℕ) (S : State) (n : NewEdge) where
       let c = and-parts (edgeKind (n .kind)) (ltb 0 (n .subject)) (b .0) in
       and-both (wellFormed x && ltb 0 (n .subject) && ltb w 2 && legalState x (n .state)) (isTyped (typeOf ns x))
       (and-both (wellFormed x && ltb 0 (n .subject) && ltb w 2) (legalState x (n .state))
-      (and-both (wellFormed x && ltb 0 (n .subject)) (ltb w 2) (and-both (wellFormed x) (ltb 0 (n .subject)) (a .0) (c .1)) (lt-ltb w 2 (verifier-few (n .kind) p v))) (b .1)) t
+      (and-both (wellFormed x && ltb 0 (n .subject)) (ltb w 2) (and-both (wellFormed x) (ltb 0 (n .subject)) (a .0) (c .1))
+      (lt-ltb w 2 (verifier-few (n .kind) p v))) (b .1)) t
 
   module _ (g : GraphKept ns S) (some : length (S .nodes) ≡ 0 → ⊥) (f : formedCommand (Bring n) ≡ true) (l : legalNumber ns s S (Bring n) ≡ 0) where
     abbrev after : List Node
@@ -120,7 +130,8 @@ module _ (ns : List Name) (s : ℕ) (S : State) (n : NewEdge) where
         let p = bring-parts l in
         let parent = turn-at (nodeFits ns) blank [] (S .nodes) (record-parts ns S (g .records) .0) (n .parent) (p .1) in
         let v = sound-verifier ns (nodeIn (S .nodes) (n .parent)) (fits-sound ns (parent .0) (nodeIn (S .nodes) (n .parent)) (parent .1)) in
-        and-both (nodeSound ns (childIn S n)) (not (any (isNode (n .expression) (childIn S n .verifier) (n .subject)) (S .nodes))) (child-sound v f (p .0)) (ap not (p .3))
+        and-both (nodeSound ns (childIn S n)) (not (any (isNode (n .expression) (childIn S n .verifier) (n .subject)) (S .nodes)))
+        (child-sound v f (p .0)) (ap not (p .3))
 
     ends : Each (Ends (length (S .nodes))) (S .edges)
     ends = all-ends (S .header) (S .nodes) (S .edges) (g .edges) some
@@ -140,7 +151,8 @@ module _ (ns : List Name) (s : ℕ) (S : State) (n : NewEdge) where
     edge-fits =
         let q = brought-parts (S .header) (S .nodes) (S .edges) (g .edges) .1 in
         let i = bring-parts l .1 in
-        fits-of (S .header) after (S .edges) (edgeIn S n) (omega (arith, q, i)) (omega (arith, q)) (omega (arith, one-more)) (ne-eqb (n .parent) (length (S .nodes)) (λ z. omega (arith, i))) edge-formed (new-edge (S .edges) (edgeIn S n) ends)
+        fits-of (S .header) after (S .edges) (edgeIn S n) (omega (arith, q, i)) (omega (arith, q)) (omega (arith, one-more))
+        (ne-eqb (n .parent) (length (S .nodes)) (λ z. omega (arith, i))) edge-formed (new-edge (S .edges) (edgeIn S n) ends)
 
     -- the edge brings the new child
     child-brought : brought (S .edges ++ (edgeIn S n ∷ [])) ≡ length after
@@ -158,6 +170,10 @@ module _ (ns : List Name) (s : ℕ) (S : State) (n : NewEdge) where
         record {
           records = records-of ns (withEdge (withNode S (childIn S n)) (edgeIn S n)) (turn-last (nodeFits ns) [] (S .nodes) (childIn S n) (p .0) child-fits)
               (ap (primarySound (S .header)) (List·getD-append (S .nodes) (childIn S n ∷ []) blank 0 (omega (arith, some))) ∙ p .1) (p .2);
-          edges = brought-of (S .header) after (S .edges ++ (edgeIn S n ∷ [])) (turn-last (edgeFits (S .header) after) [] (S .edges) (edgeIn S n) (all-fit grow (S .edges) ends (S .header) (q .0)) edge-fits) child-brought;
-          justified = turn-last (justified (S .shown) after) [] (S .edges) (edgeIn S n) (all-justified grow (S .edges) ends (S .shown) (g .justified)) (sym (bring-justified S n (bring-parts l .1) (λ e m. ends e m .1)) ∙ bring-parts l .4);
+          edges =
+              brought-of (S .header) after (S .edges ++ (edgeIn S n ∷ []))
+              (turn-last (edgeFits (S .header) after) [] (S .edges) (edgeIn S n) (all-fit grow (S .edges) ends (S .header) (q .0)) edge-fits) child-brought;
+          justified =
+              turn-last (justified (S .shown) after) [] (S .edges) (edgeIn S n) (all-justified grow (S .edges) ends (S .shown) (g .justified))
+              (sym (bring-justified S n (bring-parts l .1) (λ e m. ends e m .1)) ∙ bring-parts l .4);
         }

@@ -51,7 +51,8 @@ module _ (ns : List Name) (S : State) (o : Opening) (side : S .header .side ≡ 
   unfolding primarySound primaryOf
   opened-primary =
       let b : Bool = same (E.Role (o .role)) (E.Role (S .header .wanted)) in
-      and-both (eqb (requester (S .header)) (requester (S .header))) (cond (eqb (S .header .side) 0) b true) (eq-eqb (requester (S .header)) (requester (S .header)) refl)
+      and-both (eqb (requester (S .header)) (requester (S .header))) (cond (eqb (S .header .side) 0) b true)
+      (eq-eqb (requester (S .header)) (requester (S .header)) refl)
       (ap (λ (v : ℕ). cond (eqb v 0) b true) side)
 
   opened-sound : (S .header .own ≡ 0 → ⊥) → formedCommand (Open o) ≡ true → legalNumber ns 0 S (Open o) ≡ 0 → nodeSound ns (primaryOf (S .header) o) ≡ true
@@ -67,7 +68,8 @@ module _ (ns : List Name) (S : State) (o : Opening) (side : S .header .side ≡ 
       (and-both (isRole (o .role) && ltb 0 (requester (S .header))) true (and-both (isRole (o .role)) (ltb 0 (requester (S .header))) (a .0) u) refl) (a .1))
       (ap (λ (b : Bool). isTyped (cond b Unnamed (Class k))) (c .0))
 
-  pub open-kept : length (S .nodes) ≡ 0 → length (S .edges) ≡ 0 → length (S .shown) ≡ 0 → (S .header .own ≡ 0 → ⊥) → formedCommand (Open o) ≡ true → legalNumber ns 0 S (Open o) ≡ 0
+  pub open-kept : length (S .nodes) ≡ 0 → length (S .edges) ≡ 0 → length (S .shown) ≡ 0 → (S .header .own ≡ 0 → ⊥) → formedCommand (Open o) ≡ true
+      → legalNumber ns 0 S (Open o) ≡ 0
       → GraphKept ns (stepped S 0 (Open o))
   unfolding stepped withNode edgesJustified inTurn nodeFits brought broughtFrom
   open-kept nz ez sz own f l =
@@ -76,10 +78,13 @@ module _ (ns : List Name) (S : State) (o : Opening) (side : S .header .side ≡ 
       let no-edges : S .edges ≡ [] = empty (S .edges) ez in
       record {
         records = records-of ns (withNode S x)
-            (ap (λ (xs : List Node). inTurn (nodeFits ns) [] (xs ++ (x ∷ []))) no-nodes ∙ and-both (nodeSound ns x && true) true (and-both (nodeSound ns x) true (opened-sound own f l) refl) refl)
+            (ap (λ (xs : List Node). inTurn (nodeFits ns) [] (xs ++ (x ∷ []))) no-nodes
+            ∙ and-both (nodeSound ns x && true) true (and-both (nodeSound ns x) true (opened-sound own f l) refl) refl)
             (ap (λ (xs : List Node). primarySound (S .header) (nodeIn (xs ++ (x ∷ [])) 0)) no-nodes ∙ opened-primary)
             (ap (inTurn (credentialFits ns) []) (empty (S .shown) sz));
-        edges = brought-of (S .header) (S .nodes ++ (x ∷ [])) (S .edges) (ap (inTurn (edgeFits (S .header) (S .nodes ++ (x ∷ []))) []) no-edges) (ap brought no-edges ∙ ap (λ (xs : List Node). length (xs ++ (x ∷ []))) (sym no-nodes));
+        edges =
+            brought-of (S .header) (S .nodes ++ (x ∷ [])) (S .edges) (ap (inTurn (edgeFits (S .header) (S .nodes ++ (x ∷ []))) []) no-edges)
+            (ap brought no-edges ∙ ap (λ (xs : List Node). length (xs ++ (x ∷ []))) (sym no-nodes));
         justified = ap (inTurn (justified (S .shown) (S .nodes ++ (x ∷ []))) []) no-edges;
       }
 
@@ -92,7 +97,8 @@ open-refused ns s S o some l =
     let a = refuse-none (eqb (classOf ns (o .role .name)) 0) 4 _ (omega arith) l in
     some (eqb-true (length (S .nodes)) 0 (not-false (eqb (length (S .nodes)) 0) (refuse-none (not (eqb (length (S .nodes)) 0)) 23 _ (omega arith) (a .1) .0)))
 
-pub step-kept : (ns : List Name) (s : ℕ) (S : State) (c : Command) → GraphKept ns S → (length (S .nodes) ≡ 0 → ⊥) → formedCommand c ≡ true → legalNumber ns s S c ≡ 0 → GraphKept ns (stepped S s c)
+pub step-kept : (ns : List Name) (s : ℕ) (S : State) (c : Command) → GraphKept ns S → (length (S .nodes) ≡ 0 → ⊥) → formedCommand c ≡ true
+    → legalNumber ns s S c ≡ 0 → GraphKept ns (stepped S s c)
 unfolding stepped
 step-kept ns s S (Show c) g some f l = show-kept ns s S c g f l
 step-kept ns s S (Open o) g some f l = absurd (open-refused ns s S o some l)

@@ -49,7 +49,9 @@ some-bit false = four (λ t. ltb 0 (bitOr t 2) ≡ true) refl refl refl refl
 
 goal-bit : (b : Bool) (t : ℕ) → t < 4 → (eqb t 1 || eqb t 3) ≡ true → (eqb (withBit b t) 1 || eqb (withBit b t) 3) ≡ true
 goal-bit true = four (λ t. (eqb t 1 || eqb t 3) ≡ true → (eqb (bitOr t 1) 1 || eqb (bitOr t 1) 3) ≡ true) (λ h. refl) (λ h. refl) (λ h. refl) (λ h. refl)
-goal-bit false = four (λ t. (eqb t 1 || eqb t 3) ≡ true → (eqb (bitOr t 2) 1 || eqb (bitOr t 2) 3) ≡ true) (λ h. absurd (false-true h)) (λ h. refl) (λ h. absurd (false-true h)) (λ h. refl)
+goal-bit false =
+    four (λ t. (eqb t 1 || eqb t 3) ≡ true → (eqb (bitOr t 2) 1 || eqb (bitOr t 2) 3) ≡ true) (λ h. absurd (false-true h)) (λ h. refl)
+    (λ h. absurd (false-true h)) (λ h. refl)
 
 full-bit : (b : Bool) → eqb (withBit b 3) 3 ≡ true
 full-bit true = refl
@@ -106,7 +108,8 @@ module _ (names : List Name) where
   unfolding nodeFits
   fits-alike b d n a = ap (λ (r : Bool). nodeSound names n && not r) (a (n .expression) (n .verifier) (n .subject))
 
-  fits-marked : (b d : List Node) (n : Node) (t : ℕ) → Alike b d → legalState (n .expression) t ≡ true → nodeFits names b n ≡ true → nodeFits names d (inState t n) ≡ true
+  fits-marked : (b d : List Node) (n : Node) (t : ℕ) → Alike b d → legalState (n .expression) t ≡ true → nodeFits names b n ≡ true
+      → nodeFits names d (inState t n) ≡ true
   unfolding nodeFits
   fits-marked b d n t a l h =
       let p = and-parts (nodeSound names n) (not (any (isNode (n .expression) (n .verifier) (n .subject)) b)) h in
@@ -119,7 +122,8 @@ module _ (names : List Name) where
   turn-alike b d (x ∷ xs) a = λ i. fits-alike b d x a i && turn-alike (b ++ (x ∷ [])) (d ++ (x ∷ [])) xs (alike-more b d x (x .state) a) i
 
   -- nodes still fit once one of them is marked
-  pub turn-marked : (b d xs : List Node) (i t : ℕ) → Alike b d → legalState (nodeIn xs i .expression) t ≡ true → inTurn (nodeFits names) b xs ≡ true → inTurn (nodeFits names) d (set xs i (inState t (nodeIn xs i))) ≡ true
+  pub turn-marked : (b d xs : List Node) (i t : ℕ) → Alike b d → legalState (nodeIn xs i .expression) t ≡ true → inTurn (nodeFits names) b xs ≡ true
+      → inTurn (nodeFits names) d (set xs i (inState t (nodeIn xs i))) ≡ true
   unfolding inTurn
   turn-marked b d [] i t a l h = refl
   turn-marked b d (x ∷ xs) zero t a l h =

@@ -53,7 +53,11 @@ module _ (ns : List Node) (es : List Edge) (joined : Joined ns es) (x : Node) wh
       (sym (ap (λ (n : Node). n .expression) (old i l)) ∙ e)
       (sym (ap (λ (n : Node). n .state) (old i l)) ∙ p)
       f
-      (λ a m. record { child = child-back (q a m .child); role = sym (ap (λ (n : Node). n .expression) (old (f a m) (joined _ (q a m .child .edge)))) ∙ q a m .role })
+      (λ a m. record {
+        child = child-back (q a m .child);
+        role = sym (ap (λ (n : Node). n .expression) (old (f a m) (joined _ (q a m .child .edge))))
+            ∙ q a m .role;
+      })
       (λ a m. satisfied-back (joined _ (q a m .child .edge)) (h a m))
 
   -- the old nodes are satisfied as before
@@ -71,7 +75,8 @@ module _ (ns : List Node) (es : List Edge) (joined : Joined ns es) (x : Node) wh
     unfolding solves
     solves-same g d m =
         let l : d .child < length ns = joined d m in
-        λ i. (eqb (d .kind) 3 && eqb (d .parent) g && inside-same (d .child) l i) && isSolutionFor y b (sym (old (d .child) l) i .expression) && satisfied-same (d .child) l i
+        λ i. (eqb (d .kind) 3 && eqb (d .parent) g && inside-same (d .child) l i) && isSolutionFor y b (sym (old (d .child) l) i .expression)
+        && satisfied-same (d .child) l i
 
     solved-same : (g : ℕ) → solved ns es y b g ≡ solved more es y b g
     unfolding solved
@@ -108,4 +113,6 @@ bring-justified S n l joined =
     (λ i.
     (not (eqb (n .kind) 1) || fromOf (S .shown) (p i .expression) (e i))
     && (not (eqb (n .kind) 4) || any (monitors (S .nodes) (S .edges) (p i .expression) (s i) (n .parent)) (S .edges)))
-    ∙ ap (λ (b : Bool). (not (eqb (n .kind) 1) || fromOf (S .shown) (nodeIn (S .nodes ++ (c ∷ [])) (n .parent) .expression) (nodeIn (S .nodes ++ (c ∷ [])) (length (S .nodes)) .expression)) && (not (eqb (n .kind) 4) || b)) (monitored-same (S .nodes) (S .edges) joined c _ _ (n .parent))
+    ∙ ap (λ (b : Bool). (not (eqb (n .kind) 1) || fromOf (S .shown) (nodeIn (S .nodes ++ (c ∷ [])) (n .parent) .expression)
+    (nodeIn (S .nodes ++ (c ∷ [])) (length (S .nodes)) .expression)) && (not (eqb (n .kind) 4) || b))
+    (monitored-same (S .nodes) (S .edges) joined c _ _ (n .parent))

@@ -17,6 +17,7 @@ use Rattle.negotiation.specs.declared.Negotiation.{Negotiation}
 use Rattle.negotiation.specs.State.{State}
 use Rattle.negotiation.specs.laws.State.{stateOf}
 use Rattle.legal.specs.Number.{refuse, first, isFresh, isAbsent, justifiedBy, legalBy}
+use Rattle.numbers.specs.Sizes.{MOST-EDGES, MOST-SHOWN}
 
 module _ (b : Bool) (k rest : ℕ) where
   -- the test holds
@@ -72,13 +73,13 @@ module _ (n : Negotiation) where
   pub shown-full : 64 ≤ n .shown .count → leb 64 (length (credentials (n .shown))) ≡ true
   shown-full h = le-leb 64 (length (credentials (n .shown))) (omega (arith, count-length (n .shown)))
 
-  pub shown-room : n .shown .count < 64 → leb 64 (length (credentials (n .shown))) ≡ false
+  pub shown-room : n .shown .count < MOST-SHOWN → leb 64 (length (credentials (n .shown))) ≡ false
   shown-room h = lt-leb 64 (length (credentials (n .shown))) (omega (arith, count-length (n .shown)))
 
   pub edges-full : 256 ≤ n .edges .count → leb 256 (length (edgesOf (n .edges))) ≡ true
   edges-full h = le-leb 256 (length (edgesOf (n .edges))) (omega (arith, edges-length (n .edges)))
 
-  pub edges-room : n .edges .count < 256 → leb 256 (length (edgesOf (n .edges))) ≡ false
+  pub edges-room : n .edges .count < MOST-EDGES → leb 256 (length (edgesOf (n .edges))) ≡ false
   edges-room h = lt-leb 256 (length (edgesOf (n .edges))) (omega (arith, edges-length (n .edges)))
 
   pub sizes-same : (leb 128 (n .nodes .count) || leb 256 (n .edges .count)) ≡ (leb 128 (length (nodesOf (n .nodes))) || leb 256 (length (edgesOf (n .edges))))

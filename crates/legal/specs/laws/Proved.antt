@@ -22,9 +22,11 @@ pub record ProvedBy (P : Pool) (R : Rules) (rows : List ℕ) : Type 0 where
   pub related : Relation P (replicate 128 1) rows
 
 -- the rules by their columns
-pub proved-columns : (P : Pool) (R : Rules) {rows : List ℕ} → ProvedBy P R rows → ProvedBy P (rulesOf (P .count) (R .words) (R .head) (R .part) (R .first) (R .named) (R .src)) rows
+pub proved-columns : (P : Pool) (R : Rules) {rows : List ℕ} → ProvedBy P R rows
+    → ProvedBy P (rulesOf (P .count) (R .words) (R .head) (R .part) (R .first) (R .named) (R .src)) rows
 proved-columns P R k = record { few = k .few; ruled = by-columns P R (k .ruled); related = k .related }
 
 -- an answer over all credentials
-pub proved-all : (P : Pool) (R : Rules) {rows : List ℕ} (f e : Expression) {r : Bool} → ProvedBy P R rows → r ≡ fromOf (chosen P (replicate 128 1)) f e → r ≡ fromOf (credentials P) f e
+pub proved-all : (P : Pool) (R : Rules) {rows : List ℕ} (f e : Expression) {r : Bool} → ProvedBy P R rows
+    → r ≡ fromOf (chosen P (replicate 128 1)) f e → r ≡ fromOf (credentials P) f e
 proved-all P R f e k h = h ∙ ap (λ (C : List Credential). fromOf C f e) (all-on P (k .few))

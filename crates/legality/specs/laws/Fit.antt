@@ -108,7 +108,8 @@ unshown-from shown own h = more sub h
   where
     sub : (c : Credential) → List·Memᴰ c own → List·Memᴰ c (shown ++ keep (λ c. not (isShown shown c)) own)
     sub c m =
-        ⊎-elim (λ k. Memᴰ·append-left (keep (λ c. not (isShown shown c)) own) (shown-mem shown c k)) (λ k. Memᴰ·append-right shown (keep-mem (λ c. not (isShown shown c)) m (ap not k)))
+        ⊎-elim (λ k. Memᴰ·append-left (keep (λ c. not (isShown shown c)) own) (shown-mem shown c k))
+        (λ k. Memᴰ·append-right shown (keep-mem (λ c. not (isShown shown c)) m (ap not k)))
         (decided (isShown shown c))
 
 -- the needed ones are enough
@@ -119,21 +120,26 @@ needed-from shown own f e h =
 
 module _ (T : Tables) (S : State) (g : Going T S) (i : ℕ) (l : i < length (S .nodes)) where
   -- an implication edge to an expression that our credentials reach
-  pub implication-fit : (C : List Credential) → Stored (T .names) C → sideSet (endIn T S) (nodeIn (S .nodes) i) ≡ C → isStandard (nodeIn (S .nodes) i .expression) ≡ true
+  pub implication-fit : (C : List Credential) → Stored (T .names) C → sideSet (endIn T S) (nodeIn (S .nodes) i) ≡ C
+      → isStandard (nodeIn (S .nodes) i .expression) ≡ true
       → (x : Expression) → Reached (T .names) C (nodeIn (S .nodes) i .expression) x → suitsNode (nodeIn (S .nodes) i) x ≡ true
       → Fit T S i (childFor 1 (nodeIn (S .nodes) i) x (nodeIn (S .nodes) i .subject))
   unfolding credentialsFor endIn verifierOf formedAs
   implication-fit C s own std x r suits =
       let n : Node = nodeIn (S .nodes) i in
       record {
-        fit = subst (λ (D : List Credential). FitWith T S i (childFor 1 n x (n .subject)) (needed (S .shown) (n .expression) x (keep (λ c. not (isShown (S .shown) c)) D))) (sym own)
+        fit =
+            subst (λ (D : List Credential). FitWith T S i (childFor 1 n x (n .subject))
+            (needed (S .shown) (n .expression) x (keep (λ c. not (isShown (S .shown) c)) D))) (sym own)
             (record {
               kind = refl;
               verifier = refl;
               form = λ t. form-one _ n (childNode (childFor 1 n x (n .subject)) t) std (body-target n x (r .body) suits) refl refl;
               child = r .proper;
               subject = going-node T S g i l .subject;
-              shows = sub-showable (needed-some (S .shown) (n .expression) x (keep (λ c. not (isShown (S .shown) c)) C)) (unshown-showable (T .names) (S .shown) C s);
+              shows =
+                  sub-showable (needed-some (S .shown) (n .expression) x (keep (λ c. not (isShown (S .shown) c)) C))
+                  (unshown-showable (T .names) (S .shown) C s);
               justified = record {
                 implied = λ e. needed-from (S .shown) C (n .expression) x (r .from);
                 monitored = λ e. absurd (let z : _≡_ {A = ℕ} 1 4 = e in omega (arith, z));

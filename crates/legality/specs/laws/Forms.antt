@@ -25,38 +25,49 @@ use Rattle.moves.specs.Rules.{suitsNode}
 
 module _ (v : ℕ) (p c : Node) where
   ends : c .verifier ≡ p .verifier → c .subject ≡ p .subject → sameEnds p c ≡ true
-  ends a b = and-both (eqb (c .verifier) (p .verifier)) (eqb (c .subject) (p .subject)) (eq-eqb (c .verifier) (p .verifier) a) (eq-eqb (c .subject) (p .subject) b)
+  ends a b =
+      and-both (eqb (c .verifier) (p .verifier)) (eqb (c .subject) (p .subject)) (eq-eqb (c .verifier) (p .verifier) a) (eq-eqb (c .subject) (p .subject) b)
 
-  pub form-one : isStandard (p .expression) ≡ true → isTarget (c .expression) (c .subject) ≡ true → c .verifier ≡ p .verifier → c .subject ≡ p .subject → form 1 v p c ≡ true
+  pub form-one : isStandard (p .expression) ≡ true → isTarget (c .expression) (c .subject) ≡ true → c .verifier ≡ p .verifier
+      → c .subject ≡ p .subject → form 1 v p c ≡ true
   unfolding form
   form-one s t a b =
-      and-both (isStandard (p .expression) && isTarget (c .expression) (c .subject)) (sameEnds p c) (and-both (isStandard (p .expression)) (isTarget (c .expression) (c .subject)) s t) (ends a b)
+      and-both (isStandard (p .expression) && isTarget (c .expression) (c .subject)) (sameEnds p c)
+      (and-both (isStandard (p .expression)) (isTarget (c .expression) (c .subject)) s t) (ends a b)
 
-  pub form-two : {a : Role} {r : ℕ} → p .expression ≡ E.Linked a r → c .expression ≡ E.Goal r → c .verifier ≡ p .verifier → c .subject ≡ p .subject → form 2 v p c ≡ true
+  pub form-two : {a : Role} {r : ℕ} → p .expression ≡ E.Linked a r → c .expression ≡ E.Goal r → c .verifier ≡ p .verifier → c .subject ≡ p .subject
+      → form 2 v p c ≡ true
   unfolding form
   form-two {r = r} e f a b =
-      and-both (isMonitor (p .expression) (c .expression)) (sameEnds p c) (ap (λ (x : Expression). isMonitor x (c .expression)) e ∙ eq-same (c .expression) (E.Goal r) f) (ends a b)
+      and-both (isMonitor (p .expression) (c .expression)) (sameEnds p c)
+      (ap (λ (x : Expression). isMonitor x (c .expression)) e ∙ eq-same (c .expression) (E.Goal r) f) (ends a b)
 
-  pub form-three : {r : ℕ} → p .expression ≡ E.Goal r → isNamed r (c .expression) ≡ true → c .verifier ≡ p .verifier → c .subject ≡ p .subject → form 3 v p c ≡ true
+  pub form-three : {r : ℕ} → p .expression ≡ E.Goal r → isNamed r (c .expression) ≡ true → c .verifier ≡ p .verifier → c .subject ≡ p .subject
+      → form 3 v p c ≡ true
   unfolding form
-  form-three e f a b = and-both (isSolution (p .expression) (c .expression)) (sameEnds p c) (ap (λ (x : Expression). isSolution x (c .expression)) e ∙ f) (ends a b)
+  form-three e f a b =
+      and-both (isSolution (p .expression) (c .expression)) (sameEnds p c) (ap (λ (x : Expression). isSolution x (c .expression)) e ∙ f) (ends a b)
 
   pub form-four : {a : Role} {r : ℕ} → p .expression ≡ E.Linked a r → c .expression ≡ E.Role a → c .verifier ≡ p .verifier → form 4 v p c ≡ true
   unfolding form
   form-four {a = a} e f b =
-      and-both (isFirst (p .expression) (c .expression)) (sameVerifier p c) (ap (λ (x : Expression). isFirst x (c .expression)) e ∙ eq-same (c .expression) (E.Role a) f) (eq-eqb (c .verifier) (p .verifier) b)
+      and-both (isFirst (p .expression) (c .expression)) (sameVerifier p c)
+      (ap (λ (x : Expression). isFirst x (c .expression)) e ∙ eq-same (c .expression) (E.Role a) f) (eq-eqb (c .verifier) (p .verifier) b)
 
-  pub form-five : {q : Parts} {a : Role} → p .expression ≡ E.Intersection q → List·Memᴰ a (rolesOf q) → c .expression ≡ E.Role a → c .verifier ≡ p .verifier → c .subject ≡ p .subject → form 5 v p c ≡ true
+  pub form-five : {q : Parts} {a : Role} → p .expression ≡ E.Intersection q → List·Memᴰ a (rolesOf q) → c .expression ≡ E.Role a
+      → c .verifier ≡ p .verifier → c .subject ≡ p .subject → form 5 v p c ≡ true
   unfolding form hasRole
   form-five {a = a} e m f b d =
       and-both (isPart (p .expression) (c .expression)) (sameEnds p c)
-      (ap (λ (x : Expression). isPart x (c .expression)) e ∙ any-here (λ (r : Role). same (c .expression) (E.Role r)) m (eq-same (c .expression) (E.Role a) f)) (ends b d)
+      (ap (λ (x : Expression). isPart x (c .expression)) e
+      ∙ any-here (λ (r : Role). same (c .expression) (E.Role r)) m (eq-same (c .expression) (E.Role a) f)) (ends b d)
 
   pub form-six : isStandard (p .expression) ≡ true → isStandard (c .expression) ≡ true → (c .verifier ≡ p .verifier → ⊥) → c .subject ≡ v → form 6 v p c ≡ true
   unfolding form
   form-six s t a b =
       and-both (isStandard (p .expression) && isStandard (c .expression) && not (sameVerifier p c)) (eqb (c .subject) v)
-      (and-both (isStandard (p .expression) && isStandard (c .expression)) (not (sameVerifier p c)) (and-both (isStandard (p .expression)) (isStandard (c .expression)) s t) (ap not (ne-eqb (c .verifier) (p .verifier) a)))
+      (and-both (isStandard (p .expression) && isStandard (c .expression)) (not (sameVerifier p c))
+      (and-both (isStandard (p .expression)) (isStandard (c .expression)) s t) (ap not (ne-eqb (c .verifier) (p .verifier) a)))
       (eq-eqb (c .subject) v b)
 
 abbrev number : Expression → ℕ

@@ -28,6 +28,7 @@ use Rattle.damage.specs.laws.Damage.{fits-sound}
 use Rattle.legal.specs.laws.Growth.{Each, Ends, turn-at, fits-parts}
 use Rattle.legal.specs.laws.Kept.{GraphKept, record-parts, brought-parts, all-ends}
 use Rattle.legality.specs.laws.Proper.{Proper}
+use Rattle.numbers.specs.Sizes.{MOST-NODES, MOST-EDGES, MOST-SHOWN}
 
 -- our tables are sound, and so is the graph of the negotiation, whatever its count and end
 pub record Going (T : Tables) (S : State) : Type 0 where
@@ -52,7 +53,13 @@ header-parts own ns h e =
     let b = and-parts (ltb (h .side) 2 && eqb (h .own) own) (otherSound (h .own) (h .other)) (a .0) in
     let c = and-parts (ltb (h .side) 2) (eqb (h .own) own) (b .0) in
     let d = and-parts (not (eqb (h .other) 0)) (not (eqb (h .other) (h .own))) (b .1) in
-    record { side = ltb-true (h .side) 2 (c .0); own = eqb-true (h .own) own (c .1); other = eqb-false (h .other) 0 (not-true (eqb (h .other) 0) (d .0)); wanted = a .1 }
+    record {
+      side = ltb-true (h .side) 2 (c .0);
+      own = eqb-true (h .own) own (c .1);
+      other = eqb-false (h .other) 0
+          (not-true (eqb (h .other) 0) (d .0));
+      wanted = a .1;
+    }
 
 -- What a sound node has
 
@@ -64,7 +71,8 @@ pub record NodeParts (ns : List Name) (n : Node) : Type 0 where
 pub node-parts : (ns : List Name) (n : Node) → nodeSound ns n ≡ true → NodeParts ns n
 unfolding nodeSound
 node-parts ns n h =
-    let a = and-parts (wellFormed (n .expression) && ltb 0 (n .subject) && ltb (n .verifier) 2 && legalState (n .expression) (n .state)) (isTyped (typeOf ns (n .expression))) h in
+    let a = and-parts (wellFormed (n .expression) && ltb 0 (n .subject) && ltb (n .verifier) 2 && legalState (n .expression) (n .state))
+    (isTyped (typeOf ns (n .expression))) h in
     let b = and-parts (wellFormed (n .expression) && ltb 0 (n .subject) && ltb (n .verifier) 2) (legalState (n .expression) (n .state)) (a .0) in
     let c = and-parts (wellFormed (n .expression) && ltb 0 (n .subject)) (ltb (n .verifier) 2) (b .0) in
     let d = and-parts (wellFormed (n .expression)) (ltb 0 (n .subject)) (c .0) in
@@ -90,11 +98,11 @@ module _ (T : Tables) (S : State) (g : Going T S) where
   pub going-ends : Each (Ends (length (S .nodes))) (S .edges)
   going-ends = all-ends (S .header) (S .nodes) (S .edges) (g .graph .edges) (g .some)
 
-  pub going-few : length (S .nodes) ≤ 128
+  pub going-few : length (S .nodes) ≤ MOST-NODES
   unfolding within
   going-few =
-      let a = and-parts (leb (length (S .nodes)) 128 && leb (length (S .edges)) 256) (leb (length (S .shown)) 64) (g .sizes) in
-      leb-true (length (S .nodes)) 128 (and-parts (leb (length (S .nodes)) 128) (leb (length (S .edges)) 256) (a .0) .0)
+      let a = and-parts (leb (length (S .nodes)) MOST-NODES && leb (length (S .edges)) MOST-EDGES) (leb (length (S .shown)) MOST-SHOWN) (g .sizes) in
+      leb-true (length (S .nodes)) MOST-NODES (and-parts (leb (length (S .nodes)) MOST-NODES) (leb (length (S .edges)) MOST-EDGES) (a .0) .0)
 
   pub going-nodes : NodesFormed (S .nodes)
   going-nodes = record { few = going-few; formed = λ i l. going-node i l .proper .formed }
@@ -106,6 +114,10 @@ module _ (T : Tables) (S : State) (g : Going T S) where
         parent = λ j l. going-ends (edgeIn (S .edges) j) (getD-mem (S .edges) _ j l) .0;
         child = λ j l. going-ends (edgeIn (S .edges) j) (getD-mem (S .edges) _ j l) .1;
         formed = λ j l.
-            let r = turn-at (edgeFits (S .header) (S .nodes)) (record { kind = 0; parent = 0; child = 0 }) [] (S .edges) (brought-parts (S .header) (S .nodes) (S .edges) (g .graph .edges) .0) j l in
-            (entityOf (S .header) (nodeIn (S .nodes) (edgeIn (S .edges) j .parent) .verifier), fits-parts (S .header) (S .nodes) (r .0) (edgeIn (S .edges) j) (r .1) .1);
+            let r = turn-at (edgeFits (S .header) (S .nodes)) (record { kind = 0; parent = 0; child = 0 }) [] (S .edges)
+            (brought-parts (S .header) (S .nodes) (S .edges) (g .graph .edges) .0) j l in (
+              entityOf (S .header) (nodeIn (S .nodes) (edgeIn (S .edges) j .parent) .verifier),
+              fits-parts (S .header) (S .nodes) (r .0)
+                  (edgeIn (S .edges) j) (r .1) .1,
+            );
       }

@@ -77,7 +77,8 @@ updates-header none = refl
 updates-header {s = s} (next {S = S} {c = c} e f l u) = updates-header u ∙ step-header S s c
 
 -- our next move keeps what holds while we reply
-pub move-going : (T : Tables) (S : State) → Going T S → hasRoomFor (S .header .side) S (nextMove (endIn T S)) ≡ true → Going T (carried (S .header .side) S (nextMove (endIn T S)))
+pub move-going : (T : Tables) (S : State) → Going T S → hasRoomFor (S .header .side) S (nextMove (endIn T S)) ≡ true
+    → Going T (carried (S .header .side) S (nextMove (endIn T S)))
 move-going T S g room = updates-going T (move-updates T S g room) g
 
 -- The start
@@ -101,7 +102,8 @@ module _ (T : Tables) (t : Sound T) (S : State) (h : sound T S ≡ true) (w : wi
     sound-empty : emptySound (S .header) (length (S .edges)) (length (S .shown)) ≡ true
     unfolding sound
     sound-empty =
-        sym (ap (λ (b : Bool). cond b (emptySound (S .header) (length (S .edges)) (length (S .shown))) (graphSound (T .names) S)) (eq-eqb (length (S .nodes)) 0 fresh)) ∙ and-parts (headerSound (T .own) (T .names) (S .header)) _ h .1
+        sym (ap (λ (b : Bool). cond b (emptySound (S .header) (length (S .edges)) (length (S .shown))) (graphSound (T .names) S))
+        (eq-eqb (length (S .nodes)) 0 fresh)) ∙ and-parts (headerSound (T .own) (T .names) (S .header)) _ h .1
 
     empty-counts : (length (S .edges) ≡ 0) × (length (S .shown) ≡ 0)
     unfolding emptySound
@@ -125,7 +127,9 @@ module _ (T : Tables) (t : Sound T) (S : State) (h : sound T S ≡ true) (w : wi
 
     pub open-formed : formedCommand (Open opening) ≡ true
     unfolding formedCommand
-    open-formed = and-both (isRole (S .header .wanted)) (legalState (E.Role (S .header .wanted)) (opening .state)) (wanted-parts .0) (initial-legal (T .names) true (E.Role (S .header .wanted)))
+    open-formed =
+        and-both (isRole (S .header .wanted)) (legalState (E.Role (S .header .wanted)) (opening .state)) (wanted-parts .0)
+        (initial-legal (T .names) true (E.Role (S .header .wanted)))
 
     pub open-legal : Legal (T .names) (S .header .side) S (Open opening)
     unfolding Legal
@@ -150,7 +154,8 @@ module _ (T : Tables) (t : Sound T) (S : State) (h : sound T S ≡ true) (w : wi
         let u : ltb 0 (requester (S .header)) ≡ true = lt-ltb 0 (requester (S .header)) (omega (arith, requester-other, parts .other)) in
         and-both (wellFormed x && ltb 0 (requester (S .header)) && true && legalState x (opening .state)) (isTyped (typeOf (T .names) x))
         (and-both (wellFormed x && ltb 0 (requester (S .header)) && true) (legalState x (opening .state))
-        (and-both (wellFormed x && ltb 0 (requester (S .header))) true (and-both (wellFormed x) (ltb 0 (requester (S .header))) (p .formed) u) refl) (initial-legal (T .names) true x))
+        (and-both (wellFormed x && ltb 0 (requester (S .header))) true (and-both (wellFormed x) (ltb 0 (requester (S .header))) (p .formed) u) refl)
+        (initial-legal (T .names) true x))
         (p .typed)
 
     -- "The primary's verifier is the mediator, its subject the requester"; the mediator knows its role
@@ -158,7 +163,8 @@ module _ (T : Tables) (t : Sound T) (S : State) (h : sound T S ≡ true) (w : wi
     unfolding primarySound primaryOf
     primary-sound =
         let b : Bool = same (E.Role (S .header .wanted)) (E.Role (S .header .wanted)) in
-        and-both (eqb (requester (S .header)) (requester (S .header))) (cond (eqb (S .header .side) 0) b true) (eq-eqb (requester (S .header)) (requester (S .header)) refl)
+        and-both (eqb (requester (S .header)) (requester (S .header))) (cond (eqb (S .header .side) 0) b true)
+        (eq-eqb (requester (S .header)) (requester (S .header)) refl)
         (ap (λ (v : ℕ). cond (eqb v 0) b true) side ∙ eq-same (E.Role (S .header .wanted)) (E.Role (S .header .wanted)) refl)
 
     no-one : {A : Type 0} (xs : List A) → length xs ≡ 0 → xs ≡ []
@@ -173,10 +179,13 @@ module _ (T : Tables) (t : Sound T) (S : State) (h : sound T S ≡ true) (w : wi
         let no-edges : S .edges ≡ [] = no-one (S .edges) (empty-counts .0) in
         record {
           records = records-of (T .names) (withNode S x)
-              (ap (λ (xs : List Node). inTurn (nodeFits (T .names)) [] (xs ++ (x ∷ []))) no-nodes ∙ and-both (nodeSound (T .names) x && true) true (and-both (nodeSound (T .names) x) true primary-node refl) refl)
+              (ap (λ (xs : List Node). inTurn (nodeFits (T .names)) [] (xs ++ (x ∷ []))) no-nodes
+              ∙ and-both (nodeSound (T .names) x && true) true (and-both (nodeSound (T .names) x) true primary-node refl) refl)
               (ap (λ (xs : List Node). primarySound (S .header) (nodeIn (xs ++ (x ∷ [])) 0)) no-nodes ∙ primary-sound)
               (ap (inTurn (credentialFits (T .names)) []) (no-one (S .shown) (empty-counts .1)));
-          edges = brought-of (S .header) (S .nodes ++ (x ∷ [])) (S .edges) (ap (inTurn (edgeFits (S .header) (S .nodes ++ (x ∷ []))) []) no-edges) (ap brought no-edges ∙ ap (λ (xs : List Node). length (xs ++ (x ∷ []))) (sym no-nodes));
+          edges =
+              brought-of (S .header) (S .nodes ++ (x ∷ [])) (S .edges) (ap (inTurn (edgeFits (S .header) (S .nodes ++ (x ∷ []))) []) no-edges)
+              (ap brought no-edges ∙ ap (λ (xs : List Node). length (xs ++ (x ∷ []))) (sym no-nodes));
           justified = ap (inTurn (justified (S .shown) (S .nodes ++ (x ∷ []))) []) no-edges;
         }
 

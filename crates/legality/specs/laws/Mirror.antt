@@ -74,7 +74,8 @@ module _ (h k : Header) (m : Mirrored h k) where
   step-mirror S s (Show c) e = refl
   step-mirror S s (Open o) e =
       let q : requester k ≡ requester (S .header) = same-requester ∙ ap requester (sym e) in
-      λ i. withNode (record { header = k; nodes = S .nodes; edges = S .edges; shown = S .shown }) (record { expression = E.Role (o .role); subject = q i; verifier = 0; state = o .state })
+      λ i. withNode (record { header = k; nodes = S .nodes; edges = S .edges; shown = S .shown })
+      (record { expression = E.Role (o .role); subject = q i; verifier = 0; state = o .state })
   step-mirror S s (Bring n) e = refl
   step-mirror S s (Join d) e = refl
   step-mirror S s (Mark i) e = refl
@@ -112,7 +113,8 @@ module _ (h k : Header) (m : Mirrored h k) where
     legal-mirror T s (Open o) g e l = record { classes = l .classes; fresh = l .fresh }
     legal-mirror T s (Bring n) g e l =
         let p : Node = nodeIn (S .nodes) (n .parent) in
-        let q : entityOf k (p .verifier) ≡ entityOf (S .header) (p .verifier) = same-entity (p .verifier) (going-node T S g (n .parent) (l .parent) .verifier) ∙ ap (λ (x : Header). entityOf x (p .verifier)) (sym e) in
+        let q : entityOf k (p .verifier) ≡ entityOf (S .header) (p .verifier) = same-entity (p .verifier)
+        (going-node T S g (n .parent) (l .parent) .verifier) ∙ ap (λ (x : Header). entityOf x (p .verifier)) (sym e) in
         record {
           classes = l .classes;
           parent = l .parent;
@@ -125,7 +127,8 @@ module _ (h k : Header) (m : Mirrored h k) where
         }
     legal-mirror T s (Join d) g e l =
         let p : Node = nodeIn (S .nodes) (d .parent) in
-        let q : entityOf k (p .verifier) ≡ entityOf (S .header) (p .verifier) = same-entity (p .verifier) (going-node T S g (d .parent) (l .parent) .verifier) ∙ ap (λ (x : Header). entityOf x (p .verifier)) (sym e) in
+        let q : entityOf k (p .verifier) ≡ entityOf (S .header) (p .verifier) = same-entity (p .verifier)
+        (going-node T S g (d .parent) (l .parent) .verifier) ∙ ap (λ (x : Header). entityOf x (p .verifier)) (sym e) in
         record {
           parent = l .parent;
           child = l .child;
@@ -140,15 +143,19 @@ module _ (h k : Header) (m : Mirrored h k) where
     legal-mirror T s End g e l = record { some = l .some }
 
   -- legal commands one after another, where nodes stand
-  pub updates-mirror : (T : Tables) {s : ℕ} {S U : State} {cs : List Command} → Going T S → S .header ≡ h → Updates (T .names) s S cs U → Updates (T .names) s (withHeader S k) cs (withHeader U k)
+  pub updates-mirror : (T : Tables) {s : ℕ} {S U : State} {cs : List Command} → Going T S → S .header ≡ h → Updates (T .names) s S cs U
+      → Updates (T .names) s (withHeader S k) cs (withHeader U k)
   updates-mirror T g e none = none
   updates-mirror T {s = s} {U = U} g e (next {S = S} {c = c} {cs = cs} q f l u) =
       next {c = c} q f (legal-mirror S T s c g e l)
-      (subst (λ (R : State). Updates (T .names) s R cs (withHeader U k)) (sym (step-mirror S s c e)) (updates-mirror T (step-going T s S c g f l) (step-header S s c ∙ e) u))
+      (subst (λ (R : State). Updates (T .names) s R cs (withHeader U k)) (sym (step-mirror S s c e))
+      (updates-mirror T (step-going T s S c g f l) (step-header S s c ∙ e) u))
 
   -- the mediator's open, and the legal commands behind it
-  pub opened-mirror : (T : Tables) (s : ℕ) (S : State) (o : Opening) {U : State} {cs : List Command} → S .header ≡ h → formedCommand (Open o) ≡ true → Legal (T .names) s S (Open o) → Going T (stepped S s (Open o)) → Updates (T .names) s (stepped S s (Open o)) cs U
+  pub opened-mirror : (T : Tables) (s : ℕ) (S : State) (o : Opening) {U : State} {cs : List Command} → S .header ≡ h → formedCommand (Open o) ≡ true
+      → Legal (T .names) s S (Open o) → Going T (stepped S s (Open o)) → Updates (T .names) s (stepped S s (Open o)) cs U
       → Updates (T .names) s (withHeader S k) (Open o ∷ cs) (withHeader U k)
   opened-mirror T s S o {U} {cs} e f l g u =
       next {c = Open o} refl f (open-mirror S (T .names) s o l)
-      (subst (λ (R : State). Updates (T .names) s R cs (withHeader U k)) (sym (step-mirror S s (Open o) e)) (updates-mirror T g (step-header S s (Open o) ∙ e) u))
+      (subst (λ (R : State). Updates (T .names) s R cs (withHeader U k)) (sym (step-mirror S s (Open o) e))
+      (updates-mirror T g (step-header S s (Open o) ∙ e) u))

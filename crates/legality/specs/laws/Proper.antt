@@ -108,7 +108,8 @@ module _ (ns : List Name) where
       let u = and-parts (isRole (p .first) && isRole (p .second) && ascends (p .first) (p .second)) (tailFormed p) f in
       let v = and-parts (isRole (p .first) && isRole (p .second)) (ascends (p .first) (p .second)) (u .0) in
       let w = and-parts (isRole (p .first)) (isRole (p .second)) (v .0) in
-      ⊎-elim (λ e. ap isRole e ∙ w .0) (λ k. ⊎-elim (λ e. ap isRole e ∙ w .1) (λ j. rest (eqb (p .count) 2) (eqb (p .count) 3) (eqb (p .count) 4) (u .1) j) (List·Memᴰ·cases-cons k)) (List·Memᴰ·cases-cons m)
+      ⊎-elim (λ e. ap isRole e ∙ w .0) (λ k. ⊎-elim (λ e. ap isRole e ∙ w .1)
+      (λ j. rest (eqb (p .count) 2) (eqb (p .count) 3) (eqb (p .count) 4) (u .1) j) (List·Memᴰ·cases-cons k)) (List·Memᴰ·cases-cons m)
     where
       last : isRole (p .fourth) ≡ true → List·Memᴰ a (p .fourth ∷ []) → isRole a ≡ true
       last h k = ⊎-elim (λ e. ap isRole e ∙ h) (λ j. absurd (List·Memᴰ·not-nil j)) (List·Memᴰ·cases-cons k)
@@ -121,7 +122,8 @@ module _ (ns : List Name) where
       rest true three four h k = absurd (List·Memᴰ·not-nil k)
       rest false true four h k =
           let u = and-parts (isRole (p .third) && ascends (p .second) (p .third)) (isEmpty (p .fourth)) h in
-          ⊎-elim (λ e. ap isRole e ∙ and-parts (isRole (p .third)) (ascends (p .second) (p .third)) (u .0) .0) (λ j. absurd (List·Memᴰ·not-nil j)) (List·Memᴰ·cases-cons k)
+          ⊎-elim (λ e. ap isRole e ∙ and-parts (isRole (p .third)) (ascends (p .second) (p .third)) (u .0) .0) (λ j. absurd (List·Memᴰ·not-nil j))
+          (List·Memᴰ·cases-cons k)
       rest false false true h k =
           let u = and-parts (isRole (p .third) && ascends (p .second) (p .third) && isRole (p .fourth)) (ascends (p .third) (p .fourth)) h in
           let v = and-parts (isRole (p .third) && ascends (p .second) (p .third)) (isRole (p .fourth)) (u .0) in
@@ -163,7 +165,8 @@ module _ (ns : List Name) (c : Credential) (k : ProperCredential ns c) where
   unfolding credentialNumber
   body-typed h = go (eqb (classOf ns (c .head .name)) 0 || isUnnamed (typeOf ns (c .body))) (suits (typeOf ns (c .body)) (classOf ns (c .head .name))) refl h
     where
-      go : (a b : Bool) → suits (typeOf ns (c .body)) (classOf ns (c .head .name)) ≡ b → _≡_ {A = ℕ} (cond a 4 (cond b 0 5)) 0 → isTyped (typeOf ns (c .body)) ≡ true
+      go : (a b : Bool) → suits (typeOf ns (c .body)) (classOf ns (c .head .name)) ≡ b → _≡_ {A = ℕ} (cond a 4 (cond b 0 5)) 0
+          → isTyped (typeOf ns (c .body)) ≡ true
       go true b e q = absurd (let z : _≡_ {A = ℕ} 4 0 = q in omega (arith, z))
       go false true e q = suits-typed (typeOf ns (c .body)) (classOf ns (c .head .name)) e
       go false false e q = absurd (let z : _≡_ {A = ℕ} 5 0 = q in omega (arith, z))

@@ -38,7 +38,8 @@ module _ (ns : List Name) (C : List Credential) (top : Expression) (s : Stored n
   walk-reached (here h) r = r
   walk-reached (through {c = c} n m q k) r = walk-reached k (step-reached c m q (r .from))
 
-  pub frontier-reached : (pred : Expression → Bool) (xs : List Expression) → ((x : Expression) → List·Memᴰ x xs → Reached ns C top x) → (f : Expression) → List·Memᴰ f (frontierOf pred C xs) → Reached ns C top f
+  pub frontier-reached : (pred : Expression → Bool) (xs : List Expression) → ((x : Expression) → List·Memᴰ x xs → Reached ns C top x)
+      → (f : Expression) → List·Memᴰ f (frontierOf pred C xs) → Reached ns C top f
   frontier-reached pred xs h f m = let w = frontier-find pred C xs m in walk-reached (w .2) (h (w .0) (w .1))
 
   -- the bodies of a role's credentials
@@ -51,4 +52,5 @@ module _ (ns : List Name) (C : List Credential) (top : Expression) (s : Stored n
   -- the expression itself
   pub self-reached : Proper ns top → isBody top ≡ true → (y : Expression) → List·Memᴰ y (top ∷ []) → Reached ns C top y
   self-reached p b y m =
-      ⊎-elim (λ e. subst (λ (z : Expression). Reached ns C top z) (sym e) (record { proper = p; body = b; from = reflexive })) (λ k. absurd (List·Memᴰ·not-nil k)) (List·Memᴰ·cases-cons m)
+      ⊎-elim (λ e. subst (λ (z : Expression). Reached ns C top z) (sym e) (record { proper = p; body = b; from = reflexive }))
+      (λ k. absurd (List·Memᴰ·not-nil k)) (List·Memᴰ·cases-cons m)

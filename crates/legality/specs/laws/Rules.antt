@@ -52,9 +52,12 @@ use Rattle.moves.specs.Known.{policyOf, holdingOf, isAcknowledged, KnownRole, k
 use Rattle.moves.specs.Frontiers.{gather, bodiesOf, oppo, simp, sens}
 use Rattle.moves.specs.Candidates.{ordered, Plan}
 use Rattle.moves.specs.laws.Candidates.{ordered-find}
-use Rattle.moves.specs.Rules.{End, endIn, entitiesIn, ownersIn, childFor, suitsNode, implications, toSubject, partEdges, thenMark, childrenBy, isSatisfied, solutionsOf, linkRules, membersOf, oppoFrontier, verifierRules, controlEdge, ownEdge, sensitiveRules, sensFrontier, simpFrontier, ownRules, isNamed, solutionRoles, opponentRules}
+use Rattle.moves.specs.Rules.{End, endIn, entitiesIn, ownersIn, childFor, suitsNode, implications, toSubject, partEdges, thenMark, childrenBy, isSatisfied}
+use Rattle.moves.specs.Rules.{solutionsOf, linkRules, membersOf, oppoFrontier, verifierRules, controlEdge, ownEdge, sensitiveRules, sensFrontier}
+use Rattle.moves.specs.Rules.{simpFrontier, ownRules, isNamed, solutionRoles, opponentRules}
 use Rattle.moves.specs.Move.{sideSet, directFor, credentialsFor, planAt}
-use Rattle.legality.specs.laws.Proper.{Proper, role-proper, proper-goal, entity-proper, linked-first, linked-goal, linked-second, part-proper, ProperCredential, head-formed, body-proper}
+use Rattle.legality.specs.laws.Proper.{Proper, role-proper, proper-goal, entity-proper, linked-first, linked-goal, linked-second, part-proper}
+use Rattle.legality.specs.laws.Proper.{ProperCredential, head-formed, body-proper}
 use Rattle.legality.specs.laws.Stored.{Stored, issuer-stored, subject-stored, less-stored, sensitive-role, ack-proper, access-proper}
 use Rattle.legality.specs.laws.Going.{Going, going-header, going-node, going-ends}
 use Rattle.legality.specs.laws.Forms.{form-one, form-two, form-three, form-four, form-five, form-six, other-side}
@@ -199,7 +202,9 @@ module _ (T : Tables) (S : State) (g : Going T S) (i : ℕ) (l : i < length (S .
         (λ e.
         let w = any-find (same (E.Entity (n .subject))) xs e in
         let q : E.Entity (n .subject) ≡ w .0 = same-eq (E.Entity (n .subject)) (w .0) (w .2) in
-        fit-cons T S i (implication-fit T S g i l C s own std (E.Entity (n .subject)) (subst (λ (x : Expression). Reached (T .names) C (n .expression) x) (sym q) (h (w .0) (w .1))) (eq-same (E.Entity (n .subject)) (E.Entity (n .subject)) refl)) (fit-none T S i))
+        fit-cons T S i (implication-fit T S g i l C s own std (E.Entity (n .subject))
+        (subst (λ (x : Expression). Reached (T .names) C (n .expression) x) (sym q) (h (w .0) (w .1)))
+        (eq-same (E.Entity (n .subject)) (E.Entity (n .subject)) refl)) (fit-none T S i))
         (implications-fit (keep (λ x. not (isEntity x)) xs) (λ x m. h x (keep-find (λ x. not (isEntity x)) xs m .0)))
 
   -- "the k intersection edges"
@@ -208,7 +213,8 @@ module _ (T : Tables) (S : State) (g : Going T S) (i : ℕ) (l : i < length (S .
   parts-fit p e =
       fit-ordered T S i (λ (r : Role). childFor 5 n (E.Role r) (n .subject)) (rolesOf p)
       (λ r m.
-      plain-fit T S i (childFor 5 n (E.Role r) (n .subject)) refl refl refl (λ t. form-five _ n (childNode (childFor 5 n (E.Role r) (n .subject)) t) e m refl refl refl) (part-proper (T .names) p (proper e) r m)
+      plain-fit T S i (childFor 5 n (E.Role r) (n .subject)) refl refl refl
+      (λ t. form-five _ n (childNode (childFor 5 n (E.Role r) (n .subject)) t) e m refl refl refl) (part-proper (T .names) p (proper e) r m)
       (going-node T S g i l .subject) (λ z. absurd (let y : _≡_ {A = ℕ} 5 4 = z in omega (arith, y))))
 
   -- Linked roles
@@ -246,12 +252,14 @@ module _ (T : Tables) (S : State) (g : Going T S) (i : ℕ) (l : i < length (S .
     unfolding formedAs verifierOf
     link-fit =
         fit-cons T S i
-        (plain-fit T S i (childFor 2 n (E.Goal r) (n .subject)) refl refl refl (λ t. form-two _ n (childNode (childFor 2 n (E.Goal r) (n .subject)) t) e refl refl refl) (linked-goal (T .names) a r (proper e))
+        (plain-fit T S i (childFor 2 n (E.Goal r) (n .subject)) refl refl refl
+        (λ t. form-two _ n (childNode (childFor 2 n (E.Goal r) (n .subject)) t) e refl refl refl) (linked-goal (T .names) a r (proper e))
         (going-node T S g i l .subject) (λ z. absurd (let y : _≡_ {A = ℕ} 2 4 = z in omega (arith, y))))
         (fit-ordered T S i (λ b. childFor 4 n (E.Role a) b) (solutionsOf (endIn T S) r i)
         (λ b m.
         let k = solution-monitored b m in
-        plain-fit T S i (childFor 4 n (E.Role a) b) refl refl refl (λ t. form-four _ n (childNode (childFor 4 n (E.Role a) b) t) e refl refl) (linked-first (T .names) a r (proper e)) (k .1) (λ z. k .0)))
+        plain-fit T S i (childFor 4 n (E.Role a) b) refl refl refl (λ t. form-four _ n (childNode (childFor 4 n (E.Role a) b) t) e refl refl)
+        (linked-first (T .names) a r (proper e)) (k .1) (λ z. k .0)))
 
   -- Our end as verifier
 
@@ -260,31 +268,40 @@ module _ (T : Tables) (S : State) (g : Going T S) (i : ℕ) (l : i < length (S .
     unfolding endIn publicOf
     issuer-own = rw side refl
 
-    members-reached : (a : Role) (r : ℕ) → n .expression ≡ E.Linked a r → (x : Expression) → List·Memᴰ x (map (λ b. E.Role (roleOf b r)) (membersOf (endIn T S) a)) → Reached (T .names) (T .issuerStored) (n .expression) x
+    members-reached : (a : Role) (r : ℕ) → n .expression ≡ E.Linked a r → (x : Expression)
+        → List·Memᴰ x (map (λ b. E.Role (roleOf b r)) (membersOf (endIn T S) a)) → Reached (T .names) (T .issuerStored) (n .expression) x
     unfolding endIn publicOf
     members-reached a r e x m =
         let u = map-find (λ b. E.Role (roleOf b r)) (membersOf (endIn T S) a) m in
         let b : ℕ = u .0 in
-        let v = keep-find (λ b. fromOf (T .issuerStored) (E.Role a) (E.Entity b)) (gather (λ (c : Credential). entitiesIn (c .body)) (T .issuerStored)) (u .1) in
+        let v = keep-find (λ b. fromOf (T .issuerStored) (E.Role a) (E.Entity b))
+        (gather (λ (c : Credential). entitiesIn (c .body)) (T .issuerStored)) (u .1) in
         let w = gather-find (λ (c : Credential). entitiesIn (c .body)) (T .issuerStored) (v .0) in
         let c : Credential = w .0 in
         let body : c .body ≡ E.Entity b = entity-in (c .body) (w .2) in
         let positive : ltb 0 b ≡ true = sym (ap wellFormed body) ∙ body-proper (T .names) c (issuer-stored T (g .tables) .each c (w .1)) .formed in
         let linked : From (T .issuerStored) (E.Linked a r) (E.Role (roleOf b r)) = linking (sound (T .issuerStored) (E.Role a) (E.Entity b) (v .1)) in
         subst (λ (y : Expression). Reached (T .names) (T .issuerStored) (n .expression) y) (sym (u .2))
-        (record { proper = linked-second (T .names) a r b (proper e) positive; body = refl; from = subst (λ (y : Expression). From (T .issuerStored) y (E.Role (roleOf b r))) (sym e) linked })
+        (record {
+          proper = linked-second (T .names) a r b (proper e) positive;
+          body = refl;
+          from = subst
+              (λ (y : Expression). From (T .issuerStored) y (E.Role (roleOf b r))) (sym e) linked;
+        })
 
     verifier-fit : (x : Expression) → n .expression ≡ x → AllFit T S i (verifierRules (endIn T S) i n x .wanted)
     unfolding verifierRules endIn publicOf
     verifier-fit (E.Entity a) e = fit-none T S i
     verifier-fit (E.Role a) e =
-        implications-fit (T .issuerStored) (issuer-stored T (g .tables)) issuer-own (standard e refl) (oppoFrontier (endIn T S) (bodiesOf (T .issuerStored) (E.Role a)))
+        implications-fit (T .issuerStored) (issuer-stored T (g .tables)) issuer-own (standard e refl)
+        (oppoFrontier (endIn T S) (bodiesOf (T .issuerStored) (E.Role a)))
         (frontier-reached (T .names) (T .issuerStored) (n .expression) (issuer-stored T (g .tables)) (oppo (T .names)) (bodiesOf (T .issuerStored) (E.Role a))
         (bodies-reached (T .names) (T .issuerStored) (n .expression) (issuer-stored T (g .tables)) (E.Role a) (from-node (T .issuerStored) e)))
     verifier-fit (E.Linked a r) e =
         let members : List Expression = map (λ b. E.Role (roleOf b r)) (membersOf (endIn T S) a) in
         let all : Plan = thenMark (implications n (oppoFrontier (endIn T S) members)) in
-        fit-plan T S i (eqb (classOf (T .names) (a .name)) 1) (linkRules (endIn T S) i n a r) (cond (eqb (classOf (T .names) (a .name)) 2) all (thenMark [])) (link-fit a r e)
+        fit-plan T S i (eqb (classOf (T .names) (a .name)) 1) (linkRules (endIn T S) i n a r)
+        (cond (eqb (classOf (T .names) (a .name)) 2) all (thenMark [])) (link-fit a r e)
         (fit-plan T S i (eqb (classOf (T .names) (a .name)) 2) all (thenMark [])
         (implications-fit (T .issuerStored) (issuer-stored T (g .tables)) issuer-own (standard e refl) (oppoFrontier (endIn T S) members)
         (frontier-reached (T .names) (T .issuerStored) (n .expression) (issuer-stored T (g .tables)) (oppo (T .names)) members (members-reached a r e)))
@@ -307,21 +324,25 @@ module _ (T : Tables) (S : State) (g : Going T S) (i : ℕ) (l : i < length (S .
     unfolding endIn formedAs verifierOf entityOf
     control-fit std r p =
         let other : S .header .other ≡ entityOf (S .header) (n .verifier) = rw side refl in
-        plain-fit T S i (controlEdge (endIn T S) n r) refl refl refl (λ t. form-six (entityOf (S .header) (n .verifier)) n (childNode (controlEdge (endIn T S) n r) t) std refl (other-side (n .verifier)) other) p
+        plain-fit T S i (controlEdge (endIn T S) n r) refl refl refl
+        (λ t. form-six (entityOf (S .header) (n .verifier)) n (childNode (controlEdge (endIn T S) n r) t) std refl (other-side (n .verifier)) other) p
         (omega (arith, going-header T S g .other)) (λ z. absurd (let y : _≡_ {A = ℕ} 6 4 = z in omega (arith, y)))
 
     -- "the implication edge T ← ⟨V : O ← O⟩"
-    own-fit : (a : Role) → n .expression ≡ E.Role a → n .subject ≡ T .own → List·Memᴰ (directOf (T .own) a) (T .subjectStored) → Fit T S i (ownEdge (endIn T S) n)
+    own-fit : (a : Role) → n .expression ≡ E.Role a → n .subject ≡ T .own → List·Memᴰ (directOf (T .own) a) (T .subjectStored)
+        → Fit T S i (ownEdge (endIn T S) n)
     unfolding credentialsFor endIn publicOf formedAs verifierOf
     own-fit a e q m =
         let D : List Credential = directOf (T .own) a ∷ [] in
         let w : Candidate = ownEdge (endIn T S) n in
         let s : Stored (T .names) D = record {
-          each = λ c k. subst (λ (d : Credential). ProperCredential (T .names) d) (sym (one-only k)) (subject-stored T (g .tables) .each (directOf (T .own) a) m);
+          each =
+              λ c k. subst (λ (d : Credential). ProperCredential (T .names) d) (sym (one-only k)) (subject-stored T (g .tables) .each (directOf (T .own) a) m);
           rising = rising-cons refl rising-none;
         } in
         let f : From D (E.Role a) (E.Entity (T .own)) = credential {c = directOf (T .own) a} (List·Memᴰ·head refl) in
-        let h : From D (n .expression) (E.Entity (n .subject)) = subst (λ (y : Expression). From D y (E.Entity (n .subject))) (sym e) (subst (λ (b : ℕ). From D (E.Role a) (E.Entity b)) (sym q) f) in
+        let h : From D (n .expression) (E.Entity (n .subject)) = subst (λ (y : Expression). From D y (E.Entity (n .subject))) (sym e)
+        (subst (λ (b : ℕ). From D (E.Role a) (E.Entity b)) (sym q) f) in
         record {
           fit = subst (FitWith T S i w) (ap (directFor (endIn T S)) (sym e))
               (record {
@@ -335,7 +356,8 @@ module _ (T : Tables) (S : State) (g : Going T S) (i : ℕ) (l : i < length (S .
               });
         }
 
-    sensitive-fit : (a : Role) → n .expression ≡ E.Role a → n .subject ≡ T .own → (ack : Candidate) (rest : List Candidate) → Fit T S i ack → AllFit T S i rest → (k : Known) → KnownBy T a k → AllFit T S i (sensitiveRules (endIn T S) i n ack rest k .wanted)
+    sensitive-fit : (a : Role) → n .expression ≡ E.Role a → n .subject ≡ T .own → (ack : Candidate) (rest : List Candidate) → Fit T S i ack
+        → AllFit T S i rest → (k : Known) → KnownBy T a k → AllFit T S i (sensitiveRules (endIn T S) i n ack rest k .wanted)
     unfolding sensitiveRules
     sensitive-fit a e q ack rest f h Waiting k = fit-cons T S i f h
     sensitive-fit a e q ack rest f h (Seen Absent) k = fit-cons T S i f h
@@ -344,14 +366,17 @@ module _ (T : Tables) (S : State) (g : Going T S) (i : ℕ) (l : i < length (S .
         let b : Bool = isAcknowledged (endIn T S .state) r in
         fit-cons T S i f
         (fit-cons T S i (control-fit (standard e refl) r (k .1))
-        (fit-append T S i (cond b (ownEdge (endIn T S) n ∷ []) []) (fit-if T S i b (λ z. fit-cons T S i (own-fit a e q (k .0)) (fit-none T S i)) (fit-none T S i)) h))
+        (fit-append T S i (cond b (ownEdge (endIn T S) n ∷ []) [])
+        (fit-if T S i b (λ z. fit-cons T S i (own-fit a e q (k .0)) (fit-none T S i)) (fit-none T S i)) h))
 
-    own-rules-fit : (a : Role) → n .expression ≡ E.Role a → n .subject ≡ T .own → (ks : List KnownRole) → ((k : KnownRole) → List·Memᴰ k ks → KnownRight T k) → AllFit T S i (ownRules (endIn T S) i n a ks .wanted)
+    own-rules-fit : (a : Role) → n .expression ≡ E.Role a → n .subject ≡ T .own → (ks : List KnownRole)
+        → ((k : KnownRole) → List·Memᴰ k ks → KnownRight T k) → AllFit T S i (ownRules (endIn T S) i n a ks .wanted)
     unfolding endIn publicOf
     own-rules-fit a e q [] h =
         subject-fit C (less-stored T (g .tables)) subject-own (standard e refl) (sensFrontier (endIn T S) (E.Role a ∷ []))
         (frontier-reached (T .names) C (n .expression) (less-stored T (g .tables)) (sens (T .sensitive)) (E.Role a ∷ [])
-        (λ x m. self-reached (T .names) C (n .expression) (less-stored T (g .tables)) (going-node T S g i l .proper) (ap isBody e) x (subst (λ (y : Expression). List·Memᴰ x (y ∷ [])) (sym e) m)))
+        (λ x m. self-reached (T .names) C (n .expression) (less-stored T (g .tables)) (going-node T S g i l .proper) (ap isBody e) x
+        (subst (λ (y : Expression). List·Memᴰ x (y ∷ [])) (sym e) m)))
     own-rules-fit a e q (k ∷ ks) h = go (sameRole (k .role) a) refl (own-rules-fit a e q ks (λ j m. h j (List·Memᴰ·tail m)))
       where
         here : KnownRight T k
@@ -359,18 +384,25 @@ module _ (T : Tables) (S : State) (g : Going T S) (i : ℕ) (l : i < length (S .
 
         rest : AllFit T S i (implications n (keep (λ x. not (isEntity x)) (sensFrontier (endIn T S) (bodiesOf C (E.Role a)))))
         rest =
-            implications-fit C (less-stored T (g .tables)) subject-own (standard e refl) (keep (λ x. not (isEntity x)) (sensFrontier (endIn T S) (bodiesOf C (E.Role a))))
+            implications-fit C (less-stored T (g .tables)) subject-own (standard e refl)
+            (keep (λ x. not (isEntity x)) (sensFrontier (endIn T S) (bodiesOf C (E.Role a))))
             (λ x m.
-            frontier-reached (T .names) C (n .expression) (less-stored T (g .tables)) (sens (T .sensitive)) (bodiesOf C (E.Role a)) (bodies-reached (T .names) C (n .expression) (less-stored T (g .tables)) (E.Role a) (from-node C e)) x
+            frontier-reached (T .names) C (n .expression) (less-stored T (g .tables)) (sens (T .sensitive)) (bodiesOf C (E.Role a))
+            (bodies-reached (T .names) C (n .expression) (less-stored T (g .tables)) (E.Role a) (from-node C e)) x
             (keep-find (λ x. not (isEntity x)) (sensFrontier (endIn T S) (bodiesOf C (E.Role a))) m .0))
 
         go : (b : Bool) → sameRole (k .role) a ≡ b → AllFit T S i (ownRules (endIn T S) i n a ks .wanted)
-            → AllFit T S i (cond b (sensitiveRules (endIn T S) i n (controlEdge (endIn T S) n (k .ack)) (implications n (keep (λ x. not (isEntity x)) (sensFrontier (endIn T S) (bodiesOf C (E.Role a))))) (k .known)) (ownRules (endIn T S) i n a ks) .wanted)
-        go true z ih = sensitive-fit a e q (controlEdge (endIn T S) n (k .ack)) _ (control-fit (standard e refl) (k .ack) (here .ack)) rest (k .known) (subst (λ (r : Role). KnownBy T r (k .known)) (sameRole-eq (k .role) a z) (here .known))
+            → AllFit T S i (cond b (sensitiveRules (endIn T S) i n (controlEdge (endIn T S) n (k .ack))
+            (implications n (keep (λ x. not (isEntity x)) (sensFrontier (endIn T S) (bodiesOf C (E.Role a))))) (k .known))
+            (ownRules (endIn T S) i n a ks) .wanted)
+        go true z ih =
+            sensitive-fit a e q (controlEdge (endIn T S) n (k .ack)) _ (control-fit (standard e refl) (k .ack) (here .ack)) rest (k .known)
+            (subst (λ (r : Role). KnownBy T r (k .known)) (sameRole-eq (k .role) a z) (here .known))
         go false z ih = ih
 
     -- "any A.r2 ∈ sensitiveRoles or A.r2 defined by a credential"
-    solutions-fit : (r : ℕ) → n .expression ≡ E.Goal r → AllFit T S i (ordered (map (λ (a : Role). childFor 3 n (E.Role a) (n .subject)) (solutionRoles (endIn T S) r)))
+    solutions-fit : (r : ℕ) → n .expression ≡ E.Goal r
+        → AllFit T S i (ordered (map (λ (a : Role). childFor 3 n (E.Role a) (n .subject)) (solutionRoles (endIn T S) r)))
     unfolding endIn publicOf formedAs verifierOf
     solutions-fit r e =
         fit-ordered T S i (λ (a : Role). childFor 3 n (E.Role a) (n .subject)) (solutionRoles (endIn T S) r)
@@ -379,9 +411,11 @@ module _ (T : Tables) (S : State) (g : Going T S) (i : ℕ) (l : i < length (S .
         let name : a .name ≡ r = eqb-true (a .name) r (k .1) in
         let role : isRole a ≡ true = ⊎-elim
         (λ j. let w = map-find (λ (p : Pair). p .role) (T .sensitive) j in ap isRole (w .2) ∙ sensitive-role T (g .tables) (w .0) (w .1))
-        (λ j. let w = map-find (λ (c : Credential). c .head) C j in ap isRole (w .2) ∙ head-formed (T .names) (w .0) (less-stored T (g .tables) .each (w .0) (w .1)))
+        (λ j. let w = map-find (λ (c : Credential). c .head) C j in ap isRole (w .2)
+        ∙ head-formed (T .names) (w .0) (less-stored T (g .tables) .each (w .0) (w .1)))
         (List·Memᴰ·append-cases (map (λ (p : Pair). p .role) (T .sensitive)) (k .0)) in
-        plain-fit T S i (childFor 3 n (E.Role a) (n .subject)) refl refl refl (λ t. form-three _ n (childNode (childFor 3 n (E.Role a) (n .subject)) t) e (k .1) refl refl)
+        plain-fit T S i (childFor 3 n (E.Role a) (n .subject)) refl refl refl
+        (λ t. form-three _ n (childNode (childFor 3 n (E.Role a) (n .subject)) t) e (k .1) refl refl)
         (role-proper (T .names) a (ap (λ (s : ℕ). eqb (classOf (T .names) s) 0) name ∙ proper-goal (T .names) r (proper e)) role)
         (going-node T S g i l .subject) (λ z. absurd (let y : _≡_ {A = ℕ} 3 4 = z in omega (arith, y))))
 
@@ -390,12 +424,14 @@ module _ (T : Tables) (S : State) (g : Going T S) (i : ℕ) (l : i < length (S .
     opponent-fit (E.Entity a) e = fit-none T S i
     opponent-fit (E.Role a) e = go (eqb (n .subject) (T .own)) refl
       where
-        go : (b : Bool) → eqb (n .subject) (T .own) ≡ b → AllFit T S i (cond b (ownRules (endIn T S) i n a (endIn T S .known)) (thenMark (toSubject n (simpFrontier (endIn T S) (E.Role a ∷ [])))) .wanted)
+        go : (b : Bool) → eqb (n .subject) (T .own) ≡ b
+            → AllFit T S i (cond b (ownRules (endIn T S) i n a (endIn T S .known)) (thenMark (toSubject n (simpFrontier (endIn T S) (E.Role a ∷ [])))) .wanted)
         go true q = own-rules-fit a e (eqb-true (n .subject) (T .own) q) (endIn T S .known) (known-right T S g)
         go false q =
             subject-fit C (less-stored T (g .tables)) subject-own (standard e refl) (simpFrontier (endIn T S) (E.Role a ∷ []))
             (frontier-reached (T .names) C (n .expression) (less-stored T (g .tables)) simp (E.Role a ∷ [])
-            (λ x m. self-reached (T .names) C (n .expression) (less-stored T (g .tables)) (going-node T S g i l .proper) (ap isBody e) x (subst (λ (y : Expression). List·Memᴰ x (y ∷ [])) (sym e) m)))
+            (λ x m. self-reached (T .names) C (n .expression) (less-stored T (g .tables)) (going-node T S g i l .proper) (ap isBody e) x
+            (subst (λ (y : Expression). List·Memᴰ x (y ∷ [])) (sym e) m)))
     opponent-fit (E.Linked a r) e = link-fit a r e
     opponent-fit (E.Intersection p) e = parts-fit p e
     opponent-fit (E.Goal r) e = solutions-fit r e
@@ -405,6 +441,7 @@ module _ (T : Tables) (S : State) (g : Going T S) (i : ℕ) (l : i < length (S .
   unfolding endIn
   plan-fit = go (eqb (n .verifier) (S .header .side)) refl
     where
-      go : (b : Bool) → eqb (n .verifier) (S .header .side) ≡ b → AllFit T S i (cond b (verifierRules (endIn T S) i n (n .expression)) (opponentRules (endIn T S) i n (n .expression)) .wanted)
+      go : (b : Bool) → eqb (n .verifier) (S .header .side) ≡ b
+          → AllFit T S i (cond b (verifierRules (endIn T S) i n (n .expression)) (opponentRules (endIn T S) i n (n .expression)) .wanted)
       go true e = verifier-fit e (n .expression) refl
       go false e = opponent-fit e (n .expression) refl

@@ -3,7 +3,8 @@ use Prim.Native.Nat.{ℕ, _<_}
 use mathlib.Core.Path.{_≡_, refl, sym, _∙_, ap, subst}
 use mathlib.Core.Logic.{⊎-elim}
 use mathlib.Core.Bool.{Bool, true, not}
-use mathlib.Core.List.{List, [], _∷_, _++_, map, append-assoc, append-nil, List·Memᴰ, List·Memᴰ·head, List·Memᴰ·tail, List·Memᴰ·not-nil, List·Memᴰ·append-cases, List·Memᴰ·eq-of-singleton}
+use mathlib.Core.List.{List, [], _∷_, _++_, map, append-assoc, append-nil, List·Memᴰ, List·Memᴰ·head, List·Memᴰ·tail, List·Memᴰ·not-nil}
+use mathlib.Core.List.{List·Memᴰ·append-cases, List·Memᴰ·eq-of-singleton}
 use borrow.Author.Tests.{ltb-true, not-true}
 use lib.Dec.{ltb}
 use lib.ListN.{length}
@@ -30,6 +31,7 @@ use Rattle.legal.specs.Updates.{Updates, next}
 use Rattle.moves.specs.Carried.{hasRoomFor}
 use Rattle.legality.specs.laws.Proper.{ProperCredential}
 use Rattle.legality.specs.laws.Stored.{Stored}
+use Rattle.numbers.specs.Sizes.{MOST-SHOWN}
 
 -- the state once these credentials are shown, too
 abbrev pub showing : State → List Credential → State
@@ -41,7 +43,8 @@ pub record Showable (ns : List Name) (shown cs : List Credential) : Type 0 where
   pub fresh : (c : Credential) → List·Memᴰ c cs → List·Memᴰ c shown → ⊥
 
 pub showable-none : (ns : List Name) (shown : List Credential) → Showable ns shown []
-showable-none ns shown = record { stored = record { each = λ c m. absurd (List·Memᴰ·not-nil m); rising = rising-none }; fresh = λ c m. absurd (List·Memᴰ·not-nil m) }
+showable-none ns shown =
+    record { stored = record { each = λ c m. absurd (List·Memᴰ·not-nil m); rising = rising-none }; fresh = λ c m. absurd (List·Memᴰ·not-nil m) }
 
 -- Some of the credentials
 
@@ -71,14 +74,16 @@ mem-shown C c m = any-here (λ d. sameCredential d c) m (sameCredential-refl c)
 pub unshown-showable : (ns : List Name) (shown C : List Credential) → Stored ns C → Showable ns shown (keep (λ c. not (isShown shown c)) C)
 unshown-showable ns shown C s =
     record {
-      stored = record { each = λ c m. s .each c (keep-find (λ c. not (isShown shown c)) C m .0); rising = rising-keep (λ c. not (isShown shown c)) (s .rising) };
+      stored =
+          record { each = λ c m. s .each c (keep-find (λ c. not (isShown shown c)) C m .0); rising = rising-keep (λ c. not (isShown shown c)) (s .rising) };
       fresh = λ c m k. false-true (sym (not-true (isShown shown c) (keep-find (λ c. not (isShown shown c)) C m .1)) ∙ mem-shown shown c k);
     }
 
 -- The commands
 
 -- behind the first credential the others may go out
-rest-showable : (ns : List Name) (shown : List Credential) (c : Credential) (cs : List Credential) → Showable ns shown (c ∷ cs) → Showable ns (shown ++ (c ∷ [])) cs
+rest-showable : (ns : List Name) (shown : List Credential) (c : Credential) (cs : List Credential) → Showable ns shown (c ∷ cs)
+    → Showable ns (shown ++ (c ∷ [])) cs
 rest-showable ns shown c cs s =
     let r = rising-parts (s .stored .rising) in
     record {
@@ -98,10 +103,11 @@ module _ (ns : List Name) (s : ℕ) (rest : List Command) (U : State) where
       let e : showing S [] ≡ S = λ i. record { header = S .header; nodes = S .nodes; edges = S .edges; shown = append-nil (S .shown) i } in
       subst (λ (R : State). Updates ns s R rest U) e (more (ap (λ (R : State). hasRoomFor s R rest) e ∙ room))
   shows-updates (c ∷ cs) S some h room more =
-      let p = and-parts (ltb (length (S .shown)) 64) (hasRoomFor s (withShown S c) (map Show cs ++ rest)) room in
-      let e : showing (withShown S c) cs ≡ showing S (c ∷ cs) = λ i. record { header = S .header; nodes = S .nodes; edges = S .edges; shown = append-assoc (S .shown) (c ∷ []) cs i } in
+      let p = and-parts (ltb (length (S .shown)) MOST-SHOWN) (hasRoomFor s (withShown S c) (map Show cs ++ rest)) room in
+      let e : showing (withShown S c) cs ≡ showing S (c ∷ cs) = λ i.
+      record { header = S .header; nodes = S .nodes; edges = S .edges; shown = append-assoc (S .shown) (c ∷ []) cs i } in
       let proper : ProperCredential ns c = h .stored .each c (List·Memᴰ·head refl) in
       next {c = Show c} refl (proper .formed)
-      (record { classes = proper .classes; some = some; absent = h .fresh c (List·Memᴰ·head refl); room = ltb-true (length (S .shown)) 64 (p .0) })
+      (record { classes = proper .classes; some = some; absent = h .fresh c (List·Memᴰ·head refl); room = ltb-true (length (S .shown)) MOST-SHOWN (p .0) })
       (shows-updates cs (withShown S c) some (rest-showable ns (S .shown) c cs h) (p .1)
       (λ r. subst (λ (R : State). Updates ns s R rest U) (sym e) (more (ap (λ (R : State). hasRoomFor s R rest) (sym e) ∙ r))))

@@ -52,7 +52,8 @@ pair-none false false s h = (refl, refl)
 
 pair-classes : (access : Bool) (T : Tables) (p : Pair) → pairNumber access T p ≡ 0 → HasClass (T .names) (p .role .name) × HasClass (T .names) (p .other .name)
 unfolding pairNumber
-pair-classes access T p h = pair-none (eqb (classOf (T .names) (p .role .name)) 0) (eqb (classOf (T .names) (p .other .name)) 0) (suitsPair access T (p .role)) h
+pair-classes access T p h =
+    pair-none (eqb (classOf (T .names) (p .role .name)) 0) (eqb (classOf (T .names) (p .other .name)) 0) (suitsPair access T (p .role)) h
 
 abbrev number : RoleAnswer → ℕ
 number (A.Found a) = 1
@@ -67,12 +68,15 @@ other-find : (P : List Pair) (r q : Role) → otherOf P r ≡ A.Found q → (p :
 unfolding otherOf
 other-find P r q h = go P h
   where
-    step : (p : Pair) (L : List Pair) (b : Bool) → ((firstOr (λ (p : Pair). sameRole (p .role) r) (λ p. A.Found (p .other)) A.Absent L ≡ A.Found q) → (p : Pair) × List·Memᴰ p L × (p .other ≡ q))
-        → cond b (A.Found (p .other)) (firstOr (λ (p : Pair). sameRole (p .role) r) (λ p. A.Found (p .other)) A.Absent L) ≡ A.Found q → (s : Pair) × List·Memᴰ s (p ∷ L) × (s .other ≡ q)
+    step : (p : Pair) (L : List Pair) (b : Bool) →
+        ((firstOr (λ (p : Pair). sameRole (p .role) r) (λ p. A.Found (p .other)) A.Absent L ≡ A.Found q) → (p : Pair) × List·Memᴰ p L × (p .other ≡ q))
+        → cond b (A.Found (p .other)) (firstOr (λ (p : Pair). sameRole (p .role) r) (λ p. A.Found (p .other)) A.Absent L) ≡ A.Found q
+        → (s : Pair) × List·Memᴰ s (p ∷ L) × (s .other ≡ q)
     step p L true ih e = (p, mathlib.Core.List.List·Memᴰ·head refl, ap (roleIn r) e)
     step p L false ih e = let w = ih e in (w .0, mathlib.Core.List.List·Memᴰ·tail (w .1), w .2)
 
-    go : (L : List Pair) → firstOr (λ (p : Pair). sameRole (p .role) r) (λ p. A.Found (p .other)) A.Absent L ≡ A.Found q → (p : Pair) × List·Memᴰ p L × (p .other ≡ q)
+    go : (L : List Pair) → firstOr (λ (p : Pair). sameRole (p .role) r) (λ p. A.Found (p .other)) A.Absent L ≡ A.Found q
+        → (p : Pair) × List·Memᴰ p L × (p .other ≡ q)
     go [] e = absurd (let z : _≡_ {A = ℕ} 0 1 = ap number e in omega (arith, z))
     go (p ∷ L) e = step p L (sameRole (p .role) r) (λ k. go L k) e
 
@@ -110,7 +114,9 @@ module _ (T : Tables) (t : Sound T) where
 
   pub ack-proper : (p : Pair) → List·Memᴰ p (T .sensitive) → Proper (T .names) (E.Role (p .other))
   unfolding formed
-  ack-proper p m = role-proper (T .names) (p .other) (pair-classes false T p (t .sensitive .rules p m) .1) (and-parts (isRole (p .role)) (isRole (p .other)) (t .sensitive .form p m) .1)
+  ack-proper p m =
+      role-proper (T .names) (p .other) (pair-classes false T p (t .sensitive .rules p m) .1)
+      (and-parts (isRole (p .role)) (isRole (p .other)) (t .sensitive .form p m) .1)
 
   -- AC roles
   pub access-proper : (r q : Role) → otherOf (T .access) r ≡ A.Found q → Proper (T .names) (E.Role q)
@@ -119,4 +125,5 @@ module _ (T : Tables) (t : Sound T) where
       let w = other-find (T .access) r q h in
       let p : Pair = w .0 in
       subst (λ (a : Role). Proper (T .names) (E.Role a)) (w .2)
-      (role-proper (T .names) (p .other) (pair-classes true T p (t .access .rules p (w .1)) .1) (and-parts (isRole (p .role)) (isRole (p .other)) (t .access .form p (w .1)) .1))
+      (role-proper (T .names) (p .other) (pair-classes true T p (t .access .rules p (w .1)) .1)
+      (and-parts (isRole (p .role)) (isRole (p .other)) (t .access .form p (w .1)) .1))

@@ -34,7 +34,8 @@ loop-again : tie.Need-loop-again Inv-loop μ-loop
 loop-again c = (
   omega arith,
   ⊎-elim
-      (λ w. w .1 ∙ count-yes (answer (c .before .before .before .before)) _ _ _ (c .before .before .before .loop .inv .1) (c .before .ask .ensures) (w .0 .taken))
+      (λ w. w .1 ∙ count-yes (answer (c .before .before .before .before)) _ _ _ (c .before .before .before .loop .inv .1) (c .before .ask .ensures)
+      (w .0 .taken))
       (λ w. w .1 ∙ count-no (answer (c .before .before .before .before)) _ _ _ (c .before .before .before .loop .inv .1) (c .before .ask .ensures) (w .0 .left))
       (c .if1 .came),
 )

@@ -28,13 +28,19 @@ inside : (c : tie.Else1) → Inside (c .before .before .before .before .before)
 inside c = sym (c .before .sized .ensures) ∙ not-false _ (c .if1 .left)
 
 -- the credentials were read
-with-list : (c : tie.Else2) {p q : ExpressionAnswer} → operandOf (c .before .before .before .before .before .before .before .before .args .f .now) ≡ p → operandOf (c .before .before .before .before .before .before .before .before .args .e .now) ≡ q
-    → answerOf yesOrNo (answered (accepted (credentials (c .before .before .list .result .pool))) p q) ≡ answerAt (c .before .before .before .before .before .before .before .before)
-with-list c h k = question-inside _ _ _ _ _ _ (inside (c .before .before .before)) (sym (c .before .before .list .ensures .0) ∙ listed-all (c .before .before .list .result) (c .if2 .left)) h k
+with-list : (c : tie.Else2) {p q : ExpressionAnswer} → operandOf (c .before .before .before .before .before .before .before .before .args .f .now) ≡ p
+    → operandOf (c .before .before .before .before .before .before .before .before .args .e .now) ≡ q
+    → answerOf yesOrNo (answered (accepted (credentials (c .before .before .list .result .pool))) p q)
+    ≡ answerAt (c .before .before .before .before .before .before .before .before)
+with-list c h k =
+    let c3 = c .before .before .before in
+    question-inside _ _ _ _ _ _ (inside (c3)) (sym (c .before .before .list .ensures .0) ∙ listed-all (c .before .before .list .result) (c .if2 .left)) h k
 
 -- and f
-with-first : (c : tie.After-known-told) {q : ExpressionAnswer} → operandOf (c .before .before .before .before .before .before .before .before .before .before .before .before .args .e .now) ≡ q
-    → answerOf yesOrNo (answered (accepted (credentials (c .before .before .before .before .before .before .list .result .pool))) (Read (c .before .x .given .0 .0)) q) ≡ answerAt (c .before .before .before .before .before .before .before .before .before .before .before .before)
+with-first : (c : tie.After-known-told) {q : ExpressionAnswer}
+    → operandOf (c .before .before .before .before .before .before .before .before .before .before .before .before .args .e .now) ≡ q
+    → answerOf yesOrNo (answered (accepted (credentials (c .before .before .before .before .before .before .list .result .pool)))
+    (Read (c .before .x .given .0 .0)) q) ≡ answerAt (c .before .before .before .before .before .before .before .before .before .before .before .before)
 with-first c k = with-list (c .before .before .before .before) (sym (c .before .before .before .operand .ensures) ∙ c .before .x .given .1) k
 
 returns : tie.Need-returns
@@ -52,19 +58,26 @@ operand-requires : tie.Need-operand-requires
 operand-requires c κs = true-sized _ _ _ (inside (c .before .before .before)) .first
 
 returns-3 : tie.Need-returns-3
-returns-3 c = repeated-refused _ _ _ (inr (inr refl)) (with-list (c .before .before .before) (sym (c .before .before .operand .ensures) ∙ c .enum-told .given .1) refl)
+returns-3 c =
+    let c3 = c .before .before .before in
+    repeated-refused _ _ _ (inr (inr refl)) (with-list (c3) (sym (c .before .before .operand .ensures) ∙ c .enum-told .given .1) refl)
 
 operand-requires-2 : tie.Need-operand-requires-2
 operand-requires-2 c κs = true-sized _ _ _ (inside (c .before .before .before .before .before .before .before)) .second
 
 returns-4 : tie.Need-returns-4
-returns-4 c = repeated-refused _ _ _ (inr (inr refl)) (with-first (c .before .before .before) (sym (c .before .before .operand2 .ensures) ∙ c .enum-told2 .given .1))
+returns-4 c =
+    let c3 = c .before .before .before in
+    repeated-refused _ _ _ (inr (inr refl)) (with-first (c3) (sym (c .before .before .operand2 .ensures) ∙ c .enum-told2 .given .1))
 
 mul-result : tie.Need-mul-result
 mul-result c = omega (arith, count-most _ _ _ (c .from-times .ensures))
 
 returns-5 : tie.Need-returns-5
-returns-5 c = repeated-answer _ _ _ _ (c .from-times .ensures) (with-first (c .before .before .before .before .before) (sym (c .before .before .before .before .operand2 .ensures) ∙ c .before .before .y .given .1))
+returns-5 c =
+    let c4 = c .before .before .before .before in
+    let c5 = c4 .before in
+    repeated-answer _ _ _ _ (c .from-times .ensures) (with-first (c5) (sym (c4 .operand2 .ensures) ∙ c .before .before .y .given .1))
 
 pub measure-questions-spec : {M : Type 1} → statement M
 measure-questions-spec =

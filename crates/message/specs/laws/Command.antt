@@ -21,7 +21,8 @@ use Rattle.message.specs.declared.Command.{Command}
 use Rattle.message.specs.declared.Command.the-variants.{Open, Bring, Join, Mark, End, Show}
 use Rattle.message.specs.declared.CommandAnswer.{CommandAnswer}
 use Rattle.message.specs.declared.CommandAnswer.the-variants.{Read, Refused}
-use Rattle.message.specs.Command.{edgeKind, formedOpening, formedNew, whole, checked, shown, showAt, openingOf, openAt, newOf, brought, bringAt, edgeOf, joinAt, markAt, endAt, byCode, commandAt, newBytes, commandBytes, sizeOf}
+use Rattle.message.specs.Command.{edgeKind, formedOpening, formedNew, whole, checked, shown, showAt, openingOf, openAt, newOf, brought, bringAt}
+use Rattle.message.specs.Command.{edgeOf, joinAt, markAt, endAt, byCode, commandAt, newBytes, commandBytes, sizeOf}
 
 -- a command has a byte
 pub size-some : (c : Command) → 0 < sizeOf c

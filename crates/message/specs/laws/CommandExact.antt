@@ -31,7 +31,9 @@ use Rattle.message.specs.declared.Command.{Command}
 use Rattle.message.specs.declared.Command.the-variants.{Show, Open, Bring, Join, Mark, End}
 use Rattle.message.specs.declared.CommandAnswer.{CommandAnswer}
 use Rattle.message.specs.declared.CommandAnswer.the-variants.{Read, Refused}
-use Rattle.message.specs.Command.{edgeKind, formedOpening, formedNew, formedCommand, whole, checked, shown, showAt, openingOf, openAt, newOf, brought, bringAt, edgeOf, joinAt, markAt, endAt, byCode, commandAt, openingBytes, newBytes, edgeBytes, commandBytes, sizeOf}
+use Rattle.message.specs.Command.{edgeKind, formedOpening, formedNew, formedCommand, whole, checked, shown, showAt, openingOf, openAt, newOf}
+use Rattle.message.specs.Command.{brought, bringAt, edgeOf, joinAt, markAt, endAt, byCode, commandAt, openingBytes, newBytes, edgeBytes}
+use Rattle.message.specs.Command.{commandBytes, sizeOf}
 use Rattle.message.specs.laws.Command.{show-full, open-full, bring-full, join-full, mark-full, end-last, at-code}
 
 -- a command has this first byte, this test of its form and these operands
@@ -129,7 +131,8 @@ never h = let z : _≡_ {A = ℕ} 0 1 = cc in absurd (omega arith)
 -- what is known where an answer was found: of a command that it has room and right form, that its bytes stand there, and that nothing
 -- follows an end; and that a refusal is 2 or 3
 abbrev Sure : List ℕ → ℕ → CommandAnswer → Type 0
-Sure s at (Read c) = (at + sizeOf c ≤ length s) × (formedCommand c ≡ true) × (Bytes s → take (sizeOf c) (drop at s) ≡ commandBytes c) × (isEnd c ≡ true → length s ≡ at + 1)
+Sure s at (Read c) =
+    (at + sizeOf c ≤ length s) × (formedCommand c ≡ true) × (Bytes s → take (sizeOf c) (drop at s) ≡ commandBytes c) × (isEnd c ≡ true → length s ≡ at + 1)
 Sure s at (Refused k) = (k ≡ 2) ⊎ (k ≡ 3)
 
 module _ (s : List ℕ) (at : ℕ) where
@@ -156,7 +159,8 @@ module _ (s : List ℕ) (at : ℕ) where
   sure-show q = sure-whole 23 (shown (readCredential s (at + 1))) (λ h. go (readCredential s (at + 1)) refl h)
     where
       go : (x : CredentialAnswer) → readCredential s (at + 1) ≡ x → 23 ≤ length s - at → Sure s at (shown x)
-      go (a.Read c) p h = sure-read 1 (credentialBytes c) (Show c) (show-has c (read-formed s (at + 1) c p)) q h (λ b. credential-only s (at + 1) c b (omega arith) p .0) never
+      go (a.Read c) p h =
+          sure-read 1 (credentialBytes c) (Show c) (show-has c (read-formed s (at + 1) c p)) q h (λ b. credential-only s (at + 1) c b (omega arith) p .0) never
       go a.Wrong p h = inr refl
 
   sure-open : getD s at 0 ≡ 2 → Sure s at (openAt s at)
@@ -233,7 +237,8 @@ command-end s at h = subst (Sure s at) h (sure s at) .3 refl
 begins : (s : List ℕ) (at code : ℕ) (l : List ℕ) → drop at s ≡ code ∷ l → at < length s
 begins s at code l h = omega (arith, length-drop at s, ap length h)
 
-expression-there : (s : List ℕ) (at : ℕ) (x : Expression) (l : List ℕ) → at + 18 ≤ length s → wellFormed x ≡ true → drop at s ≡ rawBytes (rawOf x) ++ l → readOf s at ≡ e.Read x
+expression-there : (s : List ℕ) (at : ℕ) (x : Expression) (l : List ℕ) → at + 18 ≤ length s → wellFormed x ≡ true
+    → drop at s ≡ rawBytes (rawOf x) ++ l → readOf s at ≡ e.Read x
 expression-there s at x l room formed h =
     let b : List ℕ = rawBytes (rawOf x) in
     let there : take 18 (drop at s) ≡ b = ap (take 18) h ∙ take-at b l 18 refl in
@@ -251,7 +256,8 @@ module _ (s : List ℕ) (at : ℕ) (l : List ℕ) (inside : at ≤ length s) whe
 
   open-back : (o : Opening) → drop at s ≡ (2 ∷ openingBytes o) ++ l → formedOpening o ≡ true → Read (Open o) ≡ openAt s at
   open-back o h good =
-      open-full s at o true (omega (arith, size-there s at inside _ h)) (role-there s (at + 1) (o .role) (o .state ∷ l) (skip s at 1 _ h)) (sym (byte-there s at 5 _ h)) good
+      open-full s at o true (omega (arith, size-there s at inside _ h)) (role-there s (at + 1) (o .role) (o .state ∷ l) (skip s at 1 _ h))
+      (sym (byte-there s at 5 _ h)) good
 
   bring-back : (n : NewEdge) → drop at s ≡ (3 ∷ newBytes n) ++ l → wellFormed (n .expression) && formedNew n ≡ true → Read (Bring n) ≡ bringAt s at
   bring-back n h good =
@@ -264,7 +270,8 @@ module _ (s : List ℕ) (at : ℕ) (l : List ℕ) (inside : at ≤ length s) whe
 
   join-back : (g : Edge) → drop at s ≡ (4 ∷ edgeBytes g) ++ l → edgeKind (g .kind) ≡ true → Read (Join g) ≡ joinAt s at
   join-back g h good =
-      join-full s at g true (omega (arith, size-there s at inside _ h)) (sym (byte-there s at 1 _ h)) (sym (byte-there s at 2 _ h)) (sym (byte-there s at 3 _ h)) good
+      join-full s at g true (omega (arith, size-there s at inside _ h)) (sym (byte-there s at 1 _ h)) (sym (byte-there s at 2 _ h))
+      (sym (byte-there s at 3 _ h)) good
 
   mark-back : (n : ℕ) → drop at s ≡ (5 ∷ n ∷ []) ++ l → Read (Mark n) ≡ markAt s at
   mark-back n h = mark-full s at n (omega (arith, size-there s at inside _ h)) (sym (byte-there s at 1 _ h))
@@ -273,7 +280,8 @@ module _ (s : List ℕ) (at : ℕ) (l : List ℕ) (inside : at ≤ length s) whe
   end-back h last = end-last s at (omega (arith, size-there s at inside _ h, ap length last))
 
 -- a command of right form is read back from where its bytes stand, an end where no bytes follow
-pub command-back : (s : List ℕ) (at : ℕ) (c : Command) (l : List ℕ) → drop at s ≡ commandBytes c ++ l → formedCommand c ≡ true → (c ≡ End → l ≡ []) → commandAt s at ≡ Read c
+pub command-back : (s : List ℕ) (at : ℕ) (c : Command) (l : List ℕ) → drop at s ≡ commandBytes c ++ l → formedCommand c ≡ true → (c ≡ End → l ≡ [])
+    → commandAt s at ≡ Read c
 unfolding commandBytes formedCommand
 command-back s at (Show c) l h good last =
     let inside : at < length s = begins s at 1 _ h in

@@ -17,7 +17,9 @@ module _ (T U : Tables) (e : publicOf T ≡ publicOf U) (S : State) (h : isDiscl
 
   pub end-alike : endIn T S ≡ endIn U S
   unfolding endIn
-  end-alike = let k : knownOf (hiddenOf T) (T .sensitive) S ≡ knownOf (hiddenOf U) (U .sensitive) S = known-alike T U S same-sensitive h in λ i. record { tables = e i; known = k i; state = S }
+  end-alike =
+      let k : knownOf (hiddenOf T) (T .sensitive) S
+      ≡ knownOf (hiddenOf U) (U .sensitive) S = known-alike T U S same-sensitive h in λ i. record { tables = e i; known = k i; state = S }
 
   pub move-alike : nextMove (endIn T S) ≡ nextMove (endIn U S)
   move-alike = ap nextMove end-alike

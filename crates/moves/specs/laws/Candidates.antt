@@ -100,7 +100,9 @@ equals-parts v w h =
     (same-eq (v .expression) (w .expression) (b .0), eqb-true (v .subject) (w .subject) (b .1))
 
 pub parts-equals : (v w : Candidate) → v .expression ≡ w .expression → v .subject ≡ w .subject → equals v w ≡ true
-parts-equals v w p q = and-both (same (v .expression) (w .expression)) (eqb (v .subject) (w .subject)) (eq-same (v .expression) (w .expression) p) (eq-eqb (v .subject) (w .subject) q)
+parts-equals v w p q =
+    and-both (same (v .expression) (w .expression)) (eqb (v .subject) (w .subject)) (eq-same (v .expression) (w .expression) p)
+    (eq-eqb (v .subject) (w .subject) q)
 
 pub equals-self : (v : Candidate) → equals v v ≡ true
 equals-self v = parts-equals v v refl refl
@@ -119,10 +121,12 @@ equals-before v w u h = let e = equals-parts v w h in λ i. beforeOf (e .0 i) (u
 pub equals-after : (v w u : Candidate) → equals v w ≡ true → precedes u v ≡ precedes u w
 equals-after v w u h = let e = equals-parts v w h in λ i. beforeOf (u .expression) (e .0 i) || (same (u .expression) (e .0 i) && ltb (u .subject) (e .1 i))
 
-precedes-cases : (v w : Candidate) → precedes v w ≡ true → (beforeOf (v .expression) (w .expression) ≡ true) ⊎ ((v .expression ≡ w .expression) × (v .subject < w .subject))
+precedes-cases : (v w : Candidate) → precedes v w ≡ true
+    → (beforeOf (v .expression) (w .expression) ≡ true) ⊎ ((v .expression ≡ w .expression) × (v .subject < w .subject))
 precedes-cases v w h =
     ⊎-elim (λ b. inl b)
-    (λ k. let b = and-parts (same (v .expression) (w .expression)) (ltb (v .subject) (w .subject)) k in inr (same-eq (v .expression) (w .expression) (b .0), ltb-true (v .subject) (w .subject) (b .1)))
+    (λ k. let b = and-parts (same (v .expression) (w .expression)) (ltb (v .subject) (w .subject)) k in inr
+    (same-eq (v .expression) (w .expression) (b .0), ltb-true (v .subject) (w .subject) (b .1)))
     (or-cases (beforeOf (v .expression) (w .expression)) (same (v .expression) (w .expression) && ltb (v .subject) (w .subject)) h)
 
 precedes-first : (v w : Candidate) → beforeOf (v .expression) (w .expression) ≡ true → precedes v w ≡ true
@@ -131,7 +135,8 @@ precedes-first v w h = or-left (beforeOf (v .expression) (w .expression)) (same 
 precedes-then : (v w : Candidate) → v .expression ≡ w .expression → v .subject < w .subject → precedes v w ≡ true
 precedes-then v w p l =
     or-right (beforeOf (v .expression) (w .expression)) (same (v .expression) (w .expression) && ltb (v .subject) (w .subject))
-    (and-both (same (v .expression) (w .expression)) (ltb (v .subject) (w .subject)) (eq-same (v .expression) (w .expression) p) (lt-ltb (v .subject) (w .subject) l))
+    (and-both (same (v .expression) (w .expression)) (ltb (v .subject) (w .subject)) (eq-same (v .expression) (w .expression) p)
+    (lt-ltb (v .subject) (w .subject) l))
 
 precedes-self : (v : Candidate) → precedes v v ≡ false
 precedes-self v = λ i. expression-self (v .expression) i || (eq-same (v .expression) (v .expression) refl i && le-ltb (v .subject) (v .subject) (omega arith) i)
@@ -139,8 +144,10 @@ precedes-self v = λ i. expression-self (v .expression) i || (eq-same (v .expres
 precedes-chain : (u v w : Candidate) → precedes u v ≡ true → precedes v w ≡ true → precedes u w ≡ true
 precedes-chain u v w h k =
     ⊎-elim
-    (λ b. ⊎-elim (λ c. precedes-first u w (expression-chain (u .expression) (v .expression) (w .expression) b c)) (λ e. precedes-first u w (sym (ap (beforeOf (u .expression)) (e .0)) ∙ b)) (precedes-cases v w k))
-    (λ d. ⊎-elim (λ c. precedes-first u w (ap (λ (x : Expression). beforeOf x (w .expression)) (d .0) ∙ c)) (λ e. precedes-then u w (d .0 ∙ e .0) (omega (arith, d .1, e .1))) (precedes-cases v w k))
+    (λ b. ⊎-elim (λ c. precedes-first u w (expression-chain (u .expression) (v .expression) (w .expression) b c))
+    (λ e. precedes-first u w (sym (ap (beforeOf (u .expression)) (e .0)) ∙ b)) (precedes-cases v w k))
+    (λ d. ⊎-elim (λ c. precedes-first u w (ap (λ (x : Expression). beforeOf x (w .expression)) (d .0) ∙ c))
+    (λ e. precedes-then u w (d .0 ∙ e .0) (omega (arith, d .1, e .1))) (precedes-cases v w k))
     (precedes-cases u v h)
 
 -- the order of edges is strict
@@ -157,8 +164,10 @@ precedes-total v w h n = go (precedes w v) refl
         let a = or-neither (beforeOf (v .expression) (w .expression)) (same (v .expression) (w .expression) && ltb (v .subject) (w .subject)) h in
         let b = or-neither (beforeOf (w .expression) (v .expression)) (same (w .expression) (v .expression) && ltb (w .subject) (v .subject)) k in
         let e = expression-none (v .expression) (w .expression) (a .0) (b .0) in
-        let l = ltb-false (v .subject) (w .subject) (second (same (v .expression) (w .expression)) (ltb (v .subject) (w .subject)) (a .1) (eq-same (v .expression) (w .expression) e)) in
-        let m = ltb-false (w .subject) (v .subject) (second (same (w .expression) (v .expression)) (ltb (w .subject) (v .subject)) (b .1) (eq-same (w .expression) (v .expression) (sym e))) in
+        let l = ltb-false (v .subject) (w .subject)
+        (second (same (v .expression) (w .expression)) (ltb (v .subject) (w .subject)) (a .1) (eq-same (v .expression) (w .expression) e)) in
+        let m = ltb-false (w .subject) (v .subject)
+        (second (same (w .expression) (v .expression)) (ltb (w .subject) (v .subject)) (b .1) (eq-same (w .expression) (v .expression) (sym e))) in
         not-both (parts-equals v w e (omega (arith, l, m))) n
 
 -- and not both
@@ -183,10 +192,12 @@ inserted-rising : (v : Candidate) {ws : List Candidate} → Rising precedes ws �
 inserted-rising v rising-none = rising-cons refl rising-none
 inserted-rising v (rising-cons {x = w} {L = ws} up r) = go (precedes v w) (equals v w) refl refl (inserted-rising v r)
   where
-    go : (a b : Bool) → precedes v w ≡ a → equals v w ≡ b → Rising precedes (inserted v ws) → Rising precedes (cond a (v ∷ w ∷ ws) (cond b (w ∷ ws) (w ∷ inserted v ws)))
+    go : (a b : Bool) → precedes v w ≡ a → equals v w ≡ b → Rising precedes (inserted v ws)
+        → Rising precedes (cond a (v ∷ w ∷ ws) (cond b (w ∷ ws) (w ∷ inserted v ws)))
     go true b h k ih =
         rising-cons
-        (and-both (precedes v w) (all (λ y. precedes v y) ws) h (all-of (λ y. precedes v y) ws (λ y m. precedes-chain v w y h (all-each (λ z. precedes w z) m up))))
+        (and-both (precedes v w) (all (λ y. precedes v y) ws) h
+        (all-of (λ y. precedes v y) ws (λ y m. precedes-chain v w y h (all-each (λ z. precedes w z) m up))))
         (rising-cons up r)
     go false true h k ih = rising-cons up r
     go false false h k ih = rising-cons (inserted-all (λ y. precedes w y) v ws (precedes-total v w h k) up) ih
@@ -195,7 +206,8 @@ inserted-find : (v : Candidate) (ws : List Candidate) {x : Candidate} → List·
 inserted-find v [] m = List·Memᴰ·cases-cons m
 inserted-find v (w ∷ ws) {x} m = go (precedes v w) (equals v w) (λ k. inserted-find v ws k) m
   where
-    go : (a b : Bool) → (List·Memᴰ x (inserted v ws) → (x ≡ v) ⊎ List·Memᴰ x ws) → List·Memᴰ x (cond a (v ∷ w ∷ ws) (cond b (w ∷ ws) (w ∷ inserted v ws))) → (x ≡ v) ⊎ List·Memᴰ x (w ∷ ws)
+    go : (a b : Bool) → (List·Memᴰ x (inserted v ws) → (x ≡ v) ⊎ List·Memᴰ x ws)
+        → List·Memᴰ x (cond a (v ∷ w ∷ ws) (cond b (w ∷ ws) (w ∷ inserted v ws))) → (x ≡ v) ⊎ List·Memᴰ x (w ∷ ws)
     go true b ih k = List·Memᴰ·cases-cons k
     go false true ih k = inr k
     go false false ih k = ⊎-elim (λ e. inr (List·Memᴰ·head e)) (λ t. ⊎-elim (λ e. inl e) (λ t. inr (List·Memᴰ·tail t)) (ih t)) (List·Memᴰ·cases-cons k)
@@ -257,7 +269,8 @@ rising-once : (v : Candidate) {L : List Candidate} → Rising precedes L → len
 rising-once v rising-none = refl
 rising-once v (rising-cons {x = x} {L = L} up r) = go (equals v x) (any (equals v) L) refl refl (rising-once v r)
   where
-    go : (a b : Bool) → equals v x ≡ a → any (equals v) L ≡ b → length (keep (equals v) L) ≡ cond b 1 0 → length (cond a (x ∷ keep (equals v) L) (keep (equals v) L)) ≡ cond (a || b) 1 0
+    go : (a b : Bool) → equals v x ≡ a → any (equals v) L ≡ b → length (keep (equals v) L) ≡ cond b 1 0
+        → length (cond a (x ∷ keep (equals v) L) (keep (equals v) L)) ≡ cond (a || b) 1 0
     go true true h k ih =
         let w = any-find (equals v) L k in
         absurd (precedes-apart x (w .0) (all-each (λ y. precedes x y) (w .1) up) (equals-chain x v (w .0) (equals-sym v x h) (w .2)))
@@ -290,7 +303,8 @@ pub alike-one : (d : Candidate → Bool) (vs : List Candidate)
     → ((v w : Candidate) → List·Memᴰ v vs → List·Memᴰ w vs → (v .kind ≡ w .kind) × (v .verifier ≡ w .verifier) × (v .direct ≡ w .direct)) → Alike d vs
 alike-one d vs h = record { alike = λ v w m n e. ap d (one v w (h v w m n) (equals-parts v w e)) }
   where
-    one : (v w : Candidate) → (v .kind ≡ w .kind) × (v .verifier ≡ w .verifier) × (v .direct ≡ w .direct) → (v .expression ≡ w .expression) × (v .subject ≡ w .subject) → v ≡ w
+    one : (v w : Candidate) → (v .kind ≡ w .kind) × (v .verifier ≡ w .verifier) × (v .direct ≡ w .direct)
+        → (v .expression ≡ w .expression) × (v .subject ≡ w .subject) → v ≡ w
     one v w k e = λ i. record { kind = k .0 i; verifier = k .1 i; expression = e .0 i; subject = e .1 i; direct = k .2 i }
 
 module _ {d : Candidate → Bool} where
@@ -336,7 +350,8 @@ module _ {d : Candidate → Bool} where
             let k = ordered-first (f .1) in (
               w,
               f .1,
-              ⊎-elim (λ e. e) (λ p. ⊎-elim (λ e. equals-sym w v e) (λ q. absurd (false-true (sym (precedes-self w) ∙ precedes-chain w v w p q))) (l .least w (k .there) (k .fails))) (k .least v (l .there) (l .fails)),
+              ⊎-elim (λ e. e) (λ p. ⊎-elim (λ e. equals-sym w v e) (λ q. absurd (false-true (sym (precedes-self w) ∙ precedes-chain w v w p q)))
+                  (l .least w (k .there) (k .fails))) (k .least v (l .there) (l .fails)),
             )
 
         none : all d (ordered vs) ≡ true → (w : Candidate) × First d (ordered vs) w × (equals v w ≡ true)

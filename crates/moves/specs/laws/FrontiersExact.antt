@@ -3,7 +3,8 @@ use Prim.Native.Nat.{ℕ, zero, suc}
 use mathlib.Core.Path.{_≡_, refl, sym, ap, _∙_, subst}
 use mathlib.Core.Logic.{_⊎_, inl, inr, ⊎-elim}
 use mathlib.Core.Bool.{Bool, true, false, not}
-use mathlib.Core.List.{List, [], _∷_, _++_, List·Memᴰ, List·Memᴰ·head, List·Memᴰ·tail, List·Memᴰ·cases-cons, List·Memᴰ·not-nil, List·Memᴰ·append-cases, Memᴰ·append-left, Memᴰ·append-right}
+use mathlib.Core.List.{List, [], _∷_, _++_, List·Memᴰ, List·Memᴰ·head, List·Memᴰ·tail, List·Memᴰ·cases-cons, List·Memᴰ·not-nil, List·Memᴰ·append-cases}
+use mathlib.Core.List.{Memᴰ·append-left, Memᴰ·append-right}
 use native.Mathlib.Omega.{arith}
 use borrow.Author.Tests.{not-true}
 use lib.ListN.{length}
@@ -61,7 +62,8 @@ module _ (pred : Expression → Bool) (C : List Credential) where
   stepped xs = xs ++ fresh xs
 
   -- a step reaches the bodies of the credentials whose heads are there
-  step-mem : (xs : List Expression) {c : Credential} {x : Expression} → pred x ≡ false → List·Memᴰ c C → x ≡ E.Role (c .head) → List·Memᴰ x xs → List·Memᴰ (c .body) (stepped xs)
+  step-mem : (xs : List Expression) {c : Credential} {x : Expression} → pred x ≡ false → List·Memᴰ c C → x ≡ E.Role (c .head) → List·Memᴰ x xs
+      → List·Memᴰ (c .body) (stepped xs)
   step-mem xs {c} {x} n k q m = go (any (same (c .body)) xs) refl
     where
       body : List·Memᴰ (c .body) (bodies xs)
@@ -69,11 +71,14 @@ module _ (pred : Expression → Bool) (C : List Credential) where
           (map-mem (λ (d : Credential). d .body) (keep-mem (λ (d : Credential). same (E.Role (d .head)) x) k (eq-same (E.Role (c .head)) x (sym q))))
 
       go : (b : Bool) → any (same (c .body)) xs ≡ b → List·Memᴰ (c .body) (stepped xs)
-      go true h = let w = any-find (same (c .body)) xs h in Memᴰ·append-left (fresh xs) (subst (λ (y : Expression). List·Memᴰ y xs) (sym (same-eq (c .body) (w .0) (w .2))) (w .1))
+      go true h =
+          let w = any-find (same (c .body)) xs h in Memᴰ·append-left (fresh xs)
+          (subst (λ (y : Expression). List·Memᴰ y xs) (sym (same-eq (c .body) (w .0) (w .2))) (w .1))
       go false h = Memᴰ·append-right xs (keep-mem (λ y. not (any (same y) xs)) body (ap not h))
 
   -- and the frontier of what it reaches is part of the frontier of one that was there
-  step-find : (xs : List Expression) {y f : Expression} → List·Memᴰ y (stepped xs) → Frontier pred C y f → (x : Expression) × List·Memᴰ x xs × Frontier pred C x f
+  step-find : (xs : List Expression) {y f : Expression} → List·Memᴰ y (stepped xs) → Frontier pred C y f
+      → (x : Expression) × List·Memᴰ x xs × Frontier pred C x f
   step-find xs {y} {f} m h = ⊎-elim (λ k. (y, k, h)) new (List·Memᴰ·append-cases xs m)
     where
       new : List·Memᴰ y (fresh xs) → (x : Expression) × List·Memᴰ x xs × Frontier pred C x f
@@ -84,7 +89,8 @@ module _ (pred : Expression → Bool) (C : List Credential) where
           let c = keep-find (λ (c : Credential). same (E.Role (c .head)) (g .0)) C (b .1) in (
             g .0,
             p .0,
-            through {c = b .0} (not-true (pred (g .0)) (p .1)) (c .0) (sym (same-eq (E.Role (b .0 .head)) (g .0) (c .1))) (subst (λ (z : Expression). Frontier pred C z f) (b .2) h),
+            through {c = b .0} (not-true (pred (g .0)) (p .1)) (c .0) (sym (same-eq (E.Role (b .0 .head)) (g .0) (c .1)))
+                (subst (λ (z : Expression). Frontier pred C z f) (b .2) h),
           )
 
   -- Steps
@@ -96,20 +102,23 @@ module _ (pred : Expression → Bool) (C : List Credential) where
   spread-more (suc k) xs m = spread-more k (stepped xs) (Memᴰ·append-left (fresh xs) m)
 
   -- the frontier of an expression that is reached is part of the frontier of one of xs
-  spread-find : (k : ℕ) (xs : List Expression) {y f : Expression} → List·Memᴰ y (spread k pred C xs) → Frontier pred C y f → (x : Expression) × List·Memᴰ x xs × Frontier pred C x f
+  spread-find : (k : ℕ) (xs : List Expression) {y f : Expression} → List·Memᴰ y (spread k pred C xs) → Frontier pred C y f
+      → (x : Expression) × List·Memᴰ x xs × Frontier pred C x f
   unfolding spread
   spread-find zero xs {y} m h = (y, m, h)
   spread-find (suc k) xs m h = let r = spread-find k (stepped xs) m h in step-find xs (r .1) (r .2)
 
   -- a member is found without c, or from the body of c without c: after c is used for the last time
-  without : {c : Credential} {L D : List Credential} {e f : Expression} → ((d : Credential) → List·Memᴰ d L → (d ≡ c) ⊎ List·Memᴰ d D) → Frontier pred L e f → Frontier pred D e f ⊎ Frontier pred D (c .body) f
+  without : {c : Credential} {L D : List Credential} {e f : Expression} → ((d : Credential) → List·Memᴰ d L → (d ≡ c) ⊎ List·Memᴰ d D)
+      → Frontier pred L e f → Frontier pred D e f ⊎ Frontier pred D (c .body) f
   without s (here h) = inl (here h)
   without {c} {L} {D} {e} {f} s (through {c = d} n m q k) =
       ⊎-elim (λ t. ⊎-elim (λ z. inr (subst (λ (y : Credential). Frontier pred D (y .body) f) z t)) (λ z. inl (through {c = d} n z q t)) (s d m)) (λ t. inr t)
       (without s k)
 
   -- so a member is found with each credential used once at most, and as many steps as there are credentials suffice
-  spread-mem : (k : ℕ) (D : List Credential) → length D ≡ k → ((d : Credential) → List·Memᴰ d D → List·Memᴰ d C) → (xs : List Expression) {x f : Expression} → List·Memᴰ x xs → Frontier pred D x f → List·Memᴰ f (spread k pred C xs)
+  spread-mem : (k : ℕ) (D : List Credential) → length D ≡ k → ((d : Credential) → List·Memᴰ d D → List·Memᴰ d C)
+      → (xs : List Expression) {x f : Expression} → List·Memᴰ x xs → Frontier pred D x f → List·Memᴰ f (spread k pred C xs)
   unfolding spread
   spread-mem zero D l s xs m (here h) = m
   spread-mem zero D l s xs m (through {c = c} n t q h) = absurd (let z : suc (length (less t .0)) ≡ 0 = sym (less t .1) ∙ l in omega (arith, z))
@@ -117,7 +126,8 @@ module _ (pred : Expression → Bool) (C : List Credential) where
   spread-mem (suc k) D l s xs m (through {c = c} n t q h) =
       let w = less t in
       let z : suc (length (w .0)) ≡ suc k = sym (w .1) ∙ l in
-      spread-mem k (w .0) (omega (arith, z)) (λ d j. s d (w .3 d j)) (stepped xs) (step-mem xs n (s c t) q m) (⊎-elim (λ j. j) (λ j. j) (without {c = c} (w .2) h))
+      spread-mem k (w .0) (omega (arith, z)) (λ d j. s d (w .3 d j)) (stepped xs) (step-mem xs n (s c t) q m)
+      (⊎-elim (λ j. j) (λ j. j) (without {c = c} (w .2) h))
 
 -- The frontier
 
@@ -139,4 +149,6 @@ pub frontier-exact : (pred : Expression → Bool) (C : List Credential) (xs : Li
 frontier-exact pred C xs f = (find, λ x m h. any-here (same f) (frontier-mem pred C xs m h) (eq-same f f refl))
   where
     find : any (same f) (frontierOf pred C xs) ≡ true → (x : Expression) × List·Memᴰ x xs × Frontier pred C x f
-    find h = let w = any-find (same f) (frontierOf pred C xs) h in frontier-find pred C xs (subst (λ (y : Expression). List·Memᴰ y (frontierOf pred C xs)) (sym (same-eq f (w .0) (w .2))) (w .1))
+    find h =
+        let w = any-find (same f) (frontierOf pred C xs) h in frontier-find pred C xs
+        (subst (λ (y : Expression). List·Memᴰ y (frontierOf pred C xs)) (sym (same-eq f (w .0) (w .2))) (w .1))

@@ -23,7 +23,8 @@ module _ (ns : List Name) (own : Bool) (e : Expression) where
   unfolding initialState
   starts-role h be re = re ∙ ap traced be ∙ ap (initialState ns own) (sym h)
 
-  pub starts-linked : {a : Role} {s : ℕ} {b c : Bool} {r : ℕ} → e ≡ E.Linked a s → b ≡ isSubjectAll ns (a .name) → c ≡ isSubjectAll ns s → r ≡ traced (b && c) → r ≡ initialState ns own e
+  pub starts-linked : {a : Role} {s : ℕ} {b c : Bool} {r : ℕ} → e ≡ E.Linked a s → b ≡ isSubjectAll ns (a .name) → c ≡ isSubjectAll ns s
+      → r ≡ traced (b && c) → r ≡ initialState ns own e
   unfolding initialState
   starts-linked h be ce re = re ∙ (λ i. traced (be i && ce i)) ∙ ap (initialState ns own) (sym h)
 

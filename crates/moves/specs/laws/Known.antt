@@ -63,7 +63,8 @@ Differs T U r = holdingOf (hiddenOf T) r ≡ holdingOf (hiddenOf U) r → ⊥
 
 -- "A role is held if 0x13 has its direct credential"
 pub held-exact : (own : ℕ) (P : List Pair) (C : List Credential) (r : Role) → isSensitive P r ≡ true → any (sameRole r) (heldOf own P C) ≡ holds own C r
-held-exact own P C r s = bool-iff (any (sameRole r) (heldOf own P C)) (holds own C r) there (λ h. any-here (sameRole r) (held-mem own P C r s h) (eq-sameRole r r refl))
+held-exact own P C r s =
+    bool-iff (any (sameRole r) (heldOf own P C)) (holds own C r) there (λ h. any-here (sameRole r) (held-mem own P C r s h) (eq-sameRole r r refl))
   where
     there : any (sameRole r) (heldOf own P C) ≡ true → holds own C r ≡ true
     there h = let f = any-find (sameRole r) (heldOf own P C) h in ap (holds own C) (sameRole-eq r (f .0) (f .2)) ∙ held-find own P C (f .0) (f .1) .1
@@ -76,7 +77,8 @@ unfolding holdingOf hiddenOf
 holding-alike T U r e s h a =
     let t = held-exact (T .own) (T .sensitive) (T .subjectStored) r s in
     let u = held-exact (U .own) (U .sensitive) (U .subjectStored) r (sym (ap (λ (P : List Pair). isSensitive P r) e) ∙ s) in
-    let b : any (sameRole r) (heldOf (T .own) (T .sensitive) (T .subjectStored)) ≡ any (sameRole r) (heldOf (U .own) (U .sensitive) (U .subjectStored)) = t ∙ h ∙ sym u in
+    let b : any (sameRole r) (heldOf (T .own) (T .sensitive) (T .subjectStored))
+    ≡ any (sameRole r) (heldOf (U .own) (U .sensitive) (U .subjectStored)) = t ∙ h ∙ sym u in
     λ i. cond (b i) (policyOf (a i)) Absent
 
 abbrev pub differing : Hidden → Hidden → Pair → Bool
@@ -153,7 +155,8 @@ known-among H K S (p ∷ ps) h =
     λ i. record { role = p .role; ack = p .other; known = e i } ∷ es i
 
 -- "acting on possession before Ack is satisfied" is shut out: while no differing role's Ack target is satisfied, the same is known
-pub known-alike : (T U : Tables) (S : State) → T .sensitive ≡ U .sensitive → isDisclosed T U S ≡ false → knownOf (hiddenOf T) (T .sensitive) S ≡ knownOf (hiddenOf U) (U .sensitive) S
+pub known-alike : (T U : Tables) (S : State) → T .sensitive ≡ U .sensitive → isDisclosed T U S ≡ false
+    → knownOf (hiddenOf T) (T .sensitive) S ≡ knownOf (hiddenOf U) (U .sensitive) S
 unfolding isDisclosed
 known-alike T U S e h = known-among (hiddenOf T) (hiddenOf U) S (T .sensitive) h ∙ ap (λ (P : List Pair). knownOf (hiddenOf U) P S) e
 

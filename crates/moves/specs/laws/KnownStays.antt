@@ -36,6 +36,7 @@ use Rattle.applied.specs.Step.{stepped, primaryOf, childIn, edgeIn}
 use Rattle.graph.specs.Processed.{markedState}
 use Rattle.moves.specs.Known.{isAcknowledged}
 use Rattle.moves.specs.laws.Known.{isDisclosed, Disclosed, disclosed-exact}
+use Rattle.numbers.specs.Sizes.{MOST-NODES, MOST-EDGES, MOST-SHOWN}
 
 -- Graphs
 
@@ -58,7 +59,8 @@ module _ {ns ns′ : List Node} {es es′ : List Edge} (g : More ns es ns′ es�
 
   pub satisfied-more : {i : ℕ} → Satisfied ns es i → Satisfied ns′ es′ i
   satisfied-more (trivial {i} e) = trivial (g .alike i (satisfied-inside {ns = ns} {es = es} (trivial e)) .expression ∙ e)
-  satisfied-more (standard {i} s k h) = standard (ap isStandard (g .alike i (satisfied-inside (standard s k h)) .expression) ∙ s) (child-more k) (satisfied-more h)
+  satisfied-more (standard {i} s k h) =
+      standard (ap isStandard (g .alike i (satisfied-inside (standard s k h)) .expression) ∙ s) (child-more k) (satisfied-more h)
   satisfied-more (intersection {i} e p f w h) =
       let l : i < length ns = satisfied-inside (intersection e p f w h) in
       intersection (g .alike i l .expression ∙ e) (g .processed i p) f
@@ -70,8 +72,10 @@ module _ {ns ns′ : List Node} {es es′ : List Edge} (g : More ns es ns′ es�
   unfolding findNode
   found-more x v s f =
       let k : ℕ = findNode ns x v s in
-      let same-test : (i : ℕ) → i < length ns → isNode x v s (nodeIn ns′ i) ≡ isNode x v s (nodeIn ns i) = λ i l j. eqb (g .alike i l .verifier j) v && eqb (g .alike i l .subject j) s && same (g .alike i l .expression j) x in
-      first-at (λ i. i) 128 (length ns′) {j = k} (record { none = λ i l. same-test i (omega (arith, f .inside, l)) ∙ f .least i l }) (omega (arith, f .inside, g .more)) (same-test k (f .inside) ∙ f .here)
+      let same-test : (i : ℕ) → i < length ns → isNode x v s (nodeIn ns′ i) ≡ isNode x v s (nodeIn ns i) = λ i l j. eqb (g .alike i l .verifier j) v
+      && eqb (g .alike i l .subject j) s && same (g .alike i l .expression j) x in
+      first-at (λ i. i) 128 (length ns′) {j = k} (record { none = λ i l. same-test i (omega (arith, f .inside, l)) ∙ f .least i l })
+      (omega (arith, f .inside, g .more)) (same-test k (f .inside) ∙ f .here)
 
 -- Commands
 
@@ -118,17 +122,25 @@ more-mark ns es i s full =
     }
   where
     here : (k : ℕ) → k < length ns → k ≡ i → nodeIn (set ns i (inState s (nodeIn ns i))) k ≡ inState s (nodeIn ns k)
-    here k l e = ap (nodeIn (set ns i (inState s (nodeIn ns i)))) e ∙ getD-set-same ns i (inState s (nodeIn ns i)) blank (omega arith) ∙ ap (λ (n : ℕ). inState s (nodeIn ns n)) (sym e)
+    here k l e =
+        ap (nodeIn (set ns i (inState s (nodeIn ns i)))) e ∙ getD-set-same ns i (inState s (nodeIn ns i)) blank (omega arith)
+        ∙ ap (λ (n : ℕ). inState s (nodeIn ns n)) (sym e)
 
     other : (k : ℕ) → (k ≡ i → ⊥) → nodeIn (set ns i (inState s (nodeIn ns i))) k ≡ nodeIn ns k
     other k o = getD-set-other ns i k (inState s (nodeIn ns i)) blank o
 
     like : (k : ℕ) → k < length ns → (b : Bool) → eqb k i ≡ b → Alike (nodeIn (set ns i (inState s (nodeIn ns i))) k) (nodeIn ns k)
-    like k l true q = let e = here k l (eqb-true k i q) in record { expression = ap (λ (x : Node). x .expression) e; subject = ap (λ (x : Node). x .subject) e; verifier = ap (λ (x : Node). x .verifier) e }
+    like k l true q =
+        let e = here k l (eqb-true k i q) in record {
+          expression = ap (λ (x : Node). x .expression) e;
+          subject = ap (λ (x : Node). x .subject) e;
+          verifier = ap (λ (x : Node). x .verifier) e;
+        }
     like k l false q = alike-eq (other k (eqb-false k i q))
 
     done : (k : ℕ) → FullyProcessed ns k → (b : Bool) → eqb k i ≡ b → FullyProcessed (set ns i (inState s (nodeIn ns i))) k
-    done k p true q = ap (λ (x : Node). x .state) (here k (processed-inside ns k p) (eqb-true k i q)) ∙ full (ap (λ (n : ℕ). nodeIn ns n .state) (sym (eqb-true k i q)) ∙ p)
+    done k p true q =
+        ap (λ (x : Node). x .state) (here k (processed-inside ns k p) (eqb-true k i q)) ∙ full (ap (λ (n : ℕ). nodeIn ns n .state) (sym (eqb-true k i q)) ∙ p)
     done k p false q = ap (λ (x : Node). x .state) (other k (eqb-false k i q)) ∙ p
 
 -- "once a node is fully processed, it remains so thereafter": a bit set in 3
@@ -164,27 +176,35 @@ step-header S s End = refl
 
 -- Ack targets
 
-few-nodes : (S : State) → within S ≡ true → length (S .nodes) ≤ 128
+few-nodes : (S : State) → within S ≡ true → length (S .nodes) ≤ MOST-NODES
 unfolding within
-few-nodes S w = leb-true (length (S .nodes)) 128 (and-parts (leb (length (S .nodes)) 128) (leb (length (S .edges)) 256) (and-parts (leb (length (S .nodes)) 128 && leb (length (S .edges)) 256) (leb (length (S .shown)) 64) w .0) .0)
+few-nodes S w =
+    leb-true (length (S .nodes)) MOST-NODES (and-parts (leb (length (S .nodes)) MOST-NODES) (leb (length (S .edges)) MOST-EDGES)
+    (and-parts (leb (length (S .nodes)) MOST-NODES && leb (length (S .edges)) MOST-EDGES) (leb (length (S .shown)) MOST-SHOWN) w .0) .0)
 
 -- the number at which an Ack target is looked for
 abbrev target : State → Role → ℕ
 target S r = findNode (S .nodes) (E.Role r) (S .header .side) (S .header .other)
 
-found-target : (S : State) (r : Role) → length (S .nodes) ≤ 128 → target S r < length (S .nodes) → F.Found (S .nodes) (E.Role r) (S .header .side) (S .header .other)
-found-target S r few l = ⊎-elim (λ a. absurd (omega (arith, a .number, few, l))) (λ f. f) (F.find-cases (S .nodes) (E.Role r) (S .header .side) (S .header .other))
+found-target : (S : State) (r : Role) → length (S .nodes) ≤ MOST-NODES → target S r < length (S .nodes)
+    → F.Found (S .nodes) (E.Role r) (S .header .side) (S .header .other)
+found-target S r few l =
+    ⊎-elim (λ a. absurd (omega (arith, a .number, few, l))) (λ f. f) (F.find-cases (S .nodes) (E.Role r) (S .header .side) (S .header .other))
 
-same-target : (S R : State) (r : Role) → R .header ≡ S .header → Onward S R → F.Found (S .nodes) (E.Role r) (S .header .side) (S .header .other) → target R r ≡ target S r
-same-target S R r h g f = ap (λ (k : Header). findNode (R .nodes) (E.Role r) (k .side) (k .other)) h ∙ found-more g (E.Role r) (S .header .side) (S .header .other) f
+same-target : (S R : State) (r : Role) → R .header ≡ S .header → Onward S R → F.Found (S .nodes) (E.Role r) (S .header .side) (S .header .other)
+    → target R r ≡ target S r
+same-target S R r h g f =
+    ap (λ (k : Header). findNode (R .nodes) (E.Role r) (k .side) (k .other)) h ∙ found-more g (E.Role r) (S .header .side) (S .header .other) f
 
-ack-onward : (S R : State) (r : Role) → R .header ≡ S .header → Onward S R → length (S .nodes) ≤ 128 → isAcknowledged S r ≡ true → isAcknowledged R r ≡ true
+ack-onward : (S R : State) (r : Role) → R .header ≡ S .header → Onward S R → length (S .nodes) ≤ MOST-NODES → isAcknowledged S r ≡ true
+    → isAcknowledged R r ≡ true
 unfolding isAcknowledged
 ack-onward S R r h g few a =
     let p = and-parts (ltb (target S r) (length (S .nodes))) (at (satisfiedB (S .nodes) (S .edges)) (target S r)) a in
     let l : target S r < length (S .nodes) = ltb-true (target S r) (length (S .nodes)) (p .0) in
     let e : target R r ≡ target S r = same-target S R r h g (found-target S r few l) in
-    let s : at (satisfiedB (R .nodes) (R .edges)) (target S r) ≡ true = satisfied-exact (R .nodes) (R .edges) (target S r) .1 (satisfied-more g (satisfied-exact (S .nodes) (S .edges) (target S r) .0 (p .1))) in
+    let s : at (satisfiedB (R .nodes) (R .edges)) (target S r)
+    ≡ true = satisfied-exact (R .nodes) (R .edges) (target S r) .1 (satisfied-more g (satisfied-exact (S .nodes) (S .edges) (target S r) .0 (p .1))) in
     and-both (ltb (target R r) (length (R .nodes))) (at (satisfiedB (R .nodes) (R .edges)) (target R r))
     (lt-ltb (target R r) (length (R .nodes)) (omega (arith, e, l, g .more)))
     (ap (at (satisfiedB (R .nodes) (R .edges))) e ∙ s)
@@ -197,4 +217,10 @@ acknowledged-stays S s c r w = ack-onward S (stepped S s c) r (step-header S s c
 pub disclosed-step : (T U : Tables) (S : State) (s : ℕ) (c : Command) → within S ≡ true → isDisclosed T U S ≡ true → isDisclosed T U (stepped S s c) ≡ true
 disclosed-step T U S s c w h =
     let o : Disclosed T U S = disclosed-exact T U S .0 h in
-    disclosed-exact T U (stepped S s c) .1 (record { pair = o .pair; stands = o .stands; differs = o .differs; acknowledged = acknowledged-stays S s c (o .pair .other) w (o .acknowledged) })
+    disclosed-exact T U (stepped S s c) .1 (record {
+      pair = o .pair;
+      stands = o .stands;
+      differs = o .differs;
+      acknowledged = acknowledged-stays S s c
+          (o .pair .other) w (o .acknowledged);
+    })

@@ -81,7 +81,8 @@ module _ (pred : Expression → Bool) (P : Pool) where
   pub told-start : (r : List ℕ) → length r ≡ 128 → Told pred P 0 r
   told-start r l = record { sized = l; says = λ j h. absurd (omega arith) }
 
-  pub told-next : {i v : ℕ} {r q : List ℕ} {b : Bool} {e : Expression} → Told pred P i r → i < 128 → e ≡ bodyAt P i → b ≡ pred e → v ≡ cond b 1 0 → q ≡ set r i v → Told pred P (i + 1) q
+  pub told-next : {i v : ℕ} {r q : List ℕ} {b : Bool} {e : Expression} → Told pred P i r → i < 128 → e ≡ bodyAt P i → b ≡ pred e → v ≡ cond b 1 0
+      → q ≡ set r i v → Told pred P (i + 1) q
   told-next {i} {v} {r} {q} {b} {e} t l ee be ve qe =
       record {
         sized = ap length qe ∙ length-set r i v ∙ t .sized;
@@ -89,8 +90,10 @@ module _ (pred : Expression → Bool) (P : Pool) where
             ⊎-elim
             (λ z.
             let same : j ≡ i = eqb-true j i z in
-            ap (λ (x : List ℕ). flag x j) qe ∙ ap (flag (set r i v)) same ∙ ap (λ (x : ℕ). eqb x 1) (getD-set-same r i v 0 (omega (arith, t .sized))) ∙ ap (λ (x : ℕ). eqb x 1) ve ∙ flag-is b ∙ be ∙ ap pred ee ∙ ap (λ (k : ℕ). pred (bodyAt P k)) (sym same))
-            (λ z. ap (λ (x : List ℕ). flag x j) qe ∙ ap (λ (x : ℕ). eqb x 1) (getD-set-other r i j v 0 (eqb-false j i z)) ∙ t .says j (omega (arith, eqb-false j i z)))
+            ap (λ (x : List ℕ). flag x j) qe ∙ ap (flag (set r i v)) same ∙ ap (λ (x : ℕ). eqb x 1) (getD-set-same r i v 0 (omega (arith, t .sized)))
+            ∙ ap (λ (x : ℕ). eqb x 1) ve ∙ flag-is b ∙ be ∙ ap pred ee ∙ ap (λ (k : ℕ). pred (bodyAt P k)) (sym same))
+            (λ z. ap (λ (x : List ℕ). flag x j) qe ∙ ap (λ (x : ℕ). eqb x 1) (getD-set-other r i j v 0 (eqb-false j i z))
+            ∙ t .says j (omega (arith, eqb-false j i z)))
             (decided (eqb j i));
       }
 

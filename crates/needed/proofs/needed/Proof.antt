@@ -9,10 +9,18 @@ abbrev pool : (c : tie.Start) → Pool
 pool c = poolOf (c .args .n) (c .args .heads .now) (c .args .kinds .now) (c .args .numbers .now)
 
 relation-requires : tie.Need-relation-requires
-relation-requires c κs = (c .before .before .before .before .before .before .before .before .before .before .before .before .before .before .before .pre .0, by-columns (pool (c .before .before .before .before .before .before .before .before .before .before .before .before .before .before .before)) (c .before .before .before .before .before .before .before .before .before .before .before .before .before .before .rules-of .result) (c .before .before .before .before .before .before .before .before .before .before .before .before .before .before .rules-of .ensures))
+relation-requires c κs =
+    let c14 = c .before .before .before .before .before .before .before .before .before .before .before .before .before .before in
+    let c15 = c14 .before in
+    (c15 .pre .0, by-columns (pool (c15)) (c14 .rules-of .result) (c14 .rules-of .ensures))
 
 keep-requires : tie.Need-keep-requires
-keep-requires c κs = (c .before .before .before .before .before .before .before .before .before .before .before .before .before .before .before .before .before .before .before .before .before .before .before .before .before .pre .0, c .before .before .before .before .before .before .before .before .before .before .before .before .before .before .before .before .before .before .before .before .before .before .before .before .before .pre .1, by-columns (pool (c .before .before .before .before .before .before .before .before .before .before .before .before .before .before .before .before .before .before .before .before .before .before .before .before .before)) (c .before .before .before .before .before .before .before .before .before .before .before .before .before .before .before .before .before .before .before .before .before .before .before .before .rules-of .result) (c .before .before .before .before .before .before .before .before .before .before .before .before .before .before .before .before .before .before .before .before .before .before .before .before .rules-of .ensures), c .before .before .before .before .before .before .before .before .before .before .before .before .before .before .before .before .before .before .first-on .ensures, c .before .before .before .before .before .before .before .before .before .relation .ensures)
+keep-requires c κs =
+    let c9 = c .before .before .before .before .before .before .before .before .before in
+    let c18 = c9 .before .before .before .before .before .before .before .before .before in
+    let c24 = c18 .before .before .before .before .before .before in
+    let c25 = c24 .before in
+    (c25 .pre .0, c25 .pre .1, by-columns (pool (c25)) (c24 .rules-of .result) (c24 .rules-of .ensures), c18 .first-on .ensures, c9 .relation .ensures)
 
 returns : tie.Need-returns
 returns c = (c .keep .ensures .holds, (c .keep .ensures .own, c .keep .ensures .all))

@@ -5,7 +5,8 @@ use native.Mathlib.Numerals.{add-one}
 use mathlib.Core.Path.{_≡_, refl, sym, _∙_, ap, subst}
 use mathlib.Core.Logic.{_⊎_, inl, inr, ⊎-elim}
 use mathlib.Core.Bool.{Bool, true, false, cond}
-use mathlib.Core.List.{List, [], _∷_, _++_, append-assoc, append-nil, List·Memᴰ, List·Memᴰ·head, List·Memᴰ·not-nil, List·Memᴰ·eq-of-singleton, List·Memᴰ·append-cases, Memᴰ·append-left, Memᴰ·append-right}
+use mathlib.Core.List.{List, [], _∷_, _++_, append-assoc, append-nil, List·Memᴰ, List·Memᴰ·head, List·Memᴰ·not-nil, List·Memᴰ·eq-of-singleton}
+use mathlib.Core.List.{List·Memᴰ·append-cases, Memᴰ·append-left, Memᴰ·append-right}
 use borrow.Author.Tests.{eqb-true, eqb-false, eq-eqb, ne-eqb, ltb-true, ltb-false}
 use lib.Dec.{eqb, ltb}
 use lib.ListN.{length, length-set, length-replicate, set, replicate}
@@ -54,7 +55,8 @@ module _ (P : Pool) where
       let z : P .count - a ≡ (k - a) + (P .count - k) = omega arith in
       ap (λ (d : ℕ). upTo d (λ (i : ℕ). credentialAt P (a + i))) z
       ∙ (upTo-split (k - a) (P .count - k) (λ (i : ℕ). credentialAt P (a + i))
-      ∙ ap (λ (l : List Credential). upTo (k - a) (λ (i : ℕ). credentialAt P (a + i)) ++ l) (upTo-same (P .count - k) _ _ (λ i _. let y : a + ((k - a) + i) ≡ k + i = omega arith in ap (credentialAt P) y)))
+      ∙ ap (λ (l : List Credential). upTo (k - a) (λ (i : ℕ). credentialAt P (a + i)) ++ l)
+      (upTo-same (P .count - k) _ _ (λ i _. let y : a + ((k - a) + i) ≡ k + i = omega arith in ap (credentialAt P) y)))
 
   pub rest-next : (k : ℕ) → k < P .count → restOf P k ≡ credentialAt P k ∷ restOf P (k + 1)
   rest-next k l =
@@ -116,7 +118,8 @@ module _ (P : Pool) where
       ∙ (ap (λ (b : Bool). chosenTo P r (a + d) ++ cond b (credentialAt P (a + d) ∷ []) []) (ne-eqb (el r (a + d)) 1 (h (a + d) (omega arith)))
       ∙ (append-nil (chosenTo P r (a + d)) ∙ none-chosen r a d h))
 
-  all-chosen : (r : List ℕ) (a d : ℕ) → ((i : ℕ) → a ≤ i → i < a + d → el r i ≡ 1) → chosenTo P r (a + d) ≡ chosenTo P r a ++ upTo d (λ (i : ℕ). credentialAt P (a + i))
+  all-chosen : (r : List ℕ) (a d : ℕ) → ((i : ℕ) → a ≤ i → i < a + d → el r i ≡ 1)
+      → chosenTo P r (a + d) ≡ chosenTo P r a ++ upTo d (λ (i : ℕ). credentialAt P (a + i))
   all-chosen r a zero h = let z : a + zero ≡ a = omega arith in ap (chosenTo P r) z ∙ sym (append-nil (chosenTo P r a))
   all-chosen r a (suc d) h =
       let z : a + suc d ≡ suc (a + d) = omega arith in
@@ -155,12 +158,14 @@ module _ (P : Pool) where
       ∙ ap (λ (l : List Credential). l ++ restOf P a) (none-on 128)
 
   -- with one more, after all others
-  pub one-chosen : (r : List ℕ) (k : ℕ) → length r ≡ 128 → P .count ≤ 128 → k < P .count → ((i : ℕ) → el r i ≡ 1 → i < k) → chosen P (set r k 1) ≡ chosen P r ++ (credentialAt P k ∷ [])
+  pub one-chosen : (r : List ℕ) (k : ℕ) → length r ≡ 128 → P .count ≤ 128 → k < P .count → ((i : ℕ) → el r i ≡ 1 → i < k)
+      → chosen P (set r k 1) ≡ chosen P r ++ (credentialAt P k ∷ [])
   one-chosen r k sized small l h =
       chosen-below (set r k 1) (k + 1) (omega arith) below
       ∙ (ap (chosenTo P (set r k 1)) (add-one k)
       ∙ (ap (λ (x : ℕ). chosenTo P (set r k 1) k ++ cond (eqb x 1) (credentialAt P k ∷ []) []) (getD-set-same r k 1 0 (omega arith))
-      ∙ ap (λ (l : List Credential). l ++ (credentialAt P k ∷ [])) (same-chosen (set r k 1) r k (λ i m. getD-set-other r k i 1 0 (λ e. omega arith)) ∙ sym (chosen-below r k (omega arith) h))))
+      ∙ ap (λ (l : List Credential). l ++ (credentialAt P k ∷ []))
+      (same-chosen (set r k 1) r k (λ i m. getD-set-other r k i 1 0 (λ e. omega arith)) ∙ sym (chosen-below r k (omega arith) h))))
     where
       below : (i : ℕ) → el (set r k 1) i ≡ 1 → i < k + 1
       below i o = go (eqb i k) refl

@@ -85,7 +85,8 @@ module _ {H : List ℕ} {t : Role → Bool} {r : List ℕ} where
 
 module _ {H : List ℕ} {n : ℕ} where
   -- one test after the other
-  marked-both : {s t u : Role → Bool} {r q w : List ℕ} → ((h : Role) → u h ≡ true → (s h ≡ true) ⊎ (t h ≡ true)) → Marked H s n r q → Marked H t n q w → Marked H u n r w
+  marked-both : {s t u : Role → Bool} {r q w : List ℕ} → ((h : Role) → u h ≡ true → (s h ≡ true) ⊎ (t h ≡ true)) → Marked H s n r q → Marked H t n q w
+      → Marked H u n r w
   marked-both either a b =
       record {
         sized = b .sized;
@@ -115,7 +116,8 @@ module _ {H : List ℕ} {n : ℕ} where
     marked-linked a m h k = marked-both (λ p o. or-cases _ _ o) h k
 
   -- the roles past the count do no harm
-  pub marked-parts : (p : Parts) {r q u v w : List ℕ} → Marked H (sameRole (p .first)) n r q → Marked H (sameRole (p .second)) n q u → Marked H (sameRole (p .third)) n u v → Marked H (sameRole (p .fourth)) n v w → Marked H (asks (E.Intersection p)) n r w
+  pub marked-parts : (p : Parts) {r q u v w : List ℕ} → Marked H (sameRole (p .first)) n r q → Marked H (sameRole (p .second)) n q u
+      → Marked H (sameRole (p .third)) n u v → Marked H (sameRole (p .fourth)) n v w → Marked H (asks (E.Intersection p)) n r w
   unfolding asks
   marked-parts p {w = w} a b c d =
       record {
@@ -129,7 +131,9 @@ module _ {H : List ℕ} {n : ℕ} where
       choose G false g h = h
 
       each : (i : ℕ) → i < n → (o : Role) → List·Memᴰ o (rolesOf p) → sameRole o (headIn H i) ≡ true → el w i ≡ 1
-      each i l = four-all p G first (λ h. d .grows i (c .grows i (b .all i l h))) (choose G (eqb (p .count) 2) first third′) (choose G (eqb (p .count) 2) first (choose G (eqb (p .count) 3) first (d .all i l)))
+      each i l =
+          four-all p G first (λ h. d .grows i (c .grows i (b .all i l h))) (choose G (eqb (p .count) 2) first third′)
+          (choose G (eqb (p .count) 2) first (choose G (eqb (p .count) 3) first (d .all i l)))
         where
           G : Role → Type 0
           G o = sameRole o (headIn H i) ≡ true → el w i ≡ 1
@@ -149,10 +153,19 @@ module _ (P : Pool) (j : ℕ) {r done : List ℕ} (w : Work P r done) where
   pub follow-done : el done j ≡ 1 → Followed P j r done r done false
   follow-done d = record { work = w; grows = λ i h. h; same = λ _. (refl, refl, λ h. d) }
 
-  pub follow-new : {q : List ℕ} (x : Expression) → j < 128 → x ≡ bodyAt P j → Marked (P .heads) (asks x) (P .count) r q → Followed P j r done q (set done j 1) true
+  pub follow-new : {q : List ℕ} (x : Expression) → j < 128 → x ≡ bodyAt P j → Marked (P .heads) (asks x) (P .count) r q
+      → Followed P j r done q (set done j 1) true
   follow-new {q} x l e m =
       record {
-        work = record { sized = m .sized; done-sized = length-set done j 1 ∙ w .done-sized; followed = λ k h. ⊎-elim (λ o. record { covers = λ i y a. m .grows i (w .followed k o .covers i y a) }) (λ o. record { covers = λ i y a. m .all i y (subst (λ (z : Expression). asks z (headAt P i) ≡ true) (ap (bodyAt P) o ∙ sym e) a) }) (came done j k h) };
+        work =
+            record {
+              sized = m .sized;
+              done-sized = length-set done j 1
+                  ∙ w .done-sized;
+              followed = λ k h. ⊎-elim (λ o. record { covers = λ i y a. m .grows i (w .followed k o .covers i y a) })
+                  (λ o. record { covers = λ i y a. m .all i y (subst (λ (z : Expression). asks z (headAt P i) ≡ true) (ap (bodyAt P) o ∙ sym e) a) })
+                  (came done j k h);
+            };
         grows = m .grows;
         same = λ h. absurd (false-true (sym h));
       }
@@ -198,7 +211,8 @@ module _ {P : Pool} {r : List ℕ} where
   pass-again p s = record { work = s .work; grows = λ i h. s .grows i (p .grows i h); still = λ h. absurd (false-true (sym h)) }
 
   -- a pass that follows none leaves a closed column
-  pub pass-closed : (f : Expression) {o q ended u over : List ℕ} {a b : Bool} {k : ℕ} → Marked (P .heads) (asks f) (P .count) o r → Swept P r q ended a k → Swept P q u over b (P .count) → b ≡ false → ClosedFor P f u
+  pub pass-closed : (f : Expression) {o q ended u over : List ℕ} {a b : Bool} {k : ℕ} → Marked (P .heads) (asks f) (P .count) o r
+      → Swept P r q ended a k → Swept P q u over b (P .count) → b ≡ false → ClosedFor P f u
   pass-closed f m p s h =
       record {
         asked = λ i l x. s .grows i (p .grows i (m .all i l x));

@@ -23,7 +23,8 @@ use Rattle.relation.specs.laws.Relation.{Relation}
 use Rattle.needed.specs.Needed.{kept, enough, needed}
 use Rattle.needed.specs.laws.Needed.{firstOf, restOf, enough-gains, kept-nil, kept-done, kept-jump, kept-all, needed-same}
 use Rattle.needed.specs.laws.Columns.{FirstOn, withOne, Grown, LastNeeded, WithRest, Keeping, Needed}
-use Rattle.needed.specs.laws.Column.{upTo-mem, upTo-find, rest-split, rest-next, rest-none, rest-mem, rest-find, first-rest, lt-or, none-on, rest-chosen, one-chosen, set-at, stays, came}
+use Rattle.needed.specs.laws.Column.{upTo-mem, upTo-find, rest-split, rest-next, rest-none, rest-mem, rest-find, first-rest, lt-or, none-on}
+use Rattle.needed.specs.laws.Column.{rest-chosen, one-chosen, set-at, stays, came}
 use Rattle.word.specs.laws.Search.{zeros}
 
 -- One switched on
@@ -54,12 +55,15 @@ module _ (P : Pool) (was : List ℕ) (f e : Expression) where
       to c m =
           let r = chosen-find P on (P .count) c m in
           subst (λ (d : Credential). List·Memᴰ d (chosen P was ++ restOf P k)) (sym (r .3))
-          (⊎-elim (λ h. Memᴰ·append-left (restOf P k) (chosen-mem P was (P .count) (r .0) (r .1) h)) (λ h. Memᴰ·append-right (chosen P was) (rest-mem P k (r .0) h (r .1))) (g .says (r .0) (r .1) (r .2)))
+          (⊎-elim (λ h. Memᴰ·append-left (restOf P k) (chosen-mem P was (P .count) (r .0) (r .1) h))
+          (λ h. Memᴰ·append-right (chosen P was) (rest-mem P k (r .0) h (r .1))) (g .says (r .0) (r .1) (r .2)))
 
       fro : (c : Credential) → List·Memᴰ c (chosen P was ++ restOf P k) → List·Memᴰ c (chosen P on)
       fro c m =
-          ⊎-elim (λ h. let r = chosen-find P was (P .count) c h in subst (λ (d : Credential). List·Memᴰ d (chosen P on)) (sym (r .3)) (chosen-mem P on (P .count) (r .0) (r .1) (g .old (r .0) (r .2))))
-          (λ h. let r = rest-find P k c h in subst (λ (d : Credential). List·Memᴰ d (chosen P on)) (sym (r .3)) (chosen-mem P on (P .count) (r .0) (r .2) (g .new (r .0) (r .1) (r .2))))
+          ⊎-elim (λ h. let r = chosen-find P was (P .count) c h in subst (λ (d : Credential). List·Memᴰ d (chosen P on)) (sym (r .3))
+          (chosen-mem P on (P .count) (r .0) (r .1) (g .old (r .0) (r .2))))
+          (λ h. let r = rest-find P k c h in subst (λ (d : Credential). List·Memᴰ d (chosen P on)) (sym (r .3))
+          (chosen-mem P on (P .count) (r .0) (r .2) (g .new (r .0) (r .1) (r .2))))
           (List·Memᴰ·append-cases (chosen P was) m)
 
   pub grown-start : length was ≡ 128 → Grown (P .count) (P .count + 1) was was
@@ -77,7 +81,8 @@ module _ (P : Pool) (was : List ℕ) (f e : Expression) where
       above : (j : ℕ) → i ≤ j → (j ≡ i → ⊥) → k ≤ j
       above j m y = omega (arith, y)
 
-  pub grown-add : (k i : ℕ) (on now : List ℕ) → i ≤ P .count → P .count ≤ 128 → k ≡ i + 1 → now ≡ withOne (P .count) i on → Grown (P .count) k was on → Grown (P .count) i was now
+  pub grown-add : (k i : ℕ) (on now : List ℕ) → i ≤ P .count → P .count ≤ 128 → k ≡ i + 1 → now ≡ withOne (P .count) i on → Grown (P .count) k was on
+      → Grown (P .count) i was now
   unfolding withOne
   grown-add k i on now l small q z g = subst (λ (x : List ℕ). Grown (P .count) i was x) (sym z) (go (ltb i (P .count)) refl)
     where
@@ -85,14 +90,22 @@ module _ (P : Pool) (was : List ℕ) (f e : Expression) where
       go true y = grown-one k i on (ltb-true i (P .count) y) small q g
       go false y =
           let m : P .count ≤ i = ltb-false i (P .count) y in
-          record { sized = g .sized; says = λ j o h. ⊎-elim (λ x. inl x) (λ x. inr (omega arith)) (g .says j o h); old = g .old; new = λ j o x. absurd (omega arith) }
+          record {
+            sized = g .sized;
+            says = λ j o h. ⊎-elim (λ x. inl x) (λ x. inr (omega arith)) (g .says j o h);
+            old = g .old;
+            new = λ j o x. absurd
+                (omega arith);
+          }
 
   -- the edge does not hold yet
-  pub last-again : (i : ℕ) (on : List ℕ) {b : Bool} → Grown (P .count) i was on → b ≡ from? (chosen P on) f e → b ≡ false → from? (chosen P was ++ restOf P i) f e ≡ false
+  pub last-again : (i : ℕ) (on : List ℕ) {b : Bool} → Grown (P .count) i was on → b ≡ from? (chosen P on) f e → b ≡ false
+      → from? (chosen P was ++ restOf P i) f e ≡ false
   last-again i on g h k = sym (grown-enough i on g) ∙ (sym h ∙ k)
 
   -- the edge holds
-  pub last-found : (a k i : ℕ) (on : List ℕ) {b : Bool} → a ≤ i → i ≤ P .count → k ≡ i + 1 → Grown (P .count) i was on → b ≡ from? (chosen P on) f e → b ≡ true → (k ≤ P .count → from? (chosen P was ++ restOf P k) f e ≡ false) → LastNeeded P was f e a i
+  pub last-found : (a k i : ℕ) (on : List ℕ) {b : Bool} → a ≤ i → i ≤ P .count → k ≡ i + 1 → Grown (P .count) i was on → b ≡ from? (chosen P on) f e
+      → b ≡ true → (k ≤ P .count → from? (chosen P was ++ restOf P k) f e ≡ false) → LastNeeded P was f e a i
   last-found a k i on l m q g h y before =
       record {
         found = λ _. (l, sym (grown-enough i on g) ∙ (sym h ∙ y));
@@ -101,7 +114,8 @@ module _ (P : Pool) (was : List ℕ) (f e : Expression) where
       }
 
   -- it never did
-  pub last-none : (a i : ℕ) → a ≤ i → i ≤ a → a ≤ P .count → P .count ≤ 128 → (i ≤ P .count → from? (chosen P was ++ restOf P i) f e ≡ false) → LastNeeded P was f e a 129
+  pub last-none : (a i : ℕ) → a ≤ i → i ≤ a → a ≤ P .count → P .count ≤ 128 → (i ≤ P .count → from? (chosen P was ++ restOf P i) f e ≡ false)
+      → LastNeeded P was f e a 129
   last-none a i l m o small before =
       let q : i ≡ a = omega arith in
       record {
@@ -141,7 +155,8 @@ module _ (P : Pool) (small : P .count ≤ 128) (s : ℕ) (f e : Expression) wher
 
         to : (c : Credential) → List·Memᴰ c (chosen P on ++ X) → List·Memᴰ c (firstOf P s ++ (chosen P r ++ X))
         to c m =
-            ⊎-elim (λ h. let x = chosen-find P on (P .count) c h in subst (λ (d : Credential). List·Memᴰ d (firstOf P s ++ (chosen P r ++ X))) (sym (x .3)) (one (x .0) (x .1) (k .says (x .0) (x .2))))
+            ⊎-elim (λ h. let x = chosen-find P on (P .count) c h in subst (λ (d : Credential). List·Memᴰ d (firstOf P s ++ (chosen P r ++ X)))
+            (sym (x .3)) (one (x .0) (x .1) (k .says (x .0) (x .2))))
             (λ h. Memᴰ·append-right (firstOf P s) (Memᴰ·append-right (chosen P r) h)) (List·Memᴰ·append-cases (chosen P on) m)
 
         there : (i : ℕ) (c : Credential) → i < P .count → el on i ≡ 1 → c ≡ credentialAt P i → List·Memᴰ c (chosen P on ++ X)
@@ -149,19 +164,23 @@ module _ (P : Pool) (small : P .count ≤ 128) (s : ℕ) (f e : Expression) wher
 
         fro : (c : Credential) → List·Memᴰ c (firstOf P s ++ (chosen P r ++ X)) → List·Memᴰ c (chosen P on ++ X)
         fro c m =
-            ⊎-elim (λ h. let x = upTo-find s (credentialAt P) c h in let l : x .0 < s = x .1 in there (x .0) c (omega (arith, k .from, k .within)) (k .shown (x .0) l) (x .2))
-            (λ h. ⊎-elim (λ y. let x = chosen-find P r (P .count) c y in there (x .0) c (x .1) (k .kept-on (x .0) (x .2)) (x .3)) (λ y. Memᴰ·append-right (chosen P on) y) (List·Memᴰ·append-cases (chosen P r) h))
+            ⊎-elim (λ h. let x = upTo-find s (credentialAt P) c h in let l : x .0 < s = x .1 in there (x .0) c (omega (arith, k .from, k .within))
+            (k .shown (x .0) l) (x .2))
+            (λ h. ⊎-elim (λ y. let x = chosen-find P r (P .count) c y in there (x .0) c (x .1) (k .kept-on (x .0) (x .2)) (x .3))
+            (λ y. Memᴰ·append-right (chosen P on) y) (List·Memᴰ·append-cases (chosen P r) h))
             (List·Memᴰ·append-cases (firstOf P s) m)
 
     in-pool : (i : ℕ) → el r i ≡ 1 → (s ≤ i) × (i < P .count)
     in-pool i o = let h = k .own i o in let l : i < a = h .1 in (h .0, omega (arith, k .within))
 
     -- the edge holds over the pool where the needed ones are enough
-    over-pool : (q : List ℕ) {b : Bool} → chosen P q ≡ needed (firstOf P s) f e (restOf P s) → enough (firstOf P s) f e (chosen P q) ≡ b → b ≡ from? (credentials P) f e
+    over-pool : (q : List ℕ) {b : Bool} → chosen P q ≡ needed (firstOf P s) f e (restOf P s) → enough (firstOf P s) f e (chosen P q) ≡ b
+        → b ≡ from? (credentials P) f e
     over-pool q h w =
         sym w
         ∙ (ap (enough (firstOf P s) f e) h
-        ∙ (sym (needed-same (firstOf P s) f e (restOf P s)) ∙ ap (λ (l : List Credential). from? l f e) (sym (first-rest P s (omega (arith, k .from, k .within))))))
+        ∙ (sym (needed-same (firstOf P s) f e (restOf P s))
+        ∙ ap (λ (l : List Credential). from? l f e) (sym (first-rest P s (omega (arith, k .from, k .within))))))
 
     -- those kept are enough
     pub keep-done : (z : ℕ) → LastNeeded P on f e a z → z ≡ P .count → Needed P s f e true r
@@ -188,7 +207,9 @@ module _ (P : Pool) (small : P .count ≤ 128) (s : ℕ) (f e : Expression) wher
     keep-all z q last l w =
         record {
           holds = over-pool q all (ap (enough (firstOf P s) f e) with-rest ∙ few);
-          own = λ i o. ⊎-elim (λ m. in-pool i (sym (w .before i m) ∙ o)) (λ m. ⊎-elim (λ y. (omega (arith, k .from), y)) (λ y. in-pool i (sym (w .after i y) ∙ o)) (lt-or i (P .count))) (lt-or i a);
+          own =
+              λ i o. ⊎-elim (λ m. in-pool i (sym (w .before i m) ∙ o))
+              (λ m. ⊎-elim (λ y. (omega (arith, k .from), y)) (λ y. in-pool i (sym (w .after i y) ∙ o)) (lt-or i (P .count))) (lt-or i a);
           all = all;
         }
       where
@@ -209,8 +230,12 @@ module _ (P : Pool) (small : P .count ≤ 128) (s : ℕ) (f e : Expression) wher
           within = omega arith;
           sized = length-set r z 1 ∙ k .sized;
           on-sized = length-set on z 1 ∙ k .on-sized;
-          own = λ i o. ⊎-elim (λ h. let m = k .own i h in let u : i < a = m .1 in (m .0, omega (arith, found .0))) (λ h. (omega (arith, k .from, found .0), omega arith)) (came r z i o);
-          says = λ i o. ⊎-elim (λ h. ⊎-elim (λ m. inl m) (λ m. inr (stays r z i (k .sized) (omega arith) m)) (k .says i h)) (λ h. inr (is-on r i (k .sized) h)) (came on z i o);
+          own =
+              λ i o. ⊎-elim (λ h. let m = k .own i h in let u : i < a = m .1 in (m .0, omega (arith, found .0)))
+              (λ h. (omega (arith, k .from, found .0), omega arith)) (came r z i o);
+          says =
+              λ i o. ⊎-elim (λ h. ⊎-elim (λ m. inl m) (λ m. inr (stays r z i (k .sized) (omega arith) m)) (k .says i h))
+              (λ h. inr (is-on r i (k .sized) h)) (came on z i o);
           shown = λ i m. stays on z i (k .on-sized) (omega arith) (k .shown i m);
           kept-on = λ i o. ⊎-elim (λ h. stays on z i (k .on-sized) (omega arith) (k .kept-on i h)) (λ h. is-on on i (k .on-sized) h) (came r z i o);
           so-far = k .so-far ∙ jump;
@@ -227,11 +252,14 @@ module _ (P : Pool) (small : P .count ≤ 128) (s : ℕ) (f e : Expression) wher
 
         jump : kept G (chosen P r) (restOf P a) ≡ kept G (chosen P (set r z 1)) (restOf P (z + 1))
         jump =
-            ap (kept G (chosen P r)) (rest-split P a z (found .0) (omega arith) ∙ ap (λ (l : List Credential). upTo (z - a) (λ (i : ℕ). credentialAt P (a + i)) ++ l) (rest-next P z l))
-            ∙ (kept-jump G (enough-gains (firstOf P s) f e) (chosen P r) (upTo (z - a) (λ (i : ℕ). credentialAt P (a + i))) (credentialAt P z) (restOf P (z + 1))
+            ap (kept G (chosen P r)) (rest-split P a z (found .0) (omega arith)
+            ∙ ap (λ (l : List Credential). upTo (z - a) (λ (i : ℕ). credentialAt P (a + i)) ++ l) (rest-next P z l))
+            ∙ (kept-jump G (enough-gains (firstOf P s) f e) (chosen P r) (upTo (z - a) (λ (i : ℕ). credentialAt P (a + i))) (credentialAt P z)
+            (restOf P (z + 1))
             (ap (λ (l : List Credential). G (chosen P r ++ l)) (sym (rest-next P z l)) ∙ (sym (kept-among (restOf P z)) ∙ found .1))
             (sym (kept-among (restOf P (z + 1))) ∙ found .2)
-            ∙ ap (λ (ks : List Credential). kept G ks (restOf P (z + 1))) (sym (one-chosen P r z (k .sized) small l (λ i o. let m : i < a = k .own i o .1 in omega (arith, found .0)))))
+            ∙ ap (λ (ks : List Credential). kept G ks (restOf P (z + 1)))
+            (sym (one-chosen P r z (k .sized) small l (λ i o. let m : i < a = k .own i o .1 in omega (arith, found .0)))))
 
   -- the last one of the pool is kept
   pub keep-last : (r on : List ℕ) (a : ℕ) → Keeping P s f e r on a → (z : ℕ) → LastNeeded P on f e a z → z + 1 ≡ P .count → Needed P s f e true (set r z 1)
@@ -242,4 +270,5 @@ module _ (P : Pool) (small : P .count ≤ 128) (s : ℕ) (f e : Expression) wher
       with-one : chosen P (set r z 1) ≡ chosen P r ++ restOf P z
       with-one =
           one-chosen P r z (k .sized) small (omega arith) (λ i o. let m : i < a = k .own i o .1 in let y : a ≤ z = last .found (omega arith) .0 in omega arith)
-          ∙ ap (λ (l : List Credential). chosen P r ++ l) (sym (rest-next P z (omega arith) ∙ ap (λ (l : List Credential). credentialAt P z ∷ l) (rest-none P (z + 1) (omega arith))))
+          ∙ ap (λ (l : List Credential). chosen P r ++ l)
+          (sym (rest-next P z (omega arith) ∙ ap (λ (l : List Credential). credentialAt P z ∷ l) (rest-none P (z + 1) (omega arith))))

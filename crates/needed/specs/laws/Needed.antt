@@ -2,7 +2,8 @@
 -- the next one kept is the last with which the tail of the list is enough, and all before it are dropped. Assumes nothing.
 use Prim.Native.Nat.{ℕ, _+_, _-_}
 use mathlib.Core.Bool.{Bool, cond, true, false}
-use mathlib.Core.List.{List, [], _∷_, _++_, append-assoc, append-nil, List·Memᴰ, List·Memᴰ·head, List·Memᴰ·tail, List·Memᴰ·cases-cons, List·Memᴰ·append-cases, Memᴰ·append-left, Memᴰ·append-right}
+use mathlib.Core.List.{List, [], _∷_, _++_, append-assoc, append-nil, List·Memᴰ, List·Memᴰ·head, List·Memᴰ·tail, List·Memᴰ·cases-cons}
+use mathlib.Core.List.{List·Memᴰ·append-cases, Memᴰ·append-left, Memᴰ·append-right}
 use Rattle.expression.specs.declared.Credential.{Credential}
 use Rattle.expression.specs.declared.Expression.{Expression}
 use Rattle.rt0.specs.declared.Pool.{Pool}
@@ -30,7 +31,11 @@ pub record Gains (A : Type 0) (g : List A → Bool) : Type 0 where
 -- more credentials justify more
 pub enough-gains : (shown : List Credential) (f e : Expression) → Gains Credential (enough shown f e)
 enough-gains shown f e =
-    record { gains = λ {C} {D} sub h. complete (shown ++ D) f e (more (λ c m. ⊎-elim (λ k. Memᴰ·append-left D k) (λ k. Memᴰ·append-right shown (sub c k)) (List·Memᴰ·append-cases shown m)) (sound (shown ++ C) f e h)) }
+    record {
+      gains = λ {C} {D} sub h. complete (shown ++ D) f e
+          (more (λ c m. ⊎-elim (λ k. Memᴰ·append-left D k) (λ k. Memᴰ·append-right shown (sub c k)) (List·Memᴰ·append-cases shown m))
+          (sound (shown ++ C) f e h));
+    }
 
 -- the first list is the second with some elements left out
 pub data Sublist {A : Type 0} : List A → List A → Type 0 where
@@ -70,7 +75,8 @@ module _ {A : Type 0} (g : List A → Bool) where
   kept-enough ks [] h = ap g (sym (append-nil ks)) ∙ h
   kept-enough ks (c ∷ cs) h = go (g (ks ++ cs)) refl (λ k. kept-enough ks cs k) (kept-enough (ks ++ (c ∷ [])) cs (ap g (append-assoc ks (c ∷ []) cs) ∙ h))
     where
-      go : (b : Bool) → g (ks ++ cs) ≡ b → (g (ks ++ cs) ≡ true → g (kept g ks cs) ≡ true) → g (kept g (ks ++ (c ∷ [])) cs) ≡ true → g (kept g (cond b ks (ks ++ (c ∷ []))) cs) ≡ true
+      go : (b : Bool) → g (ks ++ cs) ≡ b → (g (ks ++ cs) ≡ true → g (kept g ks cs) ≡ true) → g (kept g (ks ++ (c ∷ [])) cs) ≡ true
+          → g (kept g (cond b ks (ks ++ (c ∷ []))) cs) ≡ true
       go true q drop keep = drop q
       go false q drop keep = keep
 
@@ -89,7 +95,8 @@ module _ {A : Type 0} (g : List A → Bool) where
         tail d m = ⊎-elim (λ k. Memᴰ·append-left (before ++ after) k) (λ k. Memᴰ·append-right ks (Memᴰ·append-right before k)) (List·Memᴰ·append-cases ks m)
 
     -- the last one with which the tail is enough is kept, and all before it are dropped
-    pub kept-jump : (ks before : List A) (c : A) (after : List A) → g (ks ++ (c ∷ after)) ≡ true → g (ks ++ after) ≡ false → kept g ks (before ++ (c ∷ after)) ≡ kept g (ks ++ (c ∷ [])) after
+    pub kept-jump : (ks before : List A) (c : A) (after : List A) → g (ks ++ (c ∷ after)) ≡ true → g (ks ++ after) ≡ false
+        → kept g ks (before ++ (c ∷ after)) ≡ kept g (ks ++ (c ∷ [])) after
     kept-jump ks before c after h k = kept-skip ks before (c ∷ after) h ∙ kept-keep ks c after k
 
     -- where the whole is not enough, all are kept
@@ -115,8 +122,13 @@ module _ {A : Type 0} (g : List A → Bool) where
             → (zs : List A) × (kept g (ks ++ (c ∷ [])) cs ≡ (ks ++ (c ∷ [])) ++ zs) × Sublist zs cs × Each g (ks ++ (c ∷ [])) zs
             → (zs : List A) × (kept g (cond b ks (ks ++ (c ∷ []))) cs ≡ ks ++ zs) × Sublist zs (c ∷ cs) × Each g ks zs
         go true q drop keep = (drop .0, drop .1, dropped (drop .2), drop .3)
-        go false q drop keep =
-            (c ∷ keep .0, keep .1 ∙ append-assoc ks (c ∷ []) (keep .0), taken (keep .2), next (not-so (g (ks ++ keep .0)) (λ k. false-true (sym q ∙ more .gains (fewer (keep .2)) k))) (keep .3))
+        go false q drop keep = (
+          c ∷ keep .0,
+          keep .1 ∙ append-assoc ks (c ∷ []) (keep .0),
+          taken (keep .2),
+          next
+              (not-so (g (ks ++ keep .0)) (λ k. false-true (sym q ∙ more .gains (fewer (keep .2)) k))) (keep .3),
+        )
 
 -- The needed credentials
 

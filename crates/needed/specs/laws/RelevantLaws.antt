@@ -3,7 +3,8 @@ use Prim.Native.Nat.{ℕ}
 use mathlib.Core.Path.{_≡_, refl, sym, _∙_, ap, subst}
 use mathlib.Core.Logic.{⊎-elim}
 use mathlib.Core.Bool.{Bool, true, false}
-use mathlib.Core.List.{List, [], _∷_, _++_, append-assoc, List·Memᴰ, List·Memᴰ·head, List·Memᴰ·tail, List·Memᴰ·cases-cons, List·Memᴰ·append-cases, Memᴰ·append-left, Memᴰ·append-right}
+use mathlib.Core.List.{List, [], _∷_, _++_, append-assoc, List·Memᴰ, List·Memᴰ·head, List·Memᴰ·tail, List·Memᴰ·cases-cons, List·Memᴰ·append-cases}
+use mathlib.Core.List.{Memᴰ·append-left, Memᴰ·append-right}
 use borrow.Author.Tests.{eq-eqb}
 use Rattle.expression.specs.declared.Role.{Role}
 use Rattle.expression.specs.declared.Parts.{Parts}
@@ -96,17 +97,23 @@ module _ {R : Role → Type 0} where
   -- The needed ones
 
   module _ (shown less : List Credential) (f e : Expression) (fewer : Reduced R less shown) where
-    kept-relevant : (ks : List Credential) {cs ds : List Credential} → Sufficient f (shown ++ (ks ++ cs)) R → enough shown f e (ks ++ cs) ≡ true → Reduced R ds cs → kept (enough less f e) ks ds ≡ kept (enough shown f e) ks cs
+    kept-relevant : (ks : List Credential) {cs ds : List Credential} → Sufficient f (shown ++ (ks ++ cs)) R → enough shown f e (ks ++ cs) ≡ true
+        → Reduced R ds cs → kept (enough less f e) ks ds ≡ kept (enough shown f e) ks cs
     kept-relevant ks k g nothing = kept-nil (enough less f e) ks ∙ sym (kept-nil (enough shown f e) ks)
     kept-relevant ks k g (dropped {c = c} {xs = ds} {ys = cs} n d) =
-        let less-one : Reduced R (shown ++ (ks ++ cs)) (shown ++ (ks ++ (c ∷ cs))) = reduced-append (reduced-same shown) (reduced-append (reduced-same ks) (dropped n (reduced-same cs))) in
+        let less-one : Reduced R (shown ++ (ks ++ cs)) (shown ++ (ks ++ (c ∷ cs))) = reduced-append (reduced-same shown)
+        (reduced-append (reduced-same ks) (dropped n (reduced-same cs))) in
         let still : enough shown f e (ks ++ cs) ≡ true = sym (from-relevant f e k less-one) ∙ g in
         kept-relevant ks (closed-sub (λ x m. reduced-old less-one x m) k) still d ∙ sym (kept-drop (enough shown f e) ks c cs still)
     kept-relevant ks k g (taken {c = c} {xs = ds} {ys = cs} d) =
-        go (enough shown f e (ks ++ cs)) refl (λ h. kept-relevant ks smaller h d) (kept-relevant (ks ++ (c ∷ [])) moved (ap (enough shown f e) (append-assoc ks (c ∷ []) cs) ∙ g) d)
+        go (enough shown f e (ks ++ cs)) refl (λ h. kept-relevant ks smaller h d)
+        (kept-relevant (ks ++ (c ∷ [])) moved (ap (enough shown f e) (append-assoc ks (c ∷ []) cs) ∙ g) d)
       where
         smaller : Sufficient f (shown ++ (ks ++ cs)) R
-        smaller = closed-sub (λ x m. ⊎-elim (λ u. Memᴰ·append-left (ks ++ (c ∷ cs)) u) (λ u. Memᴰ·append-right shown (⊎-elim (λ w. Memᴰ·append-left (c ∷ cs) w) (λ w. Memᴰ·append-right ks (List·Memᴰ·tail w)) (List·Memᴰ·append-cases ks u))) (List·Memᴰ·append-cases shown m)) k
+        smaller =
+            closed-sub (λ x m. ⊎-elim (λ u. Memᴰ·append-left (ks ++ (c ∷ cs)) u)
+            (λ u. Memᴰ·append-right shown (⊎-elim (λ w. Memᴰ·append-left (c ∷ cs) w) (λ w. Memᴰ·append-right ks (List·Memᴰ·tail w))
+            (List·Memᴰ·append-cases ks u))) (List·Memᴰ·append-cases shown m)) k
 
         moved : Sufficient f (shown ++ ((ks ++ (c ∷ [])) ++ cs)) R
         moved = subst (λ (l : List Credential). Sufficient f (shown ++ l) R) (sym (append-assoc ks (c ∷ []) cs)) k
@@ -122,7 +129,8 @@ module _ {R : Role → Type 0} where
         go false q drop keep = kept-keep (enough less f e) ks c ds (sym both ∙ q) ∙ keep ∙ sym (kept-keep (enough shown f e) ks c cs q)
 
     -- where the credentials are enough, those with other heads can be left out: the same ones are needed
-    pub needed-relevant : (own some : List Credential) → Sufficient f (shown ++ own) R → from? (shown ++ own) f e ≡ true → Reduced R some own → needed less f e some ≡ needed shown f e own
+    pub needed-relevant : (own some : List Credential) → Sufficient f (shown ++ own) R → from? (shown ++ own) f e ≡ true → Reduced R some own
+        → needed less f e some ≡ needed shown f e own
     unfolding needed
     needed-relevant own some k g d = kept-relevant [] k g d
 

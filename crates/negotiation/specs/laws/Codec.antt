@@ -21,9 +21,11 @@ use Rattle.graph.specs.declared.Node.{Node}
 use Rattle.graph.specs.declared.Edge.{Edge}
 use Rattle.negotiation.specs.declared.Header.{Header}
 use Rattle.negotiation.specs.State.{State, within}
-use Rattle.negotiation.specs.Layout.{nodeBytes, edgeBytes, records, part, headerPart, stateBytes, headerFrom, nodeFrom, edgeFrom, credentialFrom, few, candidateOf, sameBytes, readState}
+use Rattle.negotiation.specs.Layout.{nodeBytes, edgeBytes, records, part, headerPart, stateBytes, headerFrom, nodeFrom, edgeFrom, credentialFrom}
+use Rattle.negotiation.specs.Layout.{few, candidateOf, sameBytes, readState}
 use Rattle.negotiation.specs.laws.Layout.{Sizes, sizes, node-size, edge-size, credential-size, header-part, nodes-front, edges-front, state-length}
 use Rattle.negotiation.specs.laws.Read.{few-all, candidate-within, same-bytes-eq, same-bytes-refl}
+use Rattle.numbers.specs.Sizes.{MOST-EDGES}
 
 -- One record
 
@@ -68,7 +70,8 @@ node-back s at x l h =
     }
 
 edge-back : (s : List ℕ) (at : ℕ) (e : Edge) (l : List ℕ) → drop at s ≡ edgeBytes e ++ l → edgeFrom s at ≡ e
-edge-back s at e l h = λ t. record { kind = code-there s at (e .kind) _ h t; parent = byte-there s at 1 (edgeBytes e ++ l) h t; child = byte-there s at 2 (edgeBytes e ++ l) h t }
+edge-back s at e l h =
+    λ t. record { kind = code-there s at (e .kind) _ h t; parent = byte-there s at 1 (edgeBytes e ++ l) h t; child = byte-there s at 2 (edgeBytes e ++ l) h t }
 
 shown-credential-back : (s : List ℕ) (at : ℕ) (c : Credential) (l : List ℕ) → drop at s ≡ credentialBytes c ++ l → credentialFrom s at ≡ c
 shown-credential-back s at c l h =
@@ -96,7 +99,8 @@ module _ {A : Type 0} (f : A → List ℕ) (g : List ℕ → ℕ → A) (k : ℕ
       let next : (i : ℕ) → at + suc i * k ≡ at + k + i * k = λ i. omega (arith, suc-mul i k) in
       upTo-front (length xs) (λ (i : ℕ). g s (at + i * k))
       ∙ (λ t. (ap (g s) start ∙ back s at x (records f xs ++ l) whole) t
-      ∷ (upTo-same (length xs) (λ (i : ℕ). g s (at + suc i * k)) (λ (i : ℕ). g s (at + k + i * k)) (λ i m. ap (g s) (next i)) ∙ records-back xs s (at + k) l rest) t)
+      ∷ (upTo-same (length xs) (λ (i : ℕ). g s (at + suc i * k)) (λ (i : ℕ). g s (at + k + i * k)) (λ i m. ap (g s) (next i))
+      ∙ records-back xs s (at + k) l rest) t)
 
   -- a part that stands there
   part-back : (n : ℕ) (xs : List A) (s : List ℕ) (at : ℕ) (l : List ℕ) → drop at s ≡ part n f xs ++ l → upTo (length xs) (λ (i : ℕ). g s (at + i * k)) ≡ xs
@@ -126,9 +130,11 @@ module _ (S : State) (z : Sizes S) where
       let nodes : List ℕ = part 2816 nodeBytes (S .nodes) in
       let edges : List ℕ = part 768 edgeBytes (S .edges) in
       let shown : List ℕ = part 1408 credentialBytes (S .shown) in
-      let split : stateBytes S ≡ headerPart S ++ (nodes ++ (edges ++ shown)) = append-assoc (headerPart S ++ nodes) edges shown ∙ append-assoc (headerPart S) nodes (edges ++ shown) in
+      let split : stateBytes S ≡ headerPart S ++ (nodes ++ (edges ++ shown)) = append-assoc (headerPart S ++ nodes) edges shown
+      ∙ append-assoc (headerPart S) nodes (edges ++ shown) in
       ap (λ (n : ℕ). upTo n (λ (i : ℕ). nodeFrom (stateBytes S) (128 + i * 22))) (few-all 128 (length (S .nodes)) (z .nodes))
-      ∙ part-back nodeBytes nodeFrom 22 node-size node-back 2816 (S .nodes) (stateBytes S) 128 (edges ++ shown) (ap (drop 128) split ∙ drop-at (headerPart S) (nodes ++ (edges ++ shown)) 128 (header-part S z))
+      ∙ part-back nodeBytes nodeFrom 22 node-size node-back 2816 (S .nodes) (stateBytes S) 128 (edges ++ shown)
+      (ap (drop 128) split ∙ drop-at (headerPart S) (nodes ++ (edges ++ shown)) 128 (header-part S z))
 
   edges-back : upTo (few 256 (numberAt (stateBytes S) 15)) (λ (j : ℕ). edgeFrom (stateBytes S) (2944 + j * 3)) ≡ S .edges
   unfolding stateBytes headerPart
@@ -136,16 +142,18 @@ module _ (S : State) (z : Sizes S) where
       let nodes : List ℕ = part 2816 nodeBytes (S .nodes) in
       let edges : List ℕ = part 768 edgeBytes (S .edges) in
       let shown : List ℕ = part 1408 credentialBytes (S .shown) in
-      ap (λ (n : ℕ). upTo (few 256 n) (λ (j : ℕ). edgeFrom (stateBytes S) (2944 + j * 3))) (div-add-mod' (length (S .edges)) 256)
+      ap (λ (n : ℕ). upTo (few 256 n) (λ (j : ℕ). edgeFrom (stateBytes S) (2944 + j * 3))) (div-add-mod' (length (S .edges)) MOST-EDGES)
       ∙ ap (λ (n : ℕ). upTo n (λ (j : ℕ). edgeFrom (stateBytes S) (2944 + j * 3))) (few-all 256 (length (S .edges)) (z .edges))
-      ∙ part-back edgeBytes edgeFrom 3 edge-size edge-back 768 (S .edges) (stateBytes S) 2944 shown (ap (drop 2944) (append-assoc (headerPart S ++ nodes) edges shown) ∙ drop-at (headerPart S ++ nodes) (edges ++ shown) 2944 (nodes-front S z))
+      ∙ part-back edgeBytes edgeFrom 3 edge-size edge-back 768 (S .edges) (stateBytes S) 2944 shown
+      (ap (drop 2944) (append-assoc (headerPart S ++ nodes) edges shown) ∙ drop-at (headerPart S ++ nodes) (edges ++ shown) 2944 (nodes-front S z))
 
   shown-back : upTo (few 64 (getD (stateBytes S) 17 0)) (λ (k : ℕ). credentialFrom (stateBytes S) (3712 + k * 22)) ≡ S .shown
   unfolding stateBytes headerPart part
   shown-back =
       let front : List ℕ = headerPart S ++ part 2816 nodeBytes (S .nodes) ++ part 768 edgeBytes (S .edges) in
       ap (λ (n : ℕ). upTo n (λ (k : ℕ). credentialFrom (stateBytes S) (3712 + k * 22))) (few-all 64 (length (S .shown)) (z .shown))
-      ∙ records-back credentialBytes credentialFrom 22 credential-size shown-credential-back (S .shown) (stateBytes S) 3712 _ (drop-at front (part 1408 credentialBytes (S .shown)) 3712 (edges-front S z))
+      ∙ records-back credentialBytes credentialFrom 22 credential-size shown-credential-back (S .shown) (stateBytes S) 3712 _
+      (drop-at front (part 1408 credentialBytes (S .shown)) 3712 (edges-front S z))
 
   -- a state is the candidate of its bytes
   candidate-back : candidateOf (stateBytes S) ≡ S
@@ -169,7 +177,8 @@ read-state : (s : List ℕ) (S : State) → readState s ≡ some S → (candidat
 unfolding readState
 read-state s S h = go (sameBytes s (stateBytes (candidateOf s))) refl h
   where
-    go : (b : Bool) → sameBytes s (stateBytes (candidateOf s)) ≡ b → cond b (some (candidateOf s)) none ≡ some S → (candidateOf s ≡ S) × (s ≡ stateBytes (candidateOf s))
+    go : (b : Bool) → sameBytes s (stateBytes (candidateOf s)) ≡ b → cond b (some (candidateOf s)) none ≡ some S
+        → (candidateOf s ≡ S) × (s ≡ stateBytes (candidateOf s))
     go true e k = (cc, same-bytes-eq s (stateBytes (candidateOf s)) e)
     go false e k = absurd (let w : _≡_ {A = ℕ} 0 1 = cc in omega arith)
 

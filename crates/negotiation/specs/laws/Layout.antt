@@ -29,6 +29,7 @@ use Rattle.graph.specs.laws.Graph.{nodesOf, edgesOf}
 use Rattle.negotiation.specs.declared.Negotiation.{Negotiation}
 use Rattle.graph.specs.laws.Columns.{nodes-length, edges-length}
 use Rattle.negotiation.specs.Layout.{headerBytes, nodeBytes, edgeBytes, zeros, records, part, headerPart, stateBytes}
+use Rattle.numbers.specs.Sizes.{MOST-NODES, MOST-EDGES, MOST-SHOWN}
 
 -- what a reading is
 unfoldable pub readingOf : Reading → Option State
@@ -95,7 +96,8 @@ module _ {A : Type 0} (f : A → List ℕ) (k : ℕ) (size : (x : A) → length 
 
   pub length-part : (n : ℕ) (xs : List A) → length xs * k ≤ n → length (part n f xs) ≡ n
   unfolding part
-  length-part n xs room = length-append (records f xs) (zeros (n - length (records f xs))) ∙ omega (arith, length-zeros (n - length (records f xs)), length-records xs)
+  length-part n xs room =
+      length-append (records f xs) (zeros (n - length (records f xs))) ∙ omega (arith, length-zeros (n - length (records f xs)), length-records xs)
 
 -- Sizes
 
@@ -119,18 +121,20 @@ node-written d e f at x room h k =
 
 -- a state within the sizes
 pub record Sizes (S : State) : Type 0 where
-  pub nodes : length (S .nodes) ≤ 128
-  pub edges : length (S .edges) ≤ 256
-  pub shown : length (S .shown) ≤ 64
+  pub nodes : length (S .nodes) ≤ MOST-NODES
+  pub edges : length (S .edges) ≤ MOST-EDGES
+  pub shown : length (S .shown) ≤ MOST-SHOWN
 
 pub sizes : (S : State) → within S ≡ true → Sizes S
 unfolding within
 sizes S h =
-    let l = and-left (leb (length (S .nodes)) 128 && leb (length (S .edges)) 256) (leb (length (S .shown)) 64) h in
+    let l = and-left (leb (length (S .nodes)) MOST-NODES && leb (length (S .edges)) MOST-EDGES) (leb (length (S .shown)) MOST-SHOWN) h in
     record {
-      nodes = leb-true (length (S .nodes)) 128 (and-left (leb (length (S .nodes)) 128) (leb (length (S .edges)) 256) l);
-      edges = leb-true (length (S .edges)) 256 (and-right (leb (length (S .nodes)) 128) (leb (length (S .edges)) 256) l);
-      shown = leb-true (length (S .shown)) 64 (and-right (leb (length (S .nodes)) 128 && leb (length (S .edges)) 256) (leb (length (S .shown)) 64) h);
+      nodes = leb-true (length (S .nodes)) MOST-NODES (and-left (leb (length (S .nodes)) MOST-NODES) (leb (length (S .edges)) MOST-EDGES) l);
+      edges = leb-true (length (S .edges)) MOST-EDGES (and-right (leb (length (S .nodes)) MOST-NODES) (leb (length (S .edges)) MOST-EDGES) l);
+      shown =
+          leb-true (length (S .shown)) MOST-SHOWN (and-right (leb (length (S .nodes)) MOST-NODES && leb (length (S .edges)) MOST-EDGES)
+          (leb (length (S .shown)) MOST-SHOWN) h);
     }
 
 -- The whole
@@ -159,7 +163,9 @@ module _ (S : State) (z : Sizes S) where
 
   pub header-part : length (headerPart S) ≡ 128
   unfolding headerPart
-  header-part = length-append (headerBytes (S .header) (length (S .nodes)) (length (S .edges)) (length (S .shown))) (zeros 110) ∙ ap (λ (n : ℕ). 18 + n) (length-zeros 110)
+  header-part =
+      length-append (headerBytes (S .header) (length (S .nodes)) (length (S .edges)) (length (S .shown))) (zeros 110)
+      ∙ ap (λ (n : ℕ). 18 + n) (length-zeros 110)
 
   pub nodes-front : length (headerPart S ++ part 2816 nodeBytes (S .nodes)) ≡ 2944
   nodes-front = length-append (headerPart S) (part 2816 nodeBytes (S .nodes)) ∙ (λ i. header-part i + nodes-part i)
@@ -170,7 +176,9 @@ module _ (S : State) (z : Sizes S) where
   -- every state has 5,120 bytes
   pub state-length : length (stateBytes S) ≡ 5120
   unfolding stateBytes
-  state-length = length-append (headerPart S ++ part 2816 nodeBytes (S .nodes) ++ part 768 edgeBytes (S .edges)) (part 1408 credentialBytes (S .shown)) ∙ (λ i. edges-front i + shown-part i)
+  state-length =
+      length-append (headerPart S ++ part 2816 nodeBytes (S .nodes) ++ part 768 edgeBytes (S .edges)) (part 1408 credentialBytes (S .shown))
+      ∙ (λ i. edges-front i + shown-part i)
 
   -- header, zeros and the three parts, written one after the other
   pub all-written : (d b c e f g : List ℕ) → length d ≡ 5120
@@ -186,16 +194,19 @@ module _ (S : State) (z : Sizes S) where
       let nodes : List ℕ = part 2816 nodeBytes (S .nodes) in
       let edges : List ℕ = part 768 edgeBytes (S .edges) in
       let shown : List ℕ = part 1408 credentialBytes (S .shown) in
-      let c′ : c ≡ pasted d 0 (headerPart S) = hc ∙ ap (λ (l : List ℕ). pasted l 18 (zeros 110)) hb ∙ paste-on d header (zeros 110) 18 refl (omega (arith, length-zeros 110)) in
-      let e′ : e ≡ pasted d 0 (headerPart S ++ nodes) = he ∙ ap (λ (l : List ℕ). pasted l 128 nodes) c′ ∙ paste-on d (headerPart S) nodes 128 header-part (omega (arith, nodes-part)) in
-      let f′ : f ≡ pasted d 0 (headerPart S ++ nodes ++ edges) = hf ∙ ap (λ (l : List ℕ). pasted l 2944 edges) e′ ∙ paste-on d (headerPart S ++ nodes) edges 2944 nodes-front (omega (arith, edges-part)) in
+      let c′ : c ≡ pasted d 0 (headerPart S) = hc ∙ ap (λ (l : List ℕ). pasted l 18 (zeros 110)) hb
+      ∙ paste-on d header (zeros 110) 18 refl (omega (arith, length-zeros 110)) in
+      let e′ : e ≡ pasted d 0 (headerPart S ++ nodes) = he ∙ ap (λ (l : List ℕ). pasted l 128 nodes) c′
+      ∙ paste-on d (headerPart S) nodes 128 header-part (omega (arith, nodes-part)) in
+      let f′ : f ≡ pasted d 0 (headerPart S ++ nodes ++ edges) = hf ∙ ap (λ (l : List ℕ). pasted l 2944 edges) e′
+      ∙ paste-on d (headerPart S ++ nodes) edges 2944 nodes-front (omega (arith, edges-part)) in
       hg ∙ ap (λ (l : List ℕ). pasted l 3712 shown) f′ ∙ paste-on d (headerPart S ++ nodes ++ edges) shown 3712 edges-front (omega (arith, shown-part))
       ∙ paste-whole d (stateBytes S) (state-length ∙ sym size)
 
 -- Of columns
 
 module _ (n : Negotiation) (h : within (stateOf n) ≡ true) where
-  pub counts : (n .nodes .count ≤ 128) × (n .edges .count ≤ 256) × (n .shown .count ≤ 64)
+  pub counts : (n .nodes .count ≤ MOST-NODES) × (n .edges .count ≤ MOST-EDGES) × (n .shown .count ≤ MOST-SHOWN)
   unfolding stateOf
   counts =
       let z = sizes (stateOf n) h in

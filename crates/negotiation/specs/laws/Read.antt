@@ -26,7 +26,8 @@ use Rattle.negotiation.specs.declared.Negotiation.{Negotiation}
 use Rattle.negotiation.specs.declared.Reading.{Reading}
 use Rattle.negotiation.specs.laws.State.{stateOf}
 use Rattle.negotiation.specs.State.{within}
-use Rattle.graph.specs.laws.Columns.{NodesSized, EdgesSized, addedNode, add-node, added-node-sized, nodes-length, addedEdge, add-edge, added-edge-sized, edges-length}
+use Rattle.graph.specs.laws.Columns.{NodesSized, EdgesSized, addedNode, add-node, added-node-sized, nodes-length, addedEdge, add-edge, added-edge-sized}
+use Rattle.graph.specs.laws.Columns.{edges-length}
 use Rattle.negotiation.specs.Layout.{headerFrom, nodeFrom, edgeFrom, credentialFrom, few, candidateOf, stateBytes, sameBytes, readState}
 use Rattle.negotiation.specs.laws.Layout.{readingOf}
 
@@ -53,7 +54,9 @@ node-read s count N x r most h l e k =
     record {
       few = omega arith;
       sized = added-node-sized N x r (h .sized);
-      all = upTo-next (nodesOf N) (nodesOf (addedNode N x r)) (N .count) (λ (i : ℕ). nodeFrom s (128 + i * 22)) x (h .all) k (add-node N x r (h .sized) (omega arith) e);
+      all =
+          upTo-next (nodesOf N) (nodesOf (addedNode N x r)) (N .count) (λ (i : ℕ). nodeFrom s (128 + i * 22)) x (h .all) k
+          (add-node N x r (h .sized) (omega arith) e);
     }
 
 pub record EdgesRead (s : List ℕ) (count : ℕ) (E : Edges) : Type 0 where
@@ -66,13 +69,16 @@ no-edges-read s count E e z =
     let empty : E .count ≡ 0 = sym (edges-length E) ∙ ap length e in
     record { few = omega arith; sized = z; all = e ∙ ap (λ (n : ℕ). upTo n (λ (j : ℕ). edgeFrom s (2944 + j * 3))) (sym empty) }
 
-pub edge-read : (s : List ℕ) (count : ℕ) (E : Edges) → count ≤ 256 → EdgesRead s count E → E .count < count → EdgesRead s count (addedEdge E (edgeFrom s (2944 + E .count * 3)))
+pub edge-read : (s : List ℕ) (count : ℕ) (E : Edges) → count ≤ 256 → EdgesRead s count E → E .count < count
+    → EdgesRead s count (addedEdge E (edgeFrom s (2944 + E .count * 3)))
 edge-read s count E most h l =
     let x : Edge = edgeFrom s (2944 + E .count * 3) in
     record {
       few = omega arith;
       sized = added-edge-sized E x (h .sized);
-      all = upTo-next (edgesOf E) (edgesOf (addedEdge E x)) (E .count) (λ (j : ℕ). edgeFrom s (2944 + j * 3)) x (h .all) refl (add-edge E x (h .sized) (omega arith));
+      all =
+          upTo-next (edgesOf E) (edgesOf (addedEdge E x)) (E .count) (λ (j : ℕ). edgeFrom s (2944 + j * 3)) x (h .all) refl
+          (add-edge E x (h .sized) (omega arith));
     }
 
 -- Counts
@@ -121,12 +127,14 @@ same-next i [] b h k = absurd (omega arith)
 same-next i (x ∷ xs) [] h k = absurd (omega arith)
 same-next zero (x ∷ xs) (y ∷ ys) h k = and-true (eqb x y)
 same-next (suc i) (x ∷ xs) (y ∷ ys) h k =
-    ap (λ (c : Bool). eqb x y && c) (same-next i xs ys (omega arith) (omega arith)) ∙ sym (and-assoc (eqb x y) (sameBytes (take i xs) (take i ys)) (eqb (getD xs i 0) (getD ys i 0)))
+    ap (λ (c : Bool). eqb x y && c) (same-next i xs ys (omega arith) (omega arith))
+    ∙ sym (and-assoc (eqb x y) (sameBytes (take i xs) (take i ys)) (eqb (getD xs i 0) (getD ys i 0)))
 
 pub same-step : (i : ℕ) (a b : List ℕ) (same : Bool) → i < length a → length a ≡ length b → same ≡ sameBytes (take i a) (take i b)
     → same && eqb (getD a i 0) (getD b i 0) ≡ sameBytes (take (i + 1) a) (take (i + 1) b)
 same-step i a b same h e k =
-    ap (λ (c : Bool). c && eqb (getD a i 0) (getD b i 0)) k ∙ sym (same-next i a b h (omega arith)) ∙ ap (λ (n : ℕ). sameBytes (take n a) (take n b)) (sym (add-one i))
+    ap (λ (c : Bool). c && eqb (getD a i 0) (getD b i 0)) k ∙ sym (same-next i a b h (omega arith))
+    ∙ ap (λ (n : ℕ). sameBytes (take n a) (take n b)) (sym (add-one i))
 
 pub same-all : (i : ℕ) (a b : List ℕ) (same : Bool) → length a ≤ i → length a ≡ length b → same ≡ sameBytes (take i a) (take i b) → same ≡ sameBytes a b
 same-all i a b same h e k = k ∙ (λ t. sameBytes (take-all i a h t) (take-all i b (omega arith) t))
@@ -137,7 +145,8 @@ unfolding sameBytes
 same-bytes-eq [] [] h = refl
 same-bytes-eq [] (y ∷ ys) h = cc
 same-bytes-eq (x ∷ xs) [] h = cc
-same-bytes-eq (x ∷ xs) (y ∷ ys) h = λ i. eqb-true x y (and-left (eqb x y) (sameBytes xs ys) h) i ∷ same-bytes-eq xs ys (and-right (eqb x y) (sameBytes xs ys) h) i
+same-bytes-eq (x ∷ xs) (y ∷ ys) h =
+    λ i. eqb-true x y (and-left (eqb x y) (sameBytes xs ys) h) i ∷ same-bytes-eq xs ys (and-right (eqb x y) (sameBytes xs ys) h) i
 
 pub same-bytes-refl : (a : List ℕ) → sameBytes a a ≡ true
 unfolding sameBytes
@@ -146,7 +155,8 @@ same-bytes-refl (x ∷ xs) = rw (eq-eqb x x refl, same-bytes-refl xs)
 
 -- A reading
 
-pub reading : (s : List ℕ) (r : Reading) (b : List ℕ) → stateOf (r .negotiation) ≡ candidateOf s → b ≡ stateBytes (stateOf (r .negotiation)) → r .ok ≡ sameBytes s b → readingOf r ≡ readState s
+pub reading : (s : List ℕ) (r : Reading) (b : List ℕ) → stateOf (r .negotiation) ≡ candidateOf s → b ≡ stateBytes (stateOf (r .negotiation))
+    → r .ok ≡ sameBytes s b → readingOf r ≡ readState s
 unfolding readingOf readState
 reading s r b h k e =
     let written : b ≡ stateBytes (candidateOf s) = k ∙ ap stateBytes h in

@@ -14,8 +14,10 @@ use Rattle.graph.specs.laws.Columns.{nodes-length, edges-length}
 use Rattle.negotiation.specs.declared.Negotiation.{Negotiation}
 use Rattle.negotiation.specs.laws.State.{stateOf}
 use Rattle.negotiation.specs.State.{within}
+use Rattle.numbers.specs.Sizes.{MOST-NODES, MOST-EDGES, MOST-SHOWN}
 
-pub within-few : (n : Negotiation) → within (stateOf n) ≡ true → (n .nodes .count ≤ 128) × (n .edges .count ≤ 256) × (n .shown .count ≤ 64)
+pub within-few : (n : Negotiation) → within (stateOf n) ≡ true
+    → (n .nodes .count ≤ MOST-NODES) × (n .edges .count ≤ MOST-EDGES) × (n .shown .count ≤ MOST-SHOWN)
 unfolding within stateOf
 within-few n h =
     let p = and-parts (leb (length (nodesOf (n .nodes))) 128 && leb (length (edgesOf (n .edges))) 256) (leb (length (credentials (n .shown))) 64) h in

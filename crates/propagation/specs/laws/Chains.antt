@@ -48,7 +48,8 @@ chain-link m f h from head next ml fl fe he c =
           (λ e. let q : getD (set head f (m + 1)) v 0 ≡ m + 1 = ap (λ (n : ℕ). getD (set head f (m + 1)) n 0) (eqb-true v f e) ∙ hf in omega arith)
           (λ e. omega (arith, ho v (eqb-false v f e), c .head-low v)) (decided (eqb v f));
       next-low = λ j. ⊎-elim
-          (λ e. let z : j ≡ m = eqb-true j m e in let q : getD (set next m h) j 0 ≡ h = ap (λ (n : ℕ). getD (set next m h) n 0) z ∙ nm in omega (arith, c .head-low f))
+          (λ e. let z : j ≡ m = eqb-true j m e in let q : getD (set next m h) j 0 ≡ h = ap (λ (n : ℕ). getD (set next m h) n 0) z
+          ∙ nm in omega (arith, c .head-low f))
           (λ e. omega (arith, nx j (eqb-false j m e), c .next-low j)) (decided (eqb j m));
       head-all = λ v j l k q. ⊎-elim
           (λ e. let z : getD (set head f (m + 1)) v 0 ≡ m + 1 = ap (λ (n : ℕ). getD (set head f (m + 1)) n 0) (eqb-true v f e) ∙ hf in omega arith)

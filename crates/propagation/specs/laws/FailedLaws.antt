@@ -10,7 +10,8 @@ use borrow.Author.Tests.{eqb-true, eqb-false, eq-eqb, ne-eqb, ltb-true, ltb-fals
 use lib.Dec.{eqb, ltb}
 use lib.ListN.{getD, length, set, length-set, replicate, length-replicate}
 use Rattle.word.specs.laws.Bools.{false-true, or-cases, or-left, or-right, and-parts, and-both, bool-iff}
-use Rattle.propagation.specs.laws.Flags.{not-of, decided, anyTo-find, cnt, cnt-le, cnt-one, flag, flag-same, flag-other, flag-grows, flag-cases, flag-zeros}
+use Rattle.propagation.specs.laws.Flags.{not-of, decided, anyTo-find, cnt, cnt-le, cnt-one, flag, flag-same, flag-other, flag-grows, flag-cases}
+use Rattle.propagation.specs.laws.Flags.{flag-zeros}
 use Rattle.propagation.specs.Flags.{at}
 use Rattle.propagation.specs.laws.Least.{Monotone, least-closed, least-below}
 use Rattle.propagation.specs.laws.Satisfied.{Graph, fromAt, slotAt, nodeAt}
@@ -20,7 +21,8 @@ use Rattle.word.specs.laws.Search.{anyTo, anyTo-here}
 
 -- The rule
 
-pub child-find : (m : ℕ) (G : Graph) (s : ℕ → Bool) (i : ℕ) → childOf m G s i ≡ true → (j : ℕ) × (j < m) × (slotAt G j / 4 ≡ i) × (fromAt G j < 128) × (s (fromAt G j) ≡ true)
+pub child-find : (m : ℕ) (G : Graph) (s : ℕ → Bool) (i : ℕ) → childOf m G s i ≡ true
+    → (j : ℕ) × (j < m) × (slotAt G j / 4 ≡ i) × (fromAt G j < 128) × (s (fromAt G j) ≡ true)
 unfolding childOf
 child-find m G s i h =
     let r = anyTo-find m (brings G (λ j. s (fromAt G j)) i) h in
@@ -30,7 +32,8 @@ child-find m G s i h =
 
 pub child-here : (m : ℕ) (G : Graph) (s : ℕ → Bool) (i j : ℕ) → j < m → slotAt G j / 4 ≡ i → fromAt G j < 128 → s (fromAt G j) ≡ true → childOf m G s i ≡ true
 unfolding childOf
-child-here m G s i j l e f h = anyTo-here m (brings G (λ j. s (fromAt G j)) i) j l (and-both _ _ (eq-eqb (slotAt G j / 4) i e) (and-both _ _ (lt-ltb (fromAt G j) 128 f) h))
+child-here m G s i j l e f h =
+    anyTo-here m (brings G (λ j. s (fromAt G j)) i) j l (and-both _ _ (eq-eqb (slotAt G j / 4) i e) (and-both _ _ (lt-ltb (fromAt G j) 128 f) h))
 
 pub child-mono : (m : ℕ) (G : Graph) (s t : ℕ → Bool) → ((f : ℕ) → s f ≡ true → t f ≡ true) → (i : ℕ) → childOf m G s i ≡ true → childOf m G t i ≡ true
 child-mono m G s t h i g = let r = child-find m G s i g in child-here m G t i (r .0) (r .1) (r .2) (r .3) (h (fromAt G (r .0)) (r .4))
@@ -49,10 +52,15 @@ fails-mono w a b c d f g h =
 
 pub failed-mono : (m : ℕ) (G : Graph) → Monotone (failedRule m G)
 unfolding failedRule
-failed-mono m G = record { mono = λ s t h i g. fails-mono (nodeAt G i) _ _ _ _ (child-mono m G (λ f. not (t f)) (λ f. not (s f)) (λ f. outside (s f) (t f) (h f)) i) (child-mono m G s t h i) g }
+failed-mono m G =
+    record {
+      mono = λ s t h i g. fails-mono (nodeAt G i) _ _ _ _ (child-mono m G (λ f. not (t f)) (λ f. not (s f)) (λ f. outside (s f) (t f) (h f)) i)
+          (child-mono m G s t h i) g;
+    }
 
 -- a node that the rule brings has failed
-pub failed-closed : (m : ℕ) (G : Graph) (i : ℕ) → i < 128 → failsBy (nodeAt G i) (childOf m G (λ f. not (at (failedOf m G) f)) i) (childOf m G (at (failedOf m G)) i) ≡ true → at (failedOf m G) i ≡ true
+pub failed-closed : (m : ℕ) (G : Graph) (i : ℕ) → i < 128
+    → failsBy (nodeAt G i) (childOf m G (λ f. not (at (failedOf m G) f)) i) (childOf m G (at (failedOf m G)) i) ≡ true → at (failedOf m G) i ≡ true
 unfolding failedOf failedRule
 failed-closed m G i l h = least-closed (failedRule m G) 128 (failed-mono m G) i l h
 
@@ -71,7 +79,8 @@ module _ (m : ℕ) (G : Graph) (failed : List ℕ) (on : Bool) where
   in? f = sameB on (flag failed f)
 
   -- edge m brings its node x / 4 such a child
-  touch-add : (r r′ : List ℕ) (x : ℕ) → x ≡ slotAt G m → slotAt G m < 512 → (ltb (fromAt G m) 128 && sameB on (flag failed (fromAt G m))) ≡ true → r′ ≡ set r (x / 4) 1
+  touch-add : (r r′ : List ℕ) (x : ℕ) → x ≡ slotAt G m → slotAt G m < 512 → (ltb (fromAt G m) 128 && sameB on (flag failed (fromAt G m))) ≡ true
+      → r′ ≡ set r (x / 4) 1
       → Touched m G failed on r → Touched (m + 1) G failed on r′
   touch-add r r′ x xe few h re t =
       let z : length r ≡ 128 = t .size in
@@ -82,25 +91,31 @@ module _ (m : ℕ) (G : Graph) (failed : List ℕ) (on : Bool) where
         touched = λ i. ap (λ (s : List ℕ). flag s i) e ∙ ⊎-elim
             (λ q. let k : i ≡ slotAt G m / 4 = eqb-true i (slotAt G m / 4) q in
             ap (flag (set r (slotAt G m / 4) 1)) k ∙ flag-same r (slotAt G m / 4) l
-            ∙ sym (child-next m G in? i ∙ ap (λ (b : Bool). childOf m G in? i || b) (and-both _ _ (eq-eqb (slotAt G m / 4) i (sym k)) h) ∙ or-true (childOf m G in? i)))
+            ∙ sym (child-next m G in? i ∙ ap (λ (b : Bool). childOf m G in? i || b) (and-both _ _ (eq-eqb (slotAt G m / 4) i (sym k)) h)
+            ∙ or-true (childOf m G in? i)))
             (λ q. flag-other r (slotAt G m / 4) i (eqb-false i (slotAt G m / 4) q) ∙ t .touched i
-            ∙ sym (child-next m G in? i ∙ ap (λ (b : Bool). childOf m G in? i || (b && (ltb (fromAt G m) 128 && in? (fromAt G m)))) (ne-eqb (slotAt G m / 4) i (λ y. eqb-false i (slotAt G m / 4) q (sym y))) ∙ or-false (childOf m G in? i)))
+            ∙ sym (child-next m G in? i ∙ ap (λ (b : Bool). childOf m G in? i || (b && (ltb (fromAt G m) 128 && in? (fromAt G m))))
+            (ne-eqb (slotAt G m / 4) i (λ y. eqb-false i (slotAt G m / 4) q (sym y))) ∙ or-false (childOf m G in? i)))
             (decided (eqb i (slotAt G m / 4)));
       }
 
-  touch-skip : (r r′ : List ℕ) → (ltb (fromAt G m) 128 && sameB on (flag failed (fromAt G m))) ≡ false → r′ ≡ r → Touched m G failed on r → Touched (m + 1) G failed on r′
+  touch-skip : (r r′ : List ℕ) → (ltb (fromAt G m) 128 && sameB on (flag failed (fromAt G m))) ≡ false → r′ ≡ r → Touched m G failed on r
+      → Touched (m + 1) G failed on r′
   touch-skip r r′ h e t =
       record {
         size = ap length e ∙ t .size;
         touched = λ i. ap (λ (s : List ℕ). flag s i) e ∙ t .touched i
-            ∙ sym (child-next m G in? i ∙ ap (λ (b : Bool). childOf m G in? i || (eqb (slotAt G m / 4) i && b)) h ∙ ap (λ (b : Bool). childOf m G in? i || b) (and-false (eqb (slotAt G m / 4) i)) ∙ or-false (childOf m G in? i));
+            ∙ sym (child-next m G in? i ∙ ap (λ (b : Bool). childOf m G in? i || (eqb (slotAt G m / 4) i && b)) h
+            ∙ ap (λ (b : Bool). childOf m G in? i || b) (and-false (eqb (slotAt G m / 4) i)) ∙ or-false (childOf m G in? i));
       }
 
   -- the same with what the code has read
-  at-from : (f : ℕ) (b t : Bool) → f ≡ fromAt G m → b ≡ (ltb f 128 && sameB on (flag failed f)) → b ≡ t → (ltb (fromAt G m) 128 && sameB on (flag failed (fromAt G m))) ≡ t
+  at-from : (f : ℕ) (b t : Bool) → f ≡ fromAt G m → b ≡ (ltb f 128 && sameB on (flag failed f)) → b ≡ t
+      → (ltb (fromAt G m) 128 && sameB on (flag failed (fromAt G m))) ≡ t
   at-from f b t e h k = ap (λ (x : ℕ). ltb x 128 && sameB on (flag failed x)) (sym e) ∙ sym h ∙ k
 
-  pub touch-add-at : (r r′ : List ℕ) (x f : ℕ) (b : Bool) → x ≡ slotAt G m → slotAt G m < 512 → f ≡ fromAt G m → b ≡ (ltb f 128 && sameB on (flag failed f)) → b ≡ true → r′ ≡ set r (x / 4) 1
+  pub touch-add-at : (r r′ : List ℕ) (x f : ℕ) (b : Bool) → x ≡ slotAt G m → slotAt G m < 512 → f ≡ fromAt G m
+      → b ≡ (ltb f 128 && sameB on (flag failed f)) → b ≡ true → r′ ≡ set r (x / 4) 1
       → Touched m G failed on r → Touched (m + 1) G failed on r′
   touch-add-at r r′ x f b xe few fe be bt re t = touch-add r r′ x xe few (at-from f b true fe be bt) re t
 
@@ -129,9 +144,18 @@ module _ (way alive hit failed : List ℕ) where
 
   pub sweep-start : length failed ≡ 128 → Swept way alive hit failed 0 failed 0
   sweep-start z =
-      record { size = z; within = omega arith; sound = λ i h g. absurd (false-true (sym g ∙ h)); seen = λ i l. absurd (omega arith); counted = omega arith; same = λ e i. refl }
+      record {
+        size = z;
+        within = omega arith;
+        sound = λ i h g. absurd (false-true (sym g ∙ h));
+        seen = λ i l. absurd (omega arith);
+        counted = omega
+            arith;
+        same = λ e i. refl;
+      }
 
-  sweep-add : (r : List ℕ) (k a : ℕ) → k < 128 → flag r k ≡ false → falls k ≡ true → Swept way alive hit failed k r a → Swept way alive hit failed (k + 1) (set r k 1) (a + 1)
+  sweep-add : (r : List ℕ) (k a : ℕ) → k < 128 → flag r k ≡ false → falls k ≡ true → Swept way alive hit failed k r a
+      → Swept way alive hit failed (k + 1) (set r k 1) (a + 1)
   sweep-add r k a l off h w =
       let z : length r ≡ 128 = w .size in
       let ps : k < length r = omega arith in
@@ -140,8 +164,12 @@ module _ (way alive hit failed : List ℕ) where
         size = length-set r k 1 ∙ z;
         within = omega arith;
         sound = λ i g f. ⊎-elim (λ q. (omega arith, ap falls q ∙ h)) (λ y. w .sound i y f) (flag-cases r k i g);
-        seen = λ i g f. ⊎-elim (λ y. ap (flag (set r k 1)) (eqb-true i k y) ∙ on) (λ y. flag-grows r k i ps (w .seen i (omega (arith, eqb-false i k y)) f)) (decided (eqb i k));
-        counted = cnt-one 128 (flag r) (flag (set r k 1)) k l off on (λ i o. flag-other r k i o) ∙ (let c : cnt 128 (flag r) ≡ cnt 128 (flag failed) + a = w .counted in omega arith);
+        seen =
+            λ i g f. ⊎-elim (λ y. ap (flag (set r k 1)) (eqb-true i k y) ∙ on)
+            (λ y. flag-grows r k i ps (w .seen i (omega (arith, eqb-false i k y)) f)) (decided (eqb i k));
+        counted =
+            cnt-one 128 (flag r) (flag (set r k 1)) k l off on (λ i o. flag-other r k i o)
+            ∙ (let c : cnt 128 (flag r) ≡ cnt 128 (flag failed) + a = w .counted in omega arith);
         same = λ y. absurd (omega arith);
       }
 
@@ -151,22 +179,28 @@ module _ (way alive hit failed : List ℕ) where
         size = w .size;
         within = omega arith;
         sound = w .sound;
-        seen = λ i g f. ⊎-elim (λ y. let q : i ≡ k = eqb-true i k y in ap (flag r) q ∙ h (ap falls (sym q) ∙ f)) (λ y. w .seen i (omega (arith, eqb-false i k y)) f) (decided (eqb i k));
+        seen =
+            λ i g f. ⊎-elim (λ y. let q : i ≡ k = eqb-true i k y in ap (flag r) q ∙ h (ap falls (sym q) ∙ f))
+            (λ y. w .seen i (omega (arith, eqb-false i k y)) f) (decided (eqb i k));
         counted = w .counted;
         same = w .same;
       }
 
-  pub sweep-add-at : (r r′ : List ℕ) (k a a′ : ℕ) (b : Bool) → k < 128 → b ≡ (not (flag r k) && failsBy (getD way k 0) (flag alive k) (flag hit k)) → b ≡ true → r′ ≡ set r k 1 → a′ ≡ a + 1
+  pub sweep-add-at : (r r′ : List ℕ) (k a a′ : ℕ) (b : Bool) → k < 128 → b ≡ (not (flag r k) && failsBy (getD way k 0) (flag alive k) (flag hit k))
+      → b ≡ true → r′ ≡ set r k 1 → a′ ≡ a + 1
       → Swept way alive hit failed k r a → Swept way alive hit failed (k + 1) r′ a′
   sweep-add-at r r′ k a a′ b l e t re ae w =
       let p = and-parts (not (flag r k)) (falls k) (sym e ∙ t) in
-      subst (λ (n : ℕ). Swept way alive hit failed (k + 1) r′ n) (sym ae) (subst (λ (s : List ℕ). Swept way alive hit failed (k + 1) s (a + 1)) (sym re) (sweep-add r k a l (not-true (flag r k) (p .0)) (p .1) w))
+      subst (λ (n : ℕ). Swept way alive hit failed (k + 1) r′ n) (sym ae)
+      (subst (λ (s : List ℕ). Swept way alive hit failed (k + 1) s (a + 1)) (sym re) (sweep-add r k a l (not-true (flag r k) (p .0)) (p .1) w))
 
-  pub sweep-skip-at : (r r′ : List ℕ) (k a a′ : ℕ) (b : Bool) → k < 128 → b ≡ (not (flag r k) && failsBy (getD way k 0) (flag alive k) (flag hit k)) → b ≡ false → r′ ≡ r → a′ ≡ a
+  pub sweep-skip-at : (r r′ : List ℕ) (k a a′ : ℕ) (b : Bool) → k < 128 → b ≡ (not (flag r k) && failsBy (getD way k 0) (flag alive k) (flag hit k))
+      → b ≡ false → r′ ≡ r → a′ ≡ a
       → Swept way alive hit failed k r a → Swept way alive hit failed (k + 1) r′ a′
   sweep-skip-at r r′ k a a′ b l e t re ae w =
       subst (λ (n : ℕ). Swept way alive hit failed (k + 1) r′ n) (sym ae) (subst (λ (s : List ℕ). Swept way alive hit failed (k + 1) s a) (sym re)
-      (sweep-skip r k a l (λ h. ⊎-elim (λ y. y) (λ y. absurd (false-true (sym (sym e ∙ t) ∙ and-both (not (flag r k)) (falls k) (ap not y) h))) (decided (flag r k))) w))
+      (sweep-skip r k a l (λ h. ⊎-elim (λ y. y) (λ y. absurd (false-true (sym (sym e ∙ t) ∙ and-both (not (flag r k)) (falls k) (ap not y) h)))
+      (decided (flag r k))) w))
 
   -- beyond the nodes none fails
   pub sweep-all : (r : List ℕ) (n k a : ℕ) → n ≤ k → Beyond n 0 way → Swept way alive hit failed k r a → Swept way alive hit failed 128 r a
@@ -177,7 +211,8 @@ module _ (way alive hit failed : List ℕ) where
         within = omega arith;
         sound = w .sound;
         seen = λ i l f. ⊎-elim (λ e. w .seen i (ltb-true i k e) f)
-            (λ e. let z : getD way i 0 ≡ 0 = b .beyond i (omega (arith, ltb-false i k e)) l in absurd (false-true (sym (ap (λ (x : ℕ). failsBy x (flag alive i) (flag hit i)) z) ∙ f)))
+            (λ e. let z : getD way i 0 ≡ 0 = b .beyond i (omega (arith, ltb-false i k e)) l in absurd
+            (false-true (sym (ap (λ (x : ℕ). failsBy x (flag alive i) (flag hit i)) z) ∙ f)))
             (decided (ltb i k));
         counted = w .counted;
         same = w .same;
@@ -188,7 +223,8 @@ cnt-few r = cnt-le 128 (flag r)
 
 -- Rounds
 
-module _ {m : ℕ} {G : Graph} {failed alive hit r : List ℕ} (a : ℕ) (ta : Touched m G failed false alive) (th : Touched m G failed true hit) (w : Swept (G .node) alive hit failed 128 r a) (s : Sound m G failed) where
+module _ {m : ℕ} {G : Graph} {failed alive hit r : List ℕ} (a : ℕ) (ta : Touched m G failed false alive) (th : Touched m G failed true hit)
+    (w : Swept (G .node) alive hit failed 128 r a) (s : Sound m G failed) where
   -- the sweep goes by the rule
   rule-of : (i : ℕ) → failsBy (nodeAt G i) (flag alive i) (flag hit i) ≡ failedRule m G (flag failed) i
   unfolding failedRule
@@ -200,7 +236,8 @@ module _ {m : ℕ} {G : Graph} {failed alive hit r : List ℕ} (a : ℕ) (ta : T
       record {
         size = w .size;
         sound = λ i h. ⊎-elim (λ y. s .sound i y)
-            (λ y. let o = w .sound i h y in least-closed (failedRule m G) 128 (failed-mono m G) i (o .0) (failed-mono m G .mono (flag failed) (at (failedOf m G)) (s .sound) i (sym (rule-of i) ∙ o .1)))
+            (λ y. let o = w .sound i h y in least-closed (failedRule m G) 128 (failed-mono m G) i (o .0)
+            (failed-mono m G .mono (flag failed) (at (failedOf m G)) (s .sound) i (sym (rule-of i) ∙ o .1)))
             (decided (flag failed i));
       }
 

@@ -39,14 +39,19 @@ module _ (F : Rule) (n : ℕ) (m : Monotone F) where
   still-or : (k : ℕ) → Still k ⊎ (cnt n (at (rounds F n k)) + 1 ≤ cnt n (at (rounds F n (suc k))))
   still-or k = ⊎-elim found none (decided (anyTo n (λ i. at (rounds F n (suc k)) i && not (at (rounds F n k) i))))
     where
-      found : anyTo n (λ i. at (rounds F n (suc k)) i && not (at (rounds F n k) i)) ≡ true → Still k ⊎ (cnt n (at (rounds F n k)) + 1 ≤ cnt n (at (rounds F n (suc k))))
+      found : anyTo n (λ i. at (rounds F n (suc k)) i && not (at (rounds F n k) i)) ≡ true
+          → Still k ⊎ (cnt n (at (rounds F n k)) + 1 ≤ cnt n (at (rounds F n (suc k))))
       found h =
           let r = anyTo-find n (λ i. at (rounds F n (suc k)) i && not (at (rounds F n k) i)) h in
           let p = and-parts (at (rounds F n (suc k)) (r .0)) (not (at (rounds F n k) (r .0))) (r .2) in
           inr (cnt-more n (at (rounds F n k)) (at (rounds F n (suc k))) (λ i l. grows k i) (r .0) (r .1) (not-true (at (rounds F n k) (r .0)) (p .1)) (p .0))
 
-      none : anyTo n (λ i. at (rounds F n (suc k)) i && not (at (rounds F n k) i)) ≡ false → Still k ⊎ (cnt n (at (rounds F n k)) + 1 ≤ cnt n (at (rounds F n (suc k))))
-      none h = inl (λ i a. ⊎-elim (λ y. y) (λ x. absurd (false-true (sym h ∙ anyTo-here n (λ i. at (rounds F n (suc k)) i && not (at (rounds F n k) i)) i (out k i a .0) (and-both (at (rounds F n (suc k)) i) (not (at (rounds F n k) i)) a (ap not x))))) (decided (at (rounds F n k) i)))
+      none : anyTo n (λ i. at (rounds F n (suc k)) i && not (at (rounds F n k) i)) ≡ false
+          → Still k ⊎ (cnt n (at (rounds F n k)) + 1 ≤ cnt n (at (rounds F n (suc k))))
+      none h =
+          inl (λ i a. ⊎-elim (λ y. y) (λ x. absurd
+          (false-true (sym h ∙ anyTo-here n (λ i. at (rounds F n (suc k)) i && not (at (rounds F n k) i)) i (out k i a .0)
+          (and-both (at (rounds F n (suc k)) i) (not (at (rounds F n k) i)) a (ap not x))))) (decided (at (rounds F n k) i)))
 
   reach : (k : ℕ) → Still k ⊎ (k + 1 ≤ cnt n (at (rounds F n (suc k))))
   reach zero = ⊎-elim (λ s. inl s) (λ c. inr (omega arith)) (still-or zero)
@@ -75,11 +80,13 @@ module _ (F : Rule) (n : ℕ) (m : Monotone F) where
   least-within i h = out n i (grows n i h) .0
 
 -- a rule that brings no less has a solution no smaller
-pub least-mono : (F G : Rule) (n : ℕ) → Monotone F → Monotone G → ((s : ℕ → Bool) (i : ℕ) → F s i ≡ true → G s i ≡ true) → (i : ℕ) → at (least F n) i ≡ true → at (least G n) i ≡ true
+pub least-mono : (F G : Rule) (n : ℕ) → Monotone F → Monotone G → ((s : ℕ → Bool) (i : ℕ) → F s i ≡ true → G s i ≡ true) → (i : ℕ)
+    → at (least F n) i ≡ true → at (least G n) i ≡ true
 least-mono F G n f g h = least-below F n f (at (least G n)) (λ i l k. least-closed G n g i l (h (at (least G n)) i k))
 
 -- what each round keeps holds of it
-pub least-into : (F : Rule) (n : ℕ) → Monotone F → (P : ℕ → Type 0) → ((s : ℕ → Bool) → ((i : ℕ) → s i ≡ true → P i) → (i : ℕ) → i < n → F s i ≡ true → P i) → (i : ℕ) → at (least F n) i ≡ true → P i
+pub least-into : (F : Rule) (n : ℕ) → Monotone F → (P : ℕ → Type 0)
+    → ((s : ℕ → Bool) → ((i : ℕ) → s i ≡ true → P i) → (i : ℕ) → i < n → F s i ≡ true → P i) → (i : ℕ) → at (least F n) i ≡ true → P i
 unfolding least
 least-into F n m P step i h = go n i h
   where

@@ -24,21 +24,25 @@ unfolding filledBy
 filled-here m G s k j l e h = anyTo-here m (λ j. eqb (slotAt G j) k && s (fromAt G j)) j l (and-both _ _ (eq-eqb (slotAt G j) k e) h)
 
 -- more edges and more nodes fill more slots
-pub filled-mono : (m n : ℕ) (G : Graph) (s t : ℕ → Bool) → m ≤ n → ((i : ℕ) → s i ≡ true → t i ≡ true) → (k : ℕ) → filledBy m G s k ≡ true → filledBy n G t k ≡ true
+pub filled-mono : (m n : ℕ) (G : Graph) (s t : ℕ → Bool) → m ≤ n → ((i : ℕ) → s i ≡ true → t i ≡ true) → (k : ℕ) → filledBy m G s k ≡ true
+    → filledBy n G t k ≡ true
 filled-mono m n G s t l f k h =
     let r = filled-find m G s k h in
     let q : r .0 < m = r .1 in
     filled-here n G t k (r .0) (omega arith) (r .2) (f (fromAt G (r .0)) (r .3))
 
-pub satisfied-parts : (m : ℕ) (G : Graph) (s : ℕ → Bool) (i : ℕ) → satisfiedRule m G s i ≡ true → (nodeAt G i < 5) × ((k : ℕ) → k < nodeAt G i → filledBy m G s (i * 4 + k) ≡ true)
+pub satisfied-parts : (m : ℕ) (G : Graph) (s : ℕ → Bool) (i : ℕ) → satisfiedRule m G s i ≡ true
+    → (nodeAt G i < 5) × ((k : ℕ) → k < nodeAt G i → filledBy m G s (i * 4 + k) ≡ true)
 unfolding satisfiedRule
 satisfied-parts m G s i h = let p = and-parts (ltb (nodeAt G i) 5) _ h in (ltb-true (nodeAt G i) 5 (p .0), λ k q. allTo-each (nodeAt G i) _ (p .1) k q)
 
-pub satisfied-of : (m : ℕ) (G : Graph) (s : ℕ → Bool) (i : ℕ) → nodeAt G i < 5 → ((k : ℕ) → k < nodeAt G i → filledBy m G s (i * 4 + k) ≡ true) → satisfiedRule m G s i ≡ true
+pub satisfied-of : (m : ℕ) (G : Graph) (s : ℕ → Bool) (i : ℕ) → nodeAt G i < 5 → ((k : ℕ) → k < nodeAt G i → filledBy m G s (i * 4 + k) ≡ true)
+    → satisfiedRule m G s i ≡ true
 unfolding satisfiedRule
 satisfied-of m G s i l h = and-both _ _ (lt-ltb (nodeAt G i) 5 l) (allTo-of (nodeAt G i) _ h)
 
-satisfied-wider : (m n : ℕ) (G : Graph) (s t : ℕ → Bool) → m ≤ n → ((i : ℕ) → s i ≡ true → t i ≡ true) → (i : ℕ) → satisfiedRule m G s i ≡ true → satisfiedRule n G t i ≡ true
+satisfied-wider : (m n : ℕ) (G : Graph) (s t : ℕ → Bool) → m ≤ n → ((i : ℕ) → s i ≡ true → t i ≡ true) → (i : ℕ) → satisfiedRule m G s i ≡ true
+    → satisfiedRule n G t i ≡ true
 satisfied-wider m n G s t l f i h = let p = satisfied-parts m G s i h in satisfied-of n G t i (p .0) (λ k q. filled-mono m n G s t l f (i * 4 + k) (p .1 k q))
 
 pub satisfied-mono : (m : ℕ) (G : Graph) → Monotone (satisfiedRule m G)
@@ -47,4 +51,5 @@ satisfied-mono m G = record { mono = λ s t f i h. satisfied-wider m m G s t (om
 -- more edges, more satisfied nodes
 pub satisfied-more : (m n : ℕ) (G : Graph) → m ≤ n → (i : ℕ) → at (satisfiedOf m G) i ≡ true → at (satisfiedOf n G) i ≡ true
 unfolding satisfiedOf
-satisfied-more m n G l = least-mono (satisfiedRule m G) (satisfiedRule n G) 128 (satisfied-mono m G) (satisfied-mono n G) (λ s i h. satisfied-wider m n G s s l (λ j p. p) i h)
+satisfied-more m n G l =
+    least-mono (satisfiedRule m G) (satisfiedRule n G) 128 (satisfied-mono m G) (satisfied-mono n G) (λ s i h. satisfied-wider m n G s s l (λ j p. p) i h)

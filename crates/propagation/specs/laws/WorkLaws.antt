@@ -10,7 +10,8 @@ use lib.Dec.{eqb, ltb}
 use lib.ListN.{getD, length, set, length-set, replicate, length-replicate}
 use lib.Seq.{getD-set-same, getD-set-other}
 use Rattle.word.specs.laws.Bools.{false-true, or-cases, and-parts, and-both, bool-iff}
-use Rattle.propagation.specs.laws.Flags.{decided, cnt, cnt-le, cnt-one, cnt-none, cnt-room, flag, flag-same, flag-other, flag-grows, flag-zeros, flag-past}
+use Rattle.propagation.specs.laws.Flags.{decided, cnt, cnt-le, cnt-one, cnt-none, cnt-room, flag, flag-same, flag-other, flag-grows, flag-zeros}
+use Rattle.propagation.specs.laws.Flags.{flag-past}
 use Rattle.propagation.specs.Flags.{at}
 use Rattle.propagation.specs.laws.Least.{least-closed, least-below}
 use Rattle.propagation.specs.laws.Satisfied.{Graph, fromAt, slotAt, nodeAt, filledBy, satisfiedRule, satisfiedOf}
@@ -52,8 +53,10 @@ ready-of : (k : ℕ) (got : List ℕ) (a : ℕ) → k < 5 → ((i : ℕ) → i <
 unfolding readyAt
 ready-of k got a l h =
     let e : a + 0 ≡ a = omega arith in
-    and-both _ (ltb k 4 || flag got (a + 3)) (and-both _ (ltb k 3 || flag got (a + 2)) (and-both _ (ltb k 2 || flag got (a + 1)) (and-both (ltb k 5) (ltb k 1 || flag got a) (lt-ltb k 5 l)
-    (subst (λ (n : ℕ). (ltb k 1 || flag got n) ≡ true) e (slot-of k 0 got a (h 0)))) (slot-of k 1 got a (h 1))) (slot-of k 2 got a (h 2))) (slot-of k 3 got a (h 3))
+    and-both _ (ltb k 4 || flag got (a + 3)) (and-both _ (ltb k 3 || flag got (a + 2))
+    (and-both _ (ltb k 2 || flag got (a + 1)) (and-both (ltb k 5) (ltb k 1 || flag got a) (lt-ltb k 5 l)
+    (subst (λ (n : ℕ). (ltb k 1 || flag got n) ≡ true) e (slot-of k 0 got a (h 0)))) (slot-of k 1 got a (h 1))) (slot-of k 2 got a (h 2)))
+    (slot-of k 3 got a (h 3))
 
 -- One node
 
@@ -64,7 +67,13 @@ later-trans : {U X W : Work} → Later U X → Later X W → Later U W
 later-trans {U} {X} {W} a b =
     let p : U .tail ≤ X .tail = a .more in
     let q : X .tail ≤ W .tail = b .more in
-    record { got-grows = λ k h. b .got-grows k (a .got-grows k h); sat-grows = λ i h. b .sat-grows i (a .sat-grows i h); kept = λ r h. b .kept r (omega arith) ∙ a .kept r h; more = omega arith }
+    record {
+      got-grows = λ k h. b .got-grows k (a .got-grows k h);
+      sat-grows = λ i h. b .sat-grows i (a .sat-grows i h);
+      kept = λ r h. b .kept r
+          (omega arith) ∙ a .kept r h;
+      more = omega arith;
+    }
 
 pub mark-stands : (m : ℕ) (G : Graph) (W : Work) (p : ℕ) → Base m G W → getD (W .sat) p 0 ≡ 1 → Marked m G W W p
 mark-stands m G W p b h = record { base = b; later = later-refl W; here = λ z. eq-eqb (getD (W .sat) p 0) 1 h }
@@ -73,12 +82,14 @@ pub mark-not : (m : ℕ) (G : Graph) (W : Work) (p : ℕ) → Base m G W → rea
 mark-not m G W p b h = record { base = b; later = later-refl W; here = λ z. absurd (false-true (sym h ∙ z)) }
 
 pub mark-room : (m : ℕ) (G : Graph) (W : Work) (p : ℕ) → Base m G W → p < 128 → (getD (W .sat) p 0 ≡ 1 → ⊥) → W .tail < 128
-mark-room m G W p b l h = let c : W .tail ≡ cnt 128 (flag (W .sat)) = b .counted in omega (arith, cnt-room 128 (flag (W .sat)) p l (ne-eqb (getD (W .sat) p 0) 1 h))
+mark-room m G W p b l h =
+    let c : W .tail ≡ cnt 128 (flag (W .sat)) = b .counted in omega (arith, cnt-room 128 (flag (W .sat)) p l (ne-eqb (getD (W .sat) p 0) 1 h))
 
 abbrev pub marked : Work → ℕ → Work
 marked W p = work (W .got) (set (W .sat) p 1) (set (W .queue) (W .tail) p) (W .tail + 1)
 
-pub mark-new : (m : ℕ) (G : Graph) (W : Work) (p : ℕ) → Base m G W → p < 128 → (getD (W .sat) p 0 ≡ 1 → ⊥) → readyAt (nodeAt G p) (W .got) (p * 4) ≡ true → Marked m G W (marked W p) p
+pub mark-new : (m : ℕ) (G : Graph) (W : Work) (p : ℕ) → Base m G W → p < 128 → (getD (W .sat) p 0 ≡ 1 → ⊥)
+    → readyAt (nodeAt G p) (W .got) (p * 4) ≡ true → Marked m G W (marked W p) p
 unfolding satisfiedOf
 mark-new m G W p b l h ready =
     let parts = ready-parts (nodeAt G p) (W .got) (p * 4) ready in
@@ -90,7 +101,8 @@ mark-new m G W p b l h ready =
     let ts : W .tail < length (W .queue) = omega arith in
     let on : flag (set (W .sat) p 1) p ≡ true = flag-same (W .sat) p ps in
     let grows : (i : ℕ) → flag (W .sat) i ≡ true → flag (set (W .sat) p 1) i ≡ true = λ i t. flag-grows (W .sat) p i ps t in
-    let kept : (r : ℕ) → r < W .tail → getD (set (W .queue) (W .tail) p) r 0 ≡ getD (W .queue) r 0 = λ r t. getD-set-other (W .queue) (W .tail) r p 0 (λ (z : r ≡ W .tail). omega arith) in
+    let kept : (r : ℕ) → r < W .tail → getD (set (W .queue) (W .tail) p) r 0
+    ≡ getD (W .queue) r 0 = λ r t. getD-set-other (W .queue) (W .tail) r p 0 (λ (z : r ≡ W .tail). omega arith) in
     let last : getD (set (W .queue) (W .tail) p) (W .tail) 0 ≡ p = getD-set-same (W .queue) (W .tail) p 0 ts in
     let holds : at (satisfiedOf m G) p ≡ true
     = least-closed (satisfiedRule m G) 128 (satisfied-mono m G) p l
@@ -103,13 +115,20 @@ mark-new m G W p b l h ready =
         sat-size = length-set (W .sat) p 1 ∙ ss;
         queue-size = length-set (W .queue) (W .tail) p ∙ qs;
         got-sound = b .got-sound;
-        sat-sound = λ i t. ⊎-elim (λ e. ap (at (satisfiedOf m G)) (eqb-true i p e) ∙ holds) (λ e. b .sat-sound i (sym (flag-other (W .sat) p i (eqb-false i p e)) ∙ t)) (decided (eqb i p));
-        counted = ap (λ (k : ℕ). k + 1) (b .counted) ∙ sym (cnt-one 128 (flag (W .sat)) (flag (set (W .sat) p 1)) p l off on (λ i o. flag-other (W .sat) p i o));
+        sat-sound =
+            λ i t. ⊎-elim (λ e. ap (at (satisfiedOf m G)) (eqb-true i p e) ∙ holds)
+            (λ e. b .sat-sound i (sym (flag-other (W .sat) p i (eqb-false i p e)) ∙ t)) (decided (eqb i p));
+        counted =
+            ap (λ (k : ℕ). k + 1) (b .counted) ∙ sym (cnt-one 128 (flag (W .sat)) (flag (set (W .sat) p 1)) p l off on (λ i o. flag-other (W .sat) p i o));
         queued = λ i t. ⊎-elim (λ e. (W .tail, omega arith, last ∙ sym (eqb-true i p e)))
-            (λ e. let r = b .queued i (sym (flag-other (W .sat) p i (eqb-false i p e)) ∙ t) in let rl : r .0 < W .tail = r .1 in (r .0, omega arith, kept (r .0) rl ∙ r .2)) (decided (eqb i p));
+            (λ e. let r = b .queued i (sym (flag-other (W .sat) p i (eqb-false i p e)) ∙ t) in let rl : r .0 < W .tail = r .1 in
+            (r .0, omega arith, kept (r .0) rl ∙ r .2)) (decided (eqb i p));
         standing = λ r t. ⊎-elim
-            (λ e. let z : r ≡ W .tail = eqb-true r (W .tail) e in let v : getD (set (W .queue) (W .tail) p) r 0 ≡ p = ap (λ (n : ℕ). getD (set (W .queue) (W .tail) p) n 0) z ∙ last in (omega arith, ap (flag (set (W .sat) p 1)) v ∙ on))
-            (λ e. let z : r < W .tail = omega (arith, eqb-false r (W .tail) e) in let v : getD (set (W .queue) (W .tail) p) r 0 ≡ getD (W .queue) r 0 = kept r z in let o = b .standing r z in let ol : getD (W .queue) r 0 < 128 = o .0 in (omega arith, ap (flag (set (W .sat) p 1)) v ∙ grows (getD (W .queue) r 0) (o .1)))
+            (λ e. let z : r ≡ W .tail = eqb-true r (W .tail) e in let v : getD (set (W .queue) (W .tail) p) r 0
+            ≡ p = ap (λ (n : ℕ). getD (set (W .queue) (W .tail) p) n 0) z ∙ last in (omega arith, ap (flag (set (W .sat) p 1)) v ∙ on))
+            (λ e. let z : r < W .tail = omega (arith, eqb-false r (W .tail) e) in let v : getD (set (W .queue) (W .tail) p) r 0
+            ≡ getD (W .queue) r 0 = kept r z in let o = b .standing r z in let ol : getD (W .queue) r 0 < 128 = o .0 in
+            (omega arith, ap (flag (set (W .sat) p 1)) v ∙ grows (getD (W .queue) r 0) (o .1)))
             (decided (eqb r (W .tail)));
       };
       later = record { got-grows = λ k t. t; sat-grows = grows; kept = kept; more = omega arith };
@@ -143,7 +162,9 @@ ready-other k s i got o h =
     let r = ready-parts k (set got s 1) (i * 4) h in
     ready-of k got (i * 4) (r .0) (λ n l. sym (flag-other got s (i * 4 + n) (λ (z : i * 4 + n ≡ s). o (omega arith))) ∙ r .1 n l)
 
-bring-done : (m : ℕ) (G : Graph) (W : Work) (j : ℕ) (s q : List ℕ) (t : ℕ) → Base m G W → Full 128 G W → Marked m G (filled W (slotAt G j)) (work (set (W .got) (slotAt G j) 1) s q t) (slotAt G j / 4) → Brought m G W (work (set (W .got) (slotAt G j) 1) s q t) j
+bring-done : (m : ℕ) (G : Graph) (W : Work) (j : ℕ) (s q : List ℕ) (t : ℕ) → Base m G W → Full 128 G W
+    → Marked m G (filled W (slotAt G j)) (work (set (W .got) (slotAt G j) 1) s q t) (slotAt G j / 4)
+    → Brought m G W (work (set (W .got) (slotAt G j) 1) s q t) j
 bring-done m G W j s q t b f d =
     let gs : length (W .got) ≡ 512 = b .got-size in
     let sl : slotAt G j < 512 = b .slots j in
@@ -152,21 +173,39 @@ bring-done m G W j s q t b f d =
       base = d .base;
       full = record {
         full = λ i l r. ⊎-elim
-            (λ e. let z : i ≡ slotAt G j / 4 = eqb-true i (slotAt G j / 4) e in ap (flag s) z ∙ d .here (subst (λ (n : ℕ). readyAt (nodeAt G n) (set (W .got) (slotAt G j) 1) (n * 4) ≡ true) z r))
-            (λ e. d .later .sat-grows i (f .full i l (ready-other (nodeAt G i) (slotAt G j) i (W .got) (eqb-false i (slotAt G j / 4) e) r))) (decided (eqb i (slotAt G j / 4)));
+            (λ e. let z : i ≡ slotAt G j / 4 = eqb-true i (slotAt G j / 4) e in ap (flag s) z
+            ∙ d .here (subst (λ (n : ℕ). readyAt (nodeAt G n) (set (W .got) (slotAt G j) 1) (n * 4) ≡ true) z r))
+            (λ e. d .later .sat-grows i (f .full i l (ready-other (nodeAt G i) (slotAt G j) i (W .got) (eqb-false i (slotAt G j / 4) e) r)))
+            (decided (eqb i (slotAt G j / 4)));
       };
-      later = record { got-grows = λ k h. flag-grows (W .got) (slotAt G j) k inside h; sat-grows = d .later .sat-grows; kept = d .later .kept; more = d .later .more };
+      later =
+          record {
+            got-grows = λ k h. flag-grows (W .got) (slotAt G j) k inside h;
+            sat-grows = d .later .sat-grows;
+            kept = d .later .kept;
+            more =
+                d .later .more;
+          };
       here = flag-same (W .got) (slotAt G j) inside;
     }
 
 -- The edges from one node
 
-pub visit-start : (m : ℕ) (G : Graph) (W : Work) (head next : List ℕ) (f v h : ℕ) → Base m G W → Full 128 G W → Chained m (G .from) head next → f ≡ v → h ≡ getD head f 0 → Visited m G W W v h
+pub visit-start : (m : ℕ) (G : Graph) (W : Work) (head next : List ℕ) (f v h : ℕ) → Base m G W → Full 128 G W → Chained m (G .from) head next → f ≡ v
+    → h ≡ getD head f 0 → Visited m G W W v h
 visit-start m G W head next f v h b u c fe he =
-    record { base = b; full = u; later = later-refl W; low = omega (arith, c .head-low f); seen = λ e l k z. absurd (c .head-all f e (omega arith) k (z ∙ sym fe)) }
+    record {
+      base = b;
+      full = u;
+      later = later-refl W;
+      low = omega (arith, c .head-low f);
+      seen = λ e l k z. absurd
+          (c .head-all f e (omega arith) k (z ∙ sym fe));
+    }
 
 -- edge j, the first below h, is from v, and the next one of the chain is n
-pub visit-follow : {m : ℕ} {G : Graph} {W X Y : Work} {v h j n : ℕ} (head next : List ℕ) → h ≡ j + 1 → n ≡ getD next j 0 → fromAt G j ≡ v → Chained m (G .from) head next
+pub visit-follow : {m : ℕ} {G : Graph} {W X Y : Work} {v h j n : ℕ} (head next : List ℕ) → h ≡ j + 1 → n ≡ getD next j 0 → fromAt G j ≡ v
+    → Chained m (G .from) head next
     → Visited m G W X v h → Brought m G X Y j → Visited m G W Y v n
 visit-follow {m} {G} {W} {X} {Y} {v} {h} {j} {n} head next he ne fe c a d =
     let low : h ≤ m = a .low in
@@ -188,7 +227,9 @@ visit-skip {m} {G} {W} {X} {v} {h} {j} he o a =
       full = a .full;
       later = a .later;
       low = omega arith;
-      seen = λ e l k z. ⊎-elim (λ i. absurd (o (sym (ap (fromAt G) (eqb-true e j i)) ∙ z))) (λ i. a .seen e (omega (arith, eqb-false e j i)) k z) (decided (eqb e j));
+      seen =
+          λ e l k z. ⊎-elim (λ i. absurd (o (sym (ap (fromAt G) (eqb-true e j i)) ∙ z))) (λ i. a .seen e (omega (arith, eqb-false e j i)) k z)
+          (decided (eqb e j));
     }
 
 pub visit-all : {m : ℕ} {G : Graph} {W X : Work} {v h : ℕ} → h ≤ 0 → Visited m G W X v h → Visited m G W X v 0
@@ -205,7 +246,8 @@ settle-step {m} {G} {W} {X} q h d a =
       within = omega arith;
       done = λ e r l k z. ⊎-elim
           (λ i. a .seen e (omega arith) l (z ∙ ap (λ (n : ℕ). getD (X .queue) n 0) (eqb-true r q i) ∙ a .later .kept q h))
-          (λ i. let rq : r < q = omega (arith, eqb-false r q i) in a .later .got-grows (slotAt G e) (d .done e r l rq (z ∙ a .later .kept r (omega arith)))) (decided (eqb r q));
+          (λ i. let rq : r < q = omega (arith, eqb-false r q i) in a .later .got-grows (slotAt G e)
+          (d .done e r l rq (z ∙ a .later .kept r (omega arith)))) (decided (eqb r q));
     }
 
 pub done-all : {m : ℕ} {G : Graph} {W : Work} (q : ℕ) → W .tail ≤ q → Done m G W q → Done m G W (W .tail)
@@ -229,7 +271,9 @@ settled m G W d i = bool-iff _ _ (d .base .sat-sound i) (least-below (satisfiedR
         follow r = let p = d .base .queued (fromAt G (r .0)) (r .3) in sym (ap (flag (W .got)) (r .2)) ∙ d .done (r .0) (p .0) (r .1) (p .1) (sym (p .2))
 
     closed : (i : ℕ) → i < 128 → satisfiedRule m G (flag (W .sat)) i ≡ true → flag (W .sat) i ≡ true
-    closed i l h = let p = satisfied-parts m G (flag (W .sat)) i h in d .full .full i l (ready-of (nodeAt G i) (W .got) (i * 4) (p .0) (λ k q. slot-done (i * 4 + k) (p .1 k q)))
+    closed i l h =
+        let p = satisfied-parts m G (flag (W .sat)) i h in d .full .full i l
+        (ready-of (nodeAt G i) (W .got) (i * 4) (p .0) (λ k q. slot-done (i * 4 + k) (p .1 k q)))
 
 pub settled-at : {m j : ℕ} {G : Graph} {W : Work} → j ≤ m → m ≤ j → Done j G W (W .tail) → (i : ℕ) → flag (W .sat) i ≡ at (satisfiedOf m G) i
 settled-at {m} {j} {G} {W} a b d = let z : j ≡ m = omega arith in settled m G W (subst (λ (k : ℕ). Done k G W (W .tail)) z d)
@@ -254,7 +298,8 @@ start G slots =
 pub full-none : (G : Graph) (W : Work) → Full 0 G W
 full-none G W = record { full = λ i l. absurd (omega arith) }
 
-pub full-next : {m : ℕ} {G : Graph} {got s q s′ q′ : List ℕ} {t t′ : ℕ} (i : ℕ) → Full i G (work got s q t) → Marked m G (work got s q t) (work got s′ q′ t′) i → Full (i + 1) G (work got s′ q′ t′)
+pub full-next : {m : ℕ} {G : Graph} {got s q s′ q′ : List ℕ} {t t′ : ℕ} (i : ℕ) → Full i G (work got s q t)
+    → Marked m G (work got s q t) (work got s′ q′ t′) i → Full (i + 1) G (work got s′ q′ t′)
 full-next {m} {G} {got} {s} {q} {s′} {q′} {t} {t′} i f d =
     record {
       full = λ n l r. ⊎-elim
@@ -268,7 +313,8 @@ unfolding readyAt
 full-all {G} {W} n i h b f =
     record {
       full = λ j l r. ⊎-elim (λ e. f .full j (ltb-true j i e) r)
-          (λ e. let z : nodeAt G j ≡ 5 = b .beyond j (omega (arith, ltb-false j i e)) l in absurd (false-true (sym (ap (λ (k : ℕ). readyAt k (W .got) (j * 4)) z) ∙ r)))
+          (λ e. let z : nodeAt G j ≡ 5 = b .beyond j (omega (arith, ltb-false j i e)) l in absurd
+          (false-true (sym (ap (λ (k : ℕ). readyAt k (W .got) (j * 4)) z) ∙ r)))
           (decided (ltb j i));
     }
 
@@ -286,7 +332,9 @@ base-more m G W l b =
       got-size = b .got-size;
       sat-size = b .sat-size;
       queue-size = b .queue-size;
-      got-sound = λ k h. filled-mono m (m + 1) G (at (satisfiedOf m G)) (at (satisfiedOf (m + 1) G)) (omega arith) (satisfied-more m (m + 1) G (omega arith)) k (b .got-sound k h);
+      got-sound =
+          λ k h. filled-mono m (m + 1) G (at (satisfiedOf m G)) (at (satisfiedOf (m + 1) G)) (omega arith) (satisfied-more m (m + 1) G (omega arith))
+          k (b .got-sound k h);
       sat-sound = λ i h. satisfied-more m (m + 1) G (omega arith) i (b .sat-sound i h);
       counted = b .counted;
       queued = b .queued;
@@ -318,17 +366,21 @@ done-skip m G W l d off =
 pub fill-at : (m : ℕ) (G : Graph) (W : Work) (j s : ℕ) → s ≡ slotAt G j → Base m G W → j < m → flag (W .sat) (fromAt G j) ≡ true → Base m G (filled W s)
 fill-at m G W j s e b l h = subst (λ (x : ℕ). Base m G (filled W x)) (sym e) (fill m G W j b l h)
 
-pub bring-at : (m : ℕ) (G : Graph) (W : Work) (j x : ℕ) (s q : List ℕ) (t : ℕ) → x ≡ slotAt G j → Base m G W → Full 128 G W → Marked m G (filled W x) (work (set (W .got) x 1) s q t) (x / 4) → Brought m G W (work (set (W .got) x 1) s q t) j
+pub bring-at : (m : ℕ) (G : Graph) (W : Work) (j x : ℕ) (s q : List ℕ) (t : ℕ) → x ≡ slotAt G j → Base m G W → Full 128 G W
+    → Marked m G (filled W x) (work (set (W .got) x 1) s q t) (x / 4) → Brought m G W (work (set (W .got) x 1) s q t) j
 bring-at m G W j x s q t e b f d =
-    subst (λ (x : ℕ). Marked m G (filled W x) (work (set (W .got) x 1) s q t) (x / 4) → Brought m G W (work (set (W .got) x 1) s q t) j) (sym e) (bring-done m G W j s q t b f) d
+    subst (λ (x : ℕ). Marked m G (filled W x) (work (set (W .got) x 1) s q t) (x / 4) → Brought m G W (work (set (W .got) x 1) s q t) j) (sym e)
+    (bring-done m G W j s q t b f) d
 
 -- An edge that brings nothing yet
 
-pub insert-off : (m : ℕ) (G : Graph) (W : Work) (f : ℕ) → m < 256 → Done m G W (W .tail) → f ≡ fromAt G m → (getD (W .sat) f 0 ≡ 1 → ⊥) → Done (m + 1) G W (W .tail)
+pub insert-off : (m : ℕ) (G : Graph) (W : Work) (f : ℕ) → m < 256 → Done m G W (W .tail) → f ≡ fromAt G m → (getD (W .sat) f 0 ≡ 1 → ⊥)
+    → Done (m + 1) G W (W .tail)
 insert-off m G W f l d e o = done-skip m G W l d (ap (flag (W .sat)) (sym e) ∙ ne-eqb (getD (W .sat) f 0) 1 o)
 
 pub insert-past : (m : ℕ) (G : Graph) (W : Work) (f : ℕ) → m < 256 → Done m G W (W .tail) → f ≡ fromAt G m → 128 ≤ f → Done (m + 1) G W (W .tail)
-insert-past m G W f l d e h = let s : length (W .sat) ≡ 128 = d .base .sat-size in done-skip m G W l d (ap (flag (W .sat)) (sym e) ∙ flag-past (W .sat) f (omega arith))
+insert-past m G W f l d e h =
+    let s : length (W .sat) ≡ 128 = d .base .sat-size in done-skip m G W l d (ap (flag (W .sat)) (sym e) ∙ flag-past (W .sat) f (omega arith))
 
 pub insert-on : (m : ℕ) (G : Graph) (W : Work) (f : ℕ) → f ≡ fromAt G m → getD (W .sat) f 0 ≡ 1 → flag (W .sat) (fromAt G m) ≡ true
 insert-on m G W f e h = ap (flag (W .sat)) (sym e) ∙ eq-eqb (getD (W .sat) f 0) 1 h

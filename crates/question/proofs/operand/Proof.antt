@@ -8,10 +8,16 @@ returns : tie.Need-returns
 returns c = operand-wrong _ (sym (c .before .before .read-expression .ensures) ∙ c .enum-told .given .1)
 
 returns-2 : tie.Need-returns-2
-returns-2 c = operand-read _ _ _ (sym (c .before .before .before .before .before .read-expression .ensures) ∙ c .before .before .before .x .given .1) (sym (c .before .is-body .ensures) ∙ c .if1 .taken)
+returns-2 c =
+    let c3 = c .before .before .before in
+    let c5 = c3 .before .before in
+    operand-read _ _ _ (sym (c5 .read-expression .ensures) ∙ c3 .x .given .1) (sym (c .before .is-body .ensures) ∙ c .if1 .taken)
 
 returns-3 : tie.Need-returns-3
-returns-3 c = operand-read _ _ _ (sym (c .before .before .before .before .before .read-expression .ensures) ∙ c .before .before .before .x .given .1) (sym (c .before .is-body .ensures) ∙ c .if1 .left)
+returns-3 c =
+    let c3 = c .before .before .before in
+    let c5 = c3 .before .before in
+    operand-read _ _ _ (sym (c5 .read-expression .ensures) ∙ c3 .x .given .1) (sym (c .before .is-body .ensures) ∙ c .if1 .left)
 
 pub operand-spec : {M : Type 1} → statement M
 operand-spec =

@@ -25,13 +25,19 @@ inside : (c : tie.Else1) → Inside (c .before .before .before .before .before)
 inside c = sym (c .before .sized .ensures) ∙ not-false _ (c .if1 .left)
 
 -- the credentials were read
-with-list : (c : tie.Else2) {p q : ExpressionAnswer} → operandOf (c .before .before .before .before .before .before .before .before .args .f .now) ≡ p → operandOf (c .before .before .before .before .before .before .before .before .args .e .now) ≡ q
-    → answerOf yesOrNo (answered (accepted (credentials (c .before .before .list .result .pool))) p q) ≡ answerAt (c .before .before .before .before .before .before .before .before)
-with-list c h k = question-inside _ _ _ _ _ _ (inside (c .before .before .before)) (sym (c .before .before .list .ensures .0) ∙ listed-all (c .before .before .list .result) (c .if2 .left)) h k
+with-list : (c : tie.Else2) {p q : ExpressionAnswer} → operandOf (c .before .before .before .before .before .before .before .before .args .f .now) ≡ p
+    → operandOf (c .before .before .before .before .before .before .before .before .args .e .now) ≡ q
+    → answerOf yesOrNo (answered (accepted (credentials (c .before .before .list .result .pool))) p q)
+    ≡ answerAt (c .before .before .before .before .before .before .before .before)
+with-list c h k =
+    let c3 = c .before .before .before in
+    question-inside _ _ _ _ _ _ (inside (c3)) (sym (c .before .before .list .ensures .0) ∙ listed-all (c .before .before .list .result) (c .if2 .left)) h k
 
 -- and f
-with-first : (c : tie.After-known-told) {q : ExpressionAnswer} → operandOf (c .before .before .before .before .before .before .before .before .before .before .before .before .args .e .now) ≡ q
-    → answerOf yesOrNo (answered (accepted (credentials (c .before .before .before .before .before .before .list .result .pool))) (Read (c .before .x .given .0 .0)) q) ≡ answerAt (c .before .before .before .before .before .before .before .before .before .before .before .before)
+with-first : (c : tie.After-known-told) {q : ExpressionAnswer}
+    → operandOf (c .before .before .before .before .before .before .before .before .before .before .before .before .args .e .now) ≡ q
+    → answerOf yesOrNo (answered (accepted (credentials (c .before .before .before .before .before .before .list .result .pool)))
+    (Read (c .before .x .given .0 .0)) q) ≡ answerAt (c .before .before .before .before .before .before .before .before .before .before .before .before)
 with-first c k = with-list (c .before .before .before .before) (sym (c .before .before .before .operand .ensures) ∙ c .before .x .given .1) k
 
 returns : tie.Need-returns
@@ -41,7 +47,10 @@ list-requires : tie.Need-list-requires
 list-requires c κs = true-sized _ _ _ (inside c) .most
 
 returns-2 : tie.Need-returns-2
-returns-2 c = question-inside _ _ _ _ _ _ (inside (c .before .before .before)) (sym (c .before .before .list .ensures .0) ∙ listed-refused (c .before .before .list .result) (c .if2 .taken)) refl refl
+returns-2 c =
+    let c3 = c .before .before .before in
+    question-inside _ _ _ _ _ _ (inside (c3)) (sym (c .before .before .list .ensures .0)
+    ∙ listed-refused (c .before .before .list .result) (c .if2 .taken)) refl refl
 
 operand-requires : tie.Need-operand-requires
 operand-requires c κs = true-sized _ _ _ (inside (c .before .before .before)) .first
@@ -56,7 +65,11 @@ returns-4 : tie.Need-returns-4
 returns-4 c = with-first (c .before .before .before) (sym (c .before .before .operand2 .ensures) ∙ c .enum-told2 .given .1)
 
 returns-5 : tie.Need-returns-5
-returns-5 c = c .answer .ensures ∙ ap (λ (b : Bool). yesOrNo b * 256) (c .before .from .ensures) ∙ with-first (c .before .before .before .before .before .before) (sym (c .before .before .before .before .before .operand2 .ensures) ∙ c .before .before .before .y .given .1)
+returns-5 c =
+    let c3 = c .before .before .before in
+    let c5 = c3 .before .before in
+    let c6 = c5 .before in
+    c .answer .ensures ∙ ap (λ (b : Bool). yesOrNo b * 256) (c .before .from .ensures) ∙ with-first (c6) (sym (c5 .operand2 .ensures) ∙ c3 .y .given .1)
 
 pub question-spec : {M : Type 1} → statement M
 question-spec =

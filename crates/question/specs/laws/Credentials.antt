@@ -98,7 +98,8 @@ sure s at = go (ltb at (length s))
     go false = inl refl
 
 -- a credential that was taken stands there, whole
-pub taken-sure : (s : List ℕ) (at : ℕ) (c : Credential) → stepAt s at ≡ Taken c → (at + CREDENTIAL-BYTES ≤ length s) × (getD s at 0 ≡ 1) × (readCredential s (at + 1) ≡ a.Read c)
+pub taken-sure : (s : List ℕ) (at : ℕ) (c : Credential) → stepAt s at ≡ Taken c
+    → (at + CREDENTIAL-BYTES ≤ length s) × (getD s at 0 ≡ 1) × (readCredential s (at + 1) ≡ a.Read c)
 taken-sure s at c h = subst (Sure s at) h (sure s at)
 
 -- an end that was found stands last
@@ -120,7 +121,8 @@ unfolding listFrom
 sure-list zero s at C = inl refl
 sure-list (suc n) s at C = go (stepAt s at) (λ k h. step-refusal s at k h) (λ D. sure-list n s (at + CREDENTIAL-BYTES) D)
   where
-    go : (x : Step) → ((k : ℕ) → x ≡ Refused k → Refusal k) → ((D : List Credential) → SureList (listFrom n s (at + CREDENTIAL-BYTES) D)) → SureList (after (listFrom n s (at + CREDENTIAL-BYTES)) C x)
+    go : (x : Step) → ((k : ℕ) → x ≡ Refused k → Refusal k) → ((D : List Credential) → SureList (listFrom n s (at + CREDENTIAL-BYTES) D))
+        → SureList (after (listFrom n s (at + CREDENTIAL-BYTES)) C x)
     go (Taken c) number rest = rest (C ++ (c ∷ []))
     go End number rest = tt
     go (Refused k) number rest = number k refl
@@ -134,7 +136,8 @@ list-refusal s k h = subst SureList h (sure-list (length s) s 0 [])
 past : (n : ℕ) (s : List ℕ) (at : ℕ) (C : List Credential) → length s ≤ at → listFrom n s at C ≡ refused 2
 unfolding listFrom stepAt
 past zero s at C h = refl
-past (suc n) s at C h = ap (λ (t : Bool). after (listFrom n s (at + CREDENTIAL-BYTES)) C (cond t (commandStep s at (getD s at 0)) (Refused 2))) (le-ltb at (length s) h)
+past (suc n) s at C h =
+    ap (λ (t : Bool). after (listFrom n s (at + CREDENTIAL-BYTES)) C (cond t (commandStep s at (getD s at 0)) (Refused 2))) (le-ltb at (length s) h)
 
 -- a listing that is not refused
 pub listed-all : (l : Listing) → l .refusal ≡ 0 → listedOf l ≡ accepted (credentials (l .pool))
@@ -190,7 +193,8 @@ module _ {s : List ℕ} {P : Pool} {at : ℕ} (r : Reading s P at) (more : at < 
   pub reading-next : {c : Credential} {Q : Pool} → stepAt s at ≡ Taken c → credentials Q ≡ credentials P ++ (c ∷ []) → Reading s Q (at + CREDENTIAL-BYTES)
   reading-next {c} {Q} h q =
       let t = turn (Taken c) h in
-      let one : Q .count ≡ P .count + 1 = sym (count-length Q) ∙ ap length q ∙ length-append (credentials P) (c ∷ []) ∙ ap (λ (n : ℕ). n + 1) (count-length P) in
+      let one : Q .count ≡ P .count + 1 = sym (count-length Q) ∙ ap length q ∙ length-append (credentials P) (c ∷ [])
+      ∙ ap (λ (n : ℕ). n + 1) (count-length P) in
       record {
         counted = omega (arith, r .counted);
         inside = taken-sure s at c h .0;

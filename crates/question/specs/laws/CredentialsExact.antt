@@ -28,7 +28,8 @@ module _ (s : List ℕ) (at : ℕ) (inside : at ≤ length s) where
       let size : length s ≡ at + 1 = size-there s at inside (6 ∷ []) h in
       sym (last s at true (eq-eqb (at + 1) (length s) (sym size)) ∙ at-code s at 6 (omega arith) (code-there s at 6 [] h))
 
-module _ (s : List ℕ) (at : ℕ) (inside : at ≤ length s) (c : Credential) (l : List ℕ) (formed : wellFormedCredential c ≡ true) (h : drop at s ≡ 1 ∷ (credentialBytes c ++ l)) where
+module _ (s : List ℕ) (at : ℕ) (inside : at ≤ length s) (c : Credential) (l : List ℕ) (formed : wellFormedCredential c ≡ true)
+    (h : drop at s ≡ 1 ∷ (credentialBytes c ++ l)) where
   fits-there : at + CREDENTIAL-BYTES ≤ length s
   fits-there = omega (arith, size-there s at inside (1 ∷ (credentialBytes c ++ l)) h, length-append (credentialBytes c) l)
 
@@ -41,13 +42,16 @@ module _ (s : List ℕ) (at : ℕ) (inside : at ≤ length s) (c : Credential) (
       let next : drop (at + 1) s ≡ credentialBytes c ++ l = sym (drop-drop 1 at s) ∙ ap (drop 1) h in
       sym (whole s at (a.Read c) (omega arith) (read-there s (at + 1) (omega arith) c l formed next) ∙ at-code s at 1 (omega arith) (code-there s at 1 _ h))
 
-from-commands : (n : ℕ) (s : List ℕ) (at : ℕ) (C D : List Credential) → at ≤ length s → Formed C → drop at s ≡ commands C → length C < n → listFrom n s at D ≡ accepted (D ++ C)
+from-commands : (n : ℕ) (s : List ℕ) (at : ℕ) (C D : List Credential) → at ≤ length s → Formed C → drop at s ≡ commands C → length C < n
+    → listFrom n s at D ≡ accepted (D ++ C)
 unfolding listFrom
 from-commands zero s at C D inside formed h more = absurd (omega arith)
-from-commands (suc n) s at [] D inside formed h more = ap (after (listFrom n s (at + CREDENTIAL-BYTES)) D) (end-there s at inside h) ∙ ap accepted (sym (append-nil D))
+from-commands (suc n) s at [] D inside formed h more =
+    ap (after (listFrom n s (at + CREDENTIAL-BYTES)) D) (end-there s at inside h) ∙ ap accepted (sym (append-nil D))
 from-commands (suc n) s at (c ∷ C) D inside formed h more =
     ap (after (listFrom n s (at + CREDENTIAL-BYTES)) D) (taken-there s at inside c (commands C) (formed .0) h)
-    ∙ from-commands n s (at + CREDENTIAL-BYTES) C (D ++ (c ∷ [])) (fits-there s at inside c (commands C) (formed .0) h) (formed .1) (rest-there s at inside c (commands C) (formed .0) h) (omega arith)
+    ∙ from-commands n s (at + CREDENTIAL-BYTES) C (D ++ (c ∷ [])) (fits-there s at inside c (commands C) (formed .0) h) (formed .1)
+    (rest-there s at inside c (commands C) (formed .0) h) (omega arith)
     ∙ ap accepted (append-assoc D (c ∷ []) C)
 
 fewer : (C : List Credential) → length C < length (commands C)
@@ -80,12 +84,18 @@ module _ (s : List ℕ) (bytes : (i : ℕ) → getD s i 0 < 256) where
   to-commands zero at D E h = let z : _≡_ {A = ℕ} 0 1 = cc in absurd (omega arith)
   to-commands (suc n) at D E h = go (stepAt s at) refl h (λ F k. to-commands n (at + CREDENTIAL-BYTES) F E k)
     where
-      go : (x : Step) → stepAt s at ≡ x → after (listFrom n s (at + CREDENTIAL-BYTES)) D x ≡ accepted E → ((F : List Credential) → listFrom n s (at + CREDENTIAL-BYTES) F ≡ accepted E → Rest s (at + CREDENTIAL-BYTES) F E) → Rest s at D E
+      go : (x : Step) → stepAt s at ≡ x → after (listFrom n s (at + CREDENTIAL-BYTES)) D x ≡ accepted E
+          → ((F : List Credential) → listFrom n s (at + CREDENTIAL-BYTES) F ≡ accepted E → Rest s (at + CREDENTIAL-BYTES) F E) → Rest s at D E
       go (Taken c) q k again = one-more at c D E q (again (D ++ (c ∷ [])) k)
       go End q k again =
           let w = end-sure s at q in
-          let same : D ≡ E = cc in
-          ([], sym same ∙ sym (append-nil D), drop-cons s at 0 (omega (arith, w .0)) ∙ (λ i. w .1 i ∷ drop-of-length-le s {i = suc at} (omega (arith, w .0)) i), tt)
+          let same : D ≡ E = cc in (
+            [],
+            sym same ∙ sym (append-nil D),
+            drop-cons s at 0 (omega (arith, w .0))
+                ∙ (λ i. w .1 i ∷ drop-of-length-le s {i = suc at} (omega (arith, w .0)) i),
+            tt,
+          )
       go (Refused m) q k again = let z : _≡_ {A = ℕ} 0 1 = cc in absurd (omega arith)
 
   -- bytes that are accepted are the commands of well-formed credentials

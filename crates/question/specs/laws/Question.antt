@@ -41,7 +41,8 @@ operand-read s x b h k = sym (ap askable h ∙ ap (λ (t : Bool). cond t (Read x
 -- lengths within the sizes pass the test
 pub sized-true : {c f e : ℕ} → Sized c f e → sized c f e ≡ true
 unfolding sized
-sized-true {c} {f} {e} h = rw (lt-ltb 0 c (h .some), le-leb c MOST-CREDENTIALS-BYTES (h .most), eq-eqb f EXPRESSION-BYTES (h .first), eq-eqb e EXPRESSION-BYTES (h .second))
+sized-true {c} {f} {e} h =
+    rw (lt-ltb 0 c (h .some), le-leb c MOST-CREDENTIALS-BYTES (h .most), eq-eqb f EXPRESSION-BYTES (h .first), eq-eqb e EXPRESSION-BYTES (h .second))
 
 -- lengths that pass the test are within the sizes
 pub true-sized : (c f e : ℕ) → sized c f e ≡ true → Sized c f e
@@ -66,12 +67,14 @@ unfolding questionOf
 question-outside c f e h = sym (ap (λ (t : Bool). answerOf yesOrNo (cond t (answered (credentialsOf c) (operandOf f) (operandOf e)) (refused LENGTH))) h)
 
 -- lengths within the sizes: the answer by what the bytes are read as
-pub question-read : (c f e : List ℕ) (l : Answer (List Credential)) (p q : ExpressionAnswer) → sized (length c) (length f) (length e) ≡ true → credentialsOf c ≡ l → operandOf f ≡ p
+pub question-read : (c f e : List ℕ) (l : Answer (List Credential)) (p q : ExpressionAnswer) → sized (length c) (length f) (length e) ≡ true
+    → credentialsOf c ≡ l → operandOf f ≡ p
     → operandOf e ≡ q → answered l p q ≡ questionOf c f e
 unfolding questionOf
 question-read c f e l p q h u v w = λ i. cond (sym h i) (answered (sym u i) (sym v i) (sym w i)) (refused LENGTH)
 
-pub question-inside : (c f e : List ℕ) (l : Answer (List Credential)) (p q : ExpressionAnswer) → sized (length c) (length f) (length e) ≡ true → credentialsOf c ≡ l → operandOf f ≡ p
+pub question-inside : (c f e : List ℕ) (l : Answer (List Credential)) (p q : ExpressionAnswer) → sized (length c) (length f) (length e) ≡ true
+    → credentialsOf c ≡ l → operandOf f ≡ p
     → operandOf e ≡ q → answerOf yesOrNo (answered l p q) ≡ answerOf yesOrNo (questionOf c f e)
 question-inside c f e l p q h u v w = ap (answerOf yesOrNo) (question-read c f e l p q h u v w)
 
@@ -92,14 +95,17 @@ pub question-cases : (c f e : List ℕ) → Refused (answerOf yesOrNo (questionO
 unfolding questionOf
 question-cases c f e = size (sized (length c) (length f) (length e)) refl
   where
-    read : (l : Answer (List Credential)) (p q : ExpressionAnswer) → sized (length c) (length f) (length e) ≡ true → credentialsOf c ≡ l → operandOf f ≡ p → operandOf e ≡ q
+    read : (l : Answer (List Credential)) (p q : ExpressionAnswer) → sized (length c) (length f) (length e) ≡ true → credentialsOf c ≡ l
+        → operandOf f ≡ p → operandOf e ≡ q
         → Refused (answerOf yesOrNo (answered l p q)) ⊎ Answered c f e (answerOf yesOrNo (answered l p q))
     read (refused k) p q h l a b = inl (inr (list-refusal c k l))
     read (accepted C) Wrong q h l a b = inl (inr (inr refl))
     read (accepted C) (Read x) Wrong h l a b = inl (inr (inr refl))
-    read (accepted C) (Read x) (Read y) h l a b = inr (C, x, y, record { sizes = true-sized (length c) (length f) (length e) h; credentials = l; first = a; second = b }, refl)
+    read (accepted C) (Read x) (Read y) h l a b =
+        inr (C, x, y, record { sizes = true-sized (length c) (length f) (length e) h; credentials = l; first = a; second = b }, refl)
 
-    size : (t : Bool) → sized (length c) (length f) (length e) ≡ t → (let n : ℕ = answerOf yesOrNo (cond t (answered (credentialsOf c) (operandOf f) (operandOf e)) (refused LENGTH)) in Refused n ⊎ Answered c f e n)
+    size : (t : Bool) → sized (length c) (length f) (length e) ≡ t
+        → (let n : ℕ = answerOf yesOrNo (cond t (answered (credentialsOf c) (operandOf f) (operandOf e)) (refused LENGTH)) in Refused n ⊎ Answered c f e n)
     size true h = read (credentialsOf c) (operandOf f) (operandOf e) h refl refl refl
     size false h = inl (inl refl)
 
@@ -117,13 +123,29 @@ refused-number : (n : ℕ) → Refused n → (0 < n) × (n < 4)
 refused-number n h = ⊎-elim (λ e. (omega arith, omega arith)) (λ r. ⊎-elim (λ e. (omega arith, omega arith)) (λ e. (omega arith, omega arith)) r) h
 
 -- yes is answered only where the relation holds
-pub question-yes : (c f e : List ℕ) → answerOf yesOrNo (questionOf c f e) ≡ 256 → (C : List Credential) × (x : Expression) × (y : Expression) × Asked c f e C x y × From C x y
+pub question-yes : (c f e : List ℕ) → answerOf yesOrNo (questionOf c f e) ≡ 256
+    → (C : List Credential) × (x : Expression) × (y : Expression) × Asked c f e C x y × From C x y
 question-yes c f e h =
     ⊎-elim (λ r. absurd (omega (arith, refused-number _ r)))
-    (λ w. (w .0, w .1, w .2, w .3, from-exact (w .0) (w .1) (w .2) .0 (⊎-elim (λ y. y .0) (λ y. absurd (omega (arith, w .4, y .1))) (yes-or-no (from? (w .0) (w .1) (w .2)))))) (question-cases c f e)
+    (λ w. (
+      w .0,
+      w .1,
+      w .2,
+      w .3,
+      from-exact (w .0) (w .1) (w .2) .0
+          (⊎-elim (λ y. y .0) (λ y. absurd (omega (arith, w .4, y .1))) (yes-or-no (from? (w .0) (w .1) (w .2)))),
+    )) (question-cases c f e)
 
 -- no is answered only where it does not
-pub question-no : (c f e : List ℕ) → answerOf yesOrNo (questionOf c f e) ≡ 0 → (C : List Credential) × (x : Expression) × (y : Expression) × Asked c f e C x y × (From C x y → ⊥)
+pub question-no : (c f e : List ℕ) → answerOf yesOrNo (questionOf c f e) ≡ 0
+    → (C : List Credential) × (x : Expression) × (y : Expression) × Asked c f e C x y × (From C x y → ⊥)
 question-no c f e h =
     ⊎-elim (λ r. absurd (omega (arith, refused-number _ r)))
-    (λ w. (w .0, w .1, w .2, w .3, λ k. ⊎-elim (λ y. omega (arith, w .4, y .1)) (λ y. false-true (sym (y .0) ∙ from-exact (w .0) (w .1) (w .2) .1 k)) (yes-or-no (from? (w .0) (w .1) (w .2))))) (question-cases c f e)
+    (λ w. (
+      w .0,
+      w .1,
+      w .2,
+      w .3,
+      λ k. ⊎-elim (λ y. omega (arith, w .4, y .1)) (λ y. false-true (sym (y .0) ∙ from-exact (w .0) (w .1) (w .2) .1 k))
+          (yes-or-no (from? (w .0) (w .1) (w .2))),
+    )) (question-cases c f e)

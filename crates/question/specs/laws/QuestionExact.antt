@@ -35,7 +35,8 @@ askable-read (Read z) x h = go (isBody z) refl h
     go false p q = let n : _≡_ {A = ℕ} 0 1 = cc in absurd (omega arith)
 askable-read Wrong x h = let n : _≡_ {A = ℕ} 0 1 = cc in absurd (omega arith)
 
-operand-only : (s : List ℕ) (x : Expression) → ((i : ℕ) → getD s i 0 < 256) → length s ≡ EXPRESSION-BYTES → operandOf s ≡ Read x → (s ≡ expressionBytes x) × Askable x
+operand-only : (s : List ℕ) (x : Expression) → ((i : ℕ) → getD s i 0 < 256) → length s ≡ EXPRESSION-BYTES → operandOf s ≡ Read x
+    → (s ≡ expressionBytes x) × Askable x
 unfolding operandOf
 operand-only s x bytes size h =
     let r = askable-read (readOf s 0) x h in
@@ -61,7 +62,8 @@ written-asked {c} {f} {e} {C} {x} {y} w = record {
 }
 
 -- no other bytes do
-pub asked-written : {c f e : List ℕ} {C : List Credential} {x y : Expression} → ((i : ℕ) → getD c i 0 < 256) → ((i : ℕ) → getD f i 0 < 256) → ((i : ℕ) → getD e i 0 < 256)
+pub asked-written : {c f e : List ℕ} {C : List Credential} {x y : Expression} → ((i : ℕ) → getD c i 0 < 256) → ((i : ℕ) → getD f i 0 < 256)
+    → ((i : ℕ) → getD e i 0 < 256)
     → Asked c f e C x y → Written c f e C x y
 asked-written {c} {f} {e} {C} {x} {y} p q r h =
     let l = list-only c p C (h .credentials) in

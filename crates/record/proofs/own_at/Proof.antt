@@ -10,10 +10,12 @@ returns : tie.Need-returns
 returns c = own-cut _ _ (c .if1 .taken)
 
 returns-2 : tie.Need-returns-2
-returns-2 c = own-full _ _ _ false (c .before .before .if1 .left) (c .before .number-at .ensures) (le-ltb 0 (c .before .number-at .result) (omega (arith, c .if2 .taken)))
+returns-2 c =
+    own-full _ _ _ false (c .before .before .if1 .left) (c .before .number-at .ensures) (le-ltb 0 (c .before .number-at .result) (omega (arith, c .if2 .taken)))
 
 returns-3 : tie.Need-returns-3
-returns-3 c = own-full _ _ _ true (c .before .before .if1 .left) (c .before .number-at .ensures) (lt-ltb 0 (c .before .number-at .result) (omega (arith, c .if2 .left)))
+returns-3 c =
+    own-full _ _ _ true (c .before .before .if1 .left) (c .before .number-at .ensures) (lt-ltb 0 (c .before .number-at .result) (omega (arith, c .if2 .left)))
 
 pub own-at-spec : {M : Type 1} → statement M
 own-at-spec =

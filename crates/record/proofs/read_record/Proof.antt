@@ -23,7 +23,8 @@ returns-6 : tie.Need-returns-6
 returns-6 c = c .pair-at2 .ensures ∙ at-code _ _ 21 (c .before .match .keys6)
 
 returns-7 : tie.Need-returns-7
-returns-7 c = let n = c .match .rest in unknown _ _ _ (n .0 .0 .0 .0 .0 .1) (n .0 .0 .0 .0 .1) (n .0 .0 .0 .1) (n .0 .0 .1) (n .0 .1) (n .1) ∙ at-code _ _ _ refl
+returns-7 c =
+    let n = c .match .rest in unknown _ _ _ (n .0 .0 .0 .0 .0 .1) (n .0 .0 .0 .0 .1) (n .0 .0 .0 .1) (n .0 .0 .1) (n .0 .1) (n .1) ∙ at-code _ _ _ refl
 
 pub read-record-spec : {M : Type 1} → statement M
 read-record-spec =

@@ -15,7 +15,8 @@ use Rattle.record.specs.declared.Pair.{Pair}
 use Rattle.record.specs.declared.Record.the-variants.{Own, Named}
 use Rattle.record.specs.declared.RecordAnswer.{RecordAnswer}
 use Rattle.record.specs.declared.RecordAnswer.the-variants.{Refused}
-use Rattle.record.specs.Record.{formedName, formedPair, paired, whole, checked, ownAt, nameOf, nameAt, storedOf, storedAt, pairOf, pairAt, byCode, recordAt}
+use Rattle.record.specs.Record.{formedName, formedPair, paired, whole, checked, ownAt, nameOf, nameAt, storedOf, storedAt, pairOf, pairAt, byCode}
+use Rattle.record.specs.Record.{recordAt}
 
 module _ (size : ℕ) (s : List ℕ) (at : ℕ) where
   -- too few bytes are left

@@ -24,7 +24,8 @@ use Rattle.record.specs.declared.Record.{Record}
 use Rattle.record.specs.declared.Record.the-variants.{Own, Named, IssuerStored, SubjectStored, Sensitive, Access}
 use Rattle.record.specs.declared.RecordAnswer.{RecordAnswer}
 use Rattle.record.specs.declared.RecordAnswer.the-variants.{Read, Refused}
-use Rattle.record.specs.Record.{formedName, formedPair, formed, stored, paired, whole, checked, ownAt, nameOf, nameAt, storedOf, storedAt, pairOf, pairAt, recordAt, recordBytes, sizeOf}
+use Rattle.record.specs.Record.{formedName, formedPair, formed, stored, paired, whole, checked, ownAt, nameOf, nameAt, storedOf, storedAt, pairOf}
+use Rattle.record.specs.Record.{pairAt, recordAt, recordBytes, sizeOf}
 use Rattle.record.specs.laws.Record.{own-full, name-full, stored-full, pair-full, at-code}
 
 -- a record has this first byte, this test of its form and these operands
@@ -175,7 +176,8 @@ pub record-formed : (s : List ℕ) (at : ℕ) (r : Record) → recordAt s at ≡
 record-formed s at r h = subst (Sure s at) h (sure s at) .1
 
 -- its bytes stand there
-pub record-only : (s : List ℕ) (at : ℕ) (r : Record) → ((i : ℕ) → getD s i 0 < 256) → at < length s → recordAt s at ≡ Read r → take (sizeOf r) (drop at s) ≡ recordBytes r
+pub record-only : (s : List ℕ) (at : ℕ) (r : Record) → ((i : ℕ) → getD s i 0 < 256) → at < length s → recordAt s at ≡ Read r
+    → take (sizeOf r) (drop at s) ≡ recordBytes r
 record-only s at r bytes inside h = subst (Sure s at) h (sure s at) .2 bytes
 
 -- Records read back
@@ -186,9 +188,11 @@ module _ (s : List ℕ) (at : ℕ) (l : List ℕ) (inside : at ≤ length s) whe
 
   name-back : (n : Name) → drop at s ≡ (17 ∷ (numberBytes (n .name) ++ (n .class ∷ []))) ++ l → formedName n ≡ true → Read (Named n) ≡ nameAt s at
   name-back n h good =
-      name-full s at n true (omega (arith, size-there s at inside _ h)) (number-there s (at + 1) (n .name) (n .class ∷ l) (skip s at 1 _ h)) (sym (byte-there s at 3 _ h)) good
+      name-full s at n true (omega (arith, size-there s at inside _ h)) (number-there s (at + 1) (n .name) (n .class ∷ l) (skip s at 1 _ h))
+      (sym (byte-there s at 3 _ h)) good
 
-  stored-back : (subject : Bool) (code : ℕ) (c : Credential) → drop at s ≡ (code ∷ credentialBytes c) ++ l → wellFormedCredential c ≡ true → Read (stored subject c) ≡ storedAt subject s at
+  stored-back : (subject : Bool) (code : ℕ) (c : Credential) → drop at s ≡ (code ∷ credentialBytes c) ++ l → wellFormedCredential c ≡ true
+      → Read (stored subject c) ≡ storedAt subject s at
   stored-back subject code c h good =
       let room : at + 23 ≤ length s = omega (arith, size-there s at inside _ h, length-append (credentialBytes c) l) in
       stored-full s at subject (a.Read c) (omega arith) (read-there s (at + 1) (omega arith) c l good (skip s at 1 _ h))

@@ -9,10 +9,20 @@ abbrev pool : (c : tie.Start) → Pool
 pool c = poolOf (c .args .n) (c .args .heads .now) (c .args .kinds .now) (c .args .numbers .now)
 
 returns : tie.Need-returns
-returns c = alone-of (pool (c .before .before .before)) (c .before .before .before .args .on .now) (c .before .before .before .pre .0) (c .before .before .before .args .mem .now) (c .before .before .before .pre .1) (c .before .before .before .args .b) (c .before .before .source .result) (c .before .before .before .args .f) (c .same .result) (c .before .before .source .ensures) (c .before .if1 .taken) (c .same .ensures)
+returns c =
+    let c3 = c .before .before .before in
+    alone-of (pool (c3)) (c3 .args .on .now) (c3 .pre .0) (c3 .args .mem .now) (c3 .pre .1) (c3 .args .b) (c .before .before .source .result)
+    (c3 .args .f) (c .same .result) (c .before .before .source .ensures) (c .before .if1 .taken) (c .same .ensures)
 
 by-form-requires : tie.Need-by-form-requires
-by-form-requires c κs = (c .before .before .pre .0, c .if1 .left, c .before .before .pre .1, entity-answers (pool (c .before .before)) (c .before .before .args .on .now) (c .before .before .pre .0) (c .before .before .args .mem .now) (c .before .before .pre .1) (c .before .before .args .b) (c .before .source .result) (c .before .source .ensures) (c .if1 .left))
+by-form-requires c κs = (
+  c .before .before .pre .0,
+  c .if1 .left,
+  c .before .before .pre .1,
+  entity-answers (pool (c .before .before)) (c .before .before .args .on .now)
+      (c .before .before .pre .0) (c .before .before .args .mem .now) (c .before .before .pre .1) (c .before .before .args .b)
+      (c .before .source .result) (c .before .source .ensures) (c .if1 .left),
+)
 
 pub by-entity-spec : {M : Type 1} → statement M
 by-entity-spec =

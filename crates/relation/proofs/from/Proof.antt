@@ -9,13 +9,26 @@ use Rattle.relation.proofs.from.Statement.{statement}
 use Rattle.relation.proofs.from.Tie as tie
 
 relation-requires : tie.Need-relation-requires
-relation-requires c κs = (c .before .before .before .before .before .before .before .before .before .before .before .before .before .before .before .before .before .before .before .before .before .before .pre, by-columns (c .before .before .before .before .before .before .before .before .before .before .before .before .before .before .before .before .before .before .before .before .before .before .args .t1) (c .before .before .before .before .before .before .before .before .before .before .before .before .before .before .before .before .before .rules-of .result) (c .before .before .before .before .before .before .before .before .before .before .before .before .before .before .before .before .before .rules-of .ensures))
+relation-requires c κs =
+    let c14 = c .before .before .before .before .before .before .before .before .before .before .before .before .before .before in
+    let c17 = c14 .before .before .before in
+    let c22 = c17 .before .before .before .before .before in
+    (c22 .pre, by-columns (c22 .args .t1) (c17 .rules-of .result) (c17 .rules-of .ensures))
 
 ask-requires : tie.Need-ask-requires
-ask-requires c κs = (c .before .before .before .before .before .before .before .before .before .before .before .before .before .before .before .before .before .before .before .before .before .before .before .before .before .before .before .before .before .before .before .before .before .before .before .before .pre, by-columns (c .before .before .before .before .before .before .before .before .before .before .before .before .before .before .before .before .before .before .before .before .before .before .before .before .before .before .before .before .before .before .before .before .before .before .before .before .args .t1) (c .before .before .before .before .before .before .before .before .before .before .before .before .before .before .before .before .before .before .before .before .before .before .before .before .before .before .before .before .before .before .before .rules-of .result) (c .before .before .before .before .before .before .before .before .before .before .before .before .before .before .before .before .before .before .before .before .before .before .before .before .before .before .before .before .before .before .before .rules-of .ensures), c .before .before .before .before .before .before .before .before .before .before .before .before .before .relation .ensures)
+ask-requires c κs =
+    let c13 = c .before .before .before .before .before .before .before .before .before .before .before .before .before in
+    let c27 = c13 .before .before .before .before .before .before .before .before .before .before .before .before .before .before in
+    let c31 = c27 .before .before .before .before in
+    let c36 = c31 .before .before .before .before .before in
+    (c36 .pre, by-columns (c36 .args .t1) (c31 .rules-of .result) (c31 .rules-of .ensures), c13 .relation .ensures)
 
 returns : tie.Need-returns
-returns c = c .ask .ensures ∙ ap (λ (C : List Credential). from? C (c .before .before .before .before .before .before .before .before .before .before .before .before .before .before .before .before .before .before .before .before .before .before .before .before .before .before .before .before .before .before .before .before .before .before .before .before .before .args .f) (c .before .before .before .before .before .before .before .before .before .before .before .before .before .before .before .before .before .before .before .before .before .before .before .before .before .before .before .before .before .before .before .before .before .before .before .before .before .args .e)) (all-on (c .before .before .before .before .before .before .before .before .before .before .before .before .before .before .before .before .before .before .before .before .before .before .before .before .before .before .before .before .before .before .before .before .before .before .before .before .before .args .t1) (c .before .before .before .before .before .before .before .before .before .before .before .before .before .before .before .before .before .before .before .before .before .before .before .before .before .before .before .before .before .before .before .before .before .before .before .before .before .pre))
+returns c =
+    let c14 = c .before .before .before .before .before .before .before .before .before .before .before .before .before .before in
+    let c28 = c14 .before .before .before .before .before .before .before .before .before .before .before .before .before .before in
+    let c37 = c28 .before .before .before .before .before .before .before .before .before in
+    c .ask .ensures ∙ ap (λ (C : List Credential). from? C (c37 .args .f) (c37 .args .e)) (all-on (c37 .args .t1) (c37 .pre))
 
 pub from-spec : {M : Type 1} → statement M
 from-spec =

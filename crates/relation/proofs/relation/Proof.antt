@@ -17,7 +17,10 @@ rules c = rulesOf (c .args .n) (c .args .words) (c .args .head .now) (c .args .p
 
 returns : tie.Need-returns
 returns c =
-    related (pool (c .before .before .before .before .before .before)) (c .before .before .before .before .before .before .args .on .now) (c .before .before .before .before .before .before .pre .0) (E.Entity 0) (rules (c .before .before .before .before .before .before)) (compiled-plain (pool (c .before .before .before .before .before .before)) (c .before .before .before .before .before .before .pre .0) (rules (c .before .before .before .before .before .before)) (c .before .before .before .before .before .before .pre .1)) (c .before .before .before .before .before .before .pre .1 .wide) _ (c .before .before .before .before .before .seeds .result) _ (c .before .before .before .before .before .seeds .ensures) (c .close .ensures)
+    let c5 = c .before .before .before .before .before in
+    let c6 = c5 .before in
+    related (pool (c6)) (c6 .args .on .now) (c6 .pre .0) (E.Entity 0) (rules (c6)) (compiled-plain (pool (c6)) (c6 .pre .0) (rules (c6)) (c6 .pre .1))
+    (c6 .pre .1 .wide) _ (c5 .seeds .result) _ (c5 .seeds .ensures) (c .close .ensures)
 
 pub relation-spec : {M : Type 1} → statement M
 relation-spec = tie.close (tie.spec (λ c κs. search needs) (λ c κs. search needs) (λ c κs. search needs) returns)

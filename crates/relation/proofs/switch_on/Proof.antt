@@ -23,13 +23,30 @@ readers-of-row-requires : tie.Need-readers-of-row-requires
 readers-of-row-requires c κs = (c .before .pre .2 .head .under .under (c .before .args .i), omega arith)
 
 seed-requires : tie.Need-seed-requires
-seed-requires c κs = (c .before .before .before .before .before .pre .0, c .before .before .before .before .before .pre .1, c .before .before .before .before .before .pre .2 .head, open-bodies (pool (c .before .before .before .before .before)) (c .before .before .before .before .before .args .n) _ (c .before .before .before .before .before .pre .0) (c .before .before .open-table .ensures), c .before .before .before .before .before .pre .4 .sized)
+seed-requires c κs =
+    let c5 = c .before .before .before .before .before in
+    (c5 .pre .0, c5 .pre .1, c5 .pre .2 .head, open-bodies (pool (c5)) (c5 .args .n) _ (c5 .pre .0) (c .before .before .open-table .ensures), c5 .pre .4 .sized)
 
 returns : tie.Need-returns
 returns c = (
   refl,
-  related (pool (c .before .before .before .before .before .before .before .before .before .before)) _ (c .before .before .before .before .before .before .before .before .before .before .pre .0) (E.Entity 0) (rules (c .before .before .before .before .before .before .before .before .before .before)) (compiled-plain (pool (c .before .before .before .before .before .before .before .before .before .before)) (c .before .before .before .before .before .before .before .before .before .before .pre .0) (rules (c .before .before .before .before .before .before .before .before .before .before)) (c .before .before .before .before .before .before .before .before .before .before .pre .2)) (c .before .before .before .before .before .before .before .before .before .before .pre .2 .wide) _ _ _
-      (start-more (pool (c .before .before .before .before .before .before .before .before .before .before)) _ (c .before .before .before .before .before .before .before .before .before .before .pre .0) (c .before .before .before .before .before .before .before .before .before .before .args .on .now) (c .before .before .before .before .before .before .before .before .before .before .args .rows .now) _ (c .before .before .before .before .before .before .before .before .before .before .args .i) (c .before .before .before .before .before .before .before .before .before .before .pre .1) (omega (arith, c .before .before .before .before .before .before .before .before .before .before .pre .3)) refl (c .before .before .before .before .before .before .before .before .before .before .pre .4) (c .before .before .before .before .seed .ensures)) (c .close .ensures),
+  related (pool (c .before .before .before .before .before .before .before .before .before .before)) _
+      (c .before .before .before .before .before .before .before .before .before .before .pre .0) (E.Entity 0)
+      (rules (c .before .before .before .before .before .before .before .before .before .before))
+      (compiled-plain (pool (c .before .before .before .before .before .before .before .before .before .before))
+      (c .before .before .before .before .before .before .before .before .before .before .pre .0)
+      (rules (c .before .before .before .before .before .before .before .before .before .before))
+      (c .before .before .before .before .before .before .before .before .before .before .pre .2))
+      (c .before .before .before .before .before .before .before .before .before .before .pre .2 .wide) _ _ _
+      (start-more (pool (c .before .before .before .before .before .before .before .before .before .before)) _
+      (c .before .before .before .before .before .before .before .before .before .before .pre .0)
+      (c .before .before .before .before .before .before .before .before .before .before .args .on .now)
+      (c .before .before .before .before .before .before .before .before .before .before .args .rows .now) _
+      (c .before .before .before .before .before .before .before .before .before .before .args .i)
+      (c .before .before .before .before .before .before .before .before .before .before .pre .1)
+      (omega (arith, c .before .before .before .before .before .before .before .before .before .before .pre .3)) refl
+      (c .before .before .before .before .before .before .before .before .before .before .pre .4)
+      (c .before .before .before .before .seed .ensures)) (c .close .ensures),
 )
 
 pub switch-on-spec : {M : Type 1} → statement M

@@ -24,7 +24,8 @@ use Rattle.closure.specs.declared.Rules.{Rules}
 use Rattle.closure.specs.laws.Rules.{el, bits, Used, Within, Closed}
 use Rattle.rules.specs.laws.Table.{rowOf, bitOf, rowFor, chosen, Compiled}
 use Rattle.rules.specs.laws.Ruled.{row-plain}
-use Rattle.rules.specs.laws.Exact.{chosen-find, unreach, row-found, bit-found, bit-cases, bit-here, row-for, Truth, from-truth, to-truth, truth-row, truth-model, all-held}
+use Rattle.rules.specs.laws.Exact.{chosen-find, unreach, row-found, bit-found, bit-cases, bit-here, row-for, Truth, from-truth, to-truth, truth-row}
+use Rattle.rules.specs.laws.Exact.{truth-model, all-held}
 use Rattle.relation.specs.laws.Relation.{Relation, Start, ownRole, ownLink, atOnce, Asked, Answers}
 
 not-asked : false ≡ true → {A : Type 0} → A
@@ -47,7 +48,8 @@ module _ (P : Pool) (on : List ℕ) (small : P .count ≤ 128) (e : Expression) 
       let lr : rowOf P a < P .count = r .0 in
       let ha = row-found P small a (omega arith) in
       let hb = bit-found P small b (omega arith) in
-      subst (λ (x : Expression). From (chosen P on) (E.Role a) x) (hb .1) (subst (λ (p : Role). From (chosen P on) (E.Role p) (bodyAt P (bitOf P b))) (ha .1) (r .1))
+      subst (λ (x : Expression). From (chosen P on) (E.Role a) x) (hb .1)
+      (subst (λ (p : Role). From (chosen P on) (E.Role p) (bodyAt P (bitOf P b))) (ha .1) (r .1))
 
   within-true : Within (bits K) Truly
   within-true = closed .grown .least Truly
@@ -101,7 +103,8 @@ module _ (P : Pool) (on : List ℕ) (small : P .count ≤ 128) (K : List ℕ) (r
       let lr : rowOf P a < P .count = r .0 in
       let ha = row-found P small a (omega arith) in
       let hb = bit-found P small b (omega arith) in
-      subst (λ (x : Expression). From (chosen P on) (E.Role a) x) (hb .1) (subst (λ (p : Role). From (chosen P on) (E.Role p) (bodyAt P (bitOf P b))) (ha .1) (r .1))
+      subst (λ (x : Expression). From (chosen P on) (E.Role a) x) (hb .1)
+      (subst (λ (p : Role). From (chosen P on) (E.Role p) (bodyAt P (bitOf P b))) (ha .1) (r .1))
 
 -- What is from e at once
 
@@ -114,8 +117,10 @@ module _ (P : Pool) (on : List ℕ) (small : P .count ≤ 128) (K : List ℕ) (r
   own-says a m (E.Entity b) h = absurd (false-true h)
   own-says a m (E.Role q) h =
       let k = and-parts (eqb (q .name) m) _ h in
-      let l : bitOf P (q .entity) < P .count = ⊎-elim (λ l. l) (λ z. absurd (let s : bitOf P (q .entity) < 128 = bits-below K (rowOf P a) _ (k .1) in omega arith)) (bit-cases P small (q .entity)) in
-      subst (λ (z : ℕ). From (chosen P on) (E.Linked a m) (E.Role (roleOf (q .entity) z))) (sym (eqb-true (q .name) m (k .0))) (linking (member-says P on small K rel a (q .entity) (k .1) l))
+      let l : bitOf P (q .entity) < P .count = ⊎-elim (λ l. l)
+      (λ z. absurd (let s : bitOf P (q .entity) < 128 = bits-below K (rowOf P a) _ (k .1) in omega arith)) (bit-cases P small (q .entity)) in
+      subst (λ (z : ℕ). From (chosen P on) (E.Linked a m) (E.Role (roleOf (q .entity) z))) (sym (eqb-true (q .name) m (k .0)))
+      (linking (member-says P on small K rel a (q .entity) (k .1) l))
   own-says a m (E.Linked p n) h = absurd (false-true h)
   own-says a m (E.Intersection p) h = absurd (false-true h)
   own-says a m (E.Goal n) h = absurd (false-true h)
@@ -141,13 +146,15 @@ module _ (P : Pool) (on : List ℕ) (small : P .count ≤ 128) (K : List ℕ) (r
   own-set a m b y h q = subst (λ (z : Expression). ownRole P K a m z ≡ true) q (and-both _ _ (eq-eqb m m refl) h)
 
   -- a.m is from B.m at once, where B is in a
-  pub once-link : (x : Expression) (a : Role) (m b : ℕ) → x ≡ E.Linked a m → bits K (rowOf P a) (bitOf P b) ≡ true → E.Role (roleOf b m) ≡ e → atOnce P K e x ≡ true
+  pub once-link : (x : Expression) (a : Role) (m b : ℕ) → x ≡ E.Linked a m → bits K (rowOf P a) (bitOf P b) ≡ true → E.Role (roleOf b m) ≡ e
+      → atOnce P K e x ≡ true
   unfolding atOnce
   once-link x a m b q h z = rw q (or-right (same (E.Linked a m) e) _ (own-set a m b e h z))
 
 -- A question: bit 0 of the rows L stands for e
 
-module _ (P : Pool) (on : List ℕ) (small : P .count ≤ 128) (K : List ℕ) (rel : Relation P on K) (e : Expression) (X : Rules) (comp : Compiled P e X) (one : X .words ≡ 1)
+module _ (P : Pool) (on : List ℕ) (small : P .count ≤ 128) (K : List ℕ) (rel : Relation P on K) (e : Expression) (X : Rules) (comp : Compiled P e X)
+    (one : X .words ≡ 1)
     (K₀ L : List ℕ) (asked : Asked P on K e K₀) (closed : Closed X on false K K₀ L) where
   abbrev Truer : ℕ → ℕ → Bool
   Truer = Truth P on small e (λ s. e) true (λ q s. refl)
@@ -157,7 +164,8 @@ module _ (P : Pool) (on : List ℕ) (small : P .count ≤ 128) (K : List ℕ) (r
 
   start-true : Within (bits K₀) Truer
   unfolding Truth
-  start-true = record { within = λ r s h. ⊎-elim (λ q. rw q refl) (λ k. to-truth P on small e (λ s. e) true (λ q s. refl) r s (k .0) (k .1)) (asked .says r s h) }
+  start-true =
+      record { within = λ r s h. ⊎-elim (λ q. rw q refl) (λ k. to-truth P on small e (λ s. e) true (λ q s. refl) r s (k .0) (k .1)) (asked .says r s h) }
 
   within-asked : Within (bits L) Truer
   within-asked = closed .grown .least Truer (truth-model P on small e (λ s. e) true (λ q s. refl) X comp false K members) start-true
@@ -173,8 +181,12 @@ module _ (P : Pool) (on : List ℕ) (small : P .count ≤ 128) (K : List ℕ) (r
   answers =
       record {
         sized = closed .grown .sized;
-        says = λ r h. let k = within-asked .within r 0 h in ⊎-elim (λ z. inl (z .0)) (λ l. inr (l, from-truth P on small e (λ s. e) true (λ q s. refl) r 0 l k)) (truth-row P on small e (λ s. e) true (λ q s. refl) r 0 k);
-        all = λ p h. all-held P on small e (λ s. e) true (λ q s. refl) X (Used X) L (bits K) within-asked comp (λ i l o. closed .model .rule i (rw (comp .count) l) o) (λ s. s ≡ 0) in-zero
+        says =
+            λ r h. let k = within-asked .within r 0 h in ⊎-elim (λ z. inl (z .0))
+            (λ l. inr (l, from-truth P on small e (λ s. e) true (λ q s. refl) r 0 l k)) (truth-row P on small e (λ s. e) true (λ q s. refl) r 0 k);
+        all =
+            λ p h. all-held P on small e (λ s. e) true (λ q s. refl) X (Used X) L (bits K) within-asked comp
+            (λ i l o. closed .model .rule i (rw (comp .count) l) o) (λ s. s ≡ 0) in-zero
             (λ s p v q. rw v (closed .grown .kept .within (rowFor P e p) 0 (asked .own p q)))
             (λ i s l o v q. at-start i s l o v (once-same P on small K rel e (bodyAt P i) q))
             (λ i s l o v k. at-start i s l o v (once-link P on small K rel e (bodyAt P i) (k .0) (k .1) (k .2) (k .3) (k .5) (k .6)))
@@ -204,7 +216,9 @@ module _ (P : Pool) (on : List ℕ) (small : P .count ≤ 128) (K : List ℕ) (r
   answers-entity l =
       record {
         sized = rel .sized;
-        says = λ r h. let z = rel .says r (bitOf P b) h in inr (z .0, subst (λ (y : Expression). From (chosen P on) (E.Role (headAt P r)) y) (bit-found P small b (omega arith) .1) (z .1));
+        says =
+            λ r h. let z = rel .says r (bitOf P b) h in inr
+            (z .0, subst (λ (y : Expression). From (chosen P on) (E.Role (headAt P r)) y) (bit-found P small b (omega arith) .1) (z .1));
         all = λ p h. rw (← row-plain P b p) (rel .all p b l h);
       }
 

@@ -30,7 +30,18 @@ use Rattle.word.specs.laws.Bools.{no-and, bool-iff}
 lead : (r : Raw) → rawOf (expressionOf r) .n0 ≡ r .n0
 lead r = go (eqb (r .kind) 1) (eqb (r .kind) 2) (eqb (r .kind) 3) (eqb (r .kind) 4)
   where
-    go : (t u v w : Bool) → rawOf (pickExpression t (E.Entity (r .n0)) (pickExpression u (E.Role (record { entity = r .n0; name = r .n1 })) (pickExpression v (E.Linked (record { entity = r .n0; name = r .n1 }) (r .n2)) (pickExpression w (E.Intersection (record { count = r .count; first = record { entity = r .n0; name = r .n1 }; second = record { entity = r .n2; name = r .n3 }; third = record { entity = r .n4; name = r .n5 }; fourth = record { entity = r .n6; name = r .n7 } })) (E.Goal (r .n0)))))) .n0 ≡ r .n0
+    go : (t u v w : Bool) → rawOf (pickExpression t (E.Entity (r .n0))
+        (pickExpression u (E.Role (record { entity = r .n0; name = r .n1 }))
+        (pickExpression v (E.Linked (record { entity = r .n0; name = r .n1 }) (r .n2))
+        (pickExpression w (E.Intersection (record {
+          count = r .count;
+          first = record { entity = r .n0; name = r .n1 };
+          second =
+              record { entity = r .n2; name = r .n3 };
+          third = record { entity = r .n4; name = r .n5 };
+          fourth = record { entity = r .n6; name = r .n7 };
+        }))
+        (E.Goal (r .n0)))))) .n0 ≡ r .n0
     go true u v w = refl
     go false true v w = refl
     go false false true w = refl
@@ -40,8 +51,30 @@ lead r = go (eqb (r .kind) 1) (eqb (r .kind) 2) (eqb (r .kind) 3) (eqb (r .kind)
 kind-of : (r : Raw) → rawOf (expressionOf r) .kind < 5 → r .kind ≡ rawOf (expressionOf r) .kind
 kind-of r = go (eqb (r .kind) 1) (eqb (r .kind) 2) (eqb (r .kind) 3) (eqb (r .kind) 4) refl refl refl refl
   where
-    go : (t u v w : Bool) → eqb (r .kind) 1 ≡ t → eqb (r .kind) 2 ≡ u → eqb (r .kind) 3 ≡ v → eqb (r .kind) 4 ≡ w → rawOf (pickExpression t (E.Entity (r .n0)) (pickExpression u (E.Role (record { entity = r .n0; name = r .n1 })) (pickExpression v (E.Linked (record { entity = r .n0; name = r .n1 }) (r .n2)) (pickExpression w (E.Intersection (record { count = r .count; first = record { entity = r .n0; name = r .n1 }; second = record { entity = r .n2; name = r .n3 }; third = record { entity = r .n4; name = r .n5 }; fourth = record { entity = r .n6; name = r .n7 } })) (E.Goal (r .n0)))))) .kind < 5
-        → r .kind ≡ rawOf (pickExpression t (E.Entity (r .n0)) (pickExpression u (E.Role (record { entity = r .n0; name = r .n1 })) (pickExpression v (E.Linked (record { entity = r .n0; name = r .n1 }) (r .n2)) (pickExpression w (E.Intersection (record { count = r .count; first = record { entity = r .n0; name = r .n1 }; second = record { entity = r .n2; name = r .n3 }; third = record { entity = r .n4; name = r .n5 }; fourth = record { entity = r .n6; name = r .n7 } })) (E.Goal (r .n0)))))) .kind
+    go : (t u v w : Bool) → eqb (r .kind) 1 ≡ t → eqb (r .kind) 2 ≡ u → eqb (r .kind) 3 ≡ v → eqb (r .kind) 4 ≡ w
+        → rawOf (pickExpression t (E.Entity (r .n0))
+        (pickExpression u (E.Role (record { entity = r .n0; name = r .n1 }))
+        (pickExpression v (E.Linked (record { entity = r .n0; name = r .n1 }) (r .n2))
+        (pickExpression w (E.Intersection (record {
+          count = r .count;
+          first = record { entity = r .n0; name = r .n1 };
+          second =
+              record { entity = r .n2; name = r .n3 };
+          third = record { entity = r .n4; name = r .n5 };
+          fourth = record { entity = r .n6; name = r .n7 };
+        }))
+        (E.Goal (r .n0)))))) .kind < 5
+        → r .kind ≡ rawOf (pickExpression t (E.Entity (r .n0))
+        (pickExpression u (E.Role (record { entity = r .n0; name = r .n1 }))
+        (pickExpression v (E.Linked (record { entity = r .n0; name = r .n1 }) (r .n2))
+        (pickExpression w (E.Intersection (record {
+          count = r .count;
+          first = record { entity = r .n0; name = r .n1 };
+          second =
+              record { entity = r .n2; name = r .n3 };
+          third = record { entity = r .n4; name = r .n5 };
+          fourth = record { entity = r .n6; name = r .n7 };
+        })) (E.Goal (r .n0)))))) .kind
     go true u v w a b c d l = eqb-true (r .kind) 1 a
     go false true v w a b c d l = eqb-true (r .kind) 2 b
     go false false true w a b c d l = eqb-true (r .kind) 3 c
@@ -54,22 +87,28 @@ module _ (P : Pool) (i : ℕ) (e : Expression) (raw : Raw) (is : raw ≡ rawOf e
   unfolding bodyAt
   body-kind l n = sym (false-of _ (λ h.
       let q = same-eq (bodyAt P i) e h in
-      n (kind-of (rawAtColumns (P .kinds) (P .numbers) i) (subst (λ (x : Expression). rawOf x .kind < 5) (sym q) (subst (λ (r : Raw). r .kind < 5) is l)) ∙ (ap (λ (x : Expression). rawOf x .kind) q ∙ sym (ap (λ (r : Raw). r .kind) is)))))
+      n (kind-of (rawAtColumns (P .kinds) (P .numbers) i)
+      (subst (λ (x : Expression). rawOf x .kind < 5) (sym q) (subst (λ (r : Raw). r .kind < 5) is l))
+      ∙ (ap (λ (x : Expression). rawOf x .kind) q ∙ sym (ap (λ (r : Raw). r .kind) is)))))
 
   -- nor is one that begins with another number
   pub body-lead : (el (P .numbers) (i * 8) ≡ raw .n0 → ⊥) → false ≡ same (bodyAt P i) e
   unfolding bodyAt
-  body-lead n = sym (false-of _ (λ h. n (sym (lead (rawAtColumns (P .kinds) (P .numbers) i)) ∙ (ap (λ (x : Expression). rawOf x .n0) (same-eq (bodyAt P i) e h) ∙ sym (ap (λ (r : Raw). r .n0) is)))))
+  body-lead n =
+      sym (false-of _ (λ h. n (sym (lead (rawAtColumns (P .kinds) (P .numbers) i))
+      ∙ (ap (λ (x : Expression). rawOf x .n0) (same-eq (bodyAt P i) e h) ∙ sym (ap (λ (r : Raw). r .n0) is)))))
 
   body-role : el (P .kinds) (i * 2) ≡ 2 → bodyAt P i ≡ E.Role (roleOf (el (P .numbers) (i * 8)) (el (P .numbers) (i * 8 + 1)))
   unfolding bodyAt
   body-role h = rw h
 
   -- a role is e where both numbers are
-  pub body-two : raw .kind ≡ 2 → el (P .kinds) (i * 2) ≡ raw .kind → el (P .numbers) (i * 8) ≡ raw .n0 → eqb (el (P .numbers) (i * 8 + 1)) (raw .n1) ≡ same (bodyAt P i) e
+  pub body-two : raw .kind ≡ 2 → el (P .kinds) (i * 2) ≡ raw .kind → el (P .numbers) (i * 8) ≡ raw .n0
+      → eqb (el (P .numbers) (i * 8 + 1)) (raw .n1) ≡ same (bodyAt P i) e
   body-two k g n = rw (body-role (g ∙ k), is) (go e (rw is at k) (rw is at n))
     where
-      go : (e : Expression) → rawOf e .kind ≡ 2 → el (P .numbers) (i * 8) ≡ rawOf e .n0 → eqb (el (P .numbers) (i * 8 + 1)) (rawOf e .n1) ≡ same (E.Role (roleOf (el (P .numbers) (i * 8)) (el (P .numbers) (i * 8 + 1)))) e
+      go : (e : Expression) → rawOf e .kind ≡ 2 → el (P .numbers) (i * 8) ≡ rawOf e .n0
+          → eqb (el (P .numbers) (i * 8 + 1)) (rawOf e .n1) ≡ same (E.Role (roleOf (el (P .numbers) (i * 8)) (el (P .numbers) (i * 8 + 1)))) e
       go (E.Entity b) k n = absurd (omega arith)
       go (E.Role q) k n = bool-iff _ _ (λ h. eq-same _ _ (λ j. E.Role (record { entity = n j; name = eqb-true (el (P .numbers) (i * 8 + 1)) (q .name) h j })))
           (λ h. eq-eqb _ _ (ap (λ (x : Expression). rawOf x .n1) (same-eq _ _ h)))
@@ -129,7 +168,8 @@ module _ (P : Pool) (K : List ℕ) (i : ℕ) (e : Expression) where
       over (E.Goal m) = refl
 
   -- a link with the name of e does where the membership row has the bit
-  pub own-is : (s f : ℕ) {t : Bool} → el (P .kinds) (i * 2) ≡ 3 → el (P .numbers) (i * 8 + 2) ≡ rawOf e .n1 → s ≡ ownBit P e → s < 128 → f ≡ bodyFirst P i → t ≡ bits K f s → t ≡ ownLink P K e (bodyAt P i)
+  pub own-is : (s f : ℕ) {t : Bool} → el (P .kinds) (i * 2) ≡ 3 → el (P .numbers) (i * 8 + 2) ≡ rawOf e .n1 → s ≡ ownBit P e → s < 128
+      → f ≡ bodyFirst P i → t ≡ bits K f s → t ≡ ownLink P K e (bodyAt P i)
   own-is s f {t} h n q l g k = rw (body-link h) (go e n q)
     where
       first : f ≡ rowOf P A

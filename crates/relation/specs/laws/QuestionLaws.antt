@@ -53,7 +53,8 @@ module _ (P : Pool) (e : Expression) (p : Role) (old : ℕ) (q : old ≡ rowOf P
 
 module _ (P : Pool) (e : Expression) (i : ℕ) (old : Four) (q : old ≡ fourRows (rowOf P) (bodyAt P i)) where
   -- rows of heads are kept
-  pub asked-heads : (not (eqb (old .a) 128) && (not (eqb (old .b) 128) && (not (eqb (old .c) 128) && not (eqb (old .d) 128)))) ≡ true → old ≡ fourRows (rowFor P e) (bodyAt P i)
+  pub asked-heads : (not (eqb (old .a) 128) && (not (eqb (old .b) 128) && (not (eqb (old .c) 128) && not (eqb (old .d) 128)))) ≡ true
+      → old ≡ fourRows (rowFor P e) (bodyAt P i)
   asked-heads h =
       let x = and-parts _ _ h in
       let y = and-parts _ _ (x .1) in
@@ -71,9 +72,23 @@ module _ (P : Pool) (e : Expression) (i : ℕ) (old : Four) (q : old ≡ fourRow
 
           go : (x : Expression) → old ≡ fourRows (rowOf P) x → old ≡ fourRows (rowFor P e) x
           go (E.Entity b) z = z
-          go (E.Role p) z = λ j. record { a = kept p _ (ap (λ (r : Four). r .a) z) a j; b = kept p _ (ap (λ (r : Four). r .b) z) b j; c = kept p _ (ap (λ (r : Four). r .c) z) c j; d = kept p _ (ap (λ (r : Four). r .d) z) d j }
+          go (E.Role p) z =
+              λ j. record {
+                a = kept p _ (ap (λ (r : Four). r .a) z) a j;
+                b = kept p _ (ap (λ (r : Four). r .b) z) b j;
+                c = kept p _
+                    (ap (λ (r : Four). r .c) z) c j;
+                d = kept p _ (ap (λ (r : Four). r .d) z) d j;
+              }
           go (E.Linked p m) z = z
-          go (E.Intersection p) z = λ j. record { a = kept (p .first) _ (ap (λ (r : Four). r .a) z) a j; b = kept (p .second) _ (ap (λ (r : Four). r .b) z) b j; c = kept (third p) _ (ap (λ (r : Four). r .c) z) c j; d = kept (fourth p) _ (ap (λ (r : Four). r .d) z) d j }
+          go (E.Intersection p) z =
+              λ j. record {
+                a = kept (p .first) _ (ap (λ (r : Four). r .a) z) a j;
+                b = kept (p .second) _ (ap (λ (r : Four). r .b) z) b j;
+                c = kept
+                    (third p) _ (ap (λ (r : Four). r .c) z) c j;
+                d = kept (fourth p) _ (ap (λ (r : Four). r .d) z) d j;
+              }
           go (E.Goal m) z = z
 
   -- the rule of an entity has no rows
@@ -129,7 +144,8 @@ same-entity : (a b : ℕ) → E.Entity a ≡ E.Entity b → a ≡ b
 same-entity a b e = cc
 
 -- a body that is an entity says its bit
-pub seed-mark : (P : Pool) (i : ℕ) (K : List ℕ) (b r s : ℕ) (K′ : List ℕ) → bodyAt P i ≡ E.Entity b → r ≡ rowOf P (headAt P i) → s ≡ bitOf P b → Marked K r s K′ → Seeded P i K K′
+pub seed-mark : (P : Pool) (i : ℕ) (K : List ℕ) (b r s : ℕ) (K′ : List ℕ) → bodyAt P i ≡ E.Entity b → r ≡ rowOf P (headAt P i) → s ≡ bitOf P b
+    → Marked K r s K′ → Seeded P i K K′
 seed-mark P i K b r s K′ q hr hs m =
     record {
       sized = m .sized;
@@ -144,7 +160,8 @@ body-bit P small i b s l q h = let k : bitOf P b < P .count = bit-here P small b
 
 module _ (P : Pool) (on : List ℕ) (small : P .count ≤ 128) where
   -- what is seeded is true
-  seed-true : (i : ℕ) → i < P .count → el on i ≡ 1 → (r s b : ℕ) → bodyAt P i ≡ E.Entity b → r ≡ rowOf P (headAt P i) → s ≡ bitOf P b → (r < P .count) × From (chosen P on) (E.Role (headAt P r)) (bodyAt P s)
+  seed-true : (i : ℕ) → i < P .count → el on i ≡ 1 → (r s b : ℕ) → bodyAt P i ≡ E.Entity b → r ≡ rowOf P (headAt P i) → s ≡ bitOf P b
+      → (r < P .count) × From (chosen P on) (E.Role (headAt P r)) (bodyAt P s)
   unfolding chosen
   seed-true i l o r s b q hr hs =
       let f = row-here P small (headAt P i) i l refl in
@@ -186,7 +203,9 @@ module _ (P : Pool) (on : List ℕ) (small : P .count ≤ 128) where
   start-more was K K′ i l room q rel new =
       record {
         sized = new .sized;
-        says = λ r s z. ⊎-elim (λ y. let k = rel .says r s y in (k .0, more keep (k .1))) (λ y. seed-true i l here r s (y .0) (y .1) (y .2) (y .3)) (new .says r s z);
+        says =
+            λ r s z. ⊎-elim (λ y. let k = rel .says r s y in (k .0, more keep (k .1))) (λ y. seed-true i l here r s (y .0) (y .1) (y .2) (y .3))
+            (new .says r s z);
         seeds = λ j b m p w. go j b m p w (eqb j i) refl;
       }
     where
@@ -220,7 +239,9 @@ module _ (P : Pool) (on K : List ℕ) (small : P .count ≤ 128) (rel : Relation
   asked-start r N K₀ none own m =
       record {
         sized = m .sized;
-        says = λ q t z. ⊎-elim (λ y. absurd (no-bits 260 q t (rw none at y))) (λ y. ⊎-elim (λ w. inl (y .0 ∙ w)) (λ w. inr (rw (y .0) (w .0), rw (y .0) (rw (w .1) reflexive))) (own .says)) (m .says q t z);
+        says =
+            λ q t z. ⊎-elim (λ y. absurd (no-bits 260 q t (rw none at y)))
+            (λ y. ⊎-elim (λ w. inl (y .0 ∙ w)) (λ w. inr (rw (y .0) (w .0), rw (y .0) (rw (w .1) reflexive))) (own .says)) (m .says q t z);
         own = λ p q. rw (← own .own p q) (m .here);
         seeds = λ i l. absurd (omega arith);
       }
@@ -230,7 +251,8 @@ module _ (P : Pool) (on K : List ℕ) (small : P .count ≤ 128) (rel : Relation
   starts-parts i h k = let r = and-parts (eqb (el on i) 1) _ (sym h ∙ k) in (eqb-true (el on i) 1 (r .0), r .1)
 
   -- credential k starts: its head's row is marked
-  pub asked-add : (k r : ℕ) (K₀ K₁ : List ℕ) {b : Bool} → k < P .count → b ≡ startsAt P on K e k → b ≡ true → r ≡ rowOf P (headAt P k) → Marked K₀ r 0 K₁ → AskedTo P on K e k K₀ → AskedTo P on K e (k + 1) K₁
+  pub asked-add : (k r : ℕ) (K₀ K₁ : List ℕ) {b : Bool} → k < P .count → b ≡ startsAt P on K e k → b ≡ true → r ≡ rowOf P (headAt P k)
+      → Marked K₀ r 0 K₁ → AskedTo P on K e k K₀ → AskedTo P on K e (k + 1) K₁
   unfolding chosen
   asked-add k r K₀ K₁ l h w hr m inv =
       let s = starts-parts k h w in
@@ -238,7 +260,12 @@ module _ (P : Pool) (on K : List ℕ) (small : P .count ≤ 128) (rel : Relation
       record {
         sized = m .sized;
         says = λ q t z. ⊎-elim (λ y. inv .says q t y)
-            (λ y. inr (rw (y .0 ∙ hr) (f .0), rw (y .0 ∙ hr) (rw (f .1) (transitive (credential (chosen-mem P on (P .count) k l (s .0))) (once-says P on small K rel e (bodyAt P k) (s .1)))))) (m .says q t z);
+            (λ y. inr (
+              rw (y .0 ∙ hr) (f .0),
+              rw (y .0 ∙ hr)
+                  (rw (f .1) (transitive (credential (chosen-mem P on (P .count) k l (s .0))) (once-says P on small K rel e (bodyAt P k) (s .1)))),
+            ))
+            (m .says q t z);
         own = λ p q. m .kept .within _ _ (inv .own p q);
         seeds = λ i n o a. go i n o a (eqb i k) refl;
       }

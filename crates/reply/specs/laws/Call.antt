@@ -28,12 +28,14 @@ use Rattle.reply.specs.laws.Reply.{Replies}
 use Rattle.numbers.specs.Answer.{Answer, refused, accepted, answerOf, bufferAfter}
 use Rattle.numbers.specs.laws.Answer.{isAccepted, firstOf}
 use Rattle.standing.specs.Buffers.{scratchLeft}
+use Rattle.numbers.specs.Refusals.{LENGTH}
+use Rattle.numbers.specs.Sizes.{NEGOTIATION-BYTES, SCRATCH-BYTES}
 
 -- Tables that stand are sound
 
 standing-sound : (tables negotiation : List ℕ) (T : Tables) (S : State) → R.restoreOf tables negotiation ≡ accepted (T, S) → Sound T
 unfolding R.restoreOf
-standing-sound tables negotiation T S e = by-length (eqb (length negotiation) 5120) e
+standing-sound tables negotiation T S e = by-length (eqb (length negotiation) NEGOTIATION-BYTES) e
   where
     by-damage : (U : Tables) (o : Option State) → C.readTables tables ≡ accepted U → R.behindDamage U o ≡ accepted (T, S) → Sound T
     by-damage U none q h = absurd (false-true (ap isAccepted h))
@@ -43,7 +45,7 @@ standing-sound tables negotiation T S e = by-length (eqb (length negotiation) 51
     by-tables (refused k) q h = absurd (false-true (ap isAccepted h))
     by-tables (accepted U) q h = by-damage U (readSound U negotiation) q h
 
-    by-length : (b : Bool) → cond b (R.behindTables negotiation (C.readTables tables)) (refused 1) ≡ accepted (T, S) → Sound T
+    by-length : (b : Bool) → cond b (R.behindTables negotiation (C.readTables tables)) (refused LENGTH) ≡ accepted (T, S) → Sound T
     by-length true h = by-tables (C.readTables tables) refl h
     by-length false h = absurd (false-true (ap isAccepted h))
 
@@ -51,14 +53,17 @@ standing-sound tables negotiation T S e = by-length (eqb (length negotiation) 51
 
 -- what a call leaves
 abbrev Leaves : List ℕ → List ℕ → List ℕ → Answer (List ℕ × State) → ℕ → List ℕ → List ℕ → List ℕ → Type 0
-Leaves negotiation reply scratch o r n p s = (r ≡ answerOf lengthOf o) × ((n ≡ bufferAfter givenState negotiation o) × ((p ≡ replyLeft reply o) × (s ≡ scratchLeft scratch o)))
+Leaves negotiation reply scratch o r n p s =
+    (r ≡ answerOf lengthOf o) × ((n ≡ bufferAfter givenState negotiation o) × ((p ≡ replyLeft reply o) × (s ≡ scratchLeft scratch o)))
 
 module _ (tables negotiation reply scratch : List ℕ) where
-  by-size : (b : Bool) → replySize (length reply) (length scratch) ≡ b → (s : Answer (Tables × State)) → R.restoreOf tables negotiation ≡ s → replyOf tables negotiation reply scratch ≡ cond b (behindStanding s) (refused 1)
+  by-size : (b : Bool) → replySize (length reply) (length scratch) ≡ b → (s : Answer (Tables × State)) → R.restoreOf tables negotiation ≡ s
+      → replyOf tables negotiation reply scratch ≡ cond b (behindStanding s) (refused LENGTH)
   unfolding replyOf
-  by-size b x s y = λ i. cond (x i) (behindStanding (y i)) (refused 1)
+  by-size b x s y = λ i. cond (x i) (behindStanding (y i)) (refused LENGTH)
 
-  refuses : (k : ℕ) {p : List ℕ} → replyOf tables negotiation reply scratch ≡ refused k → p ≡ reply → Leaves negotiation reply scratch (replyOf tables negotiation reply scratch) k negotiation p scratch
+  refuses : (k : ℕ) {p : List ℕ} → replyOf tables negotiation reply scratch ≡ refused k → p ≡ reply
+      → Leaves negotiation reply scratch (replyOf tables negotiation reply scratch) k negotiation p scratch
   refuses k {p} e q = subst (λ (o : Answer (List ℕ × State)). Leaves negotiation reply scratch o k negotiation p scratch) (sym e) (refl, (refl, (q, refl)))
 
   module _ {b : Bool} (be : b ≡ replySize (length reply) (length scratch)) where
@@ -73,19 +78,24 @@ module _ (tables negotiation reply scratch : List ℕ) where
       pub size-parts : (4096 ≤ length reply) × (length scratch ≡ 4096)
       unfolding replySize
       size-parts =
-          let p = and-parts (leb 4096 (length reply)) (eqb (length scratch) 4096) sized in
-          (leb-true 4096 (length reply) (p .0), eqb-true (length scratch) 4096 (p .1))
+          let p = and-parts (leb 4096 (length reply)) (eqb (length scratch) SCRATCH-BYTES) sized in
+          (leb-true 4096 (length reply) (p .0), eqb-true (length scratch) SCRATCH-BYTES (p .1))
 
       module _ (r : Restored) (re : standingOf r ≡ R.restoreOf tables negotiation) where
         -- the tables or the negotiation
-        pub reply-unrestored : (r .refusal ≡ 0 → ⊥) → Leaves negotiation reply scratch (replyOf tables negotiation reply scratch) (r .refusal) negotiation reply scratch
+        pub reply-unrestored : (r .refusal ≡ 0 → ⊥)
+            → Leaves negotiation reply scratch (replyOf tables negotiation reply scratch) (r .refusal) negotiation reply scratch
         unfolding standingOf
-        reply-unrestored h = refuses (r .refusal) (by-size true sized (refused (r .refusal)) (sym re ∙ ap (λ (b : Bool). cond b (accepted (tablesOf (r .house), stateOf (r .negotiation))) (refused (r .refusal))) (ne-eqb (r .refusal) 0 h))) refl
+        reply-unrestored h =
+            refuses (r .refusal) (by-size true sized (refused (r .refusal))
+            (sym re ∙ ap (λ (b : Bool). cond b (accepted (tablesOf (r .house), stateOf (r .negotiation))) (refused (r .refusal)))
+            (ne-eqb (r .refusal) 0 h))) refl
 
         module _ (rz : r .refusal ≡ 0) where
           stands : R.restoreOf tables negotiation ≡ accepted (tablesOf (r .house), stateOf (r .negotiation))
           unfolding standingOf
-          stands = sym re ∙ ap (λ (b : Bool). cond b (accepted (tablesOf (r .house), stateOf (r .negotiation))) (refused (r .refusal))) (eq-eqb (r .refusal) 0 rz)
+          stands =
+              sym re ∙ ap (λ (b : Bool). cond b (accepted (tablesOf (r .house), stateOf (r .negotiation))) (refused (r .refusal))) (eq-eqb (r .refusal) 0 rz)
 
           pub restored-sound : Sound (tablesOf (r .house))
           restored-sound = standing-sound tables negotiation (tablesOf (r .house)) (stateOf (r .negotiation)) stands
@@ -95,12 +105,15 @@ module _ (tables negotiation reply scratch : List ℕ) where
             is-outcome = by-size true sized (accepted (tablesOf (r .house), stateOf (r .negotiation))) stands
 
             -- the end or the turn
-            pub reply-refused : (t .refusal ≡ 0 → ⊥) → Leaves negotiation reply scratch (replyOf tables negotiation reply scratch) (t .refusal) negotiation p scratch
+            pub reply-refused : (t .refusal ≡ 0 → ⊥)
+                → Leaves negotiation reply scratch (replyOf tables negotiation reply scratch) (t .refusal) negotiation p scratch
             reply-refused h = refuses (t .refusal) (is-outcome ∙ te .refuses h .0) (te .refuses h .1)
 
             pub reply-given : {n s : List ℕ} → t .refusal ≡ 0 → n ≡ stateBytes (stateOf (t .negotiation)) → s ≡ pasted scratch 0 (zeros (4096 - 0))
                 → Leaves negotiation reply scratch (replyOf tables negotiation reply scratch) (t .at * 256) n p s
             reply-given {n} {s} tz ne se =
                 let l : length scratch ≡ 4096 = size-parts .1 in
-                subst (λ (o : Answer (List ℕ × State)). Leaves negotiation reply scratch o (t .at * 256) n p s) (sym (is-outcome ∙ te .gives tz))
-                (ap (λ (k : ℕ). k * 256) (te .size tz), (ne, (te .written tz, se ∙ paste-whole scratch (zeros 4096) (length-zeros 4096 ∙ sym l) ∙ ap zeros (sym l))))
+                subst (λ (o : Answer (List ℕ × State)). Leaves negotiation reply scratch o (t .at * 256) n p s) (sym (is-outcome ∙ te .gives tz)) (
+                  ap (λ (k : ℕ). k * 256) (te .size tz),
+                  (ne, (te .written tz, se ∙ paste-whole scratch (zeros 4096) (length-zeros 4096 ∙ sym l) ∙ ap zeros (sym l))),
+                )

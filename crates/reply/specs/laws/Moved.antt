@@ -40,7 +40,8 @@ Moves cs = (cs ≡ []) ⊎ (moved cs ≡ true)
 
 moved-front : (a b : List Command) → moved a ≡ true → moved (a ++ b) ≡ true
 moved-front [] b h = absurd (false-true h)
-moved-front (c ∷ a) b h = ⊎-elim (λ z. or-left (isMove c) (moved (a ++ b)) z) (λ z. or-right (isMove c) (moved (a ++ b)) (moved-front a b z)) (or-cases (isMove c) (moved a) h)
+moved-front (c ∷ a) b h =
+    ⊎-elim (λ z. or-left (isMove c) (moved (a ++ b)) z) (λ z. or-right (isMove c) (moved (a ++ b)) (moved-front a b z)) (or-cases (isMove c) (moved a) h)
 
 moves-append : (a b : List Command) → Moves a → Moves b → Moves (a ++ b)
 moves-append a b (inl z) m = subst (λ (x : List Command). Moves (x ++ b)) (sym z) m
@@ -84,7 +85,8 @@ rest-moves (suc f) T S at = go (nextIn T S at) refl (λ U k. rest-moves f T U k)
         → Moves (goOn (λ m. behind m (restFrom f T (carried (S .header .side) S m) (at + length (bytesOf m)))) S n .commands)
     go (stops b) e ih = inl refl
     go (goes m) e ih =
-        moves-append m (restFrom f T (carried (S .header .side) S m) (at + length (bytesOf m)) .commands) (subst Moves (sym (next-fits T S at m e .next)) (next-moves (endIn T S))) (ih (carried (S .header .side) S m) (at + length (bytesOf m)))
+        moves-append m (restFrom f T (carried (S .header .side) S m) (at + length (bytesOf m)) .commands)
+        (subst Moves (sym (next-fits T S at m e .next)) (next-moves (endIn T S))) (ih (carried (S .header .side) S m) (at + length (bytesOf m)))
 
 opening-moves : (T : Tables) (S : State) → Moves (opening T S)
 opening-moves T S = go (eqb (length (S .nodes)) 0) _
@@ -98,12 +100,14 @@ unfolding replyIn
 reply-moves T S =
     let U : State = carried (S .header .side) S (opening T S) in
     let k : ℕ = length (bytesOf (opening T S)) in
-    subst (λ (r : Replied). Moves (r .commands)) (sym (from-rest 4096 T U (opening T S))) (moves-append (opening T S) (restFrom 4096 T U k .commands) (opening-moves T S) (rest-moves 4096 T U k))
+    subst (λ (r : Replied). Moves (r .commands)) (sym (from-rest 4096 T U (opening T S)))
+    (moves-append (opening T S) (restFrom 4096 T U k .commands) (opening-moves T S) (rest-moves 4096 T U k))
 
 moved-bytes : (cs : List Command) → Moves cs → moved cs ≡ not (eqb (length (bytesOf cs)) 0)
 moved-bytes [] m = refl
 moved-bytes (c ∷ cs) (inl z) = absurd (omega (arith, ap length z))
-moved-bytes (c ∷ cs) (inr z) = z ∙ sym (ap not (ne-eqb (length (bytesOf (c ∷ cs))) 0 (λ y. omega (arith, y, length-append (commandBytes c) (bytesOf cs), command-length c, size-some c))))
+moved-bytes (c ∷ cs) (inr z) =
+    z ∙ sym (ap not (ne-eqb (length (bytesOf (c ∷ cs))) 0 (λ y. omega (arith, y, length-append (commandBytes c) (bytesOf cs), command-length c, size-some c))))
 
 -- it was sent where the reply has bytes
 pub reply-moved : (T : Tables) (S : State) {k : ℕ} → k ≡ length (bytesOf (replyIn T S .commands)) → not (eqb k 0) ≡ moved (replyIn T S .commands)

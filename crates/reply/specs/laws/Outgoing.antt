@@ -33,6 +33,7 @@ use Rattle.message.specs.Message.{bytesOf}
 use Rattle.moves.specs.declared.Outgoing.{Outgoing}
 use Rattle.moves.specs.laws.Own.{commandsOf}
 use Rattle.moves.specs.Carried.{carried, hasRoomFor}
+use Rattle.numbers.specs.Sizes.{MOST-SHOWN}
 
 -- 1 where a flag is on
 unfoldable pub oneIf : ℕ → ℕ
@@ -88,7 +89,9 @@ shows-append (c ∷ a) b = ap (λ (l : List Command). Show c ∷ l) (shows-appen
 
 pub shows-length : (cs : List Credential) → length (bytesOf (shows cs)) ≡ 23 * length cs
 shows-length [] = refl
-shows-length (c ∷ cs) = let z : length (bytesOf (shows cs)) ≡ 23 * length cs = shows-length cs in omega (arith, length-append (commandBytes (Show c)) (bytesOf (shows cs)), command-length (Show c))
+shows-length (c ∷ cs) =
+    let z : length (bytesOf (shows cs)) ≡ 23 * length cs = shows-length cs in omega
+    (arith, length-append (commandBytes (Show c)) (bytesOf (shows cs)), command-length (Show c))
 
 -- to whichever side they are shown
 pub side-carried : (s t : ℕ) (S : State) (cs : List Credential) → carried s S (shows cs) ≡ carried t S (shows cs)
@@ -139,7 +142,9 @@ module _ (P : Pool) (on : List ℕ) {n k : ℕ} (c : Counted P on n k) where
   pub counted-next : {d : ℕ} → k < P .count → d ≡ oneIf (el on k) → Counted P on (n + d) (k + 1)
   counted-next {d} l e =
       record {
-        counted = omega (arith, c .counted, e, length-append (chosenTo P on k) (onAt P (el on k) k), on-length P (el on k) k) ∙ ap (λ (m : ℕ). length (chosenTo P on m)) (sym (add-one k));
+        counted =
+            omega (arith, c .counted, e, length-append (chosenTo P on k) (onAt P (el on k) k), on-length P (el on k) k)
+            ∙ ap (λ (m : ℕ). length (chosenTo P on m)) (sym (add-one k));
         few = omega (arith, c .few, e, one-few (el on k));
         inside = omega (arith, l);
       }
@@ -186,24 +191,26 @@ room-by S End = refl
 pub room-of : (nodes edges shown : ℕ) (c k : Command) {b : Bool} → c ≡ k → b ≡ roomBy nodes edges shown k → b ≡ roomBy nodes edges shown c
 room-of nodes edges shown c k h e = e ∙ ap (roomBy nodes edges shown) (sym h)
 
-pub room-of-bring : (nodes edges shown : ℕ) (c : Command) (b : NewEdge) {p : ℕ} → c ≡ Bring b → p ≡ b .parent → (ltb p nodes && ltb nodes 128 && ltb edges 256) ≡ roomBy nodes edges shown c
+pub room-of-bring : (nodes edges shown : ℕ) (c : Command) (b : NewEdge) {p : ℕ} → c ≡ Bring b → p ≡ b .parent
+    → (ltb p nodes && ltb nodes 128 && ltb edges 256) ≡ roomBy nodes edges shown c
 room-of-bring nodes edges shown c b h e = ap (λ (p : ℕ). ltb p nodes && ltb nodes 128 && ltb edges 256) e ∙ ap (roomBy nodes edges shown) (sym h)
 
 pub room-of-mark : (nodes edges shown : ℕ) (c : Command) (i : ℕ) {p : ℕ} → c ≡ Mark i → p ≡ i → ltb p nodes ≡ roomBy nodes edges shown c
 room-of-mark nodes edges shown c i h e = ap (λ (p : ℕ). ltb p nodes) e ∙ ap (roomBy nodes edges shown) (sym h)
 
-room-past : (s : ℕ) (S : State) (cs : List Credential) (c : Command) → length (S .shown) ≤ 64 → 64 < length (S .shown) + length cs → hasRoomFor s S (shows cs ++ (c ∷ [])) ≡ false
+room-past : (s : ℕ) (S : State) (cs : List Credential) (c : Command) → length (S .shown) ≤ MOST-SHOWN → 64 < length (S .shown) + length cs
+    → hasRoomFor s S (shows cs ++ (c ∷ [])) ≡ false
 unfolding hasRoom stepped withShown
 room-past s S [] c few past = absurd (omega (arith, few, past))
-room-past s S (d ∷ cs) c few past = go (ltb (length (S .shown)) 64) refl (λ x y. room-past s (withShown S d) cs c x y)
+room-past s S (d ∷ cs) c few past = go (ltb (length (S .shown)) MOST-SHOWN) refl (λ x y. room-past s (withShown S d) cs c x y)
   where
     more : length (S .shown ++ (d ∷ [])) ≡ length (S .shown) + 1
     more = length-append (S .shown) (d ∷ [])
 
-    go : (b : Bool) → ltb (length (S .shown)) 64 ≡ b
+    go : (b : Bool) → ltb (length (S .shown)) MOST-SHOWN ≡ b
         → (length (S .shown ++ (d ∷ [])) ≤ 64 → 64 < length (S .shown ++ (d ∷ [])) + length cs → hasRoomFor s (withShown S d) (shows cs ++ (c ∷ [])) ≡ false)
         → (b && hasRoomFor s (withShown S d) (shows cs ++ (c ∷ []))) ≡ false
-    go true e ih = ih (omega (arith, more, ltb-true (length (S .shown)) 64 e)) (omega (arith, more, past))
+    go true e ih = ih (omega (arith, more, ltb-true (length (S .shown)) MOST-SHOWN e)) (omega (arith, more, past))
     go false e ih = refl
 
 room-behind : (s : ℕ) (S : State) (cs : List Credential) (c : Command) → length (S .shown) + length cs ≤ 64
@@ -212,7 +219,7 @@ unfolding hasRoom stepped withShown
 room-behind s S [] c few = and-true (hasRoom S c) ∙ room-by S c ∙ ap (λ (n : ℕ). roomBy (length (S .nodes)) (length (S .edges)) n c) (omega arith)
 room-behind s S (d ∷ cs) c few =
     let more : length (S .shown ++ (d ∷ [])) ≡ length (S .shown) + 1 = length-append (S .shown) (d ∷ []) in
-    ap (λ (b : Bool). b && hasRoomFor s (withShown S d) (shows cs ++ (c ∷ []))) (lt-ltb (length (S .shown)) 64 (omega (arith, few)))
+    ap (λ (b : Bool). b && hasRoomFor s (withShown S d) (shows cs ++ (c ∷ []))) (lt-ltb (length (S .shown)) MOST-SHOWN (omega (arith, few)))
     ∙ room-behind s (withShown S d) cs c (omega (arith, more, few))
     ∙ ap (λ (n : ℕ). roomBy (length (S .nodes)) (length (S .edges)) n c) (omega (arith, more))
 
@@ -220,7 +227,9 @@ module _ (n : Negotiation) (r : Outgoing) (w : within (stateOf n) ≡ true) {k :
   -- too many are shown
   pub room-none : 64 < n .shown .count + k → false ≡ hasRoomFor (n .header .side) (stateOf n) (commandsOf r)
   unfolding stateOf commandsOf
-  room-none l = sym (room-past (n .header .side) (stateOf n) (chosen (r .pool) (r .on)) (r .command) (omega (arith, count-length (n .shown), within-few n w .2)) (omega (arith, count-length (n .shown), ke, l)))
+  room-none l =
+      sym (room-past (n .header .side) (stateOf n) (chosen (r .pool) (r .on)) (r .command) (omega (arith, count-length (n .shown), within-few n w .2))
+      (omega (arith, count-length (n .shown), ke, l)))
 
   pub room-left : {b : Bool} → n .shown .count + k ≤ 64 → b ≡ roomBy (n .nodes .count) (n .edges .count) (n .shown .count + k) (r .command)
       → b ≡ hasRoomFor (n .header .side) (stateOf n) (commandsOf r)
@@ -249,16 +258,19 @@ module _ (P : Pool) (k : ℕ) (S : State) (d : List ℕ) (at : ℕ) where
     unfolding stepped
     show-on {c} ce ee re = (
       re ∙ ap (withShown S) ce ∙ ap (λ (l : List Credential). carried 0 S (shows l)) is-on,
-      ee ∙ ap (λ (x : Credential). pasted d at (commandBytes (Show x))) ce ∙ ap (pasted d at) (sym (append-nil (commandBytes (Show (credentialAt P k))))) ∙ ap (λ (l : List Credential). pasted d at (bytesOf (shows l))) is-on,
+      ee ∙ ap (λ (x : Credential). pasted d at (commandBytes (Show x))) ce
+          ∙ ap (pasted d at) (sym (append-nil (commandBytes (Show (credentialAt P k))))) ∙ ap (λ (l : List Credential). pasted d at (bytesOf (shows l))) is-on,
     )
 
     pub show-bytes : at + length (bytesOf (shows (onAt P flag k))) ≤ length d → at + 23 ≤ length d
     show-bytes l = omega (arith, l, ap (λ (m : List Credential). length (bytesOf (shows m))) is-on, one-length (Show (credentialAt P k)))
 
-pub show-free : (P : Pool) (k : ℕ) (n : Negotiation) (flag : ℕ) → flag ≡ 1 → hasRoomFor 0 (stateOf n) (shows (onAt P flag k)) ≡ true → n .shown .count < 64
+pub show-free : (P : Pool) (k : ℕ) (n : Negotiation) (flag : ℕ) → flag ≡ 1 → hasRoomFor 0 (stateOf n) (shows (onAt P flag k)) ≡ true
+    → n .shown .count < MOST-SHOWN
 unfolding hasRoom stateOf
 show-free P k n flag h room =
-    let z : (hasRoom (stateOf n) (Show (credentialAt P k)) && true) ≡ true = ap (λ (l : List Credential). hasRoomFor 0 (stateOf n) (shows l)) (is-on P k (stateOf n) [] 0 flag h) ∙ room in
+    let z : (hasRoom (stateOf n) (Show (credentialAt P k)) && true)
+    ≡ true = ap (λ (l : List Credential). hasRoomFor 0 (stateOf n) (shows l)) (is-on P k (stateOf n) [] 0 flag h) ∙ room in
     omega (arith, count-length (n .shown), ltb-true (length (credentials (n .shown))) 64 (sym (and-true (hasRoom (stateOf n) (Show (credentialAt P k)))) ∙ z))
 
 -- All that are on

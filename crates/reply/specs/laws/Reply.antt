@@ -48,13 +48,15 @@ use Rattle.reply.specs.laws.Writing.{Gives}
 use Rattle.reply.specs.laws.Moved.{reply-moved}
 use Rattle.reply.specs.laws.ReplyLegal.{first-side, no-messages, reply-updates}
 use Rattle.numbers.specs.Answer.{refused, accepted}
+use Rattle.numbers.specs.Refusals.{TURN, ENDED}
 
 -- The open
 
 abbrev pub firstOpen : List Name → Role → Command
 firstOpen ns wanted = Open (record { role = wanted; state = initialState ns true (E.Role wanted) })
 
-pub first-is : (H : House) (wanted : Role) {s : ℕ} → s ≡ initialState (namesOf (H .names)) true (E.Role wanted) → Open (record { role = wanted; state = s }) ≡ firstOpen (tablesOf H .names) wanted
+pub first-is : (H : House) (wanted : Role) {s : ℕ} → s ≡ initialState (namesOf (H .names)) true (E.Role wanted)
+    → Open (record { role = wanted; state = s }) ≡ firstOpen (tablesOf H .names) wanted
 unfolding tablesOf
 first-is H wanted e = λ i. Open (record { role = wanted; state = e i })
 
@@ -93,10 +95,12 @@ module _ (T : Tables) (n : Negotiation) where
       unfolding hasRoom stateOf
       open-room = ap (hasRoom (stateOf n)) ce ∙ lt-ltb (length (nodesOf (n .nodes))) 128 (omega (arith, nodes-length (n .nodes), z))
 
-      pub begins-open : {d e : List ℕ} (m : Negotiation) {k : ℕ} (r : Replying) → e ≡ pasted d 0 (commandBytes c) → stateOf m ≡ stepped (stateOf n) (n .header .side) c → k ≡ sizeOf c → r .negotiation ≡ m → r .at ≡ k → Begins T (stateOf n) d r e
+      pub begins-open : {d e : List ℕ} (m : Negotiation) {k : ℕ} (r : Replying) → e ≡ pasted d 0 (commandBytes c)
+          → stateOf m ≡ stepped (stateOf n) (n .header .side) c → k ≡ sizeOf c → r .negotiation ≡ m → r .at ≡ k → Begins T (stateOf n) d r e
       unfolding stateOf
       begins-open {d} m r ee me ke ne ae =
-          let o : c ∷ [] ≡ opening T (stateOf n) = ap (λ (x : Command). x ∷ []) ce ∙ sym (opens true (eq-eqb (length (nodesOf (n .nodes))) 0 (nodes-length (n .nodes) ∙ z))) in
+          let o : c ∷ [] ≡ opening T (stateOf n) = ap (λ (x : Command). x ∷ []) ce
+          ∙ sym (opens true (eq-eqb (length (nodesOf (n .nodes))) 0 (nodes-length (n .nodes) ∙ z))) in
           record {
             state = ap stateOf ne ∙ me ∙ ap (carried (n .header .side) (stateOf n)) o;
             size = ae ∙ ke ∙ sym (one-length c) ∙ ap (λ (l : List Command). length (bytesOf l)) o;
@@ -115,7 +119,8 @@ module _ {K H : House} (e : K ≡ H) where
   pub own-going : (S : State) → Going (tablesOf H) S → Going (tablesOf K) S
   own-going S g = subst (λ (X : House). Going (tablesOf X) S) (sym e) g
 
-  pub own-gives : (S : State) (at : ℕ) {d₀ d : List ℕ} (r : Replying) → Gives (tablesOf K) (restFrom 4096 (tablesOf K) S at) at d₀ r d → Gives (tablesOf H) (restFrom 4096 (tablesOf H) S at) at d₀ r d
+  pub own-gives : (S : State) (at : ℕ) {d₀ d : List ℕ} (r : Replying) → Gives (tablesOf K) (restFrom 4096 (tablesOf K) S at) at d₀ r d
+      → Gives (tablesOf H) (restFrom 4096 (tablesOf H) S at) at d₀ r d
   own-gives S at {d₀} {d} r g = subst (λ (X : House). Gives (tablesOf X) (restFrom 4096 (tablesOf X) S at) at d₀ r d) e g
 
 module _ (T : Tables) (t : Sound T) (S : State) (h : sound T S ≡ true) (w : within S ≡ true) (turn : sends (S .header .side) (S .header .messages) ≡ true) where
@@ -123,7 +128,9 @@ module _ (T : Tables) (t : Sound T) (S : State) (h : sound T S ≡ true) (w : wi
   begun-going = go (eqb (length (S .nodes)) 0) refl
     where
       go : (b : Bool) → eqb (length (S .nodes)) 0 ≡ b → Going T (carried (S .header .side) S (cond b (firstOpen (T .names) (S .header .wanted) ∷ []) []))
-      go true e = let z : length (S .nodes) ≡ 0 = eqb-true (length (S .nodes)) 0 e in opening-going T t S h w (first-side (S .header .side) (S .header .messages) (no-messages T t S h w turn z) turn) z
+      go true e =
+          let z : length (S .nodes) ≡ 0 = eqb-true (length (S .nodes)) 0 e in opening-going T t S h w
+          (first-side (S .header .side) (S .header .messages) (no-messages T t S h w turn z) turn) z
       go false e = sound-going T t S h w (eqb-false (length (S .nodes)) 0 e)
 
   module _ {d₀ d₁ : List ℕ} (b : Replying) (g : Begins T S d₀ b d₁) (long : 4096 ≤ length d₀) where
@@ -139,14 +146,17 @@ module _ (T : Tables) (t : Sound T) (S : State) (h : sound T S ≡ true) (w : wi
     unfolding replyIn
     begun-gives {d} r k =
         let rest : Replied = restFrom 4096 T (stateOf (b .negotiation)) (b .at) in
-        let all : replyIn T S ≡ behind (opening T S) rest = from-rest 4096 T (carried (S .header .side) S (opening T S)) (opening T S) ∙ (λ i. behind (opening T S) (restFrom 4096 T (sym (g .state) i) (sym (g .size) i))) in
+        let all : replyIn T S ≡ behind (opening T S) rest = from-rest 4096 T (carried (S .header .side) S (opening T S)) (opening T S)
+        ∙ (λ i. behind (opening T S) (restFrom 4096 T (sym (g .state) i) (sym (g .size) i))) in
         let cs : opening T S ++ rest .commands ≡ replyIn T S .commands = sym (ap (λ (x : Replied). x .commands) all) in
         let end : b .at ≡ 0 + length (bytesOf (opening T S)) = omega (arith, g .size) in
         record {
           state = k .state ∙ sym (ap (λ (x : Replied). x .state) all);
           full = k .full ∙ sym (ap (λ (x : Replied). x .full) all);
           size = omega (arith, k .size, g .size, bytes-behind (opening T S) (rest .commands)) ∙ ap (λ (l : List Command). 0 + length (bytesOf l)) cs;
-          bytes = k .bytes ∙ pasted-behind d₀ d₁ 0 (b .at) (opening T S) (rest .commands) (g .bytes) end (omega (arith, k .size, k .most, g .size, long)) ∙ ap (λ (l : List Command). pasted d₀ 0 (bytesOf l)) cs;
+          bytes =
+              k .bytes ∙ pasted-behind d₀ d₁ 0 (b .at) (opening T S) (rest .commands) (g .bytes) end (omega (arith, k .size, k .most, g .size, long))
+              ∙ ap (λ (l : List Command). pasted d₀ 0 (bytesOf l)) cs;
           most = k .most;
           going = k .going;
         }
@@ -175,9 +185,11 @@ pub record Replies (T : Tables) (S : State) (d₀ : List ℕ) (r : Replying) (d 
 
 module _ (T : Tables) (n : Negotiation) where
   by-tests : (a b : Bool) → not (eqb (n .header .end) 0) ≡ a → not (sends (n .header .side) (n .header .messages)) ≡ b
-      → repliedIn T (stateOf n) ≡ cond a (refused 22) (cond b (refused 21) (accepted (replyBytes (replyIn T (stateOf n)), repliedState (replyIn T (stateOf n)))))
+      → repliedIn T (stateOf n) ≡ cond a (refused ENDED)
+      (cond b (refused TURN) (accepted (replyBytes (replyIn T (stateOf n)), repliedState (replyIn T (stateOf n)))))
   unfolding repliedIn stateOf
-  by-tests a b x y = λ i. cond (x i) (refused 22) (cond (y i) (refused 21) (accepted (replyBytes (replyIn T (stateOf n)), repliedState (replyIn T (stateOf n)))))
+  by-tests a b x y =
+      λ i. cond (x i) (refused ENDED) (cond (y i) (refused TURN) (accepted (replyBytes (replyIn T (stateOf n)), repliedState (replyIn T (stateOf n)))))
 
   not-given : (d : List ℕ) (r : Replying) (k : ℕ) → repliedIn T (stateOf n) ≡ refused k → (k ≡ 0 → ⊥) → r .refusal ≡ k → Replies T (stateOf n) d r d
   not-given d r k q z e =
@@ -203,13 +215,15 @@ module _ (T : Tables) (n : Negotiation) where
       pub in-turn : sends (n .header .side) (n .header .messages) ≡ true
       in-turn = sym be ∙ not-false b h
 
-      module _ (t : Sound T) (s : sound T (stateOf n) ≡ true) (w : within (stateOf n) ≡ true) {d₀ d₁ : List ℕ} (q : Replying) (g : Gives T (replyIn T (stateOf n)) 0 d₀ q d₁) where
+      module _ (t : Sound T) (s : sound T (stateOf n) ≡ true) (w : within (stateOf n) ≡ true) {d₀ d₁ : List ℕ} (q : Replying)
+          (g : Gives T (replyIn T (stateOf n)) 0 d₀ q d₁) where
         same-header : q .negotiation .header ≡ n .header
         unfolding stateOf
         same-header = ap (λ (S : State). S .header) (g .state) ∙ updates-header (reply-updates T t (stateOf n) s w in-turn)
 
         -- what judging the end asks
-        pub after-ready : (within (stateOf (q .negotiation)) ≡ true) × (0 < q .negotiation .nodes .count) × (q .negotiation .header .messages < 65535) × NodesFormed (nodesOf (q .negotiation .nodes)) × EdgesFormed (nodesOf (q .negotiation .nodes)) (edgesOf (q .negotiation .edges))
+        pub after-ready : (within (stateOf (q .negotiation)) ≡ true) × (0 < q .negotiation .nodes .count) × (q .negotiation .header .messages < 65535)
+            × NodesFormed (nodesOf (q .negotiation .nodes)) × EdgesFormed (nodesOf (q .negotiation .nodes)) (edgesOf (q .negotiation .edges))
         unfolding stateOf
         after-ready =
             let r = going-ready T (q .negotiation) (g .going) in
@@ -226,21 +240,29 @@ module _ (T : Tables) (n : Negotiation) where
           pub end-length : {d : List ℕ} → d ≡ pasted d₁ (q .at) (commandBytes End) → length d ≡ length d₀
           end-length de = ap length de ∙ paste-length d₁ (q .at) (commandBytes End) (omega (arith, end-fits, command-length End)) ∙ same-length
 
-          pub replied-given : {d : List ℕ} (a : Negotiation) (r : Replying) → stateOf a ≡ afterMessage (stateOf (q .negotiation)) (not (eqb (q .at) 0)) (q .full) → d ≡ pasted d₁ (q .at) (commandBytes End) → r .refusal ≡ 0 → r .negotiation ≡ a → r .at ≡ q .at + 1
+          pub replied-given : {d : List ℕ} (a : Negotiation) (r : Replying)
+              → stateOf a ≡ afterMessage (stateOf (q .negotiation)) (not (eqb (q .at) 0)) (q .full) → d ≡ pasted d₁ (q .at) (commandBytes End)
+              → r .refusal ≡ 0 → r .negotiation ≡ a → r .at ≡ q .at + 1
               → Replies T (stateOf n) d₀ r d
           unfolding replyBytes repliedState
           replied-given {d} a r ae de e ne se =
               let A : Replied = replyIn T (stateOf n) in
               let size : q .at ≡ length (bytesOf (A .commands)) = omega (arith, g .size) in
               let behindBytes : q .at ≡ 0 + length (bytesOf (A .commands)) = g .size in
-              let state : stateOf (r .negotiation) ≡ repliedState A = ap stateOf ne ∙ ae ∙ (λ i. afterMessage (g .state i) (reply-moved T (stateOf n) size i) (g .full i)) in
-              let all : length (messageBytes (A .commands)) ≡ length (bytesOf (A .commands)) + 1 = ap length (message-end (A .commands)) ∙ length-append (bytesOf (A .commands)) (commandBytes End) ∙ ap (λ (k : ℕ). length (bytesOf (A .commands)) + k) (command-length End) in
+              let state : stateOf (r .negotiation) ≡ repliedState A = ap stateOf ne ∙ ae
+              ∙ (λ i. afterMessage (g .state i) (reply-moved T (stateOf n) size i) (g .full i)) in
+              let all : length (messageBytes (A .commands)) ≡ length (bytesOf (A .commands)) + 1 = ap length (message-end (A .commands))
+              ∙ length-append (bytesOf (A .commands)) (commandBytes End) ∙ ap (λ (k : ℕ). length (bytesOf (A .commands)) + k) (command-length End) in
               let written : d ≡ pasted d₀ 0 (messageBytes (A .commands))
-              = de ∙ ap (pasted d₁ (q .at)) (sym (append-nil (commandBytes End))) ∙ pasted-behind d₀ d₁ 0 (q .at) (A .commands) (End ∷ []) (g .bytes) behindBytes (omega (arith, size, one-length End, g .most, long))
-              ∙ ap (pasted d₀ 0) (bytes-append (A .commands) (End ∷ []) ∙ ap (λ (l : List ℕ). bytesOf (A .commands) ++ l) (append-nil (commandBytes End)) ∙ sym (message-end (A .commands))) in
+              = de ∙ ap (pasted d₁ (q .at)) (sym (append-nil (commandBytes End)))
+              ∙ pasted-behind d₀ d₁ 0 (q .at) (A .commands) (End ∷ []) (g .bytes) behindBytes (omega (arith, size, one-length End, g .most, long))
+              ∙ ap (pasted d₀ 0) (bytes-append (A .commands) (End ∷ [])
+              ∙ ap (λ (l : List ℕ). bytesOf (A .commands) ++ l) (append-nil (commandBytes End)) ∙ sym (message-end (A .commands))) in
               record {
                 refuses = λ h. absurd (h e);
-                gives = λ h. by-tests false false (ap not (eq-eqb (n .header .end) 0 z)) (ap not in-turn) ∙ ap (λ (x : State). accepted (replyBytes A, x)) (sym state);
+                gives =
+                    λ h. by-tests false false (ap not (eq-eqb (n .header .end) 0 z)) (ap not in-turn)
+                    ∙ ap (λ (x : State). accepted (replyBytes A, x)) (sym state);
                 written = λ h. written ∙ pasted-front d₀ (messageBytes (A .commands));
                 size = λ h. omega (arith, se, size, all);
                 few = λ h. omega (arith, se, g .most);

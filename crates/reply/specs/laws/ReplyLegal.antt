@@ -41,6 +41,7 @@ use Rattle.legality.specs.laws.Kept.{updates-going, updates-header, sound-going
 use Rattle.legality.specs.Mirror.{Mirrored}
 use Rattle.legality.specs.laws.Mirror.{updates-mirror, opened-mirror}
 use Rattle.reply.specs.Reply.{Replied, stopped, withMove, replyFrom, replyIn, repliedState}
+use Rattle.numbers.specs.Sizes.{MOST-MESSAGES}
 
 -- Updates
 
@@ -49,7 +50,8 @@ updates-append none v = v
 updates-append (next {c = c} e f l u) v = next {c = c} e f l (updates-append u v)
 
 -- without an open, an edge or a mark the graph stays
-updates-still : {ns : List Name} {s : ℕ} {S U : State} {cs : List Command} → Updates ns s S cs U → moved cs ≡ false → (U .nodes ≡ S .nodes) × (U .edges ≡ S .edges)
+updates-still : {ns : List Name} {s : ℕ} {S U : State} {cs : List Command} → Updates ns s S cs U → moved cs ≡ false
+    → (U .nodes ≡ S .nodes) × (U .edges ≡ S .edges)
 updates-still none h = (refl, refl)
 updates-still {s = s} (next {S = S} {c = c} {cs = cs} e f l u) h =
     let p = or-neither (isMove c) (moved cs) h in
@@ -75,7 +77,8 @@ module _ (T : Tables) where
   -- a move, and what stands behind it
   move-behind : (more : State → List Command → Replied) (s : ℕ) (S : State) (cs : List Command) (m : Move) → S .header .side ≡ s
       → (hasRoomFor (S .header .side) S m ≡ true → Updates (T .names) (S .header .side) S m (carried (S .header .side) S m))
-      → (Updates (T .names) s S m (carried (S .header .side) S m) → Behind T s (carried (S .header .side) S m) (cs ++ m) (more (carried (S .header .side) S m) (cs ++ m)))
+      → (Updates (T .names) s S m (carried (S .header .side) S m)
+      → Behind T s (carried (S .header .side) S m) (cs ++ m) (more (carried (S .header .side) S m) (cs ++ m)))
       → Behind T s S cs (withMove more S cs m)
   move-behind more s S cs [] e h ih = behind-none T s S cs false
   move-behind more s S cs (c ∷ ms) e h ih = go (hasRoomFor (S .header .side) S (c ∷ ms)) refl (leb (length (bytesOf (cs ++ (c ∷ ms))) + 1) 4096)
@@ -83,8 +86,10 @@ module _ (T : Tables) where
       R : State
       R = carried (S .header .side) S (c ∷ ms)
 
-      go : (a : Bool) → hasRoomFor (S .header .side) S (c ∷ ms) ≡ a → (b : Bool) → Behind T s S cs (cond a (cond b (more R (cs ++ (c ∷ ms))) (stopped cs S false)) (stopped cs S true))
-      go true q true = let u = subst (λ (v : ℕ). Updates (T .names) v S (c ∷ ms) R) e (h q) in behind-more T s S R cs (c ∷ ms) (more R (cs ++ (c ∷ ms))) u (ih u)
+      go : (a : Bool) → hasRoomFor (S .header .side) S (c ∷ ms) ≡ a → (b : Bool)
+          → Behind T s S cs (cond a (cond b (more R (cs ++ (c ∷ ms))) (stopped cs S false)) (stopped cs S true))
+      go true q true =
+          let u = subst (λ (v : ℕ). Updates (T .names) v S (c ∷ ms) R) e (h q) in behind-more T s S R cs (c ∷ ms) (more R (cs ++ (c ∷ ms))) u (ih u)
       go true q false = behind-none T s S cs false
       go false q b = behind-none T s S cs true
 
@@ -94,7 +99,8 @@ module _ (T : Tables) where
   from-behind (suc f) s S cs g e =
       go (eqb (propagated (S .nodes) (S .edges) 0) 1)
       (move-behind (λ U ds. replyFrom f T U ds) s S cs (nextMove (endIn T S)) e (move-updates T S g)
-      (λ u. from-behind f s (carried (S .header .side) S (nextMove (endIn T S))) (cs ++ nextMove (endIn T S)) (updates-going T u g) (ap (λ (h : Header). h .side) (updates-header u) ∙ e)))
+      (λ u. from-behind f s (carried (S .header .side) S (nextMove (endIn T S))) (cs ++ nextMove (endIn T S)) (updates-going T u g)
+      (ap (λ (h : Header). h .side) (updates-header u) ∙ e)))
     where
       go : (b : Bool) {r : Replied} → Behind T s S cs r → Behind T s S cs (cond b (stopped cs S false) r)
       go true k = behind-none T s S cs false
@@ -125,7 +131,8 @@ module _ (T : Tables) (t : Sound T) (S : State) (h : sound T S ≡ true) (w : wi
   no-messages z =
       let m : ℕ = length (S .edges) in
       let k : ℕ = length (S .shown) in
-      let e = sym (ap (λ (b : Bool). cond b (emptySound (S .header) m k) (graphSound (T .names) S)) (eq-eqb (length (S .nodes)) 0 z)) ∙ and-parts (headerSound (T .own) (T .names) (S .header)) _ h .1 in
+      let e = sym (ap (λ (b : Bool). cond b (emptySound (S .header) m k) (graphSound (T .names) S)) (eq-eqb (length (S .nodes)) 0 z))
+      ∙ and-parts (headerSound (T .own) (T .names) (S .header)) _ h .1 in
       let a = and-parts (eqb (S .header .messages) 0 && eqb (S .header .end) 0 && eqb (S .header .idle) 0 && eqb m 0) (eqb k 0) e in
       let b = and-parts (eqb (S .header .messages) 0 && eqb (S .header .end) 0 && eqb (S .header .idle) 0) (eqb m 0) (a .0) in
       let c = and-parts (eqb (S .header .messages) 0 && eqb (S .header .end) 0) (eqb (S .header .idle) 0) (b .0) in
@@ -134,7 +141,8 @@ module _ (T : Tables) (t : Sound T) (S : State) (h : sound T S ≡ true) (w : wi
   -- a reply that goes on from a graph
   going-given : Going T S → (r : Replied) → Behind T s S [] r → Given T S r
   going-given g r b =
-      let u : Updates (T .names) s S (r .commands) (r .state) = subst (λ (cs : List Command). Updates (T .names) s S cs (r .state)) (sym (b .commands)) (b .updates) in
+      let u : Updates (T .names) s S (r .commands) (r .state) = subst (λ (cs : List Command). Updates (T .names) s S cs (r .state))
+      (sym (b .commands)) (b .updates) in
       record { updates = u; going = updates-going T u g; mirror = λ k m. updates-mirror (S .header) k m T g refl u }
 
   -- the mediator's first reply
@@ -147,7 +155,9 @@ module _ (T : Tables) (t : Sound T) (S : State) (h : sound T S ≡ true) (w : wi
       record {
         updates = subst (λ (cs : List Command). Updates (T .names) s S cs (r .state)) (sym (b .commands)) (next {c = Open first} refl f l (b .updates));
         going = updates-going T (b .updates) g;
-        mirror = λ k m. subst (λ (cs : List Command). Updates (T .names) s (withHeader S k) cs (withHeader (r .state) k)) (sym (b .commands)) (opened-mirror (S .header) k m T s S first refl f l g (b .updates));
+        mirror =
+            λ k m. subst (λ (cs : List Command). Updates (T .names) s (withHeader S k) cs (withHeader (r .state) k)) (sym (b .commands))
+            (opened-mirror (S .header) k m T s S first refl f l g (b .updates));
       }
 
   given : Given T S (replyIn T S)
@@ -159,7 +169,8 @@ module _ (T : Tables) (t : Sound T) (S : State) (h : sound T S ≡ true) (w : wi
           let z : length (S .nodes) ≡ 0 = eqb-true (length (S .nodes)) 0 e in
           let side : S .header .side ≡ 0 = first-side s (S .header .messages) (no-messages z) turn in
           opened-given z (replyFrom 4096 T (stepped S s (Open first)) (Open first ∷ []))
-          (from-behind T 4096 s (stepped S s (Open first)) (Open first ∷ []) (opening-going T t S h w side z) (ap (λ (x : Header). x .side) (step-header S s (Open first))))
+          (from-behind T 4096 s (stepped S s (Open first)) (Open first ∷ []) (opening-going T t S h w side z)
+          (ap (λ (x : Header). x .side) (step-header S s (Open first))))
       go false e =
           let g : Going T S = sound-going T t S h w (eqb-false (length (S .nodes)) 0 e) in
           going-given g (replyFrom 4096 T S []) (from-behind T 4096 s S [] g refl)
@@ -172,13 +183,16 @@ module _ (T : Tables) (t : Sound T) (S : State) (h : sound T S ≡ true) (w : wi
   reply-going = given .going
 
   -- kept-sound for reply: it leaves a negotiation that is not damaged, where the count stays within its bound
-  pub reply-sound : S .header .end ≡ 0 → S .header .messages < 1027 → sound T (repliedState (replyIn T S)) ≡ true
+  pub reply-sound : S .header .end ≡ 0 → S .header .messages < MOST-MESSAGES → sound T (repliedState (replyIn T S)) ≡ true
   unfolding repliedState
   reply-sound going few =
       let r : Replied = replyIn T S in
-      after-sound T (r .state) (moved (r .commands)) (r .full) (reply-going .header) (reply-going .graph) (reply-going .some) (subst (λ (x : Header). x .messages < 1027) (sym (updates-header reply-updates)) few) still
+      after-sound T (r .state) (moved (r .commands)) (r .full) (reply-going .header) (reply-going .graph) (reply-going .some)
+      (subst (λ (x : Header). x .messages < MOST-MESSAGES) (sym (updates-header reply-updates)) few) still
     where
-      still : moved (replyIn T S .commands) ≡ false → (propagated (replyIn T S .state .nodes) (replyIn T S .state .edges) 0 ≡ 1 → ⊥) × (propagated (replyIn T S .state .nodes) (replyIn T S .state .edges) 0 ≡ 2 → ⊥)
+      still : moved (replyIn T S .commands) ≡ false
+          → (propagated (replyIn T S .state .nodes) (replyIn T S .state .edges) 0 ≡ 1 → ⊥)
+          × (propagated (replyIn T S .state .nodes) (replyIn T S .state .edges) 0 ≡ 2 → ⊥)
       still e =
           let q = updates-still reply-updates e in
           let some : length (S .nodes) ≡ 0 → ⊥ = λ z. reply-going .some (ap length (q .0) ∙ z) in
@@ -190,5 +204,6 @@ module _ (T : Tables) (t : Sound T) (S : State) (h : sound T S ≡ true) (w : wi
   reply-within = reply-going .sizes
 
   -- the same commands are legal updates at the other end
-  pub reply-mirrored : (h : Header) → Mirrored (S .header) h → Updates (T .names) (S .header .side) (withHeader S h) (replyIn T S .commands) (withHeader (replyIn T S .state) h)
+  pub reply-mirrored : (h : Header) → Mirrored (S .header) h
+      → Updates (T .names) (S .header .side) (withHeader S h) (replyIn T S .commands) (withHeader (replyIn T S .state) h)
   reply-mirrored h m = given .mirror h m

@@ -46,6 +46,7 @@ use Rattle.choice.specs.laws.Next.{isNothing, nothing-is}
 use Rattle.legality.specs.laws.Going.{Going, going-nodes, going-edges}
 use Rattle.reply.specs.laws.Outgoing.{shows}
 use Rattle.reply.specs.laws.Turns.{stops, goes, byRoom, fitsBehind, behindMove, nextIn}
+use Rattle.numbers.specs.Sizes.{MOST-NODES, MOST-EDGES}
 
 pub something : (k : Choice) {b : Bool} → b ≡ isNothing k → b ≡ false → k ≡ K.Nothing → ⊥
 something k e z h = false-true (sym z ∙ e ∙ ap isNothing h)
@@ -53,7 +54,8 @@ something k e z h = false-true (sym z ∙ e ∙ ap isNothing h)
 -- The primary
 
 -- a role is no goal
-role-open : (ns : List Node) (es : List Edge) (i p : ℕ) (h : Header) (x : Expression) → cond (eqb (h .side) 0) (same x (E.Role (h .wanted))) (isRoleExpression x) ≡ true → completeAs ns es i p x ≡ false
+role-open : (ns : List Node) (es : List Edge) (i p : ℕ) (h : Header) (x : Expression)
+    → cond (eqb (h .side) 0) (same x (E.Role (h .wanted))) (isRoleExpression x) ≡ true → completeAs ns es i p x ≡ false
 role-open ns es i p h (E.Entity a) e = refl
 role-open ns es i p h (E.Role a) e = refl
 role-open ns es i p h (E.Linked a r) e = refl
@@ -70,10 +72,12 @@ module _ (T : Tables) (S : State) (g : Going T S) where
   primary-incomplete =
       let x : Node = nodeIn (S .nodes) 0 in
       let p = record-parts (T .names) S (g .graph .records) .1 in
-      role-open (S .nodes) (S .edges) 0 (x .state) (S .header) (x .expression) (and-parts (eqb (x .verifier) 0 && eqb (x .subject) (requester (S .header))) _ p .1)
+      role-open (S .nodes) (S .edges) 0 (x .state) (S .header) (x .expression)
+      (and-parts (eqb (x .verifier) 0 && eqb (x .subject) (requester (S .header))) _ p .1)
 
   -- it is satisfied only where the column has it
-  primary-open : (sat failed : List ℕ) → StateColumns (S .nodes) (S .edges) sat failed → (getD sat 0 0 ≡ 1 → ⊥) → eqb (propagated (S .nodes) (S .edges) 0) 1 ≡ false
+  primary-open : (sat failed : List ℕ) → StateColumns (S .nodes) (S .edges) sat failed → (getD sat 0 0 ≡ 1 → ⊥)
+      → eqb (propagated (S .nodes) (S .edges) 0) 1 ≡ false
   unfolding propagated
   primary-open sat failed z h =
       (λ i. eqb (cond ((sym (z .is-sat 0) ∙ ne-eqb (getD sat 0 0) 1 h) i || primary-incomplete i) 1 (cond (at (failedB (S .nodes) (S .edges)) 0) 2 0)) 1)
@@ -84,7 +88,9 @@ module _ (T : Tables) (S : State) (g : Going T S) where
       go false = refl
 
 -- what the columns of a negotiation are filled from
-pub going-ready : (T : Tables) (n : Negotiation) → Going T (stateOf n) → (0 < n .nodes .count) × (n .nodes .count ≤ 128) × (n .edges .count ≤ 256) × NodesFormed (nodesOf (n .nodes)) × EdgesFormed (nodesOf (n .nodes)) (edgesOf (n .edges))
+pub going-ready : (T : Tables) (n : Negotiation) → Going T (stateOf n)
+    → (0 < n .nodes .count) × (n .nodes .count ≤ MOST-NODES) × (n .edges .count ≤ MOST-EDGES) × NodesFormed (nodesOf (n .nodes))
+    × EdgesFormed (nodesOf (n .nodes)) (edgesOf (n .edges))
 unfolding stateOf
 going-ready T n g =
     let few = within-few n (g .sizes) in
@@ -111,7 +117,9 @@ module _ (T : Tables) (n : Negotiation) (bytes : ℕ) {sat failed : List ℕ} (z
   -- the primary is satisfied
   pub next-satisfied : getD sat 0 0 ≡ 1 → nextIn T (stateOf n) bytes ≡ stops false
   unfolding nextIn stateOf
-  next-satisfied h = sym (ap (λ (k : ℕ). cond (eqb k 1) (stops false) (behindMove (stateOf n) bytes (nextMove (endIn T (stateOf n))))) (state-satisfied (nodesOf (n .nodes)) (edgesOf (n .edges)) 0 sat (z .is-sat) h))
+  next-satisfied h =
+      sym (ap (λ (k : ℕ). cond (eqb k 1) (stops false) (behindMove (stateOf n) bytes (nextMove (endIn T (stateOf n)))))
+      (state-satisfied (nodesOf (n .nodes)) (edgesOf (n .edges)) 0 sat (z .is-sat) h))
 
   module _ (g : Going T (stateOf n)) (h : getD sat 0 0 ≡ 1 → ⊥) (f : Found) (fe : nextMove (endIn T (stateOf n)) ≡ foundMove (endIn T (stateOf n)) f) where
     by-move : nextIn T (stateOf n) bytes ≡ behindMove (stateOf n) bytes (foundMove (endIn T (stateOf n)) f)
@@ -121,14 +129,19 @@ module _ (T : Tables) (n : Negotiation) (bytes : ℕ) {sat failed : List ℕ} (z
     -- no move is left
     pub next-none : {b : Bool} → b ≡ isNothing (f .choice) → b ≡ true → nextIn T (stateOf n) bytes ≡ stops false
     unfolding foundMove
-    next-none be k = by-move ∙ ap (λ (x : Choice). behindMove (stateOf n) bytes (moveFor (endIn T (stateOf n)) (f .node) (nodeIn (endIn T (stateOf n) .state .nodes) (f .node)) x)) (nothing-is (f .choice) (sym be ∙ k))
+    next-none be k =
+        by-move ∙ ap (λ (x : Choice). behindMove (stateOf n) bytes
+        (moveFor (endIn T (stateOf n)) (f .node) (nodeIn (endIn T (stateOf n) .state .nodes) (f .node)) x)) (nothing-is (f .choice) (sym be ∙ k))
 
     -- a move
-    module _ (out : Outgoing) (oe : commandsOf out ≡ foundMove (endIn T (stateOf n)) f) {b : Bool} (be : b ≡ hasRoomFor (n .header .side) (stateOf n) (commandsOf out)) where
-      by-room : (x y : Bool) → x ≡ hasRoomFor (n .header .side) (stateOf n) (commandsOf out) → y ≡ fitsBehind bytes (commandsOf out) → nextIn T (stateOf n) bytes ≡ byRoom (commandsOf out) x y
+    module _ (out : Outgoing) (oe : commandsOf out ≡ foundMove (endIn T (stateOf n)) f) {b : Bool}
+        (be : b ≡ hasRoomFor (n .header .side) (stateOf n) (commandsOf out)) where
+      by-room : (x y : Bool) → x ≡ hasRoomFor (n .header .side) (stateOf n) (commandsOf out) → y ≡ fitsBehind bytes (commandsOf out)
+          → nextIn T (stateOf n) bytes ≡ byRoom (commandsOf out) x y
       unfolding stateOf
       by-room x y xe ye =
-          by-move ∙ (ap (behindMove (stateOf n) bytes) (sym oe) ∙ (some-move (stateOf n) bytes (commandsOf out) (commands-some out) ∙ sym (λ i. byRoom (commandsOf out) (xe i) (ye i))))
+          by-move ∙ (ap (behindMove (stateOf n) bytes) (sym oe)
+          ∙ (some-move (stateOf n) bytes (commandsOf out) (commands-some out) ∙ sym (λ i. byRoom (commandsOf out) (xe i) (ye i))))
 
       -- it would pass a size
       pub next-full : not b ≡ true → nextIn T (stateOf n) bytes ≡ stops true

@@ -76,14 +76,18 @@ from-rest (suc f) T S cs = by-primary (eqb (propagated (S .nodes) (S .edges) 0) 
 
     by-move : (m : Move) → ((U : State) (ds : List Command) → replyFrom f T U ds ≡ behind ds (restFrom f T U (length (bytesOf ds))))
         → withMove (λ U ds. replyFrom f T U ds) S cs m
-        ≡ behind cs (goOn (λ n. behind n (restFrom f T (carried (S .header .side) S n) (length (bytesOf cs) + length (bytesOf n)))) S (behindMove S (length (bytesOf cs)) m))
+        ≡ behind cs (goOn (λ n. behind n (restFrom f T (carried (S .header .side) S n) (length (bytesOf cs) + length (bytesOf n)))) S
+        (behindMove S (length (bytesOf cs)) m))
     by-move [] ih = stopped-behind cs S false
     by-move (c ∷ ms) ih =
-        ap (λ (k : ℕ). cond (hasRoomFor (S .header .side) S (c ∷ ms)) (cond (leb (k + 1) 4096) (replyFrom f T (carried (S .header .side) S (c ∷ ms)) (cs ++ (c ∷ ms))) (stopped cs S false)) (stopped cs S true)) (bytes-behind cs (c ∷ ms))
+        ap (λ (k : ℕ). cond (hasRoomFor (S .header .side) S (c ∷ ms))
+        (cond (leb (k + 1) 4096) (replyFrom f T (carried (S .header .side) S (c ∷ ms)) (cs ++ (c ∷ ms))) (stopped cs S false))
+        (stopped cs S true)) (bytes-behind cs (c ∷ ms))
         ∙ by-room (c ∷ ms) (hasRoomFor (S .header .side) S (c ∷ ms)) (fitsBehind (length (bytesOf cs)) (c ∷ ms)) ih
 
     by-primary : (b : Bool) (m : Move) → ((U : State) (ds : List Command) → replyFrom f T U ds ≡ behind ds (restFrom f T U (length (bytesOf ds))))
         → cond b (stopped cs S false) (withMove (λ U ds. replyFrom f T U ds) S cs m)
-        ≡ behind cs (goOn (λ n. behind n (restFrom f T (carried (S .header .side) S n) (length (bytesOf cs) + length (bytesOf n)))) S (cond b (stops false) (behindMove S (length (bytesOf cs)) m)))
+        ≡ behind cs (goOn (λ n. behind n (restFrom f T (carried (S .header .side) S n) (length (bytesOf cs) + length (bytesOf n)))) S
+        (cond b (stops false) (behindMove S (length (bytesOf cs)) m)))
     by-primary true m ih = stopped-behind cs S false
     by-primary false m ih = by-move m ih

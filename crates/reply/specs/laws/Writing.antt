@@ -61,7 +61,8 @@ pub next-fits : (T : Tables) (S : State) (at : ℕ) (m : List Command) → nextI
 unfolding nextIn
 next-fits T S at m h = by-primary (eqb (propagated (S .nodes) (S .edges) 0) 1) (nextMove (endIn T S)) refl h
   where
-    by-room : (x : List Command) (room fits : Bool) → hasRoomFor (S .header .side) S x ≡ room → fitsBehind at x ≡ fits → x ≡ nextMove (endIn T S) → byRoom x room fits ≡ goes m → Fits T S at m
+    by-room : (x : List Command) (room fits : Bool) → hasRoomFor (S .header .side) S x ≡ room → fitsBehind at x ≡ fits → x ≡ nextMove (endIn T S)
+        → byRoom x room fits ≡ goes m → Fits T S at m
     by-room x true true r f q e =
         let same : x ≡ m = ap moveIn e in
         record {
@@ -122,14 +123,16 @@ module _ (T : Tables) (S₀ : State) (from : ℕ) (d₀ : List ℕ) where
     writing-past l r ne ae fe = ended (let z : left ≡ 0 = omega (arith, l) in ap (λ (k : ℕ). restFrom k T (stateOf n) at) z) r ne ae fe
 
     module _ (l : 0 < left) {x : Next} (te : nextIn T (stateOf n) at ≡ x) where
-      step-one : restFrom left T (stateOf n) at ≡ goOn (λ m. behind m (restFrom (left - 1) T (carried (stateOf n .header .side) (stateOf n) m) (at + length (bytesOf m)))) (stateOf n) x
+      step-one : restFrom left T (stateOf n) at ≡ goOn
+          (λ m. behind m (restFrom (left - 1) T (carried (stateOf n .header .side) (stateOf n) m) (at + length (bytesOf m)))) (stateOf n) x
       unfolding restFrom
       step-one =
           let z : left ≡ suc (left - 1) = omega (arith, l) in
           ap (λ (k : ℕ). restFrom k T (stateOf n) at) z
           ∙ ap (goOn (λ m. behind m (restFrom (left - 1) T (carried (stateOf n .header .side) (stateOf n) m) (at + length (bytesOf m)))) (stateOf n)) te
 
-    pub writing-stops : 0 < left → {b : Bool} → nextIn T (stateOf n) at ≡ stops b → (r : Replying) → (r .negotiation ≡ n) → (r .at ≡ at) → (r .full ≡ b) → Gives T (restFrom 4096 T S₀ from) from d₀ r d
+    pub writing-stops : 0 < left → {b : Bool} → nextIn T (stateOf n) at ≡ stops b → (r : Replying) → (r .negotiation ≡ n) → (r .at ≡ at)
+        → (r .full ≡ b) → Gives T (restFrom 4096 T S₀ from) from d₀ r d
     writing-stops l te r ne ae fe = ended (step-one l te) r ne ae fe
 
     module _ (l : 0 < left) {m : List Command} (te : nextIn T (stateOf n) at ≡ goes m) where
@@ -142,7 +145,8 @@ module _ (T : Tables) (S₀ : State) (from : ℕ) (d₀ : List ℕ) where
       writing-room = (writing-fits .room, omega (arith, writing-fits .most), omega (arith, writing-length, w .long))
 
       -- one more move
-      pub writing-next : (n′ : Negotiation) {d′ : List ℕ} {k : ℕ} → stateOf n′ ≡ carried (n .header .side) (stateOf n) m → d′ ≡ pasted d at (bytesOf m) → k ≡ length (bytesOf m)
+      pub writing-next : (n′ : Negotiation) {d′ : List ℕ} {k : ℕ} → stateOf n′ ≡ carried (n .header .side) (stateOf n) m
+          → d′ ≡ pasted d at (bytesOf m) → k ≡ length (bytesOf m)
           → Writing T S₀ from d₀ (stateOf n′) (at + k) (left - 1) d′
       unfolding stateOf
       writing-next n′ {d′} {k} ne de ke =
@@ -166,7 +170,8 @@ module _ (T : Tables) (S₀ : State) (from : ℕ) (d₀ : List ℕ) where
 
 -- below the node of a move nothing was left to do, and what is done stays done
 pub exhausted-next : (T : Tables) (n n′ : Negotiation) (cs : List Command) → Going T (stateOf n) → stateOf n′ ≡ carried (n .header .side) (stateOf n) cs
-    → {p m k r : ℕ} → Exhausted T (stateOf n) p → m < n .nodes .count → NothingBefore (endIn T (stateOf n)) m → k ≡ m → r ≡ cond (ltb p k) k p → Exhausted T (stateOf n′) r
+    → {p m k r : ℕ} → Exhausted T (stateOf n) p → m < n .nodes .count → NothingBefore (endIn T (stateOf n)) m → k ≡ m → r ≡ cond (ltb p k) k p
+    → Exhausted T (stateOf n′) r
 unfolding stateOf
 exhausted-next T n n′ cs g e {p} {m} {k} {r} f l i ke re =
     let q : ℕ = cond (ltb p m) m p in
@@ -178,12 +183,15 @@ exhausted-next T n n′ cs g e {p} {m} {k} {r} f l i ke re =
 
 -- below the node of a move there was nothing left to do
 pub waits-next : (T : Tables) (n n′ : Negotiation) (cs : List Command) → Going T (stateOf n) → stateOf n′ ≡ carried (n .header .side) (stateOf n) cs
-    → {sat failed : List ℕ} → StateColumns (nodesOf (n .nodes)) (edgesOf (n .edges)) sat failed → {m k : ℕ} → m < n .nodes .count → NothingBefore (endIn T (stateOf n)) m → k ≡ m → Waits T (stateOf n′) sat k
+    → {sat failed : List ℕ} → StateColumns (nodesOf (n .nodes)) (edgesOf (n .edges)) sat failed → {m k : ℕ} → m < n .nodes .count
+    → NothingBefore (endIn T (stateOf n)) m → k ≡ m → Waits T (stateOf n′) sat k
 unfolding stateOf
 waits-next T n n′ cs g e {sat} z {m} {k} l i ke =
     subst (Waits T (stateOf n′) sat) (sym ke)
-    (subst (λ (U : State). Waits T U sat m) (sym e) (waits-carried T (stateOf n) sat m (going-few T (stateOf n) g) (omega (arith, l, nodes-length (n .nodes))) i (z .is-sat) cs))
+    (subst (λ (U : State). Waits T U sat m) (sym e)
+    (waits-carried T (stateOf n) sat m (going-few T (stateOf n) g) (omega (arith, l, nodes-length (n .nodes))) i (z .is-sat) cs))
 
-pub waits-now : (T : Tables) (n : Negotiation) {sat failed last : List ℕ} → StateColumns (nodesOf (n .nodes)) (edgesOf (n .edges)) sat failed → {q r : ℕ} → Waits T (stateOf n) last q → Unchanged sat last (n .nodes .count) q r → Resting T (stateOf n) r
+pub waits-now : (T : Tables) (n : Negotiation) {sat failed last : List ℕ} → StateColumns (nodesOf (n .nodes)) (edgesOf (n .edges)) sat failed
+    → {q r : ℕ} → Waits T (stateOf n) last q → Unchanged sat last (n .nodes .count) q r → Resting T (stateOf n) r
 unfolding stateOf
 waits-now T n z w c = waits-rests T (stateOf n) (sym (nodes-length (n .nodes))) w (z .is-sat) c

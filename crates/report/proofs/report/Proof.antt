@@ -11,13 +11,37 @@ returns : tie.Need-returns
 returns c = report-refused _ _ _ _ (c .before .before .restore .ensures .0) (c .if1 .taken)
 
 returns-2 : tie.Need-returns-2
-returns-2 c = report-absent _ _ _ _ (c .before .before .before .before .before .before .restore .ensures .0) (c .before .before .before .before .if1 .left) refl (c .if2 .taken)
+returns-2 c =
+    let c4 = c .before .before .before .before in
+    let c6 = c4 .before .before in
+    report-absent _ _ _ _ (c6 .restore .ensures .0) (c4 .if1 .left) refl (c .if2 .taken)
 
 report-on-requires : tie.Need-report-on-requires
-report-on-requires c κs = (omega (arith, (c .if2 .left)), within-few (c .before .before .before .before .before .before .restore .result .negotiation) ((c .before .before .before .before .before .before .restore .ensures .1) .within-sizes (c .before .before .before .before .if1 .left)) .0, within-few (c .before .before .before .before .before .before .restore .result .negotiation) ((c .before .before .before .before .before .before .restore .ensures .1) .within-sizes (c .before .before .before .before .if1 .left)) .1, within-few (c .before .before .before .before .before .before .restore .result .negotiation) ((c .before .before .before .before .before .before .restore .ensures .1) .within-sizes (c .before .before .before .before .if1 .left)) .2, held-nodes (c .before .before .before .before .before .before .restore .result .house) (c .before .before .before .before .before .before .restore .result .negotiation) ((c .before .before .before .before .before .before .restore .ensures .1) .within-sizes (c .before .before .before .before .if1 .left)) ((c .before .before .before .before .before .before .restore .ensures .1) .is-sound (c .before .before .before .before .if1 .left)) (omega (arith, (c .if2 .left))), held-edges (c .before .before .before .before .before .before .restore .result .house) (c .before .before .before .before .before .before .restore .result .negotiation) ((c .before .before .before .before .before .before .restore .ensures .1) .within-sizes (c .before .before .before .before .if1 .left)) ((c .before .before .before .before .before .before .restore .ensures .1) .is-sound (c .before .before .before .before .if1 .left)) (omega (arith, (c .if2 .left))))
+report-on-requires c κs = (
+  omega (arith, (c .if2 .left)),
+  within-few (c .before .before .before .before .before .before .restore .result .negotiation)
+      ((c .before .before .before .before .before .before .restore .ensures .1) .within-sizes (c .before .before .before .before .if1 .left)) .0,
+  within-few (c .before .before .before .before .before .before .restore .result .negotiation)
+      ((c .before .before .before .before .before .before .restore .ensures .1) .within-sizes (c .before .before .before .before .if1 .left)) .1,
+  within-few (c .before .before .before .before .before .before .restore .result .negotiation)
+      ((c .before .before .before .before .before .before .restore .ensures .1) .within-sizes (c .before .before .before .before .if1 .left)) .2,
+  held-nodes (c .before .before .before .before .before .before .restore .result .house)
+      (c .before .before .before .before .before .before .restore .result .negotiation)
+      ((c .before .before .before .before .before .before .restore .ensures .1) .within-sizes (c .before .before .before .before .if1 .left))
+      ((c .before .before .before .before .before .before .restore .ensures .1) .is-sound (c .before .before .before .before .if1 .left))
+      (omega (arith, (c .if2 .left))),
+  held-edges (c .before .before .before .before .before .before .restore .result .house)
+      (c .before .before .before .before .before .before .restore .result .negotiation)
+      ((c .before .before .before .before .before .before .restore .ensures .1) .within-sizes (c .before .before .before .before .if1 .left))
+      ((c .before .before .before .before .before .before .restore .ensures .1) .is-sound (c .before .before .before .before .if1 .left))
+      (omega (arith, (c .if2 .left))),
+)
 
 returns-3 : tie.Need-returns-3
-returns-3 c = report-node _ _ _ _ (c .before .before .before .before .before .before .before .restore .ensures .0) (c .before .before .before .before .before .if1 .left) refl (c .before .if2 .left) (c .report-on .ensures .0)
+returns-3 c =
+    let c5 = c .before .before .before .before .before in
+    let c7 = c5 .before .before in
+    report-node _ _ _ _ (c7 .restore .ensures .0) (c5 .if1 .left) refl (c .before .if2 .left) (c .report-on .ensures .0)
 
 pub report-spec : {M : Type 1} → statement M
 report-spec =

@@ -81,21 +81,28 @@ module _ (tables negotiation : List ℕ) (i : ℕ) (R : Restored) (e : standingO
   -- the tables or the negotiation are refused
   pub report-refused : (R .refusal ≡ 0 → ⊥) → R .refusal ≡ answerOf packed (reportOf tables negotiation i)
   unfolding reportOf standingOf
-  report-refused h = sym (ap (λ (s : Answer (Tables × State)). answerOf packed (behindNegotiation i s)) (sym e ∙ ap (λ (b : Bool). cond b (accepted (tablesOf (R .house), stateHeld (R .negotiation))) (refused (R .refusal))) (ne-eqb (R .refusal) 0 h)))
+  report-refused h =
+      sym (ap (λ (s : Answer (Tables × State)). answerOf packed (behindNegotiation i s))
+      (sym e ∙ ap (λ (b : Bool). cond b (accepted (tablesOf (R .house), stateHeld (R .negotiation))) (refused (R .refusal))) (ne-eqb (R .refusal) 0 h)))
 
   module _ (z : R .refusal ≡ 0) where
-    by-node : (b : Bool) → ltb i (length (nodesOf (R .negotiation .nodes))) ≡ b → answerOf packed (reportOf tables negotiation i) ≡ answerOf packed (cond b (accepted (reportOn (stateHeld (R .negotiation)) i)) (refused 24))
+    by-node : (b : Bool) → ltb i (length (nodesOf (R .negotiation .nodes))) ≡ b
+        → answerOf packed (reportOf tables negotiation i) ≡ answerOf packed (cond b (accepted (reportOn (stateHeld (R .negotiation)) i)) (refused 24))
     unfolding reportOf standingOf stateHeld
     by-node b q =
-        ap (λ (s : Answer (Tables × State)). answerOf packed (behindNegotiation i s)) (sym e ∙ ap (λ (b : Bool). cond b (accepted (tablesOf (R .house), stateHeld (R .negotiation))) (refused (R .refusal))) (eq-eqb (R .refusal) 0 z))
+        ap (λ (s : Answer (Tables × State)). answerOf packed (behindNegotiation i s))
+        (sym e ∙ ap (λ (b : Bool). cond b (accepted (tablesOf (R .house), stateHeld (R .negotiation))) (refused (R .refusal))) (eq-eqb (R .refusal) 0 z))
         ∙ ap (λ (b : Bool). answerOf packed (cond b (accepted (reportOn (stateHeld (R .negotiation)) i)) (refused 24))) q
 
     -- an absent node
     pub report-absent : {k : ℕ} → k ≡ i → R .negotiation .nodes .count ≤ k → 24 ≡ answerOf packed (reportOf tables negotiation i)
     report-absent ke l = sym (by-node false (le-ltb i (length (nodesOf (R .negotiation .nodes))) (omega (arith, nodes-length (R .negotiation .nodes)))))
 
-    pub report-node : {k v : ℕ} → k ≡ i → k < R .negotiation .nodes .count → v ≡ packed (reportOn (stateHeld (R .negotiation)) k) → v * 256 ≡ answerOf packed (reportOf tables negotiation i)
-    report-node {k} {v} ke l ve = sym (by-node true (lt-ltb i (length (nodesOf (R .negotiation .nodes))) (omega (arith, nodes-length (R .negotiation .nodes)))) ∙ sym (ap (λ (n : ℕ). n * 256) (ve ∙ ap (λ (n : ℕ). packed (reportOn (stateHeld (R .negotiation)) n)) ke)))
+    pub report-node : {k v : ℕ} → k ≡ i → k < R .negotiation .nodes .count → v ≡ packed (reportOn (stateHeld (R .negotiation)) k)
+        → v * 256 ≡ answerOf packed (reportOf tables negotiation i)
+    report-node {k} {v} ke l ve =
+        sym (by-node true (lt-ltb i (length (nodesOf (R .negotiation .nodes))) (omega (arith, nodes-length (R .negotiation .nodes))))
+        ∙ sym (ap (λ (n : ℕ). n * 256) (ve ∙ ap (λ (n : ℕ). packed (reportOn (stateHeld (R .negotiation)) n)) ke)))
 
 -- In code
 
@@ -106,7 +113,8 @@ pack-is a b d f g h j = λ i. a i + (b i + (d i + (f i + (g i + (h i + j i * 128
 
 -- the numbers of a negotiation as it is held
 pub report-is : (G : Negotiation) (i : ℕ) {p v : ℕ} → i < G .nodes .count → p ≡ propagatedState (nodesOf (G .nodes)) (edgesOf (G .edges)) i
-    → v ≡ packed (numbered (getD (G .nodes .state) i 0) p (G .header .end) (G .nodes .count) (G .edges .count) (G .shown .count) (G .header .messages)) → v ≡ packed (reportOn (stateHeld G) i)
+    → v ≡ packed (numbered (getD (G .nodes .state) i 0) p (G .header .end) (G .nodes .count) (G .edges .count) (G .shown .count)
+    (G .header .messages)) → v ≡ packed (reportOn (stateHeld G) i)
 unfolding reportOn stateHeld credentials
 report-is G i l e q = q ∙ ap packed (λ t. record {
   state = sym (node-in (G .nodes) i l) t .state;
@@ -143,29 +151,34 @@ end-few p e i h = go (eqb p 1) (eqb p 2) h
     go false true t = is 2 0 (omega arith) t
     go false false t =
         ⊎-elim
-        (λ q. ⊎-elim (λ a. let z : e ≡ 0 = eqb-true e 0 a in omega arith) (λ a. let z : e ≡ 4 = eqb-true e 4 a in omega arith) (or-cases (eqb e 0) (eqb e 4) (and-parts (eqb e 0 || eqb e 4) (ltb i 2) q .0)))
+        (λ q. ⊎-elim (λ a. let z : e ≡ 0 = eqb-true e 0 a in omega arith) (λ a. let z : e ≡ 4 = eqb-true e 4 a in omega arith)
+        (or-cases (eqb e 0) (eqb e 4) (and-parts (eqb e 0 || eqb e 4) (ltb i 2) q .0)))
         (λ q. is 3 1 (omega arith) q)
         (or-cases ((eqb e 0 || eqb e 4) && ltb i 2) (eqb e 3 && eqb i 1) t)
 
 -- an element passes the test behind some of those before it
-turn-at : {A : Type 0} (t : List A → A → Bool) (d : A) (before xs : List A) (i : ℕ) → inTurn t before xs ≡ true → i < length xs → (b : List A) × (t b (getD xs i d) ≡ true)
+turn-at : {A : Type 0} (t : List A → A → Bool) (d : A) (before xs : List A) (i : ℕ) → inTurn t before xs ≡ true → i < length xs
+    → (b : List A) × (t b (getD xs i d) ≡ true)
 unfolding inTurn
 turn-at t d before [] i h l = absurd (omega arith)
 turn-at t d before (x ∷ xs) zero h l = (before, and-parts (t before x) (inTurn t (before ++ (x ∷ [])) xs) h .0)
 turn-at t d before (x ∷ xs) (suc i) h l = turn-at t d (before ++ (x ∷ [])) xs i (and-parts (t before x) (inTurn t (before ++ (x ∷ [])) xs) h .1) (omega arith)
 
 -- the numbers of an accepted report are the state byte, the propagated state, the end and the counts of the records held
-pub report-numbers : (T : Tables) (S : State) → within S ≡ true → sound T S ≡ true → (i : ℕ) → i < length (S .nodes) → unpacked (packed (reportOn S i)) ≡ reportOn S i
+pub report-numbers : (T : Tables) (S : State) → within S ≡ true → sound T S ≡ true → (i : ℕ) → i < length (S .nodes)
+    → unpacked (packed (reportOn S i)) ≡ reportOn S i
 unfolding reportOn within recordsSound
 report-numbers T S w h i l =
     let p = graph-parts (T .names) S (sound-some T S h (λ z. omega (arith, l, z))) in
     let nodes : Bool = inTurn (nodeFits (T .names)) [] (S .nodes) in
-    let fit = and-parts nodes (primarySound (S .header) (nodeIn (S .nodes) 0)) (and-parts (nodes && primarySound (S .header) (nodeIn (S .nodes) 0)) (inTurn (credentialFits (T .names)) [] (S .shown)) (p .1) .0) .0 in
+    let fit = and-parts nodes (primarySound (S .header) (nodeIn (S .nodes) 0))
+    (and-parts (nodes && primarySound (S .header) (nodeIn (S .nodes) 0)) (inTurn (credentialFits (T .names)) [] (S .shown)) (p .1) .0) .0 in
     let n = turn-at (nodeFits (T .names)) blank [] (S .nodes) i fit l in
     let a = and-parts (leb (length (S .nodes)) MOST-NODES && leb (length (S .edges)) MOST-EDGES) (leb (length (S .shown)) MOST-SHOWN) w in
     let b = and-parts (leb (length (S .nodes)) MOST-NODES) (leb (length (S .edges)) MOST-EDGES) (a .0) in
     packed-back (reportOn S i)
-    (legal-few (nodeIn (S .nodes) i .expression) (nodeIn (S .nodes) i .state) (sound-legal (T .names) (nodeIn (S .nodes) i) (fits-sound (T .names) (n .0) (nodeIn (S .nodes) i) (n .1))))
+    (legal-few (nodeIn (S .nodes) i .expression) (nodeIn (S .nodes) i .state)
+    (sound-legal (T .names) (nodeIn (S .nodes) i) (fits-sound (T .names) (n .0) (nodeIn (S .nodes) i) (n .1))))
     (state-few (S .nodes) (S .edges) i)
     (end-few (propagatedState (S .nodes) (S .edges) 0) (S .header .end) (S .header .idle) (p .4))
     (omega (arith, leb-true (length (S .nodes)) MOST-NODES (b .0)))

@@ -18,7 +18,9 @@ use Rattle.rt0.specs.declared.Pool.{Pool}
 
 -- numbers stored one after the other
 abbrev pub stored : List ℕ → ℕ → Raw → List ℕ
-stored M at r = set (set (set (set (set (set (set (set M at (r .n0)) (at + 1) (r .n1)) (at + 2) (r .n2)) (at + 3) (r .n3)) (at + 4) (r .n4)) (at + 5) (r .n5)) (at + 6) (r .n6)) (at + 7) (r .n7)
+stored M at r =
+    set (set (set (set (set (set (set (set M at (r .n0)) (at + 1) (r .n1)) (at + 2) (r .n2)) (at + 3) (r .n3)) (at + 4) (r .n4)) (at + 5) (r .n5))
+    (at + 6) (r .n6)) (at + 7) (r .n7)
 
 abbrev pub pair : List ℕ → ℕ → ℕ → ℕ → List ℕ
 pair M at a b = set (set M at a) (at + 1) b
@@ -145,7 +147,8 @@ module _ (P : Pool) (h : Role) (r : Raw) (room : P .count < 128) where
   }
 
 -- a credential added stands behind the others
-pub add-credential : (P : Pool) (h : Role) (b : Expression) → P .count < 128 → Sized P → credentials (added P h (rawOf b)) ≡ credentials P ++ (record { head = h; body = b } ∷ [])
+pub add-credential : (P : Pool) (h : Role) (b : Expression) → P .count < 128 → Sized P
+    → credentials (added P h (rawOf b)) ≡ credentials P ++ (record { head = h; body = b } ∷ [])
 unfolding credentials added bodyAt
 add-credential P h b room z =
     snoc-upTo (P .count) (credentialAt (added P h (rawOf b))) (credentialAt P) (record { head = h; body = b }) (λ i l. add-other P h (rawOf b) room i l)

@@ -54,7 +54,8 @@ module _ {A B : Type 0} {t : A → Bool} {g : ℕ → A} (v : A → B) where
       go : (s : Bool) → eqb j n ≡ s → (j < n → firstOr t v (cond (t (g n)) (v (g n)) d) (upTo n g) ≡ v (g j)) → firstOr t v d (upTo (suc n) g) ≡ v (g j)
       go true q ih =
           let z : j ≡ n = eqb-true j n q in
-          first-next t v d g n true (sym (ap (λ (k : ℕ). t (g k)) z) ∙ e) ∙ (first-none (v (g n)) n (missed-fewer h (omega arith)) ∙ sym (ap (λ (k : ℕ). v (g k)) z))
+          first-next t v d g n true (sym (ap (λ (k : ℕ). t (g k)) z) ∙ e)
+          ∙ (first-none (v (g n)) n (missed-fewer h (omega arith)) ∙ sym (ap (λ (k : ℕ). v (g k)) z))
       go false q ih = first-next t v d g n (t (g n)) refl ∙ ih (omega (arith, eqb-false j n q))
 
 module _ {A : Type 0} where

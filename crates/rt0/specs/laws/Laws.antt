@@ -5,7 +5,8 @@ use native.Mathlib.Omega.{arith}
 use mathlib.Core.Path.{_≡_, refl, sym, _∙_, ap, subst}
 use mathlib.Core.Logic.{_⊎_, inl, inr, ⊎-elim}
 use mathlib.Core.Bool.{Bool, true, false, _&&_, _||_, cond}
-use mathlib.Core.List.{List, [], _∷_, _++_, map, List·Memᴰ, List·Memᴰ·head, List·Memᴰ·tail, List·Memᴰ·not-nil, List·Memᴰ·cases-cons, List·Memᴰ·append-cases, Memᴰ·append-left, Memᴰ·append-right}
+use mathlib.Core.List.{List, [], _∷_, _++_, map, List·Memᴰ, List·Memᴰ·head, List·Memᴰ·tail, List·Memᴰ·not-nil, List·Memᴰ·cases-cons}
+use mathlib.Core.List.{List·Memᴰ·append-cases, Memᴰ·append-left, Memᴰ·append-right}
 use borrow.Author.Tests.{eqb-true, eqb-false}
 use lib.Dec.{eqb}
 use lib.ListN.{length}
@@ -20,7 +21,8 @@ use Rattle.expression.specs.laws.Same.{same-eq, eq-same, sameRole-eq, eq-sameRo
 use Rattle.rt0.specs.From.{roleOf, rolesOf, From, reflexive, transitive, credential, linking, intersection}
 use Rattle.rt0.specs.laws.Lists.{any-find, any-here, all-each, all-of, map-find, map-mem}
 use Rattle.word.specs.laws.Bools.{false-true, or-cases, or-left, or-right, and-parts, and-both, bool-iff}
-use Rattle.rt0.specs.Decide.{Fact, says, roleFrom, via, reaches, learn, found, pass, unknowns, close, ask, start, entityFirst, entities, sources, closure, from?}
+use Rattle.rt0.specs.Decide.{Fact, says, roleFrom, via, reaches, learn, found, pass, unknowns, close, ask, start, entityFirst, entities, sources}
+use Rattle.rt0.specs.Decide.{closure, from?}
 
 -- More credentials
 
@@ -171,7 +173,8 @@ unfolding close pass
 close-saturated zero S T h = stays (found S T) T (omega (arith, fewer (found S T) T))
 close-saturated (suc n) S T h = pick (eqb (unknowns (pass S T)) (unknowns T)) refl (λ k. close-saturated n S (pass S T) k)
   where
-    pick : (b : Bool) → eqb (unknowns (pass S T)) (unknowns T) ≡ b → (unknowns (pass S T) ≤ n → Saturated S (close n S (pass S T))) → Saturated S (cond b T (close n S (pass S T)))
+    pick : (b : Bool) → eqb (unknowns (pass S T)) (unknowns T) ≡ b → (unknowns (pass S T) ≤ n → Saturated S (close n S (pass S T)))
+        → Saturated S (cond b T (close n S (pass S T)))
     pick true e ih = stays (found S T) T (eqb-true _ _ e)
     pick false e ih = ih (omega (arith, fewer (found S T) T, eqb-false (unknowns (pass S T)) (unknowns T) e))
 
@@ -204,7 +207,8 @@ close-full C (suc n) S T full =
 entities-mem : (C : List Credential) (c : Credential) (b : ℕ) → List·Memᴰ c C → c .body ≡ E.Entity b → List·Memᴰ (E.Entity b) (entities C)
 entities-mem [] c b m e = absurd (List·Memᴰ·not-nil m)
 entities-mem (d ∷ C) c b m e =
-    ⊎-elim (λ p. subst (λ (x : Expression). List·Memᴰ (E.Entity b) (entityFirst x (entities C))) (sym e ∙ ap (λ (x : Credential). x .body) p) (List·Memᴰ·head refl)) (λ q. later (d .body) (entities-mem C c b q e)) (List·Memᴰ·cases-cons m)
+    ⊎-elim (λ p. subst (λ (x : Expression). List·Memᴰ (E.Entity b) (entityFirst x (entities C))) (sym e ∙ ap (λ (x : Credential). x .body) p)
+    (List·Memᴰ·head refl)) (λ q. later (d .body) (entities-mem C c b q e)) (List·Memᴰ·cases-cons m)
   where
     later : (x : Expression) → List·Memᴰ (E.Entity b) (entities C) → List·Memᴰ (E.Entity b) (entityFirst x (entities C))
     later (E.Entity a) k = List·Memᴰ·tail k
@@ -243,13 +247,15 @@ module _ (C : List Credential) (e : Expression) (T : List Fact) (full : Full C (
   self (E.Goal n) = eq-same (E.Goal n) (E.Goal n) refl
 
   -- what reaches the body of a credential is known of its head
-  head-from : {c : Credential} (s : Expression) → List·Memᴰ c C → List·Memᴰ s (sources C e) → reaches T (sources C e) (c .body) s ≡ true → roleFrom T (c .head) s ≡ true
+  head-from : {c : Credential} (s : Expression) → List·Memᴰ c C → List·Memᴰ s (sources C e) → reaches T (sources C e) (c .body) s ≡ true
+      → roleFrom T (c .head) s ≡ true
   unfolding roleFrom
   head-from {c} s mc ms h =
       let r = full c mc s ms in
       let t : Fact = r .0 in
       let k : t .known ≡ true = saturated t (r .1) (rw (r .2, r .3) h) in
-      or-right (same (E.Role (c .head)) s) _ (any-here (says (c .head) s) (r .1) (and-both _ _ k (and-both _ _ (eq-sameRole _ _ (ap (λ (x : Credential). x .head) (sym (r .2)))) (eq-same _ _ (r .3)))))
+      or-right (same (E.Role (c .head)) s) _ (any-here (says (c .head) s) (r .1)
+      (and-both _ _ k (and-both _ _ (eq-sameRole _ _ (ap (λ (x : Credential). x .head) (sym (r .2)))) (eq-same _ _ (r .3)))))
 
   to-reaches : {x s : Expression} → Reach C x s → List·Memᴰ s (sources C e) → reaches T (sources C e) x s ≡ true
   unfolding reaches
@@ -279,7 +285,8 @@ pub decides : (C : List Credential) (f e : Expression) (b : Bool) → (b ≡ tru
 decides C f e b yes′ no′ = bool-iff b (from? C f e) (λ h. complete C f e (yes′ h)) (λ h. no′ (sound C f e h))
 
 -- the decision goes by the set of the credentials: order and repeats do not matter
-pub same-set : (C D : List Credential) → ((c : Credential) → List·Memᴰ c C → List·Memᴰ c D) → ((c : Credential) → List·Memᴰ c D → List·Memᴰ c C) → (f e : Expression) → from? C f e ≡ from? D f e
+pub same-set : (C D : List Credential) → ((c : Credential) → List·Memᴰ c C → List·Memᴰ c D) → ((c : Credential) → List·Memᴰ c D → List·Memᴰ c C)
+    → (f e : Expression) → from? C f e ≡ from? D f e
 same-set C D to fro f e = decides D f e (from? C f e) (λ h. more to (sound C f e h)) (λ h. complete C f e (more fro h))
 
 pub from?-grows : (C D : List Credential) (f e : Expression) → from? C f e ≡ true → from? (C ++ D) f e ≡ true
@@ -293,5 +300,6 @@ no-goal bodies (step {c = c} m h) g = absurd (false-true (sym (sym (bodies c m) 
 no-goal bodies (link h₁ h₂) g = absurd (false-true (sym (ap isBody (no-goal bodies h₂ g) ∙ g)))
 no-goal bodies (each {ps = ps} h) g = absurd (false-true (sym (ap isBody (no-goal bodies (h (first ps .0) (first ps .1)) g) ∙ g)))
 
-pub goal-alone : {C : List Credential} → ((c : Credential) → List·Memᴰ c C → isBody (c .body) ≡ true) → {f e : Expression} → From C f e → isBody e ≡ false → f ≡ e
+pub goal-alone : {C : List Credential} → ((c : Credential) → List·Memᴰ c C → isBody (c .body) ≡ true) → {f e : Expression} → From C f e
+    → isBody e ≡ false → f ≡ e
 goal-alone bodies h g = no-goal bodies (reach h) g

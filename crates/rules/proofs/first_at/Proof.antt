@@ -12,7 +12,9 @@ abbrev pool : (c : tie.Start) → Pool
 pool c = poolOf (c .args .n) (c .args .heads .now) (c .args .kinds .now) (c .args .numbers .now)
 
 returns : tie.Need-returns
-returns c = first-none (pool (c .before .before)) (c .before .before .args .i) (sym (c .before .has-link .ensures) ∙ not-true (c .before .has-link .result) (c .if1 .taken))
+returns c =
+    first-none (pool (c .before .before)) (c .before .before .args .i)
+    (sym (c .before .has-link .ensures) ∙ not-true (c .before .has-link .result) (c .if1 .taken))
 
 returns-2 : tie.Need-returns-2
 returns-2 c = c .first-of .ensures ∙ ap (firstRow (pool (c .before .before .before .before))) (c .before .body-at .ensures)

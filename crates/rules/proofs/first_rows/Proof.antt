@@ -26,10 +26,18 @@ array-write-first : tie.Need-array-write-first Inv-loop μ-loop
 array-write-first c = omega (arith, c .before .before .loop .inv .0 .sized)
 
 loop-again : tie.Need-loop-again Inv-loop μ-loop
-loop-again c = (column-add (bodyFirst (pool (c .before .before .before))) 128 130 (c .before .before .loop .i) (c .first-at .result) (c .before .before .loop .first) (omega arith) (c .first-at .ensures) (rw (c .first-at .ensures) (first-small (pool (c .before .before .before)) (c .before .before .before .pre .0) (bodyAt (pool (c .before .before .before)) (c .before .before .loop .i)))) (c .before .before .loop .inv .0), omega arith)
+loop-again c = (
+  column-add (bodyFirst (pool (c .before .before .before))) 128 130 (c .before .before .loop .i) (c .first-at .result)
+      (c .before .before .loop .first) (omega arith) (c .first-at .ensures)
+      (rw (c .first-at .ensures) (first-small (pool (c .before .before .before)) (c .before .before .before .pre .0)
+      (bodyAt (pool (c .before .before .before)) (c .before .before .loop .i)))) (c .before .before .loop .inv .0),
+  omega arith,
+)
 
 returns : tie.Need-returns Inv-loop μ-loop
-returns c = column-end _ 128 130 (c .before .loop .i) (c .before .before .args .n) (c .before .loop .first) (c .before .loop .inv .1) (c .loop-test .left) (c .before .loop .inv .0)
+returns c =
+    column-end _ 128 130 (c .before .loop .i) (c .before .before .args .n) (c .before .loop .first) (c .before .loop .inv .1) (c .loop-test .left)
+    (c .before .loop .inv .0)
 
 pub first-rows-spec : {M : Type 1} → statement M
 first-rows-spec =

@@ -28,10 +28,19 @@ array-write-head : tie.Need-array-write-head Inv-loop μ-loop
 array-write-head c = omega (arith, c .before .before .before .loop .inv .0 .sized)
 
 loop-again : tie.Need-loop-again Inv-loop μ-loop
-loop-again c = (column-add (headRow (pool (c .before .before .before .before))) 128 130 (c .before .before .before .loop .i) (c .find-row .result) (c .before .before .before .loop .head) (omega arith) (c .find-row .ensures ∙ ap (rowOf (pool (c .before .before .before .before))) (c .before .head-at .ensures)) (rw (c .find-row .ensures) (row-small (pool (c .before .before .before .before)) (c .before .before .before .before .pre .0) (c .before .head-at .result))) (c .before .before .before .loop .inv .0), omega arith)
+loop-again c = (
+  column-add (headRow (pool (c .before .before .before .before))) 128 130 (c .before .before .before .loop .i) (c .find-row .result)
+      (c .before .before .before .loop .head) (omega arith)
+      (c .find-row .ensures ∙ ap (rowOf (pool (c .before .before .before .before))) (c .before .head-at .ensures))
+      (rw (c .find-row .ensures) (row-small (pool (c .before .before .before .before)) (c .before .before .before .before .pre .0)
+      (c .before .head-at .result))) (c .before .before .before .loop .inv .0),
+  omega arith,
+)
 
 returns : tie.Need-returns Inv-loop μ-loop
-returns c = column-end _ 128 130 (c .before .loop .i) (c .before .before .args .n) (c .before .loop .head) (c .before .loop .inv .1) (c .loop-test .left) (c .before .loop .inv .0)
+returns c =
+    column-end _ 128 130 (c .before .loop .i) (c .before .before .args .n) (c .before .loop .head) (c .before .loop .inv .1) (c .loop-test .left)
+    (c .before .loop .inv .0)
 
 pub head-rows-spec : {M : Type 1} → statement M
 head-rows-spec =

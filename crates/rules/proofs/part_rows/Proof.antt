@@ -28,10 +28,19 @@ array-write-part : tie.Need-array-write-part Inv-loop μ-loop
 array-write-part c = omega (arith, c .before .before .before .loop .inv .0 .sized)
 
 loop-again : tie.Need-loop-again Inv-loop μ-loop
-loop-again c = (parts-add (rowOf (pool (c .before .before .before .before))) (pool (c .before .before .before .before)) (row-small (pool (c .before .before .before .before)) (c .before .before .before .before .pre .0)) (c .before .before .before .loop .i) (c .before .before .before .loop .part) (c .rows-of .result) (omega arith) (c .rows-of .ensures ∙ ap (fourRows (rowOf (pool (c .before .before .before .before)))) (c .before .body-at .ensures)) (c .before .before .before .loop .inv .0), omega arith)
+loop-again c = (
+  parts-add (rowOf (pool (c .before .before .before .before))) (pool (c .before .before .before .before))
+      (row-small (pool (c .before .before .before .before)) (c .before .before .before .before .pre .0)) (c .before .before .before .loop .i)
+      (c .before .before .before .loop .part) (c .rows-of .result) (omega arith)
+      (c .rows-of .ensures ∙ ap (fourRows (rowOf (pool (c .before .before .before .before)))) (c .before .body-at .ensures))
+      (c .before .before .before .loop .inv .0),
+  omega arith,
+)
 
 returns : tie.Need-returns Inv-loop μ-loop
-returns c = parts-end _ _ (c .before .loop .i) (c .before .before .args .n) (c .before .loop .part) (c .before .loop .inv .1) (c .loop-test .left) (c .before .loop .inv .0)
+returns c =
+    parts-end _ _ (c .before .loop .i) (c .before .before .args .n) (c .before .loop .part) (c .before .loop .inv .1) (c .loop-test .left)
+    (c .before .loop .inv .0)
 
 pub part-rows-spec : {M : Type 1} → statement M
 part-rows-spec =

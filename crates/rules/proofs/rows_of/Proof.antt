@@ -6,7 +6,14 @@ returns : tie.Need-returns
 returns c = rw (c .enum-told .given .1)
 
 returns-2 : tie.Need-returns-2
-returns-2 c = rw (c .before .before .x .given .1) (λ i. record { a = c .find-row .ensures i; b = c .find-row .ensures i; c = c .find-row .ensures i; d = c .find-row .ensures i })
+returns-2 c =
+    rw (c .before .before .x .given .1) (λ i. record {
+      a = c .find-row .ensures i;
+      b = c .find-row .ensures i;
+      c = c .find-row .ensures i;
+      d =
+          c .find-row .ensures i;
+    })
 
 returns-3 : tie.Need-returns-3
 returns-3 c = rw (c .enum-told2 .given .1)

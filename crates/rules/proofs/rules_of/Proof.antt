@@ -11,22 +11,37 @@ head-rows-requires : tie.Need-head-rows-requires
 head-rows-requires c κs = (c .before .before .before .before .before .pre, c .before .before .note-heads .ensures)
 
 part-rows-requires : tie.Need-part-rows-requires
-part-rows-requires c κs = (c .before .before .before .before .before .before .before .before .pre, c .before .before .before .before .before .note-heads .ensures)
+part-rows-requires c κs =
+    let c5 = c .before .before .before .before .before in
+    let c8 = c5 .before .before .before in
+    (c8 .pre, c5 .note-heads .ensures)
 
 first-rows-requires : tie.Need-first-rows-requires
-first-rows-requires c κs = (c .before .before .before .before .before .before .before .before .before .before .before .pre, c .before .before .before .before .before .before .before .before .note-heads .ensures)
+first-rows-requires c κs =
+    let c8 = c .before .before .before .before .before .before .before .before in
+    let c11 = c8 .before .before .before in
+    (c11 .pre, c8 .note-heads .ensures)
 
 has-links-requires : tie.Need-has-links-requires
 has-links-requires c κs = c .before .before .before .before .before .before .before .before .before .before .before .before .pre
 
 linkable-requires : tie.Need-linkable-requires
-linkable-requires c κs = (c .before .before .before .before .before .before .before .before .before .before .before .before .before .before .pre, c .before .before .before .before .before .before .before .before .head-rows .ensures)
+linkable-requires c κs =
+    let c8 = c .before .before .before .before .before .before .before .before in
+    let c14 = c8 .before .before .before .before .before .before in
+    (c14 .pre, c8 .head-rows .ensures)
 
 names-requires : tie.Need-names-requires
-names-requires c κs = c .before .before .before .before .before .before .before .before .before .before .before .before .before .before .before .before .before .before .pre
+names-requires c κs =
+    let c14 = c .before .before .before .before .before .before .before .before .before .before .before .before .before .before in
+    let c18 = c14 .before .before .before .before in
+    c18 .pre
 
 words-for-requires : tie.Need-words-for-requires
-words-for-requires c κs = c .before .before .before .before .before .before .before .before .before .before .before .before .before .before .before .before .before .before .before .pre
+words-for-requires c κs =
+    let c14 = c .before .before .before .before .before .before .before .before .before .before .before .before .before .before in
+    let c19 = c14 .before .before .before .before .before in
+    c19 .pre
 
 returns : tie.Need-returns
 returns c =

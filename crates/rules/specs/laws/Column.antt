@@ -24,7 +24,8 @@ use Rattle.closure.specs.laws.Rules.{el, bits, Under, Marked}
 use Rattle.rules.specs.declared.Four.{Four}
 use Rattle.rules.specs.laws.Table.{rowOf, bitOf, rowFor, third, fourth}
 use Rattle.rules.specs.laws.Exact.{row-cases, bit-cases}
-use Rattle.rules.specs.laws.Columns.{bodyFirst, fourRows, firstRow, isLinked, Column, fourAt, FourUnder, PartsTo, Able, NamedRow, NamedLink, NamesTo, isNamed, hasLink, linkSource, SameLink, copied}
+use Rattle.rules.specs.laws.Columns.{bodyFirst, fourRows, firstRow, isLinked, Column, fourAt, FourUnder, PartsTo, Able, NamedRow, NamedLink, NamesTo}
+use Rattle.rules.specs.laws.Columns.{isNamed, hasLink, linkSource, SameLink, copied}
 
 -- Numbers below a bound
 
@@ -54,7 +55,12 @@ column-start f len bound v h z = record { sized = length-replicate {A = ℕ} len
 -- the next number stored
 pub column-add : (f : ℕ → ℕ) (len bound k v : ℕ) (l : List ℕ) → k < len → v ≡ f k → v < bound → Column f len bound k l → Column f len bound (k + 1) (set l k v)
 column-add f len bound k v l h q b inv =
-    record { sized = length-set l k v ∙ inv .sized; upto = λ j m. go j m (eqb j k) refl; under = under-add bound k v l (omega (arith, inv .sized)) b (inv .under) }
+    record {
+      sized = length-set l k v ∙ inv .sized;
+      upto = λ j m. go j m (eqb j k) refl;
+      under = under-add bound k v l (omega (arith, inv .sized)) b
+          (inv .under);
+    }
   where
     go : (j : ℕ) → j < k + 1 → (t : Bool) → eqb j k ≡ t → el (set l k v) j ≡ f j
     go j m true e = let z : j ≡ k = eqb-true j k e in rw z (getD-set-same l k v 0 (omega (arith, inv .sized)) ∙ q)
@@ -158,10 +164,12 @@ put-before l i j r ne = λ k. record {
 module _ (ρ : Role → ℕ) (P : Pool) where
   -- no rule stored
   pub parts-start : PartsTo ρ P 0 (replicate 512 128)
-  parts-start = record { sized = length-replicate {A = ℕ} 512 128; under = under-start 130 512 128 (omega arith) (omega arith); four = λ i l. absurd (omega arith) }
+  parts-start =
+      record { sized = length-replicate {A = ℕ} 512 128; under = under-start 130 512 128 (omega arith) (omega arith); four = λ i l. absurd (omega arith) }
 
   -- the rows of the next rule stored
-  pub parts-add : ((p : Role) → ρ p < 130) → (k : ℕ) (l : List ℕ) (r : Four) → k < 128 → r ≡ fourRows ρ (bodyAt P k) → PartsTo ρ P k l → PartsTo ρ P (k + 1) (put4 l (k * 4) r)
+  pub parts-add : ((p : Role) → ρ p < 130) → (k : ℕ) (l : List ℕ) (r : Four) → k < 128 → r ≡ fourRows ρ (bodyAt P k) → PartsTo ρ P k l
+      → PartsTo ρ P (k + 1) (put4 l (k * 4) r)
   parts-add small k l r h q inv =
       let room : k * 4 + 3 < length l = omega (arith, inv .sized) in
       record {
@@ -181,9 +189,12 @@ module _ (ρ : Role → ℕ) (P : Pool) where
 -- a linked body has kind 3
 pub linked-kind : (P : Pool) (i : ℕ) (a : Role) (m : ℕ) → bodyAt P i ≡ E.Linked a m → hasLink P i ≡ true
 unfolding bodyAt
-linked-kind P i a m h = go (eqb (el (P .kinds) (i * 2)) 1) (eqb (el (P .kinds) (i * 2)) 2) (eqb (el (P .kinds) (i * 2)) 3) (eqb (el (P .kinds) (i * 2)) 4) _ _ _ _ _ _ h
+linked-kind P i a m h =
+    go (eqb (el (P .kinds) (i * 2)) 1) (eqb (el (P .kinds) (i * 2)) 2) (eqb (el (P .kinds) (i * 2)) 3) (eqb (el (P .kinds) (i * 2)) 4) _ _ _ _ _ _ h
   where
-    go : (t u v w : Bool) (x : ℕ) (y z : Role) (n : ℕ) (p : Parts) (o : ℕ) → pickExpression t (E.Entity x) (pickExpression u (E.Role y) (pickExpression v (E.Linked z n) (pickExpression w (E.Intersection p) (E.Goal o)))) ≡ E.Linked a m → v ≡ true
+    go : (t u v w : Bool) (x : ℕ) (y z : Role) (n : ℕ) (p : Parts) (o : ℕ)
+        → pickExpression t (E.Entity x) (pickExpression u (E.Role y)
+        (pickExpression v (E.Linked z n) (pickExpression w (E.Intersection p) (E.Goal o)))) ≡ E.Linked a m → v ≡ true
     go true u v w x y z n p o q = absurd (let d : _≡_ {A = ℕ} 0 1 = cc in omega arith)
     go false true v w x y z n p o q = absurd (let d : _≡_ {A = ℕ} 0 1 = cc in omega arith)
     go false false true w x y z n p o q = refl
@@ -245,7 +256,8 @@ module _ (P : Pool) where
       }
 
   -- head j has a source: it is marked
-  pub able-add : P .count ≤ 128 → (lit : Bool) (src able : List ℕ) (j s : ℕ) → j < P .count → s ≡ linkSource P j → s < 128 → Able P lit j src able → Able P lit (j + 1) (set src j s) (set able j 1)
+  pub able-add : P .count ≤ 128 → (lit : Bool) (src able : List ℕ) (j s : ℕ) → j < P .count → s ≡ linkSource P j → s < 128 → Able P lit j src able
+      → Able P lit (j + 1) (set src j s) (set able j 1)
   able-add small lit src able j s l q b inv =
       let qs : s ≡ bitOf P (headAt P j .entity) = source-bit P j s q b in
       let lj : j < length src = omega (arith, inv .sized) in
@@ -263,19 +275,22 @@ module _ (P : Pool) where
       have : bitOf P (headAt P j .entity) < P .count
       have = ⊎-elim (λ z. z) (λ z. absurd (omega (arith, qs))) (bit-cases P small (headAt P j .entity))
 
-      go : (k : ℕ) → el (set able j 1) k ≡ 1 → (t : Bool) → eqb k j ≡ t → (k < j + 1) × (el (set src j s) k ≡ bitOf P (headAt P k .entity)) × (bitOf P (headAt P k .entity) < P .count)
+      go : (k : ℕ) → el (set able j 1) k ≡ 1 → (t : Bool) → eqb k j ≡ t
+          → (k < j + 1) × (el (set src j s) k ≡ bitOf P (headAt P k .entity)) × (bitOf P (headAt P k .entity) < P .count)
       go k z true e = let q : k ≡ j = eqb-true k j e in (omega arith, rw q (getD-set-same src j s 0 (omega (arith, inv .sized)) ∙ qs), rw q have)
       go k z false e =
           let ne : k ≡ j → ⊥ = eqb-false k j e in
           let r = inv .says k (sym (getD-set-other able j k 1 0 ne) ∙ z) in
           (omega (arith, r .0), getD-set-other src j k s 0 ne ∙ r .1, r .2)
 
-      on : lit ≡ true → (k : ℕ) → k < j + 1 → rowOf P (headAt P k) ≡ k → bitOf P (headAt P k .entity) < P .count → (t : Bool) → eqb k j ≡ t → el (set able j 1) k ≡ 1
+      on : lit ≡ true → (k : ℕ) → k < j + 1 → rowOf P (headAt P k) ≡ k → bitOf P (headAt P k .entity) < P .count → (t : Bool) → eqb k j ≡ t
+          → el (set able j 1) k ≡ 1
       on z k y x w true e = rw (eqb-true k j e) (getD-set-same able j 1 0 (omega (arith, inv .sized′)))
       on z k y x w false e = getD-set-other able j k 1 0 (eqb-false k j e) ∙ inv .all z k (omega (arith, eqb-false k j e)) x w
 
   -- head j has no source
-  pub able-skip : (lit : Bool) (src able : List ℕ) (j s : ℕ) → s ≡ linkSource P j → P .count ≤ 128 → 128 ≤ s → Able P lit j src able → Able P lit (j + 1) src able
+  pub able-skip : (lit : Bool) (src able : List ℕ) (j s : ℕ) → s ≡ linkSource P j → P .count ≤ 128 → 128 ≤ s → Able P lit j src able
+      → Able P lit (j + 1) src able
   able-skip lit src able j s q small nay inv =
       record {
         sized = inv .sized;
@@ -305,7 +320,8 @@ module _ (P : Pool) (able : List ℕ) (i m : ℕ) (N : List ℕ) where
   name-start h = record { sized = h; kept = record { within = λ r s z. z }; says = λ q t z. inl z; all = λ t l. absurd (omega arith) }
 
   -- head j is named: its bit is marked
-  pub name-add : (j : ℕ) (N₁ N₂ : List ℕ) {b : Bool} → b ≡ isNamed P able m j → b ≡ true → NamedRow P able i m j N N₁ → Marked N₁ i j N₂ → NamedRow P able i m (j + 1) N N₂
+  pub name-add : (j : ℕ) (N₁ N₂ : List ℕ) {b : Bool} → b ≡ isNamed P able m j → b ≡ true → NamedRow P able i m j N N₁ → Marked N₁ i j N₂
+      → NamedRow P able i m (j + 1) N N₂
   name-add j N₁ N₂ e h inv new =
       let k = and-parts (eqb (el able j) 1) (eqb (headAt P j .name) m) (sym e ∙ h) in
       record {
@@ -313,7 +329,8 @@ module _ (P : Pool) (able : List ℕ) (i m : ℕ) (N : List ℕ) where
         kept = record { within = λ r s z. new .kept .within r s (inv .kept .within r s z) };
         says = λ q t z. ⊎-elim
             (λ y. ⊎-elim (λ x. inl x) (λ x. let l : t < j = x .1 in inr (x .0, omega arith, x .2, x .3)) (inv .says q t y))
-            (λ y. let z : t ≡ j = y .1 in inr (y .0, omega arith, rw z (eqb-true (el able j) 1 (k .0)), rw z (eqb-true (headAt P j .name) m (k .1)))) (new .says q t z);
+            (λ y. let z : t ≡ j = y .1 in inr (y .0, omega arith, rw z (eqb-true (el able j) 1 (k .0)), rw z (eqb-true (headAt P j .name) m (k .1))))
+            (new .says q t z);
         all = λ t l a n. go t l a n (eqb t j) refl;
       }
     where
@@ -334,7 +351,8 @@ module _ (P : Pool) (able : List ℕ) (i m : ℕ) (N : List ℕ) where
       go : (t : ℕ) → t < j + 1 → el able t ≡ 1 → headAt P t .name ≡ m → (u : Bool) → eqb t j ≡ u → bits N₁ i t ≡ true
       go t l a n true z =
           let q : t ≡ j = eqb-true t j z in
-          absurd (false-true (sym (sym e ∙ h) ∙ and-both (eqb (el able j) 1) (eqb (headAt P j .name) m) (eq-eqb (el able j) 1 (rw q at a)) (eq-eqb (headAt P j .name) m (rw q at n))))
+          absurd (false-true (sym (sym e ∙ h) ∙ and-both (eqb (el able j) 1) (eqb (headAt P j .name) m) (eq-eqb (el able j) 1 (rw q at a))
+          (eq-eqb (headAt P j .name) m (rw q at n))))
       go t l a n false z = inv .all t (omega (arith, eqb-false t j z)) a n
 
   -- all heads looked at
@@ -377,7 +395,8 @@ module _ (P : Pool) (able : List ℕ) where
   names-start = record { sized = length-replicate {A = ℕ} 260 0; says = λ q t z. absurd (no-bits 260 q t z); all = λ q a m t l. absurd (omega arith) }
 
   -- the link of body k is taken in
-  pub names-add : (k : ℕ) (x : Expression) (N N′ : List ℕ) → x ≡ bodyAt P k → NamesTo P able k N → NamedLink P able k (P .count) x N N′ → NamesTo P able (k + 1) N′
+  pub names-add : (k : ℕ) (x : Expression) (N N′ : List ℕ) → x ≡ bodyAt P k → NamesTo P able k N → NamedLink P able k (P .count) x N N′
+      → NamesTo P able (k + 1) N′
   names-add k x N N′ e inv new =
       record {
         sized = new .sized;
@@ -387,7 +406,8 @@ module _ (P : Pool) (able : List ℕ) where
         all = λ q a m t l h b c d. go q a m t l h b c d (eqb q k) refl;
       }
     where
-      go : (q : ℕ) (a : Role) (m t : ℕ) → q < k + 1 → bodyAt P q ≡ E.Linked a m → t < P .count → el able t ≡ 1 → headAt P t .name ≡ m → (u : Bool) → eqb q k ≡ u → bits N′ q t ≡ true
+      go : (q : ℕ) (a : Role) (m t : ℕ) → q < k + 1 → bodyAt P q ≡ E.Linked a m → t < P .count → el able t ≡ 1 → headAt P t .name ≡ m → (u : Bool)
+          → eqb q k ≡ u → bits N′ q t ≡ true
       go q a m t l h b c d true z = let w : q ≡ k = eqb-true q k z in rw w (new .all a m t (e ∙ (rw w at h)) b c d)
       go q a m t l h b c d false z = new .kept .within q t (inv .all q a m t (omega (arith, eqb-false q k z)) h b c d)
 
@@ -400,7 +420,8 @@ module _ (P : Pool) (able : List ℕ) where
         all = λ q a m t l h b c d. go q a m t l h b c d (eqb q k) refl;
       }
     where
-      go : (q : ℕ) (a : Role) (m t : ℕ) → q < k + 1 → bodyAt P q ≡ E.Linked a m → t < P .count → el able t ≡ 1 → headAt P t .name ≡ m → (u : Bool) → eqb q k ≡ u → bits N q t ≡ true
+      go : (q : ℕ) (a : Role) (m t : ℕ) → q < k + 1 → bodyAt P q ≡ E.Linked a m → t < P .count → el able t ≡ 1 → headAt P t .name ≡ m → (u : Bool)
+          → eqb q k ≡ u → bits N q t ≡ true
       go q a m t l h b c d true z = let w : q ≡ k = eqb-true q k z in absurd (false-true (sym none ∙ linked-kind P k a m (rw w at h)))
       go q a m t l h b c d false z = inv .all q a m t (omega (arith, eqb-false q k z)) h b c d
 
@@ -454,7 +475,8 @@ module _ (N : List ℕ) (k i : ℕ) (size : length N ≡ 260) (l : i < 128) wher
   copy-size = length-set (set N (i * 2) (el N (k * 2))) (i * 2 + 1) (el N (k * 2 + 1)) ∙ length-set N (i * 2) (el N (k * 2)) ∙ size
 
 -- a link with the name of one before names the same heads
-pub names-copy : (P : Pool) (able : List ℕ) (k i : ℕ) (N N′ : List ℕ) {b : Bool} → i < 128 → hasLink P i ≡ true → SameLink P k i b → b ≡ true → N′ ≡ copied N k i
+pub names-copy : (P : Pool) (able : List ℕ) (k i : ℕ) (N N′ : List ℕ) {b : Bool} → i < 128 → hasLink P i ≡ true → SameLink P k i b → b ≡ true
+    → N′ ≡ copied N k i
     → NamesTo P able i N → NamesTo P able (i + 1) N′
 names-copy P able k i N N′ l link same e new inv = subst (λ (x : List ℕ). NamesTo P able (i + 1) x) (sym new)
     record {
@@ -482,7 +504,8 @@ names-copy P able k i N N′ l link same e new inv = subst (λ (x : List ℕ). N
         let r = inv .says q t (sym (copy-rest N k i (inv .sized) l q t (eqb-false q i w)) ∙ z) in
         (r .0, r .1, omega (arith, r .2), r .3, r .4, r .5, r .6)
 
-    in′ : (q : ℕ) (a : Role) (n t : ℕ) → q < i + 1 → bodyAt P q ≡ E.Linked a n → t < P .count → el able t ≡ 1 → headAt P t .name ≡ n → (u : Bool) → eqb q i ≡ u → bits (copied N k i) q t ≡ true
+    in′ : (q : ℕ) (a : Role) (n t : ℕ) → q < i + 1 → bodyAt P q ≡ E.Linked a n → t < P .count → el able t ≡ 1 → headAt P t .name ≡ n → (u : Bool)
+        → eqb q i ≡ u → bits (copied N k i) q t ≡ true
     in′ q a n t u h b c d true w =
         let y : q ≡ i = eqb-true q i w in
         let z : n ≡ m = one-name a _ n m (sym h ∙ ap (bodyAt P) y ∙ linked-body P i link) in

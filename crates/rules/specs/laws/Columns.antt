@@ -89,13 +89,15 @@ pub record NamedRow (P : Pool) (able : List ℕ) (i m k : ℕ) (N N′ : List �
 pub record NamedLink (P : Pool) (able : List ℕ) (i k : ℕ) (x : Expression) (N N′ : List ℕ) : Type 0 where
   pub sized : length N′ ≡ 260
   pub kept : Within (bits N) (bits N′)
-  pub says : (q t : ℕ) → bits N′ q t ≡ true → (bits N q t ≡ true) ⊎ ((a : Role) × (m : ℕ) × (x ≡ E.Linked a m) × (q ≡ i) × (t < k) × (el able t ≡ 1) × (headAt P t .name ≡ m))
+  pub says : (q t : ℕ) → bits N′ q t ≡ true → (bits N q t ≡ true)
+      ⊎ ((a : Role) × (m : ℕ) × (x ≡ E.Linked a m) × (q ≡ i) × (t < k) × (el able t ≡ 1) × (headAt P t .name ≡ m))
   pub all : (a : Role) (m t : ℕ) → x ≡ E.Linked a m → t < k → el able t ≡ 1 → headAt P t .name ≡ m → bits N′ i t ≡ true
 
 -- the rows of the linked bodies up to k
 pub record NamesTo (P : Pool) (able : List ℕ) (k : ℕ) (N : List ℕ) : Type 0 where
   pub sized : length N ≡ 260
-  pub says : (q t : ℕ) → bits N q t ≡ true → (a : Role) × (m : ℕ) × (q < k) × (bodyAt P q ≡ E.Linked a m) × (t < P .count) × (el able t ≡ 1) × (headAt P t .name ≡ m)
+  pub says : (q t : ℕ) → bits N q t ≡ true → (a : Role) × (m : ℕ) × (q < k) × (bodyAt P q ≡ E.Linked a m) × (t < P .count) × (el able t ≡ 1)
+      × (headAt P t .name ≡ m)
   pub all : (q : ℕ) (a : Role) (m t : ℕ) → q < k → bodyAt P q ≡ E.Linked a m → t < P .count → el able t ≡ 1 → headAt P t .name ≡ m → bits N q t ≡ true
 
 -- links can go by head t, and its name is m

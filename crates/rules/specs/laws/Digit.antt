@@ -153,8 +153,10 @@ module _ (P : Pool) (small : P .count ≤ 128) where
             let a : Held E (p .entity) i = subst (λ (s : Role). Held E (s .entity) i) z (tables .entity i l) in
             let b : Held N (p .name) i = subst (λ (s : Role). Held N (s .name) i) z (tables .name i l) in
             absurd (none-held lo hi r i none m
-            (λ e. ap (λ (w : ℕ). bitAt w (i % 64)) low ∙ (bit-and _ _ (i % 64) ∙ and-both _ _ (held-shared E (p .entity) i 0 m e a) (held-shared N (p .name) i 0 m e b)))
-            (λ e. ap (λ (w : ℕ). bitAt w (i % 64)) high ∙ (bit-and _ _ (i % 64) ∙ and-both _ _ (held-shared E (p .entity) i 1 m e a) (held-shared N (p .name) i 1 m e b))) h)
+            (λ e. ap (λ (w : ℕ). bitAt w (i % 64)) low
+            ∙ (bit-and _ _ (i % 64) ∙ and-both _ _ (held-shared E (p .entity) i 0 m e a) (held-shared N (p .name) i 0 m e b)))
+            (λ e. ap (λ (w : ℕ). bitAt w (i % 64)) high
+            ∙ (bit-and _ _ (i % 64) ∙ and-both _ _ (held-shared E (p .entity) i 1 m e a) (held-shared N (p .name) i 1 m e b))) h)
 
     -- the tables find no credential
     pub row-missed : P .count ≤ r → 128 ≡ rowOf P p
@@ -166,7 +168,8 @@ module _ (P : Pool) (small : P .count ≤ 128) where
     unfolding rowOf
     row-hit g e t = first-at (P .count) (isHead P p) r g (nowhere-to r (isHead P p) (λ i l. no-head i (omega arith) l)) e t
 
-  module _ (b : ℕ) (T : List ℕ) (lo hi r : ℕ) (table : BodiesIn P (P .count) T) (low : lo ≡ shared T b 0) (high : hi ≡ shared T b 1) (none : NoneBelow lo hi r) where
+  module _ (b : ℕ) (T : List ℕ) (lo hi r : ℕ) (table : BodiesIn P (P .count) T) (low : lo ≡ shared T b 0) (high : hi ≡ shared T b 1)
+      (none : NoneBelow lo hi r) where
     no-body : (i : ℕ) → i < P .count → i < r → isBody P b i ≡ false
     no-body i l h = go (isBody P b i) refl
       where
@@ -176,7 +179,8 @@ module _ (P : Pool) (small : P .count ≤ 128) where
             let z = and-parts (eqb (el (P .kinds) (i * 2)) 1) (eqb (el (P .numbers) (i * 8)) b) q in
             let m : i < 128 = omega arith in
             let a : Held T b i = subst (λ (x : ℕ). Held T x i) (eqb-true _ b (z .1)) (table .body i l (eqb-true _ 1 (z .0))) in
-            absurd (none-held lo hi r i none m (λ e. ap (λ (w : ℕ). bitAt w (i % 64)) low ∙ held-shared T b i 0 m e a) (λ e. ap (λ (w : ℕ). bitAt w (i % 64)) high ∙ held-shared T b i 1 m e a) h)
+            absurd (none-held lo hi r i none m (λ e. ap (λ (w : ℕ). bitAt w (i % 64)) low ∙ held-shared T b i 0 m e a)
+            (λ e. ap (λ (w : ℕ). bitAt w (i % 64)) high ∙ held-shared T b i 1 m e a) h)
 
     pub bit-missed : P .count ≤ r → 128 ≡ bitOf P b
     unfolding bitOf
@@ -210,7 +214,8 @@ open-start =
       sized = length-replicate {A = ℕ} 260 18446744073709551615;
       all = λ r j l m.
           sym (bit-is (replicate 260 18446744073709551615) r j m)
-          ∙ (ap (λ (x : ℕ). bitAt x (j % 64)) (repeated-at 260 18446744073709551615 (r * 2 + j / 64) (omega arith)) ∙ full (j % 64) (mod-lt j (zero-lt-suc 63)));
+          ∙ (ap (λ (x : ℕ). bitAt x (j % 64)) (repeated-at 260 18446744073709551615 (r * 2 + j / 64) (omega arith))
+          ∙ full (j % 64) (mod-lt j (zero-lt-suc 63)));
     }
 
 open-held : (T : List ℕ) (x j : ℕ) → j < 128 → Open T → Held T x j

@@ -4,7 +4,8 @@ use native.Mathlib.Omega.{arith}
 use mathlib.Core.Path.{_≡_, refl, sym, _∙_, ap, subst}
 use mathlib.Core.Logic.{_⊎_, inl, inr, ⊎-elim}
 use mathlib.Core.Bool.{Bool, true, false, _&&_, cond}
-use mathlib.Core.List.{List, [], _∷_, List·Memᴰ, List·Memᴰ·head, List·Memᴰ·tail, List·Memᴰ·not-nil, List·Memᴰ·cases-cons, List·Memᴰ·append-cases, List·Memᴰ·eq-of-singleton, Memᴰ·append-left, Memᴰ·append-right}
+use mathlib.Core.List.{List, [], _∷_, List·Memᴰ, List·Memᴰ·head, List·Memᴰ·tail, List·Memᴰ·not-nil, List·Memᴰ·cases-cons, List·Memᴰ·append-cases}
+use mathlib.Core.List.{List·Memᴰ·eq-of-singleton, Memᴰ·append-left, Memᴰ·append-right}
 use borrow.Author.Tests.{eqb-true, eqb-false, eq-eqb, ne-eqb, ltb-true, lt-ltb}
 use lib.Dec.{eqb, ltb}
 use Rattle.expression.specs.declared.Role.{Role}
@@ -24,7 +25,8 @@ use Rattle.rt0.specs.laws.Pool.{headAt, bodyAt, credentialAt}
 use Rattle.rt0.specs.Pool.{upTo}
 use Rattle.closure.specs.declared.Rules.{Rules}
 use Rattle.closure.specs.laws.Rules.{el, bits, Takes, memOf, Used, Model, Within}
-use Rattle.rules.specs.laws.Table.{isHead, rowOf, isBody, bitOf, rowFor, chosenTo, chosen, third, fourth, Unnamed, Row, entity, goal, role, linked, intersection as meet, Compiled}
+use Rattle.rules.specs.laws.Table.{isHead, rowOf, isBody, bitOf, rowFor, chosenTo, chosen, third, fourth, Unnamed, Row, entity, goal, role, linked}
+use Rattle.rules.specs.laws.Table.{intersection as meet, Compiled}
 use Rattle.word.specs.laws.Search.{anyTo-here}
 use Rattle.rules.specs.laws.Search.{any-cases, first-found, first-none}
 
@@ -108,7 +110,8 @@ module _ (P : Pool) (small : P .count ≤ 128) where
   -- a bit is that of a credential, or 128
   pub bit-cases : (b : ℕ) → (bitOf P b < P .count) ⊎ (bitOf P b ≡ 128)
   unfolding bitOf
-  bit-cases b = ⊎-elim (λ h. inl (first-found (P .count) (isBody P b) h .0)) (λ h. inr (first-none (P .count) (isBody P b) h)) (any-cases (P .count) (isBody P b))
+  bit-cases b =
+      ⊎-elim (λ h. inl (first-found (P .count) (isBody P b) h .0)) (λ h. inr (first-none (P .count) (isBody P b) h)) (any-cases (P .count) (isBody P b))
 
   -- a body of kind 1 is an entity
   pub body-one : (s : ℕ) → el (P .kinds) (s * 2) ≡ 1 → bodyAt P s ≡ E.Entity (el (P .numbers) (s * 8))
@@ -118,10 +121,12 @@ module _ (P : Pool) (small : P .count ≤ 128) where
   -- a body that is an entity passes the test for it
   pub body-entity : (k b : ℕ) → bodyAt P k ≡ E.Entity b → isBody P b k ≡ true
   unfolding bodyAt
-  body-entity k b h = go (eqb (el (P .kinds) (k * 2)) 1) (eqb (el (P .kinds) (k * 2)) 2) (eqb (el (P .kinds) (k * 2)) 3) (eqb (el (P .kinds) (k * 2)) 4) _ _ _ _ _ _ refl h
+  body-entity k b h =
+      go (eqb (el (P .kinds) (k * 2)) 1) (eqb (el (P .kinds) (k * 2)) 2) (eqb (el (P .kinds) (k * 2)) 3) (eqb (el (P .kinds) (k * 2)) 4) _ _ _ _ _ _ refl h
     where
       go : (t u v w : Bool) (x : ℕ) (y z : Role) (n : ℕ) (p : Parts) (m : ℕ) → eqb (el (P .kinds) (k * 2)) 1 ≡ t
-          → pickExpression t (E.Entity x) (pickExpression u (E.Role y) (pickExpression v (E.Linked z n) (pickExpression w (E.Intersection p) (E.Goal m)))) ≡ E.Entity b → (t && eqb x b) ≡ true
+          → pickExpression t (E.Entity x) (pickExpression u (E.Role y)
+          (pickExpression v (E.Linked z n) (pickExpression w (E.Intersection p) (E.Goal m)))) ≡ E.Entity b → (t && eqb x b) ≡ true
       go true u v w x y z n p m q h = eq-eqb x b (cc)
       go false true v w x y z n p m q h = absurd (let d : _≡_ {A = ℕ} 0 1 = cc in omega arith)
       go false false true w x y z n p m q h = absurd (let d : _≡_ {A = ℕ} 0 1 = cc in omega arith)
@@ -147,19 +152,32 @@ module _ (p : Parts) (G : Role → Type 0) where
 
       go : (t u : Bool) → G (cond t (p .first) (p .third)) → G (cond t (p .first) (cond u (p .first) (p .fourth)))
           → List·Memᴰ a (p .first ∷ p .second ∷ cond t [] (p .third ∷ cond u [] (p .fourth ∷ []))) → G a
-      go true u h₂ h₃ m = ⊎-elim (λ q. hit q g₀) (λ k. ⊎-elim (λ q. hit q g₁) (λ k. absurd (List·Memᴰ·not-nil k)) (List·Memᴰ·cases-cons k)) (List·Memᴰ·cases-cons m)
-      go false true h₂ h₃ m = ⊎-elim (λ q. hit q g₀) (λ k. ⊎-elim (λ q. hit q g₁) (λ k. ⊎-elim (λ q. hit q h₂) (λ k. absurd (List·Memᴰ·not-nil k)) (List·Memᴰ·cases-cons k)) (List·Memᴰ·cases-cons k)) (List·Memᴰ·cases-cons m)
-      go false false h₂ h₃ m = ⊎-elim (λ q. hit q g₀) (λ k. ⊎-elim (λ q. hit q g₁) (λ k. ⊎-elim (λ q. hit q h₂) (λ k. ⊎-elim (λ q. hit q h₃) (λ k. absurd (List·Memᴰ·not-nil k)) (List·Memᴰ·cases-cons k)) (List·Memᴰ·cases-cons k)) (List·Memᴰ·cases-cons k)) (List·Memᴰ·cases-cons m)
+      go true u h₂ h₃ m =
+          ⊎-elim (λ q. hit q g₀) (λ k. ⊎-elim (λ q. hit q g₁) (λ k. absurd (List·Memᴰ·not-nil k)) (List·Memᴰ·cases-cons k)) (List·Memᴰ·cases-cons m)
+      go false true h₂ h₃ m =
+          ⊎-elim (λ q. hit q g₀) (λ k. ⊎-elim (λ q. hit q g₁)
+          (λ k. ⊎-elim (λ q. hit q h₂) (λ k. absurd (List·Memᴰ·not-nil k)) (List·Memᴰ·cases-cons k)) (List·Memᴰ·cases-cons k)) (List·Memᴰ·cases-cons m)
+      go false false h₂ h₃ m =
+          ⊎-elim (λ q. hit q g₀) (λ k. ⊎-elim (λ q. hit q g₁)
+          (λ k. ⊎-elim (λ q. hit q h₂) (λ k. ⊎-elim (λ q. hit q h₃) (λ k. absurd (List·Memᴰ·not-nil k)) (List·Memᴰ·cases-cons k))
+          (List·Memᴰ·cases-cons k)) (List·Memᴰ·cases-cons k)) (List·Memᴰ·cases-cons m)
 
   -- what holds of each role holds of the four
   pub all-four : ((a : Role) → List·Memᴰ a (rolesOf p) → G a) → G (p .first) × G (p .second) × G (third p) × G (fourth p)
-  all-four h = (h _ (List·Memᴰ·head refl), h _ (List·Memᴰ·tail (List·Memᴰ·head refl)), go (eqb (p .count) 2) (eqb (p .count) 3) h .0, go (eqb (p .count) 2) (eqb (p .count) 3) h .1)
+  all-four h = (
+    h _ (List·Memᴰ·head refl),
+    h _ (List·Memᴰ·tail (List·Memᴰ·head refl)),
+    go (eqb (p .count) 2) (eqb (p .count) 3) h .0,
+    go (eqb (p .count) 2)
+        (eqb (p .count) 3) h .1,
+  )
     where
       go : (t u : Bool) → ((a : Role) → List·Memᴰ a (p .first ∷ p .second ∷ cond t [] (p .third ∷ cond u [] (p .fourth ∷ []))) → G a)
           → G (cond t (p .first) (p .third)) × G (cond t (p .first) (cond u (p .first) (p .fourth)))
       go true u k = (k _ (List·Memᴰ·head refl), k _ (List·Memᴰ·head refl))
       go false true k = (k _ (List·Memᴰ·tail (List·Memᴰ·tail (List·Memᴰ·head refl))), k _ (List·Memᴰ·head refl))
-      go false false k = (k _ (List·Memᴰ·tail (List·Memᴰ·tail (List·Memᴰ·head refl))), k _ (List·Memᴰ·tail (List·Memᴰ·tail (List·Memᴰ·tail (List·Memᴰ·head refl)))))
+      go false false k =
+          (k _ (List·Memᴰ·tail (List·Memᴰ·tail (List·Memᴰ·head refl))), k _ (List·Memᴰ·tail (List·Memᴰ·tail (List·Memᴰ·tail (List·Memᴰ·head refl)))))
 
 -- What rows and bits stand for: bit s stands for the expression t s, and row 129, where it has bits, for e itself
 
@@ -168,13 +186,16 @@ module _ (P : Pool) (on : List ℕ) (small : P .count ≤ 128) (e : Expression) 
   C = chosen P on
 
   -- a role's row is that of a head, or 128, or 129 where the role is e
-  pub row-for : (p : Role) → ((rowFor P e p ≡ rowOf P p) × (rowOf P p < P .count) × (headAt P (rowOf P p) ≡ p)) ⊎ (((rowFor P e p ≡ 128) × (rowOf P p ≡ 128)) ⊎ ((rowFor P e p ≡ 129) × (rowOf P p ≡ 128) × (E.Role p ≡ e)))
+  pub row-for : (p : Role) → ((rowFor P e p ≡ rowOf P p) × (rowOf P p < P .count) × (headAt P (rowOf P p) ≡ p))
+      ⊎ (((rowFor P e p ≡ 128) × (rowOf P p ≡ 128)) ⊎ ((rowFor P e p ≡ 129) × (rowOf P p ≡ 128) × (E.Role p ≡ e)))
   unfolding rowFor
   row-for p = ⊎-elim
       (λ l. let r = row-found P small p l in inl (rw (ne-eqb (rowOf P p) 128 (λ q. omega arith)), r .0, r .1))
       (λ q. inr (go (same (E.Role p) e) q refl)) (row-cases P small p)
     where
-      go : (u : Bool) → rowOf P p ≡ 128 → same (E.Role p) e ≡ u → ((cond (eqb (rowOf P p) 128) (cond u 129 128) (rowOf P p) ≡ 128) × (rowOf P p ≡ 128)) ⊎ ((cond (eqb (rowOf P p) 128) (cond u 129 128) (rowOf P p) ≡ 129) × (rowOf P p ≡ 128) × (E.Role p ≡ e))
+      go : (u : Bool) → rowOf P p ≡ 128 → same (E.Role p) e ≡ u
+          → ((cond (eqb (rowOf P p) 128) (cond u 129 128) (rowOf P p) ≡ 128) × (rowOf P p ≡ 128))
+          ⊎ ((cond (eqb (rowOf P p) 128) (cond u 129 128) (rowOf P p) ≡ 129) × (rowOf P p ≡ 128) × (E.Role p ≡ e))
       go true q k = inr (rw (eq-eqb (rowOf P p) 128 q), q, same-eq (E.Role p) e k)
       go false q k = inl (rw (eq-eqb (rowOf P p) 128 q), q)
 
@@ -199,7 +220,8 @@ module _ (P : Pool) (on : List ℕ) (small : P .count ≤ 128) (e : Expression) 
   unfolding Truth
   truth-row r s h = go (eqb r 129) refl h
     where
-      go : (u : Bool) → eqb r 129 ≡ u → cond u asked (ltb r (P .count) && from? C (E.Role (headAt P r)) (t s)) ≡ true → ((r ≡ 129) × (asked ≡ true)) ⊎ (r < P .count)
+      go : (u : Bool) → eqb r 129 ≡ u → cond u asked (ltb r (P .count) && from? C (E.Role (headAt P r)) (t s)) ≡ true
+          → ((r ≡ 129) × (asked ≡ true)) ⊎ (r < P .count)
       go true q k = inl (eqb-true r 129 q, k)
       go false q k = inr (ltb-true r (P .count) (and-parts (ltb r (P .count)) _ k .0))
 
@@ -223,30 +245,37 @@ module _ (P : Pool) (on : List ℕ) (small : P .count ≤ 128) (e : Expression) 
     unnamed : (i j : ℕ) → Unnamed X i → bits (X .named) i j ≡ true → ⊥
     unnamed i j z h = false-true (sym (z .none j) ∙ h)
 
-    module _ (In : ℕ → Type 0) (M : ℕ → ℕ → Bool) (members : (a : Role) (b : ℕ) → bitOf P b < P .count → M (rowOf P a) (bitOf P b) ≡ true → From C (E.Role a) (E.Entity b)) where
+    module _ (In : ℕ → Type 0) (M : ℕ → ℕ → Bool) (members : (a : Role) (b : ℕ) → bitOf P b < P .count → M (rowOf P a) (bitOf P b) ≡ true
+        → From C (E.Role a) (E.Entity b)) where
       -- a rule gives no more than what is true of its expression
       pub takes-sound : (i : ℕ) (x : Expression) → Row P e X i x → (g : ℕ → Bool) → ((s : ℕ) → In s → From C x (t s) → g s ≡ true) → Takes X i In M Truth g
       takes-sound i x (entity q z) g up = record { meet = λ s u a b c d. absurd (no-truth s (rw (q .p0) at a)); link = λ j s u n m v. absurd (unnamed i j z n) }
       takes-sound i x (goal q z) g up = record { meet = λ s u a b c d. absurd (no-truth s (rw (q .p0) at a)); link = λ j s u n m v. absurd (unnamed i j z n) }
-      takes-sound i x (role {p = p} q z) g up = record { meet = λ s u a b c d. up s u (good p s (rw (q .p0) at a)); link = λ j s u n m v. absurd (unnamed i j z n) }
+      takes-sound i x (role {p = p} q z) g up =
+          record { meet = λ s u a b c d. up s u (good p s (rw (q .p0) at a)); link = λ j s u n m v. absurd (unnamed i j z n) }
       takes-sound i x (linked {a = r} {m = name} q f w) g up =
           record {
             meet = λ s u a b c d. absurd (no-truth s (rw (q .p0) at a));
             link = λ j s u n m v.
                 let k = w .says j n in
                 let h₁ : From C (E.Role r) (E.Entity (headAt P j .entity)) = members r (headAt P j .entity) (k .3) (rw (f, k .2) at m) in
-                let h₂ : From C (E.Role (roleOf (headAt P j .entity) name)) (t s) = subst (λ (y : ℕ). From C (E.Role (roleOf (headAt P j .entity) y)) (t s)) (k .1) (from-truth j s (k .0) v) in
+                let h₂ : From C (E.Role (roleOf (headAt P j .entity) name)) (t s) = subst
+                (λ (y : ℕ). From C (E.Role (roleOf (headAt P j .entity) y)) (t s)) (k .1) (from-truth j s (k .0) v) in
                 up s u (transitive (linking h₁) h₂);
           }
       takes-sound i x (meet {p = p} q z) g up =
           record {
-            meet = λ s u a b c d. up s u (intersection (λ o k. four-all p (λ (o : Role). From C (E.Role o) (t s)) (good (p .first) s (rw (q .p0) at a)) (good (p .second) s (rw (q .p1) at b)) (good (third p) s (rw (q .p2) at c)) (good (fourth p) s (rw (q .p3) at d)) o k));
+            meet =
+                λ s u a b c d. up s u (intersection
+                (λ o k. four-all p (λ (o : Role). From C (E.Role o) (t s)) (good (p .first) s (rw (q .p0) at a))
+                (good (p .second) s (rw (q .p1) at b)) (good (third p) s (rw (q .p2) at c)) (good (fourth p) s (rw (q .p3) at d)) o k));
             link = λ j s u n m v. absurd (unnamed i j z n);
           }
 
     -- what is true is a model of the rules
     pub truth-model : Compiled P e X → (own : Bool) (M : List ℕ)
-        → ((a : Role) (b : ℕ) → bitOf P b < P .count → memOf own Truth (bits M) (rowOf P a) (bitOf P b) ≡ true → From C (E.Role a) (E.Entity b)) → Model X on own (bits M) Truth
+        → ((a : Role) (b : ℕ) → bitOf P b < P .count → memOf own Truth (bits M) (rowOf P a) (bitOf P b) ≡ true → From C (E.Role a) (E.Entity b))
+        → Model X on own (bits M) Truth
     unfolding chosen
     truth-model comp own M members =
         record {
@@ -277,7 +306,8 @@ module _ (P : Pool) (on : List ℕ) (small : P .count ≤ 128) (e : Expression) 
       Own s x = (a : Role) × (m : ℕ) × (b : ℕ) × (x ≡ E.Linked a m) × (bitOf P b < P .count) × (M (rowOf P a) (bitOf P b) ≡ true) × (E.Role (roleOf b m) ≡ t s)
 
       -- what holds of an expression its rule gives
-      pub takes-hold : (i s : ℕ) (x : Expression) → In s → Row P e X i x → (g : ℕ → Bool) → Takes X i In M (bits K) g → (x ≡ t s → g s ≡ true) → (Own s x → g s ≡ true) → Hold s x → g s ≡ true
+      pub takes-hold : (i s : ℕ) (x : Expression) → In s → Row P e X i x → (g : ℕ → Bool) → Takes X i In M (bits K) g → (x ≡ t s → g s ≡ true)
+          → (Own s x → g s ≡ true) → Hold s x → g s ≡ true
       takes-hold i s x u (entity q z) g take base own h = base h
       takes-hold i s x u (goal q z) g take base own h = base h
       takes-hold i s x u (role q z) g take base own h = take .meet s u (rw (q .p0) h) (rw (q .p1) h) (rw (q .p2) h) (rw (q .p3) h)
@@ -303,14 +333,16 @@ module _ (P : Pool) (on : List ℕ) (small : P .count ≤ 128) (e : Expression) 
       -- a bit in a role's own row makes the role known
       pub known-of : (p : Role) (s : ℕ) → bits K (rowOf P p) s ≡ true → Known s p
       known-of p s h = ⊎-elim (λ k. rw (k .0) h)
-          (λ v. ⊎-elim (λ k. absurd (no-truth s (within .within 128 s (rw (k .1) at h)))) (λ k. absurd (no-truth s (within .within 128 s (rw (k .1) at h)))) v) (row-for p)
+          (λ v. ⊎-elim (λ k. absurd (no-truth s (within .within 128 s (rw (k .1) at h))))
+          (λ k. absurd (no-truth s (within .within 128 s (rw (k .1) at h)))) v) (row-for p)
 
       module _ (comp : Compiled P e X) (model : (i : ℕ) → i < P .count → el on i ≡ 1 → Takes X i In M (bits K) (bits K (el (X .head) i)))
           (Valid : ℕ → Type 0) (valid : (s : ℕ) → Valid s → In s)
           (self : (s : ℕ) (p : Role) → Valid s → E.Role p ≡ t s → Known s p)
           (base : (i s : ℕ) → i < P .count → el on i ≡ 1 → Valid s → bodyAt P i ≡ t s → bits K (rowOf P (headAt P i)) s ≡ true)
           (own : (i s : ℕ) → i < P .count → el on i ≡ 1 → Valid s → Own s (bodyAt P i) → bits K (rowOf P (headAt P i)) s ≡ true)
-          (via : (a : Role) (b : ℕ) → bitOf P b < P .count → ((s : ℕ) → Valid s → E.Entity b ≡ t s → Known s a) → Reach C (E.Role a) (E.Entity b) → M (rowOf P a) (bitOf P b) ≡ true) where
+          (via : (a : Role) (b : ℕ) → bitOf P b < P .count → ((s : ℕ) → Valid s → E.Entity b ≡ t s → Known s a) → Reach C (E.Role a) (E.Entity b)
+          → M (rowOf P a) (bitOf P b) ≡ true) where
         at-once : (x : Expression) (s : ℕ) → Valid s → x ≡ t s → Hold s x
         at-once (E.Entity b) s v q = q
         at-once (E.Role p) s v q = self s p v q
@@ -329,7 +361,8 @@ module _ (P : Pool) (on : List ℕ) (small : P .count ≤ 128) (e : Expression) 
             let th : c .head ≡ headAt P i = ap (λ (x : Credential). x .head) (r .3) in
             let hd : el (X .head) i ≡ rowOf P (headAt P i) = comp .head i (r .1) in
             let k : bits K (el (X .head) i) s ≡ true =
-            takes-hold i s (bodyAt P i) (valid s v) (comp .row i (r .1)) (bits K (el (X .head) i)) (model i (r .1) (r .2)) (λ z. rw hd (base i s (r .1) (r .2) v z)) (λ z. rw hd (own i s (r .1) (r .2) v z)) (rw tb at (all-held h s v q)) in
+            takes-hold i s (bodyAt P i) (valid s v) (comp .row i (r .1)) (bits K (el (X .head) i)) (model i (r .1) (r .2))
+            (λ z. rw hd (base i s (r .1) (r .2) v z)) (λ z. rw hd (own i s (r .1) (r .2) v z)) (rw tb at (all-held h s v q)) in
             rw th (known-of (headAt P i) s (rw hd at k))
         all-held (link {a = a} {n = n} {b = b} h₁ h₂) s v q =
             let c = role-ends b h₁ in

@@ -41,7 +41,8 @@ row-of P e X i x four first names none = go x four first names none
     quad : {r : Four} → fourAt (X .part) i ≡ r → Quad X i (r .a) (r .b) (r .c) (r .d)
     quad q = record { p0 = ap (λ (r : Four). r .a) q; p1 = ap (λ (r : Four). r .b) q; p2 = ap (λ (r : Four). r .c) q; p3 = ap (λ (r : Four). r .d) q }
 
-    go : (x : Expression) → fourAt (X .part) i ≡ fourRows (rowFor P e) x → el (X .first) i ≡ firstRow P x → ((a : Role) (m : ℕ) → x ≡ E.Linked a m → Names P X i m) → (isLinked x ≡ false → Unnamed X i) → Row P e X i x
+    go : (x : Expression) → fourAt (X .part) i ≡ fourRows (rowFor P e) x → el (X .first) i ≡ firstRow P x
+        → ((a : Role) (m : ℕ) → x ≡ E.Linked a m → Names P X i m) → (isLinked x ≡ false → Unnamed X i) → Row P e X i x
     go (E.Entity b) q f n u = entity (quad q) (u refl)
     go (E.Role p) q f n u = role (quad q) (u refl)
     go (E.Linked a m) q f n u = linked (quad q) f (n a m refl)
@@ -58,7 +59,8 @@ pub linked-name : {a b : Role} {m n : ℕ} → E.Linked a m ≡ E.Linked b n →
 linked-name e = cc
 
 -- rules with other parts, where e is asked about
-pub compiled-of : (P : Pool) → P .count ≤ 128 → (e : Expression) (X Y : Rules) → Ruled P X → Y .count ≡ X .count → Y .words ≤ 2 → Y .head ≡ X .head → Y .first ≡ X .first → Y .named ≡ X .named → Y .src ≡ X .src
+pub compiled-of : (P : Pool) → P .count ≤ 128 → (e : Expression) (X Y : Rules) → Ruled P X → Y .count ≡ X .count → Y .words ≤ 2 → Y .head ≡ X .head
+    → Y .first ≡ X .first → Y .named ≡ X .named → Y .src ≡ X .src
     → PartsTo (rowFor P e) P (P .count) (Y .part) → Compiled P e Y
 compiled-of P small e X Y ruled qc qw qh qf qn qs parts =
     record {
@@ -77,7 +79,11 @@ compiled-of P small e X Y ruled qc qw qh qf qn qs parts =
     }
   where
     unnamed : (i : ℕ) → isLinked (bodyAt P i) ≡ false → Unnamed Y i
-    unnamed i n = record { none = λ j. false-of (bits (Y .named) i j) (λ h. let r = ruled .names .says i j (rw qn at h) in not-linked (bodyAt P i) n (r .0) (r .1) (r .3)) }
+    unnamed i n =
+        record {
+          none = λ j. false-of (bits (Y .named) i j)
+              (λ h. let r = ruled .names .says i j (rw qn at h) in not-linked (bodyAt P i) n (r .0) (r .1) (r .3));
+        }
 
     named : (i : ℕ) → i < P .count → (a : Role) (m : ℕ) → bodyAt P i ≡ E.Linked a m → Names P Y i m
     named i l a m q =
@@ -110,7 +116,12 @@ four-map ρ σ h (E.Goal m) = refl
 pub compiled-plain : (P : Pool) → P .count ≤ 128 → (X : Rules) → Ruled P X → Compiled P (E.Entity 0) X
 compiled-plain P small X ruled =
     compiled-of P small (E.Entity 0) X X ruled refl (ruled .words) refl refl refl refl
-    (record { sized = ruled .part .sized; under = ruled .part .under; four = λ i l. ruled .part .four i l ∙ four-map (rowOf P) (rowFor P (E.Entity 0)) (row-plain P 0) (bodyAt P i) })
+    (record {
+      sized = ruled .part .sized;
+      under = ruled .part .under;
+      four = λ i l. ruled .part .four i l
+          ∙ four-map (rowOf P) (rowFor P (E.Entity 0)) (row-plain P 0) (bodyAt P i);
+    })
 
 -- the rules by their columns
 pub by-columns : (P : Pool) (X : Rules) → Ruled P X → Ruled P (rulesOf (P .count) (X .words) (X .head) (X .part) (X .first) (X .named) (X .src))

@@ -24,7 +24,8 @@ pub first-found : (n : ℕ) (f : ℕ → Bool) → anyTo n f ≡ true → (first
 first-found zero f h = absurd (false-true h)
 first-found (suc n) f h = go (anyTo n f) (f n) refl refl h (λ k. first-found n f k)
   where
-    go : (t u : Bool) → anyTo n f ≡ t → f n ≡ u → (t || u) ≡ true → (anyTo n f ≡ true → (firstTo n f < n) × (f (firstTo n f) ≡ true)) → (cond t (firstTo n f) (cond u n 128) < suc n) × (f (cond t (firstTo n f) (cond u n 128)) ≡ true)
+    go : (t u : Bool) → anyTo n f ≡ t → f n ≡ u → (t || u) ≡ true → (anyTo n f ≡ true → (firstTo n f < n) × (f (firstTo n f) ≡ true))
+        → (cond t (firstTo n f) (cond u n 128) < suc n) × (f (cond t (firstTo n f) (cond u n 128)) ≡ true)
     go true u e k q ih = let r = ih e in let l : firstTo n f < n = r .0 in (omega arith, r .1)
     go false true e k q ih = (omega arith, k)
     go false false e k q ih = absurd (false-true q)

@@ -73,7 +73,8 @@ pub record Unnamed (X : Rules) (i : ℕ) : Type 0 where
 
 -- rule i names the heads with name m whose entity has a bit
 pub record Names (P : Pool) (X : Rules) (i m : ℕ) : Type 0 where
-  pub says : (j : ℕ) → bits (X .named) i j ≡ true → (j < P .count) × (headAt P j .name ≡ m) × (el (X .src) j ≡ bitOf P (headAt P j .entity)) × (bitOf P (headAt P j .entity) < P .count)
+  pub says : (j : ℕ) → bits (X .named) i j ≡ true → (j < P .count) × (headAt P j .name ≡ m) × (el (X .src) j ≡ bitOf P (headAt P j .entity))
+      × (bitOf P (headAt P j .entity) < P .count)
   pub all : (j : ℕ) → j < P .count → headAt P j .name ≡ m → rowOf P (headAt P j) ≡ j → bitOf P (headAt P j .entity) < P .count → bits (X .named) i j ≡ true
 
 -- rule i is that of the expression
@@ -82,7 +83,8 @@ pub data Row (P : Pool) (e : Expression) (X : Rules) (i : ℕ) : Expression → 
   goal : {m : ℕ} → Quad X i 128 128 128 128 → Unnamed X i → Row P e X i (E.Goal m)
   role : {p : Role} → Quad X i (rowFor P e p) (rowFor P e p) (rowFor P e p) (rowFor P e p) → Unnamed X i → Row P e X i (E.Role p)
   linked : {a : Role} {m : ℕ} → Quad X i 128 128 128 128 → el (X .first) i ≡ rowOf P a → Names P X i m → Row P e X i (E.Linked a m)
-  intersection : {p : Parts} → Quad X i (rowFor P e (p .first)) (rowFor P e (p .second)) (rowFor P e (third p)) (rowFor P e (fourth p)) → Unnamed X i → Row P e X i (E.Intersection p)
+  intersection : {p : Parts} → Quad X i (rowFor P e (p .first)) (rowFor P e (p .second)) (rowFor P e (third p)) (rowFor P e (fourth p)) → Unnamed X i
+      → Row P e X i (E.Intersection p)
 
 -- the rules of the pool, e being asked about
 pub record Compiled (P : Pool) (e : Expression) (X : Rules) : Type 0 where

@@ -31,6 +31,8 @@ use Rattle.runs.specs.laws.TwoReplies.{replies-alike}
 use Rattle.numbers.specs.Answer.{Answer, refused, accepted}
 use Rattle.applied.specs.laws.After.{after-within}
 use Rattle.numbers.specs.laws.Answer.{secondOf, isAccepted}
+use Rattle.numbers.specs.Refusals.{LENGTH, TURN, ENDED}
+use Rattle.numbers.specs.Sizes.{NEGOTIATION-BYTES}
 
 -- A message leaves the graph, and the header's side and other end
 
@@ -47,17 +49,19 @@ disclosed-replied T U r = after-disclosed T U (r .state) (moved (r .commands)) (
 
 -- What a call finds is within the sizes
 
-pub restored-within : (s negotiation : List ℕ) (T W : Tables) (S : State) → readTables s ≡ accepted T → R.restoreOf s negotiation ≡ accepted (W, S) → within S ≡ true
+pub restored-within : (s negotiation : List ℕ) (T W : Tables) (S : State) → readTables s ≡ accepted T → R.restoreOf s negotiation ≡ accepted (W, S)
+    → within S ≡ true
 unfolding R.restoreOf readSound
 restored-within s negotiation T W S h a =
-    let b : Bool = eqb (length negotiation) 5120 in
-    go b (readState negotiation) refl (sym (ap (λ (o : Answer Tables). cond b (R.behindTables negotiation o) (refused 1)) h) ∙ a)
+    let b : Bool = eqb (length negotiation) NEGOTIATION-BYTES in
+    go b (readState negotiation) refl (sym (ap (λ (o : Answer Tables). cond b (R.behindTables negotiation o) (refused LENGTH)) h) ∙ a)
   where
     found : (b : Bool) (A : State) → readState negotiation ≡ some A → R.behindDamage T (cond b (some A) none) ≡ accepted (W, S) → within S ≡ true
     found true A q k = ap within (sym (ap (secondOf S) k)) ∙ read-within negotiation A q
     found false A q k = absurd (false-true (ap isAccepted k))
 
-    go : (b : Bool) (x : Option State) → readState negotiation ≡ x → cond b (R.behindDamage T (ifSound T x)) (refused 1) ≡ accepted (W, S) → within S ≡ true
+    go : (b : Bool) (x : Option State) → readState negotiation ≡ x → cond b (R.behindDamage T (ifSound T x)) (refused LENGTH) ≡ accepted (W, S)
+        → within S ≡ true
     go false x q k = absurd (false-true (ap isAccepted k))
     go true none q k = absurd (false-true (ap isAccepted k))
     go true (some A) q k = found (sound T A) A q k
@@ -78,7 +82,7 @@ module _ (T U : Tables) (e : publicOf T ≡ publicOf U) where
       by W = accepted (replyBytes (replyIn W S), repliedState (replyIn W S))
 
       chosen : Bool → Bool → Answer (List ℕ × State) → Answer (List ℕ × State)
-      chosen b d o = cond b (refused 22) (cond d (refused 21) o)
+      chosen b d o = cond b (refused ENDED) (cond d (refused TURN) o)
 
       shut : (W : Tables) → Undisclosed T U (by W) → isDisclosed T U (replyIn W S .state) ≡ false
       shut W q = sym (disclosed-replied T U (replyIn W S)) ∙ q
@@ -86,7 +90,8 @@ module _ (T U : Tables) (e : publicOf T ≡ publicOf U) where
       go : (b d : Bool) → Undisclosed T U (chosen b d (by T)) ⊎ Undisclosed T U (chosen b d (by U)) → chosen b d (by T) ≡ chosen b d (by U)
       go true d k = refl
       go false true k = refl
-      go false false k = ap (λ (r : Replied). accepted (replyBytes r, repliedState r)) (replies-alike T U e S w (⊎-elim (λ q. inl (shut T q)) (λ q. inr (shut U q)) k))
+      go false false k =
+          ap (λ (r : Replied). accepted (replyBytes r, repliedState r)) (replies-alike T U e S w (⊎-elim (λ q. inl (shut T q)) (λ q. inr (shut U q)) k))
 
   -- Two calls for a reply whose tables differ only in which sensitive roles are held and in access policies: where one of them leaves no differing
   -- role's Ack target satisfied, they have one outcome
@@ -94,17 +99,22 @@ module _ (T U : Tables) (e : publicOf T ≡ publicOf U) where
       → Undisclosed T U (replyOf s negotiation reply scratch) ⊎ Undisclosed T U (replyOf t negotiation reply scratch)
       → replyOf s negotiation reply scratch ≡ replyOf t negotiation reply scratch
   unfolding replyOf
-  reply-public s t h k negotiation reply scratch q = sized (replySize (length reply) (length scratch)) (R.restoreOf s negotiation) (R.restoreOf t negotiation) (P.restore-alike T U e s t h k negotiation) (λ S a. restored-within s negotiation T T S h a) q
+  reply-public s t h k negotiation reply scratch q =
+      sized (replySize (length reply) (length scratch)) (R.restoreOf s negotiation) (R.restoreOf t negotiation)
+      (P.restore-alike T U e s t h k negotiation) (λ S a. restored-within s negotiation T T S h a) q
     where
-      both : (x y : Answer (Tables × State)) → P.Alike T U x y → ((S : State) → x ≡ accepted (T, S) → within S ≡ true) → Undisclosed T U (behindStanding x) ⊎ Undisclosed T U (behindStanding y) → behindStanding x ≡ behindStanding y
+      both : (x y : Answer (Tables × State)) → P.Alike T U x y → ((S : State) → x ≡ accepted (T, S) → within S ≡ true)
+          → Undisclosed T U (behindStanding x) ⊎ Undisclosed T U (behindStanding y) → behindStanding x ≡ behindStanding y
       both x y (P.both-refused n a b) w c = ap behindStanding a ∙ sym (ap behindStanding b)
       both x y (P.both-found S a b) w c =
           ap behindStanding a
-          ∙ replied-alike S (w S a) (⊎-elim (λ z. inl (subst (λ (v : Answer (Tables × State)). Undisclosed T U (behindStanding v)) a z)) (λ z. inr (subst (λ (v : Answer (Tables × State)). Undisclosed T U (behindStanding v)) b z)) c)
+          ∙ replied-alike S (w S a) (⊎-elim (λ z. inl (subst (λ (v : Answer (Tables × State)). Undisclosed T U (behindStanding v)) a z))
+          (λ z. inr (subst (λ (v : Answer (Tables × State)). Undisclosed T U (behindStanding v)) b z)) c)
           ∙ sym (ap behindStanding b)
 
       sized : (c : Bool) (x y : Answer (Tables × State)) → P.Alike T U x y → ((S : State) → x ≡ accepted (T, S) → within S ≡ true)
-          → Undisclosed T U (cond c (behindStanding x) (refused 1)) ⊎ Undisclosed T U (cond c (behindStanding y) (refused 1)) → cond c (behindStanding x) (refused 1) ≡ cond c (behindStanding y) (refused 1)
+          → Undisclosed T U (cond c (behindStanding x) (refused LENGTH)) ⊎ Undisclosed T U (cond c (behindStanding y) (refused LENGTH))
+          → cond c (behindStanding x) (refused LENGTH) ≡ cond c (behindStanding y) (refused LENGTH)
       sized true x y l w c = both x y l w c
       sized false x y l w c = refl
 
@@ -127,7 +137,7 @@ module _ {P : State → Type 0} (k : Stays P) (after : (S : State) (m full : Boo
       r : Replied
       r = replyIn W S
 
-      go : (b d : Bool) → cond b (refused 22) (cond d (refused 21) (accepted (replyBytes r, repliedState r))) ≡ accepted (m, A) → P A
+      go : (b d : Bool) → cond b (refused ENDED) (cond d (refused TURN) (accepted (replyBytes r, repliedState r))) ≡ accepted (m, A) → P A
       go true d q = absurd (false-true (ap isGiven q))
       go false true q = absurd (false-true (ap isGiven q))
       go false false q = subst P (ap left q) (after (r .state) (moved (r .commands)) (r .full) (reply-stays k W S h))
@@ -135,7 +145,8 @@ module _ {P : State → Type 0} (k : Stays P) (after : (S : State) (m full : Boo
   taken-kept : (m : List ℕ) → takenIn m W S ≡ accepted A → P A
   taken-kept m e =
       let t : Took m W S A = took m W S A e in
-      subst P (sym (t .after)) (after (t .led) (t .moved) false (commands-stay k (length m) (W .names) (K.senderTo S) m 0 S false (t .led) (t .moved) h (t .commands)))
+      subst P (sym (t .after)) (after (t .led) (t .moved) false
+      (commands-stay k (length m) (W .names) (K.senderTo S) m 0 S false (t .led) (t .moved) h (t .commands)))
 
 -- a reply given keeps the sizes, as a message taken does
 pub given-within : (W : Tables) (S A : State) → within S ≡ true → (m : List ℕ) → repliedIn W S ≡ accepted (m, A) → within A ≡ true

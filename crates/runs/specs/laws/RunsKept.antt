@@ -25,6 +25,7 @@ use Rattle.begin.specs.laws.Kept.{begin-undamaged}
 use Rattle.runs.specs.Runs.{Call, take, reply, report, takenTo, givenTo, afterCall, after}
 use Rattle.numbers.specs.Answer.{Answer, refused, accepted}
 use Rattle.applied.specs.laws.After.{after-within}
+use Rattle.numbers.specs.Refusals.{LENGTH}
 
 -- What a call finds in the bytes of a state
 
@@ -37,9 +38,10 @@ pub finds : (tables : List ℕ) (T : Tables) (S : State) → C.readTables tables
 unfolding R.restoreOf readSound
 finds tables T S h w =
     let b : Bool = eqb (length (stateBytes S)) 5120 in
-    go b (sound T S) (ap (λ (o : Answer Tables). cond b (R.behindTables (stateBytes S) o) (refused 1)) h ∙ ap (λ (x : Option State). cond b (R.behindDamage T (ifSound T x)) (refused 1)) (state-back S w))
+    go b (sound T S) (ap (λ (o : Answer Tables). cond b (R.behindTables (stateBytes S) o) (refused LENGTH)) h
+    ∙ ap (λ (x : Option State). cond b (R.behindDamage T (ifSound T x)) (refused LENGTH)) (state-back S w))
   where
-    go : {x : Answer (Tables × State)} (b c : Bool) → x ≡ cond b (R.behindDamage T (cond c (some S) none)) (refused 1) → Finds T S x
+    go : {x : Answer (Tables × State)} (b c : Bool) → x ≡ cond b (R.behindDamage T (cond c (some S) none)) (refused LENGTH) → Finds T S x
     go true true e = found e
     go true false e = refused 20 e
     go false c e = refused 1 e
@@ -54,13 +56,14 @@ pub record Keeps (P : State → Type 0) : Type 0 where
 module _ {P : State → Type 0} (k : Keeps P) (tables : List ℕ) (T : Tables) (h : C.readTables tables ≡ accepted T) where
   take-keeps : (S : State) (message scratch : List ℕ) → P S → P (takenTo S (K.takeOf tables (stateBytes S) message scratch))
   unfolding K.takeOf
-  take-keeps S message scratch p = sized (K.messageSize (length message) (length scratch)) (R.restoreOf tables (stateBytes S)) (finds tables T S h (k .sizes S p))
+  take-keeps S message scratch p =
+      sized (K.messageSize (length message) (length scratch)) (R.restoreOf tables (stateBytes S)) (finds tables T S h (k .sizes S p))
     where
       led : (o : Answer State) → K.takenIn message T S ≡ o → P (takenTo S o)
       led (refused n) e = p
       led (accepted N) e = k .taken T S N p message e
 
-      sized : (b : Bool) (x : Answer (Tables × State)) → Finds T S x → P (takenTo S (cond b (K.behindStanding message x) (refused 1)))
+      sized : (b : Bool) (x : Answer (Tables × State)) → Finds T S x → P (takenTo S (cond b (K.behindStanding message x) (refused LENGTH)))
       sized false x f = p
       sized true x (refused n e) = subst (λ (v : Answer (Tables × State)). P (takenTo S (K.behindStanding message v))) (sym e) p
       sized true x (found e) = subst (λ (v : Answer (Tables × State)). P (takenTo S (K.behindStanding message v))) (sym e) (led (K.takenIn message T S) refl)
@@ -73,7 +76,7 @@ module _ {P : State → Type 0} (k : Keeps P) (tables : List ℕ) (T : Tables) (
       led (refused n) e = p
       led (accepted (m, N)) e = k .given T S N p m e
 
-      sized : (b : Bool) (x : Answer (Tables × State)) → Finds T S x → P (givenTo S (cond b (A.behindStanding x) (refused 1)))
+      sized : (b : Bool) (x : Answer (Tables × State)) → Finds T S x → P (givenTo S (cond b (A.behindStanding x) (refused LENGTH)))
       sized false x f = p
       sized true x (refused n e) = subst (λ (v : Answer (Tables × State)). P (givenTo S (A.behindStanding v))) (sym e) p
       sized true x (found e) = subst (λ (v : Answer (Tables × State)). P (givenTo S (A.behindStanding v))) (sym e) (led (A.repliedIn T S) refl)
@@ -94,13 +97,15 @@ module _ {P : State → Type 0} (k : Keeps P) (tables : List ℕ) (T : Tables) (
 taken-sizes : (W : Tables) (S N : State) → within S ≡ true → (m : List ℕ) → K.takenIn m W S ≡ accepted N → within N ≡ true
 taken-sizes W S N w m e =
     let t : Took m W S N = took m W S N e in
-    ap within (t .after) ∙ after-within (t .led) (t .moved) false ∙ commands-stay within-kept (length m) (W .names) (senderTo S) m 0 S false (t .led) (t .moved) w (t .commands)
+    ap within (t .after) ∙ after-within (t .led) (t .moved) false
+    ∙ commands-stay within-kept (length m) (W .names) (senderTo S) m 0 S false (t .led) (t .moved) w (t .commands)
 
 pub keeps-sizes : Keeps (λ S. within S ≡ true)
 keeps-sizes = record { sizes = λ S w. w; taken = λ W S N w m e. taken-sizes W S N w m e; given = λ W S N w m e. given-within W S N w m e }
 
 pub keeps-disclosed : (T U : Tables) → Keeps (DisclosedIn T U)
-keeps-disclosed T U = record { sizes = λ S p. p .sizes; taken = λ W S N p m e. taken-disclosed T U W S N p m e; given = λ W S N p m e. given-disclosed T U W S N p m e }
+keeps-disclosed T U =
+    record { sizes = λ S p. p .sizes; taken = λ W S N p m e. taken-disclosed T U W S N p m e; given = λ W S N p m e. given-disclosed T U W S N p m e }
 
 -- What begin makes is within the sizes
 
@@ -112,7 +117,8 @@ abbrev stateIn : State → Option State → State
 stateIn S none = S
 stateIn S (some N) = N
 
-pub begun-within : (tables negotiation : List ℕ) (other entity name : ℕ) (T : Tables) (S : State) → C.readTables tables ≡ accepted T → beginOf tables negotiation other entity name ≡ accepted S → within S ≡ true
+pub begun-within : (tables negotiation : List ℕ) (other entity name : ℕ) (T : Tables) (S : State) → C.readTables tables ≡ accepted T
+    → beginOf tables negotiation other entity name ≡ accepted S → within S ≡ true
 unfolding readSound
 begun-within tables negotiation other entity name T S h e = go (readState (stateBytes S)) refl (begin-undamaged tables negotiation other entity name e h)
   where

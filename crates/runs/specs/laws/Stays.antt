@@ -33,6 +33,7 @@ use Rattle.moves.specs.Carried.{carried, hasRoomFor}
 use Rattle.reply.specs.Reply.{Replied, stopped, withMove, replyFrom, opening, replyIn}
 use Rattle.numbers.specs.Answer.{Answer, refused, accepted, judged}
 use Rattle.numbers.specs.laws.Answer.{firstOf}
+use Rattle.numbers.specs.Sizes.{MOST-NODES}
 
 -- every command that has room keeps P
 pub record Stays (P : State → Type 0) : Type 0 where
@@ -58,7 +59,9 @@ opening-room W S = go (eqb (length (S .nodes)) 0) refl
     first = Open (record { role = S .header .wanted; state = initialState (W .names) true (E.Role (S .header .wanted)) })
 
     go : (b : Bool) → eqb (length (S .nodes)) 0 ≡ b → hasRoomFor (S .header .side) S (cond b (first ∷ []) []) ≡ true
-    go true q = let z : length (S .nodes) ≡ 0 = eqb-true (length (S .nodes)) 0 q in and-both (ltb (length (S .nodes)) 128) true (lt-ltb (length (S .nodes)) 128 (omega (arith, z))) refl
+    go true q =
+        let z : length (S .nodes) ≡ 0 = eqb-true (length (S .nodes)) 0 q in and-both (ltb (length (S .nodes)) MOST-NODES) true
+        (lt-ltb (length (S .nodes)) MOST-NODES (omega (arith, z))) refl
     go false q = refl
 
 abbrev number : Answer (State × Bool) → ℕ
@@ -113,7 +116,8 @@ module _ {P : State → Type 0} (k : Stays P) where
   judged-stays zero t A v ih e = ih refl e
   judged-stays (suc n) t A v ih e = absurd (refused-taken e)
 
-  command-stays : (next : ℕ → State → Bool → Answer (State × Bool)) (ns : List Name) (s : ℕ) (S : State) (moved : Bool) (a : CommandAnswer) (A : State) (v : Bool)
+  command-stays : (next : ℕ → State → Bool → Answer (State × Bool)) (ns : List Name) (s : ℕ) (S : State) (moved : Bool) (a : CommandAnswer)
+      (A : State) (v : Bool)
       → ((size : ℕ) (R : State) (m : Bool) → P R → next size R m ≡ accepted (A, v) → P A)
       → P S → onCommand next ns s S moved a ≡ accepted (A, v) → P A
   command-stays next ns s S moved (Refused n) A v ih h e = absurd (refused-taken e)
@@ -126,12 +130,15 @@ module _ {P : State → Type 0} (k : Stays P) where
       go true more q = subst P (ap (firstOf S) q) h
       go false more q = more q
 
-  pub commands-stay : (f : ℕ) (ns : List Name) (s : ℕ) (m : List ℕ) (at : ℕ) (S : State) (moved : Bool) (A : State) (v : Bool) → P S → commandsFrom f ns s m at S moved ≡ accepted (A, v) → P A
+  pub commands-stay : (f : ℕ) (ns : List Name) (s : ℕ) (m : List ℕ) (at : ℕ) (S : State) (moved : Bool) (A : State) (v : Bool) → P S
+      → commandsFrom f ns s m at S moved ≡ accepted (A, v) → P A
   unfolding commandsFrom
   commands-stay zero ns s m at S moved A v h e = absurd (refused-taken e)
   commands-stay (suc f) ns s m at S moved A v h e =
-      command-stays (λ size R w. commandsFrom f ns s m (at + size) R w) ns s S moved (commandAt m at) A v (λ size R w p q. commands-stay f ns s m (at + size) R w A v p q) h e
+      command-stays (λ size R w. commandsFrom f ns s m (at + size) R w) ns s S moved (commandAt m at) A v
+      (λ size R w p q. commands-stay f ns s m (at + size) R w A v p q) h e
 
 -- By whichever tables a reply goes on, an Ack target of a differing role that is satisfied is so at its end
-pub disclosed-stays : (T U : Tables) (f : ℕ) (W : Tables) (S : State) (cs : List Command) → within S ≡ true → isDisclosed T U S ≡ true → isDisclosed T U (replyFrom f W S cs .state) ≡ true
+pub disclosed-stays : (T U : Tables) (f : ℕ) (W : Tables) (S : State) (cs : List Command) → within S ≡ true → isDisclosed T U S ≡ true
+    → isDisclosed T U (replyFrom f W S cs .state) ≡ true
 disclosed-stays T U f W S cs w h = from-stays (disclosed-kept T U) f W S cs (record { sizes = w; opened = h }) .opened

@@ -56,37 +56,48 @@ module _ (T U : Tables) (e : publicOf T ≡ publicOf U) where
       go false q d k = refl
 
   -- the two are shut at the end, so they were at the start
-  undisclosed-before : (f : ℕ) (S : State) (cs : List Command) → within S ≡ true → OneUndisclosed (replyFrom f T S cs) (replyFrom f U S cs) → isDisclosed T U S ≡ false
-  undisclosed-before f S cs w h = not-of (isDisclosed T U S) (λ o. ⊎-elim (λ k. false-true (sym k ∙ disclosed-stays T U f T S cs w o)) (λ k. false-true (sym k ∙ disclosed-stays T U f U S cs w o)) h)
+  undisclosed-before : (f : ℕ) (S : State) (cs : List Command) → within S ≡ true → OneUndisclosed (replyFrom f T S cs) (replyFrom f U S cs)
+      → isDisclosed T U S ≡ false
+  undisclosed-before f S cs w h =
+      not-of (isDisclosed T U S) (λ o. ⊎-elim (λ k. false-true (sym k ∙ disclosed-stays T U f T S cs w o))
+      (λ k. false-true (sym k ∙ disclosed-stays T U f U S cs w o)) h)
 
-  from-alike : (f : ℕ) (S : State) (cs : List Command) → within S ≡ true → OneUndisclosed (replyFrom f T S cs) (replyFrom f U S cs) → replyFrom f T S cs ≡ replyFrom f U S cs
+  from-alike : (f : ℕ) (S : State) (cs : List Command) → within S ≡ true → OneUndisclosed (replyFrom f T S cs) (replyFrom f U S cs)
+      → replyFrom f T S cs ≡ replyFrom f U S cs
   unfolding replyFrom
   from-alike zero S cs w h = refl
   from-alike (suc f) S cs w h =
-      go (eqb (propagated (S .nodes) (S .edges) 0) 1) (nextMove (endIn T S)) (nextMove (endIn U S)) (move-alike T U e S (undisclosed-before (suc f) S cs w h)) (λ R ds v k. from-alike f R ds v k) h
+      go (eqb (propagated (S .nodes) (S .edges) 0) 1) (nextMove (endIn T S)) (nextMove (endIn U S))
+      (move-alike T U e S (undisclosed-before (suc f) S cs w h)) (λ R ds v k. from-alike f R ds v k) h
     where
       by : Tables → Bool → Move → Replied
       by W b m = cond b (stopped cs S false) (withMove (λ R ds. replyFrom f W R ds) S cs m)
 
       same-move : (b : Bool) (m : Move)
-          → ((R : State) (ds : List Command) → within R ≡ true → OneUndisclosed (replyFrom f T R ds) (replyFrom f U R ds) → replyFrom f T R ds ≡ replyFrom f U R ds)
+          → ((R : State) (ds : List Command) → within R ≡ true → OneUndisclosed (replyFrom f T R ds) (replyFrom f U R ds)
+          → replyFrom f T R ds ≡ replyFrom f U R ds)
           → OneUndisclosed (by T b m) (by U b m) → by T b m ≡ by U b m
       same-move true m ih k = refl
       same-move false m ih k = with-alike (λ R ds. replyFrom f T R ds) (λ R ds. replyFrom f U R ds) S cs m ih w k
 
       go : (b : Bool) (m n : Move) → m ≡ n
-          → ((R : State) (ds : List Command) → within R ≡ true → OneUndisclosed (replyFrom f T R ds) (replyFrom f U R ds) → replyFrom f T R ds ≡ replyFrom f U R ds)
+          → ((R : State) (ds : List Command) → within R ≡ true → OneUndisclosed (replyFrom f T R ds) (replyFrom f U R ds)
+          → replyFrom f T R ds ≡ replyFrom f U R ds)
           → OneUndisclosed (by T b m) (by U b n) → by T b m ≡ by U b n
       go b m n q ih k = same-move b m ih (subst (λ (x : Move). OneUndisclosed (by T b m) (by U b x)) (sym q) k) ∙ ap (by U b) q
 
   opening-alike : (S : State) → opening T S ≡ opening U S
-  opening-alike S = ap (λ (ns : List Name). cond (eqb (length (S .nodes)) 0) (Open (record { role = S .header .wanted; state = initialState ns true (E.Role (S .header .wanted)) }) ∷ []) []) same-names
+  opening-alike S =
+      ap (λ (ns : List Name). cond (eqb (length (S .nodes)) 0)
+      (Open (record { role = S .header .wanted; state = initialState ns true (E.Role (S .header .wanted)) }) ∷ []) []) same-names
 
   -- Where, after one of the two replies, no differing role's Ack target is satisfied, they are the same
-  pub replies-alike : (S : State) → within S ≡ true → (isDisclosed T U (replyIn T S .state) ≡ false) ⊎ (isDisclosed T U (replyIn U S .state) ≡ false) → replyIn T S ≡ replyIn U S
+  pub replies-alike : (S : State) → within S ≡ true → (isDisclosed T U (replyIn T S .state) ≡ false) ⊎ (isDisclosed T U (replyIn U S .state) ≡ false)
+      → replyIn T S ≡ replyIn U S
   unfolding replyIn
   replies-alike S w h =
       let s : ℕ = S .header .side in
       let by : List Command → Replied = λ cs. replyFrom 4096 U (carried s S cs) cs in
       let q : by (opening T S) ≡ by (opening U S) = ap by (opening-alike S) in
-      from-alike 4096 (carried s S (opening T S)) (opening T S) (opening-stays within-kept T S w) (subst (λ (r : Replied). OneUndisclosed (replyIn T S) r) (sym q) h) ∙ q
+      from-alike 4096 (carried s S (opening T S)) (opening T S) (opening-stays within-kept T S w)
+      (subst (λ (r : Replied). OneUndisclosed (replyIn T S) r) (sym q) h) ∙ q

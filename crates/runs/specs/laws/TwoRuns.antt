@@ -25,7 +25,8 @@ use Rattle.runs.specs.laws.ReplyPublic.{Undisclosed, reply-public}
 use Rattle.report.specs.laws.ReportPublic.{report-public}
 use Rattle.begin.specs.Begin.{beginOf}
 use Rattle.begin.specs.laws.Kept.{begin-alike}
-use Rattle.runs.specs.Runs.{Call, take, reply, report, leftByTake, leftByReply, leftByReport, leftBy, run, takenTo, givenTo, afterCall, after, Differing, held, policy, NoneSatisfied}
+use Rattle.runs.specs.Runs.{Call, take, reply, report, leftByTake, leftByReply, leftByReport, leftBy, run, takenTo, givenTo, afterCall, after}
+use Rattle.runs.specs.Runs.{Differing, held, policy, NoneSatisfied}
 use Rattle.runs.specs.laws.Runs.{left-after}
 use Rattle.runs.specs.laws.RunsKept.{call-keeps, calls-keep, keeps-sizes, keeps-disclosed, begun-within}
 use Rattle.numbers.specs.Answer.{Answer, refused, accepted}
@@ -40,7 +41,9 @@ same-or-not false false = inl refl
 
 -- a sensitive role that differs is held in one only, or its access policies differ
 differs-differing : (T U : Tables) (r : Role) → T .sensitive ≡ U .sensitive → isSensitive (T .sensitive) r ≡ true → Differs T U r → Differing T U r
-differs-differing T U r e s d = ⊎-elim (λ h. policy (λ a. d (holding-alike T U r e s h a))) (λ h. held h) (same-or-not (holds (T .own) (T .subjectStored) r) (holds (U .own) (U .subjectStored) r))
+differs-differing T U r e s d =
+    ⊎-elim (λ h. policy (λ a. d (holding-alike T U r e s h a))) (λ h. held h)
+    (same-or-not (holds (T .own) (T .subjectStored) r) (holds (U .own) (U .subjectStored) r))
 
 stands-sensitive : (P : List Pair) (p : Pair) → List·Memᴰ p P → isSensitive P (p .role) ≡ true
 unfolding isSensitive
@@ -50,7 +53,8 @@ none-disclosed : (T U : Tables) (S : State) → T .sensitive ≡ U .sensitive �
 none-disclosed T U S e n = not-of (isDisclosed T U S) (λ h. shut (disclosed-exact T U S .0 h))
   where
     shut : Disclosed T U S → ⊥
-    shut o = n (o .pair) (o .stands) (differs-differing T U (o .pair .role) e (stands-sensitive (T .sensitive) (o .pair) (o .stands)) (o .differs)) (o .acknowledged)
+    shut o =
+        n (o .pair) (o .stands) (differs-differing T U (o .pair .role) e (stands-sensitive (T .sensitive) (o .pair) (o .stands)) (o .differs)) (o .acknowledged)
 
 -- One call
 
@@ -67,13 +71,17 @@ module _ (T U : Tables) (e : publicOf T ≡ publicOf U) (s t : List ℕ) (h : re
       let o = take-public s t T U h k e (stateBytes S) message scratch in
       (ap (leftByTake (stateBytes S) message scratch) o, ap (takenTo S) o)
   call-alike S (reply buffer scratch) q =
-      let o = reply-public T U e s t h k (stateBytes S) buffer scratch (⊎-elim (λ z. inl (undisclosed T U S (A.replyOf s (stateBytes S) buffer scratch) z)) (λ z. inr (undisclosed T U S (A.replyOf t (stateBytes S) buffer scratch) z)) q) in
+      let o = reply-public T U e s t h k (stateBytes S) buffer scratch
+      (⊎-elim (λ z. inl (undisclosed T U S (A.replyOf s (stateBytes S) buffer scratch) z))
+      (λ z. inr (undisclosed T U S (A.replyOf t (stateBytes S) buffer scratch) z)) q) in
       (ap (leftByReply (stateBytes S) buffer scratch) o, ap (givenTo S) o)
   call-alike S (report node) q = (ap (leftByReport (stateBytes S)) (report-public s t T U h k e (stateBytes S) node), refl)
 
   -- not open at the end, not open before
-  undisclosed-earlier : (w : List ℕ) (W : Tables) → readTables w ≡ accepted W → (S : State) (cs : List Call) → within S ≡ true → isDisclosed T U (after w S cs) ≡ false → isDisclosed T U S ≡ false
-  undisclosed-earlier w W r S cs v z = not-of (isDisclosed T U S) (λ o. false-true (sym z ∙ calls-keep (keeps-disclosed T U) w W r S cs (record { sizes = v; opened = o }) .opened))
+  undisclosed-earlier : (w : List ℕ) (W : Tables) → readTables w ≡ accepted W → (S : State) (cs : List Call) → within S ≡ true
+      → isDisclosed T U (after w S cs) ≡ false → isDisclosed T U S ≡ false
+  undisclosed-earlier w W r S cs v z =
+      not-of (isDisclosed T U S) (λ o. false-true (sym z ∙ calls-keep (keeps-disclosed T U) w W r S cs (record { sizes = v; opened = o }) .opened))
 
   -- A list of calls
   pub calls-alike : (cs : List Call) (S : State) → within S ≡ true → (isDisclosed T U (after s S cs) ≡ false) ⊎ (isDisclosed T U (after t S cs) ≡ false)
@@ -83,7 +91,8 @@ module _ (T U : Tables) (e : publicOf T ≡ publicOf U) (s t : List ℕ) (h : re
   calls-alike (c ∷ cs) S w q =
       let ws : within (afterCall s S c) ≡ true = call-keeps keeps-sizes s T h S c w in
       let wt : within (afterCall t S c) ≡ true = call-keeps keeps-sizes t U k S c w in
-      let one = call-alike S c (⊎-elim (λ z. inl (undisclosed-earlier s T h (afterCall s S c) cs ws z)) (λ z. inr (undisclosed-earlier t U k (afterCall t S c) cs wt z)) q) in
+      let one = call-alike S c (⊎-elim (λ z. inl (undisclosed-earlier s T h (afterCall s S c) cs ws z))
+      (λ z. inr (undisclosed-earlier t U k (afterCall t S c) cs wt z)) q) in
       let l : leftBy s (stateBytes S) c ≡ leftBy t (stateBytes S) c = one .0 in
       let n : afterCall s S c ≡ afterCall t S c = one .1 in
       let rest = calls-alike cs (afterCall s S c) ws (⊎-elim (λ z. inl z) (λ z. inr (ap (λ (N : State). isDisclosed T U (after t N cs)) n ∙ z)) q) in
@@ -95,12 +104,14 @@ module _ (T U : Tables) (e : publicOf T ≡ publicOf U) (s t : List ℕ) (h : re
 
 -- Two runs whose tables differ only in which sensitive roles are held and in access policies
 
-module _ (s t : List ℕ) (T U : Tables) (h : readTables s ≡ accepted T) (k : readTables t ≡ accepted U) (d : DifferOnly T U) (negotiation : List ℕ) (other entity name : ℕ) where
+module _ (s t : List ℕ) (T U : Tables) (h : readTables s ≡ accepted T) (k : readTables t ≡ accepted U) (d : DifferOnly T U) (negotiation : List ℕ)
+    (other entity name : ℕ) where
   -- "Begin, given the same arguments and, but for the tables, the same buffers in both runs, answers alike and leaves the same bytes; where it
   -- accepts, the list starts there." While in one of the runs no differing role's Ack target is satisfied, every call of the list answers alike
   -- and leaves the same bytes in both.
   pub two-runs : (beginOf s negotiation other entity name ≡ beginOf t negotiation other entity name)
-      × ((S : State) → beginOf s negotiation other entity name ≡ accepted S → (cs : List Call) → NoneSatisfied T U (after s S cs) ⊎ NoneSatisfied T U (after t S cs)
+      × ((S : State) → beginOf s negotiation other entity name ≡ accepted S → (cs : List Call)
+      → NoneSatisfied T U (after s S cs) ⊎ NoneSatisfied T U (after t S cs)
       → (run s (stateBytes S) cs ≡ run t (stateBytes S) cs) × (after s S cs ≡ after t S cs))
   two-runs =
       let e : publicOf T ≡ publicOf U = accepted-public s t T U h k .0 d in (

@@ -54,7 +54,8 @@ module _ (f : Credential → Bool) (S P : Pool) (on : List ℕ) where
   one-more C c true b h = ap (λ (x : Bool). keep f C ++ cond x (c ∷ []) []) h ∙ sym (keep-append f C (c ∷ []))
   one-more C c false b h = ap (λ (x : Bool). keep f C ++ cond x (c ∷ []) []) h ∙ sym (keep-append f C [])
 
-  pub behind-next : {i : ℕ} {Q R : Pool} {b : Bool} {c : Credential} → Behind f S P on i Q → i < P .count → c ≡ credentialAt P i → b ≡ (eqb (el on i) 1 && f c) → StoredIf b c Q R → Behind f S P on (i + 1) R
+  pub behind-next : {i : ℕ} {Q R : Pool} {b : Bool} {c : Credential} → Behind f S P on i Q → i < P .count → c ≡ credentialAt P i
+      → b ≡ (eqb (el on i) 1 && f c) → StoredIf b c Q R → Behind f S P on (i + 1) R
   behind-next {i} {Q} {R} {b} {c} h l ce be s =
       record {
         within = omega arith;

@@ -39,11 +39,13 @@ module _ (o : End) where
   neededAt : Candidate → Node → List Credential
   neededAt w n = needed (o .state .shown) (n .expression) (w .expression) (unshown o (sideSet o n))
 
-  picks : (w : Candidate) (n : Node) (k d : Bool) → k ≡ eqb (w .kind) 1 → d ≡ w .direct → cond k (cond d (directFor o (n .expression)) (neededAt w n)) [] ≡ credentialsFor o n w
+  picks : (w : Candidate) (n : Node) (k d : Bool) → k ≡ eqb (w .kind) 1 → d ≡ w .direct
+      → cond k (cond d (directFor o (n .expression)) (neededAt w n)) [] ≡ credentialsFor o n w
   unfolding credentialsFor neededAt
   picks w n k d ke de = λ j. cond (ke j) (cond (de j) (directFor o (n .expression)) (neededAt w n)) []
 
-  needed-is : (w : Candidate) (n : Node) → needed (o .state .shown) (n .expression) (w .expression) (unshownOf (o .state .shown) (sideSetOf (o .tables) (o .state .header .side) n)) ≡ neededAt w n
+  needed-is : (w : Candidate) (n : Node) → needed (o .state .shown) (n .expression) (w .expression)
+      (unshownOf (o .state .shown) (sideSetOf (o .tables) (o .state .header .side) n)) ≡ neededAt w n
   unfolding unshownOf sideSetOf neededAt
   needed-is w n = refl
 
@@ -64,7 +66,8 @@ module _ (o : End) where
           ∙ picks w (nodeIn (o .state .nodes) i) true true (sym (eq-eqb (w .kind) 1 kind)) (sym h))
           s
 
-      pub edge-needed : w .direct ≡ false → Sends (needed (o .state .shown) (x .expression) (w .expression) (unshownOf (o .state .shown) (sideSetOf (o .tables) (o .state .header .side) x))) c r → EdgeSent o i w r
+      pub edge-needed : w .direct ≡ false → Sends (needed (o .state .shown) (x .expression) (w .expression)
+          (unshownOf (o .state .shown) (sideSetOf (o .tables) (o .state .header .side) x))) c r → EdgeSent o i w r
       edge-needed h s =
           sends-edge
           (needed-is w x
@@ -75,8 +78,12 @@ module _ (o : End) where
   module _ (found : Found) {r : Outgoing} where
     pub sent-edge : {w : Candidate} → found .choice ≡ K.Edge w → EdgeSent o (found .node) w r → commandsOf r ≡ foundMove o found
     unfolding commandsOf foundMove commandFor
-    sent-edge h s = ap₂ (λ (cs : List Credential) (c : Command). map Show cs ++ (c ∷ [])) (s .sends .shows) (s .sends .command) ∙ ap (moveFor o (found .node) (nodeIn (o .state .nodes) (found .node))) (sym h)
+    sent-edge h s =
+        ap₂ (λ (cs : List Credential) (c : Command). map Show cs ++ (c ∷ [])) (s .sends .shows) (s .sends .command)
+        ∙ ap (moveFor o (found .node) (nodeIn (o .state .nodes) (found .node))) (sym h)
 
     pub sent-mark : found .choice ≡ K.Mark → Sends [] (Mark (found .node)) r → commandsOf r ≡ foundMove o found
     unfolding commandsOf foundMove
-    sent-mark h s = ap₂ (λ (cs : List Credential) (c : Command). map Show cs ++ (c ∷ [])) (s .shows) (s .command) ∙ ap (moveFor o (found .node) (nodeIn (o .state .nodes) (found .node))) (sym h)
+    sent-mark h s =
+        ap₂ (λ (cs : List Credential) (c : Command). map Show cs ++ (c ∷ [])) (s .shows) (s .command)
+        ∙ ap (moveFor o (found .node) (nodeIn (o .state .nodes) (found .node))) (sym h)

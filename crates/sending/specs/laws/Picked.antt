@@ -24,7 +24,8 @@ pub keep-append : {A : Type 0} (f : A → Bool) (xs ys : List A) → keep f (xs 
 keep-append f [] ys = refl
 keep-append f (x ∷ xs) ys = go (f x) (keep-append f xs ys)
   where
-    go : (b : Bool) → keep f (xs ++ ys) ≡ keep f xs ++ keep f ys → cond b (x ∷ keep f (xs ++ ys)) (keep f (xs ++ ys)) ≡ cond b (x ∷ keep f xs) (keep f xs) ++ keep f ys
+    go : (b : Bool) → keep f (xs ++ ys) ≡ keep f xs ++ keep f ys
+        → cond b (x ∷ keep f (xs ++ ys)) (keep f (xs ++ ys)) ≡ cond b (x ∷ keep f xs) (keep f xs) ++ keep f ys
     go true h = ap (λ (l : List _). x ∷ l) h
     go false h = h
 
@@ -45,7 +46,8 @@ module _ (f : Credential → Bool) (P : Pool) where
   pub picked-start : (on : List ℕ) → length on ≡ 128 → Picked f P 0 on
   picked-start on l = record { sized = l; says = λ j h. absurd (omega arith) }
 
-  pub picked-next : {i v : ℕ} {on q : List ℕ} {c : Credential} → Picked f P i on → i < 128 → c ≡ credentialAt P i → v ≡ cond (f c) 1 0 → q ≡ set on i v → Picked f P (i + 1) q
+  pub picked-next : {i v : ℕ} {on q : List ℕ} {c : Credential} → Picked f P i on → i < 128 → c ≡ credentialAt P i → v ≡ cond (f c) 1 0
+      → q ≡ set on i v → Picked f P (i + 1) q
   picked-next {i} {v} {on} {q} {c} p l ce ve qe =
       record {
         sized = ap length qe ∙ length-set on i v ∙ p .sized;
@@ -60,7 +62,8 @@ module _ (f : Credential → Bool) (P : Pool) where
             ∙ flag-is (f c)
             ∙ ap f ce
             ∙ ap (λ (k : ℕ). f (credentialAt P k)) (sym same))
-            (λ z. ap (λ (x : List ℕ). eqb (el x j) 1) qe ∙ ap (λ (x : ℕ). eqb x 1) (getD-set-other on i j v 0 (eqb-false j i z)) ∙ p .says j (omega (arith, eqb-false j i z)))
+            (λ z. ap (λ (x : List ℕ). eqb (el x j) 1) qe ∙ ap (λ (x : ℕ). eqb x 1) (getD-set-other on i j v 0 (eqb-false j i z))
+            ∙ p .says j (omega (arith, eqb-false j i z)))
             (decided (eqb j i));
       }
 

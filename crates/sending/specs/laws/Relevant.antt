@@ -65,15 +65,21 @@ module _ {P : Pool} {flags : List ℕ} {a : ℕ} {S : Pool} where
         reduced = subst (λ (k : ℕ). Reduced (Flagged P flags) [] (upTo k (λ (i : ℕ). credentialAt P (a + i)))) (sym q) nothing;
       }
 
-  pub selected-next : {Q R : Pool} (d e i : ℕ) → Selected P flags a d S Q → i ≡ a + d → e ≡ suc d → i < P .count → StoredIf (eqb (el flags i) 1) (credentialAt P i) Q R → Selected P flags a e S R
+  pub selected-next : {Q R : Pool} (d e i : ℕ) → Selected P flags a d S Q → i ≡ a + d → e ≡ suc d → i < P .count
+      → StoredIf (eqb (el flags i) 1) (credentialAt P i) Q R → Selected P flags a e S R
   selected-next {Q} {R} d e i h ie ee l s =
       record {
         sized = s .sized;
         few = omega (arith, h .few, stored-few (eqb (el flags i) 1) (credentialAt P i) Q R s);
         some = h .some ++ cond (eqb (el flags i) 1) (credentialAt P i ∷ []) [];
-        all = s .all ∙ ap (λ (l : List Credential). l ++ cond (eqb (el flags i) 1) (credentialAt P i ∷ []) []) (h .all) ∙ append-assoc (credentials S) (h .some) (cond (eqb (el flags i) 1) (credentialAt P i ∷ []) []);
-        reduced = subst (λ (k : ℕ). Reduced (Flagged P flags) (h .some ++ cond (eqb (el flags i) 1) (credentialAt P i ∷ []) []) (upTo k (λ (j : ℕ). credentialAt P (a + j)))) (sym ee)
-            (reduced-append (h .reduced) (subst (λ (j : ℕ). Reduced (Flagged P flags) (cond (eqb (el flags i) 1) (credentialAt P i ∷ []) []) (credentialAt P j ∷ [])) ie (one (eqb (el flags i) 1) refl)));
+        all =
+            s .all ∙ ap (λ (l : List Credential). l ++ cond (eqb (el flags i) 1) (credentialAt P i ∷ []) []) (h .all)
+            ∙ append-assoc (credentials S) (h .some) (cond (eqb (el flags i) 1) (credentialAt P i ∷ []) []);
+        reduced =
+            subst (λ (k : ℕ). Reduced (Flagged P flags) (h .some ++ cond (eqb (el flags i) 1) (credentialAt P i ∷ []) [])
+            (upTo k (λ (j : ℕ). credentialAt P (a + j)))) (sym ee)
+            (reduced-append (h .reduced) (subst (λ (j : ℕ). Reduced (Flagged P flags) (cond (eqb (el flags i) 1) (credentialAt P i ∷ []) [])
+            (credentialAt P j ∷ [])) ie (one (eqb (el flags i) 1) refl)));
       }
     where
       one : (b : Bool) → eqb (el flags i) 1 ≡ b → Reduced (Flagged P flags) (cond b (credentialAt P i ∷ []) []) (credentialAt P i ∷ [])
@@ -84,14 +90,19 @@ module _ {P : Pool} {flags : List ℕ} {a : ℕ} {S : Pool} where
   selected-all {Q} d e q h = subst (λ (k : ℕ). Selected P flags a k S Q) q h
 
 -- the first ones, then the others
-pub part-is : (P : Pool) (s d : ℕ) (flags : List ℕ) (S Q R : Pool) → P .count ≤ 128 → s ≤ P .count → d ≡ s → S .count ≡ 0 → Selected P flags 0 d S Q → Selected P flags s (P .count - s) Q R → PartOf P s flags R (Q .count)
+pub part-is : (P : Pool) (s d : ℕ) (flags : List ℕ) (S Q R : Pool) → P .count ≤ 128 → s ≤ P .count → d ≡ s → S .count ≡ 0 → Selected P flags 0 d S Q
+    → Selected P flags s (P .count - s) Q R → PartOf P s flags R (Q .count)
 unfolding credentials firstOf restOf
 part-is P s d flags S Q R small l q none h k =
     record {
       few = omega (arith, h .few, k .few);
       within = behind-count Q R (k .some) (k .all);
-      first = subst (λ (l : List Credential). Reduced (Flagged P flags) l (firstOf P s)) (sym (behind-parts Q R (k .some) (k .all) .0 ∙ h .all ∙ ap (λ (n : ℕ). upTo n (credentialAt S) ++ h .some) none))
-          (subst (λ (l : List Credential). Reduced (Flagged P flags) (h .some) l) (ap (λ (n : ℕ). upTo n (λ (i : ℕ). credentialAt P (0 + i))) q ∙ upTo-same s _ _ (λ i _. let z : 0 + i ≡ i = omega arith in ap (credentialAt P) z)) (h .reduced));
+      first =
+          subst (λ (l : List Credential). Reduced (Flagged P flags) l (firstOf P s))
+          (sym (behind-parts Q R (k .some) (k .all) .0 ∙ h .all ∙ ap (λ (n : ℕ). upTo n (credentialAt S) ++ h .some) none))
+          (subst (λ (l : List Credential). Reduced (Flagged P flags) (h .some) l)
+          (ap (λ (n : ℕ). upTo n (λ (i : ℕ). credentialAt P (0 + i))) q
+          ∙ upTo-same s _ _ (λ i _. let z : 0 + i ≡ i = omega arith in ap (credentialAt P) z)) (h .reduced));
       rest = subst (λ (l : List Credential). Reduced (Flagged P flags) l (restOf P s)) (sym (behind-parts Q R (k .some) (k .all) .1)) (k .reduced);
     }
 
@@ -102,18 +113,31 @@ module _ (S Q : Pool) (L : List Credential) (f e : Expression) (h : credentials 
   sends-whole : {k : Command} {r : Outgoing} → Sends (needed (firstOf Q (S .count)) f e (restOf Q (S .count))) k r → Sends (needed (credentials S) f e L) k r
   sends-whole s = let p = behind-parts S Q L h in sends-as (ap₂ (λ (a b : List Credential). needed a f e b) (p .0) (p .1)) s
 
-  module _ {R : Pool} {t : ℕ} {flags : List ℕ} {b : Bool} (closed : ClosedFor Q f flags) (part : PartOf Q (S .count) flags R t) (be : b ≡ from? (credentials R) f e) where
+  module _ {R : Pool} {t : ℕ} {flags : List ℕ} {b : Bool} (closed : ClosedFor Q f flags) (part : PartOf Q (S .count) flags R t)
+      (be : b ≡ from? (credentials R) f e) where
     heads : Sufficient f (firstOf Q (S .count) ++ restOf Q (S .count)) (Flagged Q flags)
     heads = subst (λ (l : List Credential). Sufficient f l (Flagged Q flags)) (first-rest Q (S .count) (behind-count S Q L h)) (closed-column Q f flags closed)
 
     -- the edge holds over the whole pool as over the part
     as-part : from? (firstOf Q (S .count) ++ restOf Q (S .count)) f e ≡ b
-    as-part = from-relevant f e heads (reduced-append (part .first) (part .rest)) ∙ ap (λ (l : List Credential). from? l f e) (sym (first-rest R t (part .within))) ∙ sym be
+    as-part =
+        from-relevant f e heads (reduced-append (part .first) (part .rest))
+        ∙ ap (λ (l : List Credential). from? l f e) (sym (first-rest R t (part .within))) ∙ sym be
 
     -- of the part that can matter, where it is enough
-    pub sends-part : {q : List ℕ} (k : Command) → b ≡ true → chosen R q ≡ needed (firstOf R t) f e (restOf R t) → Sends (needed (credentials S) f e L) k (record { pool = R; on = q; command = k })
-    sends-part k is z = sends-whole (sends-as (needed-relevant (firstOf Q (S .count)) (firstOf R t) f e (part .first) (restOf Q (S .count)) (restOf R t) heads (as-part ∙ is) (part .rest)) (record { shows = z; command = refl; few = part .few }))
+    pub sends-part : {q : List ℕ} (k : Command) → b ≡ true → chosen R q ≡ needed (firstOf R t) f e (restOf R t)
+        → Sends (needed (credentials S) f e L) k (record { pool = R; on = q; command = k })
+    sends-part k is z =
+        sends-whole (sends-as (needed-relevant (firstOf Q (S .count)) (firstOf R t) f e (part .first) (restOf Q (S .count)) (restOf R t) heads
+        (as-part ∙ is) (part .rest)) (record { shows = z; command = refl; few = part .few }))
 
     -- where it is not, all are needed
-    pub sends-all : {q : List ℕ} (k : Command) → b ≡ false → Q .count ≤ 128 → WithRest (Q .count) (S .count) (replicate 128 0) q → Sends (needed (credentials S) f e L) k (record { pool = Q; on = q; command = k })
-    sends-all {q} k is small w = sends-whole (record { shows = rest-alone Q q (S .count) (behind-count S Q L h) w ∙ sym (needed-all (firstOf Q (S .count)) f e (restOf Q (S .count)) (as-part ∙ is)); command = refl; few = small })
+    pub sends-all : {q : List ℕ} (k : Command) → b ≡ false → Q .count ≤ 128 → WithRest (Q .count) (S .count) (replicate 128 0) q
+        → Sends (needed (credentials S) f e L) k (record { pool = Q; on = q; command = k })
+    sends-all {q} k is small w =
+        sends-whole (record {
+          shows = rest-alone Q q (S .count) (behind-count S Q L h) w
+              ∙ sym (needed-all (firstOf Q (S .count)) f e (restOf Q (S .count)) (as-part ∙ is));
+          command = refl;
+          few = small;
+        })

@@ -31,7 +31,14 @@ unfoldable pub commandFor : List Name → ℕ → List Node → ℕ → Candidat
 commandFor names side nodes i w =
     cond (childStands nodes w)
     (Join (record { kind = w .kind; parent = i; child = childNumber nodes w }))
-    (Bring (record { kind = w .kind; parent = i; expression = w .expression; subject = w .subject; state = initialState names (eqb (w .verifier) side) (w .expression) }))
+    (Bring (record {
+      kind = w .kind;
+      parent = i;
+      expression = w .expression;
+      subject = w .subject;
+      state = initialState names (eqb (w .verifier) side)
+          (w .expression);
+    }))
 
 -- "only the direct credential is sent, unless shown"
 unfoldable pub directIn : List Credential → ℕ → Expression → List Credential

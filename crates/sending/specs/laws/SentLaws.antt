@@ -58,7 +58,8 @@ module _ (shown : List Credential) (c : Credential) {b : Bool} (be : b ≡ isSho
   unfolding unshownOf
   one-shown h s = sends-as (ap (λ (x : Bool). cond (not x) (c ∷ []) []) (sym h ∙ be)) s
 
-  pub one-new : (P Q : Pool) (k : Command) → b ≡ false → credentials P ≡ [] → credentials Q ≡ credentials P ++ (c ∷ []) → Sends (unshownOf shown (c ∷ [])) k (record { pool = Q; on = replicate 128 1; command = k })
+  pub one-new : (P Q : Pool) (k : Command) → b ≡ false → credentials P ≡ [] → credentials Q ≡ credentials P ++ (c ∷ [])
+      → Sends (unshownOf shown (c ∷ [])) k (record { pool = Q; on = replicate 128 1; command = k })
   unfolding unshownOf
   one-new P Q k h none qe =
       let all : credentials Q ≡ c ∷ [] = qe ∙ ap (λ (l : List Credential). l ++ (c ∷ [])) none in
@@ -101,10 +102,12 @@ module _ (o : Preparation) (p : Prepared o) (side : ℕ) (x : Node) (shown : Lis
   set-needed : (cs ds : List Credential) → cs ≡ ds → Sends (needed shown f e (unshownOf shown cs)) k r → Sends (needed shown f e (unshownOf shown ds)) k r
   set-needed cs ds h s = sends-as (ap (λ (l : List Credential). needed shown f e (unshownOf shown l)) h) s
 
-  pub needed-issuer : x .verifier ≡ side → Sends (needed shown f e (unshownOf shown (chosen (o .house .issuer) (replicate 128 1)))) k r → Sends (needed shown f e (unshownOf shown (sideSetOf (publicOf (tablesOf (o .house))) side x))) k r
+  pub needed-issuer : x .verifier ≡ side → Sends (needed shown f e (unshownOf shown (chosen (o .house .issuer) (replicate 128 1)))) k r
+      → Sends (needed shown f e (unshownOf shown (sideSetOf (publicOf (tablesOf (o .house))) side x))) k r
   needed-issuer h s = set-needed _ _ (all-on (o .house .issuer) (omega (arith, p .housed .issuer)) ∙ set-issuer (o .house) side x h) s
 
-  pub needed-subject : (x .verifier ≡ side → ⊥) → Sends (needed shown f e (unshownOf shown (chosen (o .house .subject) (o .visible)))) k r → Sends (needed shown f e (unshownOf shown (sideSetOf (publicOf (tablesOf (o .house))) side x))) k r
+  pub needed-subject : (x .verifier ≡ side → ⊥) → Sends (needed shown f e (unshownOf shown (chosen (o .house .subject) (o .visible)))) k r
+      → Sends (needed shown f e (unshownOf shown (sideSetOf (publicOf (tablesOf (o .house))) side x))) k r
   needed-subject h s = set-needed _ _ (p .visible ∙ set-subject (publicOf (tablesOf (o .house))) side x h) s
 
 -- The command of an edge
@@ -114,7 +117,15 @@ module _ (names : List Name) (side : ℕ) (N : Nodes) (i : ℕ) (w : Candidate) 
   joined = Join (record { kind = w .kind; parent = i; child = childNumber (nodesOf N) w })
 
   brought : Command
-  brought = Bring (record { kind = w .kind; parent = i; expression = w .expression; subject = w .subject; state = initialState names (eqb (w .verifier) side) (w .expression) })
+  brought =
+      Bring (record {
+        kind = w .kind;
+        parent = i;
+        expression = w .expression;
+        subject = w .subject;
+        state = initialState names
+            (eqb (w .verifier) side) (w .expression);
+      })
 
   by-child : (b : Bool) → b ≡ ltb (childNumber (nodesOf N) w) (length (nodesOf N)) → cond b joined brought ≡ commandFor names side (nodesOf N) i w
   unfolding commandFor joined brought
@@ -122,8 +133,13 @@ module _ (names : List Name) (side : ℕ) (N : Nodes) (i : ℕ) (w : Candidate) 
 
   pub command-join : j < N .count → Join (record { kind = w .kind; parent = i; child = j }) ≡ commandFor names side (nodesOf N) i w
   unfolding joined
-  command-join l = ap (λ (x : ℕ). Join (record { kind = w .kind; parent = i; child = x })) je ∙ by-child true (sym (lt-ltb (childNumber (nodesOf N) w) (length (nodesOf N)) (omega (arith, je, nodes-length N))))
+  command-join l =
+      ap (λ (x : ℕ). Join (record { kind = w .kind; parent = i; child = x })) je
+      ∙ by-child true (sym (lt-ltb (childNumber (nodesOf N) w) (length (nodesOf N)) (omega (arith, je, nodes-length N))))
 
-  pub command-bring : {s : ℕ} → N .count ≤ j → s ≡ initialState names (eqb (w .verifier) side) (w .expression) → Bring (record { kind = w .kind; parent = i; expression = w .expression; subject = w .subject; state = s }) ≡ commandFor names side (nodesOf N) i w
+  pub command-bring : {s : ℕ} → N .count ≤ j → s ≡ initialState names (eqb (w .verifier) side) (w .expression)
+      → Bring (record { kind = w .kind; parent = i; expression = w .expression; subject = w .subject; state = s }) ≡ commandFor names side (nodesOf N) i w
   unfolding brought
-  command-bring l se = ap (λ (x : ℕ). Bring (record { kind = w .kind; parent = i; expression = w .expression; subject = w .subject; state = x })) se ∙ by-child false (sym (le-ltb (childNumber (nodesOf N) w) (length (nodesOf N)) (omega (arith, je, nodes-length N))))
+  command-bring l se =
+      ap (λ (x : ℕ). Bring (record { kind = w .kind; parent = i; expression = w .expression; subject = w .subject; state = x })) se
+      ∙ by-child false (sym (le-ltb (childNumber (nodesOf N) w) (length (nodesOf N)) (omega (arith, je, nodes-length N))))

@@ -10,7 +10,11 @@ returns-2 : tie.Need-returns-2
 returns-2 c = open-outside _ _ _ _ _ (c .before .wide2 .ensures) (c .if2 .taken)
 
 returns-3 : tie.Need-returns-3
-returns-3 c = open-here _ _ _ _ _ (c .before .before .before .before .before .before .before .wide .ensures) (c .before .before .before .wide2 .ensures) (c .before .before .before .before .before .if1 .left) (c .before .before .if2 .left)
+returns-3 c =
+    let c3 = c .before .before .before in
+    let c5 = c3 .before .before in
+    let c7 = c5 .before .before in
+    open-here _ _ _ _ _ (c7 .wide .ensures) (c3 .wide2 .ensures) (c5 .if1 .left) (c .before .before .if2 .left)
 
 pub is-open-spec : {M : Type 1} → statement M
 is-open-spec =

@@ -7,42 +7,111 @@ use Rattle.states.proofs.state_of.Statement.{statement}
 use Rattle.states.proofs.state_of.Tie as tie
 
 -- the columns of satisfied and failed nodes
-settled : (c : tie.After-fail) → StateColumns (nodesOf (c .before .before .before .before .before .before .before .before .before .before .before .before .before .before .before .before .before .before .before .before .before .before .before .before .before .before .before .before .before .before .before .before .before .before .before .before .before .before .before .before .before .before .before .before .before .before .before .before .before .before .before .before .before .before .before .before .args .t1)) (edgesOf (c .before .before .before .before .before .before .before .before .before .before .before .before .before .before .before .before .before .before .before .before .before .before .before .before .before .before .before .before .before .before .before .before .before .before .before .before .before .before .before .before .before .before .before .before .before .before .before .before .before .before .before .before .before .before .before .before .args .t2)) (c .before .before .before .before .before .before .before .before .before .before .before .before .before .before .before .before .before .before .before .before .before .before .before .before .before .before .before .before .before .before .satisfied .result) (c .before .before .before .before .before .before .before .before .before .before .before .before .before .before .before .before .before .before .before .before .failed .result)
+settled : (c : tie.After-fail) → StateColumns (nodesOf
+    (c .before .before .before .before .before .before .before .before .before .before .before .before .before .before .before .before .before .before .before .before .before .before .before .before .before .before .before .before .before .before .before .before .before .before .before .before .before .before .before .before .before .before .before .before .before .before .before .before .before .before .before .before .before .before .before .before .args .t1))
+    (edgesOf
+    (c .before .before .before .before .before .before .before .before .before .before .before .before .before .before .before .before .before .before .before .before .before .before .before .before .before .before .before .before .before .before .before .before .before .before .before .before .before .before .before .before .before .before .before .before .before .before .before .before .before .before .before .before .before .before .before .before .args .t2))
+    (c .before .before .before .before .before .before .before .before .before .before .before .before .before .before .before .before .before .before .before .before .before .before .before .before .before .before .before .before .before .before .satisfied .result)
+    (c .before .before .before .before .before .before .before .before .before .before .before .before .before .before .before .before .before .before .before .before .failed .result)
 settled c =
-    let s = c .before .before .before .before .before .before .before .before .before .before .before .before .before .before .before .before .before .before .before .before .before .before .before .before .before .before .before .before .before .before .before .before .before .before .before .before .before .before .before .before .before .before .before .before .before .before .before .before .before .before .before .before .before .before .before .before in
-    settled-read (s .args .t1) (s .args .t2) _ _ (s .pre .3) (c .before .before .before .before .before .before .before .before .before .before .before .before .before .before .before .before .before .before .before .before .before .before .before .before .before .before .before .before .before .before .before .before .before .before .before .links .ensures (s .args .t1)) _ _ (s .pre .4) (c .before .before .before .before .before .before .before .before .before .before .before .before .before .before .before .before .before .before .before .before .before .before .before .before .before .before .before .before .before .before .before .before .before .before .before .before .before .before .before .before .before .before .before .before .before .before .before .before .before .before .before .needs .ensures (s .args .t1)) (c .before .before .before .before .before .before .before .before .before .before .before .before .before .before .before .before .before .before .before .before .before .before .before .before .before .ways .ensures (s .args .t1)) (c .before .before .before .before .before .before .before .before .before .before .before .before .before .before .before .before .before .before .before .before .before .before .before .before .before .before .before .before .before .before .satisfied .ensures) (c .before .before .before .before .before .before .before .before .before .before .before .before .before .before .before .before .before .before .before .before .failed .ensures)
+    let c14 = c .before .before .before .before .before .before .before .before .before .before .before .before .before .before in
+    let c20 = c14 .before .before .before .before .before .before in
+    let c25 = c20 .before .before .before .before .before in
+    let c30 = c25 .before .before .before .before .before in
+    let c35 = c30 .before .before .before .before .before in
+    let c49 = c35 .before .before .before .before .before .before .before .before .before .before .before .before .before .before in
+    let c51 = c49 .before .before in
+    let c56 = c51 .before .before .before .before .before in
+    let s = c56 in
+    settled-read (s .args .t1) (s .args .t2) _ _ (s .pre .3) (c35 .links .ensures (s .args .t1)) _ _ (s .pre .4) (c51 .needs .ensures (s .args .t1))
+    (c25 .ways .ensures (s .args .t1)) (c30 .satisfied .ensures) (c20 .failed .ensures)
 
 satisfied-requires : tie.Need-satisfied-requires
-satisfied-requires c κs = let s = c .before .before .before .before .before .before .before .before .before .before .before .before .before .before .before .before .before .before .before .before .before .before .before .before .before in (s .pre .1, s .pre .2, c .before .before .before .before .links .ensures (s .args .t1) .slots, needs-beyond (s .args .t1) _ (c .before .before .before .before .before .before .before .before .before .before .before .before .before .before .before .before .before .before .before .before .needs .ensures (s .args .t1)))
+satisfied-requires c κs =
+    let c4 = c .before .before .before .before in
+    let c18 = c4 .before .before .before .before .before .before .before .before .before .before .before .before .before .before in
+    let c20 = c18 .before .before in
+    let c25 = c20 .before .before .before .before .before in
+    let s = c25 in (s .pre .1, s .pre .2, c4 .links .ensures (s .args .t1) .slots, needs-beyond (s .args .t1) _ (c20 .needs .ensures (s .args .t1)))
 
 array-read-if1 : tie.Need-array-read-if1
-array-read-if1 c = omega (arith, c .before .before .before .before .before .before .before .before .before .before .before .before .before .before .before .before .before .before .before .before .before .before .before .before .before .before .pre .0, c .before .before .before .before .before .before .before .before .before .before .before .before .before .before .before .before .before .before .before .before .before .before .before .before .before .before .pre .1)
+array-read-if1 c =
+    omega (
+      arith,
+      c .before .before .before .before .before .before .before .before .before .before .before .before .before .before .before .before .before .before .before .before .before .before .before .before .before .before .pre .0,
+      c .before .before .before .before .before .before .before .before .before .before .before .before .before .before .before .before .before .before .before .before .before .before .before .before .before .before .pre .1,
+    )
 
 returns : tie.Need-returns
 returns c =
-    let s = c .before .before .before .before .before .before .before .before .before .before .before .before .before .before .before .before .before .before .before .before .before .before .before .before .before .before .before in
-    state-satisfied (nodesOf (s .args .t1)) (edgesOf (s .args .t2)) (s .args .i) (c .before .satisfied .result) (satisfied-read (s .args .t1) (s .args .t2) _ _ (s .pre .3) (c .before .before .before .before .before .before .links .ensures (s .args .t1)) (c .before .satisfied .result) (c .before .before .before .before .before .before .before .before .before .before .before .before .before .before .before .before .before .before .before .before .before .before .needs .ensures (s .args .t1)) (c .before .satisfied .ensures)) (c .if1 .taken)
+    let c6 = c .before .before .before .before .before .before in
+    let c20 = c6 .before .before .before .before .before .before .before .before .before .before .before .before .before .before in
+    let c22 = c20 .before .before in
+    let c27 = c22 .before .before .before .before .before in
+    let s = c27 in
+    state-satisfied (nodesOf (s .args .t1)) (edgesOf (s .args .t2)) (s .args .i) (c .before .satisfied .result)
+    (satisfied-read (s .args .t1) (s .args .t2) _ _ (s .pre .3) (c6 .links .ensures (s .args .t1)) (c .before .satisfied .result)
+    (c22 .needs .ensures (s .args .t1)) (c .before .satisfied .ensures)) (c .if1 .taken)
 
 ways-requires : tie.Need-ways-requires
-ways-requires c κs = c .before .before .before .before .before .before .before .before .before .before .before .before .before .before .before .before .before .before .before .before .before .before .before .before .before .before .before .before .before .before .pre .1
+ways-requires c κs =
+    let c14 = c .before .before .before .before .before .before .before .before .before .before .before .before .before .before in
+    let c28 = c14 .before .before .before .before .before .before .before .before .before .before .before .before .before .before in
+    let c30 = c28 .before .before in
+    c30 .pre .1
 
 failed-requires : tie.Need-failed-requires
-failed-requires c κs = let s = c .before .before .before .before .before .before .before .before .before .before .before .before .before .before .before .before .before .before .before .before .before .before .before .before .before .before .before .before .before .before .before .before .before .before .before in (s .pre .1, s .pre .2, c .before .before .before .before .before .before .before .before .before .before .before .before .before .before .links .ensures (s .args .t1) .slots, ways-beyond (s .args .t1) _ (c .before .before .before .before .ways .ensures (s .args .t1)))
+failed-requires c κs =
+    let c4 = c .before .before .before .before in
+    let c14 = c4 .before .before .before .before .before .before .before .before .before .before in
+    let c28 = c14 .before .before .before .before .before .before .before .before .before .before .before .before .before .before in
+    let c35 = c28 .before .before .before .before .before .before .before in
+    let s = c35 in (s .pre .1, s .pre .2, c14 .links .ensures (s .args .t1) .slots, ways-beyond (s .args .t1) _ (c4 .ways .ensures (s .args .t1)))
 
 is-complete-requires : tie.Need-is-complete-requires
-is-complete-requires c κs = let s = c .before .before .before .before .before .before .before .before .before .before .before .before .before .before .before .before .before .before .before .before .before .before .before .before .before .before .before .before .before .before .before .before .before .before .before .before .before .before .before .before .before .before .before .before .before .before .before .before .before .before .before .before .before .before .before .before in (s .pre .0, s .pre .1, s .pre .2, settled c)
+is-complete-requires c κs =
+    let c14 = c .before .before .before .before .before .before .before .before .before .before .before .before .before .before in
+    let c28 = c14 .before .before .before .before .before .before .before .before .before .before .before .before .before .before in
+    let c42 = c28 .before .before .before .before .before .before .before .before .before .before .before .before .before .before in
+    let c56 = c42 .before .before .before .before .before .before .before .before .before .before .before .before .before .before in
+    let s = c56 in (s .pre .0, s .pre .1, s .pre .2, settled c)
 
 returns-2 : tie.Need-returns-2
-returns-2 c = state-complete (settled (c .before .before)) (c .before .before .before .before .before .before .before .before .before .before .before .before .before .before .before .before .before .before .before .before .before .before .before .before .before .before .before .before .before .before .before .before .before .before .before .before .before .before .before .before .before .before .before .before .before .before .before .before .before .before .before .before .before .before .before .before .before .before .args .i) (c .before .is-complete .ensures) (c .if2 .taken)
+returns-2 c =
+    let c14 = c .before .before .before .before .before .before .before .before .before .before .before .before .before .before in
+    let c28 = c14 .before .before .before .before .before .before .before .before .before .before .before .before .before .before in
+    let c42 = c28 .before .before .before .before .before .before .before .before .before .before .before .before .before .before in
+    let c56 = c42 .before .before .before .before .before .before .before .before .before .before .before .before .before .before in
+    let c58 = c56 .before .before in
+    state-complete (settled (c .before .before)) (c58 .args .i) (c .before .is-complete .ensures) (c .if2 .taken)
 
 array-read-if3 : tie.Need-array-read-if3
-array-read-if3 c = omega (arith, c .before .before .before .before .before .before .before .before .before .before .before .before .before .before .before .before .before .before .before .before .before .before .before .before .before .before .before .before .before .before .before .before .before .before .before .before .before .before .before .before .before .before .before .before .before .before .before .before .before .before .before .before .before .before .before .before .before .before .pre .0, c .before .before .before .before .before .before .before .before .before .before .before .before .before .before .before .before .before .before .before .before .before .before .before .before .before .before .before .before .before .before .before .before .before .before .before .before .before .before .before .before .before .before .before .before .before .before .before .before .before .before .before .before .before .before .before .before .before .before .pre .1)
+array-read-if3 c =
+    omega (
+      arith,
+      c .before .before .before .before .before .before .before .before .before .before .before .before .before .before .before .before .before .before .before .before .before .before .before .before .before .before .before .before .before .before .before .before .before .before .before .before .before .before .before .before .before .before .before .before .before .before .before .before .before .before .before .before .before .before .before .before .before .before .pre .0,
+      c .before .before .before .before .before .before .before .before .before .before .before .before .before .before .before .before .before .before .before .before .before .before .before .before .before .before .before .before .before .before .before .before .before .before .before .before .before .before .before .before .before .before .before .before .before .before .before .before .before .before .before .before .before .before .before .before .before .before .pre .1,
+    )
 
 returns-3 : tie.Need-returns-3
-returns-3 c = state-failed (settled (c .before .before .before)) (c .before .before .before .before .before .before .before .before .before .before .before .before .before .before .before .before .before .before .before .before .before .before .before .before .before .before .before .before .before .before .before .before .before .before .before .before .before .before .before .before .before .before .before .before .before .before .before .before .before .before .before .before .before .before .before .before .before .before .before .args .i) (c .before .before .is-complete .ensures) (c .before .before .before .before .before .before .before .before .before .before .before .before .before .before .before .before .before .before .before .before .before .before .before .before .before .before .before .before .before .before .before .before .if1 .left) (c .before .if2 .left) (c .if3 .taken)
+returns-3 c =
+    let c3 = c .before .before .before in
+    let c17 = c3 .before .before .before .before .before .before .before .before .before .before .before .before .before .before in
+    let c31 = c17 .before .before .before .before .before .before .before .before .before .before .before .before .before .before in
+    let c32 = c31 .before in
+    let c46 = c32 .before .before .before .before .before .before .before .before .before .before .before .before .before .before in
+    let c59 = c46 .before .before .before .before .before .before .before .before .before .before .before .before .before in
+    state-failed (settled (c3)) (c59 .args .i) (c .before .before .is-complete .ensures) (c32 .if1 .left) (c .before .if2 .left) (c .if3 .taken)
 
 returns-4 : tie.Need-returns-4
-returns-4 c = state-none (settled (c .before .before .before)) (c .before .before .before .before .before .before .before .before .before .before .before .before .before .before .before .before .before .before .before .before .before .before .before .before .before .before .before .before .before .before .before .before .before .before .before .before .before .before .before .before .before .before .before .before .before .before .before .before .before .before .before .before .before .before .before .before .before .before .before .args .i) (c .before .before .is-complete .ensures) (c .before .before .before .before .before .before .before .before .before .before .before .before .before .before .before .before .before .before .before .before .before .before .before .before .before .before .before .before .before .before .before .before .if1 .left) (c .before .if2 .left) (c .if3 .left)
+returns-4 c =
+    let c3 = c .before .before .before in
+    let c17 = c3 .before .before .before .before .before .before .before .before .before .before .before .before .before .before in
+    let c31 = c17 .before .before .before .before .before .before .before .before .before .before .before .before .before .before in
+    let c32 = c31 .before in
+    let c46 = c32 .before .before .before .before .before .before .before .before .before .before .before .before .before .before in
+    let c59 = c46 .before .before .before .before .before .before .before .before .before .before .before .before .before in
+    state-none (settled (c3)) (c59 .args .i) (c .before .before .is-complete .ensures) (c32 .if1 .left) (c .before .if2 .left) (c .if3 .left)
 
 pub state-of-spec : {M : Type 1} → statement M
 state-of-spec =

@@ -26,7 +26,8 @@ module _ (ns : List Node) (e : Edge) where
   unfolding brings
   brings-of a b c =
       and-both (ltb (e .parent) (length ns) && ltb (e .child) (length ns)) (ltb (slotFor ns e) 4)
-      (and-both (ltb (e .parent) (length ns)) (ltb (e .child) (length ns)) (lt-ltb (e .parent) (length ns) a) (lt-ltb (e .child) (length ns) b)) (lt-ltb (slotFor ns e) 4 c)
+      (and-both (ltb (e .parent) (length ns)) (ltb (e .child) (length ns)) (lt-ltb (e .parent) (length ns) a) (lt-ltb (e .child) (length ns) b))
+      (lt-ltb (slotFor ns e) 4 c)
 
   -- it leads from its child into a slot of its parent
   pub from-child : brings ns e ≡ true → fromOf ns e ≡ e .child

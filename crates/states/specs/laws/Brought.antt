@@ -35,7 +35,8 @@ passed true x k l e = (refl, e)
 passed false x k l e = absurd (omega arith)
 
 -- an implication child
-pub implied : {ns : List Node} {es : List Edge} {i k c : ℕ} → isStandard (nodeIn ns i .expression) ≡ true → k < 4 → Brought ns es i k c → Child ns es implicationKind i c
+pub implied : {ns : List Node} {es : List Edge} {i k c : ℕ} → isStandard (nodeIn ns i .expression) ≡ true → k < 4 → Brought ns es i k c
+    → Child ns es implicationKind i c
 implied {ns} {es} {i} {k} {c} s l w =
     record {
       kind = w .kind;
@@ -54,25 +55,31 @@ implies {ns} {es} {i} {c} s k =
     }
 
 -- an intersection child, and the slot of its role
-pub joined : {ns : List Node} {es : List Edge} {i k c : ℕ} {p : Parts} → nodeIn ns i .expression ≡ E.Intersection p → k < 4 → Brought ns es i k c → Child ns es intersectionKind i c × (slotIn p (nodeIn ns c .expression) ≡ k)
+pub joined : {ns : List Node} {es : List Edge} {i k c : ℕ} {p : Parts} → nodeIn ns i .expression ≡ E.Intersection p → k < 4 → Brought ns es i k c
+    → Child ns es intersectionKind i c × (slotIn p (nodeIn ns c .expression) ≡ k)
 unfolding slotAs
 joined {ns} {es} {i} {k} {c} {p} e l w =
-    let t = passed (intersectionKind (w .kind)) (slotIn p (nodeIn ns c .expression)) k l (sym (ap (λ (x : Expression). slotAs (w .kind) x (nodeIn ns c .expression)) e) ∙ w .slot) in
+    let t = passed (intersectionKind (w .kind)) (slotIn p (nodeIn ns c .expression)) k l
+    (sym (ap (λ (x : Expression). slotAs (w .kind) x (nodeIn ns c .expression)) e) ∙ w .slot) in
     (record { kind = w .kind; passes = t .0; edge = w .edge; inside = w .inside }, t .1)
 
-pub joins : {ns : List Node} {es : List Edge} {i c : ℕ} {p : Parts} → nodeIn ns i .expression ≡ E.Intersection p → Child ns es intersectionKind i c → Brought ns es i (slotIn p (nodeIn ns c .expression)) c
+pub joins : {ns : List Node} {es : List Edge} {i c : ℕ} {p : Parts} → nodeIn ns i .expression ≡ E.Intersection p → Child ns es intersectionKind i c
+    → Brought ns es i (slotIn p (nodeIn ns c .expression)) c
 unfolding slotAs
 joins {ns} {es} {i} {c} {p} e k =
     record {
       kind = k .kind;
       edge = k .edge;
       inside = k .inside;
-      slot = ap (λ (x : Expression). slotAs (k .kind) x (nodeIn ns c .expression)) e ∙ ap (λ (b : Bool). cond b (slotIn p (nodeIn ns c .expression)) 4) (k .passes);
+      slot =
+          ap (λ (x : Expression). slotAs (k .kind) x (nodeIn ns c .expression)) e
+          ∙ ap (λ (b : Bool). cond b (slotIn p (nodeIn ns c .expression)) 4) (k .passes);
     }
 
 module _ {ns : List Node} {es : List Edge} {F S : List ℕ} (jn : Joined ns es F S) (m : ℕ) (l : m ≤ length es) where
   -- an edge that leads from a node brings a child
-  pub brought-at : (j i : ℕ) → j < m → getD F j 0 < 128 → getD S j 0 / 4 ≡ i → (k : ℕ) × (k < 4) × (getD S j 0 ≡ i * 4 + k) × Brought ns (take m es) i k (getD F j 0)
+  pub brought-at : (j i : ℕ) → j < m → getD F j 0 < 128 → getD S j 0 / 4 ≡ i
+      → (k : ℕ) × (k < 4) × (getD S j 0 ≡ i * 4 + k) × Brought ns (take m es) i k (getD F j 0)
   brought-at j i q f s =
       let e : Edge = edgeIn es j in
       let jf : getD F j 0 ≡ fromOf ns e = jn .from j (omega arith) in
@@ -82,7 +89,9 @@ module _ {ns : List Node} {es : List Edge} {F S : List ℕ} (jn : Joined ns es F
       let z : slotOf ns e ≡ e .parent * 4 + slotFor ns e = into-slot ns e b in
       let y : e .parent ≡ i = omega (arith, p .2) in
       let x : e .child ≡ getD F j 0 = sym (jf ∙ from-child ns e b) in
-      let w : List·Memᴰ (edgeIn es j) (take m es) = subst (λ (d : Edge). List·Memᴰ d (take m es)) (getD-take m es j (record { kind = 0; parent = 0; child = 0 }) q) (index-mem (record { kind = 0; parent = 0; child = 0 }) (take m es) j (omega (arith, length-take-le m es l))) in (
+      let w : List·Memᴰ (edgeIn es j) (take m es) = subst (λ (d : Edge). List·Memᴰ d (take m es))
+      (getD-take m es j (record { kind = 0; parent = 0; child = 0 }) q)
+      (index-mem (record { kind = 0; parent = 0; child = 0 }) (take m es) j (omega (arith, length-take-le m es l))) in (
         slotFor ns e,
         p .2,
         omega arith,
@@ -111,7 +120,10 @@ module _ {ns : List Node} {es : List Edge} {F S : List ℕ} (jn : Joined ns es F
 -- the same over all edges
 module _ {ns : List Node} {es : List Edge} {F S : List ℕ} (jn : Joined ns es F S) where
   pub brought-at-all : (j i : ℕ) → j < length es → getD F j 0 < 128 → getD S j 0 / 4 ≡ i → (k : ℕ) × (k < 4) × Brought ns es i k (getD F j 0)
-  brought-at-all j i q f s = let r = brought-at jn (length es) (omega arith) j i q f s in (r .0, r .1, subst (λ (d : List Edge). Brought ns d i (r .0) (getD F j 0)) (take-length es) (r .3))
+  brought-at-all j i q f s =
+      let r = brought-at jn (length es) (omega arith) j i q f s in
+      (r .0, r .1, subst (λ (d : List Edge). Brought ns d i (r .0) (getD F j 0)) (take-length es) (r .3))
 
   pub brought-here-all : {i k c : ℕ} → i < length ns → k < 4 → Brought ns es i k c → (j : ℕ) × (j < length es) × (getD F j 0 ≡ c) × (getD S j 0 ≡ i * 4 + k)
-  brought-here-all {i} {k} {c} il kl w = brought-here jn (length es) (omega arith) il kl (subst (λ (d : List Edge). Brought ns d i k c) (sym (take-length es)) w)
+  brought-here-all {i} {k} {c} il kl w =
+      brought-here jn (length es) (omega arith) il kl (subst (λ (d : List Edge). Brought ns d i k c) (sym (take-length es)) w)

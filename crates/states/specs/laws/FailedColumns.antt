@@ -83,7 +83,8 @@ module _ {ns : List Node} {es : List Edge} {F S W : List ℕ} (nf : NodesFormed 
         by : {x : Expression} → nodeIn ns i .expression ≡ x → failsBy (wayAs (nodeIn ns i .state) x) (alive i) (hit i) ≡ true
         by e = ap (λ (w : ℕ). failsBy w (alive i) (hit i)) (sym (way-at i b e)) ∙ h
 
-        unimplied : {x : Expression} → nodeIn ns i .expression ≡ x → isStandard x ≡ true → failsBy (cond (eqb (nodeIn ns i .state) 3) 1 0) (alive i) (hit i) ≡ true → Failed ns es i
+        unimplied : {x : Expression} → nodeIn ns i .expression ≡ x → isStandard x ≡ true
+            → failsBy (cond (eqb (nodeIn ns i .state) 3) 1 0) (alive i) (hit i) ≡ true → Failed ns es i
         unimplied e t f =
             let r = fails-one (eqb (nodeIn ns i .state) 3) (alive i) (hit i) f in
             let full : FullyProcessed ns i = eqb-true (nodeIn ns i .state) 3 (r .0) in
@@ -94,7 +95,8 @@ module _ {ns : List Node} {es : List Edge} {F S W : List ℕ} (nf : NodesFormed 
             let z : getD F (q .0) 0 ≡ c = q .2 in
             let v : getD S (q .0) 0 ≡ i * 4 + 0 = q .3 in
             ⊎-elim (λ u. ih c u)
-            (λ u. absurd (false-true (sym (r .1) ∙ child-here (length es) G (λ f. not (s f)) i (q .0) (q .1) (omega arith) (omega (arith, k .inside, nf .few)) (ap (λ (f : ℕ). not (s f)) z ∙ ap not u)))) (decided (s c)))
+            (λ u. absurd (false-true (sym (r .1) ∙ child-here (length es) G (λ f. not (s f)) i (q .0) (q .1) (omega arith)
+            (omega (arith, k .inside, nf .few)) (ap (λ (f : ℕ). not (s f)) z ∙ ap not u)))) (decided (s c)))
 
         go : (x : Expression) → nodeIn ns i .expression ≡ x → Failed ns es i
         go (E.Entity a) e = absurd (fails-zero (alive i) (hit i) (by e))
@@ -109,13 +111,16 @@ module _ {ns : List Node} {es : List Edge} {F S W : List ℕ} (nf : NodesFormed 
   -- What is failed the rule brings
 
   -- an intersection child is one of the roles
-  part-slot : {i c : ℕ} {p : Parts} → i < length ns → nodeIn ns i .expression ≡ E.Intersection p → Child ns es intersectionKind i c → slotIn p (nodeIn ns c .expression) < 4
+  part-slot : {i c : ℕ} {p : Parts} → i < length ns → nodeIn ns i .expression ≡ E.Intersection p → Child ns es intersectionKind i c
+      → slotIn p (nodeIn ns c .expression) < 4
   unfolding form hasRole
   part-slot {i} {c} {p} l e k =
       let r = mem-index (record { kind = 0; parent = 0; child = 0 }) (k .edge) in
       let v = ef .formed (r .0) (r .1) in
-      let g : form (k .kind) (v .0) (nodeIn ns i) (nodeIn ns c) ≡ true = sym (ap (λ (d : Edge). form (d .kind) (v .0) (nodeIn ns (d .parent)) (nodeIn ns (d .child))) (r .2)) ∙ v .1 in
-      let z : form 5 (v .0) (nodeIn ns i) (nodeIn ns c) ≡ true = sym (ap (λ (n : ℕ). form n (v .0) (nodeIn ns i) (nodeIn ns c)) (eqb-true (k .kind) 5 (k .passes))) ∙ g in
+      let g : form (k .kind) (v .0) (nodeIn ns i) (nodeIn ns c)
+      ≡ true = sym (ap (λ (d : Edge). form (d .kind) (v .0) (nodeIn ns (d .parent)) (nodeIn ns (d .child))) (r .2)) ∙ v .1 in
+      let z : form 5 (v .0) (nodeIn ns i) (nodeIn ns c)
+      ≡ true = sym (ap (λ (n : ℕ). form n (v .0) (nodeIn ns i) (nodeIn ns c)) (eqb-true (k .kind) 5 (k .passes))) ∙ g in
       let q = and-parts (isPart (nodeIn ns i .expression) (nodeIn ns c .expression)) (sameEnds (nodeIn ns i) (nodeIn ns c)) z in
       let y : hasRole p (nodeIn ns c .expression) ≡ true = sym (ap (λ (x : Expression). isPart x (nodeIn ns c .expression)) e) ∙ q .0 in
       let a = any-find (λ (b : Role). same (nodeIn ns c .expression) (E.Role b)) (rolesOf p) y in
@@ -123,8 +128,12 @@ module _ {ns : List Node} {es : List Edge} {F S W : List ℕ} (nf : NodesFormed 
       let u : slotIn p (nodeIn ns c .expression) ≡ slotIn p (E.Role (a .0)) = ap (slotIn p) (same-eq (nodeIn ns c .expression) (E.Role (a .0)) (a .2)) in
       omega (arith, role-found p o (a .1))
 
-  closed : (i : ℕ) → i < 128 → (w : ℕ) → nodeAt G i ≡ w → failsBy w (childOf (length es) G (λ f. not (at (failedOf (length es) G) f)) i) (childOf (length es) G (at (failedOf (length es) G)) i) ≡ true → at (failedOf (length es) G) i ≡ true
-  closed i b w e h = failed-closed (length es) G i b (ap (λ (n : ℕ). failsBy n (childOf (length es) G (λ f. not (at (failedOf (length es) G) f)) i) (childOf (length es) G (at (failedOf (length es) G)) i)) e ∙ h)
+  closed : (i : ℕ) → i < 128 → (w : ℕ) → nodeAt G i ≡ w
+      → failsBy w (childOf (length es) G (λ f. not (at (failedOf (length es) G) f)) i) (childOf (length es) G (at (failedOf (length es) G)) i) ≡ true
+      → at (failedOf (length es) G) i ≡ true
+  closed i b w e h =
+      failed-closed (length es) G i b (ap (λ (n : ℕ). failsBy n (childOf (length es) G (λ f. not (at (failedOf (length es) G) f)) i)
+      (childOf (length es) G (at (failedOf (length es) G)) i)) e ∙ h)
 
   found : {i : ℕ} → Failed ns es i → at (failedOf (length es) G) i ≡ true
   unfolding failsBy
@@ -137,7 +146,8 @@ module _ {ns : List Node} {es : List Edge} {F S W : List ℕ} (nf : NodesFormed 
       let r = child-find (length es) G (λ f. not (at (failedOf (length es) G) f)) i t in
       let w = brought-at-all jn (r .0) i (r .1) (r .3) (r .2) in
       false-true (sym (not-true (at (failedOf (length es) G) (getD F (r .0) 0)) (r .4)) ∙ found (h (getD F (r .0) 0) (implied e (w .1) (w .2))))) in
-      closed i b 1 (way-at i b refl ∙ way-one (nodeIn ns i .state) (nodeIn ns i .expression) e ∙ ap (λ (t : Bool). cond t 1 0) (eq-eqb (nodeIn ns i .state) 3 full)) (ap (λ (t : Bool). not t || false) a)
+      closed i b 1 (way-at i b refl ∙ way-one (nodeIn ns i .state) (nodeIn ns i .expression) e
+      ∙ ap (λ (t : Bool). cond t 1 0) (eq-eqb (nodeIn ns i .state) 3 full)) (ap (λ (t : Bool). not t || false) a)
   found (failed-intersection {i} {c} {p} e k h) =
       let l : i < length ns = failed-inside (failed-intersection e k h) in
       let b : i < 128 = omega (arith, nf .few) in
@@ -145,7 +155,8 @@ module _ {ns : List Node} {es : List Edge} {F S W : List ℕ} (nf : NodesFormed 
       let v : getD S (r .0) 0 ≡ i * 4 + slotIn p (nodeIn ns c .expression) = r .3 in
       let z : getD F (r .0) 0 ≡ c = r .2 in
       closed i b 2 (way-at i b e)
-      (child-here (length es) G (at (failedOf (length es) G)) i (r .0) (r .1) (omega (arith, part-slot l e k)) (omega (arith, k .inside, nf .few)) (ap (at (failedOf (length es) G)) z ∙ found h))
+      (child-here (length es) G (at (failedOf (length es) G)) i (r .0) (r .1) (omega (arith, part-slot l e k)) (omega (arith, k .inside, nf .few))
+      (ap (at (failedOf (length es) G)) z ∙ found h))
 
   -- the columns' failed nodes
   pub failed-columns : (i : ℕ) → at (failedOf (length es) (graph F S W)) i ≡ at (failedB ns es) i

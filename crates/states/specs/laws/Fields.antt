@@ -33,7 +33,15 @@ wayBy k s = cond (eqb k 2 || eqb k 3) (cond (eqb s 3) 1 0) (cond (eqb k 4) 2 0)
 
 -- the parts of an intersection's numbers
 abbrev pub partsOf : Raw → Parts
-partsOf r = record { count = r .count; first = roleOf (r .n0) (r .n1); second = roleOf (r .n2) (r .n3); third = roleOf (r .n4) (r .n5); fourth = roleOf (r .n6) (r .n7) }
+partsOf r =
+    record {
+      count = r .count;
+      first = roleOf (r .n0) (r .n1);
+      second = roleOf (r .n2) (r .n3);
+      third = roleOf (r .n4) (r .n5);
+      fourth = roleOf
+          (r .n6) (r .n7);
+    }
 
 -- the expression by the tests of its kind
 abbrev pub byKind : Bool → Bool → Bool → Bool → Raw → Expression
@@ -72,13 +80,16 @@ way-raw s r = ⊎-elim first other (decided (eqb (r .kind) 1))
     go false false false = refl
 
     other : eqb (r .kind) 1 ≡ false → wayBy (r .kind) s ≡ wayAs s (expressionOf r)
-    other h = go (eqb (r .kind) 2) (eqb (r .kind) 3) (eqb (r .kind) 4) ∙ sym (ap (λ (b : Bool). wayAs s (byKind b (eqb (r .kind) 2) (eqb (r .kind) 3) (eqb (r .kind) 4) r)) h)
+    other h =
+        go (eqb (r .kind) 2) (eqb (r .kind) 3) (eqb (r .kind) 4)
+        ∙ sym (ap (λ (b : Bool). wayAs s (byKind b (eqb (r .kind) 2) (eqb (r .kind) 3) (eqb (r .kind) 4) r)) h)
 
 -- Which slot an edge fills, by the numbers r of its parent's expression and q of its child's
 
 standard-raw : (r : Raw) → (eqb (r .kind) 2 || eqb (r .kind) 3) ≡ true → isStandard (expressionOf r) ≡ true
 standard-raw r h =
-    ⊎-elim (λ e. ap (λ (n : ℕ). isStandard (expressionOf (ofKind n r))) (eqb-true (r .kind) 2 e)) (λ e. ap (λ (n : ℕ). isStandard (expressionOf (ofKind n r))) (eqb-true (r .kind) 3 e))
+    ⊎-elim (λ e. ap (λ (n : ℕ). isStandard (expressionOf (ofKind n r))) (eqb-true (r .kind) 2 e))
+    (λ e. ap (λ (n : ℕ). isStandard (expressionOf (ofKind n r))) (eqb-true (r .kind) 3 e))
     (or-cases (eqb (r .kind) 2) (eqb (r .kind) 3) h)
 
 pub slot-standard : (k : ℕ) (x y : Expression) → isStandard x ≡ true → slotAs k x y ≡ cond (implicationKind k) 0 4
@@ -99,7 +110,9 @@ module _ (k : ℕ) (r q : Raw) where
   -- an expression that is not a role
   other-slot : (p : Parts) → eqb (q .kind) 2 ≡ false → slotIn p (expressionOf q) ≡ 4
   unfolding slotIn
-  other-slot p h = ap (λ (b : Bool). slotIn p (byKind (eqb (q .kind) 1) b (eqb (q .kind) 3) (eqb (q .kind) 4) q)) h ∙ go (eqb (q .kind) 1) (eqb (q .kind) 3) (eqb (q .kind) 4)
+  other-slot p h =
+      ap (λ (b : Bool). slotIn p (byKind (eqb (q .kind) 1) b (eqb (q .kind) 3) (eqb (q .kind) 4) q)) h
+      ∙ go (eqb (q .kind) 1) (eqb (q .kind) 3) (eqb (q .kind) 4)
     where
       go : (a c d : Bool) → slotIn p (byKind a false c d q) ≡ 4
       go true c d = refl
@@ -116,7 +129,8 @@ module _ (k : ℕ) (r q : Raw) where
       go true false h o = o refl
       go false g h o = refl
 
-  pub slot-other : (eqb (r .kind) 2 || eqb (r .kind) 3) ≡ false → (not (eqb (r .kind) 4) || not (eqb k 5) || not (eqb (q .kind) 2)) ≡ true → 4 ≡ slotAs k (expressionOf r) (expressionOf q)
+  pub slot-other : (eqb (r .kind) 2 || eqb (r .kind) 3) ≡ false → (not (eqb (r .kind) 4) || not (eqb k 5) || not (eqb (q .kind) 2)) ≡ true
+      → 4 ≡ slotAs k (expressionOf r) (expressionOf q)
   unfolding slotAs
   slot-other h i = sym (go (eqb (r .kind) 1) (eqb (r .kind) 2) (eqb (r .kind) 3) (eqb (r .kind) 4) h i)
     where
@@ -127,7 +141,8 @@ module _ (k : ℕ) (r q : Raw) where
       go false false false true h i = no-part (partsOf r) i
       go false false false false h i = refl
 
-  pub slot-part : (not (eqb (r .kind) 4) || not (eqb k 5) || not (eqb (q .kind) 2)) ≡ false → slotIn (partsOf r) (E.Role (roleOf (q .n0) (q .n1))) ≡ slotAs k (expressionOf r) (expressionOf q)
+  pub slot-part : (not (eqb (r .kind) 4) || not (eqb k 5) || not (eqb (q .kind) 2)) ≡ false
+      → slotIn (partsOf r) (E.Role (roleOf (q .n0) (q .n1))) ≡ slotAs k (expressionOf r) (expressionOf q)
   unfolding slotAs
   slot-part h =
       let t = go (eqb (r .kind) 4) (eqb k 5) (eqb (q .kind) 2) h in
@@ -167,7 +182,8 @@ module _ (n k p c : ℕ) (X : ℕ → Expression) where
   unfolding slotBy
   slot-none {s = s} e f h l =
       let z : s ≡ slotAs k (X p) (X c) = read-slot e f h in
-      sym (ap (λ (b : Bool). cond (ltb p n && ltb c n && b) (p * 4 + slotAs k (X p) (X c)) 512) (le-ltb (slotAs k (X p) (X c)) 4 (omega arith)) ∙ ap (λ (b : Bool). cond b (p * 4 + slotAs k (X p) (X c)) 512) (and-false (ltb p n && ltb c n)))
+      sym (ap (λ (b : Bool). cond (ltb p n && ltb c n && b) (p * 4 + slotAs k (X p) (X c)) 512) (le-ltb (slotAs k (X p) (X c)) 4 (omega arith))
+      ∙ ap (λ (b : Bool). cond b (p * 4 + slotAs k (X p) (X c)) 512) (and-false (ltb p n && ltb c n)))
 
   pub slot-some : {x y s : ℕ} → x ≡ p → y ≡ c → (leb n x || leb n y) ≡ false → s ≡ slotAs k (X x) (X y) → s < 4 → p * 4 + s ≡ slotBy n k p c (X p) (X c)
   unfolding slotBy

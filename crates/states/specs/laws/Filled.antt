@@ -23,6 +23,7 @@ use Rattle.propagation.specs.laws.Work.{Beyond}
 use Rattle.states.specs.laws.Brings.{needOf, wayOf, slotAs, bringsBy, slotBy, slotFor, brings, fromOf, slotOf, Joined, Needs, Ways}
 use Rattle.states.specs.laws.BringsLaws.{brings-parts, brings-of, from-child, into-slot, from-none, into-none, slot-few}
 use Rattle.states.specs.laws.Fields.{rawIn, needBy, wayBy, need-raw, way-raw}
+use Rattle.numbers.specs.Sizes.{MOST-NODES, MOST-EDGES}
 
 -- a column of w numbers that has f below i, and d from there on
 pub record Filled (w : ℕ) (f : ℕ → ℕ) (d i : ℕ) (r : List ℕ) : Type 0 where
@@ -40,7 +41,8 @@ module _ (w : ℕ) (f : ℕ → ℕ) (d : ℕ) where
         record {
           size = ap length e ∙ length-set r i x ∙ z .size;
           done = λ k m. ap (λ (s : List ℕ). getD s k 0) e ∙ ⊎-elim
-              (λ b. let q : k ≡ i = eqb-true k i b in ap (λ (n : ℕ). getD (set r i x) n 0) q ∙ getD-set-same r i x 0 (omega (arith, z .size)) ∙ h ∙ sym (ap f q))
+              (λ b. let q : k ≡ i = eqb-true k i b in ap (λ (n : ℕ). getD (set r i x) n 0) q ∙ getD-set-same r i x 0 (omega (arith, z .size)) ∙ h
+              ∙ sym (ap f q))
               (λ b. getD-set-other r i k x 0 (eqb-false k i b) ∙ z .done k (omega (arith, eqb-false k i b))) (decided (eqb k i));
           rest = λ k m n. ap (λ (s : List ℕ). getD s k 0) e ∙ getD-set-other r i k x 0 (λ q. omega arith) ∙ z .rest k (omega arith) n;
         }
@@ -50,7 +52,9 @@ module _ (w : ℕ) (f : ℕ → ℕ) (d : ℕ) where
         subst (λ (s : List ℕ). Filled w f d (i + 1) s) (sym e)
         (record {
           size = z .size;
-          done = λ k m. ⊎-elim (λ b. let q : k ≡ i = eqb-true k i b in z .rest k (omega arith) (omega arith) ∙ h ∙ sym (ap f q)) (λ b. z .done k (omega (arith, eqb-false k i b))) (decided (eqb k i));
+          done =
+              λ k m. ⊎-elim (λ b. let q : k ≡ i = eqb-true k i b in z .rest k (omega arith) (omega arith) ∙ h ∙ sym (ap f q))
+              (λ b. z .done k (omega (arith, eqb-false k i b))) (decided (eqb k i));
           rest = λ k m n. z .rest k (omega arith) n;
         })
 
@@ -67,14 +71,16 @@ module _ (N : Nodes) (f : Node → ℕ) where
   column-all : {i : ℕ} {r : List ℕ} → i ≤ N .count → N .count ≤ i → NodeColumn N f i r → (k : ℕ) → k < 128 → getD r k 0 ≡ f (nodeIn (nodesOf N) k)
   column-all a b z k l =
       ⊎-elim (λ t. let m : k < N .count = ltb-true k (N .count) t in z .filled .done k (omega arith) ∙ sym (ap f (node-in N k m)))
-      (λ t. let m : N .count ≤ k = ltb-false k (N .count) t in z .filled .rest k (omega arith) l ∙ sym (ap f (List·getD-eq-default (nodesOf N) blank (omega (arith, nodes-length N))))) (decided (ltb k (N .count)))
+      (λ t. let m : N .count ≤ k = ltb-false k (N .count) t in z .filled .rest k (omega arith) l
+      ∙ sym (ap f (List·getD-eq-default (nodesOf N) blank (omega (arith, nodes-length N))))) (decided (ltb k (N .count)))
 
 -- the columns begin with the number of a node past the end
 pub needs-start : (N : Nodes) → NodeColumn N needOf 0 (replicate 128 5)
 unfolding needOf
 needs-start N = record { filled = fill-start 128 (λ k. needOf (nodeAt N k)) 5 }
 
-pub needs-add : (N : Nodes) {i x : ℕ} {r r′ : List ℕ} → i < 128 → r′ ≡ set r i x → x ≡ needBy (getD (N .kind) i 0) (getD (N .parts) i 0) (getD (N .state) i 0) → NodeColumn N needOf i r → NodeColumn N needOf (i + 1) r′
+pub needs-add : (N : Nodes) {i x : ℕ} {r r′ : List ℕ} → i < 128 → r′ ≡ set r i x
+    → x ≡ needBy (getD (N .kind) i 0) (getD (N .parts) i 0) (getD (N .state) i 0) → NodeColumn N needOf i r → NodeColumn N needOf (i + 1) r′
 unfolding needOf expressionFrom
 needs-add N {i} {x} {r} {r′} l e h z = column-add N needOf r′ x l e (h ∙ need-raw (getD (N .state) i 0) (rawIn N i)) z
 
@@ -85,7 +91,8 @@ pub ways-start : (N : Nodes) → NodeColumn N wayOf 0 (replicate 128 0)
 unfolding wayOf
 ways-start N = record { filled = fill-start 128 (λ k. wayOf (nodeAt N k)) 0 }
 
-pub ways-add : (N : Nodes) {i x : ℕ} {r r′ : List ℕ} → i < 128 → r′ ≡ set r i x → x ≡ wayBy (getD (N .kind) i 0) (getD (N .state) i 0) → NodeColumn N wayOf i r → NodeColumn N wayOf (i + 1) r′
+pub ways-add : (N : Nodes) {i x : ℕ} {r r′ : List ℕ} → i < 128 → r′ ≡ set r i x → x ≡ wayBy (getD (N .kind) i 0) (getD (N .state) i 0)
+    → NodeColumn N wayOf i r → NodeColumn N wayOf (i + 1) r′
 unfolding wayOf expressionFrom
 ways-add N {i} {x} {r} {r′} l e h z = column-add N wayOf r′ x l e (h ∙ way-raw (getD (N .state) i 0) (rawIn N i)) z
 
@@ -142,7 +149,8 @@ module _ (N : Nodes) (E : Edges) where
         (λ h. let t = brings-parts (nodesOf N) e h in
         let a : e .parent < N .count = omega (arith, nodes-length N, t .0) in
         let b : e .child < N .count = omega (arith, nodes-length N, t .1) in
-        and-both (ltb (e .parent) (N .count) && ltb (e .child) (N .count)) (ltb place 4) (and-both _ _ (lt-ltb (e .parent) (N .count) a) (lt-ltb (e .child) (N .count) b)) (lt-ltb place 4 (omega (arith, place-read a b, t .2))))
+        and-both (ltb (e .parent) (N .count) && ltb (e .child) (N .count)) (ltb place 4)
+        (and-both _ _ (lt-ltb (e .parent) (N .count) a) (lt-ltb (e .child) (N .count) b)) (lt-ltb place 4 (omega (arith, place-read a b, t .2))))
         (λ h. let t = and-parts (ltb (e .parent) (N .count) && ltb (e .child) (N .count)) (ltb place 4) h in
         let u = and-parts (ltb (e .parent) (N .count)) (ltb (e .child) (N .count)) (t .0) in
         let a : e .parent < N .count = ltb-true (e .parent) (N .count) (u .0) in
@@ -165,7 +173,7 @@ module _ (N : Nodes) (E : Edges) where
     read-brings : read < 512 → brings (nodesOf N) e ≡ true
     read-brings l = ⊎-elim (λ h. h) (λ h. absurd (omega (arith, read-out h))) (decided (brings (nodesOf N) e))
 
-    read-not : N .count ≤ 128 → 512 ≤ read → brings (nodesOf N) e ≡ false
+    read-not : N .count ≤ MOST-NODES → 512 ≤ read → brings (nodesOf N) e ≡ false
     read-not few l = not-of (brings (nodesOf N) e) (λ h. omega (arith, nodes-length N, read-in h, slot-few (nodesOf N) e (omega (arith, nodes-length N))))
 
     module _ {F S : List ℕ} (F′ S′ : List ℕ) (s : ℕ) (k : s ≡ read) (l : j < 256) (z : Linked j F S) where
@@ -177,7 +185,7 @@ module _ (N : Nodes) (E : Edges) where
             slot = fill-add 256 (λ k. slotOf (nodesOf N) (edgeAt E k)) 0 S′ s l g (k ∙ read-in b) (z .slot);
           }
 
-      pub link-skip : N .count ≤ 128 → 512 ≤ s → F′ ≡ F → S′ ≡ S → Linked (j + 1) F′ S′
+      pub link-skip : N .count ≤ MOST-NODES → 512 ≤ s → F′ ≡ F → S′ ≡ S → Linked (j + 1) F′ S′
       link-skip few h f g =
           let b : brings (nodesOf N) e ≡ false = read-not few (omega arith) in
           record {
@@ -185,12 +193,15 @@ module _ (N : Nodes) (E : Edges) where
             slot = fill-skip 256 (λ k. slotOf (nodesOf N) (edgeAt E k)) 0 S′ l g (sym (into-none (nodesOf N) e b)) (z .slot);
           }
 
-  pub link-all : {j : ℕ} {F S : List ℕ} → N .count ≤ 128 → E .count ≤ 256 → j ≤ E .count → E .count ≤ j → Linked j F S → Joined (nodesOf N) (edgesOf E) F S
+  pub link-all : {j : ℕ} {F S : List ℕ} → N .count ≤ MOST-NODES → E .count ≤ MOST-EDGES → j ≤ E .count → E .count ≤ j → Linked j F S
+      → Joined (nodesOf N) (edgesOf E) F S
   link-all {j} {F} {S} few fits a b z =
       record {
         from = λ k l. let m : k < E .count = omega (arith, edges-length E) in z .from .done k (omega arith) ∙ sym (ap (fromOf (nodesOf N)) (edge-in E k m));
         slot = λ k l. let m : k < E .count = omega (arith, edges-length E) in z .slot .done k (omega arith) ∙ sym (ap (slotOf (nodesOf N)) (edge-in E k m));
-        slots = λ k. ⊎-elim (λ t. let m : k < j = ltb-true k j t in omega (arith, z .slot .done k m, slot-few (nodesOf N) (edgeAt E k) (omega (arith, nodes-length N))))
+        slots =
+            λ k. ⊎-elim (λ t. let m : k < j = ltb-true k j t in omega
+            (arith, z .slot .done k m, slot-few (nodesOf N) (edgeAt E k) (omega (arith, nodes-length N))))
             (λ t. let m : j ≤ k = ltb-false k j t in ⊎-elim (λ u. omega (arith, z .slot .rest k m (ltb-true k 256 u)))
             (λ u. omega (arith, List·getD-eq-default S 0 {n = k} (omega (arith, ltb-false k 256 u, z .slot .size)))) (decided (ltb k 256))) (decided (ltb k j));
       }

@@ -42,13 +42,15 @@ noRole = roleOf 0 0
 above : (a b : Role) → ascends a b ≡ true → (a .entity < b .entity) ⊎ ((a .entity ≡ b .entity) × (a .name < b .name))
 above a b h =
     ⊎-elim (λ t. inl (ltb-true (a .entity) (b .entity) t))
-    (λ t. let p = and-parts (eqb (a .entity) (b .entity)) (ltb (a .name) (b .name)) t in inr (eqb-true (a .entity) (b .entity) (p .0), ltb-true (a .name) (b .name) (p .1)))
+    (λ t. let p = and-parts (eqb (a .entity) (b .entity)) (ltb (a .name) (b .name)) t in inr
+    (eqb-true (a .entity) (b .entity) (p .0), ltb-true (a .name) (b .name) (p .1)))
     (or-cases (ltb (a .entity) (b .entity)) (eqb (a .entity) (b .entity) && ltb (a .name) (b .name)) h)
 
 above-of : (a b : Role) → (a .entity < b .entity) ⊎ ((a .entity ≡ b .entity) × (a .name < b .name)) → ascends a b ≡ true
 above-of a b h =
     ⊎-elim (λ t. or-left (ltb (a .entity) (b .entity)) (eqb (a .entity) (b .entity) && ltb (a .name) (b .name)) (lt-ltb (a .entity) (b .entity) t))
-    (λ t. or-right (ltb (a .entity) (b .entity)) (eqb (a .entity) (b .entity) && ltb (a .name) (b .name)) (and-both (eqb (a .entity) (b .entity)) (ltb (a .name) (b .name)) (eq-eqb (a .entity) (b .entity) (t .0)) (lt-ltb (a .name) (b .name) (t .1)))) h
+    (λ t. or-right (ltb (a .entity) (b .entity)) (eqb (a .entity) (b .entity) && ltb (a .name) (b .name))
+    (and-both (eqb (a .entity) (b .entity)) (ltb (a .name) (b .name)) (eq-eqb (a .entity) (b .entity) (t .0)) (lt-ltb (a .name) (b .name) (t .1)))) h
 
 ascends-on : (a b c : Role) → ascends a b ≡ true → ascends b c ≡ true → ascends a c ≡ true
 ascends-on a b c h k =
@@ -161,7 +163,8 @@ module _ (p : Parts) (f : RolesFormed p) where
   pub slot-role : (i : ℕ) (y : Expression) → i < p .count → slotIn p y ≡ i → y ≡ E.Role (getD (rolesOf p) i noRole)
   unfolding slotIn
   slot-role i (E.Entity a) l e = absurd (omega (arith, f .size, f .few))
-  slot-role i (E.Role a) l e = ap (λ (b : Role). E.Role b) (place-role a 0 (rolesOf p) i (omega (arith, f .few)) (omega (arith, f .size)) (e ∙ (let z : i ≡ 0 + i = omega arith in z)))
+  slot-role i (E.Role a) l e =
+      ap (λ (b : Role). E.Role b) (place-role a 0 (rolesOf p) i (omega (arith, f .few)) (omega (arith, f .size)) (e ∙ (let z : i ≡ 0 + i = omega arith in z)))
   slot-role i (E.Linked a r) l e = absurd (omega (arith, f .size, f .few))
   slot-role i (E.Intersection q) l e = absurd (omega (arith, f .size, f .few))
   slot-role i (E.Goal r) l e = absurd (omega (arith, f .size, f .few))

@@ -68,7 +68,8 @@ module _ {ns : List Node} {es : List Edge} {F S N : List ℕ} (nf : NodesFormed 
             let y : isStandard (nodeIn ns i .expression) ≡ true = ap isStandard e ∙ t in
             standard y (implied y (omega arith) (r .1)) (r .2)
 
-        full : (p : Parts) → nodeIn ns i .expression ≡ E.Intersection p → (t : Bool) → eqb (nodeIn ns i .state) 3 ≡ t → nodeAt G i ≡ cond t (p .count) 5 → Satisfied ns (take m es) i
+        full : (p : Parts) → nodeIn ns i .expression ≡ E.Intersection p → (t : Bool) → eqb (nodeIn ns i .state) 3 ≡ t
+            → nodeAt G i ≡ cond t (p .count) 5 → Satisfied ns (take m es) i
         full p e true q z =
             let f : FullyProcessed ns i = eqb-true (nodeIn ns i .state) 3 q in
             let o : RolesFormed p = roles i e f in
@@ -91,12 +92,16 @@ module _ {ns : List Node} {es : List Edge} {F S N : List ℕ} (nf : NodesFormed 
 
   -- What is satisfied the rule brings
 
-  closed : (i : ℕ) → i < 128 → (n : ℕ) → nodeAt G i ≡ n → n < 5 → ((k : ℕ) → k < n → filledBy m G (at (satisfiedOf m G)) (i * 4 + k) ≡ true) → at (satisfiedOf m G) i ≡ true
+  closed : (i : ℕ) → i < 128 → (n : ℕ) → nodeAt G i ≡ n → n < 5 → ((k : ℕ) → k < n → filledBy m G (at (satisfiedOf m G)) (i * 4 + k) ≡ true)
+      → at (satisfiedOf m G) i ≡ true
   unfolding satisfiedOf
-  closed i b n e f h = least-closed (satisfiedRule m G) 128 (satisfied-mono m G) i b (satisfied-of m G (at (satisfiedOf m G)) i (omega arith) (λ k q. h k (omega arith)))
+  closed i b n e f h =
+      least-closed (satisfiedRule m G) 128 (satisfied-mono m G) i b (satisfied-of m G (at (satisfiedOf m G)) i (omega arith) (λ k q. h k (omega arith)))
 
-  fills : {i k c : ℕ} → i < length ns → k < 4 → Brought ns (take m es) i k c → at (satisfiedOf m G) c ≡ true → filledBy m G (at (satisfiedOf m G)) (i * 4 + k) ≡ true
-  fills {i} {k} {c} b q w h = let r = brought-here jn m l b q w in filled-here m G (at (satisfiedOf m G)) (i * 4 + k) (r .0) (r .1) (r .3) (ap (at (satisfiedOf m G)) (r .2) ∙ h)
+  fills : {i k c : ℕ} → i < length ns → k < 4 → Brought ns (take m es) i k c → at (satisfiedOf m G) c ≡ true
+      → filledBy m G (at (satisfiedOf m G)) (i * 4 + k) ≡ true
+  fills {i} {k} {c} b q w h =
+      let r = brought-here jn m l b q w in filled-here m G (at (satisfiedOf m G)) (i * 4 + k) (r .0) (r .1) (r .3) (ap (at (satisfiedOf m G)) (r .2) ∙ h)
 
   need-one : (s : ℕ) (x : Expression) → isStandard x ≡ true → needAs s x ≡ 1
   need-one s (E.Entity a) h = absurd (false-true h)
@@ -106,16 +111,20 @@ module _ {ns : List Node} {es : List Edge} {F S N : List ℕ} (nf : NodesFormed 
   need-one s (E.Goal r) h = absurd (false-true h)
 
   found : {i : ℕ} → Satisfied ns (take m es) i → at (satisfiedOf m G) i ≡ true
-  found (trivial {i} e) = let b : i < length ns = satisfied-inside {ns = ns} {es = take m es} (trivial e) in closed i (omega (arith, nf .few)) 0 (need-at i (omega (arith, nf .few)) e) (omega arith) (λ k q. absurd (omega arith))
+  found (trivial {i} e) =
+      let b : i < length ns = satisfied-inside {ns = ns} {es = take m es} (trivial e) in closed i (omega (arith, nf .few)) 0
+      (need-at i (omega (arith, nf .few)) e) (omega arith) (λ k q. absurd (omega arith))
   found (standard {i} e k g) =
       let b : i < length ns = satisfied-inside (standard e k g) in
       let h : at (satisfiedOf m G) _ ≡ true = found g in
       closed i (omega (arith, nf .few)) 1 (need-at i (omega (arith, nf .few)) refl ∙ need-one (nodeIn ns i .state) (nodeIn ns i .expression) e) (omega arith)
-      (λ n q. let z : 0 ≡ n = omega arith in subst (λ (a : ℕ). filledBy m G (at (satisfiedOf m G)) (i * 4 + a) ≡ true) z (fills b (omega arith) (implies e k) h))
+      (λ n q. let z : 0 ≡ n = omega arith in subst (λ (a : ℕ). filledBy m G (at (satisfiedOf m G)) (i * 4 + a) ≡ true) z
+      (fills b (omega arith) (implies e k) h))
   found (intersection {i} {p} e full f w g) =
       let b : i < length ns = satisfied-inside (intersection e full f w g) in
       let o : RolesFormed p = roles i e full in
-      closed i (omega (arith, nf .few)) (p .count) (need-at i (omega (arith, nf .few)) e ∙ ap (λ (t : Bool). cond t (p .count) 5) (eq-eqb (nodeIn ns i .state) 3 full)) (omega (arith, o .size, o .few))
+      closed i (omega (arith, nf .few)) (p .count)
+      (need-at i (omega (arith, nf .few)) e ∙ ap (λ (t : Bool). cond t (p .count) 5) (eq-eqb (nodeIn ns i .state) 3 full)) (omega (arith, o .size, o .few))
       (λ n q.
       let a : Role = getD (rolesOf p) n noRole in
       let u : List·Memᴰ a (rolesOf p) = index-mem noRole (rolesOf p) n (omega (arith, o .size)) in

@@ -24,26 +24,36 @@ use Rattle.record.specs.declared.RecordAnswer.the-variants as a
 use Rattle.record.specs.Record.{formed, recordAt, recordBytes, sizeOf}
 use Rattle.record.specs.laws.RecordExact.{record-refusal, record-room, record-formed, record-only}
 use Rattle.tables.specs.Tables.{Tables, unread, added}
-use Rattle.tables.specs.Check.{suitsStorage, storedNumber, suitsPair, pairNumber, classNumber, none, inOrder, above, room, orderNumber, judge, onRecord, recordsFrom, sized, readTables}
+use Rattle.tables.specs.Check.{suitsStorage, storedNumber, suitsPair, pairNumber, classNumber, none, inOrder, above, room, orderNumber, judge}
+use Rattle.tables.specs.Check.{onRecord, recordsFrom, sized, readTables}
 use Rattle.tables.specs.laws.Check.{some-size, readFrom, from-past, from-refused, from-judged}
 use Rattle.tables.specs.Accepted.{rising-none, Records, Sound}
 use Rattle.tables.specs.laws.Sorted.{rising-add}
 use Rattle.tables.specs.Bytes.{bytesOf, tablesBytes}
 use Rattle.numbers.specs.Answer.{Answer, refused, accepted, judged}
+use Rattle.numbers.specs.Refusals.{LENGTH}
 
 -- The records of one command
 
-each-add : {A B : Type 0} (f : A → B) (b : B) {L : List A} → ((y : A) → List·Memᴰ y L → f y ≡ b) → (x : A) → f x ≡ b → (y : A) → List·Memᴰ y (L ++ (x ∷ [])) → f y ≡ b
+each-add : {A B : Type 0} (f : A → B) (b : B) {L : List A} → ((y : A) → List·Memᴰ y L → f y ≡ b) → (x : A) → f x ≡ b → (y : A)
+    → List·Memᴰ y (L ++ (x ∷ [])) → f y ≡ b
 each-add f b {L} h x k y m = ⊎-elim (h y) (λ n. ap f (List·Memᴰ·eq-of-singleton n) ∙ k) (List·Memᴰ·append-cases L m)
 
 module _ {A : Type 0} {wrap : A → Record} {before : A → A → Bool} {most : ℕ} {number : A → ℕ} where
   -- a command without records
   records-none : {L : List A} → none L ≡ true → Records wrap before most number L
-  records-none {L = []} h = record { ascend = rising-none; few = omega arith; form = λ x m. absurd (List·Memᴰ·not-nil m); rules = λ x m. absurd (List·Memᴰ·not-nil m) }
+  records-none {L = []} h = record {
+    ascend = rising-none;
+    few = omega arith;
+    form = λ x m. absurd (List·Memᴰ·not-nil m);
+    rules = λ x m. absurd
+        (List·Memᴰ·not-nil m);
+  }
   records-none {L = x ∷ L} h = absurd (false-true h)
 
   -- one record more
-  records-add : {L : List A} → Records wrap before most number L → (x : A) → formed (wrap x) ≡ true → number x ≡ 0 → all (λ y. before y x) L ≡ true → ltb (length L) most ≡ true
+  records-add : {L : List A} → Records wrap before most number L → (x : A) → formed (wrap x) ≡ true → number x ≡ 0 → all (λ y. before y x) L ≡ true
+      → ltb (length L) most ≡ true
       → Records wrap before most number (L ++ (x ∷ []))
   records-add {L} k x f c u l =
       record {
@@ -56,7 +66,8 @@ module _ {A : Type 0} {wrap : A → Record} {before : A → A → Bool} {most : 
 -- their bytes, with one record more
 bytes-add : {A : Type 0} (wrap : A → Record) (L : List A) (x : A) → bytesOf wrap (L ++ (x ∷ [])) ≡ bytesOf wrap L ++ recordBytes (wrap x)
 bytes-add wrap [] x = append-nil (recordBytes (wrap x))
-bytes-add wrap (y ∷ L) x = ap (λ (l : List ℕ). recordBytes (wrap y) ++ l) (bytes-add wrap L x) ∙ sym (append-assoc (recordBytes (wrap y)) (bytesOf wrap L) (recordBytes (wrap x)))
+bytes-add wrap (y ∷ L) x =
+    ap (λ (l : List ℕ). recordBytes (wrap y) ++ l) (bytes-add wrap L x) ∙ sym (append-assoc (recordBytes (wrap y)) (bytesOf wrap L) (recordBytes (wrap x)))
 
 bytes-none : {A : Type 0} (wrap : A → Record) (L : List A) → none L ≡ true → bytesOf wrap L ≡ []
 bytes-none wrap [] h = refl
@@ -67,7 +78,8 @@ record Then (l m n : List ℕ) : Type 0 where
   same : l ≡ m ++ n
 
 -- a record more, and no bytes follow
-then-add : {A : Type 0} (wrap : A → Record) (L : List A) (x : A) (l : List ℕ) → l ≡ [] → Then (bytesOf wrap (L ++ (x ∷ [])) ++ l) (bytesOf wrap L ++ l) (recordBytes (wrap x))
+then-add : {A : Type 0} (wrap : A → Record) (L : List A) (x : A) (l : List ℕ) → l ≡ []
+    → Then (bytesOf wrap (L ++ (x ∷ [])) ++ l) (bytesOf wrap L ++ l) (recordBytes (wrap x))
 then-add wrap L x l h =
     record {
       same =
@@ -205,7 +217,8 @@ bytes-added T (Own e) k w = absurd (omega (arith, k .own))
 bytes-added T (Named n) k w =
     then-behind (recordBytes (Own (T .own)))
     (then-add Named (T .names) n (fromIssuer T)
-    (λ i. bytes-none IssuerStored (T .issuerStored) (w .0) i ++ (bytes-none SubjectStored (T .subjectStored) (w .1) i ++ (bytes-none Sensitive (T .sensitive) (w .2) i ++ bytes-none Access (T .access) (w .3) i))))
+    (λ i. bytes-none IssuerStored (T .issuerStored) (w .0) i ++
+    (bytes-none SubjectStored (T .subjectStored) (w .1) i ++ (bytes-none Sensitive (T .sensitive) (w .2) i ++ bytes-none Access (T .access) (w .3) i))))
 bytes-added T (IssuerStored c) k w =
     then-behind (recordBytes (Own (T .own)))
     (then-behind (bytesOf Named (T .names))
@@ -215,7 +228,8 @@ bytes-added T (SubjectStored c) k w =
     then-behind (recordBytes (Own (T .own)))
     (then-behind (bytesOf Named (T .names))
     (then-behind (bytesOf IssuerStored (T .issuerStored))
-    (then-add SubjectStored (T .subjectStored) c (fromSensitive T) (λ i. bytes-none Sensitive (T .sensitive) (w .0) i ++ bytes-none Access (T .access) (w .1) i))))
+    (then-add SubjectStored (T .subjectStored) c (fromSensitive T)
+    (λ i. bytes-none Sensitive (T .sensitive) (w .0) i ++ bytes-none Access (T .access) (w .1) i))))
 bytes-added T (Sensitive p) k w =
     then-behind (recordBytes (Own (T .own)))
     (then-behind (bytesOf Named (T .names))
@@ -262,11 +276,14 @@ module _ (s : List ℕ) where
   first (Access p) more h w = absurd (false-true (w .order))
 
   -- a further record
-  further : (at : ℕ) (T : Tables) (r : Record) → at < length s → SoundSoFar s at T → recordAt s at ≡ a.Read r → Judged T r → SoundSoFar s (at + sizeOf r) (added T r)
+  further : (at : ℕ) (T : Tables) (r : Record) → at < length s → SoundSoFar s at T → recordAt s at ≡ a.Read r → Judged T r
+      → SoundSoFar s (at + sizeOf r) (added T r)
   further at T r more k h w =
       record {
         sound = sound-add T r (k .sound) (record-formed s at r h) w;
-        bytes = λ b. take-add at (sizeOf r) s ∙ (λ i. k .bytes b i ++ record-only s at r b more h i) ∙ sym (bytes-added T r (k .sound) (later T r (w .order)) .same);
+        bytes =
+            λ b. take-add at (sizeOf r) s ∙ (λ i. k .bytes b i ++ record-only s at r b more h i)
+            ∙ sym (bytes-added T r (k .sound) (later T r (w .order)) .same);
       }
 
   module _ (U : Tables) where
@@ -301,7 +318,8 @@ module _ (s : List ℕ) where
     kept (suc n) at T l m k h = go (ltb at (length s)) refl (λ r. kept n (at + sizeOf r) (added T r))
       where
         go : (b : Bool) → ltb at (length s) ≡ b
-            → ((r : Record) → length s ≤ n + (at + sizeOf r) → at + sizeOf r ≤ length s → SoundSoFar s (at + sizeOf r) (added T r) → readFrom s (at + sizeOf r) (added T r) ≡ accepted U → SoundSoFar s (length s) U)
+            → ((r : Record) → length s ≤ n + (at + sizeOf r) → at + sizeOf r ≤ length s → SoundSoFar s (at + sizeOf r) (added T r)
+            → readFrom s (at + sizeOf r) (added T r) ≡ accepted U → SoundSoFar s (length s) U)
             → SoundSoFar s (length s) U
         go true e again =
             let more = ltb-true at (length s) e in
@@ -315,7 +333,8 @@ sized-true : (s : List ℕ) (T : Tables) → readTables s ≡ accepted T → (si
 unfolding readTables readFrom
 sized-true s T h = go (sized (length s)) refl h
   where
-    go : (b : Bool) → sized (length s) ≡ b → cond b (recordsFrom (length s) s 0 unread) (refused 1) ≡ accepted T → (sized (length s) ≡ true) × (recordsFrom (length s) s 0 unread ≡ accepted T)
+    go : (b : Bool) → sized (length s) ≡ b → cond b (recordsFrom (length s) s 0 unread) (refused LENGTH) ≡ accepted T
+        → (sized (length s) ≡ true) × (recordsFrom (length s) s 0 unread ≡ accepted T)
     go true e q = (e, q)
     go false e q = absurd (let y : _≡_ {A = ℕ} 0 1 = cc in omega arith)
 
@@ -331,7 +350,8 @@ all-kept s T h =
     let some = accepted-length s T h .0 in
     let w = next s T 0 unread some (sized-true s T h .1) in
     let r = w .r in
-    kept s T (length s) (0 + sizeOf r) (added unread r) (omega arith) (record-room s 0 r some (w .read)) (first s r some (w .read) (passed unread r (w .good))) (w .rest)
+    kept s T (length s) (0 + sizeOf r) (added unread r) (omega arith) (record-room s 0 r some (w .read))
+    (first s r some (w .read) (passed unread r (w .good))) (w .rest)
 
 -- accepted tables keep all rules
 pub accepted-sound : (s : List ℕ) (T : Tables) → readTables s ≡ accepted T → Sound T
@@ -361,7 +381,8 @@ credential-most ns c =
 stored-most : (ns : List Name) (subject : Bool) (c : Credential) → storedNumber ns subject c ≤ 6
 unfolding storedNumber
 stored-most ns subject c =
-    at-most 6 (eqb (credentialNumber ns c) 0) _ _ (at-most 6 (suitsStorage subject (classOf ns (c .head .name))) 0 5 (omega arith) (omega arith)) (credential-most ns c)
+    at-most 6 (eqb (credentialNumber ns c) 0) _ _ (at-most 6 (suitsStorage subject (classOf ns (c .head .name))) 0 5 (omega arith) (omega arith))
+    (credential-most ns c)
 
 pair-most : (access : Bool) (T : Tables) (p : Pair) → pairNumber access T p ≤ 6
 unfolding pairNumber
@@ -405,6 +426,6 @@ pub check-numbers : (s : List ℕ) (k : ℕ) → readTables s ≡ refused k → 
 unfolding readTables
 check-numbers s k h = go (sized (length s)) h
   where
-    go : (b : Bool) → cond b (recordsFrom (length s) s 0 unread) (refused 1) ≡ refused k → OneToSix k
+    go : (b : Bool) → cond b (recordsFrom (length s) s 0 unread) (refused LENGTH) ≡ refused k → OneToSix k
     go true q = from-numbers (length s) s 0 unread k q
     go false q = let e : 1 ≡ k = cc in (omega arith, omega arith)

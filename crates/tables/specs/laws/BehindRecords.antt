@@ -40,9 +40,11 @@ pub record Ranked {A : Type 0} (G : Group A) (k : ℕ) : Type 0 where
   pub blocks : (T : Tables) (L : List A) (r : Record) → eqb (T .own) 0 ≡ false → none L ≡ false → rankOf r < k → inOrder (G .put T L) r ≡ false
 
 -- the records of one more command have been read
-pub passed-next : {A : Type 0} {G : Group A} {k : ℕ} → Ranked G k → {num : A → ℕ} {s : List ℕ} {start : ℕ} {L : List A} {at : ℕ} {T : Tables} → G .put T [] ≡ T → BehindRecords k s start T → Gone G num s start L 0 at
+pub passed-next : {A : Type 0} {G : Group A} {k : ℕ} → Ranked G k → {num : A → ℕ} {s : List ℕ} {start : ℕ} {L : List A} {at : ℕ} {T : Tables}
+    → G .put T [] ≡ T → BehindRecords k s start T → Gone G num s start L 0 at
     → BehindRecords (suc k) s at (G .put T L)
-passed-next {A} {G} {k} ranked {num} {s} {start} {L} {at} {T} first p g = record { begun = ap (λ (e : ℕ). eqb e 0) (ranked .same T L) ∙ p .begun; out = λ more r h l. by-rank more r h l (eqb (rankOf r) k) refl }
+passed-next {A} {G} {k} ranked {num} {s} {start} {L} {at} {T} first p g =
+    record { begun = ap (λ (e : ℕ). eqb e 0) (ranked .same T L) ∙ p .begun; out = λ more r h l. by-rank more r h l (eqb (rankOf r) k) refl }
   where
     earlier : (M : List A) → L ≡ M → at < length s → (r : Record) → recordAt s at ≡ a.Read r → rankOf r < k → inOrder (G .put T M) r ≡ false
     earlier [] e more r h l =
@@ -99,9 +101,13 @@ issuer-ranked = record { own = own; same = λ T L. refl; blocks = blocks }
     own (Sensitive p) h = absurd (omega arith)
     own (Access p) h = absurd (omega arith)
 
-    blocks : (T : Tables) (L : List Credential) (r : Record) → eqb (T .own) 0 ≡ false → none L ≡ false → rankOf r < 2 → inOrder (credentialsOf false .put T L) r ≡ false
+    blocks : (T : Tables) (L : List Credential) (r : Record) → eqb (T .own) 0 ≡ false → none L ≡ false → rankOf r < 2
+        → inOrder (credentialsOf false .put T L) r ≡ false
     blocks T L (Own e) o n h = o
-    blocks T L (Named m) o n h = fails-first (not (eqb (T .own) 0) && none L && none (T .subjectStored) && none (T .sensitive)) (none (T .access)) (fails-first (not (eqb (T .own) 0) && none L && none (T .subjectStored)) (none (T .sensitive)) (fails-first (not (eqb (T .own) 0) && none L) (none (T .subjectStored)) (fails-last (not (eqb (T .own) 0)) (none L) n)))
+    blocks T L (Named m) o n h =
+        fails-first (not (eqb (T .own) 0) && none L && none (T .subjectStored) && none (T .sensitive)) (none (T .access))
+        (fails-first (not (eqb (T .own) 0) && none L && none (T .subjectStored)) (none (T .sensitive))
+        (fails-first (not (eqb (T .own) 0) && none L) (none (T .subjectStored)) (fails-last (not (eqb (T .own) 0)) (none L) n)))
     blocks T L (IssuerStored c) o n h = absurd (omega arith)
     blocks T L (SubjectStored c) o n h = absurd (omega arith)
     blocks T L (Sensitive p) o n h = absurd (omega arith)
@@ -119,10 +125,16 @@ subject-ranked = record { own = own; same = λ T L. refl; blocks = blocks }
     own (Sensitive p) h = absurd (omega arith)
     own (Access p) h = absurd (omega arith)
 
-    blocks : (T : Tables) (L : List Credential) (r : Record) → eqb (T .own) 0 ≡ false → none L ≡ false → rankOf r < 3 → inOrder (credentialsOf true .put T L) r ≡ false
+    blocks : (T : Tables) (L : List Credential) (r : Record) → eqb (T .own) 0 ≡ false → none L ≡ false → rankOf r < 3
+        → inOrder (credentialsOf true .put T L) r ≡ false
     blocks T L (Own e) o n h = o
-    blocks T L (Named m) o n h = fails-first (not (eqb (T .own) 0) && none (T .issuerStored) && none L && none (T .sensitive)) (none (T .access)) (fails-first (not (eqb (T .own) 0) && none (T .issuerStored) && none L) (none (T .sensitive)) (fails-last (not (eqb (T .own) 0) && none (T .issuerStored)) (none L) n))
-    blocks T L (IssuerStored c) o n h = fails-first (not (eqb (T .own) 0) && none L && none (T .sensitive)) (none (T .access)) (fails-first (not (eqb (T .own) 0) && none L) (none (T .sensitive)) (fails-last (not (eqb (T .own) 0)) (none L) n))
+    blocks T L (Named m) o n h =
+        fails-first (not (eqb (T .own) 0) && none (T .issuerStored) && none L && none (T .sensitive)) (none (T .access))
+        (fails-first (not (eqb (T .own) 0) && none (T .issuerStored) && none L) (none (T .sensitive))
+        (fails-last (not (eqb (T .own) 0) && none (T .issuerStored)) (none L) n))
+    blocks T L (IssuerStored c) o n h =
+        fails-first (not (eqb (T .own) 0) && none L && none (T .sensitive)) (none (T .access))
+        (fails-first (not (eqb (T .own) 0) && none L) (none (T .sensitive)) (fails-last (not (eqb (T .own) 0)) (none L) n))
     blocks T L (SubjectStored c) o n h = absurd (omega arith)
     blocks T L (Sensitive p) o n h = absurd (omega arith)
     blocks T L (Access p) o n h = absurd (omega arith)
@@ -141,8 +153,12 @@ sensitive-ranked = record { own = own; same = λ T L. refl; blocks = blocks }
 
     blocks : (T : Tables) (L : List Pair) (r : Record) → eqb (T .own) 0 ≡ false → none L ≡ false → rankOf r < 4 → inOrder (pairs false .put T L) r ≡ false
     blocks T L (Own e) o n h = o
-    blocks T L (Named m) o n h = fails-first (not (eqb (T .own) 0) && none (T .issuerStored) && none (T .subjectStored) && none L) (none (T .access)) (fails-last (not (eqb (T .own) 0) && none (T .issuerStored) && none (T .subjectStored)) (none L) n)
-    blocks T L (IssuerStored c) o n h = fails-first (not (eqb (T .own) 0) && none (T .subjectStored) && none L) (none (T .access)) (fails-last (not (eqb (T .own) 0) && none (T .subjectStored)) (none L) n)
+    blocks T L (Named m) o n h =
+        fails-first (not (eqb (T .own) 0) && none (T .issuerStored) && none (T .subjectStored) && none L) (none (T .access))
+        (fails-last (not (eqb (T .own) 0) && none (T .issuerStored) && none (T .subjectStored)) (none L) n)
+    blocks T L (IssuerStored c) o n h =
+        fails-first (not (eqb (T .own) 0) && none (T .subjectStored) && none L) (none (T .access))
+        (fails-last (not (eqb (T .own) 0) && none (T .subjectStored)) (none L) n)
     blocks T L (SubjectStored c) o n h = fails-first (not (eqb (T .own) 0) && none L) (none (T .access)) (fails-last (not (eqb (T .own) 0)) (none L) n)
     blocks T L (Sensitive p) o n h = absurd (omega arith)
     blocks T L (Access p) o n h = absurd (omega arith)

@@ -31,7 +31,8 @@ leads-chain : (m n o : ℕ) (p q r : Bool) → (p ≡ true → q ≡ true → r 
 leads-chain m n o p q r rest h k =
     ⊎-elim
     (λ l. ⊎-elim (λ l′. leads-first m o r (omega arith)) (λ e. let z : n ≡ o = e .0 in leads-first m o r (omega arith)) (leads-cases n o q k))
-    (λ e. let z : m ≡ n = e .0 in ⊎-elim (λ l′. leads-first m o r (omega arith)) (λ e′. let y : n ≡ o = e′ .0 in leads-rest m o r (omega arith) (rest (e .1) (e′ .1))) (leads-cases n o q k))
+    (λ e. let z : m ≡ n = e .0 in ⊎-elim (λ l′. leads-first m o r (omega arith))
+    (λ e′. let y : n ≡ o = e′ .0 in leads-rest m o r (omega arith) (rest (e .1) (e′ .1))) (leads-cases n o q k))
     (leads-cases m n p h)
 
 -- the lexicographic order is transitive

@@ -39,7 +39,8 @@ records-past (suc n) s at T h =
     ap (λ (t : Bool). cond t (onRecord (λ size U. recordsFrom n s (at + size) U) T (recordAt s at)) (accepted T)) (le-ltb at (length s) h)
 
 -- what comes after a record is the same where it is the same for each size that a record has
-same-next : (f g : ℕ → Tables → Answer Tables) (T : Tables) → ((r : Record) (U : Tables) → f (sizeOf r) U ≡ g (sizeOf r) U) → (x : RecordAnswer) → onRecord f T x ≡ onRecord g T x
+same-next : (f g : ℕ → Tables → Answer Tables) (T : Tables) → ((r : Record) (U : Tables) → f (sizeOf r) U ≡ g (sizeOf r) U) → (x : RecordAnswer)
+    → onRecord f T x ≡ onRecord g T x
 same-next f g T h (a.Refused k) = refl
 same-next f g T h (a.Read r) = ap (judged (judge T r)) (h r (added T r))
 

@@ -34,7 +34,8 @@ pub stored-name : (N : Names) (x : Name) → N .count < 64 → NamesSized N → 
 unfolding namesOf
 stored-name N x room z =
     let n : ℕ = N .count in
-    let name-kept : (i : ℕ) → i < n → getD (set (N .name) n (x .name)) i 0 ≡ getD (N .name) i 0 = λ i l. getD-set-other (N .name) n i (x .name) 0 (λ e. omega arith) in
+    let name-kept : (i : ℕ) → i < n → getD (set (N .name) n (x .name)) i 0
+    ≡ getD (N .name) i 0 = λ i l. getD-set-other (N .name) n i (x .name) 0 (λ e. omega arith) in
     let name-last : getD (set (N .name) n (x .name)) n 0 ≡ x .name = getD-set-same (N .name) n (x .name) 0 (omega (arith, z .name)) in
     let class-last : getD (set (N .class) n (x .class)) n 0 ≡ x .class = getD-set-same (N .class) n (x .class) 0 (omega (arith, z .class)) in
     record {

@@ -36,6 +36,7 @@ use Rattle.tables.specs.laws.Reading.{noNumber, tablesFor}
 use Rattle.tables.specs.laws.BehindRecords.{rankOf, BehindRecords, Ranked, passed-next}
 use Rattle.tables.specs.laws.Decoding.{firstRecord, outOfOrder, leftNumber, withoutPairs, Housed, Decodes}
 use Rattle.numbers.specs.Answer.{refused, accepted, answerOf, noValue, judged}
+use Rattle.numbers.specs.Refusals.{LENGTH}
 
 -- Refused tables
 
@@ -134,13 +135,15 @@ module _ (own : ℕ) (begun : eqb own 0 ≡ false) where
   unfolding pairs inOrder pairNumber
   open-sensitive ns I S = record { order = λ x. rw begun-true; first = refl; numbers = λ x. refl }
 
-  pub open-access : (ns : List Name) (I S : List Credential) (P : List Pair) → Open (pairs true) (pairNumber true (tablesFor own ns S P)) (withPairs false (withoutPairs own ns I S) P)
+  pub open-access : (ns : List Name) (I S : List Credential) (P : List Pair)
+      → Open (pairs true) (pairNumber true (tablesFor own ns S P)) (withPairs false (withoutPairs own ns I S) P)
   unfolding pairs inOrder pairNumber
   open-access ns I S P = record { order = λ x. begun-true; first = refl; numbers = λ x. refl }
 
 -- The records of a command and what comes behind them
 
-module _ {A : Type 0} {G : Group A} {num : A → ℕ} {s : List ℕ} {start : ℕ} {L : List A} {k at : ℕ} {T : Tables} (g : Gone G num s start L k at) (w : Open G num T) where
+module _ {A : Type 0} {G : Group A} {num : A → ℕ} {s : List ℕ} {start : ℕ} {L : List A} {k at : ℕ} {T : Tables} (g : Gone G num s start L k at)
+    (w : Open G num T) where
   -- one of them is refused
   pub decodes-refused : {d : Decoded} → (k ≡ 0 → ⊥) → d .refusal ≡ k → Housed (d .house) → Decodes s start T d
   decodes-refused {d} z h housed = record { same = outcome-refused d k h z ∙ sym (g .same T w ∙ judged-refused k _ z); housed = housed }
@@ -207,10 +210,12 @@ left-there : (s : List ℕ) (at : ℕ) (U : Tables) → at < length s → {x : R
 unfolding leftNumber
 left-there s at U more h = ap (outOfOrder U) h ∙ sym (ap (λ (b : Bool). cond b (outOfOrder U (recordAt s at)) 0) (lt-ltb at (length s) more))
 
-pub left-unread : (s : List ℕ) (at : ℕ) (U : Tables) → at < length s → {x : RecordAnswer} {k m : ℕ} → x ≡ recordAt s at → x ≡ a.Refused k → m ≡ refusalOf x → m ≡ leftNumber s at U
+pub left-unread : (s : List ℕ) (at : ℕ) (U : Tables) → at < length s → {x : RecordAnswer} {k m : ℕ} → x ≡ recordAt s at → x ≡ a.Refused k
+    → m ≡ refusalOf x → m ≡ leftNumber s at U
 left-unread s at U more h q e = e ∙ ap refusalOf q ∙ ap (outOfOrder U) (sym q) ∙ left-there s at U more h
 
-pub left-number : (s : List ℕ) (at : ℕ) (U : Tables) → at < length s → {x : RecordAnswer} {r : Record} {k m : ℕ} → x ≡ recordAt s at → x ≡ a.Read r → k ≡ classNumber U r → m ≡ orElse k 6
+pub left-number : (s : List ℕ) (at : ℕ) (U : Tables) → at < length s → {x : RecordAnswer} {r : Record} {k m : ℕ} → x ≡ recordAt s at → x ≡ a.Read r
+    → k ≡ classNumber U r → m ≡ orElse k 6
     → m ≡ leftNumber s at U
 left-number s at U more h q e w = w ∙ ap (λ (n : ℕ). orElse n 6) e ∙ ap (outOfOrder U) (sym q) ∙ left-there s at U more h
 
@@ -232,7 +237,7 @@ pub tables-outside : (s : List ℕ) (d : Decoded) {b : Bool} → b ≡ sized (le
 unfolding readTables
 tables-outside s d {b} h n e =
     outcome-refused d 1 e (λ z. omega arith)
-    ∙ sym (ap (λ (t : Bool). cond t (recordsFrom (length s) s 0 unread) (refused 1)) (sym h ∙ not-true b n))
+    ∙ sym (ap (λ (t : Bool). cond t (recordsFrom (length s) s 0 unread) (refused LENGTH)) (sym h ∙ not-true b n))
 
 module _ (s : List ℕ) {b : Bool} (h : b ≡ sized (length s)) (n : not b ≡ false) where
   -- a length within the sizes
@@ -242,7 +247,7 @@ module _ (s : List ℕ) {b : Bool} (h : b ≡ sized (length s)) (n : not b ≡ f
 
   inside : readTables s ≡ readFrom s 0 unread
   unfolding readTables readFrom
-  inside = ap (λ (t : Bool). cond t (recordsFrom (length s) s 0 unread) (refused 1)) (sym h ∙ not-false b n)
+  inside = ap (λ (t : Bool). cond t (recordsFrom (length s) s 0 unread) (refused LENGTH)) (sym h ∙ not-false b n)
 
   -- the first record is refused
   pub tables-refused : (d : Decoded) {x : OwnAnswer} {k : ℕ} → x ≡ firstRecord (recordAt s 0) → x ≡ o.Refused k → d .refusal ≡ k → outcomeOf d ≡ readTables s
@@ -251,7 +256,8 @@ module _ (s : List ℕ) {b : Bool} (h : b ≡ sized (length s)) (n : not b ≡ f
       outcome-refused d k r (w .1) ∙ sym (inside ∙ w .0)
 
   -- behind self
-  pub tables-own : {x : OwnAnswer} {own : ℕ} {d : Decoded} → x ≡ firstRecord (recordAt s 0) → x ≡ o.Read own → Decodes s 3 (withoutPairs own [] [] []) d → (outcomeOf d ≡ readTables s) × Housed (d .house)
+  pub tables-own : {x : OwnAnswer} {own : ℕ} {d : Decoded} → x ≡ firstRecord (recordAt s 0) → x ≡ o.Read own
+      → Decodes s 3 (withoutPairs own [] [] []) d → (outcomeOf d ≡ readTables s) × Housed (d .house)
   tables-own {x} {own} e q w = (w .same ∙ sym (inside ∙ first-own s own some-bytes (sym q ∙ e)), w .housed)
 
   pub passed-first : {x : OwnAnswer} {own : ℕ} → x ≡ firstRecord (recordAt s 0) → x ≡ o.Read own → BehindRecords 1 s 3 (withoutPairs own [] [] [])

@@ -41,7 +41,8 @@ pub record Lawful {A : Type 0} (G : Group A) : Type 0 where
   pub wrapped : (x : A) → G .pick (G .wrap x) ≡ some x
   pub sized : (x : A) → sizeOf (G .wrap x) ≡ G .size
   pub more : (T : Tables) (L : List A) (x : A) → added (G .put T L) (G .wrap x) ≡ G .put T (L ++ (x ∷ []))
-  pub judges : (T : Tables) (L : List A) (x : A) → inOrder T (G .wrap x) ≡ true → judge (G .put T L) (G .wrap x) ≡ orElse (G .number T x) (rising (all (λ y. G .before y x) L) (length L) (G .most))
+  pub judges : (T : Tables) (L : List A) (x : A) → inOrder T (G .wrap x) ≡ true
+      → judge (G .put T L) (G .wrap x) ≡ orElse (G .number T x) (rising (all (λ y. G .before y x) L) (length L) (G .most))
   pub chain : (x y z : A) → G .before x y ≡ true → G .before y z ≡ true → G .before x z ≡ true
 
 -- x comes after all of L exactly where it comes after the last
@@ -69,14 +70,17 @@ module _ {A : Type 0} (before : A → A → Bool) where
   not-none [] x = refl
   not-none (y ∷ L) x = refl
 
-  all-chain : (chain : (x y z : A) → before x y ≡ true → before y z ≡ true → before x z ≡ true) (L : List A) (c x : A) → all (λ y. before y c) L ≡ true → before c x ≡ true → all (λ y. before y x) L ≡ true
+  all-chain : (chain : (x y z : A) → before x y ≡ true → before y z ≡ true → before x z ≡ true) (L : List A) (c x : A)
+      → all (λ y. before y c) L ≡ true → before c x ≡ true → all (λ y. before y x) L ≡ true
   all-chain chain [] c x h k = refl
   all-chain chain (y ∷ L) c x h k =
       let b = and-parts (before y c) (all (λ z. before z c) L) h in
       λ i. chain y c x (b .0) k i && all-chain chain L c x (b .1) k i
 
-  pub top-add : (chain : (x y z : A) → before x y ≡ true → before y z ≡ true → before x z ≡ true) (L : List A) (c : A) → all (λ y. before y c) L ≡ true → Top before (L ++ (c ∷ [])) c
-  top-add chain L c h = record { above = λ x. all-append (λ y. before y x) L c ∙ go x (before c x) refl ∙ sym (ap (λ (b : Bool). b || before c x) (not-none L c)) }
+  pub top-add : (chain : (x y z : A) → before x y ≡ true → before y z ≡ true → before x z ≡ true) (L : List A) (c : A)
+      → all (λ y. before y c) L ≡ true → Top before (L ++ (c ∷ [])) c
+  top-add chain L c h =
+      record { above = λ x. all-append (λ y. before y x) L c ∙ go x (before c x) refl ∙ sym (ap (λ (b : Bool). b || before c x) (not-none L c)) }
     where
       and-false : (b : Bool) → b && false ≡ false
       and-false true = refl
@@ -133,20 +137,24 @@ step-number {A} x {k} {m} h z = go k z ∙ ap (λ (n : ℕ). judgedStep n x) h
     go (suc n) w = refl
 
 -- a record that was not read
-pub step-unread : {A : Type 0} (G : Group A) (number : A → ℕ) {x y : RecordAnswer} {k m : ℕ} → x ≡ y → x ≡ a.Refused k → m ≡ refusalOf x → stop m ≡ stepOf G number y
+pub step-unread : {A : Type 0} (G : Group A) (number : A → ℕ) {x y : RecordAnswer} {k m : ℕ} → x ≡ y → x ≡ a.Refused k → m ≡ refusalOf x
+    → stop m ≡ stepOf G number y
 step-unread G number h q e = ap stop (e ∙ ap refusalOf q) ∙ ap (stepOf G number) (sym q ∙ h)
 
 -- a record that was read: one of the command, which earns k by the class rules, is judged behind the others; at another one the reading stops
-module _ {A : Type 0} (G : Group A) (num : A → ℕ) (count : ℕ) (last : A) {x y : RecordAnswer} {r : Record} {w : Step A} (h : x ≡ y) (q : x ≡ a.Read r) (e : w ≡ pickedStep (λ v. 0) (G .pick r)) where
+module _ {A : Type 0} (G : Group A) (num : A → ℕ) (count : ℕ) (last : A) {x y : RecordAnswer} {r : Record} {w : Step A} (h : x ≡ y) (q : x ≡ a.Read r)
+    (e : w ≡ pickedStep (λ v. 0) (G .pick r)) where
   step-read : {z : Step A} → z ≡ pickedStep (numberBehind G num count last) (G .pick r) → z ≡ stepOf G (numberBehind G num count last) y
   step-read t = t ∙ ap (stepOf G (numberBehind G num count last)) (sym q ∙ h)
 
-  pub step-some : {v : A} {k : ℕ} {z : Step A} → w ≡ taken v → k ≡ num v → z ≡ judgedStep (behind G k count last v) v → z ≡ stepOf G (numberBehind G num count last) y
+  pub step-some : {v : A} {k : ℕ} {z : Step A} → w ≡ taken v → k ≡ num v → z ≡ judgedStep (behind G k count last v) v
+      → z ≡ stepOf G (numberBehind G num count last) y
   step-some {v} {k} {z} t n d = step-read (go (G .pick r) (sym t ∙ e))
     where
       go : (o : Option A) → taken v ≡ pickedStep (λ u. 0) o → z ≡ pickedStep (numberBehind G num count last) o
       go absent u = absurd (let p : _≡_ {A = ℕ} 0 1 = cc in omega arith)
-      go (some m) u = let p : v ≡ m = cc in d ∙ (λ i. judgedStep (behind G (n i) count last v) v) ∙ (λ i. judgedStep (numberBehind G num count last (p i)) (p i))
+      go (some m) u =
+          let p : v ≡ m = cc in d ∙ (λ i. judgedStep (behind G (n i) count last v) v) ∙ (λ i. judgedStep (numberBehind G num count last (p i)) (p i))
 
   pub step-none : {k : ℕ} → w ≡ stop k → stop 0 ≡ stepOf G (numberBehind G num count last) y
   step-none {k} t = step-read (go (G .pick r) (sym t ∙ e))
@@ -215,7 +223,8 @@ module _ {A : Type 0} {G : Group A} {num : A → ℕ} {s : List ℕ} {start : �
   gone-past g h = record { same = g .same; few = g .few; still = g .still; stop = λ e more x q. absurd (omega arith) }
 
   -- a record of another command
-  pub gone-other : {L : List A} {last : A} {at : ℕ} → Going G num s start L last at → ((x : A) → recordAt s at ≡ a.Read (G .wrap x) → ⊥) → Gone G num s start L 0 at
+  pub gone-other : {L : List A} {last : A} {at : ℕ} → Going G num s start L last at → ((x : A) → recordAt s at ≡ a.Read (G .wrap x) → ⊥)
+      → Gone G num s start L 0 at
   gone-other g h = record { same = g .same; few = g .few; still = g .still; stop = λ e more x q. h x q }
 
   module _ {L : List A} {last : A} {at : ℕ} (g : Going G num s start L last at) (more : at < length s) where
@@ -314,7 +323,8 @@ module _ {A : Type 0} {G : Group A} {num : A → ℕ} {s : List ℕ} {start : �
           pick : (r : Record) → recordAt s at ≡ a.Read r → (o : Option A) → G .pick r ≡ o → pickedStep number o ≡ stop k → Gone G num s start L k at
           pick r h absent p q =
               let z : 0 ≡ k = cc in
-              subst (λ (n : ℕ). Gone G num s start L n at) z (gone-other g (λ x w. let v : r ≡ G .wrap x = read-same (sym h ∙ w) in none-some (sym p ∙ (ap (G .pick) v ∙ l .wrapped x))))
+              subst (λ (n : ℕ). Gone G num s start L n at) z
+              (gone-other g (λ x w. let v : r ≡ G .wrap x = read-same (sym h ∙ w) in none-some (sym p ∙ (ap (G .pick) v ∙ l .wrapped x))))
           pick r h (some y) p q =
               let t = judged-stop (number y) y k q in
               gone-judged l y (h ∙ ap a.Read (l .picked r y p)) k (resized y k (t .0)) (t .1)

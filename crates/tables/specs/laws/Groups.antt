@@ -51,7 +51,16 @@ names = record { wrap = Named; pick = pickName; put = withNames; before = λ m n
 -- 0x12 and 0x13
 unfoldable pub credentialsOf : Bool → Group Credential
 credentialsOf subject =
-    record { wrap = stored subject; pick = pickStored subject; put = withStored subject; before = beforeCredential; number = λ T c. storedNumber (T .names) subject c; most = MOST-STORED; size = 23 }
+    record {
+      wrap = stored subject;
+      pick = pickStored subject;
+      put = withStored subject;
+      before = beforeCredential;
+      number = λ T c. storedNumber
+          (T .names) subject c;
+      most = MOST-STORED;
+      size = 23;
+    }
 
 -- "32 sensitive roles, 32 AC records"
 abbrev pub pairsMost : Bool → ℕ
@@ -61,7 +70,16 @@ pairsMost false = MOST-SENSITIVE
 -- 0x14 and 0x15
 unfoldable pub pairs : Bool → Group Pair
 pairs access =
-    record { wrap = paired access; pick = pickPair access; put = withPairs access; before = λ p q. ascends (p .role) (q .role); number = pairNumber access; most = pairsMost access; size = 9 }
+    record {
+      wrap = paired access;
+      pick = pickPair access;
+      put = withPairs access;
+      before = λ p q. ascends (p .role) (q .role);
+      number = pairNumber
+          access;
+      most = pairsMost access;
+      size = 9;
+    }
 
 same-some : {A : Type 0} {x y : A} → some x ≡ some y → x ≡ y
 same-some h = cc

@@ -35,7 +35,8 @@ module _ {A B C : Type 0} where
   first-image f t v d [] = refl
   first-image f t v d (x ∷ xs) = go (t x) (first-image f t v d xs)
     where
-      go : (s : Bool) → f (firstOr t v d xs) ≡ firstOr t (λ x. f (v x)) (f d) xs → f (cond s (v x) (firstOr t v d xs)) ≡ cond s (f (v x)) (firstOr t (λ x. f (v x)) (f d) xs)
+      go : (s : Bool) → f (firstOr t v d xs) ≡ firstOr t (λ x. f (v x)) (f d) xs
+          → f (cond s (v x) (firstOr t v d xs)) ≡ cond s (f (v x)) (firstOr t (λ x. f (v x)) (f d) xs)
       go true h = refl
       go false h = h
 

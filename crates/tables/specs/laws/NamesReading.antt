@@ -35,14 +35,16 @@ all-at t (suc n) g h i l = go (eqb i n) refl (λ k. all-at t n g (b .0) i k)
     go false e ih = ih (omega (arith, eqb-false i n e))
 
 -- names ascend with one more that comes after them
-ascending-add : (N M : Names) (x : Name) → Ascending (N .count) (N .name) → NamesStored x N M → all (λ (m : Name). ltb (m .name) (x .name)) (namesOf N) ≡ true → Ascending (N .count + 1) (M .name)
+ascending-add : (N M : Names) (x : Name) → Ascending (N .count) (N .name) → NamesStored x N M
+    → all (λ (m : Name). ltb (m .name) (x .name)) (namesOf N) ≡ true → Ascending (N .count + 1) (M .name)
 unfolding namesOf
 ascending-add N M x h z u = record { less = λ i j l k. go i j l k (eqb j (N .count)) refl }
   where
     go : (i j : ℕ) → i < j → j < N .count + 1 → (s : Bool) → eqb j (N .count) ≡ s → getD (M .name) i 0 < getD (M .name) j 0
     go i j l k true e =
         let q : j ≡ N .count = eqb-true j (N .count) e in
-        let lo : getD (N .name) i 0 < x .name = ltb-true (getD (N .name) i 0) (x .name) (all-at (λ (m : Name). ltb (m .name) (x .name)) (N .count) (nameAt N) u i (omega arith)) in
+        let lo : getD (N .name) i 0 < x .name = ltb-true (getD (N .name) i 0) (x .name)
+        (all-at (λ (m : Name). ltb (m .name) (x .name)) (N .count) (nameAt N) u i (omega arith)) in
         let here : getD (M .name) j 0 ≡ x .name = ap (λ (m : ℕ). getD (M .name) m 0) q ∙ z .last in
         omega (arith, z .kept i (omega arith))
     go i j l k false e =
@@ -82,8 +84,12 @@ module _ {s : List ℕ} {start : ℕ} {N : Names} {last : Name} {at : ℕ} (r : 
     names-next n e {M} c z =
         let step = sym h ∙ ap nameStep e in
         record {
-          going = subst (λ (L : List Name). Going names noNumber s start L n (at + 4)) (sym (z .all)) (going-next (r .going) more names-lawful (N .count) (names-length N) n step);
-          ascending = subst (λ (k : ℕ). Ascending k (M .name)) (sym c) (ascending-add N M n (r .ascending) z (going-above (r .going) more names-lawful (N .count) (names-length N) n step .0));
+          going =
+              subst (λ (L : List Name). Going names noNumber s start L n (at + 4)) (sym (z .all))
+              (going-next (r .going) more names-lawful (N .count) (names-length N) n step);
+          ascending =
+              subst (λ (k : ℕ). Ascending k (M .name)) (sym c)
+              (ascending-add N M n (r .ascending) z (going-above (r .going) more names-lawful (N .count) (names-length N) n step .0));
           sized = z .sized;
         }
 

@@ -23,7 +23,8 @@ use Rattle.tables.specs.Tables.{Tables}
 use Rattle.tables.specs.laws.Tables.{pairsOf}
 use Rattle.tables.specs.Lookup.{holds, isSensitive}
 use Rattle.tables.specs.Check.{orElse, suitsPair, pairNumber}
-use Rattle.tables.specs.laws.Group.{rising, behind, numberBehind, Step, taken, stop, judgedStep, pickedStep, stepOf, step-some, step-none, Going, going-start, going-next, going-above, going-stop, gone-past}
+use Rattle.tables.specs.laws.Group.{rising, behind, numberBehind, Step, taken, stop, judgedStep, pickedStep, stepOf, step-some, step-none, Going}
+use Rattle.tables.specs.laws.Group.{going-start, going-next, going-above, going-stop, gone-past}
 use Rattle.tables.specs.laws.Groups.{pickPair, pairs, pairsMost, pairs-lawful}
 use Rattle.tables.specs.laws.Columns.{PairsSized, PairsStored, pairs-length}
 use Rattle.tables.specs.laws.Reading.{pairStep, tablesFor, PairsGone}
@@ -42,7 +43,8 @@ suits-access false q n e f = absurd (false-true (sym n))
 
 -- The class rules for a pair, by the classes k and m of its roles
 
-module _ (access : Bool) (own : ℕ) (ns : List Name) (C : List Credential) (P : List Pair) (x : Pair) {k m : ℕ} (hk : k ≡ classOf ns (x .role .name)) (hm : m ≡ classOf ns (x .other .name)) where
+module _ (access : Bool) (own : ℕ) (ns : List Name) (C : List Credential) (P : List Pair) (x : Pair) {k m : ℕ} (hk : k ≡ classOf ns (x .role .name))
+    (hm : m ≡ classOf ns (x .other .name)) where
   tests : (eqb k 0 || eqb m 0) ≡ (eqb (classOf ns (x .role .name)) 0 || eqb (classOf ns (x .other .name)) 0)
   tests = λ i. eqb (hk i) 0 || eqb (hm i) 0
 
@@ -62,7 +64,8 @@ module _ (access : Bool) (own : ℕ) (ns : List Name) (C : List Credential) (P :
     judged-by : (v : Bool) → b ≡ v → cond v 0 5 ≡ pairNumber access (tablesFor own ns C P) x
     unfolding pairNumber
     judged-by v e =
-        sym (ap (λ (t : Bool). cond t 4 (cond (suitsPair access (tablesFor own ns C P) (x .role)) 0 5)) (sym tests ∙ named) ∙ ap (λ (t : Bool). cond t 0 5) (sym (suits h) ∙ e))
+        sym (ap (λ (t : Bool). cond t 4 (cond (suitsPair access (tablesFor own ns C P) (x .role)) 0 5)) (sym tests ∙ named)
+        ∙ ap (λ (t : Bool). cond t 0 5) (sym (suits h) ∙ e))
 
     -- the role suits
     pub pair-kept : b ≡ true → 0 ≡ pairNumber access (tablesFor own ns C P) x
@@ -73,13 +76,16 @@ module _ (access : Bool) (own : ℕ) (ns : List Name) (C : List Credential) (P :
     pair-broken e = judged-by false e
 
 -- the number of a pair behind others, step by step
-pub behind-pairs : (access : Bool) (k count : ℕ) (last x : Pair) {up : Bool} {most r j : ℕ} → up ≡ ascends (last .role) (x .role) → most ≡ pairsMost access → r ≡ rising (eqb count 0 || up) count most → j ≡ orElse k r → j ≡ behind (pairs access) k count last x
+pub behind-pairs : (access : Bool) (k count : ℕ) (last x : Pair) {up : Bool} {most r j : ℕ} → up ≡ ascends (last .role) (x .role)
+    → most ≡ pairsMost access → r ≡ rising (eqb count 0 || up) count most → j ≡ orElse k r → j ≡ behind (pairs access) k count last x
 unfolding behind pairs
 behind-pairs access k count last x u m h e = e ∙ ap (orElse k) (h ∙ (λ i. rising (eqb count 0 || u i) count (m i)))
 
 -- a record that was read, where a pair may stand
-module _ (access : Bool) (U : Tables) (count : ℕ) (last : Pair) {x t : RecordAnswer} {r : Record} {w : Step Pair} (h : x ≡ t) (q : x ≡ answer.Read r) (e : w ≡ pickedStep (λ p. 0) (pickPair access r)) where
-  pub pair-some : {v : Pair} {k : ℕ} {z : Step Pair} → w ≡ taken v → k ≡ pairNumber access U v → z ≡ judgedStep (behind (pairs access) k count last v) v → z ≡ stepOf (pairs access) (numberBehind (pairs access) (pairNumber access U) count last) t
+module _ (access : Bool) (U : Tables) (count : ℕ) (last : Pair) {x t : RecordAnswer} {r : Record} {w : Step Pair} (h : x ≡ t) (q : x ≡ answer.Read r)
+    (e : w ≡ pickedStep (λ p. 0) (pickPair access r)) where
+  pub pair-some : {v : Pair} {k : ℕ} {z : Step Pair} → w ≡ taken v → k ≡ pairNumber access U v
+      → z ≡ judgedStep (behind (pairs access) k count last v) v → z ≡ stepOf (pairs access) (numberBehind (pairs access) (pairNumber access U) count last) t
   unfolding pairs
   pair-some u n d = step-some (pairs access) (pairNumber access U) count last h q e u n d
 
@@ -98,7 +104,8 @@ pub record ReadingPairs (U : Tables) (access : Bool) (s : List ℕ) (start : ℕ
   pub going : Going (pairs access) (pairNumber access U) s start (pairsOf P) last at
   pub sized : PairsSized P
 
-pub pairs-start : (U : Tables) (access : Bool) (s : List ℕ) (start : ℕ) (P : Pairs) (last : Pair) → pairsOf P ≡ [] → PairsSized P → ReadingPairs U access s start P last start
+pub pairs-start : (U : Tables) (access : Bool) (s : List ℕ) (start : ℕ) (P : Pairs) (last : Pair) → pairsOf P ≡ [] → PairsSized P
+    → ReadingPairs U access s start P last start
 pairs-start U access s start P last h z = record { going = going-empty; sized = z }
   where
     going-empty : Going (pairs access) (pairNumber access U) s start (pairsOf P) last start
@@ -109,7 +116,8 @@ module _ {U : Tables} {access : Bool} {s : List ℕ} {start : ℕ} {P : Pairs} {
   pub pairs-past : length s ≤ at → PairsGone U access s start (record { refusal = 0; at = at; pairs = P })
   pairs-past h = gone-past (r .going) h
 
-  module _ (more : at < length s) {x : PairStep} (h : pairStep x ≡ stepOf (pairs access) (numberBehind (pairs access) (pairNumber access U) (P .count) last) (recordAt s at)) where
+  module _ (more : at < length s) {x : PairStep} (h : pairStep x
+      ≡ stepOf (pairs access) (numberBehind (pairs access) (pairNumber access U) (P .count) last) (recordAt s at)) where
     -- a pair is taken
     pub pairs-room : (p : Pair) → x ≡ y.Taken p → P .count < 32
     pairs-room p e =
@@ -119,7 +127,9 @@ module _ {U : Tables} {access : Bool} {s : List ℕ} {start : ℕ} {P : Pairs} {
     pub pairs-next : (p : Pair) → x ≡ y.Taken p → {Q : Pairs} → PairsStored p P Q → ReadingPairs U access s start Q p (at + 9)
     unfolding pairs
     pairs-next p e {Q} z = record {
-      going = subst (λ (L : List Pair). Going (pairs access) (pairNumber access U) s start L p (at + 9)) (sym (z .all)) (going-next (r .going) more (pairs-lawful access) (P .count) (pairs-length P) p (sym h ∙ ap pairStep e));
+      going =
+          subst (λ (L : List Pair). Going (pairs access) (pairNumber access U) s start L p (at + 9)) (sym (z .all))
+          (going-next (r .going) more (pairs-lawful access) (P .count) (pairs-length P) p (sym h ∙ ap pairStep e));
       sized = z .sized;
     }
 

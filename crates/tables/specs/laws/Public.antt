@@ -50,7 +50,8 @@ module _ {A : Type 0} (f : A → Bool) where
   keep-find [] m = absurd (List·Memᴰ·not-nil m)
   keep-find (y ∷ L) {x} m = go (f y) refl m (λ n. keep-find L n)
     where
-      go : (b : Bool) → f y ≡ b → List·Memᴰ x (cond b (y ∷ keep f L) (keep f L)) → (List·Memᴰ x (keep f L) → List·Memᴰ x L × (f x ≡ true)) → List·Memᴰ x (y ∷ L) × (f x ≡ true)
+      go : (b : Bool) → f y ≡ b → List·Memᴰ x (cond b (y ∷ keep f L) (keep f L)) → (List·Memᴰ x (keep f L) → List·Memᴰ x L × (f x ≡ true))
+          → List·Memᴰ x (y ∷ L) × (f x ≡ true)
       go true h n ih = ⊎-elim (λ e. (List·Memᴰ·head e, ap f e ∙ h)) (λ k. let r = ih k in (List·Memᴰ·tail (r .0), r .1)) (List·Memᴰ·cases-cons n)
       go false h n ih = let r = ih n in (List·Memᴰ·tail (r .0), r .1)
 
@@ -91,14 +92,16 @@ module _ (own : ℕ) (P : List Pair) where
   less-rising r = rising-keep (λ d. not (isDirect own P d)) r
 
 -- sets that have the same credentials but for direct ones of sensitive roles: what remains is equal
-pub less-equal : (own : ℕ) (P : List Pair) {C D : List Credential} → Rising beforeCredential C → Rising beforeCredential D → ((c : Credential) → isDirect own P c ≡ false → List·Memᴰ c C ↔ List·Memᴰ c D) → lessDirect own P C ≡ lessDirect own P D
+pub less-equal : (own : ℕ) (P : List Pair) {C D : List Credential} → Rising beforeCredential C → Rising beforeCredential D
+    → ((c : Credential) → isDirect own P c ≡ false → List·Memᴰ c C ↔ List·Memᴰ c D) → lessDirect own P C ≡ lessDirect own P D
 less-equal own P {C} {D} r s h =
     rising-same before-strict (less-rising own P r) (less-rising own P s)
     (λ c m. let k = less-find own P C m in less-mem own P (h c (k .1) .0 (k .0)) (k .1))
     (λ c m. let k = less-find own P D m in less-mem own P (h c (k .1) .1 (k .0)) (k .1))
 
 -- where tables differ only in what is hidden, what may show is equal
-pub differ-public : (T U : Tables) → Rising beforeCredential (T .subjectStored) → Rising beforeCredential (U .subjectStored) → DifferOnly T U → publicOf T ≡ publicOf U
+pub differ-public : (T U : Tables) → Rising beforeCredential (T .subjectStored) → Rising beforeCredential (U .subjectStored) → DifferOnly T U
+    → publicOf T ≡ publicOf U
 unfolding publicOf
 differ-public T U r s d =
     let e = less-equal (T .own) (T .sensitive) r s (d .subjectStored) in
@@ -134,7 +137,8 @@ module _ (T U : Tables) (h : publicOf T ≡ publicOf U) where
 
   -- a credential that is no direct credential of a sensitive role is in both
   shown-in : (c : Credential) → isDirect (T .own) (T .sensitive) c ≡ false → List·Memᴰ c (T .subjectStored) → List·Memᴰ c (U .subjectStored)
-  shown-in c q m = less-find (U .own) (U .sensitive) (U .subjectStored) (subst (λ (C : List Credential). List·Memᴰ c C) less-same (less-mem (T .own) (T .sensitive) m q)) .0
+  shown-in c q m =
+      less-find (U .own) (U .sensitive) (U .subjectStored) (subst (λ (C : List Credential). List·Memᴰ c C) less-same (less-mem (T .own) (T .sensitive) m q)) .0
 
 -- where what may show is equal, tables differ only in what is hidden
 pub public-differ : (T U : Tables) → publicOf T ≡ publicOf U → DifferOnly T U
@@ -209,7 +213,8 @@ module _ (T U : Tables) (h : publicOf T ≡ publicOf U) (k : hiddenOf T ≡ hidd
   direct-in : (c : Credential) → isDirect (T .own) (T .sensitive) c ≡ true → List·Memᴰ c (T .subjectStored) → List·Memᴰ c (U .subjectStored)
   direct-in c q m =
       let d = direct-parts (T .own) (T .sensitive) c q in
-      let t = held-mem (T .own) (T .sensitive) (T .subjectStored) (c .head) (d .0) (holds-mem (T .own) (T .subjectStored) (c .head) (Memᴰ·cast (sym (d .1)) m)) in
+      let t = held-mem (T .own) (T .sensitive) (T .subjectStored) (c .head) (d .0)
+      (holds-mem (T .own) (T .subjectStored) (c .head) (Memᴰ·cast (sym (d .1)) m)) in
       let u = held-find (U .own) (U .sensitive) (U .subjectStored) (c .head) (subst (λ (R : List Role). List·Memᴰ (c .head) R) held-same t) in
       Memᴰ·cast (d .1 ∙ (λ i. directOf (own-same T U h i) (c .head))) (holds-find (U .own) (U .subjectStored) (c .head) (u .1))
 
@@ -221,7 +226,8 @@ module _ (T U : Tables) (h : publicOf T ≡ publicOf U) (k : hiddenOf T ≡ hidd
       go false q = shown-in T U h c q m
 
 -- where what may show and what is hidden are equal, so are the tables
-pub public-hidden : (T U : Tables) → Rising beforeCredential (T .subjectStored) → Rising beforeCredential (U .subjectStored) → publicOf T ≡ publicOf U → hiddenOf T ≡ hiddenOf U → T ≡ U
+pub public-hidden : (T U : Tables) → Rising beforeCredential (T .subjectStored) → Rising beforeCredential (U .subjectStored) → publicOf T ≡ publicOf U
+    → hiddenOf T ≡ hiddenOf U → T ≡ U
 public-hidden T U r s h k =
     let e = rising-same before-strict r s (stored-in T U h k) (stored-in U T (sym h) (sym k)) in
     λ i.

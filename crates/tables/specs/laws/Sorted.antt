@@ -36,10 +36,12 @@ module _ {A : Type 0} {before : A → A → Bool} where
     never x y h k = false-true (sym (strict .irreflexive x) ∙ strict .transitive x y x h k)
 
     -- where the first elements are equal, each later element of the one list is a later element of the other
-    rest : {x y : A} {L M : List A} → x ≡ y → Rising before (x ∷ L) → ((z : A) → List·Memᴰ z (x ∷ L) → List·Memᴰ z (y ∷ M)) → (z : A) → List·Memᴰ z L → List·Memᴰ z M
+    rest : {x y : A} {L M : List A} → x ≡ y → Rising before (x ∷ L) → ((z : A) → List·Memᴰ z (x ∷ L) → List·Memᴰ z (y ∷ M)) → (z : A) → List·Memᴰ z L
+        → List·Memᴰ z M
     rest {x} e r h z m =
         ⊎-elim
-        (λ q. let up : before x z ≡ true = all-each (λ w. before x w) m (rising-parts r .0) in absurd (false-true (sym (strict .irreflexive x) ∙ ap (before x) (e ∙ sym q) ∙ up)))
+        (λ q. let up : before x z ≡ true = all-each (λ w. before x w) m (rising-parts r .0) in absurd
+        (false-true (sym (strict .irreflexive x) ∙ ap (before x) (e ∙ sym q) ∙ up)))
         (λ n. n)
         (List·Memᴰ·cases-cons (h z (List·Memᴰ·tail m)))
 
@@ -47,11 +49,13 @@ module _ {A : Type 0} {before : A → A → Bool} where
     first : {x y : A} {L M : List A} → Rising before (x ∷ L) → Rising before (y ∷ M) → List·Memᴰ x (y ∷ M) → List·Memᴰ y (x ∷ L) → x ≡ y
     first {x} {y} r s m n =
         ⊎-elim (λ e. e)
-        (λ m′. ⊎-elim (λ e. sym e) (λ n′. absurd (never x y (all-each (λ w. before x w) n′ (rising-parts r .0)) (all-each (λ w. before y w) m′ (rising-parts s .0)))) (List·Memᴰ·cases-cons n))
+        (λ m′. ⊎-elim (λ e. sym e) (λ n′. absurd (never x y (all-each (λ w. before x w) n′ (rising-parts r .0))
+        (all-each (λ w. before y w) m′ (rising-parts s .0)))) (List·Memᴰ·cases-cons n))
         (List·Memᴰ·cases-cons m)
 
     -- lists that ascend strictly and have the same members are equal
-    pub rising-same : {L M : List A} → Rising before L → Rising before M → ((x : A) → List·Memᴰ x L → List·Memᴰ x M) → ((x : A) → List·Memᴰ x M → List·Memᴰ x L) → L ≡ M
+    pub rising-same : {L M : List A} → Rising before L → Rising before M → ((x : A) → List·Memᴰ x L → List·Memᴰ x M)
+        → ((x : A) → List·Memᴰ x M → List·Memᴰ x L) → L ≡ M
     rising-same {L = []} {M = []} r s h k = refl
     rising-same {L = []} {M = y ∷ M} r s h k = absurd (List·Memᴰ·not-nil (k y (List·Memᴰ·head refl)))
     rising-same {L = x ∷ L} {M = []} r s h k = absurd (List·Memᴰ·not-nil (h x (List·Memᴰ·head refl)))

@@ -29,6 +29,7 @@ use Rattle.tables.specs.laws.Accepted.{accepted-length, accepted-sound, 
 use Rattle.tables.specs.Public.{DifferOnly, publicOf}
 use Rattle.tables.specs.laws.Public.{differ-public, public-differ}
 use Rattle.numbers.specs.Answer.{refused, accepted}
+use Rattle.numbers.specs.Refusals.{LENGTH}
 
 -- each element of an ascending list comes after all before it
 rising-middle : {A : Type 0} {before : A → A → Bool} (L : List A) (x : A) (M : List A) → Rising before (L ++ (x ∷ M)) → all (λ y. before y x) L ≡ true
@@ -48,7 +49,12 @@ record Goes (s : List ℕ) (at : ℕ) (T : Tables) (rest : List ℕ) (U : Tables
 goes-record : (s : List ℕ) (at : ℕ) (T : Tables) (r : Record) (rest : List ℕ) → at ≤ length s → drop at s ≡ recordBytes r ++ rest
     → formed r ≡ true → judge T r ≡ 0 → Goes s at T rest (added T r)
 goes-record s at T r rest inside h f q =
-    let fits : at + sizeOf r ≤ length s = omega (arith, size-there s at inside (recordBytes r ++ rest) h, length-append (recordBytes r) rest, record-length r) in
+    let fits : at + sizeOf r ≤ length s = omega (
+      arith,
+      size-there s at inside (recordBytes r ++ rest) h,
+      length-append (recordBytes r) rest,
+      record-length r,
+    ) in
     record {
       to = at + sizeOf r;
       inside = fits;
@@ -69,11 +75,18 @@ module _ {A : Type 0} {G : Group A} (l : Lawful G) (s rest : List ℕ) (T : Tabl
       → (at : ℕ) → at ≤ length s → drop at s ≡ bytesOf (G .wrap) M ++ rest → Goes s at (G .put T L) rest (G .put T (L ++ M))
   goes-records [] L w at inside h = record { to = at; inside = inside; there = h; same = ap (λ (K : List A). readFrom s at (G .put T K)) (sym (append-nil L)) }
   goes-records (x ∷ M) L w at inside h =
-      let g = goes-record s at (G .put T L) (G .wrap x) (bytesOf (G .wrap) M ++ rest) inside (h ∙ append-assoc (recordBytes (G .wrap x)) (bytesOf (G .wrap) M) rest)
+      let g = goes-record s at (G .put T L) (G .wrap x) (bytesOf (G .wrap) M ++ rest) inside
+      (h ∙ append-assoc (recordBytes (G .wrap x)) (bytesOf (G .wrap) M) rest)
       (w .form x (Memᴰ·append-right L (List·Memᴰ·head refl))) (judge-next L x M w) in
       let e = append-assoc L (x ∷ []) M in
       let k = goes-records M (L ++ (x ∷ [])) (subst (Records (G .wrap) (G .before) (G .most) (G .number T)) (sym e) w) (g .to) (g .inside) (g .there) in
-      record { to = k .to; inside = k .inside; there = k .there; same = g .same ∙ ap (readFrom s (g .to)) (l .more T L x) ∙ k .same ∙ ap (λ (K : List A). readFrom s (k .to) (G .put T K)) e }
+      record {
+        to = k .to;
+        inside = k .inside;
+        there = k .there;
+        same = g .same ∙ ap (readFrom s (g .to)) (l .more T L x) ∙ k .same
+            ∙ ap (λ (K : List A). readFrom s (k .to) (G .put T K)) e;
+      }
 
 -- over all commands
 module _ (T : Tables) (k : Sound T) where
@@ -103,11 +116,15 @@ module _ (T : Tables) (k : Sound T) where
   unfolding tablesBytes formed judge classNumber orderNumber inOrder above room pairNumber names credentialsOf pairs
   goes-all =
       let o = goes-record s 0 unread (Own (T .own)) _ (omega arith) refl (lt-ltb 0 (T .own) (k .own)) refl in
-      let n = goes-records names-lawful s _ upToOwn (λ x i. some-own i && true && true && true && true) (T .names) [] (k .names) (o .to) (o .inside) (o .there) in
-      let d = goes-records (credentials-lawful false) s _ upToNames (λ x i. some-own i && true && true && true) (T .issuerStored) [] (k .issuerStored) (n .to) (n .inside) (n .there) in
-      let e = goes-records (credentials-lawful true) s _ upToIssuer (λ x i. some-own i && true && true) (T .subjectStored) [] (k .subjectStored) (d .to) (d .inside) (d .there) in
+      let n = goes-records names-lawful s _ upToOwn (λ x i. some-own i && true && true && true && true) (T .names) [] (k .names) (o .to) (o .inside)
+      (o .there) in
+      let d = goes-records (credentials-lawful false) s _ upToNames (λ x i. some-own i && true && true && true) (T .issuerStored) [] (k .issuerStored)
+      (n .to) (n .inside) (n .there) in
+      let e = goes-records (credentials-lawful true) s _ upToIssuer (λ x i. some-own i && true && true) (T .subjectStored) [] (k .subjectStored)
+      (d .to) (d .inside) (d .there) in
       let p = goes-records (pairs-lawful false) s _ upToSubject (λ x i. some-own i && true) (T .sensitive) [] (k .sensitive) (e .to) (e .inside) (e .there) in
-      let q = goes-records (pairs-lawful true) s [] upToSensitive (λ x. some-own) (T .access) [] (k .access) (p .to) (p .inside) (p .there ∙ sym (append-nil (bytesOf Access (T .access)))) in
+      let q = goes-records (pairs-lawful true) s [] upToSensitive (λ x. some-own) (T .access) [] (k .access) (p .to) (p .inside)
+      (p .there ∙ sym (append-nil (bytesOf Access (T .access)))) in
       record { to = q .to; inside = q .inside; there = q .there; same = o .same ∙ n .same ∙ d .same ∙ e .same ∙ p .same ∙ q .same }
 
 some-bytes : (T : Tables) → 0 < length (tablesBytes T)
@@ -120,12 +137,13 @@ unfolding readTables sized readFrom
 sound-accepted T k l =
     let s = tablesBytes T in
     let g = goes-all T k in
-    (λ i. cond (lt-ltb 0 (length s) (some-bytes T) i && le-leb (length s) MOST-TABLES-BYTES l i) (readFrom s 0 unread) (refused 1))
+    (λ i. cond (lt-ltb 0 (length s) (some-bytes T) i && le-leb (length s) MOST-TABLES-BYTES l i) (readFrom s 0 unread) (refused LENGTH))
     ∙ g .same
     ∙ from-past s (g .to) T (omega (arith, size-there s (g .to) (g .inside) [] (g .there)))
 
 -- bytes are accepted exactly where they are those of sound tables, and not too many
-pub tables-exactly : (s : List ℕ) (T : Tables) → ((i : ℕ) → getD s i 0 < 256) → (readTables s ≡ accepted T) ↔ (Sound T × (s ≡ tablesBytes T) × (length s ≤ MOST-TABLES-BYTES))
+pub tables-exactly : (s : List ℕ) (T : Tables) → ((i : ℕ) → getD s i 0 < 256)
+    → (readTables s ≡ accepted T) ↔ (Sound T × (s ≡ tablesBytes T) × (length s ≤ MOST-TABLES-BYTES))
 tables-exactly s T bytes = (
   λ h. (accepted-sound s T h, accepted-bytes s T bytes h, accepted-length s T h .1),
   λ w. ap readTables (w .1) ∙ sound-accepted T (w .0) (subst (λ (t : List ℕ). length t ≤ MOST-TABLES-BYTES) (w .1) (w .2)),

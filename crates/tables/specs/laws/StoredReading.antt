@@ -23,7 +23,8 @@ use Rattle.record.specs.Record.{recordAt}
 use Rattle.tables.specs.declared.StoredStep.{StoredStep}
 use Rattle.tables.specs.declared.StoredStep.the-variants as y
 use Rattle.tables.specs.Check.{orElse, suitsStorage, storedNumber}
-use Rattle.tables.specs.laws.Group.{rising, behind, Step, stop, judgedStep, pickedStep, stepOf, step-some, step-none, Going, numberBehind, going-start, going-next, going-above, going-stop, gone-past}
+use Rattle.tables.specs.laws.Group.{rising, behind, Step, stop, judgedStep, pickedStep, stepOf, step-some, step-none, Going, numberBehind}
+use Rattle.tables.specs.laws.Group.{going-start, going-next, going-above, going-stop, gone-past}
 use Rattle.tables.specs.laws.Groups.{credentialsOf, credentials-lawful, pickStored}
 use Rattle.tables.specs.laws.Reading.{storedStep, StoredGone}
 
@@ -35,7 +36,8 @@ or-else-none k = go (eqb k 0) refl
     go false e = refl
 
 -- the number of a stored credential, whose head may stand in the storage or not
-module _ (ns : List Name) (subject : Bool) (c : Credential) {k m : ℕ} {b : Bool} (h : k ≡ credentialNumber ns c) (q : m ≡ classOf ns (c .head .name)) (e : b ≡ suitsStorage subject m) where
+module _ (ns : List Name) (subject : Bool) (c : Credential) {k m : ℕ} {b : Bool} (h : k ≡ credentialNumber ns c) (q : m ≡ classOf ns (c .head .name))
+    (e : b ≡ suitsStorage subject m) where
   by-storage : (t : Bool) → b ≡ t → orElse k (cond t 0 5) ≡ storedNumber ns subject c
   unfolding storedNumber
   by-storage t u = λ i. orElse (h i) (cond ((sym u ∙ e ∙ ap (suitsStorage subject) q) i) 0 5)
@@ -47,7 +49,8 @@ module _ (ns : List Name) (subject : Bool) (c : Credential) {k m : ℕ} {b : Boo
   stored-other u w = w ∙ by-storage false u
 
 -- behind other credentials of the storage
-pub stored-behind : (ns : List Name) (subject : Bool) (count : ℕ) (last c : Credential) {k j r : ℕ} {b : Bool} → b ≡ beforeCredential last c → k ≡ storedNumber ns subject c
+pub stored-behind : (ns : List Name) (subject : Bool) (count : ℕ) (last c : Credential) {k j r : ℕ} {b : Bool} → b ≡ beforeCredential last c
+    → k ≡ storedNumber ns subject c
     → j ≡ rising (eqb count 0 || b) count MOST-STORED → r ≡ orElse k j → r ≡ numberBehind (credentialsOf subject) (storedNumber ns subject) count last c
 unfolding behind credentialsOf
 stored-behind ns subject count last c h n q e = e ∙ (λ i. orElse (n i) ((q ∙ ap (λ (u : Bool). rising (eqb count 0 || u) count MOST-STORED) h) i))
@@ -55,11 +58,13 @@ stored-behind ns subject count last c h n q e = e ∙ (λ i. orElse (n i) ((q �
 -- a record that was read, where a credential of the storage may stand
 module _ (ns : List Name) (subject : Bool) (count : ℕ) (last : Credential) {x t : RecordAnswer} {r : Record} (h : x ≡ t) (q : x ≡ a.Read r) where
   pub stored-some : {w : StoredStep} {c : Credential} {z : Step Credential} → storedStep w ≡ pickedStep (λ c. 0) (pickStored subject r) → w ≡ y.Taken c
-      → z ≡ judgedStep (numberBehind (credentialsOf subject) (storedNumber ns subject) count last c) c → z ≡ stepOf (credentialsOf subject) (numberBehind (credentialsOf subject) (storedNumber ns subject) count last) t
+      → z ≡ judgedStep (numberBehind (credentialsOf subject) (storedNumber ns subject) count last c) c
+      → z ≡ stepOf (credentialsOf subject) (numberBehind (credentialsOf subject) (storedNumber ns subject) count last) t
   unfolding credentialsOf
   stored-some e u v = step-some (credentialsOf subject) (storedNumber ns subject) count last h q e (ap storedStep u) refl v
 
-  pub stored-none : {w : StoredStep} {k : ℕ} → storedStep w ≡ pickedStep (λ c. 0) (pickStored subject r) → w ≡ y.Stop k → stop 0 ≡ stepOf (credentialsOf subject) (numberBehind (credentialsOf subject) (storedNumber ns subject) count last) t
+  pub stored-none : {w : StoredStep} {k : ℕ} → storedStep w ≡ pickedStep (λ c. 0) (pickStored subject r) → w ≡ y.Stop k
+      → stop 0 ≡ stepOf (credentialsOf subject) (numberBehind (credentialsOf subject) (storedNumber ns subject) count last) t
   unfolding credentialsOf
   stored-none e u = step-none (credentialsOf subject) (storedNumber ns subject) count last h q e (ap storedStep u)
 
@@ -68,19 +73,22 @@ pub record ReadingStored (ns : List Name) (subject : Bool) (s : List ℕ) (start
   pub going : Going (credentialsOf subject) (storedNumber ns subject) s start (credentials P) last at
   pub sized : Sized P
 
-pub stored-start : (ns : List Name) (subject : Bool) (s : List ℕ) (start : ℕ) (P : Pool) (last : Credential) → credentials P ≡ [] → Sized P → ReadingStored ns subject s start P last start
+pub stored-start : (ns : List Name) (subject : Bool) (s : List ℕ) (start : ℕ) (P : Pool) (last : Credential) → credentials P ≡ [] → Sized P
+    → ReadingStored ns subject s start P last start
 stored-start ns subject s start P last h z =
     record {
       going = subst (λ (L : List Credential). Going (credentialsOf subject) (storedNumber ns subject) s start L last start) (sym h) (going-start last);
       sized = z;
     }
 
-module _ {ns : List Name} {subject : Bool} {s : List ℕ} {start : ℕ} {P : Pool} {last : Credential} {at : ℕ} (r : ReadingStored ns subject s start P last at) where
+module _ {ns : List Name} {subject : Bool} {s : List ℕ} {start : ℕ} {P : Pool} {last : Credential} {at : ℕ}
+    (r : ReadingStored ns subject s start P last at) where
   -- no byte is left
   pub stored-past : length s ≤ at → StoredGone ns subject s start (record { refusal = 0; at = at; pool = P })
   stored-past h = gone-past (r .going) h
 
-  module _ (more : at < length s) {x : StoredStep} (h : storedStep x ≡ stepOf (credentialsOf subject) (numberBehind (credentialsOf subject) (storedNumber ns subject) (P .count) last) (recordAt s at)) where
+  module _ (more : at < length s) {x : StoredStep}
+      (h : storedStep x ≡ stepOf (credentialsOf subject) (numberBehind (credentialsOf subject) (storedNumber ns subject) (P .count) last) (recordAt s at)) where
     -- a credential is taken
     pub stored-room : (c : Credential) → x ≡ y.Taken c → P .count < MOST-STORED
     unfolding credentialsOf

@@ -29,7 +29,12 @@ abbrev pub pairsFrom : ℕ → List ℕ → List ℕ → Pairs
 pairsFrom n R S = record { count = n; roles = R; others = S }
 
 abbrev pub pairAt : Pairs → ℕ → Pair
-pairAt P i = record { role = roleOf (getD (P .roles) (i * 2) 0) (getD (P .roles) (i * 2 + 1) 0); other = roleOf (getD (P .others) (i * 2) 0) (getD (P .others) (i * 2 + 1) 0) }
+pairAt P i =
+    record {
+      role = roleOf (getD (P .roles) (i * 2) 0) (getD (P .roles) (i * 2 + 1) 0);
+      other = roleOf (getD (P .others) (i * 2) 0)
+          (getD (P .others) (i * 2 + 1) 0);
+    }
 
 -- the pairs of the columns, in their order
 unfoldable pub pairsOf : Pairs → List Pair

@@ -63,20 +63,24 @@ pub record Reading (ns : List Name) (s : ℕ) (m : List ℕ) (S₀ : State) (n :
 
 module _ (ns : List Name) (s : ℕ) (m : List ℕ) where
   pub reading-start : (n : Negotiation) {v : Bool} → v ≡ false → within (stateOf n) ≡ true → NodesFormed (nodesOf (n .nodes)) → Reading ns s m (stateOf n) n 0 v
-  reading-start n e w f = record { fuel = length m; enough = omega arith; same = ap (commandsFrom (length m) ns s m 0 (stateOf n)) (sym e); sizes = w; formed = f }
+  reading-start n e w f =
+      record { fuel = length m; enough = omega arith; same = ap (commandsFrom (length m) ns s m 0 (stateOf n)) (sym e); sizes = w; formed = f }
 
   -- one command
-  one : (f at : ℕ) (S : State) (v : Bool) {a : CommandAnswer} → commandAt m at ≡ a → 0 < f → (g : ℕ) × (f ≡ suc g) × (commandsFrom f ns s m at S v ≡ onCommand (λ size T w. commandsFrom g ns s m (at + size) T w) ns s S v a)
+  one : (f at : ℕ) (S : State) (v : Bool) {a : CommandAnswer} → commandAt m at ≡ a → 0 < f
+      → (g : ℕ) × (f ≡ suc g) × (commandsFrom f ns s m at S v ≡ onCommand (λ size T w. commandsFrom g ns s m (at + size) T w) ns s S v a)
   unfolding commandsFrom
   one zero at S v e l = absurd (omega arith)
   one (suc g) at S v e l = (g, refl, ap (onCommand (λ size T w. commandsFrom g ns s m (at + size) T w) ns s S v) e)
 
   module _ {S₀ : State} {n : Negotiation} {at : ℕ} {v : Bool} (r : Reading ns s m S₀ n at v) where
     -- the answer is a refusal
-    answers-refused : (t : Taking) (k : ℕ) → t .refusal ≡ k → (k ≡ 0 → ⊥) → commandsFrom (length m) ns s m 0 S₀ false ≡ refused k → (takenOf t ≡ commandsFrom (length m) ns s m 0 S₀ false) × Room t
+    answers-refused : (t : Taking) (k : ℕ) → t .refusal ≡ k → (k ≡ 0 → ⊥) → commandsFrom (length m) ns s m 0 S₀ false ≡ refused k
+        → (takenOf t ≡ commandsFrom (length m) ns s m 0 S₀ false) × Room t
     unfolding takenOf
     answers-refused t k e z q = (
-      ap (λ (b : Bool). cond b (accepted (stateOf (t .negotiation), t .moved)) (refused (t .refusal))) (ne-eqb (t .refusal) 0 (λ w. z (sym e ∙ w))) ∙ ap refused e ∙ sym q,
+      ap (λ (b : Bool). cond b (accepted (stateOf (t .negotiation), t .moved)) (refused (t .refusal))) (ne-eqb (t .refusal) 0 (λ w. z (sym e ∙ w)))
+          ∙ ap refused e ∙ sym q,
       record { sizes = λ w. absurd (z (sym e ∙ w)); formed = λ w. absurd (z (sym e ∙ w)) },
     )
 
@@ -90,20 +94,24 @@ module _ (ns : List Name) (s : ℕ) (m : List ℕ) where
     reading-past t l e = answers-refused t 2 e (λ z. omega arith) (r .same ∙ past (r .fuel) (sym (nothing m at l)))
 
     module _ (l : at < length m) {a : CommandAnswer} (ae : a ≡ commandAt m at) where
-      step-one : (g : ℕ) × (r .fuel ≡ suc g) × (commandsFrom (r .fuel) ns s m at (stateOf n) v ≡ onCommand (λ size T w. commandsFrom g ns s m (at + size) T w) ns s (stateOf n) v a)
+      step-one : (g : ℕ) × (r .fuel ≡ suc g) × (commandsFrom (r .fuel) ns s m at (stateOf n) v
+          ≡ onCommand (λ size T w. commandsFrom g ns s m (at + size) T w) ns s (stateOf n) v a)
       step-one = one (r .fuel) at (stateOf n) v (sym ae) (omega (arith, r .enough))
 
       -- a command that cannot be read
-      pub reading-unread : (t : Taking) {k j : ℕ} → a ≡ Refused k → j ≡ refusalOf a → t .refusal ≡ j → (takenOf t ≡ commandsFrom (length m) ns s m 0 S₀ false) × Room t
+      pub reading-unread : (t : Taking) {k j : ℕ} → a ≡ Refused k → j ≡ refusalOf a → t .refusal ≡ j
+          → (takenOf t ≡ commandsFrom (length m) ns s m 0 S₀ false) × Room t
       reading-unread t {k} {j} h q e =
           answers-refused t k (e ∙ q ∙ ap refusalOf h) (λ z. ⊎-elim (λ w. omega (arith, w)) (λ w. omega (arith, w)) (command-refusal m at k (sym ae ∙ h)))
           (r .same ∙ step-one .2 ∙ ap (onCommand (λ size T w. commandsFrom (step-one .0) ns s m (at + size) T w) ns s (stateOf n) v) h)
 
       module _ {c : Command} (h : a ≡ Read c) {k : ℕ} (ke : k ≡ legalNumber ns s (stateOf n) c) where
-        by-number : commandsFrom (length m) ns s m 0 S₀ false ≡ judged k (cond (isEnd c) (accepted (stateOf n, v)) (commandsFrom (step-one .0) ns s m (at + sizeOf c) (stepped (stateOf n) s c) (v || isMove c)))
+        by-number : commandsFrom (length m) ns s m 0 S₀ false
+            ≡ judged k (cond (isEnd c) (accepted (stateOf n, v)) (commandsFrom (step-one .0) ns s m (at + sizeOf c) (stepped (stateOf n) s c) (v || isMove c)))
         by-number =
             r .same ∙ step-one .2 ∙ ap (onCommand (λ size T w. commandsFrom (step-one .0) ns s m (at + size) T w) ns s (stateOf n) v) h
-            ∙ ap (λ (i : ℕ). judged i (cond (isEnd c) (accepted (stateOf n, v)) (commandsFrom (step-one .0) ns s m (at + sizeOf c) (stepped (stateOf n) s c) (v || isMove c)))) (sym ke)
+            ∙ ap (λ (i : ℕ). judged i (cond (isEnd c) (accepted (stateOf n, v))
+            (commandsFrom (step-one .0) ns s m (at + sizeOf c) (stepped (stateOf n) s c) (v || isMove c)))) (sym ke)
 
         judged-refused : (i : ℕ) (x : Answer (State × Bool)) → (i ≡ 0 → ⊥) → judged i x ≡ refused i
         judged-refused zero x z = absurd (z refl)
@@ -114,21 +122,33 @@ module _ (ns : List Name) (s : ℕ) (m : List ℕ) where
         reading-illegal t z e = answers-refused t k e z (by-number ∙ judged-refused k _ z)
 
         module _ (z : k ≡ 0) {b : Bool} (be : b ≡ isEnd c) where
-          by-end : commandsFrom (length m) ns s m 0 S₀ false ≡ cond b (accepted (stateOf n, v)) (commandsFrom (step-one .0) ns s m (at + sizeOf c) (stepped (stateOf n) s c) (v || isMove c))
+          by-end : commandsFrom (length m) ns s m 0 S₀ false
+              ≡ cond b (accepted (stateOf n, v)) (commandsFrom (step-one .0) ns s m (at + sizeOf c) (stepped (stateOf n) s c) (v || isMove c))
           by-end =
-              by-number ∙ ap (λ (i : ℕ). judged i (cond (isEnd c) (accepted (stateOf n, v)) (commandsFrom (step-one .0) ns s m (at + sizeOf c) (stepped (stateOf n) s c) (v || isMove c)))) z
-              ∙ ap (λ (d : Bool). cond d (accepted (stateOf n, v)) (commandsFrom (step-one .0) ns s m (at + sizeOf c) (stepped (stateOf n) s c) (v || isMove c))) (sym be)
+              by-number ∙ ap (λ (i : ℕ). judged i (cond (isEnd c) (accepted (stateOf n, v))
+              (commandsFrom (step-one .0) ns s m (at + sizeOf c) (stepped (stateOf n) s c) (v || isMove c)))) z
+              ∙ ap (λ (d : Bool). cond d (accepted (stateOf n, v))
+              (commandsFrom (step-one .0) ns s m (at + sizeOf c) (stepped (stateOf n) s c) (v || isMove c))) (sym be)
 
           -- the end
-          pub reading-end : (t : Taking) → b ≡ true → t .refusal ≡ 0 → t .moved ≡ v → t .negotiation ≡ n → (takenOf t ≡ commandsFrom (length m) ns s m 0 S₀ false) × Room t
+          pub reading-end : (t : Taking) → b ≡ true → t .refusal ≡ 0 → t .moved ≡ v → t .negotiation ≡ n
+              → (takenOf t ≡ commandsFrom (length m) ns s m 0 S₀ false) × Room t
           unfolding takenOf
           reading-end t q e w x = (
-            ap (λ (d : Bool). cond d (accepted (stateOf (t .negotiation), t .moved)) (refused (t .refusal))) (eq-eqb (t .refusal) 0 e) ∙ (λ i. accepted (stateOf (x i), w i)) ∙ sym (by-end ∙ ap (λ (d : Bool). cond d (accepted (stateOf n, v)) (commandsFrom (step-one .0) ns s m (at + sizeOf c) (stepped (stateOf n) s c) (v || isMove c))) q),
-            record { sizes = λ y. subst (λ (g : Negotiation). within (stateOf g) ≡ true) (sym x) (r .sizes); formed = λ y. subst (λ (g : Negotiation). NodesFormed (nodesOf (g .nodes))) (sym x) (r .formed) },
+            ap (λ (d : Bool). cond d (accepted (stateOf (t .negotiation), t .moved)) (refused (t .refusal))) (eq-eqb (t .refusal) 0 e)
+                ∙ (λ i. accepted (stateOf (x i), w i))
+                ∙ sym (by-end ∙ ap (λ (d : Bool). cond d (accepted (stateOf n, v))
+                (commandsFrom (step-one .0) ns s m (at + sizeOf c) (stepped (stateOf n) s c) (v || isMove c))) q),
+            record {
+              sizes = λ y. subst (λ (g : Negotiation). within (stateOf g) ≡ true) (sym x) (r .sizes);
+              formed = λ y. subst
+                  (λ (g : Negotiation). NodesFormed (nodesOf (g .nodes))) (sym x) (r .formed);
+            },
           )
 
           -- the next command
-          pub reading-next : {n′ : Negotiation} {v′ : Bool} {i : ℕ} → b ≡ false → stateOf n′ ≡ stepped (stateOf n) s c → v′ ≡ (v || isMove c) → i ≡ positionAfter m at
+          pub reading-next : {n′ : Negotiation} {v′ : Bool} {i : ℕ} → b ≡ false → stateOf n′ ≡ stepped (stateOf n) s c → v′ ≡ (v || isMove c)
+              → i ≡ positionAfter m at
               → Reading ns s m S₀ n′ i v′
           unfolding stateOf
           reading-next {n′} {v′} {i} q e ve ie =
@@ -138,14 +158,18 @@ module _ (ns : List Name) (s : ℕ) (m : List ℕ) where
               record {
                 fuel = step-one .0;
                 enough = omega (arith, r .enough, step-one .1, size-some c, past);
-                same = by-end ∙ ap (λ (t : Bool). cond t (accepted (stateOf n, v)) (commandsFrom (step-one .0) ns s m (at + sizeOf c) (stepped (stateOf n) s c) (v || isMove c))) q
+                same =
+                    by-end ∙ ap (λ (t : Bool). cond t (accepted (stateOf n, v))
+                    (commandsFrom (step-one .0) ns s m (at + sizeOf c) (stepped (stateOf n) s c) (v || isMove c))) q
                     ∙ (λ j. commandsFrom (step-one .0) ns s m (sym past j) (sym e j) (sym ve j));
                 sizes = ap within e ∙ wide;
-                formed = subst (λ (S : State). NodesFormed (S .nodes)) (sym e) (step-formed (stateOf n) s c (r .formed) room (command-formed m at c (sym ae ∙ h)));
+                formed =
+                    subst (λ (S : State). NodesFormed (S .nodes)) (sym e) (step-formed (stateOf n) s c (r .formed) room (command-formed m at c (sym ae ∙ h)));
               }
 
         -- one that is not legal, or the end
-        pub reading-stop : {b : Bool} → b ≡ isEnd c → (t : Taking) → (not (eqb k 0) || b) ≡ true → t .refusal ≡ k → t .moved ≡ v → t .negotiation ≡ n → (takenOf t ≡ commandsFrom (length m) ns s m 0 S₀ false) × Room t
+        pub reading-stop : {b : Bool} → b ≡ isEnd c → (t : Taking) → (not (eqb k 0) || b) ≡ true → t .refusal ≡ k → t .moved ≡ v → t .negotiation ≡ n
+            → (takenOf t ≡ commandsFrom (length m) ns s m 0 S₀ false) × Room t
         reading-stop {b} be t z e w x = go (eqb k 0) refl z
           where
             go : (d : Bool) → eqb k 0 ≡ d → (not d || b) ≡ true → (takenOf t ≡ commandsFrom (length m) ns s m 0 S₀ false) × Room t

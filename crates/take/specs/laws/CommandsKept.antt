@@ -73,21 +73,27 @@ module _ (ns : List Name) (s : ℕ) (m : List ℕ) where
   Leads f T w = (at : ℕ) (S : State) (v : Bool) → GraphKept ns S → (length (S .nodes) ≡ 0 → ⊥) → within S ≡ true → After f at S v T w → Led ns S v T w
 
   -- one command, and those behind it
-  module _ (f : ℕ) (T : State) (w : Bool) (next : Leads f T w) (at : ℕ) (S : State) (v : Bool) (g : GraphKept ns S) (some : length (S .nodes) ≡ 0 → ⊥) (wi : within S ≡ true) where
-    led-end : (c : Command) → commandAt m at ≡ Read c → legalNumber ns s S c ≡ 0 → (b : Bool) → cond b (accepted (S, v)) (commandsFrom f ns s m (at + sizeOf c) (stepped S s c) (v || isMove c)) ≡ accepted (T, w) → Led ns S v T w
+  module _ (f : ℕ) (T : State) (w : Bool) (next : Leads f T w) (at : ℕ) (S : State) (v : Bool) (g : GraphKept ns S) (some : length (S .nodes) ≡ 0 → ⊥)
+      (wi : within S ≡ true) where
+    led-end : (c : Command) → commandAt m at ≡ Read c → legalNumber ns s S c ≡ 0 → (b : Bool)
+        → cond b (accepted (S, v)) (commandsFrom f ns s m (at + sizeOf c) (stepped S s c) (v || isMove c)) ≡ accepted (T, w) → Led ns S v T w
     led-end c e l true q =
         let t : S ≡ T = ap (firstOf S) q in
         let u : v ≡ w = ap movedTaken q in
-        subst (λ (U : State). Led ns S v U w) t (subst (Led ns S v S) u (record { graph = g; some = some; header = refl; sizes = wi; moves = λ x. x; still = λ x. (refl, refl) }))
+        subst (λ (U : State). Led ns S v U w) t (subst (Led ns S v S) u
+        (record { graph = g; some = some; header = refl; sizes = wi; moves = λ x. x; still = λ x. (refl, refl) }))
     led-end c e l false q =
         follows S v c T w
-        (next (at + sizeOf c) (stepped S s c) (v || isMove c) (step-kept ns s S c g some (command-formed m at c e) l) (step-some S s c some) (step-within S wi s c (legal-room S ns s c l)) q)
+        (next (at + sizeOf c) (stepped S s c) (v || isMove c) (step-kept ns s S c g some (command-formed m at c e) l) (step-some S s c some)
+        (step-within S wi s c (legal-room S ns s c l)) q)
 
-    led-number : (c : Command) → commandAt m at ≡ Read c → (k : ℕ) → legalNumber ns s S c ≡ k → judged k (cond (isEnd c) (accepted (S, v)) (commandsFrom f ns s m (at + sizeOf c) (stepped S s c) (v || isMove c))) ≡ accepted (T, w) → Led ns S v T w
+    led-number : (c : Command) → commandAt m at ≡ Read c → (k : ℕ) → legalNumber ns s S c ≡ k
+        → judged k (cond (isEnd c) (accepted (S, v)) (commandsFrom f ns s m (at + sizeOf c) (stepped S s c) (v || isMove c))) ≡ accepted (T, w) → Led ns S v T w
     led-number c e zero l q = led-end c e l (isEnd c) q
     led-number c e (suc k) l q = absurd (false-true (ap isAccepted q))
 
-    led-answer : (a : CommandAnswer) → commandAt m at ≡ a → onCommand (λ size U x. commandsFrom f ns s m (at + size) U x) ns s S v a ≡ accepted (T, w) → Led ns S v T w
+    led-answer : (a : CommandAnswer) → commandAt m at ≡ a → onCommand (λ size U x. commandsFrom f ns s m (at + size) U x) ns s S v a ≡ accepted (T, w)
+        → Led ns S v T w
     led-answer (Refused k) e q = absurd (false-true (ap isAccepted q))
     led-answer (Read c) e q = led-number c e (legalNumber ns s S c) refl q
 
@@ -113,18 +119,23 @@ module _ (ns : List Name) (s : ℕ) (S : State) (fresh : isFresh S ≡ true) whe
   fresh-open End h = absurd (fresh-refuses _ h)
 
 -- a message to a requester that has seen none
-module _ (ns : List Name) (m : List ℕ) (S : State) (side : S .header .side ≡ 1) (own : S .header .own ≡ 0 → ⊥) (no-node : length (S .nodes) ≡ 0) (no-edge : length (S .edges) ≡ 0) (no-shown : length (S .shown) ≡ 0) (wi : within S ≡ true) where
+module _ (ns : List Name) (m : List ℕ) (S : State) (side : S .header .side ≡ 1) (own : S .header .own ≡ 0 → ⊥) (no-node : length (S .nodes) ≡ 0)
+    (no-edge : length (S .edges) ≡ 0) (no-shown : length (S .shown) ≡ 0) (wi : within S ≡ true) where
   opened-some : (o : Opening) → length (stepped S 0 (Open o) .nodes) ≡ 0 → ⊥
   unfolding stepped withNode
   opened-some o z = omega (arith, length-append (S .nodes) (primaryOf (S .header) o ∷ []))
 
   -- what stands behind the first command
   abbrev Behind : ℕ → ℕ → Bool → State → Bool → Command → Type 0
-  Behind f at v T w c = commandAt m at ≡ Read c → legalNumber ns 0 S c ≡ 0 → cond (isEnd c) (accepted (S, v)) (commandsFrom f ns 0 m (at + sizeOf c) (stepped S 0 c) (v || isMove c)) ≡ accepted (T, w) → Led ns S v T w × (w ≡ true)
+  Behind f at v T w c =
+      commandAt m at ≡ Read c → legalNumber ns 0 S c ≡ 0
+      → cond (isEnd c) (accepted (S, v)) (commandsFrom f ns 0 m (at + sizeOf c) (stepped S 0 c) (v || isMove c)) ≡ accepted (T, w) → Led ns S v T w × (w ≡ true)
 
   behind-open : (f at : ℕ) (v : Bool) (T : State) (w : Bool) (o : Opening) → Behind f at v T w (Open o)
   behind-open f at v T w o e l q =
-      let k = commands-led ns 0 m f T w (at + sizeOf (Open o)) (stepped S 0 (Open o)) (v || true) (open-kept ns S o side no-node no-edge no-shown own (command-formed m at (Open o) e) l) (opened-some o) (step-within S wi 0 (Open o) (legal-room S ns 0 (Open o) l)) q in
+      let k = commands-led ns 0 m f T w (at + sizeOf (Open o)) (stepped S 0 (Open o)) (v || true)
+      (open-kept ns S o side no-node no-edge no-shown own (command-formed m at (Open o) e) l) (opened-some o)
+      (step-within S wi 0 (Open o) (legal-room S ns 0 (Open o) l)) q in
       (follows ns 0 m S v (Open o) T w k, k .moves (or-true v))
 
   pub opening-led : (f at : ℕ) (v : Bool) (T : State) (w : Bool) → commandsFrom f ns 0 m at S v ≡ accepted (T, w) → Led ns S v T w × (w ≡ true)
@@ -132,10 +143,14 @@ module _ (ns : List Name) (m : List ℕ) (S : State) (side : S .header .side ≡
   opening-led zero at v T w h = absurd (false-true (ap isAccepted h))
   opening-led (suc f) at v T w h = by-answer (commandAt m at) refl h
     where
-      by-number : (c : Command) → commandAt m at ≡ Read c → (k : ℕ) → legalNumber ns 0 S c ≡ k → judged k (cond (isEnd c) (accepted (S, v)) (commandsFrom f ns 0 m (at + sizeOf c) (stepped S 0 c) (v || isMove c))) ≡ accepted (T, w) → Led ns S v T w × (w ≡ true)
-      by-number c e zero l q = let o = fresh-open ns 0 S (eq-eqb (length (S .nodes)) 0 no-node) c l in subst (Behind f at v T w) (sym (o .1)) (behind-open f at v T w (o .0)) e l q
+      by-number : (c : Command) → commandAt m at ≡ Read c → (k : ℕ) → legalNumber ns 0 S c ≡ k
+          → judged k (cond (isEnd c) (accepted (S, v)) (commandsFrom f ns 0 m (at + sizeOf c) (stepped S 0 c) (v || isMove c))) ≡ accepted (T, w)
+          → Led ns S v T w × (w ≡ true)
+      by-number c e zero l q =
+          let o = fresh-open ns 0 S (eq-eqb (length (S .nodes)) 0 no-node) c l in subst (Behind f at v T w) (sym (o .1)) (behind-open f at v T w (o .0)) e l q
       by-number c e (suc k) l q = absurd (false-true (ap isAccepted q))
 
-      by-answer : (a : CommandAnswer) → commandAt m at ≡ a → onCommand (λ size U x. commandsFrom f ns 0 m (at + size) U x) ns 0 S v a ≡ accepted (T, w) → Led ns S v T w × (w ≡ true)
+      by-answer : (a : CommandAnswer) → commandAt m at ≡ a
+          → onCommand (λ size U x. commandsFrom f ns 0 m (at + size) U x) ns 0 S v a ≡ accepted (T, w) → Led ns S v T w × (w ≡ true)
       by-answer (Refused k) e q = absurd (false-true (ap isAccepted q))
       by-answer (Read c) e q = by-number c e (legalNumber ns 0 S c) refl q

@@ -103,7 +103,9 @@ module _ (known : Proved) (stale : Bool) (c : Command) (pool : Pool) where
   pub current-by : {A B : Type 0} → (A → CurrentFor stale c known pool) → (B → CurrentFor stale c known pool) → A ⊎ B → CurrentFor stale c known pool
   current-by f g h = ⊎-elim f g h
 
-  pub proved-for : CurrentFor stale c known pool → ProvedFor c (known .pool) (rulesOf (known .pool .count) (known .rules .words) (known .rules .head) (known .rules .part) (known .rules .first) (known .rules .named) (known .rules .src)) (known .rows) pool
+  pub proved-for : CurrentFor stale c known pool → ProvedFor c (known .pool)
+      (rulesOf (known .pool .count) (known .rules .words) (known .rules .head) (known .rules .part) (known .rules .first) (known .rules .named)
+      (known .rules .src)) (known .rows) pool
   proved-for h =
       let fresh : isImplication c ≡ true → (stale && not (isImplication c)) ≡ false = λ y. ap (λ (x : Bool). stale && not x) y ∙ none stale in
       record { knows = λ y. proved-columns (known .pool) (known .rules) (h .knows (fresh y)); same = λ y. h .same (fresh y) }
@@ -114,7 +116,8 @@ module _ (known : Proved) (stale : Bool) (c : Command) (pool : Pool) where
 
 -- and a linking implication
 module _ (k : Progress) (n : Negotiation) (c : Command) {b : Bool} (be : b ≡ isImplication c) where
-  pub ready-left : {l : Bool} → CurrentStates (k .unsettled) (k .sat) (nodesOf (n .nodes)) (edgesOf (n .edges)) → l ≡ isLinking c → not (k .unsettled && l) ≡ true
+  pub ready-left : {l : Bool} → CurrentStates (k .unsettled) (k .sat) (nodesOf (n .nodes)) (edgesOf (n .edges)) → l ≡ isLinking c
+      → not (k .unsettled && l) ≡ true
       → Ready k n c (record { moved = k .moved; stale = k .stale && not b; sat = k .sat; unsettled = k .unsettled })
   ready-left {l} h le z =
       record {
@@ -124,7 +127,8 @@ module _ (k : Progress) (n : Negotiation) (c : Command) {b : Bool} (be : b ≡ i
         says = record { says = λ y. h .says (unasked (k .unsettled) l (not-true (k .unsettled && l) z) (le ∙ y)) };
       }
 
-  pub ready-made : (sat : List ℕ) (i : Bool) → Says (nodesOf (n .nodes)) (edgesOf (n .edges)) sat → (i ≡ true → Inside (nodesOf (n .nodes)) (edgesOf (n .edges)))
+  pub ready-made : (sat : List ℕ) (i : Bool) → Says (nodesOf (n .nodes)) (edgesOf (n .edges)) sat
+      → (i ≡ true → Inside (nodesOf (n .nodes)) (edgesOf (n .edges)))
       → Ready k n c (record { moved = k .moved; stale = k .stale && not b; sat = sat; unsettled = not i })
   ready-made sat i s h =
       record {
@@ -146,7 +150,8 @@ module _ (k : Progress) (ns : List Node) (c : Command) {v b : Bool} (ve : v ≡ 
         unsettled = sym (ap (λ (x : Bool). x || not (keepsStates ns (k .sat) c)) z);
       }
 
-  pub carried-settled : {r : Bool} → k .unsettled ≡ false → r ≡ keepsStates ns (k .sat) c → Carried k ns c (record { moved = k .moved || v; stale = k .stale || b; sat = k .sat; unsettled = not r })
+  pub carried-settled : {r : Bool} → k .unsettled ≡ false → r ≡ keepsStates ns (k .sat) c
+      → Carried k ns c (record { moved = k .moved || v; stale = k .stale || b; sat = k .sat; unsettled = not r })
   carried-settled z re =
       record {
         moved = ap (λ (x : Bool). k .moved || x) ve;
@@ -168,7 +173,8 @@ shown-same S s (Join e) h = refl
 shown-same S s (Mark i) h = refl
 shown-same S s End h = refl
 
-module _ {known : Proved} {k q r : Progress} (n n′ : Negotiation) (s : ℕ) (c : Command) (h : CurrentFor (k .stale) c known (n .shown)) (j : Ready k n c q) (e : stateOf n′ ≡ stepped (stateOf n) s c)
+module _ {known : Proved} {k q r : Progress} (n n′ : Negotiation) (s : ℕ) (c : Command) (h : CurrentFor (k .stale) c known (n .shown))
+    (j : Ready k n c q) (e : stateOf n′ ≡ stepped (stateOf n) s c)
     (w : Carried q (nodesOf (n .nodes)) c r) where
   current-next : Current (r .stale) known (n′ .shown)
   unfolding stateOf
@@ -184,10 +190,14 @@ module _ {known : Proved} {k q r : Progress} (n n′ : Negotiation) (s : ℕ) (c
   states-next =
       let both : r .unsettled ≡ false → (q .unsettled ≡ false) × (not (keepsStates (nodesOf (n .nodes)) (q .sat) c) ≡ false) =
       λ z. or-neither (q .unsettled) (not (keepsStates (nodesOf (n .nodes)) (q .sat) c)) (sym (w .unsettled) ∙ z) in
-      let next : r .unsettled ≡ false → Says (stepped (stateOf n) s c .nodes) (stepped (stateOf n) s c .edges) (q .sat) × Inside (stepped (stateOf n) s c .nodes) (stepped (stateOf n) s c .edges) =
-      λ z. keeps-states (stateOf n) s c (q .sat) (j .settled .says (both z .0)) (j .settled .inside (both z .0)) (not-false (keepsStates (nodesOf (n .nodes)) (q .sat) c) (both z .1)) in
+      let next : r .unsettled ≡ false → Says (stepped (stateOf n) s c .nodes) (stepped (stateOf n) s c .edges) (q .sat)
+      × Inside (stepped (stateOf n) s c .nodes) (stepped (stateOf n) s c .edges) =
+      λ z. keeps-states (stateOf n) s c (q .sat) (j .settled .says (both z .0)) (j .settled .inside (both z .0))
+      (not-false (keepsStates (nodesOf (n .nodes)) (q .sat) c) (both z .1)) in
       record {
-        says = λ z. subst (λ (x : List ℕ). Says (nodesOf (n′ .nodes)) (edgesOf (n′ .edges)) x) (sym (w .sat)) (subst (λ (S : State). Says (S .nodes) (S .edges) (q .sat)) (sym e) (next z .0));
+        says =
+            λ z. subst (λ (x : List ℕ). Says (nodesOf (n′ .nodes)) (edgesOf (n′ .edges)) x) (sym (w .sat))
+            (subst (λ (S : State). Says (S .nodes) (S .edges) (q .sat)) (sym e) (next z .0));
         inside = λ z. subst (λ (S : State). Inside (S .nodes) (S .edges)) (sym e) (next z .1);
       }
 

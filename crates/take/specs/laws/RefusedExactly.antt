@@ -45,6 +45,8 @@ use Rattle.take.specs.Call.{Stands, InTurn, Refusal, size, unrestored, e
 use Rattle.take.specs.laws.TakenExactly.{taken-one, take-ended, take-out-of-turn, take-commands}
 use Rattle.numbers.specs.Answer.{Answer, refused, accepted, judged}
 use Rattle.numbers.specs.laws.Answer.{isRefused, numberOf}
+use Rattle.numbers.specs.Refusals.{LENGTH, TURN, ENDED}
+use Rattle.numbers.specs.Sizes.{NEGOTIATION-BYTES}
 
 -- The commands
 
@@ -64,16 +66,29 @@ module _ (ns : List Name) (s : ℕ) (m : List ℕ) where
       ap (C.onCommand (λ size T w. C.commandsFrom f ns s m (at + size) T w) ns s S v) e ∙ ap (λ (n : ℕ). judged n x) q ∙ judged-refused k x z
 
   -- and those before it
-  refused-behind : {S T : State} {cs : List Command} → Updates ns s S cs T → (f at : ℕ) (v : Bool) (rest : List ℕ) (k : ℕ) → drop at m ≡ bytesOf cs ++ rest → length m ≤ f + at → Wrong ns s m (at + length (bytesOf cs)) T k → C.commandsFrom f ns s m at S v ≡ refused k
+  refused-behind : {S T : State} {cs : List Command} → Updates ns s S cs T → (f at : ℕ) (v : Bool) (rest : List ℕ) (k : ℕ)
+      → drop at m ≡ bytesOf cs ++ rest → length m ≤ f + at → Wrong ns s m (at + length (bytesOf cs)) T k → C.commandsFrom f ns s m at S v ≡ refused k
   refused-behind (none {S}) f at v rest k h l w = let z : at + 0 ≡ at = omega arith in refused-here f at S v k l (subst (λ (n : ℕ). Wrong ns s m n S k) z w)
   refused-behind (next {S} {T} {c} {cs} b g e u) zero at v rest k h l w =
-      absurd (omega (arith, l, length-drop at m, ap length h, length-append (commandBytes c ++ bytesOf cs) rest, length-append (commandBytes c) (bytesOf cs), command-length c, size-some c))
+      absurd (omega (
+        arith,
+        l,
+        length-drop at m,
+        ap length h,
+        length-append (commandBytes c ++ bytesOf cs) rest,
+        length-append (commandBytes c)
+            (bytesOf cs),
+        command-length c,
+        size-some c,
+      ))
   refused-behind (next {S} {T} {c} {cs} b g e u) (suc f) at v rest k h l w =
       let there : drop at m ≡ commandBytes c ++ (bytesOf cs ++ rest) = h ∙ append-assoc (commandBytes c) (bytesOf cs) rest in
-      let behind : at + length (commandBytes c ++ bytesOf cs) ≡ at + sizeOf c + length (bytesOf cs) = omega (arith, length-append (commandBytes c) (bytesOf cs), command-length c) in
+      let behind : at + length (commandBytes c ++ bytesOf cs)
+      ≡ at + sizeOf c + length (bytesOf cs) = omega (arith, length-append (commandBytes c) (bytesOf cs), command-length c) in
       taken-one ns s m f at S v c (command-back m at c (bytesOf cs ++ rest) there g (λ q. absurd (false-true (sym b ∙ ap isEnd q)))) e
       ∙ ap (λ (x : Bool). cond x (accepted (S, v)) (C.commandsFrom f ns s m (at + sizeOf c) (stepped S s c) (v || isMove c))) b
-      ∙ refused-behind u f (at + sizeOf c) (v || isMove c) rest k (sym (drop-drop (sizeOf c) at m) ∙ ap (drop (sizeOf c)) there ∙ drop-at (commandBytes c) (bytesOf cs ++ rest) (sizeOf c) (command-length c))
+      ∙ refused-behind u f (at + sizeOf c) (v || isMove c) rest k
+      (sym (drop-drop (sizeOf c) at m) ∙ ap (drop (sizeOf c)) there ∙ drop-at (commandBytes c) (bytesOf cs ++ rest) (sizeOf c) (command-length c))
       (omega (arith, l, size-some c)) (subst (λ (n : ℕ). Wrong ns s m n T k) behind w)
 
   module _ (bytes : (i : ℕ) → getD m i 0 < 256) (k : ℕ) where
@@ -87,16 +102,29 @@ module _ (ns : List Name) (s : ℕ) (m : List ℕ) where
       wrong : Wrong ns s m (at + length (bytesOf before)) led k
 
     rest-here : (at : ℕ) (S : State) → Wrong ns s m at S k → Rest at S
-    rest-here at S w = let z : at ≡ at + 0 = omega arith in record { before = []; led = S; rest = drop at m; there = refl; updates = none; wrong = subst (λ (n : ℕ). Wrong ns s m n S k) z w }
+    rest-here at S w =
+        let z : at ≡ at + 0 = omega arith in record {
+          before = [];
+          led = S;
+          rest = drop at m;
+          there = refl;
+          updates = none;
+          wrong = subst
+              (λ (n : ℕ). Wrong ns s m n S k) z w;
+        }
 
-    rest-next : (at : ℕ) (S : State) (c : Command) → isEnd c ≡ false → commandAt m at ≡ Read c → Legal ns s S c → Rest (at + sizeOf c) (stepped S s c) → Rest at S
+    rest-next : (at : ℕ) (S : State) (c : Command) → isEnd c ≡ false → commandAt m at ≡ Read c → Legal ns s S c → Rest (at + sizeOf c) (stepped S s c)
+        → Rest at S
     rest-next at S c b e l r =
-        let z : at + sizeOf c + length (bytesOf (r .before)) ≡ at + length (commandBytes c ++ bytesOf (r .before)) = omega (arith, length-append (commandBytes c) (bytesOf (r .before)), command-length c) in
+        let z : at + sizeOf c + length (bytesOf (r .before))
+        ≡ at + length (commandBytes c ++ bytesOf (r .before)) = omega (arith, length-append (commandBytes c) (bytesOf (r .before)), command-length c) in
         record {
           before = c ∷ r .before;
           led = r .led;
           rest = r .rest;
-          there = sym (take-append-drop (sizeOf c) (drop at m)) ∙ (λ i. command-only m at c bytes e i ++ (drop-drop (sizeOf c) at m ∙ r .there) i) ∙ sym (append-assoc (commandBytes c) (bytesOf (r .before)) (r .rest));
+          there =
+              sym (take-append-drop (sizeOf c) (drop at m)) ∙ (λ i. command-only m at c bytes e i ++ (drop-drop (sizeOf c) at m ∙ r .there) i)
+              ∙ sym (append-assoc (commandBytes c) (bytesOf (r .before)) (r .rest));
           updates = next b (command-formed m at c e) l (r .updates);
           wrong = subst (λ (n : ℕ). Wrong ns s m n (r .led) k) z (r .wrong);
         }
@@ -105,15 +133,18 @@ module _ (ns : List Name) (s : ℕ) (m : List ℕ) where
     Leads f = (at : ℕ) (S : State) (v : Bool) → length m ≤ f + at → C.commandsFrom f ns s m at S v ≡ refused k → Rest at S
 
     module _ (f : ℕ) (behind : Leads f) (at : ℕ) (S : State) (v : Bool) (enough : length m ≤ suc f + at) where
-      rest-command : (c : Command) → commandAt m at ≡ Read c → Legal ns s S c → (b : Bool) → isEnd c ≡ b → cond b (accepted (S, v)) (C.commandsFrom f ns s m (at + sizeOf c) (stepped S s c) (v || isMove c)) ≡ refused k → Rest at S
+      rest-command : (c : Command) → commandAt m at ≡ Read c → Legal ns s S c → (b : Bool) → isEnd c ≡ b
+          → cond b (accepted (S, v)) (C.commandsFrom f ns s m (at + sizeOf c) (stepped S s c) (v || isMove c)) ≡ refused k → Rest at S
       rest-command c e l true b q = absurd (false-true (ap isRefused q))
       rest-command c e l false b q = rest-next at S c b e l (behind (at + sizeOf c) (stepped S s c) (v || isMove c) (omega (arith, enough, size-some c)) q)
 
-      rest-number : (c : Command) → commandAt m at ≡ Read c → (j : ℕ) → legalNumber ns s S c ≡ j → judged j (cond (isEnd c) (accepted (S, v)) (C.commandsFrom f ns s m (at + sizeOf c) (stepped S s c) (v || isMove c))) ≡ refused k → Rest at S
+      rest-number : (c : Command) → commandAt m at ≡ Read c → (j : ℕ) → legalNumber ns s S c ≡ j
+          → judged j (cond (isEnd c) (accepted (S, v)) (C.commandsFrom f ns s m (at + sizeOf c) (stepped S s c) (v || isMove c))) ≡ refused k → Rest at S
       rest-number c e zero l q = rest-command c e (legal-exactly ns s S c .0 l) (isEnd c) refl q
       rest-number c e (suc j) l q = let z : suc j ≡ k = ap numberOf q in rest-here at S (illegal c e (l ∙ z) (λ y. omega (arith, y, z)))
 
-      rest-answer : (a : CommandAnswer) → commandAt m at ≡ a → C.onCommand (λ size U x. C.commandsFrom f ns s m (at + size) U x) ns s S v a ≡ refused k → Rest at S
+      rest-answer : (a : CommandAnswer) → commandAt m at ≡ a
+          → C.onCommand (λ size U x. C.commandsFrom f ns s m (at + size) U x) ns s S v a ≡ refused k → Rest at S
       rest-answer (Refused j) e q = rest-here at S (unreadable (e ∙ ap Refused (ap numberOf q)))
       rest-answer (Read c) e q = rest-number c e (legalNumber ns s S c) refl q
 
@@ -123,12 +154,21 @@ module _ (ns : List Name) (s : ℕ) (m : List ℕ) where
     rest-all (suc f) at S v l h = rest-answer f (rest-all f) at S v l (commandAt m at) refl h
 
     -- the commands of a message are refused exactly where one of them is, those before it being legal
-    pub stops-exactly : (S : State) → (C.commandsFrom (length m) ns s m 0 S false ≡ refused k → RefusedAt ns s m S k) × (RefusedAt ns s m S k → C.commandsFrom (length m) ns s m 0 S false ≡ refused k)
+    pub stops-exactly : (S : State) → (C.commandsFrom (length m) ns s m 0 S false ≡ refused k → RefusedAt ns s m S k)
+        × (RefusedAt ns s m S k → C.commandsFrom (length m) ns s m 0 S false ≡ refused k)
     stops-exactly S = (
       λ h.
           let r = rest-all (length m) 0 S false (omega arith) h in
           let z : 0 + length (bytesOf (r .before)) ≡ length (bytesOf (r .before)) = omega arith in
-          record { before = r .before; led = r .led; rest = r .rest; bytes = r .there; updates = r .updates; wrong = subst (λ (n : ℕ). Wrong ns s m n (r .led) k) z (r .wrong) },
+          record {
+            before = r .before;
+            led = r .led;
+            rest = r .rest;
+            bytes = r .there;
+            updates = r .updates;
+            wrong = subst
+                (λ (n : ℕ). Wrong ns s m n (r .led) k) z (r .wrong);
+          },
       λ r.
           let z : length (bytesOf (r .before)) ≡ 0 + length (bytesOf (r .before)) = omega arith in
           refused-behind (r .updates) (length m) 0 false (r .rest) k (r .bytes) (omega arith) (subst (λ (n : ℕ). Wrong ns s m n (r .led) k) z (r .wrong)),
@@ -140,24 +180,31 @@ module _ (tables negotiation message scratch : List ℕ) (bytes : (i : ℕ) → 
   abbrev leadsTo : Tables → State → Answer (State × Bool)
   leadsTo T S = C.commandsFrom (length message) (T .names) (senderTo S) message 0 S false
 
-  by-commands : (T : Tables) (S : State) → Stands tables negotiation message scratch T S → InTurn S → (x : Answer (State × Bool)) → leadsTo T S ≡ x → behindCommands x ≡ refused k → Refusal tables negotiation message scratch k
+  by-commands : (T : Tables) (S : State) → Stands tables negotiation message scratch T S → InTurn S → (x : Answer (State × Bool)) → leadsTo T S ≡ x
+      → behindCommands x ≡ refused k → Refusal tables negotiation message scratch k
   by-commands T S h t (refused j) e q = stopped h t (stops-exactly (T .names) (senderTo S) message bytes k S .0 (e ∙ ap refused (ap numberOf q)))
   by-commands T S h t (accepted (U, v)) e q = absurd (false-true (ap isRefused q))
 
-  by-turn : (T : Tables) (S : State) → Stands tables negotiation message scratch T S → S .header .end ≡ 0 → (b : Bool) → sends (senderTo S) (S .header .messages) ≡ b → cond (not b) (refused 21) (behindCommands (leadsTo T S)) ≡ refused k → Refusal tables negotiation message scratch k
+  by-turn : (T : Tables) (S : State) → Stands tables negotiation message scratch T S → S .header .end ≡ 0 → (b : Bool)
+      → sends (senderTo S) (S .header .messages) ≡ b → cond (not b) (refused TURN) (behindCommands (leadsTo T S)) ≡ refused k
+      → Refusal tables negotiation message scratch k
   by-turn T S h e true g q = by-commands T S h (record { going = e; turn = g }) (leadsTo T S) refl q
   by-turn T S h e false g q = out-of-turn h e g (sym (ap numberOf q))
 
-  by-end : (T : Tables) (S : State) → Stands tables negotiation message scratch T S → (b : Bool) → eqb (S .header .end) 0 ≡ b → cond (not b) (refused 22) (cond (not (sends (senderTo S) (S .header .messages))) (refused 21) (behindCommands (leadsTo T S))) ≡ refused k → Refusal tables negotiation message scratch k
+  by-end : (T : Tables) (S : State) → Stands tables negotiation message scratch T S → (b : Bool) → eqb (S .header .end) 0 ≡ b
+      → cond (not b) (refused ENDED) (cond (not (sends (senderTo S) (S .header .messages))) (refused TURN) (behindCommands (leadsTo T S))) ≡ refused k
+      → Refusal tables negotiation message scratch k
   by-end T S h true g q = by-turn T S h (eqb-true (S .header .end) 0 g) (sends (senderTo S) (S .header .messages)) refl q
   by-end T S h false g q = ended h (eqb-false (S .header .end) 0 g) (sym (ap numberOf q))
 
-  by-standing : messageSize (length message) (length scratch) ≡ true → (x : Answer (Tables × State)) → R.restoreOf tables negotiation ≡ x → behindStanding message x ≡ refused k → Refusal tables negotiation message scratch k
+  by-standing : messageSize (length message) (length scratch) ≡ true → (x : Answer (Tables × State)) → R.restoreOf tables negotiation ≡ x
+      → behindStanding message x ≡ refused k → Refusal tables negotiation message scratch k
   unfolding takenIn
   by-standing h (refused j) e q = unrestored h (e ∙ ap refused (ap numberOf q))
   by-standing h (accepted (T, S)) e q = by-end T S (record { sized = h; restored = e }) (eqb (S .header .end) 0) refl q
 
-  by-size : (b : Bool) → messageSize (length message) (length scratch) ≡ b → cond b (behindStanding message (R.restoreOf tables negotiation)) (refused 1) ≡ refused k → Refusal tables negotiation message scratch k
+  by-size : (b : Bool) → messageSize (length message) (length scratch) ≡ b
+      → cond b (behindStanding message (R.restoreOf tables negotiation)) (refused LENGTH) ≡ refused k → Refusal tables negotiation message scratch k
   by-size true h q = by-standing h (R.restoreOf tables negotiation) refl q
   by-size false h q = size h (sym (ap numberOf q))
 
@@ -167,14 +214,16 @@ module _ (tables negotiation message scratch : List ℕ) (bytes : (i : ℕ) → 
 
   refuses : Refusal tables negotiation message scratch k → takeOf tables negotiation message scratch ≡ refused k
   unfolding takeOf
-  refuses (size h e) = ap (λ (b : Bool). cond b (behindStanding message (R.restoreOf tables negotiation)) (refused 1)) h ∙ ap refused (sym e)
-  refuses (unrestored h e) = λ i. cond (h i) (behindStanding message (e i)) (refused 1)
+  refuses (size h e) = ap (λ (b : Bool). cond b (behindStanding message (R.restoreOf tables negotiation)) (refused LENGTH)) h ∙ ap refused (sym e)
+  refuses (unrestored h e) = λ i. cond (h i) (behindStanding message (e i)) (refused LENGTH)
   refuses (ended {T} {S} h z e) = take-ended tables negotiation message scratch T S h z ∙ ap refused (sym e)
   refuses (out-of-turn {T} {S} h z g e) = take-out-of-turn tables negotiation message scratch T S h z g ∙ ap refused (sym e)
-  refuses (stopped {T} {S} h t r) = take-commands tables negotiation message scratch T S h t ∙ ap behindCommands (stops-exactly (T .names) (senderTo S) message bytes k S .1 r)
+  refuses (stopped {T} {S} h t r) =
+      take-commands tables negotiation message scratch T S h t ∙ ap behindCommands (stops-exactly (T .names) (senderTo S) message bytes k S .1 r)
 
   -- a call is refused with k exactly where one of the reasons holds
-  pub take-refused-exactly : (takeOf tables negotiation message scratch ≡ refused k → Refusal tables negotiation message scratch k) × (Refusal tables negotiation message scratch k → takeOf tables negotiation message scratch ≡ refused k)
+  pub take-refused-exactly : (takeOf tables negotiation message scratch ≡ refused k → Refusal tables negotiation message scratch k)
+      × (Refusal tables negotiation message scratch k → takeOf tables negotiation message scratch ≡ refused k)
   take-refused-exactly = (reason, refuses)
 
 -- Numbers
@@ -219,7 +268,8 @@ legal-by ns s S (Open o) = refuse-by _ 4 _ refl (refuse-by _ 23 0 refl refl)
 legal-by ns s S (Bring n) =
     first-by (typeNumber (typeOf ns (n .expression))) _ (type-by (typeOf ns (n .expression)))
     (refuse-by _ 23 _ refl (refuse-by _ 24 _ refl (refuse-by _ 25 _ refl (refuse-by _ 26 _ refl (refuse-by _ 27 _ refl (refuse-by _ 28 0 refl refl))))))
-legal-by ns s S (Join e) = refuse-by _ 23 _ refl (refuse-by _ 24 _ refl (refuse-by _ 25 _ refl (refuse-by _ 26 _ refl (refuse-by _ 27 _ refl (refuse-by _ 28 0 refl refl)))))
+legal-by ns s S (Join e) =
+    refuse-by _ 23 _ refl (refuse-by _ 24 _ refl (refuse-by _ 25 _ refl (refuse-by _ 26 _ refl (refuse-by _ 27 _ refl (refuse-by _ 28 0 refl refl)))))
 legal-by ns s S (Mark i) = refuse-by _ 23 _ refl (refuse-by _ 24 _ refl (refuse-by _ 27 0 refl refl))
 legal-by ns s S End = refuse-by _ 23 0 refl refl
 
@@ -230,7 +280,7 @@ wrong-by {ns} {s} {S = S} (illegal c e q z) = sym (ap byCommand q) ∙ legal-by 
 -- the negotiation's length is refused by 1, the tables by their number, damage by 20
 module _ (tables negotiation : List ℕ) (k : ℕ) where
   abbrev Unrestored : Type 0
-  Unrestored = ((length negotiation ≡ 5120 → ⊥) × (k ≡ 1)) ⊎ ((readTables tables ≡ refused k) ⊎ (k ≡ 20))
+  Unrestored = ((length negotiation ≡ NEGOTIATION-BYTES → ⊥) × (k ≡ 1)) ⊎ ((readTables tables ≡ refused k) ⊎ (k ≡ 20))
 
   by-state : (T : Tables) (x : Option State) → R.behindDamage T x ≡ refused k → k ≡ 20
   by-state T O.none q = sym (ap numberOf q)
@@ -240,20 +290,22 @@ module _ (tables negotiation : List ℕ) (k : ℕ) where
   by-tables (refused j) e q = inr (inl (e ∙ ap refused (ap numberOf q)))
   by-tables (accepted T) e q = inr (inr (by-state T (readSound T negotiation) q))
 
-  by-length : (b : Bool) → eqb (length negotiation) 5120 ≡ b → cond b (R.behindTables negotiation (readTables tables)) (refused 1) ≡ refused k → Unrestored
+  by-length : (b : Bool) → eqb (length negotiation) NEGOTIATION-BYTES ≡ b
+      → cond b (R.behindTables negotiation (readTables tables)) (refused LENGTH) ≡ refused k → Unrestored
   by-length true e q = by-tables (readTables tables) refl q
-  by-length false e q = inl (eqb-false (length negotiation) 5120 e, sym (ap numberOf q))
+  by-length false e q = inl (eqb-false (length negotiation) NEGOTIATION-BYTES e, sym (ap numberOf q))
 
   unrestored-by : R.restoreOf tables negotiation ≡ refused k → Unrestored
   unfolding R.restoreOf
-  unrestored-by h = by-length (eqb (length negotiation) 5120) refl h
+  unrestored-by h = by-length (eqb (length negotiation) NEGOTIATION-BYTES) refl h
 
   unrestored-number : R.restoreOf tables negotiation ≡ refused k → (k ≤ 6) ⊎ (k ≡ 20)
   unrestored-number h = ⊎-elim (λ z. inl (omega (arith, z .1))) (λ z. ⊎-elim (λ y. inl (check-numbers tables k y .1)) (λ y. inr y) z) (unrestored-by h)
 
 module _ (tables negotiation message scratch : List ℕ) (bytes : (i : ℕ) → getD message i 0 < 256) where
   -- 22 is given to a negotiation that has ended, and to no other
-  pub ended-only : takeOf tables negotiation message scratch ≡ refused 22 → (T : Tables) × (S : State) × Stands tables negotiation message scratch T S × (S .header .end ≡ 0 → ⊥)
+  pub ended-only : takeOf tables negotiation message scratch ≡ refused 22
+      → (T : Tables) × (S : State) × Stands tables negotiation message scratch T S × (S .header .end ≡ 0 → ⊥)
   ended-only q = go (take-refused-exactly tables negotiation message scratch bytes 22 .0 q)
     where
       go : Refusal tables negotiation message scratch 22 → (T : Tables) × (S : State) × Stands tables negotiation message scratch T S × (S .header .end ≡ 0 → ⊥)
@@ -264,10 +316,13 @@ module _ (tables negotiation message scratch : List ℕ) (bytes : (i : ℕ) → 
       go (stopped h t r) = absurd (false-true (wrong-by (r .wrong)))
 
   -- 21 to a message out of turn, and to no other
-  pub turn-only : takeOf tables negotiation message scratch ≡ refused 21 → (T : Tables) × (S : State) × Stands tables negotiation message scratch T S × (S .header .end ≡ 0) × (sends (senderTo S) (S .header .messages) ≡ false)
+  pub turn-only : takeOf tables negotiation message scratch ≡ refused 21
+      → (T : Tables) × (S : State) × Stands tables negotiation message scratch T S × (S .header .end ≡ 0) × (sends (senderTo S) (S .header .messages) ≡ false)
   turn-only q = go (take-refused-exactly tables negotiation message scratch bytes 21 .0 q)
     where
-      go : Refusal tables negotiation message scratch 21 → (T : Tables) × (S : State) × Stands tables negotiation message scratch T S × (S .header .end ≡ 0) × (sends (senderTo S) (S .header .messages) ≡ false)
+      go : Refusal tables negotiation message scratch 21
+          → (T : Tables) × (S : State) × Stands tables negotiation message scratch T S × (S .header .end ≡ 0)
+          × (sends (senderTo S) (S .header .messages) ≡ false)
       go (size h e) = absurd (omega (arith, e))
       go (unrestored h e) = absurd (⊎-elim (λ z. omega (arith, z)) (λ z. omega (arith, z)) (unrestored-number tables negotiation 21 e))
       go (ended h z e) = absurd (omega (arith, e))
@@ -286,10 +341,12 @@ module _ (tables negotiation message scratch : List ℕ) (bytes : (i : ℕ) → 
       go (stopped h t r) = absurd (false-true (wrong-by (r .wrong)))
 
   -- 1 to a length: the message's or the scratch's, the negotiation's, the tables'
-  pub length-only : takeOf tables negotiation message scratch ≡ refused 1 → (messageSize (length message) (length scratch) ≡ false) ⊎ ((length negotiation ≡ 5120 → ⊥) ⊎ (readTables tables ≡ refused 1))
+  pub length-only : takeOf tables negotiation message scratch ≡ refused 1
+      → (messageSize (length message) (length scratch) ≡ false) ⊎ ((length negotiation ≡ NEGOTIATION-BYTES → ⊥) ⊎ (readTables tables ≡ refused 1))
   length-only q = go (take-refused-exactly tables negotiation message scratch bytes 1 .0 q)
     where
-      go : Refusal tables negotiation message scratch 1 → (messageSize (length message) (length scratch) ≡ false) ⊎ ((length negotiation ≡ 5120 → ⊥) ⊎ (readTables tables ≡ refused 1))
+      go : Refusal tables negotiation message scratch 1
+          → (messageSize (length message) (length scratch) ≡ false) ⊎ ((length negotiation ≡ NEGOTIATION-BYTES → ⊥) ⊎ (readTables tables ≡ refused 1))
       go (size h e) = inl h
       go (unrestored h e) = inr (⊎-elim (λ z. inl (z .0)) (λ z. ⊎-elim (λ y. inr y) (λ y. absurd (omega (arith, y))) z) (unrestored-by tables negotiation 1 e))
       go (ended h z e) = absurd (omega (arith, e))

@@ -33,6 +33,8 @@ use Rattle.take.specs.Take.{behindCommands, takenIn}
 use Rattle.damage.specs.laws.Going.{header-parts, empty-parts, by-nodes, no-nodes, going-on}
 use Rattle.numbers.specs.Answer.{Answer, refused, accepted}
 use Rattle.numbers.specs.laws.Answer.{isAccepted, valueOr}
+use Rattle.numbers.specs.Refusals.{TURN, ENDED}
+use Rattle.numbers.specs.Sizes.{MOST-MESSAGES}
 
 -- while none is counted, the mediator sends
 first-sender : (v n : ℕ) → v < 2 → n ≡ 0 → sends (otherSide v) n ≡ true → (v ≡ 1) × (otherSide v ≡ 0)
@@ -40,7 +42,9 @@ unfolding sends
 first-sender v n l z h = go (eqb v 0) refl
   where
     go : (b : Bool) → eqb v 0 ≡ b → (v ≡ 1) × (otherSide v ≡ 0)
-    go true e = absurd (let q : _≡_ {A = ℕ} 0 1 = sym (ap (λ (k : ℕ). k % 2) z) ∙ eqb-true (n % 2) 1 (sym (ap (λ (b : Bool). eqb (n % 2) (cond b 1 0)) e) ∙ h) in omega arith)
+    go true e =
+        absurd (let q : _≡_ {A = ℕ} 0 1 = sym (ap (λ (k : ℕ). k % 2) z)
+        ∙ eqb-true (n % 2) 1 (sym (ap (λ (b : Bool). eqb (n % 2) (cond b 1 0)) e) ∙ h) in omega arith)
     go false e = (omega (arith, eqb-false v 0 e), ap (λ (b : Bool). cond b 1 0) e)
 
 module _ (T : Tables) (S : State) (h : sound T S ≡ true) where
@@ -49,19 +53,26 @@ module _ (T : Tables) (S : State) (h : sound T S ≡ true) where
 
   -- what the commands of a message in turn lead to
   module _ (wi : within S ≡ true) (own : 0 < T .own) (m : List ℕ) (turn : sends (senderTo S) (S .header .messages) ≡ true) where
-    pub turn-led : (U : State) (moved : Bool) → C.commandsFrom (length m) (T .names) (senderTo S) m 0 S false ≡ accepted (U, moved) → Led (T .names) S false U moved × (length (S .nodes) ≡ 0 → moved ≡ true)
-    turn-led U moved q = ⊎-elim (λ z. first (eqb-true (length (S .nodes)) 0 z)) (λ z. let some = eqb-false (length (S .nodes)) 0 z in (commands-led (T .names) (senderTo S) m (length m) U moved 0 S false (sound-kept some) some wi q, λ y. absurd (some y))) (decided (eqb (length (S .nodes)) 0))
+    pub turn-led : (U : State) (moved : Bool) → C.commandsFrom (length m) (T .names) (senderTo S) m 0 S false ≡ accepted (U, moved)
+        → Led (T .names) S false U moved × (length (S .nodes) ≡ 0 → moved ≡ true)
+    turn-led U moved q =
+        ⊎-elim (λ z. first (eqb-true (length (S .nodes)) 0 z))
+        (λ z. let some = eqb-false (length (S .nodes)) 0 z in
+        (commands-led (T .names) (senderTo S) m (length m) U moved 0 S false (sound-kept some) some wi q, λ y. absurd (some y)))
+        (decided (eqb (length (S .nodes)) 0))
       where
         first : length (S .nodes) ≡ 0 → Led (T .names) S false U moved × (length (S .nodes) ≡ 0 → moved ≡ true)
         first z =
             let e = empty-parts (S .header) (length (S .edges)) (length (S .shown)) (no-nodes T S h z) in
             let p = header-parts (T .own) (T .names) (S .header) (by-nodes T S h) in
             let f = first-sender (S .header .side) (S .header .messages) (p .0) (e .0) turn in
-            let l = opening-led (T .names) m S (f .0) (λ y. omega (arith, own, p .1)) z (e .1) (e .2) wi (length m) 0 false U moved (sym (ap (λ (s : ℕ). C.commandsFrom (length m) (T .names) s m 0 S false) (f .1)) ∙ q) in
+            let l = opening-led (T .names) m S (f .0) (λ y. omega (arith, own, p .1)) z (e .1) (e .2) wi (length m) 0 false U moved
+            (sym (ap (λ (s : ℕ). C.commandsFrom (length m) (T .names) s m 0 S false) (f .1)) ∙ q) in
             (l .0, λ y. l .1)
 
 -- its edges have their forms
-pub led-edges : (ns : List Name) (S : State) (v : Bool) (n : Negotiation) (w : Bool) → Led ns S v (stateOf n) w → 0 < n .nodes .count → EdgesFormed (nodesOf (n .nodes)) (edgesOf (n .edges))
+pub led-edges : (ns : List Name) (S : State) (v : Bool) (n : Negotiation) (w : Bool) → Led ns S v (stateOf n) w → 0 < n .nodes .count
+    → EdgesFormed (nodesOf (n .nodes)) (edgesOf (n .edges))
 unfolding stateOf
 led-edges ns S v n w l some = edges-formed (n .header) (n .nodes) (n .edges) some (brought-fit (n .header) (n .nodes) (n .edges) (sym (l .graph .edges)) refl)
 
@@ -79,20 +90,25 @@ pub took : (m : List ℕ) (T : Tables) (S A : State) → takenIn m T S ≡ accep
 unfolding takenIn
 took m T S A h = by-end (eqb (S .header .end) 0) refl h
   where
-    by-commands : S .header .end ≡ 0 → sends (senderTo S) (S .header .messages) ≡ true → (t : Answer (State × Bool)) → C.commandsFrom (length m) (T .names) (senderTo S) m 0 S false ≡ t → behindCommands t ≡ accepted A → Took m T S A
+    by-commands : S .header .end ≡ 0 → sends (senderTo S) (S .header .messages) ≡ true → (t : Answer (State × Bool))
+        → C.commandsFrom (length m) (T .names) (senderTo S) m 0 S false ≡ t → behindCommands t ≡ accepted A → Took m T S A
     by-commands x y (refused k) e q = absurd (false-true (ap isAccepted q))
     by-commands x y (accepted (U, moved)) e q = record { going = x; turn = y; led = U; moved = moved; commands = e; after = sym (ap (valueOr S) q) }
 
-    by-turn : S .header .end ≡ 0 → (b : Bool) → sends (senderTo S) (S .header .messages) ≡ b → cond (not b) (refused 21) (behindCommands (C.commandsFrom (length m) (T .names) (senderTo S) m 0 S false)) ≡ accepted A → Took m T S A
+    by-turn : S .header .end ≡ 0 → (b : Bool) → sends (senderTo S) (S .header .messages) ≡ b
+        → cond (not b) (refused TURN) (behindCommands (C.commandsFrom (length m) (T .names) (senderTo S) m 0 S false)) ≡ accepted A → Took m T S A
     by-turn x true e q = by-commands x e (C.commandsFrom (length m) (T .names) (senderTo S) m 0 S false) refl q
     by-turn x false e q = absurd (false-true (ap isAccepted q))
 
-    by-end : (b : Bool) → eqb (S .header .end) 0 ≡ b → cond (not b) (refused 22) (cond (not (sends (senderTo S) (S .header .messages))) (refused 21) (behindCommands (C.commandsFrom (length m) (T .names) (senderTo S) m 0 S false))) ≡ accepted A → Took m T S A
+    by-end : (b : Bool) → eqb (S .header .end) 0 ≡ b
+        → cond (not b) (refused ENDED) (cond (not (sends (senderTo S) (S .header .messages))) (refused TURN)
+        (behindCommands (C.commandsFrom (length m) (T .names) (senderTo S) m 0 S false))) ≡ accepted A → Took m T S A
     by-end true e q = by-turn (eqb-true (S .header .end) 0 e) (sends (senderTo S) (S .header .messages)) refl q
     by-end false e q = absurd (false-true (ap isAccepted q))
 
 -- kept-sound for take: an accepted message leaves a negotiation that is not damaged, where the count stays within its bound
-module _ (T : Tables) (S : State) (h : sound T S ≡ true) (wi : within S ≡ true) (own : 0 < T .own) (m : List ℕ) (A : State) (k : takenIn m T S ≡ accepted A) where
+module _ (T : Tables) (S : State) (h : sound T S ≡ true) (wi : within S ≡ true) (own : 0 < T .own) (m : List ℕ) (A : State)
+    (k : takenIn m T S ≡ accepted A) where
   was : Took m T S A
   was = took m T S A k
 
@@ -107,11 +123,12 @@ module _ (T : Tables) (S : State) (h : sound T S ≡ true) (wi : within S ≡ tr
       going-on (propagated (was .led .nodes) (was .led .edges) 0) (S .header .end) (S .header .idle) (was .going)
       ((λ i. endSound (propagated (q .0 i) (q .1 i) 0) (S .header .end) (S .header .idle)) ∙ graph-parts (T .names) S (sound-some T S h n) .4)
 
-  pub taken-sound : S .header .messages < 1027 → sound T A ≡ true
+  pub taken-sound : S .header .messages < MOST-MESSAGES → sound T A ≡ true
   taken-sound few =
       let l = by-led .0 in
       ap (sound T) (was .after)
-      ∙ after-sound T (was .led) (was .moved) false (ap (headerSound (T .own) (T .names)) (l .header) ∙ by-nodes T S h) (l .graph) (l .some) (subst (λ (x : Header). x .messages < 1027) (sym (l .header)) few) unmoved
+      ∙ after-sound T (was .led) (was .moved) false (ap (headerSound (T .own) (T .names)) (l .header) ∙ by-nodes T S h) (l .graph) (l .some)
+      (subst (λ (x : Header). x .messages < MOST-MESSAGES) (sym (l .header)) few) unmoved
 
   pub taken-within : within A ≡ true
   unfolding afterMessage withHeader within

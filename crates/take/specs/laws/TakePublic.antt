@@ -15,18 +15,21 @@ use Rattle.take.specs.Commands.{commandsFrom}
 use Rattle.take.specs.Take.{behindCommands, takenIn, behindStanding, messageSize, takeOf}
 use Rattle.standing.specs.Turn.{sends, senderTo}
 use Rattle.numbers.specs.Answer.{Answer, refused, accepted}
+use Rattle.numbers.specs.Refusals.{LENGTH, TURN, ENDED}
 
 taken-public : (m : List ℕ) (T U : Tables) (S : State) → publicOf T ≡ publicOf U → takenIn m T S ≡ takenIn m U S
 unfolding takenIn publicOf
 taken-public m T U S e =
-    ap (λ (p : Public). cond (not (eqb (S .header .end) 0)) (refused 22) (cond (not (sends (senderTo S) (S .header .messages))) (refused 21) (behindCommands (commandsFrom (length m) (p .names) (senderTo S) m 0 S false)))) e
+    ap (λ (p : Public). cond (not (eqb (S .header .end) 0)) (refused ENDED)
+    (cond (not (sends (senderTo S) (S .header .messages))) (refused TURN) (behindCommands (commandsFrom (length m) (p .names) (senderTo S) m 0 S false)))) e
 
 pub take-public : (s t : List ℕ) (T U : Tables) → readTables s ≡ accepted T → readTables t ≡ accepted U → publicOf T ≡ publicOf U
     → (negotiation message scratch : List ℕ) → takeOf s negotiation message scratch ≡ takeOf t negotiation message scratch
 unfolding takeOf
 take-public s t T U h k e negotiation message scratch =
-    ap (λ (o : Answer State). cond (messageSize (length message) (length scratch)) o (refused 1)) (go (P.restore-alike T U e s t h k negotiation))
+    ap (λ (o : Answer State). cond (messageSize (length message) (length scratch)) o (refused LENGTH)) (go (P.restore-alike T U e s t h k negotiation))
   where
-    go : P.Alike T U (restoreOf s negotiation) (restoreOf t negotiation) → behindStanding message (restoreOf s negotiation) ≡ behindStanding message (restoreOf t negotiation)
+    go : P.Alike T U (restoreOf s negotiation) (restoreOf t negotiation)
+        → behindStanding message (restoreOf s negotiation) ≡ behindStanding message (restoreOf t negotiation)
     go (P.both-refused n a b) = ap (behindStanding message) a ∙ sym (ap (behindStanding message) b)
     go (P.both-found S a b) = ap (behindStanding message) a ∙ taken-public message T U S e ∙ sym (ap (behindStanding message) b)

@@ -1,6 +1,7 @@
 -- A word as a set of numbers: the bits of the operations on words. Assumes nothing.
 use Prim.Native.Nat.{ℕ, zero, suc, _+_, _*_, _-_, _/_, _%_, _^_, _≤_, _<_}
-use native.Mathlib.Nat.{mod-lt, div-one, add-zero, mul-one, one-mul, zero-div, div-eq-of-lt, div-lt-iff-lt-mul, zero-lt-suc, div-div-eq-div-mul, pow-suc, pow-succ', mul-mod-left, mul-assoc, suc-mul, lt-of-lt-of-le}
+use native.Mathlib.Nat.{mod-lt, div-one, add-zero, mul-one, one-mul, zero-div, div-eq-of-lt, div-lt-iff-lt-mul, zero-lt-suc, div-div-eq-div-mul, pow-suc}
+use native.Mathlib.Nat.{pow-succ', mul-mod-left, mul-assoc, suc-mul, lt-of-lt-of-le}
 use native.Mathlib.Omega.{arith}
 use mathlib.Core.Path.{_≡_, refl, sym, _∙_, ap, ap₂, subst}
 use mathlib.Core.Bool.{Bool, true, false, _&&_, _||_, not}
@@ -8,7 +9,8 @@ use borrow.Author.Tests.{eqb-true, eq-eqb, ne-eqb}
 use lib.Dec.{eqb, ltb}
 use lib.Pow.{pow-add, pow-pos, pow-mono, pow-lt, shl-shr, split}
 use lib.Count.{trailingZeros, under}
-use lib.Bits.{bitAnd, bitOr, bitXor, and-shr, or-shr, xor-shr, and-mod, or-mod, xor-mod, and-le-r, or-add-and, xor-add-and, and-block, and-mask, and-zero-r, and-self}
+use lib.Bits.{bitAnd, bitOr, bitXor, and-shr, or-shr, xor-shr, and-mod, or-mod, xor-mod, and-le-r, or-add-and, xor-add-and, and-block, and-mask}
+use lib.Bits.{and-zero-r, and-self}
 use Rattle.word.specs.laws.Bools.{false-true}
 
 -- whether i is in the set w
@@ -161,7 +163,8 @@ none-below-one q h k = omega arith
 tz-odd : (d q : ℕ) → 0 < q → q < 2 ^ d → q / 2 ^ trailingZeros d q % 2 ≡ 1
 unfolding trailingZeros
 tz-odd zero q h k = absurd (none-below-one q h k)
-tz-odd (suc d) q h k = go (q % 2) refl (λ (e : q % 2 ≡ 0). tz-odd d (q / 2) (half-pos q h e) (div-lt-iff-lt-mul (zero-lt-suc 1) .1 (subst (λ (x : ℕ). q < x) (pow-suc 2 d) k)))
+tz-odd (suc d) q h k =
+    go (q % 2) refl (λ (e : q % 2 ≡ 0). tz-odd d (q / 2) (half-pos q h e) (div-lt-iff-lt-mul (zero-lt-suc 1) .1 (subst (λ (x : ℕ). q < x) (pow-suc 2 d) k)))
   where
     go : (r : ℕ) → q % 2 ≡ r → (q % 2 ≡ 0 → q / 2 / 2 ^ trailingZeros d (q / 2) % 2 ≡ 1) → q / 2 ^ under r (trailingZeros d (q / 2)) % 2 ≡ 1
     go zero e ih =

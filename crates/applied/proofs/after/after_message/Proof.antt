@@ -5,7 +5,9 @@ use Rattle.applied.proofs.after.after_message.Statement.{statement}
 use Rattle.applied.proofs.after.after_message.Tie as tie
 
 state-of-requires : tie.Need-state-of-requires
-state-of-requires c κs = ((c .before .before .before .pre .1), within-few _ (c .before .before .before .pre .0) .0, within-few _ (c .before .before .before .pre .0) .1, (c .before .before .before .pre .3), (c .before .before .before .pre .4))
+state-of-requires c κs =
+    let c3 = c .before .before .before in
+    ((c3 .pre .1), within-few _ (c3 .pre .0) .0, within-few _ (c3 .pre .0) .1, (c3 .pre .3), (c3 .pre .4))
 
 returns : tie.Need-returns
 returns c = after-is _ _ _ _ (c .before .before .state-of .ensures) (c .before .header-after .ensures) (c .with-header .ensures)

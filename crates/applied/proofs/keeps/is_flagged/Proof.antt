@@ -12,7 +12,9 @@ sized : (c : tie.Start) → length (c .args .t1) ≡ 128
 sized c = search needs
 
 returns : tie.Need-returns
-returns c = past-none (c .before .before .args .t1) (c .before .before .args .i) (sized (c .before .before)) (omega (arith, (c .before .wide .ensures), (c .if1 .taken)))
+returns c =
+    past-none (c .before .before .args .t1) (c .before .before .args .i) (sized (c .before .before))
+    (omega (arith, (c .before .wide .ensures), (c .if1 .taken)))
 
 array-read-result : tie.Need-array-read-result
 array-read-result c = omega (arith, (c .wide2 .ensures), (c .before .before .wide .ensures), (c .before .if1 .left))

@@ -28,7 +28,10 @@ loop-less : tie.Need-loop-less Inv-loop μ-loop
 loop-less c = omega (arith, (c .before .before .before .before .loop-test .taken))
 
 loop-again : tie.Need-loop-again Inv-loop μ-loop
-loop-again c = (inside-add _ _ _ (c .before .before .before .before .before .loop .inv .0) (omega (arith, (c .before .before .wide .ensures), (c .if1 .left))), omega (arith, (c .before .before .before .before .loop-test .taken)))
+loop-again c = (
+  inside-add _ _ _ (c .before .before .before .before .before .loop .inv .0) (omega (arith, (c .before .before .wide .ensures), (c .if1 .left))),
+  omega (arith, (c .before .before .before .before .loop-test .taken)),
+)
 
 returns-2 : tie.Need-returns-2 Inv-loop μ-loop
 returns-2 c = λ h. inside-all _ _ _ (omega (arith, (c .loop-test .left))) (c .before .loop .inv .0)

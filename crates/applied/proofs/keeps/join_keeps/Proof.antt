@@ -11,7 +11,13 @@ node-of-requires : tie.Need-node-of-requires
 node-of-requires c κs = (omega (arith, (c .before .before .wide .ensures), (c .if1 .left)), (c .before .before .before .pre))
 
 returns-2 : tie.Need-returns-2
-returns-2 c = join-keeps _ _ _ (omega (arith, (c .before .before .before .before .before .before .wide .ensures), (c .before .before .before .before .if1 .left))) (c .before .before .before .node-of .ensures) (c .before .before .is-flagged .ensures) (c .before .is-flagged2 .ensures) (c .brings-nothing .ensures)
+returns-2 c =
+    join-keeps _ _ _ (omega (
+      arith,
+      (c .before .before .before .before .before .before .wide .ensures),
+      (c .before .before .before .before .if1 .left),
+    )) (c .before .before .before .node-of .ensures) (c .before .before .is-flagged .ensures)
+    (c .before .is-flagged2 .ensures) (c .brings-nothing .ensures)
 
 pub join-keeps-spec : {M : Type 1} → statement M
 join-keeps-spec =

@@ -31,7 +31,11 @@ loop-less : tie.Need-loop-less Inv-loop μ-loop
 loop-less c = omega (arith, c .before .before .before .loop-test .taken)
 
 loop-again : tie.Need-loop-again Inv-loop μ-loop
-loop-again c = (added-next (c .before .before .before .before .loop .inv .0) (omega (arith, c .before .before .before .loop-test .taken, c .before .before .before .before .before .pre .0)) refl (c .flag-of .ensures) refl, omega (arith, c .before .before .before .loop-test .taken))
+loop-again c = (
+  added-next (c .before .before .before .before .loop .inv .0)
+      (omega (arith, c .before .before .before .loop-test .taken, c .before .before .before .before .before .pre .0)) refl (c .flag-of .ensures) refl,
+  omega (arith, c .before .before .before .loop-test .taken),
+)
 
 returns : tie.Need-returns Inv-loop μ-loop
 returns c = added-count (c .before .loop .inv .0) (c .loop-test .left) (c .before .loop .inv .1)

@@ -9,7 +9,8 @@ use Rattle.candidates.proofs.all.found_from_all.Statement.{statement}
 use Rattle.candidates.proofs.all.found_from_all.Tie as tie
 
 abbrev Inv-loop : tie.InvT-loop
-Inv-loop m heads kinds numbers on stop flags r all₀ k₀ all k = Collected (poolOf m heads kinds numbers) on stop flags r k all × (k ≤ m) × (k < m → flag flags k ≡ true)
+Inv-loop m heads kinds numbers on stop flags r all₀ k₀ all k =
+    Collected (poolOf m heads kinds numbers) on stop flags r k all × (k ≤ m) × (k < m → flag flags k ≡ true)
 
 abbrev μ-loop : tie.MeasureT-loop
 μ-loop m heads kinds numbers on stop flags r all₀ k₀ all k = m - k
@@ -36,7 +37,17 @@ loop-less : tie.Need-loop-less Inv-loop μ-loop
 loop-less c = let s = c .next-flagged2 .ensures in omega (arith, s .0 .from, s .0 .within, c .before .before .before .before .loop-test .taken)
 
 loop-again : tie.Need-loop-again Inv-loop μ-loop
-loop-again c = let s = c .next-flagged2 .ensures in (collected-skip _ _ _ _ _ (collected-next _ _ _ _ _ (c .before .before .before .before .before .loop .inv .0) (c .before .before .before .before .before .loop .inv .2 (c .before .before .before .before .loop-test .taken)) (c .before .before .before .body-at .ensures) (c .before .add-found .ensures)) (s .0), s .0 .within, s .1)
+loop-again c =
+    let c3 = c .before .before .before in
+    let c4 = c3 .before in
+    let c5 = c4 .before in
+    let s = c .next-flagged2 .ensures in (
+      collected-skip _ _ _ _ _
+          (collected-next _ _ _ _ _ (c5 .loop .inv .0) (c5 .loop .inv .2 (c4 .loop-test .taken)) (c3 .body-at .ensures) (c .before .add-found .ensures))
+          (s .0),
+      s .0 .within,
+      s .1,
+    )
 
 returns : tie.Need-returns Inv-loop μ-loop
 returns c = collected-count _ _ _ _ _ (c .before .loop .inv .0) (c .loop-test .left) (c .before .loop .inv .1)

@@ -13,7 +13,9 @@ use Rattle.candidates.proofs.all.with_roles.Statement.{statement}
 use Rattle.candidates.proofs.all.with_roles.Tie as tie
 
 abbrev Inv-loop : tie.InvT-loop
-Inv-loop m heads kinds numbers flags nodes edges i n r best₀ k₀ best k = (best ≡ folded k (offerRoles (isDone (nodesOf nodes) (edgesOf edges) i) (poolOf m heads kinds numbers) flags n r) best₀) × (k ≤ m) × (k < m → flag flags k ≡ true)
+Inv-loop m heads kinds numbers flags nodes edges i n r best₀ k₀ best k =
+    (best ≡ folded k (offerRoles (isDone (nodesOf nodes) (edgesOf edges) i) (poolOf m heads kinds numbers) flags n r) best₀) × (k ≤ m)
+    × (k < m → flag flags k ≡ true)
 
 abbrev μ-loop : tie.MeasureT-loop
 μ-loop m heads kinds numbers flags nodes edges i n r best₀ k₀ best k = m - k
@@ -22,7 +24,12 @@ next-flagged-requires : tie.Need-next-flagged-requires Inv-loop μ-loop
 next-flagged-requires c κs = (c .pre .0, omega arith)
 
 loop-holds : tie.Need-loop-holds Inv-loop μ-loop
-loop-holds c = let s = c .next-flagged .ensures in (folded-skip _ _ (folded-start _ _) (s .0 .from) (λ j l h x. roles-skip _ _ _ _ _ j (s .0 .none j l h) x), s .0 .within, s .1)
+loop-holds c =
+    let s = c .next-flagged .ensures in (
+      folded-skip _ _ (folded-start _ _) (s .0 .from) (λ j l h x. roles-skip _ _ _ _ _ j (s .0 .none j l h) x),
+      s .0 .within,
+      s .1,
+    )
 
 body-at-requires : tie.Need-body-at-requires Inv-loop μ-loop
 body-at-requires c κs = omega (arith, c .before .before .before .pre .0, c .loop-test .taken)
@@ -40,7 +47,16 @@ loop-less : tie.Need-loop-less Inv-loop μ-loop
 loop-less c = let s = c .next-flagged2 .ensures in omega (arith, s .0 .from, s .0 .within, c .before .before .before .loop-test .taken)
 
 loop-again : tie.Need-loop-again Inv-loop μ-loop
-loop-again c = let s = c .next-flagged2 .ensures in (folded-skip _ _ (folded-next _ _ (c .before .before .before .before .loop .inv .0) (roles-taken _ _ _ _ _ _ _ (c .before .before .before .before .loop .inv .2 (c .before .before .before .loop-test .taken)) (c .before .before .body-at .ensures) (c .before .with-role .ensures))) (s .0 .from) (λ j l h x. roles-skip _ _ _ _ _ j (s .0 .none j l h) x), s .0 .within, s .1)
+loop-again c =
+    let c3 = c .before .before .before in
+    let c4 = c3 .before in
+    let s = c .next-flagged2 .ensures in (
+      folded-skip _ _
+          (folded-next _ _ (c4 .loop .inv .0) (roles-taken _ _ _ _ _ _ _ (c4 .loop .inv .2 (c3 .loop-test .taken)) (c .before .before .body-at .ensures)
+          (c .before .with-role .ensures))) (s .0 .from) (λ j l h x. roles-skip _ _ _ _ _ j (s .0 .none j l h) x),
+      s .0 .within,
+      s .1,
+    )
 
 returns : tie.Need-returns Inv-loop μ-loop
 returns c = folded-all _ _ (c .before .loop .inv .0) (c .loop-test .left) (c .before .loop .inv .1)

@@ -5,13 +5,27 @@ use Rattle.candidates.proofs.done.is_done.Statement.{statement}
 use Rattle.candidates.proofs.done.is_done.Tie as tie
 
 returns : tie.Need-returns
-returns c = done-absent _ _ _ _ (nodes-length (c .before .before .before .before .before .before .before .before .before .before .before .before .before .before .before .before .args .t1)) (c .before .find-node .ensures) (c .if1 .taken)
+returns c =
+    let c14 = c .before .before .before .before .before .before .before .before .before .before .before .before .before .before in
+    let c16 = c14 .before .before in
+    done-absent _ _ _ _ (nodes-length (c16 .args .t1)) (c .before .find-node .ensures) (c .if1 .taken)
 
 returns-2 : tie.Need-returns-2
-returns-2 c = done-self _ _ _ _ (nodes-length (c .before .before .before .before .before .before .before .before .before .before .before .before .before .before .before .before .before .before .args .t1)) (c .before .before .before .find-node .ensures) (c .before .before .if1 .left) (c .before .wide .ensures) (c .if2 .taken)
+returns-2 c =
+    let c3 = c .before .before .before in
+    let c17 = c3 .before .before .before .before .before .before .before .before .before .before .before .before .before .before in
+    let c18 = c17 .before in
+    done-self _ _ _ _ (nodes-length (c18 .args .t1)) (c3 .find-node .ensures) (c .before .before .if1 .left) (c .before .wide .ensures) (c .if2 .taken)
 
 returns-3 : tie.Need-returns-3
-returns-3 c = done-edge _ _ _ _ (nodes-length (c .before .before .before .before .before .before .before .before .before .before .before .before .before .before .before .before .before .before .before .before .before .before .before .args .t1)) (c .before .before .before .before .before .before .before .before .find-node .ensures) (c .before .before .before .before .before .before .before .if1 .left) (c .before .before .before .before .before .before .wide .ensures) (c .before .before .before .before .before .if2 .left) (c .has-edge .ensures)
+returns-3 c =
+    let c5 = c .before .before .before .before .before in
+    let c6 = c5 .before in
+    let c7 = c6 .before in
+    let c8 = c7 .before in
+    let c22 = c8 .before .before .before .before .before .before .before .before .before .before .before .before .before .before in
+    let c23 = c22 .before in
+    done-edge _ _ _ _ (nodes-length (c23 .args .t1)) (c8 .find-node .ensures) (c7 .if1 .left) (c6 .wide .ensures) (c5 .if2 .left) (c .has-edge .ensures)
 
 pub is-done-spec : {M : Type 1} → statement M
 is-done-spec =

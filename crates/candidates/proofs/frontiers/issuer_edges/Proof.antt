@@ -4,7 +4,9 @@ use Rattle.candidates.proofs.frontiers.issuer_edges.Statement.{statemen
 use Rattle.candidates.proofs.frontiers.issuer_edges.Tie as tie
 
 returns : tie.Need-returns
-returns c = let s = c .before .before .before .before .before .before .before .before in issuer-first (s .args .t1) (s .pre .0) _ (s .args .x) (s .args .a) (c .with-frontier .ensures)
+returns c =
+    let c8 = c .before .before .before .before .before .before .before .before in
+    let s = c8 in issuer-first (s .args .t1) (s .pre .0) _ (s .args .x) (s .args .a) (c .with-frontier .ensures)
 
 pub issuer-edges-spec : {M : Type 1} → statement M
 issuer-edges-spec = tie.close (tie.spec (λ c κs. search needs) returns)

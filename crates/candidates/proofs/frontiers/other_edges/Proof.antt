@@ -4,7 +4,9 @@ use Rattle.candidates.proofs.frontiers.other_edges.Statement.{statement
 use Rattle.candidates.proofs.frontiers.other_edges.Tie as tie
 
 returns : tie.Need-returns
-returns c = let s = c .before .before .before .before .before .before .before .before in simp-first (s .args .t1) (s .pre .0) _ (s .args .x) (s .args .a) (c .to-subject .ensures)
+returns c =
+    let s = c .before .before .before .before .before .before .before .before in simp-first (s .args .t1) (s .pre .0) _ (s .args .x) (s .args .a)
+    (c .to-subject .ensures)
 
 pub other-edges-spec : {M : Type 1} → statement M
 other-edges-spec = tie.close (tie.spec (λ c κs. search needs) returns)

@@ -4,7 +4,9 @@ use Rattle.candidates.proofs.frontiers.plain_edges.Statement.{statement
 use Rattle.candidates.proofs.frontiers.plain_edges.Tie as tie
 
 returns : tie.Need-returns
-returns c = let s = c .before .before .before .before .before .before .before .before in sens-first (s .args .t1) (s .pre .0) _ (s .args .x) (s .args .a) (s .pre .3) (c .to-subject .ensures)
+returns c =
+    let c8 = c .before .before .before .before .before .before .before .before in
+    let s = c8 in sens-first (s .args .t1) (s .pre .0) _ (s .args .x) (s .args .a) (s .pre .3) (c .to-subject .ensures)
 
 pub plain-edges-spec : {M : Type 1} → statement M
 plain-edges-spec = tie.close (tie.spec (λ c κs. search needs) returns)

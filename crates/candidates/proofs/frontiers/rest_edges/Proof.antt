@@ -4,7 +4,9 @@ use Rattle.candidates.proofs.frontiers.rest_edges.Statement.{statement}
 use Rattle.candidates.proofs.frontiers.rest_edges.Tie as tie
 
 returns : tie.Need-returns
-returns c = let s = c .before .before .before .before .before .before .before .before in rest-first (s .args .t1) (s .pre .0) _ (s .args .x) (s .args .a) (c .with-frontier .ensures)
+returns c =
+    let c8 = c .before .before .before .before .before .before .before .before in
+    let s = c8 in rest-first (s .args .t1) (s .pre .0) _ (s .args .x) (s .args .a) (c .with-frontier .ensures)
 
 pub rest-edges-spec : {M : Type 1} → statement M
 rest-edges-spec = tie.close (tie.spec (λ c κs. search needs) returns)

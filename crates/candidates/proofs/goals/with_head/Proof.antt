@@ -5,13 +5,25 @@ use Rattle.candidates.proofs.goals.with_head.Statement.{statement}
 use Rattle.candidates.proofs.goals.with_head.Tie as tie
 
 returns : tie.Need-returns
-returns c = let s = c .before .before in head-off _ (poolOf (s .args .m) (s .args .heads .now) (s .args .kinds .now) (s .args .numbers .now)) (s .args .on .now) (s .args .n) (s .args .r) (s .args .best) (s .args .k) (c .if1 .taken)
+returns c =
+    let s = c .before .before in head-off _ (poolOf (s .args .m) (s .args .heads .now) (s .args .kinds .now) (s .args .numbers .now))
+    (s .args .on .now) (s .args .n) (s .args .r) (s .args .best) (s .args .k) (c .if1 .taken)
 
 returns-2 : tie.Need-returns-2
-returns-2 c = let s = c .before .before .before .before .before in head-other _ (poolOf (s .args .m) (s .args .heads .now) (s .args .kinds .now) (s .args .numbers .now)) (s .args .on .now) (s .args .n) (s .args .r) (s .args .best) (s .args .k) (c .before .before .before .if1 .left) (c .before .before .head-at .ensures) (c .if2 .taken)
+returns-2 c =
+    let c3 = c .before .before .before in
+    let c5 = c3 .before .before in
+    let s = c5 in head-other _ (poolOf (s .args .m) (s .args .heads .now) (s .args .kinds .now) (s .args .numbers .now)) (s .args .on .now)
+    (s .args .n) (s .args .r) (s .args .best) (s .args .k) (c3 .if1 .left) (c .before .before .head-at .ensures) (c .if2 .taken)
 
 returns-3 : tie.Need-returns-3
-returns-3 c = let s = c .before .before .before .before .before .before .before in head-edge _ (poolOf (s .args .m) (s .args .heads .now) (s .args .kinds .now) (s .args .numbers .now)) (s .args .on .now) (s .args .n) (s .args .r) (s .args .best) (s .args .k) (c .before .before .before .before .before .if1 .left) (c .before .before .before .before .head-at .ensures) (c .before .before .if2 .left) (c .before .child-for .ensures) (c .better .ensures)
+returns-3 c =
+    let c4 = c .before .before .before .before in
+    let c5 = c4 .before in
+    let c7 = c5 .before .before in
+    let s = c7 in head-edge _ (poolOf (s .args .m) (s .args .heads .now) (s .args .kinds .now) (s .args .numbers .now)) (s .args .on .now)
+    (s .args .n) (s .args .r) (s .args .best) (s .args .k) (c5 .if1 .left) (c4 .head-at .ensures) (c .before .before .if2 .left)
+    (c .before .child-for .ensures) (c .better .ensures)
 
 pub with-head-spec : {M : Type 1} → statement M
 with-head-spec =

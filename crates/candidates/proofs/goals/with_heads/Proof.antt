@@ -10,7 +10,9 @@ use Rattle.candidates.proofs.goals.with_heads.Statement.{statement}
 use Rattle.candidates.proofs.goals.with_heads.Tie as tie
 
 abbrev Inv-loop : tie.InvT-loop
-Inv-loop m heads kinds numbers on nodes edges i n r best₀ k₀ best k = (best ≡ folded k (offer (isDone (nodesOf nodes) (edgesOf edges) i) (isNamedHead (poolOf m heads kinds numbers) on r) (headEdge (poolOf m heads kinds numbers) n)) best₀) × (k ≤ m)
+Inv-loop m heads kinds numbers on nodes edges i n r best₀ k₀ best k =
+    (best ≡ folded k (offer (isDone (nodesOf nodes) (edgesOf edges) i) (isNamedHead (poolOf m heads kinds numbers) on r)
+    (headEdge (poolOf m heads kinds numbers) n)) best₀) × (k ≤ m)
 
 abbrev μ-loop : tie.MeasureT-loop
 μ-loop m heads kinds numbers on nodes edges i n r best₀ k₀ best k = m - k

@@ -6,10 +6,16 @@ use Rattle.candidates.proofs.goals.with_pair.Statement.{statement}
 use Rattle.candidates.proofs.goals.with_pair.Tie as tie
 
 returns : tie.Need-returns
-returns c = let s = c .before .before .before .before in pair-other _ (pairsFrom (s .args .q) (s .args .roles .now) (s .args .others .now)) (s .args .n) (s .args .r) (s .args .best) (s .args .k) refl (c .if1 .taken)
+returns c =
+    let c4 = c .before .before .before .before in
+    let s = c4 in pair-other _ (pairsFrom (s .args .q) (s .args .roles .now) (s .args .others .now)) (s .args .n) (s .args .r) (s .args .best)
+    (s .args .k) refl (c .if1 .taken)
 
 returns-2 : tie.Need-returns-2
-returns-2 c = let s = c .before .before .before .before .before .before in pair-edge _ (pairsFrom (s .args .q) (s .args .roles .now) (s .args .others .now)) (s .args .n) (s .args .r) (s .args .best) (s .args .k) refl (c .before .before .if1 .left) (c .before .child-for .ensures) (c .better .ensures)
+returns-2 c =
+    let c6 = c .before .before .before .before .before .before in
+    let s = c6 in pair-edge _ (pairsFrom (s .args .q) (s .args .roles .now) (s .args .others .now)) (s .args .n) (s .args .r) (s .args .best)
+    (s .args .k) refl (c .before .before .if1 .left) (c .before .child-for .ensures) (c .better .ensures)
 
 pub with-pair-spec : {M : Type 1} → statement M
 with-pair-spec =

@@ -10,7 +10,9 @@ use Rattle.candidates.proofs.goals.with_pairs.Statement.{statement}
 use Rattle.candidates.proofs.goals.with_pairs.Tie as tie
 
 abbrev Inv-loop : tie.InvT-loop
-Inv-loop q roles others nodes edges i n r best₀ k₀ best k = (best ≡ folded k (offer (isDone (nodesOf nodes) (edgesOf edges) i) (isNamedPair (pairsFrom q roles others) r) (pairEdge (pairsFrom q roles others) n)) best₀) × (k ≤ q)
+Inv-loop q roles others nodes edges i n r best₀ k₀ best k =
+    (best ≡ folded k (offer (isDone (nodesOf nodes) (edgesOf edges) i) (isNamedPair (pairsFrom q roles others) r)
+    (pairEdge (pairsFrom q roles others) n)) best₀) × (k ≤ q)
 
 abbrev μ-loop : tie.MeasureT-loop
 μ-loop q roles others nodes edges i n r best₀ k₀ best k = q - k

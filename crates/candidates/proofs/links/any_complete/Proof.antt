@@ -10,7 +10,8 @@ use Rattle.candidates.proofs.links.any_complete.Statement.{statement}
 use Rattle.candidates.proofs.links.any_complete.Tie as tie
 
 abbrev Inv-loop : tie.InvT-loop
-Inv-loop sat failed i nodes edges m j₀ j = Missed (isCompleteAt nodes edges i) (λ k. k) j × (j ≤ m) × (j < m → isMonitor (edges .kind) (edges .parent) i j ≡ true)
+Inv-loop sat failed i nodes edges m j₀ j =
+    Missed (isCompleteAt nodes edges i) (λ k. k) j × (j ≤ m) × (j < m → isMonitor (edges .kind) (edges .parent) i j ≡ true)
 
 abbrev μ-loop : tie.MeasureT-loop
 μ-loop sat failed i nodes edges m j₀ j = m - j
@@ -19,28 +20,81 @@ next-monitor-requires : tie.Need-next-monitor-requires Inv-loop μ-loop
 next-monitor-requires c κs = (c .before .before .before .pre .1, omega arith)
 
 loop-holds : tie.Need-loop-holds Inv-loop μ-loop
-loop-holds c = let s = c .next-monitor .ensures in (missed-skip _ (missed-start _ _) (λ j l h. complete-skip _ _ _ j (s .skipped .none j l h)), s .skipped .within, s .passes)
+loop-holds c =
+    let s = c .next-monitor .ensures in (
+      missed-skip _ (missed-start _ _) (λ j l h. complete-skip _ _ _ j (s .skipped .none j l h)),
+      s .skipped .within,
+      s .passes,
+    )
 
 element-copy-out-wide : tie.Need-element-copy-out-wide Inv-loop μ-loop
 element-copy-out-wide c = omega (arith, c .before .before .before .before .before .before .pre .1, c .loop-test .taken)
 
 is-complete-requires : tie.Need-is-complete-requires Inv-loop μ-loop
-is-complete-requires c κs = let s = c .before .before .before .before .before .before .before .before .before .before .before .before .before .before .before .before .before .before .before .before .before .before .before .before .before .before in (child-inside (s .args .t1) (s .args .t2) (s .pre .2) (c .before .before .before .before .before .before .before .before .before .before .before .before .before .before .before .before .before .before .before .before .before .loop .j) (c .before .before .before .before .before .before .before .before .before .before .before .before .before .before .before .before .before .before .before .before .loop-test .taken) (c .before .before .before .before .before .before .before .before .before .before .before .before .before .before .before .before .before .before .wide .ensures), s .pre .0, s .pre .1, s .pre .3)
+is-complete-requires c κs =
+    let c14 = c .before .before .before .before .before .before .before .before .before .before .before .before .before .before in
+    let c18 = c14 .before .before .before .before in
+    let c20 = c18 .before .before in
+    let c21 = c20 .before in
+    let c26 = c21 .before .before .before .before .before in
+    let s = c26 in (
+      child-inside (s .args .t1) (s .args .t2) (s .pre .2) (c21 .loop .j) (c20 .loop-test .taken) (c18 .wide .ensures),
+      s .pre .0,
+      s .pre .1,
+      s .pre .3,
+    )
 
 returns : tie.Need-returns Inv-loop μ-loop
-returns c = any-at (c .before .before .before .before .before .before .before .before .before .before .before .before .before .before .before .before .before .before .before .before .before .before .before .before .before .before .before .before .args .t2 .count) (c .before .before .before .before .before .before .before .before .before .before .before .before .before .before .before .before .before .before .before .before .before .before .before .loop .inv .0) (c .before .before .before .before .before .before .before .before .before .before .before .before .before .before .before .before .before .before .before .before .before .before .loop-test .taken) (complete-goal _ _ _ _ (c .before .before .before .before .before .before .before .before .before .before .before .before .before .before .before .before .before .before .before .before .before .before .before .loop .inv .2 (c .before .before .before .before .before .before .before .before .before .before .before .before .before .before .before .before .before .before .before .before .before .before .loop-test .taken)) (c .before .before .before .before .before .before .before .before .before .before .before .before .before .before .before .before .before .before .before .before .wide .ensures) (c .before .is-complete .ensures)) (c .if1 .taken)
+returns c =
+    let c14 = c .before .before .before .before .before .before .before .before .before .before .before .before .before .before in
+    let c20 = c14 .before .before .before .before .before .before in
+    let c22 = c20 .before .before in
+    let c23 = c22 .before in
+    let c28 = c23 .before .before .before .before .before in
+    any-at (c28 .args .t2 .count) (c23 .loop .inv .0) (c22 .loop-test .taken)
+    (complete-goal _ _ _ _ (c23 .loop .inv .2 (c22 .loop-test .taken)) (c20 .wide .ensures) (c .before .is-complete .ensures)) (c .if1 .taken)
 
 add-next-monitor : tie.Need-add-next-monitor Inv-loop μ-loop
-add-next-monitor c = omega (arith, c .before .before .before .before .before .before .before .before .before .before .before .before .before .before .before .before .before .before .before .before .before .before .before .before .before .loop-test .taken, c .before .before .before .before .before .before .before .before .before .before .before .before .before .before .before .before .before .before .before .before .before .before .before .before .before .before .before .before .before .before .before .pre .1)
+add-next-monitor c =
+    omega (
+      arith,
+      c .before .before .before .before .before .before .before .before .before .before .before .before .before .before .before .before .before .before .before .before .before .before .before .before .before .loop-test .taken,
+      c .before .before .before .before .before .before .before .before .before .before .before .before .before .before .before .before .before .before .before .before .before .before .before .before .before .before .before .before .before .before .before .pre .1,
+    )
 
 next-monitor-requires-2 : tie.Need-next-monitor-requires-2 Inv-loop μ-loop
-next-monitor-requires-2 c κs = (c .before .before .before .before .before .before .before .before .before .before .before .before .before .before .before .before .before .before .before .before .before .before .before .before .before .before .before .before .before .before .before .pre .1, omega (arith, c .before .before .before .before .before .before .before .before .before .before .before .before .before .before .before .before .before .before .before .before .before .before .before .before .before .loop-test .taken))
+next-monitor-requires-2 c κs = (
+  c .before .before .before .before .before .before .before .before .before .before .before .before .before .before .before .before .before .before .before .before .before .before .before .before .before .before .before .before .before .before .before .pre .1,
+  omega (
+    arith,
+    c .before .before .before .before .before .before .before .before .before .before .before .before .before .before .before .before .before .before .before .before .before .before .before .before .before .loop-test .taken,
+  ),
+)
 
 loop-less : tie.Need-loop-less Inv-loop μ-loop
-loop-less c = let s = c .next-monitor2 .ensures .skipped in omega (arith, s .from, s .within, c .before .before .before .before .before .before .before .before .before .before .before .before .before .before .before .before .before .before .before .before .before .before .before .before .before .before .loop-test .taken)
+loop-less c =
+    let s = c .next-monitor2 .ensures .skipped in omega (
+      arith,
+      s .from,
+      s .within,
+      c .before .before .before .before .before .before .before .before .before .before .before .before .before .before .before .before .before .before .before .before .before .before .before .before .before .before .loop-test .taken,
+    )
 
 loop-again : tie.Need-loop-again Inv-loop μ-loop
-loop-again c = let s = c .next-monitor2 .ensures in (missed-skip _ (missed-more (c .before .before .before .before .before .before .before .before .before .before .before .before .before .before .before .before .before .before .before .before .before .before .before .before .before .before .before .loop .inv .0) (complete-goal _ _ _ _ (c .before .before .before .before .before .before .before .before .before .before .before .before .before .before .before .before .before .before .before .before .before .before .before .before .before .before .before .loop .inv .2 (c .before .before .before .before .before .before .before .before .before .before .before .before .before .before .before .before .before .before .before .before .before .before .before .before .before .before .loop-test .taken)) (c .before .before .before .before .before .before .before .before .before .before .before .before .before .before .before .before .before .before .before .before .before .before .before .before .wide .ensures) (c .before .before .before .before .before .is-complete .ensures)) (c .before .before .before .before .if1 .left)) (λ j l h. complete-skip _ _ _ j (s .skipped .none j l h)), s .skipped .within, s .passes)
+loop-again c =
+    let c4 = c .before .before .before .before in
+    let c5 = c4 .before in
+    let c19 = c5 .before .before .before .before .before .before .before .before .before .before .before .before .before .before in
+    let c24 = c19 .before .before .before .before .before in
+    let c26 = c24 .before .before in
+    let c27 = c26 .before in
+    let s = c .next-monitor2 .ensures in (
+      missed-skip _
+          (missed-more (c27 .loop .inv .0) (complete-goal _ _ _ _ (c27 .loop .inv .2 (c26 .loop-test .taken)) (c24 .wide .ensures)
+          (c5 .is-complete .ensures)) (c4 .if1 .left)) (λ j l h. complete-skip _ _ _ j (s .skipped .none j l h)),
+      s .skipped .within,
+      s .passes,
+    )
 
 returns-2 : tie.Need-returns-2 Inv-loop μ-loop
 returns-2 c = any-none (c .before .before .before .before .before .before .args .t2 .count) (c .before .loop .inv .0) (c .loop-test .left)

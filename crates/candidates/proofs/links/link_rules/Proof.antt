@@ -7,7 +7,16 @@ returns : tie.Need-returns
 returns c = goal-edge (c .before .before .child-for .ensures) (c .before .is-done .ensures) (c .if1 .taken)
 
 returns-2 : tie.Need-returns-2
-returns-2 c = let s = c .before .before .before .before .before .before .before .before .before .before .before .before .before .before .before .before .before .before in goal-done (goal-stands (s .args .nodes) (s .args .t2) (s .args .i) (s .args .n) (c .before .before .before .before .before .before .before .before .before .before .before .before .before .before .before .before .before .child-for .ensures) (c .before .before .before .before .before .before .before .before .before .before .before .before .before .before .before .before .is-done .ensures) (c .before .before .before .before .before .before .before .before .before .before .before .before .before .before .before .if1 .left)) _ (c .before .before .before .before .before .before .before .before .before .before .monitored .ensures) (link-parts (c .before .before .before .before .before .before .with-solutions .ensures) (c .before .before .any-complete .ensures) (c .before .mark-if .ensures) (c .or-else .ensures))
+returns-2 c =
+    let c6 = c .before .before .before .before .before .before in
+    let c10 = c6 .before .before .before .before in
+    let c15 = c10 .before .before .before .before .before in
+    let c16 = c15 .before in
+    let c17 = c16 .before in
+    let c18 = c17 .before in
+    let s = c18 in goal-done (goal-stands (s .args .nodes) (s .args .t2) (s .args .i) (s .args .n) (c17 .child-for .ensures) (c16 .is-done .ensures)
+    (c15 .if1 .left)) _ (c10 .monitored .ensures)
+    (link-parts (c6 .with-solutions .ensures) (c .before .before .any-complete .ensures) (c .before .mark-if .ensures) (c .or-else .ensures))
 
 pub link-rules-spec : {M : Type 1} → statement M
 link-rules-spec =

@@ -26,13 +26,23 @@ element-copy-out-if1-2 : tie.Need-element-copy-out-if1-2 Inv-loop μ-loop
 element-copy-out-if1-2 c = omega (arith, c .before .before .before .before .before .pre, c .before .before .before .loop-test .taken)
 
 array-write-r : tie.Need-array-write-r Inv-loop μ-loop
-array-write-r c = let s = c .before .before .before .before .before .before .before in monitoring-room (edgesFrom (s .args .m) (s .args .kind .now) (s .args .parent .now) (s .args .child .now)) (s .args .i) (c .before .before .before .before .before .before .loop .j) (c .before .before .before .wide .result) (c .if1 .taken)
+array-write-r c =
+    let c3 = c .before .before .before in
+    let c6 = c3 .before .before .before in
+    let c7 = c6 .before in
+    let s = c7 in monitoring-room (edgesFrom (s .args .m) (s .args .kind .now) (s .args .parent .now) (s .args .child .now)) (s .args .i)
+    (c6 .loop .j) (c3 .wide .result) (c .if1 .taken)
 
 loop-less : tie.Need-loop-less Inv-loop μ-loop
 loop-less c = omega (arith, c .before .before .before .before .before .loop-test .taken)
 
 loop-again : tie.Need-loop-again Inv-loop μ-loop
-loop-again c = (⊎-elim (λ w. monitoring-hit _ _ (c .before .before .before .before .before .before .loop .inv .0) (c .before .before .before .wide .ensures) (w .0 .taken) (w .1)) (λ w. monitoring-miss _ _ (c .before .before .before .before .before .before .loop .inv .0) (c .before .before .before .wide .ensures) (w .0 .left) (w .1)) (c .if1 .came), omega (arith, c .before .before .before .before .before .loop-test .taken))
+loop-again c = (
+  ⊎-elim (λ w. monitoring-hit _ _ (c .before .before .before .before .before .before .loop .inv .0) (c .before .before .before .wide .ensures)
+      (w .0 .taken) (w .1)) (λ w. monitoring-miss _ _ (c .before .before .before .before .before .before .loop .inv .0)
+      (c .before .before .before .wide .ensures) (w .0 .left) (w .1)) (c .if1 .came),
+  omega (arith, c .before .before .before .before .before .loop-test .taken),
+)
 
 returns : tie.Need-returns Inv-loop μ-loop
 returns c = monitoring-all _ _ (c .before .loop .inv .0) (c .loop-test .left) (c .before .loop .inv .1)

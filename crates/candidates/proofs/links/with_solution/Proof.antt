@@ -7,7 +7,12 @@ returns : tie.Need-returns
 returns c = named-other _ _ _ _ _ _ _ (c .before .before .expression-of .ensures) (c .before .is-named .ensures) (c .if1 .taken)
 
 returns-2 : tie.Need-returns-2
-returns-2 c = named-edge _ _ _ _ _ _ _ (c .before .before .before .before .before .expression-of .ensures) (c .before .before .before .before .is-named .ensures) (c .before .before .before .if1 .left) (c .before .before .entity-in .ensures) (c .before .child-for .ensures) (c .better .ensures)
+returns-2 c =
+    let c3 = c .before .before .before in
+    let c4 = c3 .before in
+    let c5 = c4 .before in
+    named-edge _ _ _ _ _ _ _ (c5 .expression-of .ensures) (c4 .is-named .ensures) (c3 .if1 .left) (c .before .before .entity-in .ensures)
+    (c .before .child-for .ensures) (c .better .ensures)
 
 pub with-solution-spec : {M : Type 1} → statement M
 with-solution-spec =

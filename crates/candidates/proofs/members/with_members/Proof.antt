@@ -12,7 +12,9 @@ use Rattle.candidates.proofs.members.with_members.Statement.{statement}
 use Rattle.candidates.proofs.members.with_members.Tie as tie
 
 abbrev Inv-loop : tie.InvT-loop
-Inv-loop m heads kinds numbers stop found nodes edges i n entities best₀ k₀ best k = (best ≡ folded k (offer (isDone (nodesOf nodes) (edgesOf edges) i) (isMember (poolOf m heads kinds numbers) stop found entities n) (memberEdge (poolOf m heads kinds numbers) n)) best₀) × (k ≤ m)
+Inv-loop m heads kinds numbers stop found nodes edges i n entities best₀ k₀ best k =
+    (best ≡ folded k (offer (isDone (nodesOf nodes) (edgesOf edges) i) (isMember (poolOf m heads kinds numbers) stop found entities n)
+    (memberEdge (poolOf m heads kinds numbers) n)) best₀) × (k ≤ m)
 
 abbrev μ-loop : tie.MeasureT-loop
 μ-loop m heads kinds numbers stop found nodes edges i n entities best₀ k₀ best k = m - k
@@ -21,10 +23,12 @@ next-stopped-requires : tie.Need-next-stopped-requires Inv-loop μ-loop
 next-stopped-requires c κs = (c .pre .0, omega arith)
 
 loop-holds : tie.Need-loop-holds Inv-loop μ-loop
-loop-holds c = let s = c .next-stopped .ensures in (folded-skip _ _ (folded-start _ _) (s .from) (λ j l h x. member-skip _ _ _ _ _ _ j (s .none j l h) x), s .within)
+loop-holds c =
+    let s = c .next-stopped .ensures in (folded-skip _ _ (folded-start _ _) (s .from) (λ j l h x. member-skip _ _ _ _ _ _ j (s .none j l h) x), s .within)
 
 with-member-requires : tie.Need-with-member-requires Inv-loop μ-loop
-with-member-requires c κs = (omega (arith, c .before .before .before .pre .0, c .loop-test .taken), c .before .before .before .pre .1, c .before .before .before .pre .2)
+with-member-requires c κs =
+    (omega (arith, c .before .before .before .pre .0, c .loop-test .taken), c .before .before .before .pre .1, c .before .before .before .pre .2)
 
 add-next-stopped : tie.Need-add-next-stopped Inv-loop μ-loop
 add-next-stopped c = omega (arith, c .before .loop-test .taken, c .before .before .before .before .pre .0)
@@ -36,7 +40,13 @@ loop-less : tie.Need-loop-less Inv-loop μ-loop
 loop-less c = let s = c .next-stopped2 .ensures in omega (arith, s .from, s .within, c .before .before .loop-test .taken)
 
 loop-again : tie.Need-loop-again Inv-loop μ-loop
-loop-again c = let s = c .next-stopped2 .ensures in (folded-skip _ _ (folded-next _ _ (c .before .before .before .loop .inv .0) (c .before .with-member .ensures)) (s .from) (λ j l h x. member-skip _ _ _ _ _ _ j (s .none j l h) x), s .within)
+loop-again c =
+    let c3 = c .before .before .before in
+    let s = c .next-stopped2 .ensures in (
+      folded-skip _ _ (folded-next _ _ (c3 .loop .inv .0) (c .before .with-member .ensures)) (s .from)
+          (λ j l h x. member-skip _ _ _ _ _ _ j (s .none j l h) x),
+      s .within,
+    )
 
 returns : tie.Need-returns Inv-loop μ-loop
 returns c = folded-all _ _ (c .before .loop .inv .0) (c .loop-test .left) (c .before .loop .inv .1)

@@ -17,7 +17,10 @@ loop-holds c = missed-start _ _
 
 returns : tie.Need-returns Inv-loop μ-loop
 unfolding hasSubject
-returns c = any-at (c .before .before .before .before .args .m) (c .before .before .before .loop .inv) (c .before .before .loop-test .taken) (c .before .is-subject-at .ensures) (c .if1 .taken)
+returns c =
+    let c3 = c .before .before .before in
+    let c4 = c3 .before in
+    any-at (c4 .args .m) (c3 .loop .inv) (c .before .before .loop-test .taken) (c .before .is-subject-at .ensures) (c .if1 .taken)
 
 loop-again : tie.Need-loop-again Inv-loop μ-loop
 loop-again c = missed-more (c .before .before .before .loop .inv) (c .before .is-subject-at .ensures) (c .if1 .left)

@@ -6,11 +6,18 @@ use Rattle.choice.proofs.known.holding_of.Tie as tie
 
 returns : tie.Need-returns
 unfolding tablesOf
-returns c = let s = c .before .before .before .before .before .before .before .before in holding-absent (tablesOf (s .args .house)) (s .args .a) (s .pre .1) (c .before .holds .ensures) (c .if1 .taken)
+returns c =
+    let c8 = c .before .before .before .before .before .before .before .before in
+    let s = c8 in holding-absent (tablesOf (s .args .house)) (s .args .a) (s .pre .1) (c .before .holds .ensures) (c .if1 .taken)
 
 returns-2 : tie.Need-returns-2
 unfolding tablesOf
-returns-2 c = let s = c .before .before .before .before .before .before .before .before .before .before .before .before .before in holding-policy (tablesOf (s .args .house)) (s .args .a) (s .pre .1) (c .before .before .before .before .before .before .holds .ensures) (c .before .before .before .before .before .if1 .left) (c .before .other-of .ensures) (c .policy-of .ensures)
+returns-2 c =
+    let c5 = c .before .before .before .before .before in
+    let c6 = c5 .before in
+    let c13 = c6 .before .before .before .before .before .before .before in
+    let s = c13 in holding-policy (tablesOf (s .args .house)) (s .args .a) (s .pre .1) (c6 .holds .ensures) (c5 .if1 .left)
+    (c .before .other-of .ensures) (c .policy-of .ensures)
 
 pub holding-of-spec : {M : Type 1} → statement M
 holding-of-spec =

@@ -7,11 +7,19 @@ use Rattle.choice.proofs.known.is_acknowledged.Tie as tie
 
 returns : tie.Need-returns
 unfolding stateOf
-returns c = let s = c .before .before .before .before .before .before .before .before .before .before .before .before .before .before .before .before .before .before in acknowledged-absent (stateOf (s .args .n)) (s .args .r) (nodes-length (s .args .n .nodes)) (c .before .find-node .ensures) (s .pre .1) (c .if1 .taken)
+returns c =
+    let c14 = c .before .before .before .before .before .before .before .before .before .before .before .before .before .before in
+    let c18 = c14 .before .before .before .before in
+    let s = c18 in acknowledged-absent (stateOf (s .args .n)) (s .args .r) (nodes-length (s .args .n .nodes)) (c .before .find-node .ensures)
+    (s .pre .1) (c .if1 .taken)
 
 returns-2 : tie.Need-returns-2
 unfolding stateOf
-returns-2 c = let s = c .before .before .before .before .before .before .before .before .before .before .before .before .before .before .before .before .before .before .before in acknowledged-flag (stateOf (s .args .n)) (s .args .r) (nodes-length (s .args .n .nodes)) (c .before .before .find-node .ensures) (s .pre .1) (c .before .if1 .left)
+returns-2 c =
+    let c14 = c .before .before .before .before .before .before .before .before .before .before .before .before .before .before in
+    let c19 = c14 .before .before .before .before .before in
+    let s = c19 in acknowledged-flag (stateOf (s .args .n)) (s .args .r) (nodes-length (s .args .n .nodes)) (c .before .before .find-node .ensures)
+    (s .pre .1) (c .before .if1 .left)
 
 pub is-acknowledged-spec : {M : Type 1} → statement M
 is-acknowledged-spec =

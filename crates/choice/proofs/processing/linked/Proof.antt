@@ -9,7 +9,10 @@ use Rattle.choice.proofs.processing.linked.Tie as tie
 
 returns : tie.Need-returns
 unfolding endIn stateOf
-returns c = let s = c .before .before .before in linked-rules (endIn (tablesOf (s .args .own .house)) (stateOf (s .args .n))) (s .args .n .nodes) (s .args .n .edges) refl refl (s .pre .formed) (s .pre .nodes) (s .pre .settled) (c .link-rules .ensures)
+returns c =
+    let c3 = c .before .before .before in
+    let s = c3 in linked-rules (endIn (tablesOf (s .args .own .house)) (stateOf (s .args .n))) (s .args .n .nodes) (s .args .n .edges) refl refl
+    (s .pre .formed) (s .pre .nodes) (s .pre .settled) (c .link-rules .ensures)
 
 pub linked-spec : {M : Type 1} → statement M
 linked-spec = tie.close (tie.spec (λ c κs. search needs) returns)

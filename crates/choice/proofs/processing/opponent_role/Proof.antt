@@ -7,11 +7,17 @@ use Rattle.choice.proofs.processing.opponent_role.Tie as tie
 
 returns : tie.Need-returns
 unfolding tablesOf
-returns c = let s = c .before .before .before .before .before in about-us (tablesOf (s .args .own .house)) (stateOf (s .args .n)) _ (s .args .i) (s .args .x) (s .args .a) (c .before .if1 .taken) (c .own-rules .ensures)
+returns c =
+    let c5 = c .before .before .before .before .before in
+    let s = c5 in about-us (tablesOf (s .args .own .house)) (stateOf (s .args .n)) _ (s .args .i) (s .args .x) (s .args .a) (c .before .if1 .taken)
+    (c .own-rules .ensures)
 
 returns-2 : tie.Need-returns-2
 unfolding tablesOf
-returns-2 c = let s = c .before .before .before .before .before .before in about-other (tablesOf (s .args .own .house)) (stateOf (s .args .n)) _ (s .args .i) (s .args .x) (s .args .a) (c .before .before .if1 .left) (c .before .other-edges .ensures) (c .or-else .ensures)
+returns-2 c =
+    let c6 = c .before .before .before .before .before .before in
+    let s = c6 in about-other (tablesOf (s .args .own .house)) (stateOf (s .args .n)) _ (s .args .i) (s .args .x) (s .args .a)
+    (c .before .before .if1 .left) (c .before .other-edges .ensures) (c .or-else .ensures)
 
 pub opponent-role-spec : {M : Type 1} → statement M
 opponent-role-spec =

@@ -9,22 +9,42 @@ use Rattle.choice.proofs.processing.opponent_rules.Statement.{statement
 use Rattle.choice.proofs.processing.opponent_rules.Tie as tie
 
 opponent-role-requires : tie.Need-opponent-role-requires
-opponent-role-requires c κs = let s = c .before .before .before .before .before in (s .pre .0, s .pre .1, s .pre .2, asked-as (s .pre .3) (c .before .e .given .1))
+opponent-role-requires c κs =
+    let c5 = c .before .before .before .before .before in
+    let s = c5 in (s .pre .0, s .pre .1, s .pre .2, asked-as (s .pre .3) (c .before .e .given .1))
 
 returns : tie.Need-returns
-returns c = let s = c .before .before .before .before in opponent-as (tablesOf (s .args .own .house)) (stateOf (s .args .n)) _ (s .args .i) (s .args .x) (c .enum-told .given .1) (opponent-entity _ _ _ _ _ _ refl)
+returns c =
+    let c4 = c .before .before .before .before in
+    let s = c4 in opponent-as (tablesOf (s .args .own .house)) (stateOf (s .args .n)) _ (s .args .i) (s .args .x) (c .enum-told .given .1)
+    (opponent-entity _ _ _ _ _ _ refl)
 
 returns-2 : tie.Need-returns-2
-returns-2 c = let s = c .before .before .before .before .before .before in opponent-as (tablesOf (s .args .own .house)) (stateOf (s .args .n)) _ (s .args .i) (s .args .x) (c .before .before .e .given .1) (c .opponent-role .ensures)
+returns-2 c =
+    let c6 = c .before .before .before .before .before .before in
+    let s = c6 in opponent-as (tablesOf (s .args .own .house)) (stateOf (s .args .n)) _ (s .args .i) (s .args .x) (c .before .before .e .given .1)
+    (c .opponent-role .ensures)
 
 returns-3 : tie.Need-returns-3
-returns-3 c = let s = c .before .before .before .before .before .before in opponent-as (tablesOf (s .args .own .house)) (stateOf (s .args .n)) _ (s .args .i) (s .args .x) (c .before .before .e2 .given .1) (opponent-link _ _ _ _ _ _ _ (c .linked .ensures))
+returns-3 c =
+    let c6 = c .before .before .before .before .before .before in
+    let s = c6 in opponent-as (tablesOf (s .args .own .house)) (stateOf (s .args .n)) _ (s .args .i) (s .args .x) (c .before .before .e2 .given .1)
+    (opponent-link _ _ _ _ _ _ _ (c .linked .ensures))
 
 returns-4 : tie.Need-returns-4
-returns-4 c = let s = c .before .before .before .before .before .before .before in opponent-as (tablesOf (s .args .own .house)) (stateOf (s .args .n)) _ (s .args .i) (s .args .x) (c .before .before .before .e3 .given .1) (opponent-parts _ _ _ _ _ _ (c .before .part-edges .ensures) (c .or-else .ensures))
+returns-4 c =
+    let c3 = c .before .before .before in
+    let c7 = c3 .before .before .before .before in
+    let s = c7 in opponent-as (tablesOf (s .args .own .house)) (stateOf (s .args .n)) _ (s .args .i) (s .args .x) (c3 .e3 .given .1)
+    (opponent-parts _ _ _ _ _ _ (c .before .part-edges .ensures) (c .or-else .ensures))
 
 returns-5 : tie.Need-returns-5
-returns-5 c = let s = c .before .before .before .before .before .before .before in opponent-as (tablesOf (s .args .own .house)) (stateOf (s .args .n)) _ (s .args .i) (s .args .x) (c .before .before .before .e4 .given .1) (opponent-goal _ _ _ _ _ _ (public-solutions (s .args .own) (s .pre .0 .prepared) (s .args .x) _ _ (c .before .solutions .ensures)) (c .or-else2 .ensures))
+returns-5 c =
+    let c3 = c .before .before .before in
+    let c7 = c3 .before .before .before .before in
+    let s = c7 in opponent-as (tablesOf (s .args .own .house)) (stateOf (s .args .n)) _ (s .args .i) (s .args .x) (c3 .e4 .given .1)
+    (opponent-goal _ _ _ _ _ _ (public-solutions (s .args .own) (s .pre .0 .prepared) (s .args .x) _ _ (c .before .solutions .ensures))
+    (c .or-else2 .ensures))
 
 pub opponent-rules-spec : {M : Type 1} → statement M
 opponent-rules-spec =

@@ -8,15 +8,27 @@ use Rattle.choice.proofs.processing.verifier_link.Tie as tie
 
 returns : tie.Need-returns
 unfolding tablesOf
-returns c = let s = c .before .before .before .before .before .before .before .before in link-def (tablesOf (s .args .own .house)) (stateOf (s .args .n)) _ (s .args .i) (s .args .x) (s .args .a) (s .args .r) (c .before .before .class-of .ensures) (c .before .if1 .taken) (c .linked .ensures)
+returns c =
+    let c8 = c .before .before .before .before .before .before .before .before in
+    let s = c8 in link-def (tablesOf (s .args .own .house)) (stateOf (s .args .n)) _ (s .args .i) (s .args .x) (s .args .a) (s .args .r)
+    (c .before .before .class-of .ensures) (c .before .if1 .taken) (c .linked .ensures)
 
 returns-2 : tie.Need-returns-2
 unfolding tablesOf
-returns-2 c = let s = c .before .before .before .before .before .before .before .before in link-subject (tablesOf (s .args .own .house)) (stateOf (s .args .n)) _ (s .args .i) (s .args .x) (s .args .a) (s .args .r) (c .before .before .class-of .ensures) (c .before .if1 .left) (c .if2 .taken) refl
+returns-2 c =
+    let c8 = c .before .before .before .before .before .before .before .before in
+    let s = c8 in link-subject (tablesOf (s .args .own .house)) (stateOf (s .args .n)) _ (s .args .i) (s .args .x) (s .args .a) (s .args .r)
+    (c .before .before .class-of .ensures) (c .before .if1 .left) (c .if2 .taken) refl
 
 returns-3 : tie.Need-returns-3
 unfolding tablesOf
-returns-3 c = let s = c .before .before .before .before .before .before .before .before .before .before .before .before in link-all (tablesOf (s .args .own .house)) (stateOf (s .args .n)) _ (s .args .i) (s .args .x) (s .args .a) (s .args .r) (c .before .before .before .before .before .before .class-of .ensures) (c .before .before .before .before .before .if1 .left) (c .before .before .before .before .if2 .left) (c .before .all-edges .ensures) (c .or-else .ensures)
+returns-3 c =
+    let c4 = c .before .before .before .before in
+    let c5 = c4 .before in
+    let c6 = c5 .before in
+    let c12 = c6 .before .before .before .before .before .before in
+    let s = c12 in link-all (tablesOf (s .args .own .house)) (stateOf (s .args .n)) _ (s .args .i) (s .args .x) (s .args .a) (s .args .r)
+    (c6 .class-of .ensures) (c5 .if1 .left) (c4 .if2 .left) (c .before .all-edges .ensures) (c .or-else .ensures)
 
 pub verifier-link-spec : {M : Type 1} → statement M
 verifier-link-spec =

@@ -7,19 +7,36 @@ use Rattle.choice.proofs.processing.verifier_rules.Statement.{statement
 use Rattle.choice.proofs.processing.verifier_rules.Tie as tie
 
 returns : tie.Need-returns
-returns c = let s = c .before .before .before .before in verifier-as (tablesOf (s .args .own .house)) (stateOf (s .args .n)) _ (s .args .i) (s .args .x) (c .enum-told .given .1) (verifier-entity _ _ _ _ _ _ refl)
+returns c =
+    let c4 = c .before .before .before .before in
+    let s = c4 in verifier-as (tablesOf (s .args .own .house)) (stateOf (s .args .n)) _ (s .args .i) (s .args .x) (c .enum-told .given .1)
+    (verifier-entity _ _ _ _ _ _ refl)
 
 returns-2 : tie.Need-returns-2
-returns-2 c = let s = c .before .before .before .before .before .before .before in verifier-as (tablesOf (s .args .own .house)) (stateOf (s .args .n)) _ (s .args .i) (s .args .x) (c .before .before .before .e .given .1) (verifier-role _ _ _ _ _ _ (c .before .issuer-edges .ensures) (c .or-else .ensures))
+returns-2 c =
+    let c3 = c .before .before .before in
+    let c7 = c3 .before .before .before .before in
+    let s = c7 in verifier-as (tablesOf (s .args .own .house)) (stateOf (s .args .n)) _ (s .args .i) (s .args .x) (c3 .e .given .1)
+    (verifier-role _ _ _ _ _ _ (c .before .issuer-edges .ensures) (c .or-else .ensures))
 
 returns-3 : tie.Need-returns-3
-returns-3 c = let s = c .before .before .before .before .before .before in verifier-as (tablesOf (s .args .own .house)) (stateOf (s .args .n)) _ (s .args .i) (s .args .x) (c .before .before .e2 .given .1) (c .verifier-link .ensures)
+returns-3 c =
+    let c6 = c .before .before .before .before .before .before in
+    let s = c6 in verifier-as (tablesOf (s .args .own .house)) (stateOf (s .args .n)) _ (s .args .i) (s .args .x) (c .before .before .e2 .given .1)
+    (c .verifier-link .ensures)
 
 returns-4 : tie.Need-returns-4
-returns-4 c = let s = c .before .before .before .before .before .before .before in verifier-as (tablesOf (s .args .own .house)) (stateOf (s .args .n)) _ (s .args .i) (s .args .x) (c .before .before .before .e3 .given .1) (verifier-parts _ _ _ _ _ _ (c .before .part-edges .ensures) (c .or-else2 .ensures))
+returns-4 c =
+    let c3 = c .before .before .before in
+    let c7 = c3 .before .before .before .before in
+    let s = c7 in verifier-as (tablesOf (s .args .own .house)) (stateOf (s .args .n)) _ (s .args .i) (s .args .x) (c3 .e3 .given .1)
+    (verifier-parts _ _ _ _ _ _ (c .before .part-edges .ensures) (c .or-else2 .ensures))
 
 returns-5 : tie.Need-returns-5
-returns-5 c = let s = c .before .before .before .before in verifier-as (tablesOf (s .args .own .house)) (stateOf (s .args .n)) _ (s .args .i) (s .args .x) (c .enum-told2 .given .1) (verifier-goal _ _ _ _ _ _ refl)
+returns-5 c =
+    let c4 = c .before .before .before .before in
+    let s = c4 in verifier-as (tablesOf (s .args .own .house)) (stateOf (s .args .n)) _ (s .args .i) (s .args .x) (c .enum-told2 .given .1)
+    (verifier-goal _ _ _ _ _ _ refl)
 
 pub verifier-rules-spec : {M : Type 1} → statement M
 verifier-rules-spec =

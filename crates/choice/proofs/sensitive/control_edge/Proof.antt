@@ -9,11 +9,17 @@ use Rattle.choice.proofs.sensitive.control_edge.Tie as tie
 
 returns : tie.Need-returns
 unfolding stateOf
-returns c = let s = c .before .before .before in control-verifier (stateOf (s .args .n)) (s .args .x) (s .args .r) (sym (ap (λ (b : Bool). cond {A = ℕ} b 1 0) (eq-eqb (s .args .x .verifier) 0 (c .if1 .taken))))
+returns c =
+    let c3 = c .before .before .before in
+    let s = c3 in control-verifier (stateOf (s .args .n)) (s .args .x) (s .args .r)
+    (sym (ap (λ (b : Bool). cond {A = ℕ} b 1 0) (eq-eqb (s .args .x .verifier) 0 (c .if1 .taken))))
 
 returns-2 : tie.Need-returns-2
 unfolding stateOf
-returns-2 c = let s = c .before .before .before in control-verifier (stateOf (s .args .n)) (s .args .x) (s .args .r) (sym (ap (λ (b : Bool). cond {A = ℕ} b 1 0) (ne-eqb (s .args .x .verifier) 0 (c .if1 .left))))
+returns-2 c =
+    let c3 = c .before .before .before in
+    let s = c3 in control-verifier (stateOf (s .args .n)) (s .args .x) (s .args .r)
+    (sym (ap (λ (b : Bool). cond {A = ℕ} b 1 0) (ne-eqb (s .args .x .verifier) 0 (c .if1 .left))))
 
 pub control-edge-spec : {M : Type 1} → statement M
 control-edge-spec = tie.close (tie.spec returns returns-2)

@@ -5,7 +5,8 @@ use Rattle.closure.proofs.linked_rules.follow.Statement.{statement}
 use Rattle.closure.proofs.linked_rules.follow.Tie as tie
 
 abbrev Inv-loop : tie.InvT-loop
-Inv-loop n words head part first named src on mem own i lo hi rows₀ todo₀ grew₀ fuel₀ rows todo grew fuel = Grown (rulesOf n words head part first named src) on own mem rows₀ rows
+Inv-loop n words head part first named src on mem own i lo hi rows₀ todo₀ grew₀ fuel₀ rows todo grew fuel =
+    Grown (rulesOf n words head part first named src) on own mem rows₀ rows
 
 abbrev μ-loop : tie.MeasureT-loop
 μ-loop n words head part first named src on mem own i lo hi rows₀ todo₀ grew₀ fuel₀ rows todo grew fuel = fuel
@@ -17,7 +18,12 @@ returns : tie.Need-returns Inv-loop μ-loop
 returns c = c .before .before .before .loop .inv
 
 link-requires : tie.Need-link-requires Inv-loop μ-loop
-link-requires c κs = (c .before .before .before .before .before .before .before .before .pre .0, omega (arith, c .before .before .before .least .ensures), c .before .before .before .before .before .before .before .before .pre .1, c .before .before .before .before .before .loop .inv .sized)
+link-requires c κs = (
+  c .before .before .before .before .before .before .before .before .pre .0,
+  omega (arith, c .before .before .before .least .ensures),
+  c .before .before .before .before .before .before .before .before .pre .1,
+  c .before .before .before .before .before .loop .inv .sized,
+)
 
 loop-again : tie.Need-loop-again Inv-loop μ-loop
 loop-again c = grow-more (rulesOf _ _ _ _ _ _ _) _ _ _ (c .before .before .before .before .before .before .loop .inv) (c .link .ensures)

@@ -16,16 +16,32 @@ returns-3 : tie.Need-returns-3
 returns-3 c = grow-start (rulesOf _ _ _ _ _ _ _) _ _ _ _ (c .before .before .before .before .before .pre .3)
 
 member-requires : tie.Need-member-requires
-member-requires c κs = (c .before .before .before .before .before .before .before .before .pre .2 .first .under _, c .before .before .before .before .before .before .before .before .pre .2 .src .under _)
+member-requires c κs =
+    let c8 = c .before .before .before .before .before .before .before .before in
+    (c8 .pre .2 .first .under _, c8 .pre .2 .src .under _)
 
 returns-4 : tie.Need-returns-4
 returns-4 c = grow-start (rulesOf _ _ _ _ _ _ _) _ _ _ _ (c .before .before .before .before .before .before .before .before .before .before .pre .3)
 
 add-row-requires : tie.Need-add-row-requires
-add-row-requires c κs = (c .before .before .before .before .before .before .before .before .before .before .before .before .pre .2 .words, omega (arith, c .before .before .before .before .before .before .before .before .before .before .before .before .pre .1), c .before .before .before .before .before .before .before .before .before .before .before .before .pre .2 .head .under _, c .before .before .before .before .before .before .before .before .before .before .before .before .pre .3)
+add-row-requires c κs = (
+  c .before .before .before .before .before .before .before .before .before .before .before .before .pre .2 .words,
+  omega
+      (arith, c .before .before .before .before .before .before .before .before .before .before .before .before .pre .1),
+  c .before .before .before .before .before .before .before .before .before .before .before .before .pre .2 .head .under _,
+  c .before .before .before .before .before .before .before .before .before .before .before .before .pre .3,
+)
 
 returns-5 : tie.Need-returns-5
-returns-5 c = link-grown {X = rulesOf _ _ _ _ _ _ _} (c .before .before .before .before .before .before .before .before .before .before .before .before .if1 .left) (c .before .before .before .before .before .before .before .before .before .before .if2 .left) (sym (c .before .before .before .before .before .before .before .before .before .bit .ensures) ∙ not-left _ (c .before .before .before .before .before .before .before .before .if3 .left)) (sym (c .before .before .before .before .member .ensures) ∙ not-left _ (c .before .before .before .if4 .left)) (c .add-row .ensures)
+returns-5 c =
+    let c3 = c .before .before .before in
+    let c4 = c3 .before in
+    let c8 = c4 .before .before .before .before in
+    let c9 = c8 .before in
+    let c10 = c9 .before in
+    let c12 = c10 .before .before in
+    link-grown {X = rulesOf _ _ _ _ _ _ _} (c12 .if1 .left) (c10 .if2 .left) (sym (c9 .bit .ensures) ∙ not-left _ (c8 .if3 .left))
+    (sym (c4 .member .ensures) ∙ not-left _ (c3 .if4 .left)) (c .add-row .ensures)
 
 pub link-spec : {M : Type 1} → statement M
 link-spec =

@@ -13,7 +13,8 @@ abbrev μ-loop : tie.MeasureT-loop
 μ-loop n src owners₀ j₀ owners j = n - j
 
 mark-requires : tie.Need-mark-requires Inv-loop μ-loop
-mark-requires c κs = (omega (arith, c .before .before .before .before .pre .1 .under (c .before .before .before .loop .j)), omega arith, c .before .before .before .loop .inv)
+mark-requires c κs =
+    (omega (arith, c .before .before .before .before .pre .1 .under (c .before .before .before .loop .j)), omega arith, c .before .before .before .loop .inv)
 
 loop-again : tie.Need-loop-again Inv-loop μ-loop
 loop-again c = c .mark .ensures .sized

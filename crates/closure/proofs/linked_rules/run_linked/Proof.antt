@@ -8,7 +8,8 @@ use Rattle.closure.proofs.linked_rules.run_linked.Statement.{statement}
 use Rattle.closure.proofs.linked_rules.run_linked.Tie as tie
 
 abbrev Inv-loop : tie.InvT-loop
-Inv-loop n words head part first named src on mem own deps lo hi rows₀ owners seen₀ w₀ fuel₀ rows seen w fuel = (length seen ≡ 260) × Grown (rulesOf n words head part first named src) on own mem rows₀ rows
+Inv-loop n words head part first named src on mem own deps lo hi rows₀ owners seen₀ w₀ fuel₀ rows seen w fuel =
+    (length seen ≡ 260) × Grown (rulesOf n words head part first named src) on own mem rows₀ rows
 
 abbrev μ-loop : tie.MeasureT-loop
 μ-loop n words head part first named src on mem own deps lo hi rows₀ owners seen₀ w₀ fuel₀ rows seen w fuel = fuel
@@ -23,7 +24,12 @@ returns : tie.Need-returns Inv-loop μ-loop
 returns c = c .before .before .before .before .before .loop .inv .1
 
 step-requires : tie.Need-step-requires Inv-loop μ-loop
-step-requires c κs = (omega (arith, c .before .before .before .before .before .least .ensures), c .before .before .before .before .before .before .before .before .before .before .before .before .before .pre .0, c .before .before .before .before .before .before .before .before .before .loop .inv .0, c .before .before .before .before .before .before .before .before .before .loop .inv .1 .sized)
+step-requires c κs = (
+  omega (arith, c .before .before .before .before .before .least .ensures),
+  c .before .before .before .before .before .before .before .before .before .before .before .before .before .pre .0,
+  c .before .before .before .before .before .before .before .before .before .loop .inv .0,
+  c .before .before .before .before .before .before .before .before .before .loop .inv .1 .sized,
+)
 
 mul-r : tie.Need-mul-r Inv-loop μ-loop
 mul-r c = omega (arith, c .before .before .before .before .before .before .before .least .ensures)
@@ -32,28 +38,65 @@ element-copy-out-r : tie.Need-element-copy-out-r Inv-loop μ-loop
 element-copy-out-r c = omega (arith, c .before .before .before .before .before .before .before .least .ensures)
 
 mul-touched : tie.Need-mul-touched Inv-loop μ-loop
-mul-touched c = omega (arith, c .before .before .before .before .before .before .before .before .before .before .before .before .before .before .before .before .pre .0 .head .under (c .before .before .before .before .before .before .before .before .least .result))
+mul-touched c =
+    omega (
+      arith,
+      c .before .before .before .before .before .before .before .before .before .before .before .before .before .before .before .before .pre .0 .head .under
+          (c .before .before .before .before .before .before .before .before .least .result),
+    )
 
 mul-touched-2 : tie.Need-mul-touched-2 Inv-loop μ-loop
-mul-touched-2 c = omega (arith, c .before .before .before .before .before .before .before .before .before .before .before .before .before .before .before .before .pre .0 .head .under (c .before .before .before .before .before .before .before .before .least .result))
+mul-touched-2 c =
+    omega (
+      arith,
+      c .before .before .before .before .before .before .before .before .before .before .before .before .before .before .before .before .pre .0 .head .under
+          (c .before .before .before .before .before .before .before .before .least .result),
+    )
 
 element-copy-out-touched : tie.Need-element-copy-out-touched Inv-loop μ-loop
-element-copy-out-touched c = omega (arith, c .before .before .before .before .before .before .before .before .before .before .before .before .before .before .before .before .pre .0 .head .under (c .before .before .before .before .before .before .before .before .least .result))
+element-copy-out-touched c =
+    omega (
+      arith,
+      c .before .before .before .before .before .before .before .before .before .before .before .before .before .before .before .before .pre .0 .head .under
+          (c .before .before .before .before .before .before .before .before .least .result),
+    )
 
 mul-touched-3 : tie.Need-mul-touched-3 Inv-loop μ-loop
-mul-touched-3 c = omega (arith, c .before .before .before .before .before .before .before .before .before .before .before .before .before .before .before .before .before .pre .0 .head .under (c .before .before .before .before .before .before .before .before .before .least .result))
+mul-touched-3 c =
+    omega (
+      arith,
+      c .before .before .before .before .before .before .before .before .before .before .before .before .before .before .before .before .before .pre .0 .head .under
+          (c .before .before .before .before .before .before .before .before .before .least .result),
+    )
 
 add-touched : tie.Need-add-touched Inv-loop μ-loop
-add-touched c = omega (arith, c .before .before .before .before .before .before .before .before .before .before .before .before .before .before .before .before .before .pre .0 .head .under (c .before .before .before .before .before .before .before .before .before .least .result))
+add-touched c =
+    omega (
+      arith,
+      c .before .before .before .before .before .before .before .before .before .before .before .before .before .before .before .before .before .pre .0 .head .under
+          (c .before .before .before .before .before .before .before .before .before .least .result),
+    )
 
 mul-touched-4 : tie.Need-mul-touched-4 Inv-loop μ-loop
-mul-touched-4 c = omega (arith, c .before .before .before .before .before .before .before .before .before .before .before .before .before .before .before .before .before .pre .0 .head .under (c .before .before .before .before .before .before .before .before .before .least .result))
+mul-touched-4 c =
+    omega (
+      arith,
+      c .before .before .before .before .before .before .before .before .before .before .before .before .before .before .before .before .before .pre .0 .head .under
+          (c .before .before .before .before .before .before .before .before .before .least .result),
+    )
 
 element-copy-out-touched-2 : tie.Need-element-copy-out-touched-2 Inv-loop μ-loop
-element-copy-out-touched-2 c = omega (arith, c .before .before .before .before .before .before .before .before .before .before .before .before .before .before .before .before .before .pre .0 .head .under (c .before .before .before .before .before .before .before .before .before .least .result))
+element-copy-out-touched-2 c =
+    omega (
+      arith,
+      c .before .before .before .before .before .before .before .before .before .before .before .before .before .before .before .before .before .pre .0 .head .under
+          (c .before .before .before .before .before .before .before .before .before .least .result),
+    )
 
 loop-again : tie.Need-loop-again Inv-loop μ-loop
-loop-again c = (c .before .step .ensures .0, grow-more (rulesOf _ _ _ _ _ _ _) _ _ _ (c .before .before .before .before .before .before .before .before .before .before .before .loop .inv .1) (c .before .step .ensures .1))
+loop-again c =
+    let c11 = c .before .before .before .before .before .before .before .before .before .before .before in
+    (c .before .step .ensures .0, grow-more (rulesOf _ _ _ _ _ _ _) _ _ _ (c11 .loop .inv .1) (c .before .step .ensures .1))
 
 returns-2 : tie.Need-returns-2 Inv-loop μ-loop
 returns-2 c = c .before .loop .inv .1

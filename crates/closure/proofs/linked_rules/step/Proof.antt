@@ -12,10 +12,14 @@ returns : tie.Need-returns
 returns c = (c .before .before .before .before .pre .2, c .rule .ensures .grown)
 
 fresh-requires : tie.Need-fresh-requires
-fresh-requires c κs = (c .before .before .before .before .before .pre .1 .first .under _, c .before .before .before .before .before .pre .0, c .before .before .before .before .before .pre .2)
+fresh-requires c κs =
+    let c5 = c .before .before .before .before .before in
+    (c5 .pre .1 .first .under _, c5 .pre .0, c5 .pre .2)
 
 follow-requires : tie.Need-follow-requires
-follow-requires c κs = (c .before .before .before .before .before .before .before .before .before .before .pre .0, c .before .before .before .before .before .before .before .before .before .before .pre .1, c .before .before .before .before .before .before .before .before .before .before .pre .3)
+follow-requires c κs =
+    let c10 = c .before .before .before .before .before .before .before .before .before .before in
+    (c10 .pre .0, c10 .pre .1, c10 .pre .3)
 
 returns-2 : tie.Need-returns-2
 returns-2 c = (c .before .before .before .before .before .fresh .ensures, c .follow .ensures)

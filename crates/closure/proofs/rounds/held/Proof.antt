@@ -28,7 +28,9 @@ loop-again : tie.Need-loop-again Inv-loop μ-loop
 loop-again c = (held-next (c .before .before .loop .inv .0), omega arith)
 
 returns : tie.Need-returns Inv-loop μ-loop
-returns c = (let z : c .before .loop .r ≡ 130 = omega (arith, c .before .loop .inv .1, c .loop-test .left) in subst (λ (x : ℕ). HeldOf (c .before .before .args .h) x (c .before .before .args .rows .now) (c .before .loop .w)) z (c .before .loop .inv .0))
+returns c =
+    (let z : c .before .loop .r ≡ 130 = omega (arith, c .before .loop .inv .1, c .loop-test .left) in subst
+    (λ (x : ℕ). HeldOf (c .before .before .args .h) x (c .before .before .args .rows .now) (c .before .loop .w)) z (c .before .loop .inv .0))
 
 pub held-spec : {M : Type 1} → statement M
 held-spec =

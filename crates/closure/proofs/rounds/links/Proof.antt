@@ -18,10 +18,16 @@ bit-requires : tie.Need-bit-requires Inv-loop μ-loop
 bit-requires c κs = (c .before .before .before .before .before .pre .2, c .before .before .before .before .before .pre .3 .under _)
 
 loop-less : tie.Need-loop-less Inv-loop μ-loop
-loop-less c = rw (c .others .ensures ∙ ap (without _) (sym (c .before .before .before .before .before .lowest .ensures .2))) (without-less _ _ (c .before .before .before .before .before .lowest .ensures .1))
+loop-less c =
+    rw (c .others .ensures ∙ ap (without _) (sym (c .before .before .before .before .before .lowest .ensures .2)))
+    (without-less _ _ (c .before .before .before .before .before .lowest .ensures .1))
 
 loop-again : tie.Need-loop-again Inv-loop μ-loop
-loop-again c = links-next _ _ _ _ _ _ _ _ _ _ (c .before .before .before .before .before .lowest .ensures .0) (c .before .before .before .before .before .lowest .ensures .1) _ (c .before .before .bit .ensures) _ _ (c .others .ensures ∙ ap (without _) (sym (c .before .before .before .before .before .lowest .ensures .2))) (c .before .with .ensures) (c .before .before .before .before .before .before .before .loop .inv)
+loop-again c =
+    let c5 = c .before .before .before .before .before in
+    let c7 = c5 .before .before in
+    links-next _ _ _ _ _ _ _ _ _ _ (c5 .lowest .ensures .0) (c5 .lowest .ensures .1) _ (c .before .before .bit .ensures) _ _
+    (c .others .ensures ∙ ap (without _) (sym (c5 .lowest .ensures .2))) (c .before .with .ensures) (c7 .loop .inv)
 
 returns : tie.Need-returns Inv-loop μ-loop
 returns c = links-all _ _ _ _ _ _ _ _ _ (c .loop-test .left) (c .before .loop .inv)

@@ -6,7 +6,8 @@ use Rattle.closure.proofs.rounds.rule.Statement.{statement}
 use Rattle.closure.proofs.rounds.rule.Tie as tie
 
 abbrev Inv-loop : tie.InvT-loop
-Inv-loop n words head part first named src on mem own i rows₀ grew₀ h₀ rows grew h = RuleTo (rulesOf n words head part first named src) on own mem i rows₀ rows grew h
+Inv-loop n words head part first named src on mem own i rows₀ grew₀ h₀ rows grew h =
+    RuleTo (rulesOf n words head part first named src) on own mem i rows₀ rows grew h
 
 abbrev μ-loop : tie.MeasureT-loop
 μ-loop n words head part first named src on mem own i rows₀ grew₀ h₀ rows grew h = words - h
@@ -21,10 +22,16 @@ loop-holds : tie.Need-loop-holds Inv-loop μ-loop
 loop-holds c = rule-start (rulesOf _ _ _ _ _ _ _) _ _ _ _ _ (c .before .before .before .pre .2)
 
 turn-requires : tie.Need-turn-requires Inv-loop μ-loop
-turn-requires c κs = (c .before .before .before .before .before .before .pre .0, c .before .loop-test .taken, c .before .before .before .before .before .before .pre .1, c .before .before .loop .inv .grown .sized)
+turn-requires c κs =
+    let c6 = c .before .before .before .before .before .before in
+    (c6 .pre .0, c .before .loop-test .taken, c6 .pre .1, c .before .before .loop .inv .grown .sized)
 
 loop-again : tie.Need-loop-again Inv-loop μ-loop
-loop-again c = rule-turn (rulesOf _ _ _ _ _ _ _) _ _ _ (c .before .before .before .before .before .before .if1 .left) (c .before .before .before .before .if2 .left) (c .before .before .loop-test .taken) (c .turn .ensures) (c .before .before .before .loop .inv)
+loop-again c =
+    let c3 = c .before .before .before in
+    let c4 = c3 .before in
+    let c6 = c4 .before .before in
+    rule-turn (rulesOf _ _ _ _ _ _ _) _ _ _ (c6 .if1 .left) (c4 .if2 .left) (c .before .before .loop-test .taken) (c .turn .ensures) (c3 .loop .inv)
 
 returns-3 : tie.Need-returns-3 Inv-loop μ-loop
 returns-3 c = rule-all (rulesOf _ _ _ _ _ _ _) _ _ _ (c .loop-test .left) (c .before .loop .inv)

@@ -8,7 +8,9 @@ is-full-requires : tie.Need-is-full-requires
 is-full-requires c κs = c .before .before .pre .1 .head .under _
 
 returns : tie.Need-returns
-returns c = rule-full (rulesOf _ _ _ _ _ _ _) _ _ _ _ _ _ _ (c .before .before .before .before .pre .1) (c .before .before .before .before .pre .2) (c .before .before .before .before .pre .3) (c .before .is-full .ensures) (c .if1 .taken)
+returns c =
+    let c4 = c .before .before .before .before in
+    rule-full (rulesOf _ _ _ _ _ _ _) _ _ _ _ _ _ _ (c4 .pre .1) (c4 .pre .2) (c4 .pre .3) (c .before .is-full .ensures) (c .if1 .taken)
 
 pub rule-below-spec : {M : Type 1} → statement M
 rule-below-spec =

@@ -18,19 +18,41 @@ element-copy-out-old : tie.Need-element-copy-out-old
 element-copy-out-old c = omega (arith, c .before .pre .1, c .before .pre .2 .words, c .before .pre .2 .head .under (c .before .args .i))
 
 gives-requires : tie.Need-gives-requires
-gives-requires c κs = (c .before .before .before .pre .0, omega (arith, c .before .before .before .pre .1, c .before .before .before .pre .2 .words), c .before .before .before .pre .2)
+gives-requires c κs = (
+  c .before .before .before .pre .0,
+  omega (arith, c .before .before .before .pre .1, c .before .before .before .pre .2 .words),
+  c .before .before .before .pre .2,
+)
 
 mul-rows : tie.Need-mul-rows
-mul-rows c = omega (arith, c .before .before .before .before .before .before .pre .1, c .before .before .before .before .before .before .pre .2 .words, c .before .before .before .before .before .before .pre .2 .head .under (c .before .before .before .before .before .before .args .i))
+mul-rows c =
+    omega (
+      arith,
+      c .before .before .before .before .before .before .pre .1,
+      c .before .before .before .before .before .before .pre .2 .words,
+      c .before .before .before .before .before .before .pre .2 .head .under (c .before .before .before .before .before .before .args .i),
+    )
 
 element-write-rows : tie.Need-element-write-rows
-element-write-rows c = omega (arith, c .before .before .before .before .before .before .pre .1, c .before .before .before .before .before .before .pre .2 .words, c .before .before .before .before .before .before .pre .2 .head .under (c .before .before .before .before .before .before .args .i))
+element-write-rows c =
+    omega (
+      arith,
+      c .before .before .before .before .before .before .pre .1,
+      c .before .before .before .before .before .before .pre .2 .words,
+      c .before .before .before .before .before .before .pre .2 .head .under (c .before .before .before .before .before .before .args .i),
+    )
 
 returns : tie.Need-returns
-returns c = turn-new (rulesOf _ _ _ _ _ _ _) _ _ _ _ _ _ (c .before .before .before .before .before .before .pre .2) (c .before .before .before .before .before .before .pre .1) (c .before .before .before .before .before .before .pre .3) (c .before .before .gives .ensures) _ (c .before .join .ensures .0) (c .if1 .taken) (c .before .join .ensures .1)
+returns c =
+    let c6 = c .before .before .before .before .before .before in
+    turn-new (rulesOf _ _ _ _ _ _ _) _ _ _ _ _ _ (c6 .pre .2) (c6 .pre .1) (c6 .pre .3) (c .before .before .gives .ensures) _
+    (c .before .join .ensures .0) (c .if1 .taken) (c .before .join .ensures .1)
 
 returns-2 : tie.Need-returns-2
-returns-2 c = turn-same (rulesOf _ _ _ _ _ _ _) _ _ _ _ _ _ (c .before .before .before .before .before .before .pre .2) (c .before .before .before .before .before .before .pre .1) (c .before .before .before .before .before .before .pre .3) (c .before .before .gives .ensures) _ (c .before .join .ensures .0) (c .if1 .left)
+returns-2 c =
+    let c6 = c .before .before .before .before .before .before in
+    turn-same (rulesOf _ _ _ _ _ _ _) _ _ _ _ _ _ (c6 .pre .2) (c6 .pre .1) (c6 .pre .3) (c .before .before .gives .ensures) _
+    (c .before .join .ensures .0) (c .if1 .left)
 
 pub turn-spec : {M : Type 1} → statement M
 turn-spec =

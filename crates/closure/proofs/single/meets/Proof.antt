@@ -12,19 +12,45 @@ mul-old : tie.Need-mul-old
 mul-old c = omega (arith, c .before .before .before .before .pre .2 .head .under (c .before .before .before .before .args .i))
 
 element-copy-out-old : tie.Need-element-copy-out-old
-element-copy-out-old c = omega (arith, c .before .before .before .before .pre .2 .head .under (c .before .before .before .before .args .i), c .before .before .before .before .pre .3)
+element-copy-out-old c =
+    omega (
+      arith,
+      c .before .before .before .before .pre .2 .head .under (c .before .before .before .before .args .i),
+      c .before .before .before .before .pre .3,
+    )
 
 meet-requires : tie.Need-meet-requires
-meet-requires c κs = (c .before .before .before .before .before .before .before .before .before .before .pre .2 .part .under _, c .before .before .before .before .before .before .before .before .before .before .pre .2 .part .under _, c .before .before .before .before .before .before .before .before .before .before .pre .2 .part .under _, c .before .before .before .before .before .before .before .before .before .before .pre .2 .part .under _, omega arith)
+meet-requires c κs = (
+  c .before .before .before .before .before .before .before .before .before .before .pre .2 .part .under _,
+  c .before .before .before .before .before .before .before .before .before .before .pre .2 .part .under _,
+  c .before .before .before .before .before .before .before .before .before .before .pre .2 .part .under _,
+  c .before .before .before .before .before .before .before .before .before .before .pre .2 .part .under _,
+  omega arith,
+)
 
 mul-rows : tie.Need-mul-rows
-mul-rows c = omega (arith, c .before .before .before .before .before .before .before .before .before .before .before .pre .2 .head .under (c .before .before .before .before .before .before .before .before .before .before .before .args .i))
+mul-rows c =
+    omega (
+      arith,
+      c .before .before .before .before .before .before .before .before .before .before .before .pre .2 .head .under
+          (c .before .before .before .before .before .before .before .before .before .before .before .args .i),
+    )
 
 element-write-rows : tie.Need-element-write-rows
-element-write-rows c = omega (arith, c .before .before .before .before .before .before .before .before .before .before .before .pre .2 .head .under (c .before .before .before .before .before .before .before .before .before .before .before .args .i), c .before .before .before .before .before .before .before .before .before .before .before .pre .3)
+element-write-rows c =
+    omega (
+      arith,
+      c .before .before .before .before .before .before .before .before .before .before .before .pre .2 .head .under
+          (c .before .before .before .before .before .before .before .before .before .before .before .args .i),
+      c .before .before .before .before .before .before .before .before .before .before .before .pre .3,
+    )
 
 returns-3 : tie.Need-returns-3
-returns-3 c = meet-grown (rulesOf _ _ _ _ _ _ _) _ _ _ _ (c .before .before .before .before .before .before .before .before .before .before .before .args .i) _ (c .before .before .before .before .before .before .before .before .before .before .before .pre .2) (c .before .before .before .before .before .before .before .before .before .before .before .pre .1) (c .before .before .before .before .before .before .before .before .before .before .before .pre .3) (c .before .before .before .before .before .before .before .before .before .before .if1 .left) (c .before .before .before .before .before .before .before .before .if2 .left) (c .meet .ensures)
+returns-3 c =
+    let c8 = c .before .before .before .before .before .before .before .before in
+    let c10 = c8 .before .before in
+    let c11 = c10 .before in
+    meet-grown (rulesOf _ _ _ _ _ _ _) _ _ _ _ (c11 .args .i) _ (c11 .pre .2) (c11 .pre .1) (c11 .pre .3) (c10 .if1 .left) (c8 .if2 .left) (c .meet .ensures)
 
 pub meets-spec : {M : Type 1} → statement M
 meets-spec =

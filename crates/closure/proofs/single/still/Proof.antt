@@ -21,7 +21,14 @@ loop-holds : tie.Need-loop-holds Inv-loop μ-loop
 loop-holds c = still-start (rulesOf _ _ _ _ _ _ _) _ _ _ _
 
 rests-requires : tie.Need-rests-requires Inv-loop μ-loop
-rests-requires c κs = (omega (arith, c .before .before .before .before .before .pre .0 .count), c .before .before .before .before .if1 .left, c .before .before .before .before .before .pre .0, c .before .before .before .before .before .pre .1, c .before .before .filled .ensures, c .before .before .before .held .ensures)
+rests-requires c κs = (
+  omega (arith, c .before .before .before .before .before .pre .0 .count),
+  c .before .before .before .before .if1 .left,
+  c .before .before .before .before .before .pre .0,
+  c .before .before .before .before .before .pre .1,
+  c .before .before .filled .ensures,
+  c .before .before .before .held .ensures,
+)
 
 returns-2 : tie.Need-returns-2 Inv-loop μ-loop
 returns-2 c = still-not (rulesOf _ _ _ _ _ _ _) _ _ _ _
@@ -30,7 +37,9 @@ add-i : tie.Need-add-i Inv-loop μ-loop
 add-i c = omega (arith, c .before .before .before .before .before .before .before .pre .0 .count)
 
 loop-again : tie.Need-loop-again Inv-loop μ-loop
-loop-again c = still-next (rulesOf _ _ _ _ _ _ _) _ _ _ _ (c .before .before .before .loop .i) (c .before .before .loop-test .taken) (c .before .rests .ensures) (c .if2 .left) (c .before .before .before .loop .inv)
+loop-again c =
+    let c3 = c .before .before .before in
+    still-next (rulesOf _ _ _ _ _ _ _) _ _ _ _ (c3 .loop .i) (c .before .before .loop-test .taken) (c .before .rests .ensures) (c .if2 .left) (c3 .loop .inv)
 
 returns-3 : tie.Need-returns-3 Inv-loop μ-loop
 returns-3 c = still-all (rulesOf _ _ _ _ _ _ _) _ _ _ _ (c .before .loop .i) (c .loop-test .left) (c .before .loop .inv)

@@ -18,8 +18,10 @@ loop-holds c = (filled-start _, omega arith)
 loop-again : tie.Need-loop-again Inv-loop μ-loop
 loop-again c = (
   ⊎-elim
-      (λ w. rw (w .2) (filled-add _ (c .before .before .before .loop .r) (c .before .before .before .loop .w) (w .1 .result) (w .1 .ensures) (c .before .before .before .loop .inv .0)))
-      (λ w. rw (w .1) (filled-skip _ (c .before .before .before .loop .r) (c .before .before .before .loop .w) (w .0 .left) (c .before .before .before .loop .inv .0)))
+      (λ w. rw (w .2) (filled-add _ (c .before .before .before .loop .r) (c .before .before .before .loop .w) (w .1 .result) (w .1 .ensures)
+      (c .before .before .before .loop .inv .0)))
+      (λ w. rw (w .1) (filled-skip _ (c .before .before .before .loop .r) (c .before .before .before .loop .w) (w .0 .left)
+      (c .before .before .before .loop .inv .0)))
       (c .if1 .came),
   omega arith,
 )

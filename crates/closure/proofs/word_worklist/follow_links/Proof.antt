@@ -17,19 +17,42 @@ mul-old : tie.Need-mul-old
 mul-old c = omega (arith, c .before .before .before .before .pre .2 .head .under (c .before .before .before .before .args .i))
 
 element-copy-out-old : tie.Need-element-copy-out-old
-element-copy-out-old c = omega (arith, c .before .before .before .before .pre .2 .head .under (c .before .before .before .before .args .i), c .before .before .before .before .pre .3)
+element-copy-out-old c =
+    omega (
+      arith,
+      c .before .before .before .before .pre .2 .head .under (c .before .before .before .before .args .i),
+      c .before .before .before .before .pre .3,
+    )
 
 gathered-requires : tie.Need-gathered-requires
-gathered-requires c κs = (c .before .before .before .before .before .before .before .before .pre .2 .first .under _, c .before .before .before .before .before .before .before .before .pre .2 .src)
+gathered-requires c κs =
+    let c8 = c .before .before .before .before .before .before .before .before in
+    (c8 .pre .2 .first .under _, c8 .pre .2 .src)
 
 mul-rows : tie.Need-mul-rows
-mul-rows c = omega (arith, c .before .before .before .before .before .before .before .before .before .pre .2 .head .under (c .before .before .before .before .before .before .before .before .before .args .i))
+mul-rows c =
+    omega (
+      arith,
+      c .before .before .before .before .before .before .before .before .before .pre .2 .head .under
+          (c .before .before .before .before .before .before .before .before .before .args .i),
+    )
 
 element-write-rows : tie.Need-element-write-rows
-element-write-rows c = omega (arith, c .before .before .before .before .before .before .before .before .before .pre .2 .head .under (c .before .before .before .before .before .before .before .before .before .args .i), c .before .before .before .before .before .before .before .before .before .pre .3)
+element-write-rows c =
+    omega (
+      arith,
+      c .before .before .before .before .before .before .before .before .before .pre .2 .head .under
+          (c .before .before .before .before .before .before .before .before .before .args .i),
+      c .before .before .before .before .before .before .before .before .before .pre .3,
+    )
 
 returns-3 : tie.Need-returns-3
-returns-3 c = links-grown (rulesOf _ _ _ _ _ _ _) _ _ _ _ _ (c .before .before .before .before .before .before .before .before .before .args .set) _ (c .before .before .before .before .before .before .before .before .before .pre .2) (c .before .before .before .before .before .before .before .before .before .pre .1) (c .before .before .before .before .before .before .before .before .before .pre .3) (c .before .before .before .before .before .before .before .before .if1 .left) (c .before .before .before .before .before .before .if2 .left) (c .gathered .ensures)
+returns-3 c =
+    let c6 = c .before .before .before .before .before .before in
+    let c8 = c6 .before .before in
+    let c9 = c8 .before in
+    links-grown (rulesOf _ _ _ _ _ _ _) _ _ _ _ _ (c9 .args .set) _ (c9 .pre .2) (c9 .pre .1) (c9 .pre .3) (c8 .if1 .left) (c6 .if2 .left)
+    (c .gathered .ensures)
 
 pub follow-links-spec : {M : Type 1} → statement M
 follow-links-spec =

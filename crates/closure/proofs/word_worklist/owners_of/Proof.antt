@@ -22,7 +22,8 @@ mul-owners : tie.Need-mul-owners Inv-loop μ-loop
 mul-owners c = omega (arith, c .before .before .before .before .pre .1 .under (c .before .before .before .loop .j))
 
 array-write-owners : tie.Need-array-write-owners Inv-loop μ-loop
-array-write-owners c = omega (arith, c .before .before .before .before .pre .1 .under (c .before .before .before .loop .j), c .before .before .before .loop .inv)
+array-write-owners c =
+    omega (arith, c .before .before .before .before .pre .1 .under (c .before .before .before .loop .j), c .before .before .before .loop .inv)
 
 returns : tie.Need-returns Inv-loop μ-loop
 returns c = c .before .loop .inv

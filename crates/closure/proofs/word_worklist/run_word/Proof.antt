@@ -8,7 +8,8 @@ use Rattle.closure.proofs.word_worklist.run_word.Statement.{statement}
 use Rattle.closure.proofs.word_worklist.run_word.Tie as tie
 
 abbrev Inv-loop : tie.InvT-loop
-Inv-loop n words head part first named src on mem own deps lo rows₀ owners all links read seen₀ done₀ w₀ fuel₀ rows seen done w fuel = (length seen ≡ 260) × (length done ≡ 260) × Grown (rulesOf n words head part first named src) on own mem rows₀ rows
+Inv-loop n words head part first named src on mem own deps lo rows₀ owners all links read seen₀ done₀ w₀ fuel₀ rows seen done w fuel =
+    (length seen ≡ 260) × (length done ≡ 260) × Grown (rulesOf n words head part first named src) on own mem rows₀ rows
 
 abbrev μ-loop : tie.MeasureT-loop
 μ-loop n words head part first named src on mem own deps lo rows₀ owners all links read seen₀ done₀ w₀ fuel₀ rows seen done w fuel = fuel
@@ -23,7 +24,12 @@ read-on-requires : tie.Need-read-on-requires Inv-loop μ-loop
 read-on-requires c κs = (c .before .before .before .pre .0, c .before .before .before .pre .2 .head)
 
 loop-holds : tie.Need-loop-holds Inv-loop μ-loop
-loop-holds c = (search needs, c .before .before .unseen .ensures, grow-start (rulesOf _ _ _ _ _ _ _) _ _ _ _ (c .before .before .before .before .before .before .before .pre .3))
+loop-holds c = (
+  search needs,
+  c .before .before .unseen .ensures,
+  grow-start (rulesOf _ _ _ _ _ _ _) _ _ _ _
+      (c .before .before .before .before .before .before .before .pre .3),
+)
 
 returns : tie.Need-returns Inv-loop μ-loop
 returns c = c .before .before .before .loop .inv .2
@@ -32,7 +38,11 @@ one-requires : tie.Need-one-requires Inv-loop μ-loop
 one-requires c κs = c .next .ensures
 
 step-requires : tie.Need-step-requires Inv-loop μ-loop
-step-requires c κs = (c .before .before .before .before .before .next .ensures, c .before .before .before .before .before .before .before .before .before .before .before .before .before .before .before .before .before .pre .1, c .before .before .before .before .before .before .before .before .before .before .before .before .before .before .before .before .before .pre .2, c .before .before .before .before .before .before .before .before .before .loop .inv .0, c .before .before .before .before .before .before .before .before .before .loop .inv .1, c .before .before .before .before .before .before .before .before .before .loop .inv .2 .sized)
+step-requires c κs =
+    let c5 = c .before .before .before .before .before in
+    let c9 = c5 .before .before .before .before in
+    let c17 = c9 .before .before .before .before .before .before .before .before in
+    (c5 .next .ensures, c17 .pre .1, c17 .pre .2, c9 .loop .inv .0, c9 .loop .inv .1, c9 .loop .inv .2 .sized)
 
 mul-r : tie.Need-mul-r Inv-loop μ-loop
 mul-r c = omega (arith, c .before .before .before .before .before .before .before .next .ensures)
@@ -41,19 +51,36 @@ element-copy-out-r : tie.Need-element-copy-out-r Inv-loop μ-loop
 element-copy-out-r c = omega (arith, c .before .before .before .before .before .before .before .next .ensures)
 
 mul-touched : tie.Need-mul-touched Inv-loop μ-loop
-mul-touched c = omega (arith, c .before .before .before .before .before .before .before .before .before .before .before .before .before .before .before .before .before .before .before .before .pre .2 .head .under (c .before .before .before .before .before .before .before .before .next .result))
+mul-touched c =
+    omega (
+      arith,
+      c .before .before .before .before .before .before .before .before .before .before .before .before .before .before .before .before .before .before .before .before .pre .2 .head .under
+          (c .before .before .before .before .before .before .before .before .next .result),
+    )
 
 mul-touched-2 : tie.Need-mul-touched-2 Inv-loop μ-loop
-mul-touched-2 c = omega (arith, c .before .before .before .before .before .before .before .before .before .before .before .before .before .before .before .before .before .before .before .before .pre .2 .head .under (c .before .before .before .before .before .before .before .before .next .result))
+mul-touched-2 c =
+    omega (
+      arith,
+      c .before .before .before .before .before .before .before .before .before .before .before .before .before .before .before .before .before .before .before .before .pre .2 .head .under
+          (c .before .before .before .before .before .before .before .before .next .result),
+    )
 
 element-copy-out-touched : tie.Need-element-copy-out-touched Inv-loop μ-loop
-element-copy-out-touched c = omega (arith, c .before .before .before .before .before .before .before .before .before .before .before .before .before .before .before .before .before .before .before .before .pre .2 .head .under (c .before .before .before .before .before .before .before .before .next .result))
+element-copy-out-touched c =
+    omega (
+      arith,
+      c .before .before .before .before .before .before .before .before .before .before .before .before .before .before .before .before .before .before .before .before .pre .2 .head .under
+          (c .before .before .before .before .before .before .before .before .next .result),
+    )
 
 touched-requires : tie.Need-touched-requires Inv-loop μ-loop
 touched-requires c κs = c .before .before .before .before .before .before .before .before .before .next .ensures
 
 loop-again : tie.Need-loop-again Inv-loop μ-loop
-loop-again c = (c .before .step .ensures .0, c .before .step .ensures .1, grow-more (rulesOf _ _ _ _ _ _ _) _ _ _ (c .before .before .before .before .before .before .before .before .before .before .before .loop .inv .2) (c .before .step .ensures .2))
+loop-again c =
+    let c11 = c .before .before .before .before .before .before .before .before .before .before .before in
+    (c .before .step .ensures .0, c .before .step .ensures .1, grow-more (rulesOf _ _ _ _ _ _ _) _ _ _ (c11 .loop .inv .2) (c .before .step .ensures .2))
 
 returns-2 : tie.Need-returns-2 Inv-loop μ-loop
 returns-2 c = c .before .loop .inv .2

@@ -14,13 +14,26 @@ returns : tie.Need-returns
 returns c = (c .before .before .before .before .pre .3, c .before .before .before .before .pre .4, c .rule .ensures .grown)
 
 ahead-requires : tie.Need-ahead-requires
-ahead-requires c κs = (omega (arith, c .before .before .before .before .before .pre .0), c .before .before .before .before .before .pre .2 .head, c .before .before .before .before .before .pre .2 .first, c .before .before .before .before .before .pre .3, c .before .before .before .before .before .pre .4)
+ahead-requires c κs = (
+  omega (arith, c .before .before .before .before .before .pre .0),
+  c .before .before .before .before .before .pre .2 .head,
+  c .before .before .before .before .before .pre .2 .first,
+  c .before .before .before .before .before .pre .3,
+  c .before .before .before .before .before .pre .4,
+)
 
 returns-2 : tie.Need-returns-2
-returns-2 c = (c .before .ahead .ensures .0, c .before .ahead .ensures .1, grow-start (rulesOf _ _ _ _ _ _ _) _ _ _ _ (c .before .before .before .before .before .before .before .pre .5))
+returns-2 c =
+    let c7 = c .before .before .before .before .before .before .before in
+    (c .before .ahead .ensures .0, c .before .ahead .ensures .1, grow-start (rulesOf _ _ _ _ _ _ _) _ _ _ _ (c7 .pre .5))
 
 follow-links-requires : tie.Need-follow-links-requires
-follow-links-requires c κs = (omega (arith, c .before .before .before .before .before .before .before .before .pre .0), c .before .before .before .before .before .before .before .before .pre .1, c .before .before .before .before .before .before .before .before .pre .2, c .before .before .before .before .before .before .before .before .pre .5)
+follow-links-requires c κs = (
+  omega (arith, c .before .before .before .before .before .before .before .before .pre .0),
+  c .before .before .before .before .before .before .before .before .pre .1,
+  c .before .before .before .before .before .before .before .before .pre .2,
+  c .before .before .before .before .before .before .before .before .pre .5,
+)
 
 returns-3 : tie.Need-returns-3
 returns-3 c = (c .before .before .before .ahead .ensures .0, c .before .before .before .ahead .ensures .1, c .follow-links .ensures)

@@ -13,7 +13,13 @@ abbrev μ-loop : tie.MeasureT-loop
 μ-loop n part first named few d₀ i₀ d i = n - i
 
 read-rule-requires : tie.Need-read-rule-requires Inv-loop μ-loop
-read-rule-requires c κs = (c .before .before .before .pre .1, c .before .before .before .pre .2, omega (arith, c .before .before .before .pre .0, c .before .loop-test .taken), c .before .before .loop .inv)
+read-rule-requires c κs = (
+  c .before .before .before .pre .1,
+  c .before .before .before .pre .2,
+  omega
+      (arith, c .before .before .before .pre .0, c .before .loop-test .taken),
+  c .before .before .loop .inv,
+)
 
 loop-again : tie.Need-loop-again Inv-loop μ-loop
 loop-again c = c .read-rule .ensures

@@ -63,7 +63,10 @@ element-copy-out-mark-2 : tie.Need-element-copy-out-mark-2 Inv-loop μ-loop
 element-copy-out-mark-2 c = omega (arith, c .before .before .before .before .before .before .before .before .before .before .before .before .pre .2)
 
 mark-requires-2 : tie.Need-mark-requires-2 Inv-loop μ-loop
-mark-requires-2 c κs = (c .before .before .before .before .before .before .before .before .before .before .before .before .before .pre .0 .under _, c .before .before .before .before .before .before .before .before .before .before .before .before .before .pre .2, c .before .before .before .loop .inv)
+mark-requires-2 c κs =
+    let c3 = c .before .before .before in
+    let c13 = c3 .before .before .before .before .before .before .before .before .before .before in
+    (c13 .pre .0 .under _, c13 .pre .2, c3 .loop .inv)
 
 add-k : tie.Need-add-k Inv-loop μ-loop
 add-k c = omega (arith, c .before .before .before .before .before .before .before .before .before .before .before .before .before .before .pre .2)

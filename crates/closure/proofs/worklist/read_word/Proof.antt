@@ -27,7 +27,11 @@ add-mark : tie.Need-add-mark Inv-loop μ-loop
 add-mark c = omega (arith, c .before .before .before .before .before .before .before .before .pre .0, c .lowest .ensures .0)
 
 mark-requires-2 : tie.Need-mark-requires-2 Inv-loop μ-loop
-mark-requires-2 c κs = (omega (arith, c .before .before .before .before .before .before .before .before .pre .0, c .lowest .ensures .0), c .before .before .before .before .before .before .before .before .pre .1, c .before .before .before .loop .inv)
+mark-requires-2 c κs = (
+  omega (arith, c .before .before .before .before .before .before .before .before .pre .0, c .lowest .ensures .0),
+  c .before .before .before .before .before .before .before .before .pre .1,
+  c .before .before .before .loop .inv,
+)
 
 loop-less : tie.Need-loop-less Inv-loop μ-loop
 loop-less c = rw (c .others .ensures ∙ ap (without _) (sym (c .before .before .lowest .ensures .2))) (without-less _ _ (c .before .before .lowest .ensures .1))

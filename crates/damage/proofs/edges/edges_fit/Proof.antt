@@ -8,7 +8,8 @@ use Rattle.damage.proofs.edges.edges_fit.Statement.{statement}
 use Rattle.damage.proofs.edges.edges_fit.Tie as tie
 
 abbrev Inv-loop : tie.InvT-loop
-Inv-loop h n kind parts n0 n1 n2 n3 n4 n5 n6 n7 subject verifier state m edge parent child b₀ j₀ b j = Bringing h (nodesFrom n kind parts n0 n1 n2 n3 n4 n5 n6 n7 subject verifier state) (edgesFrom m edge parent child) b j
+Inv-loop h n kind parts n0 n1 n2 n3 n4 n5 n6 n7 subject verifier state m edge parent child b₀ j₀ b j =
+    Bringing h (nodesFrom n kind parts n0 n1 n2 n3 n4 n5 n6 n7 subject verifier state) (edgesFrom m edge parent child) b j
 
 abbrev μ-loop : tie.MeasureT-loop
 μ-loop h n kind parts n0 n1 n2 n3 n4 n5 n6 n7 subject verifier state m edge parent child b₀ j₀ b j = m - j
@@ -17,22 +18,28 @@ loop-holds : tie.Need-loop-holds Inv-loop μ-loop
 loop-holds c = bringing-none _ _ _ (c .pre .0)
 
 edge-fits-requires : tie.Need-edge-fits-requires Inv-loop μ-loop
-edge-fits-requires c κs = ((c .before .before .pre .1), (c .before .before .pre .2), (c .loop-test .taken), (c .before .loop .inv .brings), (c .before .loop .inv .few))
+edge-fits-requires c κs =
+    ((c .before .before .pre .1), (c .before .before .pre .2), (c .loop-test .taken), (c .before .loop .inv .brings), (c .before .loop .inv .few))
 
 returns : tie.Need-returns Inv-loop μ-loop
 returns c = bringing-stop _ _ _ (c .before .before .before .loop .inv) (c .before .before .loop-test .taken) (c .before .edge-fits .ensures) (c .if1 .taken)
 
 add-b : tie.Need-add-b Inv-loop μ-loop
-add-b c = omega (arith, (c .before .before .before .before .before .before .loop .inv .few), (c .before .before .before .before .before .before .before .pre .1))
+add-b c =
+    omega (arith, (c .before .before .before .before .before .before .loop .inv .few), (c .before .before .before .before .before .before .before .pre .1))
 
 add-j : tie.Need-add-j Inv-loop μ-loop
 add-j c = omega (arith, (c .before .before .before .before .before .loop-test .taken), (c .before .before .before .before .before .before .before .pre .2))
 
 loop-again : tie.Need-loop-again Inv-loop μ-loop
 loop-again c =
+    let c3 = c .before .before .before in
+    let c4 = c3 .before in
+    let c5 = c4 .before in
+    let c6 = c5 .before in
     ⊎-elim
-    (λ w. bringing-next _ _ _ (c .before .before .before .before .before .before .loop .inv) (c .before .before .before .before .before .loop-test .taken) (c .before .before .before .before .edge-fits .ensures) (c .before .before .before .if1 .left) (c .before .wide .ensures) (w .0 .taken) (w .1))
-    (λ w. bringing-same _ _ _ (c .before .before .before .before .before .before .loop .inv) (c .before .before .before .before .before .loop-test .taken) (c .before .before .before .before .edge-fits .ensures) (c .before .before .before .if1 .left) (c .before .wide .ensures) (w .0 .left) (w .1))
+    (λ w. bringing-next _ _ _ (c6 .loop .inv) (c5 .loop-test .taken) (c4 .edge-fits .ensures) (c3 .if1 .left) (c .before .wide .ensures) (w .0 .taken) (w .1))
+    (λ w. bringing-same _ _ _ (c6 .loop .inv) (c5 .loop-test .taken) (c4 .edge-fits .ensures) (c3 .if1 .left) (c .before .wide .ensures) (w .0 .left) (w .1))
     (c .if2 .came)
 
 returns-2 : tie.Need-returns-2 Inv-loop μ-loop

@@ -4,7 +4,12 @@ use Rattle.damage.proofs.edges.formed.Statement.{statement}
 use Rattle.damage.proofs.edges.formed.Tie as tie
 
 returns : tie.Need-returns
-returns c = formed-is _ _ _ (c .before .before .before .before .before .wide .ensures) (c .before .before .before .before .node-at .ensures) (c .before .before .before .wide2 .ensures) (c .before .before .node-at2 .ensures) (c .before .entity-of .ensures) (c .form .ensures)
+returns c =
+    let c3 = c .before .before .before in
+    let c4 = c3 .before in
+    let c5 = c4 .before in
+    formed-is _ _ _ (c5 .wide .ensures) (c4 .node-at .ensures) (c3 .wide2 .ensures) (c .before .before .node-at2 .ensures)
+    (c .before .entity-of .ensures) (c .form .ensures)
 
 pub formed-spec : {M : Type 1} → statement M
 formed-spec =

@@ -8,7 +8,9 @@ returns : tie.Need-returns
 returns c = node-unsound _ _ _ (c .before .before .before .pre .2) (c .before .before .node-at .ensures) (c .before .node-sound .ensures) (c .if1 .taken)
 
 returns-2 : tie.Need-returns-2
-returns-2 c = node-new _ _ _ (c .before .before .before .before .pre .2) (c .before .before .before .node-at .ensures) (c .before .before .node-sound .ensures) (omega (arith, (c .before .before .before .before .pre .2), (c .before .before .before .before .pre .3))) (c .before .if1 .left) (c .find-node .ensures)
+returns-2 c =
+    node-new _ _ _ (c .before .before .before .before .pre .2) (c .before .before .before .node-at .ensures) (c .before .before .node-sound .ensures)
+    (omega (arith, (c .before .before .before .before .pre .2), (c .before .before .before .before .pre .3))) (c .before .if1 .left) (c .find-node .ensures)
 
 pub node-fits-spec : {M : Type 1} → statement M
 node-fits-spec =

@@ -7,10 +7,16 @@ returns : tie.Need-returns
 returns c = primary-other _ _ (c .before .before .requester .ensures) (c .if1 .taken)
 
 returns-2 : tie.Need-returns-2
-returns-2 c = primary-wanted _ _ (c .before .before .before .before .before .before .requester .ensures) (c .before .before .before .before .if1 .left) (c .before .if2 .taken) (c .same .ensures)
+returns-2 c =
+    let c4 = c .before .before .before .before in
+    let c6 = c4 .before .before in
+    primary-wanted _ _ (c6 .requester .ensures) (c4 .if1 .left) (c .before .if2 .taken) (c .same .ensures)
 
 returns-3 : tie.Need-returns-3
-returns-3 c = primary-role _ _ (c .before .before .before .before .before .before .requester .ensures) (c .before .before .before .before .if1 .left) (c .before .if2 .left) (c .is-role-expression .ensures)
+returns-3 c =
+    let c4 = c .before .before .before .before in
+    let c6 = c4 .before .before in
+    primary-role _ _ (c6 .requester .ensures) (c4 .if1 .left) (c .before .if2 .left) (c .is-role-expression .ensures)
 
 pub primary-sound-spec : {M : Type 1} → statement M
 primary-sound-spec =

@@ -4,10 +4,16 @@ use Rattle.damage.proofs.shown.credential_fits.Statement.{statement}
 use Rattle.damage.proofs.shown.credential_fits.Tie as tie
 
 returns : tie.Need-returns
-returns c = credential-unsound _ _ _ _ (c .before .before .before .head-at .ensures) (c .before .before .body-at .ensures) (c .before .credential-sound .ensures) (c .if1 .taken)
+returns c =
+    let c3 = c .before .before .before in
+    credential-unsound _ _ _ _ (c3 .head-at .ensures) (c .before .before .body-at .ensures) (c .before .credential-sound .ensures) (c .if1 .taken)
 
 returns-2 : tie.Need-returns-2
-returns-2 c = credential-new _ _ _ _ (c .before .before .before .before .head-at .ensures) (c .before .before .before .body-at .ensures) (c .before .before .credential-sound .ensures) (c .before .if1 .left) (c .is-shown .ensures)
+returns-2 c =
+    let c3 = c .before .before .before in
+    let c4 = c3 .before in
+    credential-new _ _ _ _ (c4 .head-at .ensures) (c3 .body-at .ensures) (c .before .before .credential-sound .ensures) (c .before .if1 .left)
+    (c .is-shown .ensures)
 
 pub credential-fits-spec : {M : Type 1} → statement M
 credential-fits-spec =

@@ -6,7 +6,9 @@ use Rattle.graph.proofs.find.edge_at.Statement.{statement}
 use Rattle.graph.proofs.find.edge_at.Tie as tie
 
 returns : tie.Need-returns
-returns c = sym (edge-in (edgesFrom (c .before .before .before .args .m) (c .before .before .before .args .kind .now) (c .before .before .before .args .parent .now) (c .before .before .before .args .child .now)) (c .before .before .before .args .j) (c .before .before .before .pre .0))
+returns c =
+    let c3 = c .before .before .before in
+    sym (edge-in (edgesFrom (c3 .args .m) (c3 .args .kind .now) (c3 .args .parent .now) (c3 .args .child .now)) (c3 .args .j) (c3 .pre .0))
 
 pub edge-at-spec : {M : Type 1} → statement M
 edge-at-spec =

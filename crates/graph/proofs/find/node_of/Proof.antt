@@ -7,7 +7,10 @@ use Rattle.graph.proofs.find.node_of.Statement.{statement}
 use Rattle.graph.proofs.find.node_of.Tie as tie
 
 returns : tie.Need-returns
-returns c = (c .node-at .ensures) ∙ ap (λ (i : ℕ). nodeIn (nodesOf (c .before .before .before .before .before .before .before .before .before .before .before .before .before .before .before .before .args .t1)) i) (c .before .wide .ensures)
+returns c =
+    let c14 = c .before .before .before .before .before .before .before .before .before .before .before .before .before .before in
+    let c16 = c14 .before .before in
+    (c .node-at .ensures) ∙ ap (λ (i : ℕ). nodeIn (nodesOf (c16 .args .t1)) i) (c .before .wide .ensures)
 
 pub node-of-spec : {M : Type 1} → statement M
 node-of-spec = tie.close (tie.spec (λ c κs. search needs) (λ c κs. search needs) returns)

@@ -16,19 +16,56 @@ returns-2 c = rw (sym (c .before .before .before .same .ensures) ∙ c .before .
 
 returns-3 : tie.Need-returns-3
 unfolding hasRole
-returns-3 c = rw (sym (c .before .before .before .before .before .same .ensures) ∙ c .before .before .before .before .if1 .left, sym (c .before .before .before .same2 .ensures) ∙ c .before .before .if2 .left, eq-eqb _ _ (c .if3 .taken))
+returns-3 c =
+    rw (
+      sym (c .before .before .before .before .before .same .ensures)
+          ∙ c .before .before .before .before .if1 .left,
+      sym (c .before .before .before .same2 .ensures) ∙ c .before .before .if2 .left,
+      eq-eqb _ _ (c .if3 .taken),
+    )
 
 returns-4 : tie.Need-returns-4
 unfolding hasRole
-returns-4 c = rw (sym (c .before .before .before .before .before .before .before .same .ensures) ∙ c .before .before .before .before .before .before .if1 .left, sym (c .before .before .before .before .before .same2 .ensures) ∙ c .before .before .before .before .if2 .left, ne-eqb _ _ (c .before .before .if3 .left), sym (c .before .same3 .ensures) ∙ c .if4 .taken)
+returns-4 c =
+    rw (
+      sym (c .before .before .before .before .before .before .before .same .ensures)
+          ∙ c .before .before .before .before .before .before .if1 .left,
+      sym (c .before .before .before .before .before .same2 .ensures)
+          ∙ c .before .before .before .before .if2 .left,
+      ne-eqb _ _ (c .before .before .if3 .left),
+      sym (c .before .same3 .ensures) ∙ c .if4 .taken,
+    )
 
 returns-5 : tie.Need-returns-5
 unfolding hasRole
-returns-5 c = rw (sym (c .before .before .before .before .before .before .before .before .before .same .ensures) ∙ c .before .before .before .before .before .before .before .before .if1 .left, sym (c .before .before .before .before .before .before .before .same2 .ensures) ∙ c .before .before .before .before .before .before .if2 .left, ne-eqb _ _ (c .before .before .before .before .if3 .left), sym (c .before .before .before .same3 .ensures) ∙ c .before .before .if4 .left, eq-eqb _ _ (c .if5 .taken))
+returns-5 c =
+    rw (
+      sym (c .before .before .before .before .before .before .before .before .before .same .ensures)
+          ∙ c .before .before .before .before .before .before .before .before .if1 .left,
+      sym
+          (c .before .before .before .before .before .before .before .same2 .ensures)
+          ∙ c .before .before .before .before .before .before .if2 .left,
+      ne-eqb _ _ (c .before .before .before .before .if3 .left),
+      sym
+          (c .before .before .before .same3 .ensures) ∙ c .before .before .if4 .left,
+      eq-eqb _ _ (c .if5 .taken),
+    )
 
 returns-6 : tie.Need-returns-6
 unfolding hasRole
-returns-6 c = rw (sym (c .before .before .before .before .before .before .before .before .before .before .same .ensures) ∙ c .before .before .before .before .before .before .before .before .before .if1 .left, sym (c .before .before .before .before .before .before .before .before .same2 .ensures) ∙ c .before .before .before .before .before .before .before .if2 .left, ne-eqb _ _ (c .before .before .before .before .before .if3 .left), sym (c .before .before .before .before .same3 .ensures) ∙ c .before .before .before .if4 .left, ne-eqb _ _ (c .before .if5 .left)) (c .same4 .ensures ∙ sym (or-false _))
+returns-6 c =
+    rw (
+      sym (c .before .before .before .before .before .before .before .before .before .before .same .ensures)
+          ∙ c .before .before .before .before .before .before .before .before .before .if1 .left,
+      sym
+          (c .before .before .before .before .before .before .before .before .same2 .ensures)
+          ∙ c .before .before .before .before .before .before .before .if2 .left,
+      ne-eqb _ _ (c .before .before .before .before .before .if3 .left),
+      sym
+          (c .before .before .before .before .same3 .ensures) ∙ c .before .before .before .if4 .left,
+      ne-eqb _ _ (c .before .if5 .left),
+    )
+    (c .same4 .ensures ∙ sym (or-false _))
 
 pub has-role-spec : {M : Type 1} → statement M
 has-role-spec =

@@ -18,10 +18,21 @@ loop-holds : tie.Need-loop-holds Inv-loop μ-loop
 loop-holds c = (omega arith, children-none _)
 
 array-write-r : tie.Need-array-write-r Inv-loop μ-loop
-array-write-r c = omega (arith, (c .wide .ensures), (c .before .before .before .before .before .before .pre .1 .child) _ (c .before .before .before .before .loop-test .taken))
+array-write-r c =
+    omega (
+      arith,
+      (c .wide .ensures),
+      (c .before .before .before .before .before .before .pre .1 .child) _
+          (c .before .before .before .before .loop-test .taken),
+    )
 
 loop-again : tie.Need-loop-again Inv-loop μ-loop
-loop-again c = (omega arith, ⊎-elim (λ w. children-add _ (c .before .before .before .loop .inv .1) (w .2 .ensures) (omega (arith, (w .2 .ensures), (c .before .before .before .before .pre .1 .child) _ (c .before .before .loop-test .taken))) (w .3)) (λ w. children-skip _ (c .before .before .before .loop .inv .1) (w .0 .left) (w .1)) (c .if1 .came))
+loop-again c = (
+  omega arith,
+  ⊎-elim (λ w. children-add _ (c .before .before .before .loop .inv .1) (w .2 .ensures)
+      (omega (arith, (w .2 .ensures), (c .before .before .before .before .pre .1 .child) _ (c .before .before .loop-test .taken))) (w .3))
+      (λ w. children-skip _ (c .before .before .before .loop .inv .1) (w .0 .left) (w .1)) (c .if1 .came),
+)
 
 returns : tie.Need-returns Inv-loop μ-loop
 returns c = children-all _ (c .before .loop .inv .1) _ (c .before .loop .inv .0) (c .loop-test .left)

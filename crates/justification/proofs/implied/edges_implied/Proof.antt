@@ -20,13 +20,36 @@ rules-of-requires : tie.Need-rules-of-requires
 rules-of-requires c κs = c .before .pre .2
 
 relation-requires : tie.Need-relation-requires
-relation-requires c κs = let s = c .before .before .before .before .before .before .before .before .before .before .before .before .before .before .before in (s .pre .2, by-columns (P s) (c .before .before .before .before .before .before .before .before .before .before .before .before .before .rules-of .result) (c .before .before .before .before .before .before .before .before .before .before .before .before .before .rules-of .ensures))
+relation-requires c κs =
+    let c13 = c .before .before .before .before .before .before .before .before .before .before .before .before .before in
+    let c15 = c13 .before .before in
+    let s = c15 in (s .pre .2, by-columns (P s) (c13 .rules-of .result) (c13 .rules-of .ensures))
 
 nodes-implied-requires : tie.Need-nodes-implied-requires
-nodes-implied-requires c κs = let s = c .before .before .before .before .before .before .before .before .before .before .before .before .before .before .before .before .before .before .before .before .before .before .before .before .before .before in (s .pre .0, s .pre .3, s .pre .1, inside-more (s .pre .0) (s .pre .3), s .pre .2, by-columns (P s) (c .before .before .before .before .before .before .before .before .before .before .before .before .before .before .before .before .before .before .before .before .before .before .before .before .rules-of .result) (c .before .before .before .before .before .before .before .before .before .before .before .before .before .before .before .before .before .before .before .before .before .before .before .before .rules-of .ensures), c .before .before .before .before .before .before .before .before .before .before .relation .ensures, c .before .before .before .before .before .before .before .before .before .before .before .before .before .before .before .before .before .before .before .before .before .before .before .before .before .children .ensures)
+nodes-implied-requires c κs =
+    let c10 = c .before .before .before .before .before .before .before .before .before .before in
+    let c24 = c10 .before .before .before .before .before .before .before .before .before .before .before .before .before .before in
+    let c25 = c24 .before in
+    let c26 = c25 .before in
+    let s = c26 in (
+      s .pre .0,
+      s .pre .3,
+      s .pre .1,
+      inside-more (s .pre .0) (s .pre .3),
+      s .pre .2,
+      by-columns (P s) (c24 .rules-of .result)
+          (c24 .rules-of .ensures),
+      c10 .relation .ensures,
+      c25 .children .ensures,
+    )
 
 returns : tie.Need-returns
-returns c = let s = c .before .before .before .before .before .before .before .before .before .before .before .before .before .before .before .before .before .before .before .before .before .before .before .before .before .before .before in λ o. implied-nodes _ (nodesFrom (s .args .n) (s .args .kind .now) (s .args .parts .now) (s .args .n0 .now) (s .args .n1 .now) (s .args .n2 .now) (s .args .n3 .now) (s .args .n4 .now) (s .args .n5 .now) (s .args .n6 .now) (s .args .n7 .now) (o .subject) (o .verifier) (o .state)) _ (s .pre .3) (all-on (P s) (s .pre .2)) (c .nodes-implied .ensures)
+returns c =
+    let c14 = c .before .before .before .before .before .before .before .before .before .before .before .before .before .before in
+    let c27 = c14 .before .before .before .before .before .before .before .before .before .before .before .before .before in
+    let s = c27 in λ o. implied-nodes _ (nodesFrom (s .args .n) (s .args .kind .now) (s .args .parts .now) (s .args .n0 .now) (s .args .n1 .now)
+    (s .args .n2 .now) (s .args .n3 .now) (s .args .n4 .now) (s .args .n5 .now) (s .args .n6 .now) (s .args .n7 .now) (o .subject) (o .verifier)
+    (o .state)) _ (s .pre .3) (all-on (P s) (s .pre .2)) (c .nodes-implied .ensures)
 
 pub edges-implied-spec : {M : Type 1} → statement M
 edges-implied-spec =

@@ -8,10 +8,21 @@ returns : tie.Need-returns
 returns c = from-other _ _ _ _ (c .before .wide .ensures) (c .if1 .taken)
 
 expression-at-requires : tie.Need-expression-at-requires
-expression-at-requires c κs = omega (arith, (c .wide2 .ensures), (c .before .before .before .before .before .before .pre .2 .parent) _ (c .before .before .before .before .before .before .pre .0))
+expression-at-requires c κs =
+    omega (
+      arith,
+      (c .wide2 .ensures),
+      (c .before .before .before .before .before .before .pre .2 .parent) _
+          (c .before .before .before .before .before .before .pre .0),
+    )
 
 returns-2 : tie.Need-returns-2
-returns-2 c = from-here _ _ _ _ (c .before .before .before .before .before .wide .ensures) (c .before .before .before .before .if1 .left) (c .before .before .wide2 .ensures) (c .before .expression-at .ensures) (c .before .before .before .before .before .before .before .before .pre .6) (c .in-column .ensures)
+returns-2 c =
+    let c4 = c .before .before .before .before in
+    let c5 = c4 .before in
+    let c8 = c5 .before .before .before in
+    from-here _ _ _ _ (c5 .wide .ensures) (c4 .if1 .left) (c .before .before .wide2 .ensures) (c .before .expression-at .ensures) (c8 .pre .6)
+    (c .in-column .ensures)
 
 pub implied-at-spec : {M : Type 1} → statement M
 implied-at-spec =

@@ -8,7 +8,8 @@ use Rattle.justification.proofs.implied.implied_from.Statement.{stateme
 use Rattle.justification.proofs.implied.implied_from.Tie as tie
 
 abbrev Inv-loop : tie.InvT-loop
-Inv-loop kind parts n0 n1 n2 n3 n4 n5 n6 n7 m edge parent child q heads kinds numbers on mem vals e c j₀ j = From (chosen (poolOf q heads kinds numbers) on) (expressionFrom kind parts n0 n1 n2 n3 n4 n5 n6 n7) (edgesFrom m edge parent child) c j
+Inv-loop kind parts n0 n1 n2 n3 n4 n5 n6 n7 m edge parent child q heads kinds numbers on mem vals e c j₀ j =
+    From (chosen (poolOf q heads kinds numbers) on) (expressionFrom kind parts n0 n1 n2 n3 n4 n5 n6 n7) (edgesFrom m edge parent child) c j
 
 abbrev μ-loop : tie.MeasureT-loop
 μ-loop kind parts n0 n1 n2 n3 n4 n5 n6 n7 m edge parent child q heads kinds numbers on mem vals e c j₀ j = m - j
@@ -17,7 +18,15 @@ loop-holds : tie.Need-loop-holds Inv-loop μ-loop
 loop-holds c = from-start _ _ _ _
 
 implied-at-requires : tie.Need-implied-at-requires Inv-loop μ-loop
-implied-at-requires c κs = ((c .loop-test .taken), (c .before .before .pre .0), (c .before .before .pre .1), (c .before .before .pre .2), (c .before .before .pre .3), (c .before .before .pre .4), (c .before .before .pre .5))
+implied-at-requires c κs = (
+  (c .loop-test .taken),
+  (c .before .before .pre .0),
+  (c .before .before .pre .1),
+  (c .before .before .pre .2),
+  (c .before .before .pre .3),
+  (c .before .before .pre .4),
+  (c .before .before .pre .5),
+)
 
 returns : tie.Need-returns Inv-loop μ-loop
 returns c = from-stop _ _ _ _ (c .before .before .before .loop .inv) (c .before .before .loop-test .taken) (c .before .implied-at .ensures) (c .if1 .taken)

@@ -8,7 +8,8 @@ use Rattle.justification.proofs.implied.nodes_implied.Statement.{statem
 use Rattle.justification.proofs.implied.nodes_implied.Tie as tie
 
 abbrev Inv-loop : tie.InvT-loop
-Inv-loop n kind parts n0 n1 n2 n3 n4 n5 n6 n7 m edge parent child q heads kinds numbers words head part first named src deps on mem used c₀ c = Below (chosen (poolOf q heads kinds numbers) on) (expressionFrom kind parts n0 n1 n2 n3 n4 n5 n6 n7) (edgesFrom m edge parent child) n c
+Inv-loop n kind parts n0 n1 n2 n3 n4 n5 n6 n7 m edge parent child q heads kinds numbers words head part first named src deps on mem used c₀ c =
+    Below (chosen (poolOf q heads kinds numbers) on) (expressionFrom kind parts n0 n1 n2 n3 n4 n5 n6 n7) (edgesFrom m edge parent child) n c
 
 abbrev μ-loop : tie.MeasureT-loop
 μ-loop n kind parts n0 n1 n2 n3 n4 n5 n6 n7 m edge parent child q heads kinds numbers words head part first named src deps on mem used c₀ c = n - c
@@ -17,7 +18,15 @@ loop-holds : tie.Need-loop-holds Inv-loop μ-loop
 loop-holds c = below-none _ _ _ _
 
 node-implied-requires : tie.Need-node-implied-requires Inv-loop μ-loop
-node-implied-requires c κs = (omega arith, (c .before .before .pre .2), (c .before .before .pre .3), (c .before .before .pre .4), (c .before .before .pre .5), (c .before .before .pre .6), (c .before .before .pre .7))
+node-implied-requires c κs = (
+  omega arith,
+  (c .before .before .pre .2),
+  (c .before .before .pre .3),
+  (c .before .before .pre .4),
+  (c .before .before .pre .5),
+  (c .before .before .pre .6),
+  (c .before .before .pre .7),
+)
 
 returns : tie.Need-returns Inv-loop μ-loop
 returns c = below-stop _ _ _ (c .before .before .before .loop .inv) (c .before .node-implied .ensures) (c .if1 .taken)

@@ -4,7 +4,11 @@ use Rattle.justification.proofs.linked.is_monitored.Statement.{statemen
 use Rattle.justification.proofs.linked.is_monitored.Tie as tie
 
 returns : tie.Need-returns
-returns c = monitored-by _ _ _ (c .before .before .before .before .wide .ensures) (c .before .before .before .node-at .ensures) (c .before .before .wide2 .ensures) (c .before .node-at2 .ensures) (c .is-monitored-for .ensures)
+returns c =
+    let c3 = c .before .before .before in
+    let c4 = c3 .before in
+    monitored-by _ _ _ (c4 .wide .ensures) (c3 .node-at .ensures) (c .before .before .wide2 .ensures) (c .before .node-at2 .ensures)
+    (c .is-monitored-for .ensures)
 
 pub is-monitored-spec : {M : Type 1} → statement M
 is-monitored-spec =

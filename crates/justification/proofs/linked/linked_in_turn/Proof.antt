@@ -7,31 +7,67 @@ use Rattle.justification.proofs.linked.linked_in_turn.Statement.{statem
 use Rattle.justification.proofs.linked.linked_in_turn.Tie as tie
 
 abbrev Inv-loop : tie.InvT-loop
-Inv-loop n kind parts n0 n1 n2 n3 n4 n5 n6 n7 subject verifier state m edge parent child from slot need head₀ next₀ got₀ sat₀ queue₀ tail t₀ j₀ head next got sat queue t j = Monitoring (nodesFrom n kind parts n0 n1 n2 n3 n4 n5 n6 n7 subject verifier state) (edgesFrom m edge parent child) from slot need head next got sat queue t j
+Inv-loop n kind parts n0 n1 n2 n3 n4 n5 n6 n7 subject verifier state m edge parent child from slot need head₀ next₀ got₀ sat₀ queue₀ tail t₀ j₀ head
+    next got sat queue t j = Monitoring (nodesFrom n kind parts n0 n1 n2 n3 n4 n5 n6 n7 subject verifier state) (edgesFrom m edge parent child) from
+    slot need head next got sat queue t j
 
 abbrev μ-loop : tie.MeasureT-loop
-μ-loop n kind parts n0 n1 n2 n3 n4 n5 n6 n7 subject verifier state m edge parent child from slot need head₀ next₀ got₀ sat₀ queue₀ tail t₀ j₀ head next got sat queue t j = m - j
+μ-loop n kind parts n0 n1 n2 n3 n4 n5 n6 n7 subject verifier state m edge parent child from slot need head₀ next₀ got₀ sat₀ queue₀ tail t₀ j₀ head
+    next got sat queue t j = m - j
 
 loop-holds : tie.Need-loop-holds Inv-loop μ-loop
 loop-holds c = monitoring-start _ _ _ _ _ (c .pre .6) (c .pre .7)
 
 is-monitored-if-requires : tie.Need-is-monitored-if-requires Inv-loop μ-loop
-is-monitored-if-requires c κs = ((c .before .before .before .before .pre .0), omega (arith, (c .before .before .loop-test .taken), (c .before .before .before .before .pre .1)), edge-inside _ _ (c .before .before .before .before .pre .3) (c .before .before .loop-test .taken) (c .before .edge-at .ensures) .0, edge-inside _ _ (c .before .before .before .before .pre .3) (c .before .before .loop-test .taken) (c .before .edge-at .ensures) .1, says-so-far _ _ _ _ _ (c .before .before .before .loop .inv) (c .before .before .before .before .pre .2) (c .before .before .before .before .pre .4) (c .before .before .before .before .pre .5))
+is-monitored-if-requires c κs = (
+  (c .before .before .before .before .pre .0),
+  omega (arith, (c .before .before .loop-test .taken), (c .before .before .before .before .pre .1)),
+  edge-inside _ _ (c .before .before .before .before .pre .3) (c .before .before .loop-test .taken) (c .before .edge-at .ensures) .0,
+  edge-inside _
+      _ (c .before .before .before .before .pre .3) (c .before .before .loop-test .taken) (c .before .edge-at .ensures) .1,
+  says-so-far _ _ _ _ _
+      (c .before .before .before .loop .inv) (c .before .before .before .before .pre .2) (c .before .before .before .before .pre .4)
+      (c .before .before .before .before .pre .5),
+)
 
 returns : tie.Need-returns Inv-loop μ-loop
-returns c = monitoring-stop _ _ _ _ _ (c .before .before .before .before .before .loop .inv) (c .before .before .before .before .loop-test .taken) (c .before .before .before .edge-at .ensures) (c .before .is-monitored-if .ensures) (c .if1 .taken)
+returns c =
+    let c3 = c .before .before .before in
+    let c4 = c3 .before in
+    let c5 = c4 .before in
+    monitoring-stop _ _ _ _ _ (c5 .loop .inv) (c4 .loop-test .taken) (c3 .edge-at .ensures) (c .before .is-monitored-if .ensures) (c .if1 .taken)
 
 insert-requires : tie.Need-insert-requires Inv-loop μ-loop
-insert-requires c κs = (omega (arith, (c .before .before .before .before .before .before .before .before .before .loop-test .taken), (c .before .before .before .before .before .before .before .before .before .before .before .pre .1)), (c .before .before .before .before .before .before .before .before .before .before .loop .inv .chained), (c .before .before .before .before .before .before .before .before .before .before .loop .inv .done))
+insert-requires c κs = (
+  omega (
+    arith,
+    (c .before .before .before .before .before .before .before .before .before .loop-test .taken),
+    (c .before .before .before .before .before .before .before .before .before .before .before .pre .1),
+  ),
+  (c .before .before .before .before .before .before .before .before .before .before .loop .inv .chained),
+  (c .before .before .before .before .before .before .before .before .before .before .loop .inv .done),
+)
 
 add-j : tie.Need-add-j Inv-loop μ-loop
-add-j c = omega (arith, (c .before .before .before .before .before .before .before .before .before .before .loop-test .taken), (c .before .before .before .before .before .before .before .before .before .before .before .before .pre .1))
+add-j c =
+    omega (
+      arith,
+      (c .before .before .before .before .before .before .before .before .before .before .loop-test .taken),
+      (c .before .before .before .before .before .before .before .before .before .before .before .before .pre .1),
+    )
 
 loop-less : tie.Need-loop-less Inv-loop μ-loop
 loop-less c = omega (arith, (c .before .before .before .before .before .before .before .before .before .before .loop-test .taken))
 
 loop-again : tie.Need-loop-again Inv-loop μ-loop
-loop-again c = monitoring-next _ _ _ _ _ (c .before .before .before .before .before .before .before .before .before .before .before .loop .inv) (c .before .before .before .before .before .before .before .before .before .before .loop-test .taken) (c .before .before .before .before .before .before .before .before .before .edge-at .ensures) (c .before .before .before .before .before .before .before .is-monitored-if .ensures) (c .before .before .before .before .before .before .if1 .left) (c .insert .ensures .0) (c .insert .ensures .1)
+loop-again c =
+    let c6 = c .before .before .before .before .before .before in
+    let c7 = c6 .before in
+    let c9 = c7 .before .before in
+    let c10 = c9 .before in
+    let c11 = c10 .before in
+    monitoring-next _ _ _ _ _ (c11 .loop .inv) (c10 .loop-test .taken) (c9 .edge-at .ensures) (c7 .is-monitored-if .ensures) (c6 .if1 .left)
+    (c .insert .ensures .0) (c .insert .ensures .1)
 
 returns-2 : tie.Need-returns-2 Inv-loop μ-loop
 returns-2 c = monitoring-done _ _ _ _ _ (c .before .loop .inv) (c .loop-test .left)

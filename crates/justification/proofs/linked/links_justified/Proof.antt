@@ -10,7 +10,9 @@ use Rattle.justification.proofs.linked.links_justified.Tie as tie
 
 -- the nodes and the edges of the columns
 abbrev N : tie.Start → Nodes
-N s = nodesFrom (s .args .n) (s .args .kind .now) (s .args .parts .now) (s .args .n0 .now) (s .args .n1 .now) (s .args .n2 .now) (s .args .n3 .now) (s .args .n4 .now) (s .args .n5 .now) (s .args .n6 .now) (s .args .n7 .now) (s .args .subject .now) (s .args .verifier .now) (s .args .state .now)
+N s =
+    nodesFrom (s .args .n) (s .args .kind .now) (s .args .parts .now) (s .args .n0 .now) (s .args .n1 .now) (s .args .n2 .now) (s .args .n3 .now)
+    (s .args .n4 .now) (s .args .n5 .now) (s .args .n6 .now) (s .args .n7 .now) (s .args .subject .now) (s .args .verifier .now) (s .args .state .now)
 
 abbrev E : tie.Start → Edges
 E s = edgesFrom (s .args .m) (s .args .edge .now) (s .args .parent .now) (s .args .child .now)
@@ -28,10 +30,19 @@ links-requires : tie.Need-links-requires
 links-requires c κs = (c .before .before .before .pre .0, c .before .before .before .pre .1)
 
 seed-requires : tie.Need-seed-requires
-seed-requires c κs = let s = c .before .before .before .before .before .before .before .before .before .before .before in (s .pre .0, needs-beyond (N s) _ (c .before .before .before .before .before .before .before .before .needs .ensures (N s)), start _ (c .before .before .before .before .before .before .before .links .ensures (N s) .slots))
+seed-requires c κs =
+    let c7 = c .before .before .before .before .before .before .before in
+    let c8 = c7 .before in
+    let c11 = c8 .before .before .before in
+    let s = c11 in (s .pre .0, needs-beyond (N s) _ (c8 .needs .ensures (N s)), start _ (c7 .links .ensures (N s) .slots))
 
 linked-in-turn-requires : tie.Need-linked-in-turn-requires
-linked-in-turn-requires c κs = let s = c .before .before .before .before .before .before .before .before .before .before .before .before .before .before .before .before .before .before .before .before .before in (s .pre .0, s .pre .1, s .pre .2, s .pre .3, c .before .before .before .before .before .before .before .before .before .before .before .before .before .before .before .before .before .links .ensures (N s), c .before .before .before .before .before .before .before .before .before .before .before .before .before .before .before .before .before .before .needs .ensures (N s), chain-start _, c .before .before .before .before .before .before .before .before .before .seed .ensures)
+linked-in-turn-requires c κs =
+    let c9 = c .before .before .before .before .before .before .before .before .before in
+    let c17 = c9 .before .before .before .before .before .before .before .before in
+    let c18 = c17 .before in
+    let c21 = c18 .before .before .before in
+    let s = c21 in (s .pre .0, s .pre .1, s .pre .2, s .pre .3, c17 .links .ensures (N s), c18 .needs .ensures (N s), chain-start _, c9 .seed .ensures)
 
 returns-2 : tie.Need-returns-2
 returns-2 c = c .linked-in-turn .ensures

@@ -9,7 +9,9 @@ use Rattle.justification.proofs.monitors.is_monitored_for.Statement.{st
 use Rattle.justification.proofs.monitors.is_monitored_for.Tie as tie
 
 abbrev Inv-loop : tie.InvT-loop
-Inv-loop n kind parts n0 n1 n2 n3 n4 n5 n6 n7 subject verifier state m edge parent child sat x b p j₀ j = Missed (monitors (nodesOf (nodesFrom n kind parts n0 n1 n2 n3 n4 n5 n6 n7 subject verifier state)) (edgesOf (edgesFrom m edge parent child)) x b p) (edgeAt (edgesFrom m edge parent child)) j
+Inv-loop n kind parts n0 n1 n2 n3 n4 n5 n6 n7 subject verifier state m edge parent child sat x b p j₀ j =
+    Missed (monitors (nodesOf (nodesFrom n kind parts n0 n1 n2 n3 n4 n5 n6 n7 subject verifier state)) (edgesOf (edgesFrom m edge parent child)) x b
+    p) (edgeAt (edgesFrom m edge parent child)) j
 
 abbrev μ-loop : tie.MeasureT-loop
 μ-loop n kind parts n0 n1 n2 n3 n4 n5 n6 n7 subject verifier state m edge parent child sat x b p j₀ j = m - j

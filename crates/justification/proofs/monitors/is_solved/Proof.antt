@@ -9,7 +9,9 @@ use Rattle.justification.proofs.monitors.is_solved.Statement.{statement
 use Rattle.justification.proofs.monitors.is_solved.Tie as tie
 
 abbrev Inv-loop : tie.InvT-loop
-Inv-loop n kind parts n0 n1 n2 n3 n4 n5 n6 n7 subject verifier state m edge parent child sat x b g j₀ j = Missed (solves (nodesOf (nodesFrom n kind parts n0 n1 n2 n3 n4 n5 n6 n7 subject verifier state)) (edgesOf (edgesFrom m edge parent child)) x b g) (edgeAt (edgesFrom m edge parent child)) j
+Inv-loop n kind parts n0 n1 n2 n3 n4 n5 n6 n7 subject verifier state m edge parent child sat x b g j₀ j =
+    Missed (solves (nodesOf (nodesFrom n kind parts n0 n1 n2 n3 n4 n5 n6 n7 subject verifier state)) (edgesOf (edgesFrom m edge parent child)) x b g)
+    (edgeAt (edgesFrom m edge parent child)) j
 
 abbrev μ-loop : tie.MeasureT-loop
 μ-loop n kind parts n0 n1 n2 n3 n4 n5 n6 n7 subject verifier state m edge parent child sat x b g j₀ j = m - j

@@ -10,7 +10,9 @@ returns-2 : tie.Need-returns-2
 returns-2 c = monitors-past _ _ _ _ _ _ (c .before .wide .ensures) (c .if2 .taken)
 
 returns-3 : tie.Need-returns-3
-returns-3 c = monitors-is _ _ _ _ _ _ (c .before .before .before .before .if1 .left) (c .before .before .wide .ensures) (c .before .if2 .left) (c .is-solved .ensures)
+returns-3 c =
+    let c4 = c .before .before .before .before in
+    monitors-is _ _ _ _ _ _ (c4 .if1 .left) (c .before .before .wide .ensures) (c .before .if2 .left) (c .is-solved .ensures)
 
 pub monitors-at-spec : {M : Type 1} → statement M
 monitors-at-spec =

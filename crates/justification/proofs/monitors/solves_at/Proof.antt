@@ -13,10 +13,19 @@ returns-2 : tie.Need-returns-2
 returns-2 c = solves-past _ _ _ _ _ _ (c .before .wide .ensures) (c .if2 .taken)
 
 returns-3 : tie.Need-returns-3
-returns-3 c = solves-not _ _ _ _ _ _ (c .before .before .before .wide .ensures) (c .before .before .before .before .before .before .before .before .pre .3) (c .if3 .taken)
+returns-3 c =
+    let c3 = c .before .before .before in
+    let c8 = c3 .before .before .before .before .before in
+    solves-not _ _ _ _ _ _ (c3 .wide .ensures) (c8 .pre .3) (c .if3 .taken)
 
 returns-4 : tie.Need-returns-4
-returns-4 c = solves-is _ _ _ _ _ _ (c .before .before .before .before .before .before .before .if1 .left) (c .before .before .before .before .before .wide .ensures) (c .before .before .before .before .if2 .left) (c .before .before .before .before .before .before .before .before .before .before .pre .3) (c .before .before .if3 .left) (c .is-solution-for .ensures ∙ ap (λ (y : Expression). isSolutionFor (c .before .before .before .before .before .before .before .before .before .before .args .x) (c .before .before .before .before .before .before .before .before .before .before .args .b) y) (c .before .expression-at .ensures))
+returns-4 c =
+    let c4 = c .before .before .before .before in
+    let c5 = c4 .before in
+    let c7 = c5 .before .before in
+    let c10 = c7 .before .before .before in
+    solves-is _ _ _ _ _ _ (c7 .if1 .left) (c5 .wide .ensures) (c4 .if2 .left) (c10 .pre .3) (c .before .before .if3 .left)
+    (c .is-solution-for .ensures ∙ ap (λ (y : Expression). isSolutionFor (c10 .args .x) (c10 .args .b) y) (c .before .expression-at .ensures))
 
 pub solves-at-spec : {M : Type 1} → statement M
 solves-at-spec =

@@ -9,7 +9,10 @@ returns : tie.Need-returns
 returns c = proves-none _ _ _ (c .before .is-implication .ensures) (c .if1 .taken)
 
 is-from-requires : tie.Need-is-from-requires
-is-from-requires c κs = (c .before .before .before .before .pre .1 .knows) (sym (c .before .before .before .is-implication .ensures) ∙ not-false _ (c .before .before .if1 .left))
+is-from-requires c κs =
+    let c3 = c .before .before .before in
+    let c4 = c3 .before in
+    (c4 .pre .1 .knows) (sym (c3 .is-implication .ensures) ∙ not-false _ (c .before .before .if1 .left))
 
 returns-2 : tie.Need-returns-2
 returns-2 c = proves-asked _ _ _ _ _ (c .before .before .before .before .before .pre .1) (c .before .implication-of .ensures) (c .is-from .ensures)

@@ -5,10 +5,18 @@ use Rattle.legal.proofs.asked.proved_by.Statement.{statement}
 use Rattle.legal.proofs.asked.proved_by.Tie as tie
 
 relation-requires : tie.Need-relation-requires
-relation-requires c κs = ((c .before .before .before .before .before .before .before .before .before .before .before .before .before .before .before .before .before .before .before .before .before .before .before .pre), by-columns (c .before .before .before .before .before .before .before .before .before .before .before .before .before .before .before .before .before .before .before .before .before .before .before .args .n .shown) (c .before .before .before .before .before .before .before .before .before .before .before .before .before .before .before .before .before .rules-of .result) (c .before .before .before .before .before .before .before .before .before .before .before .before .before .before .before .before .before .rules-of .ensures))
+relation-requires c κs =
+    let c14 = c .before .before .before .before .before .before .before .before .before .before .before .before .before .before in
+    let c17 = c14 .before .before .before in
+    let c23 = c17 .before .before .before .before .before .before in
+    ((c23 .pre), by-columns (c23 .args .n .shown) (c17 .rules-of .result) (c17 .rules-of .ensures))
 
 returns : tie.Need-returns
-returns c = (record { few = (c .before .before .before .before .before .before .before .before .before .before .before .before .before .before .before .before .before .before .before .before .before .before .before .before .pre); ruled = (c .before .before .before .before .before .before .before .before .before .before .before .before .before .before .before .before .before .before .rules-of .ensures); related = (c .relation .ensures) }, refl)
+returns c =
+    let c14 = c .before .before .before .before .before .before .before .before .before .before .before .before .before .before in
+    let c18 = c14 .before .before .before .before in
+    let c24 = c18 .before .before .before .before .before .before in
+    (record { few = (c24 .pre); ruled = (c18 .rules-of .ensures); related = (c .relation .ensures) }, refl)
 
 pub proved-by-spec : {M : Type 1} → statement M
 proved-by-spec = tie.close (tie.spec (λ c κs. search needs) (λ c κs. search needs) relation-requires returns)

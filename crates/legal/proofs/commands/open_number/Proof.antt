@@ -13,11 +13,19 @@ returns c = stops _ _ _ (eq-eqb _ 0 (sym (c .before .class-of .ensures) ∙ (c .
 
 returns-2 : tie.Need-returns-2
 unfolding openNumber
-returns-2 c = passes _ _ _ (ne-eqb _ 0 (λ e. (c .before .before .before .if1 .left) ((c .before .before .before .before .class-of .ensures) ∙ e))) (stops _ _ _ (ap not (fresh-no (c .before .before .before .before .before .before .before .before .before .args .n) (c .if2 .taken))))
+returns-2 c =
+    let c3 = c .before .before .before in
+    let c4 = c3 .before in
+    let c9 = c4 .before .before .before .before .before in
+    passes _ _ _ (ne-eqb _ 0 (λ e. (c3 .if1 .left) ((c4 .class-of .ensures) ∙ e))) (stops _ _ _ (ap not (fresh-no (c9 .args .n) (c .if2 .taken))))
 
 returns-3 : tie.Need-returns-3
 unfolding openNumber
-returns-3 c = passes _ _ _ (ne-eqb _ 0 (λ e. (c .before .before .before .if1 .left) ((c .before .before .before .before .class-of .ensures) ∙ e))) (passes _ _ _ (ap not (fresh-yes (c .before .before .before .before .before .before .before .before .before .args .n) (c .if2 .left))) refl)
+returns-3 c =
+    let c3 = c .before .before .before in
+    let c4 = c3 .before in
+    let c9 = c4 .before .before .before .before .before in
+    passes _ _ _ (ne-eqb _ 0 (λ e. (c3 .if1 .left) ((c4 .class-of .ensures) ∙ e))) (passes _ _ _ (ap not (fresh-yes (c9 .args .n) (c .if2 .left))) refl)
 
 pub open-number-spec : {M : Type 1} → statement M
 open-number-spec = tie.close (tie.spec (λ c κs. search needs) returns returns-2 returns-3)

@@ -12,19 +12,43 @@ returns c = first-stops _ _ _ (c .before .credential-number .ensures) (c .if1 .t
 
 returns-2 : tie.Need-returns-2
 unfolding showNumber stateOf
-returns-2 c = first-passes _ _ _ (c .before .before .before .before .credential-number .ensures) (c .before .before .before .if1 .left) (stops _ _ _ (fresh-yes (c .before .before .before .before .before .before .before .before .args .n) (c .if2 .taken)))
+returns-2 c =
+    let c3 = c .before .before .before in
+    let c4 = c3 .before in
+    let c8 = c4 .before .before .before .before in
+    first-passes _ _ _ (c4 .credential-number .ensures) (c3 .if1 .left) (stops _ _ _ (fresh-yes (c8 .args .n) (c .if2 .taken)))
 
 returns-3 : tie.Need-returns-3
 unfolding showNumber stateOf
-returns-3 c = first-passes _ _ _ (c .before .before .before .before .before .before .before .before .before .before .before .credential-number .ensures) (c .before .before .before .before .before .before .before .before .before .before .if1 .left) (passes _ _ _ (fresh-no (c .before .before .before .before .before .before .before .before .before .before .before .before .before .before .before .args .n) (c .before .before .before .before .before .before .before .if2 .left)) (stops _ _ _ (sym (c .before .is-shown .ensures) ∙ (c .if3 .taken))))
+returns-3 c =
+    let c7 = c .before .before .before .before .before .before .before in
+    let c10 = c7 .before .before .before in
+    let c11 = c10 .before in
+    let c15 = c11 .before .before .before .before in
+    first-passes _ _ _ (c11 .credential-number .ensures) (c10 .if1 .left)
+    (passes _ _ _ (fresh-no (c15 .args .n) (c7 .if2 .left)) (stops _ _ _ (sym (c .before .is-shown .ensures) ∙ (c .if3 .taken))))
 
 returns-4 : tie.Need-returns-4
 unfolding showNumber stateOf
-returns-4 c = first-passes _ _ _ (c .before .before .before .before .before .before .before .before .before .before .before .before .credential-number .ensures) (c .before .before .before .before .before .before .before .before .before .before .before .if1 .left) (passes _ _ _ (fresh-no (c .before .before .before .before .before .before .before .before .before .before .before .before .before .before .before .before .args .n) (c .before .before .before .before .before .before .before .before .if2 .left)) (passes _ _ _ (sym (c .before .before .is-shown .ensures) ∙ (c .before .if3 .left)) (stops _ _ _ (shown-full (c .before .before .before .before .before .before .before .before .before .before .before .before .before .before .before .before .args .n) (c .if4 .taken)))))
+returns-4 c =
+    let c8 = c .before .before .before .before .before .before .before .before in
+    let c11 = c8 .before .before .before in
+    let c12 = c11 .before in
+    let c16 = c12 .before .before .before .before in
+    first-passes _ _ _ (c12 .credential-number .ensures) (c11 .if1 .left)
+    (passes _ _ _ (fresh-no (c16 .args .n) (c8 .if2 .left))
+    (passes _ _ _ (sym (c .before .before .is-shown .ensures) ∙ (c .before .if3 .left)) (stops _ _ _ (shown-full (c16 .args .n) (c .if4 .taken)))))
 
 returns-5 : tie.Need-returns-5
 unfolding showNumber stateOf
-returns-5 c = first-passes _ _ _ (c .before .before .before .before .before .before .before .before .before .before .before .before .credential-number .ensures) (c .before .before .before .before .before .before .before .before .before .before .before .if1 .left) (passes _ _ _ (fresh-no (c .before .before .before .before .before .before .before .before .before .before .before .before .before .before .before .before .args .n) (c .before .before .before .before .before .before .before .before .if2 .left)) (passes _ _ _ (sym (c .before .before .is-shown .ensures) ∙ (c .before .if3 .left)) (passes _ _ _ (shown-room (c .before .before .before .before .before .before .before .before .before .before .before .before .before .before .before .before .args .n) (c .if4 .left)) refl)))
+returns-5 c =
+    let c8 = c .before .before .before .before .before .before .before .before in
+    let c11 = c8 .before .before .before in
+    let c12 = c11 .before in
+    let c16 = c12 .before .before .before .before in
+    first-passes _ _ _ (c12 .credential-number .ensures) (c11 .if1 .left)
+    (passes _ _ _ (fresh-no (c16 .args .n) (c8 .if2 .left))
+    (passes _ _ _ (sym (c .before .before .is-shown .ensures) ∙ (c .before .if3 .left)) (passes _ _ _ (shown-room (c16 .args .n) (c .if4 .left)) refl)))
 
 pub show-number-spec : {M : Type 1} → statement M
 show-number-spec =

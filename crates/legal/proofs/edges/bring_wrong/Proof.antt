@@ -4,10 +4,19 @@ use Rattle.legal.proofs.edges.bring_wrong.Statement.{statement}
 use Rattle.legal.proofs.edges.bring_wrong.Tie as tie
 
 returns : tie.Need-returns
-returns c = bring-unformed _ _ _ _ (c .before .before .before .node-of .ensures) (c .before .before .child-of .ensures) (c .before .formed-as .ensures) (c .if1 .taken)
+returns c =
+    let c3 = c .before .before .before in
+    bring-unformed _ _ _ _ (c3 .node-of .ensures) (c .before .before .child-of .ensures) (c .before .formed-as .ensures) (c .if1 .taken)
 
 returns-2 : tie.Need-returns-2
-returns-2 c = bring-there _ _ _ _ (c .before .before .before .before .before .before .before .before .before .before .before .before .before .before .before .before .before .before .node-of .ensures) (c .before .before .before .before .before .before .before .before .before .before .before .before .before .before .before .before .before .child-of .ensures) (c .before .before .before .before .before .before .before .before .before .before .before .before .before .before .before .before .formed-as .ensures) (c .before .before .before .before .before .before .before .before .before .before .before .before .before .before .before .before .before .before .before .before .before .pre .1) (c .before .before .before .before .before .before .before .before .before .before .before .before .before .before .before .if1 .left) (c .find-node .ensures)
+returns-2 c =
+    let c14 = c .before .before .before .before .before .before .before .before .before .before .before .before .before .before in
+    let c15 = c14 .before in
+    let c16 = c15 .before in
+    let c17 = c16 .before in
+    let c18 = c17 .before in
+    let c21 = c18 .before .before .before in
+    bring-there _ _ _ _ (c18 .node-of .ensures) (c17 .child-of .ensures) (c16 .formed-as .ensures) (c21 .pre .1) (c15 .if1 .left) (c .find-node .ensures)
 
 pub bring-wrong-spec : {M : Type 1} → statement M
 bring-wrong-spec =

@@ -7,7 +7,9 @@ use Rattle.legal.proofs.justify.is_linked.Statement.{statement}
 use Rattle.legal.proofs.justify.is_linked.Tie as tie
 
 is-join-linked-requires : tie.Need-is-join-linked-requires
-is-join-linked-requires c κs = ((c .before .before .before .pre .0), (c .before .before .before .pre .1), ap isLinking (sym (c .before .c2 .given .1)) ∙ (c .before .before .before .pre .2), (c .before .before .before .pre .3))
+is-join-linked-requires c κs =
+    let c3 = c .before .before .before in
+    ((c3 .pre .0), (c3 .pre .1), ap isLinking (sym (c .before .c2 .given .1)) ∙ (c3 .pre .2), (c3 .pre .3))
 
 returns : tie.Need-returns
 returns c = absurd (false-true (ap isLinking (sym (c .enum-told .given .1)) ∙ (c .before .before .pre .2)))
@@ -16,7 +18,10 @@ returns-2 : tie.Need-returns-2
 returns-2 c = absurd (false-true (ap isLinking (sym (c .enum-told2 .given .1)) ∙ (c .before .before .pre .2)))
 
 returns-3 : tie.Need-returns-3
-returns-3 c = justified-for _ _ _ (c .before .before .c .given .1) (bring-linked _ _ (ap isLinking (sym (c .before .before .c .given .1)) ∙ (c .before .before .before .before .pre .2)) (c .is-linked-for .ensures))
+returns-3 c =
+    let c4 = c .before .before .before .before in
+    justified-for _ _ _ (c .before .before .c .given .1)
+    (bring-linked _ _ (ap isLinking (sym (c .before .before .c .given .1)) ∙ (c4 .pre .2)) (c .is-linked-for .ensures))
 
 returns-4 : tie.Need-returns-4
 returns-4 c = justified-for _ _ _ (c .before .before .c2 .given .1) (c .is-join-linked .ensures)

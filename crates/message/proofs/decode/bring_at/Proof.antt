@@ -17,7 +17,8 @@ returns-3 c =
     let u = f .before .before in
     let x = u .before .before .before .before in
     let r = x .before .before in
-    bring-full _ _ _ true (r .before .if1 .left) (sym (r .read-expression .ensures) ∙ x .expression .given .1) refl refl (u .number-at .ensures) refl (sym (f .formed-new .ensures) ∙ c .if2 .taken)
+    bring-full _ _ _ true (r .before .if1 .left) (sym (r .read-expression .ensures) ∙ x .expression .given .1) refl refl (u .number-at .ensures) refl
+    (sym (f .formed-new .ensures) ∙ c .if2 .taken)
 
 returns-4 : tie.Need-returns-4
 returns-4 c =
@@ -25,7 +26,8 @@ returns-4 c =
     let u = f .before .before in
     let x = u .before .before .before .before in
     let r = x .before .before in
-    bring-full _ _ _ false (r .before .if1 .left) (sym (r .read-expression .ensures) ∙ x .expression .given .1) refl refl (u .number-at .ensures) refl (sym (f .formed-new .ensures) ∙ c .if2 .left)
+    bring-full _ _ _ false (r .before .if1 .left) (sym (r .read-expression .ensures) ∙ x .expression .given .1) refl refl (u .number-at .ensures) refl
+    (sym (f .formed-new .ensures) ∙ c .if2 .left)
 
 pub bring-at-spec : {M : Type 1} → statement M
 bring-at-spec =

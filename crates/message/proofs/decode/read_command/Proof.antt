@@ -26,7 +26,9 @@ returns-7 : tie.Need-returns-7
 returns-7 c = c .end-at .ensures ∙ at-code _ _ 6 (c .before .before .before .if1 .left) (c .before .match .keys6)
 
 returns-8 : tie.Need-returns-8
-returns-8 c = let n = c .match .rest in unknown _ _ _ (n .0 .0 .0 .0 .0 .1) (n .0 .0 .0 .0 .1) (n .0 .0 .0 .1) (n .0 .0 .1) (n .0 .1) (n .1) ∙ at-code _ _ _ (c .before .before .if1 .left) refl
+returns-8 c =
+    let n = c .match .rest in unknown _ _ _ (n .0 .0 .0 .0 .0 .1) (n .0 .0 .0 .0 .1) (n .0 .0 .0 .1) (n .0 .0 .1) (n .0 .1) (n .1)
+    ∙ at-code _ _ _ (c .before .before .if1 .left) refl
 
 pub read-command-spec : {M : Type 1} → statement M
 read-command-spec =

@@ -10,7 +10,9 @@ returns-2 : tie.Need-returns-2
 returns-2 c = starts-role _ _ _ (c .before .before .before .e .given .1) (c .before .is-subject-all .ensures) (c .traced-state .ensures)
 
 returns-3 : tie.Need-returns-3
-returns-3 c = starts-linked _ _ _ (c .before .before .before .before .e2 .given .1) (c .before .before .is-subject-all2 .ensures) (c .before .is-subject-all3 .ensures) (c .traced-state2 .ensures)
+returns-3 c =
+    let c4 = c .before .before .before .before in
+    starts-linked _ _ _ (c4 .e2 .given .1) (c .before .before .is-subject-all2 .ensures) (c .before .is-subject-all3 .ensures) (c .traced-state2 .ensures)
 
 returns-4 : tie.Need-returns-4
 returns-4 c = starts-intersection _ _ _ (c .before .enum-told2 .given .1) (c .traced-state3 .ensures)

@@ -10,7 +10,8 @@ use Rattle.moves.proofs.predicates.stops.Statement.{statement}
 use Rattle.moves.proofs.predicates.stops.Tie as tie
 
 abbrev Inv-loop : tie.InvT-loop
-Inv-loop p n names classes k roles others m heads kinds numbers r₀ i₀ r i = Told (predicateOf p (namesOf (namesFrom n names classes)) (pairsOf (pairsFrom k roles others))) (poolOf m heads kinds numbers) i r
+Inv-loop p n names classes k roles others m heads kinds numbers r₀ i₀ r i =
+    Told (predicateOf p (namesOf (namesFrom n names classes)) (pairsOf (pairsFrom k roles others))) (poolOf m heads kinds numbers) i r
 
 abbrev μ-loop : tie.MeasureT-loop
 μ-loop p n names classes k roles others m heads kinds numbers r₀ i₀ r i = m - i
@@ -19,7 +20,10 @@ loop-holds : tie.Need-loop-holds Inv-loop μ-loop
 loop-holds c = told-start _ _ _ refl
 
 loop-again : tie.Need-loop-again Inv-loop μ-loop
-loop-again c = told-next _ _ (c .before .before .before .before .loop .inv) (omega (arith, (c .before .before .before .loop-test .taken), (c .before .before .before .before .before .pre .3))) (c .before .before .body-at .ensures) (c .before .is-stop .ensures) (c .flag-of .ensures) refl
+loop-again c =
+    told-next _ _ (c .before .before .before .before .loop .inv)
+    (omega (arith, (c .before .before .before .loop-test .taken), (c .before .before .before .before .before .pre .3)))
+    (c .before .before .body-at .ensures) (c .before .is-stop .ensures) (c .flag-of .ensures) refl
 
 returns : tie.Need-returns Inv-loop μ-loop
 returns c = told-all _ _ (c .before .loop .inv) (c .loop-test .left)

@@ -4,7 +4,10 @@ use Rattle.needed.proofs.asked.flag_parts.Statement.{statement}
 use Rattle.needed.proofs.asked.flag_parts.Tie as tie
 
 returns : tie.Need-returns
-returns c = marked-parts _ (c .before .before .before .before .before .before .flag-role .ensures) (c .before .before .before .before .flag-role2 .ensures) (c .before .before .flag-role3 .ensures) (c .flag-role4 .ensures)
+returns c =
+    let c4 = c .before .before .before .before in
+    let c6 = c4 .before .before in
+    marked-parts _ (c6 .flag-role .ensures) (c4 .flag-role2 .ensures) (c .before .before .flag-role3 .ensures) (c .flag-role4 .ensures)
 
 pub flag-parts-spec : {M : Type 1} → statement M
 flag-parts-spec =

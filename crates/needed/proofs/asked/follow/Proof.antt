@@ -11,7 +11,13 @@ returns-2 : tie.Need-returns-2
 returns-2 c = follow-done _ _ (c .before .before .before .before .pre .2) (c .if2 .taken)
 
 returns-3 : tie.Need-returns-3
-returns-3 c = follow-new _ _ (c .before .before .before .before .before .before .before .pre .2) _ (omega (arith, c .before .before .before .before .before .before .before .pre .0, c .before .before .before .before .before .before .before .pre .1)) (c .before .before .body-at .ensures) (c .flag-asked .ensures)
+returns-3 c =
+    follow-new _ _ (c .before .before .before .before .before .before .before .pre .2) _
+    (omega (
+      arith,
+      c .before .before .before .before .before .before .before .pre .0,
+      c .before .before .before .before .before .before .before .pre .1,
+    )) (c .before .before .body-at .ensures) (c .flag-asked .ensures)
 
 pub follow-spec : {M : Type 1} → statement M
 follow-spec =

@@ -25,7 +25,10 @@ pass-requires : tie.Need-pass-requires Inv-loop μ-loop
 pass-requires c κs = (c .before .before .before .before .before .before .pre, c .before .before .before .loop .inv .work)
 
 returns : tie.Need-returns Inv-loop μ-loop
-returns c = pass-closed _ (c .before .before .before .before .before .before .flag-asked .ensures) (c .before .before .before .before .before .loop .inv) (c .before .pass .ensures) (not-true _ (c .if1 .taken))
+returns c =
+    let c5 = c .before .before .before .before .before in
+    let c6 = c5 .before in
+    pass-closed _ (c6 .flag-asked .ensures) (c5 .loop .inv) (c .before .pass .ensures) (not-true _ (c .if1 .taken))
 
 add-k : tie.Need-add-k Inv-loop μ-loop
 add-k c = omega (arith, c .before .before .before .before .before .before .before .before .pre)

@@ -10,10 +10,26 @@ abbrev pool : (c : tie.Start) → Pool
 pool c = poolOf (c .args .n) (c .args .heads .now) (c .args .kinds .now) (c .args .numbers .now)
 
 ask-requires : tie.Need-ask-requires
-ask-requires c κs = (c .before .before .before .pre .0, c .before .before .before .pre .1, (⊎-elim (λ w. same-relation (pool (c .before .before .before)) _ _ _ _ (w .4) (w .5) (w .3 .ensures .1)) (λ w. same-relation (pool (c .before .before .before)) _ _ _ _ (w .1) (w .2) (c .before .before .before .pre .3)) (c .before .before .if1 .came)))
+ask-requires c κs =
+    let c3 = c .before .before .before in (
+      c3 .pre .0,
+      c3 .pre .1,
+      (⊎-elim (λ w. same-relation (pool (c3)) _ _ _ _ (w .4) (w .5) (w .3 .ensures .1))
+          (λ w. same-relation (pool (c3)) _ _ _ _ (w .1) (w .2) (c3 .pre .3)) (c .before .before .if1 .came)),
+    )
 
 returns : tie.Need-returns
-returns c = ((⊎-elim (λ w. one-on (c .before .before .before .before .args .n) (c .before .before .before .before .args .i) _ _ _ (w .0 .taken) (w .3 .ensures .0) (w .4)) (λ w. none-new (c .before .before .before .before .args .n) (c .before .before .before .before .args .i) _ _ (w .0 .left) (w .1)) (c .before .before .before .if1 .came)), ((⊎-elim (λ w. same-relation (pool (c .before .before .before .before)) _ _ _ _ (w .4) (w .5) (w .3 .ensures .1)) (λ w. same-relation (pool (c .before .before .before .before)) _ _ _ _ (w .1) (w .2) (c .before .before .before .before .pre .3)) (c .before .before .before .if1 .came)), c .ask .ensures))
+returns c =
+    let c3 = c .before .before .before in
+    let c4 = c3 .before in (
+      (⊎-elim (λ w. one-on (c4 .args .n) (c4 .args .i) _ _ _ (w .0 .taken) (w .3 .ensures .0) (w .4))
+          (λ w. none-new (c4 .args .n) (c4 .args .i) _ _ (w .0 .left) (w .1)) (c3 .if1 .came)),
+      (
+        (⊎-elim (λ w. same-relation (pool (c4)) _ _ _ _ (w .4) (w .5) (w .3 .ensures .1))
+            (λ w. same-relation (pool (c4)) _ _ _ _ (w .1) (w .2) (c4 .pre .3)) (c3 .if1 .came)),
+        c .ask .ensures,
+      ),
+    )
 
 pub holds-with-spec : {M : Type 1} → statement M
 holds-with-spec = tie.close (tie.spec (λ c κs. search needs) ask-requires returns)

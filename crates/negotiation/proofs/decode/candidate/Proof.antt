@@ -14,19 +14,54 @@ cast-at-most-3 : tie.Need-cast-at-most-3
 cast-at-most-3 c = omega (arith, c .shared-slice-known3 .given 17)
 
 read-nodes-requires : tie.Need-read-nodes-requires
-read-nodes-requires c κs = (omega (arith, c .before .before .before .before .before .at-most .ensures, few-most 128 (getD (c .before .before .before .before .before .before .before .before .args .s .now) 14 0)), omega (arith, c .before .before .before .before .before .before .before .before .pre))
+read-nodes-requires c κs = (
+  omega (
+    arith,
+    c .before .before .before .before .before .at-most .ensures,
+    few-most 128
+        (getD (c .before .before .before .before .before .before .before .before .args .s .now) 14 0),
+  ),
+  omega
+      (arith, c .before .before .before .before .before .before .before .before .pre),
+)
 
 read-edges-requires : tie.Need-read-edges-requires
-read-edges-requires c κs = (omega (arith, c .before .before .before .before .at-most2 .ensures, c .before .before .before .before .before .number-at .ensures, few-most 256 (c .before .before .before .before .before .number-at .result)), omega (arith, c .before .before .before .before .before .before .before .before .before .pre))
+read-edges-requires c κs = (
+  omega (
+    arith,
+    c .before .before .before .before .at-most2 .ensures,
+    c .before .before .before .before .before .number-at .ensures,
+    few-most 256
+        (c .before .before .before .before .before .number-at .result),
+  ),
+  omega
+      (arith, c .before .before .before .before .before .before .before .before .before .pre),
+)
 
 read-shown-requires : tie.Need-read-shown-requires
-read-shown-requires c κs = (omega (arith, c .before .before .before .at-most3 .ensures, few-most 64 (getD (c .before .before .before .before .before .before .before .before .before .before .args .s .now) 17 0)), omega (arith, c .before .before .before .before .before .before .before .before .before .before .pre))
+read-shown-requires c κs = (
+  omega (
+    arith,
+    c .before .before .before .at-most3 .ensures,
+    few-most 64
+        (getD (c .before .before .before .before .before .before .before .before .before .before .args .s .now) 17 0),
+  ),
+  omega
+      (arith, c .before .before .before .before .before .before .before .before .before .before .pre),
+)
 
 returns : tie.Need-returns
 returns c =
-    let s = c .before .before .before .before .before .before .before .before .before .before .before .args .s .now in
-    candidate-read s _ (c .before .before .before .before .before .before .before .before .at-most .result) (c .before .before .before .before .before .before .at-most2 .result) (c .before .before .before .before .at-most3 .result) (c .before .before .before .header-from .ensures) (c .before .before .before .before .before .before .before .before .at-most .ensures) (c .before .before .read-nodes .ensures)
-    (c .before .before .before .before .before .before .at-most2 .ensures ∙ ap (few 256) (c .before .before .before .before .before .before .before .number-at .ensures)) (c .before .read-edges .ensures) (c .before .before .before .before .at-most3 .ensures) (c .read-shown .ensures)
+    let c3 = c .before .before .before in
+    let c4 = c3 .before in
+    let c6 = c4 .before .before in
+    let c7 = c6 .before in
+    let c8 = c7 .before in
+    let c11 = c8 .before .before .before in
+    let s = c11 .args .s .now in
+    candidate-read s _ (c8 .at-most .result) (c6 .at-most2 .result) (c4 .at-most3 .result) (c3 .header-from .ensures) (c8 .at-most .ensures)
+    (c .before .before .read-nodes .ensures)
+    (c6 .at-most2 .ensures ∙ ap (few 256) (c7 .number-at .ensures)) (c .before .read-edges .ensures) (c4 .at-most3 .ensures) (c .read-shown .ensures)
 
 pub candidate-spec : {M : Type 1} → statement M
 candidate-spec =

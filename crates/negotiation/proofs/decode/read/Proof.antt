@@ -9,7 +9,11 @@ write-requires : tie.Need-write-requires
 write-requires c κs = (ap within (c .before .candidate .ensures) ∙ candidate-within (c .before .before .before .args .s .now), refl)
 
 returns : tie.Need-returns
-returns c = reading (c .before .before .before .before .before .before .before .args .s .now) _ _ (c .before .before .before .before .before .candidate .ensures) (c .before .before .before .write .ensures) (c .same-bytes .ensures)
+returns c =
+    let c3 = c .before .before .before in
+    let c5 = c3 .before .before in
+    let c7 = c5 .before .before in
+    reading (c7 .args .s .now) _ _ (c5 .candidate .ensures) (c3 .write .ensures) (c .same-bytes .ensures)
 
 pub read-spec : {M : Type 1} → statement M
 read-spec =

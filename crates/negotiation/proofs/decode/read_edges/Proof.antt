@@ -8,6 +8,7 @@ use Rattle.negotiation.specs.Layout.{edgeFrom}
 use Rattle.negotiation.specs.laws.Read.{EdgesRead, no-edges-read, edge-read}
 use Rattle.negotiation.proofs.decode.read_edges.Statement.{statement}
 use Rattle.negotiation.proofs.decode.read_edges.Tie as tie
+use Rattle.numbers.specs.Sizes.{MOST-EDGES}
 
 abbrev Inv-loop : tie.InvT-loop
 Inv-loop s count edges₀ edges = EdgesRead s count edges
@@ -25,37 +26,78 @@ add-at : tie.Need-add-at Inv-loop μ-loop
 add-at c = omega (arith, c .loop-test .taken, c .before .before .before .before .pre .0, c .before .before .before .before .pre .1)
 
 shared-slice-read-edges : tie.Need-shared-slice-read-edges Inv-loop μ-loop
-shared-slice-read-edges c = omega (arith, c .before .loop-test .taken, c .before .before .before .before .before .pre .0, c .before .before .before .before .before .pre .1)
+shared-slice-read-edges c =
+    omega (arith, c .before .loop-test .taken, c .before .before .before .before .before .pre .0, c .before .before .before .before .before .pre .1)
 
 element-write-edges : tie.Need-element-write-edges Inv-loop μ-loop
-element-write-edges c = let l : c .before .before .loop .edges .count < 256 = omega (arith, c .before .loop-test .taken, c .before .before .before .before .before .pre .0) in l
+element-write-edges c =
+    let l : c .before .before .loop .edges .count < MOST-EDGES = omega
+    (arith, c .before .loop-test .taken, c .before .before .before .before .before .pre .0) in l
 
 add-edges : tie.Need-add-edges Inv-loop μ-loop
 add-edges c = omega (arith, c .before .loop-test .taken, c .before .before .before .before .before .pre .0, c .before .before .before .before .before .pre .1)
 
 shared-slice-read-edges-2 : tie.Need-shared-slice-read-edges-2 Inv-loop μ-loop
-shared-slice-read-edges-2 c = omega (arith, c .before .before .loop-test .taken, c .before .before .before .before .before .before .pre .0, c .before .before .before .before .before .before .pre .1)
+shared-slice-read-edges-2 c =
+    omega (
+      arith,
+      c .before .before .loop-test .taken,
+      c .before .before .before .before .before .before .pre .0,
+      c .before .before .before .before .before .before .pre .1,
+    )
 
 element-write-edges-2 : tie.Need-element-write-edges-2 Inv-loop μ-loop
-element-write-edges-2 c = let l : c .before .before .before .loop .edges .count < 256 = omega (arith, c .before .before .loop-test .taken, c .before .before .before .before .before .before .pre .0) in l
+element-write-edges-2 c =
+    let l : c .before .before .before .loop .edges .count < MOST-EDGES = omega
+    (arith, c .before .before .loop-test .taken, c .before .before .before .before .before .before .pre .0) in l
 
 add-edges-2 : tie.Need-add-edges-2 Inv-loop μ-loop
-add-edges-2 c = omega (arith, c .before .before .loop-test .taken, c .before .before .before .before .before .before .pre .0, c .before .before .before .before .before .before .pre .1)
+add-edges-2 c =
+    omega (
+      arith,
+      c .before .before .loop-test .taken,
+      c .before .before .before .before .before .before .pre .0,
+      c .before .before .before .before .before .before .pre .1,
+    )
 
 shared-slice-read-edges-3 : tie.Need-shared-slice-read-edges-3 Inv-loop μ-loop
-shared-slice-read-edges-3 c = omega (arith, c .before .before .before .loop-test .taken, c .before .before .before .before .before .before .before .pre .0, c .before .before .before .before .before .before .before .pre .1)
+shared-slice-read-edges-3 c =
+    omega (
+      arith,
+      c .before .before .before .loop-test .taken,
+      c .before .before .before .before .before .before .before .pre .0,
+      c .before .before .before .before .before .before .before .pre .1,
+    )
 
 element-write-edges-3 : tie.Need-element-write-edges-3 Inv-loop μ-loop
-element-write-edges-3 c = let l : c .before .before .before .before .loop .edges .count < 256 = omega (arith, c .before .before .before .loop-test .taken, c .before .before .before .before .before .before .before .pre .0) in l
+element-write-edges-3 c =
+    let l : c .before .before .before .before .loop .edges .count < MOST-EDGES = omega
+    (arith, c .before .before .before .loop-test .taken, c .before .before .before .before .before .before .before .pre .0) in l
 
 add-edges-3 : tie.Need-add-edges-3 Inv-loop μ-loop
-add-edges-3 c = omega (arith, c .before .before .before .loop-test .taken, c .before .before .before .before .before .before .before .pre .0, c .before .before .before .before .before .before .before .pre .1)
+add-edges-3 c =
+    omega (
+      arith,
+      c .before .before .before .loop-test .taken,
+      c .before .before .before .before .before .before .before .pre .0,
+      c .before .before .before .before .before .before .before .pre .1,
+    )
 
 loop-less : tie.Need-loop-less Inv-loop μ-loop
-loop-less c = omega (arith, c .before .before .before .loop-test .taken, c .before .before .before .before .before .before .before .pre .0, c .before .before .before .before .before .before .before .pre .1)
+loop-less c =
+    omega (
+      arith,
+      c .before .before .before .loop-test .taken,
+      c .before .before .before .before .before .before .before .pre .0,
+      c .before .before .before .before .before .before .before .pre .1,
+    )
 
 loop-again : tie.Need-loop-again Inv-loop μ-loop
-loop-again c = edge-read (c .before .before .before .before .before .before .before .args .s .now) (c .before .before .before .before .before .before .before .args .count) (c .before .before .before .before .loop .edges) (c .before .before .before .before .before .before .before .pre .0) (c .before .before .before .before .loop .inv) (c .before .before .before .loop-test .taken)
+loop-again c =
+    let c3 = c .before .before .before in
+    let c4 = c3 .before in
+    let c7 = c4 .before .before .before in
+    edge-read (c7 .args .s .now) (c7 .args .count) (c4 .loop .edges) (c7 .pre .0) (c4 .loop .inv) (c3 .loop-test .taken)
 
 returns : tie.Need-returns Inv-loop μ-loop
 returns c =

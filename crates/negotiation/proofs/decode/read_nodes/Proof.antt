@@ -11,6 +11,7 @@ use Rattle.negotiation.specs.Layout.{nodeFrom}
 use Rattle.negotiation.specs.laws.Read.{NodesRead, no-nodes-read, node-read}
 use Rattle.negotiation.proofs.decode.read_nodes.Statement.{statement}
 use Rattle.negotiation.proofs.decode.read_nodes.Tie as tie
+use Rattle.numbers.specs.Sizes.{MOST-NODES}
 
 abbrev Inv-loop : tie.InvT-loop
 Inv-loop s count nodes₀ nodes = NodesRead s count nodes
@@ -31,104 +32,182 @@ raw-at-requires : tie.Need-raw-at-requires Inv-loop μ-loop
 raw-at-requires c κs = omega (arith, c .loop-test .taken, c .before .before .before .before .pre .0, c .before .before .before .before .pre .1)
 
 element-write-nodes : tie.Need-element-write-nodes Inv-loop μ-loop
-element-write-nodes c = let l : c .before .before .loop .nodes .count < 128 = omega (arith, c .before .loop-test .taken, c .before .before .before .before .before .pre .0) in l
+element-write-nodes c =
+    let l : c .before .before .loop .nodes .count < MOST-NODES = omega
+    (arith, c .before .loop-test .taken, c .before .before .before .before .before .pre .0) in l
 
 element-write-nodes-2 : tie.Need-element-write-nodes-2 Inv-loop μ-loop
-element-write-nodes-2 c = let l : c .before .before .loop .nodes .count < 128 = omega (arith, c .before .loop-test .taken, c .before .before .before .before .before .pre .0) in l
+element-write-nodes-2 c =
+    let l : c .before .before .loop .nodes .count < MOST-NODES = omega
+    (arith, c .before .loop-test .taken, c .before .before .before .before .before .pre .0) in l
 
 mul-nodes : tie.Need-mul-nodes Inv-loop μ-loop
 mul-nodes c = omega (arith, c .before .loop-test .taken, c .before .before .before .before .before .pre .0, c .before .before .before .before .before .pre .1)
 
 element-write-nodes-3 : tie.Need-element-write-nodes-3 Inv-loop μ-loop
-element-write-nodes-3 c = let l : c .before .before .loop .nodes .count < 128 = omega (arith, c .before .loop-test .taken, c .before .before .before .before .before .pre .0) in l
+element-write-nodes-3 c =
+    let l : c .before .before .loop .nodes .count < MOST-NODES = omega
+    (arith, c .before .loop-test .taken, c .before .before .before .before .before .pre .0) in l
 
 mul-nodes-2 : tie.Need-mul-nodes-2 Inv-loop μ-loop
 mul-nodes-2 c = omega (arith, c .before .loop-test .taken, c .before .before .before .before .before .pre .0, c .before .before .before .before .before .pre .1)
 
 element-write-nodes-4 : tie.Need-element-write-nodes-4 Inv-loop μ-loop
-element-write-nodes-4 c = let l : c .before .before .loop .nodes .count < 128 = omega (arith, c .before .loop-test .taken, c .before .before .before .before .before .pre .0) in l
+element-write-nodes-4 c =
+    let l : c .before .before .loop .nodes .count < MOST-NODES = omega
+    (arith, c .before .loop-test .taken, c .before .before .before .before .before .pre .0) in l
 
 mul-nodes-3 : tie.Need-mul-nodes-3 Inv-loop μ-loop
 mul-nodes-3 c = omega (arith, c .before .loop-test .taken, c .before .before .before .before .before .pre .0, c .before .before .before .before .before .pre .1)
 
 element-write-nodes-5 : tie.Need-element-write-nodes-5 Inv-loop μ-loop
-element-write-nodes-5 c = let l : c .before .before .loop .nodes .count < 128 = omega (arith, c .before .loop-test .taken, c .before .before .before .before .before .pre .0) in l
+element-write-nodes-5 c =
+    let l : c .before .before .loop .nodes .count < MOST-NODES = omega
+    (arith, c .before .loop-test .taken, c .before .before .before .before .before .pre .0) in l
 
 mul-nodes-4 : tie.Need-mul-nodes-4 Inv-loop μ-loop
 mul-nodes-4 c = omega (arith, c .before .loop-test .taken, c .before .before .before .before .before .pre .0, c .before .before .before .before .before .pre .1)
 
 element-write-nodes-6 : tie.Need-element-write-nodes-6 Inv-loop μ-loop
-element-write-nodes-6 c = let l : c .before .before .loop .nodes .count < 128 = omega (arith, c .before .loop-test .taken, c .before .before .before .before .before .pre .0) in l
+element-write-nodes-6 c =
+    let l : c .before .before .loop .nodes .count < MOST-NODES = omega
+    (arith, c .before .loop-test .taken, c .before .before .before .before .before .pre .0) in l
 
 mul-nodes-5 : tie.Need-mul-nodes-5 Inv-loop μ-loop
 mul-nodes-5 c = omega (arith, c .before .loop-test .taken, c .before .before .before .before .before .pre .0, c .before .before .before .before .before .pre .1)
 
 element-write-nodes-7 : tie.Need-element-write-nodes-7 Inv-loop μ-loop
-element-write-nodes-7 c = let l : c .before .before .loop .nodes .count < 128 = omega (arith, c .before .loop-test .taken, c .before .before .before .before .before .pre .0) in l
+element-write-nodes-7 c =
+    let l : c .before .before .loop .nodes .count < MOST-NODES = omega
+    (arith, c .before .loop-test .taken, c .before .before .before .before .before .pre .0) in l
 
 mul-nodes-6 : tie.Need-mul-nodes-6 Inv-loop μ-loop
 mul-nodes-6 c = omega (arith, c .before .loop-test .taken, c .before .before .before .before .before .pre .0, c .before .before .before .before .before .pre .1)
 
 element-write-nodes-8 : tie.Need-element-write-nodes-8 Inv-loop μ-loop
-element-write-nodes-8 c = let l : c .before .before .loop .nodes .count < 128 = omega (arith, c .before .loop-test .taken, c .before .before .before .before .before .pre .0) in l
+element-write-nodes-8 c =
+    let l : c .before .before .loop .nodes .count < MOST-NODES = omega
+    (arith, c .before .loop-test .taken, c .before .before .before .before .before .pre .0) in l
 
 mul-nodes-7 : tie.Need-mul-nodes-7 Inv-loop μ-loop
 mul-nodes-7 c = omega (arith, c .before .loop-test .taken, c .before .before .before .before .before .pre .0, c .before .before .before .before .before .pre .1)
 
 element-write-nodes-9 : tie.Need-element-write-nodes-9 Inv-loop μ-loop
-element-write-nodes-9 c = let l : c .before .before .loop .nodes .count < 128 = omega (arith, c .before .loop-test .taken, c .before .before .before .before .before .pre .0) in l
+element-write-nodes-9 c =
+    let l : c .before .before .loop .nodes .count < MOST-NODES = omega
+    (arith, c .before .loop-test .taken, c .before .before .before .before .before .pre .0) in l
 
 mul-nodes-8 : tie.Need-mul-nodes-8 Inv-loop μ-loop
 mul-nodes-8 c = omega (arith, c .before .loop-test .taken, c .before .before .before .before .before .pre .0, c .before .before .before .before .before .pre .1)
 
 element-write-nodes-10 : tie.Need-element-write-nodes-10 Inv-loop μ-loop
-element-write-nodes-10 c = let l : c .before .before .loop .nodes .count < 128 = omega (arith, c .before .loop-test .taken, c .before .before .before .before .before .pre .0) in l
+element-write-nodes-10 c =
+    let l : c .before .before .loop .nodes .count < MOST-NODES = omega
+    (arith, c .before .loop-test .taken, c .before .before .before .before .before .pre .0) in l
 
 add-number-at : tie.Need-add-number-at Inv-loop μ-loop
-add-number-at c = omega (arith, c .before .loop-test .taken, c .before .before .before .before .before .pre .0, c .before .before .before .before .before .pre .1)
+add-number-at c =
+    omega (arith, c .before .loop-test .taken, c .before .before .before .before .before .pre .0, c .before .before .before .before .before .pre .1)
 
 number-at-requires : tie.Need-number-at-requires Inv-loop μ-loop
-number-at-requires c κs = omega (arith, c .before .loop-test .taken, c .before .before .before .before .before .pre .0, c .before .before .before .before .before .pre .1)
+number-at-requires c κs =
+    omega (arith, c .before .loop-test .taken, c .before .before .before .before .before .pre .0, c .before .before .before .before .before .pre .1)
 
 mul-nodes-9 : tie.Need-mul-nodes-9 Inv-loop μ-loop
-mul-nodes-9 c = omega (arith, c .before .before .loop-test .taken, c .before .before .before .before .before .before .pre .0, c .before .before .before .before .before .before .pre .1)
+mul-nodes-9 c =
+    omega (
+      arith,
+      c .before .before .loop-test .taken,
+      c .before .before .before .before .before .before .pre .0,
+      c .before .before .before .before .before .before .pre .1,
+    )
 
 element-write-nodes-11 : tie.Need-element-write-nodes-11 Inv-loop μ-loop
-element-write-nodes-11 c = let l : c .before .before .before .loop .nodes .count < 128 = omega (arith, c .before .before .loop-test .taken, c .before .before .before .before .before .before .pre .0) in l
+element-write-nodes-11 c =
+    let l : c .before .before .before .loop .nodes .count < MOST-NODES = omega
+    (arith, c .before .before .loop-test .taken, c .before .before .before .before .before .before .pre .0) in l
 
 add-nodes : tie.Need-add-nodes Inv-loop μ-loop
-add-nodes c = omega (arith, c .before .before .loop-test .taken, c .before .before .before .before .before .before .pre .0, c .before .before .before .before .before .before .pre .1)
+add-nodes c =
+    omega (
+      arith,
+      c .before .before .loop-test .taken,
+      c .before .before .before .before .before .before .pre .0,
+      c .before .before .before .before .before .before .pre .1,
+    )
 
 shared-slice-read-nodes : tie.Need-shared-slice-read-nodes Inv-loop μ-loop
-shared-slice-read-nodes c = omega (arith, c .before .before .before .loop-test .taken, c .before .before .before .before .before .before .before .pre .0, c .before .before .before .before .before .before .before .pre .1)
+shared-slice-read-nodes c =
+    omega (
+      arith,
+      c .before .before .before .loop-test .taken,
+      c .before .before .before .before .before .before .before .pre .0,
+      c .before .before .before .before .before .before .before .pre .1,
+    )
 
 element-write-nodes-12 : tie.Need-element-write-nodes-12 Inv-loop μ-loop
-element-write-nodes-12 c = let l : c .before .before .before .before .loop .nodes .count < 128 = omega (arith, c .before .before .before .loop-test .taken, c .before .before .before .before .before .before .before .pre .0) in l
+element-write-nodes-12 c =
+    let l : c .before .before .before .before .loop .nodes .count < MOST-NODES = omega
+    (arith, c .before .before .before .loop-test .taken, c .before .before .before .before .before .before .before .pre .0) in l
 
 add-nodes-2 : tie.Need-add-nodes-2 Inv-loop μ-loop
-add-nodes-2 c = omega (arith, c .before .before .before .loop-test .taken, c .before .before .before .before .before .before .before .pre .0, c .before .before .before .before .before .before .before .pre .1)
+add-nodes-2 c =
+    omega (
+      arith,
+      c .before .before .before .loop-test .taken,
+      c .before .before .before .before .before .before .before .pre .0,
+      c .before .before .before .before .before .before .before .pre .1,
+    )
 
 shared-slice-read-nodes-2 : tie.Need-shared-slice-read-nodes-2 Inv-loop μ-loop
-shared-slice-read-nodes-2 c = omega (arith, c .before .before .before .before .loop-test .taken, c .before .before .before .before .before .before .before .before .pre .0, c .before .before .before .before .before .before .before .before .pre .1)
+shared-slice-read-nodes-2 c =
+    omega (
+      arith,
+      c .before .before .before .before .loop-test .taken,
+      c .before .before .before .before .before .before .before .before .pre .0,
+      c .before .before .before .before .before .before .before .before .pre .1,
+    )
 
 element-write-nodes-13 : tie.Need-element-write-nodes-13 Inv-loop μ-loop
-element-write-nodes-13 c = let l : c .before .before .before .before .before .loop .nodes .count < 128 = omega (arith, c .before .before .before .before .loop-test .taken, c .before .before .before .before .before .before .before .before .pre .0) in l
+element-write-nodes-13 c =
+    let l : c .before .before .before .before .before .loop .nodes .count < MOST-NODES = omega
+    (arith, c .before .before .before .before .loop-test .taken, c .before .before .before .before .before .before .before .before .pre .0) in l
 
 add-nodes-3 : tie.Need-add-nodes-3 Inv-loop μ-loop
-add-nodes-3 c = omega (arith, c .before .before .before .before .loop-test .taken, c .before .before .before .before .before .before .before .before .pre .0, c .before .before .before .before .before .before .before .before .pre .1)
+add-nodes-3 c =
+    omega (
+      arith,
+      c .before .before .before .before .loop-test .taken,
+      c .before .before .before .before .before .before .before .before .pre .0,
+      c .before .before .before .before .before .before .before .before .pre .1,
+    )
 
 loop-less : tie.Need-loop-less Inv-loop μ-loop
-loop-less c = omega (arith, c .before .before .before .before .loop-test .taken, c .before .before .before .before .before .before .before .before .pre .0, c .before .before .before .before .before .before .before .before .pre .1)
+loop-less c =
+    omega (
+      arith,
+      c .before .before .before .before .loop-test .taken,
+      c .before .before .before .before .before .before .before .before .pre .0,
+      c .before .before .before .before .before .before .before .before .pre .1,
+    )
 
 loop-again : tie.Need-loop-again Inv-loop μ-loop
 loop-again c =
+    let c3 = c .before .before .before in
+    let c4 = c3 .before in
     let g = c .before .before in
-    let r = c .before .before .before in
+    let r = c3 in
     let s = r .before .before in
     let a = s .before .before .before in
     let at : ℕ = 128 + s .loop .nodes .count * 22 in
-    let x : Node = record { expression = expressionOf (r .raw-at .result); subject = g .number-at .result; verifier = getD (a .args .s .now) (at + 20) 0; state = getD (a .args .s .now) (at + 21) 0 } in
-    node-read (a .args .s .now) (a .args .count) (s .loop .nodes) x (r .raw-at .result) (a .pre .0) (s .loop .inv) (c .before .before .before .before .loop-test .taken) refl
+    let x : Node = record {
+      expression = expressionOf (r .raw-at .result);
+      subject = g .number-at .result;
+      verifier = getD (a .args .s .now) (at + 20)
+          0;
+      state = getD (a .args .s .now) (at + 21) 0;
+    } in
+    node-read (a .args .s .now) (a .args .count) (s .loop .nodes) x (r .raw-at .result) (a .pre .0) (s .loop .inv) (c4 .loop-test .taken) refl
     (λ i. record { expression = expressionOf (r .raw-at .ensures i); subject = g .number-at .ensures i; verifier = x .verifier; state = x .state })
 
 returns : tie.Need-returns Inv-loop μ-loop

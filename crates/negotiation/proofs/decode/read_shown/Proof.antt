@@ -20,7 +20,8 @@ abbrev μ-loop : tie.MeasureT-loop
 
 loop-holds : tie.Need-loop-holds Inv-loop μ-loop
 unfolding credentials
-loop-holds c = (omega arith, record { heads = length-replicate {A = ℕ} 256 0; kinds = length-replicate {A = ℕ} 256 0; numbers = length-replicate {A = ℕ} 1024 0 }, refl)
+loop-holds c =
+    (omega arith, record { heads = length-replicate {A = ℕ} 256 0; kinds = length-replicate {A = ℕ} 256 0; numbers = length-replicate {A = ℕ} 1024 0 }, refl)
 
 store-requires : tie.Need-store-requires Inv-loop μ-loop
 store-requires c κs = (omega arith, c .before .before .before .before .before .loop .inv .1)
@@ -32,8 +33,10 @@ loop-again c =
     let k : ℕ = s .loop .k in (
       omega arith,
       c .store .ensures .sized,
-      upTo-next (credentials (poolOf k (s .loop .heads) (s .loop .kinds) (s .loop .numbers))) (credentials (poolOf (k + 1) (c .store .last .0) (c .store .last .1 .0) (c .store .last .1 .1 .0))) k
-          (λ (i : ℕ). credentialFrom (a .s .now) (3712 + i * 22)) (c .before .before .before .before .credential-from .result) (s .loop .inv .2) (c .before .before .before .before .credential-from .ensures) (c .store .ensures .all),
+      upTo-next (credentials (poolOf k (s .loop .heads) (s .loop .kinds) (s .loop .numbers)))
+          (credentials (poolOf (k + 1) (c .store .last .0) (c .store .last .1 .0) (c .store .last .1 .1 .0))) k
+          (λ (i : ℕ). credentialFrom (a .s .now) (3712 + i * 22)) (c .before .before .before .before .credential-from .result) (s .loop .inv .2)
+          (c .before .before .before .before .credential-from .ensures) (c .store .ensures .all),
     )
 
 returns : tie.Need-returns Inv-loop μ-loop

@@ -16,7 +16,8 @@ use Rattle.negotiation.proofs.encode.write_edges.Statement.{statement}
 use Rattle.negotiation.proofs.encode.write_edges.Tie as tie
 
 abbrev Inv-loop : tie.InvT-loop
-Inv-loop buf₀ m kind parent child j₀ buf j = (j ≤ m) × (length buf ≡ length buf₀) × (buf ≡ pasted buf₀ 2944 (records edgeBytes (upTo j (edgeAt (edgesFrom m kind parent child)))))
+Inv-loop buf₀ m kind parent child j₀ buf j =
+    (j ≤ m) × (length buf ≡ length buf₀) × (buf ≡ pasted buf₀ 2944 (records edgeBytes (upTo j (edgeAt (edgesFrom m kind parent child)))))
 
 abbrev μ-loop : tie.MeasureT-loop
 μ-loop buf₀ m kind parent child j₀ buf j = m - j
@@ -54,7 +55,8 @@ returns c =
     let n : ℕ = a .m in
     let all : s .loop .j ≡ n = le-antisymm (s .loop .inv .0) (w .before .before .loop-test .left) in
     w .write-zeros .ensures
-    ∙ ap (λ (l : List ℕ). pasted l (2944 + n * 3) (zeros (3712 - (2944 + n * 3)))) (s .loop .inv .2 ∙ ap (λ (m : ℕ). pasted (a .buf .now) 2944 (records edgeBytes (upTo m (edgeAt E)))) all)
+    ∙ ap (λ (l : List ℕ). pasted l (2944 + n * 3) (zeros (3712 - (2944 + n * 3))))
+    (s .loop .inv .2 ∙ ap (λ (m : ℕ). pasted (a .buf .now) 2944 (records edgeBytes (upTo m (edgeAt E)))) all)
     ∙ part-written edgeBytes 3 edge-size (a .buf .now) 2944 (2944 + n * 3) 3712 n (edgeAt E) refl (omega arith) (omega arith)
 
 pub write-edges-spec : {M : Type 1} → statement M

@@ -18,7 +18,9 @@ use Rattle.negotiation.proofs.encode.write_nodes.Statement.{statement}
 use Rattle.negotiation.proofs.encode.write_nodes.Tie as tie
 
 abbrev Inv-loop : tie.InvT-loop
-Inv-loop buf₀ n kind parts n0 n1 n2 n3 n4 n5 n6 n7 subject verifier state i₀ buf i = (i ≤ n) × (length buf ≡ length buf₀) × (buf ≡ pasted buf₀ 128 (records nodeBytes (upTo i (nodeAt (nodesFrom n kind parts n0 n1 n2 n3 n4 n5 n6 n7 subject verifier state)))))
+Inv-loop buf₀ n kind parts n0 n1 n2 n3 n4 n5 n6 n7 subject verifier state i₀ buf i =
+    (i ≤ n) × (length buf ≡ length buf₀) × (buf ≡ pasted buf₀ 128
+    (records nodeBytes (upTo i (nodeAt (nodesFrom n kind parts n0 n1 n2 n3 n4 n5 n6 n7 subject verifier state)))))
 
 abbrev μ-loop : tie.MeasureT-loop
 μ-loop buf₀ n kind parts n0 n1 n2 n3 n4 n5 n6 n7 subject verifier state i₀ buf i = n - i
@@ -34,11 +36,13 @@ loop-again c =
     let t = e .before .before .before .before .before .before .before .before .before .before .before in
     let s = t .before in
     let a = s .before .before .args in
-    let N : Nodes = nodesFrom (a .n) (a .kind .now) (a .parts .now) (a .n0 .now) (a .n1 .now) (a .n2 .now) (a .n3 .now) (a .n4 .now) (a .n5 .now) (a .n6 .now) (a .n7 .now) (a .subject .now) (a .verifier .now) (a .state .now) in
+    let N : Nodes = nodesFrom (a .n) (a .kind .now) (a .parts .now) (a .n0 .now) (a .n1 .now) (a .n2 .now) (a .n3 .now) (a .n4 .now) (a .n5 .now)
+    (a .n6 .now) (a .n7 .now) (a .subject .now) (a .verifier .now) (a .state .now) in
     let i : ℕ = s .loop .i in
     let next : i + 1 ≤ a .n = omega (arith, t .loop-test .taken) in
     let room : 128 + i * 22 + 22 ≤ length (a .buf .now) = omega (arith, next, s .before .before .pre .0, s .before .before .pre .1) in
-    let x : Expression → Node = λ (y : Expression). record { expression = y; subject = nodeAt N i .subject; verifier = nodeAt N i .verifier; state = nodeAt N i .state } in (
+    let x : Expression → Node = λ (y : Expression).
+    record { expression = y; subject = nodeAt N i .subject; verifier = nodeAt N i .verifier; state = nodeAt N i .state } in (
       next,
       w .write-node .kept .0 ∙ s .loop .inv .1,
       w .write-node .ensures
@@ -58,11 +62,13 @@ returns c =
     let w = c .before .before in
     let s = w .before .before .before in
     let a = s .before .before .args in
-    let N : Nodes = nodesFrom (a .n) (a .kind .now) (a .parts .now) (a .n0 .now) (a .n1 .now) (a .n2 .now) (a .n3 .now) (a .n4 .now) (a .n5 .now) (a .n6 .now) (a .n7 .now) (a .subject .now) (a .verifier .now) (a .state .now) in
+    let N : Nodes = nodesFrom (a .n) (a .kind .now) (a .parts .now) (a .n0 .now) (a .n1 .now) (a .n2 .now) (a .n3 .now) (a .n4 .now) (a .n5 .now)
+    (a .n6 .now) (a .n7 .now) (a .subject .now) (a .verifier .now) (a .state .now) in
     let n : ℕ = a .n in
     let all : s .loop .i ≡ n = le-antisymm (s .loop .inv .0) (w .before .before .loop-test .left) in
     w .write-zeros .ensures
-    ∙ ap (λ (l : List ℕ). pasted l (128 + n * 22) (zeros (2944 - (128 + n * 22)))) (s .loop .inv .2 ∙ ap (λ (m : ℕ). pasted (a .buf .now) 128 (records nodeBytes (upTo m (nodeAt N)))) all)
+    ∙ ap (λ (l : List ℕ). pasted l (128 + n * 22) (zeros (2944 - (128 + n * 22))))
+    (s .loop .inv .2 ∙ ap (λ (m : ℕ). pasted (a .buf .now) 128 (records nodeBytes (upTo m (nodeAt N)))) all)
     ∙ part-written nodeBytes 22 node-size (a .buf .now) 128 (128 + n * 22) 2944 n (nodeAt N) refl (omega arith) (omega arith)
 
 pub write-nodes-spec : {M : Type 1} → statement M

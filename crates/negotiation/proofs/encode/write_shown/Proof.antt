@@ -16,7 +16,8 @@ use Rattle.negotiation.proofs.encode.write_shown.Statement.{statement}
 use Rattle.negotiation.proofs.encode.write_shown.Tie as tie
 
 abbrev Inv-loop : tie.InvT-loop
-Inv-loop buf₀ count heads kinds numbers k₀ buf k = (k ≤ count) × (length buf ≡ length buf₀) × (buf ≡ pasted buf₀ 3712 (records credentialBytes (upTo k (credentialAt (poolOf count heads kinds numbers)))))
+Inv-loop buf₀ count heads kinds numbers k₀ buf k =
+    (k ≤ count) × (length buf ≡ length buf₀) × (buf ≡ pasted buf₀ 3712 (records credentialBytes (upTo k (credentialAt (poolOf count heads kinds numbers)))))
 
 abbrev μ-loop : tie.MeasureT-loop
 μ-loop buf₀ count heads kinds numbers k₀ buf k = count - k
@@ -56,7 +57,8 @@ returns c =
     let n : ℕ = a .count in
     let all : s .loop .k ≡ n = le-antisymm (s .loop .inv .0) (w .before .before .loop-test .left) in
     w .write-zeros .ensures
-    ∙ ap (λ (l : List ℕ). pasted l (3712 + n * 22) (zeros (5120 - (3712 + n * 22)))) (s .loop .inv .2 ∙ ap (λ (m : ℕ). pasted (a .buf .now) 3712 (records credentialBytes (upTo m (credentialAt P)))) all)
+    ∙ ap (λ (l : List ℕ). pasted l (3712 + n * 22) (zeros (5120 - (3712 + n * 22))))
+    (s .loop .inv .2 ∙ ap (λ (m : ℕ). pasted (a .buf .now) 3712 (records credentialBytes (upTo m (credentialAt P)))) all)
     ∙ part-written credentialBytes 22 credential-size (a .buf .now) 3712 (3712 + n * 22) 5120 n (credentialAt P) refl (omega arith) (omega arith)
 
 pub write-shown-spec : {M : Type 1} → statement M

@@ -29,7 +29,8 @@ loop-again c =
       omega arith,
       omega arith,
       simp length-set (s .loop .inv .2),
-      ap (λ (l : List ℕ). set l (s .loop .i) 0) (s .loop .inv .3) ∙ zero-next (a .buf .now) (a .from) (a .to) (s .loop .i) (s .loop .inv .0) (c .loop-test .taken) (s .before .pre .1),
+      ap (λ (l : List ℕ). set l (s .loop .i) 0) (s .loop .inv .3)
+          ∙ zero-next (a .buf .now) (a .from) (a .to) (s .loop .i) (s .loop .inv .0) (c .loop-test .taken) (s .before .pre .1),
     )
 
 same-length : tie.Need-same-length Inv-loop μ-loop

@@ -6,7 +6,8 @@ use Rattle.propagation.proofs.failing.drop_chain.Statement.{statement}
 use Rattle.propagation.proofs.failing.drop_chain.Tie as tie
 
 abbrev Inv-loop : tie.InvT-loop
-Inv-loop m from slot way next left₀ gone₀ failed₀ queue₀ tail first t₀ h₀ left gone failed queue t h = (h ≤ m) × (t ≤ 128) × Failing m (graph from slot way) failed left gone
+Inv-loop m from slot way next left₀ gone₀ failed₀ queue₀ tail first t₀ h₀ left gone failed queue t h =
+    (h ≤ m) × (t ≤ 128) × Failing m (graph from slot way) failed left gone
 
 abbrev μ-loop : tie.MeasureT-loop
 μ-loop m from slot way next left₀ gone₀ failed₀ queue₀ tail first t₀ h₀ left gone failed queue t h = h
@@ -24,10 +25,25 @@ wide16-requires : tie.Need-wide16-requires Inv-loop μ-loop
 wide16-requires c κs = tt
 
 loop-less : tie.Need-loop-less Inv-loop μ-loop
-loop-less c = omega (arith, c .wide16 .ensures, c .before .before .before .before .before .before .before .before .before .pre .2 (c .before .before .before .before .before .before .before .before .loop .h - 1))
+loop-less c =
+    omega (
+      arith,
+      c .wide16 .ensures,
+      c .before .before .before .before .before .before .before .before .before .pre .2
+          (c .before .before .before .before .before .before .before .before .loop .h - 1),
+    )
 
 loop-again : tie.Need-loop-again Inv-loop μ-loop
-loop-again c = (omega (arith, c .wide16 .ensures, c .before .before .before .before .before .before .before .before .before .pre .2 (c .before .before .before .before .before .before .before .before .loop .h - 1)), c .before .before .drop-edge .ensures .0, c .before .before .drop-edge .ensures .1)
+loop-again c = (
+  omega (
+    arith,
+    c .wide16 .ensures,
+    c .before .before .before .before .before .before .before .before .before .pre .2
+        (c .before .before .before .before .before .before .before .before .loop .h - 1),
+  ),
+  c .before .before .drop-edge .ensures .0,
+  c .before .before .drop-edge .ensures .1,
+)
 
 returns : tie.Need-returns Inv-loop μ-loop
 returns c = (c .before .loop .inv .1, c .before .loop .inv .2)

@@ -10,31 +10,39 @@ element-copy-out-left c =
     let e = c .before .before in
     let i = e .before .before .before in
     let s = i .before .before .before .before in
-    let r = drop-all _ _ _ _ _ (s .pre .2) _ _ _ (s .pre .0) (i .before .before .wide .ensures .0) (c .wide16 .ensures) (sym (i .is-at .ensures) ∙ not-false _ (e .before .before .if1 .left)) (e .if2 .left) in
+    let r = drop-all _ _ _ _ _ (s .pre .2) _ _ _ (s .pre .0) (i .before .before .wide .ensures .0) (c .wide16 .ensures)
+    (sym (i .is-at .ensures) ∙ not-false _ (e .before .before .if1 .left)) (e .if2 .left) in
     r .0
 
 sub-left : tie.Need-sub-left
 sub-left c =
-    let e = c .before .before .before in
+    let c3 = c .before .before .before in
+    let e = c3 in
     let i = e .before .before .before in
     let s = i .before .before .before .before in
-    let r = drop-all _ _ _ _ _ (s .pre .2) _ _ _ (s .pre .0) (i .before .before .wide .ensures .0) (c .before .wide16 .ensures) (sym (i .is-at .ensures) ∙ not-false _ (e .before .before .if1 .left)) (e .if2 .left) in
+    let r = drop-all _ _ _ _ _ (s .pre .2) _ _ _ (s .pre .0) (i .before .before .wide .ensures .0) (c .before .wide16 .ensures)
+    (sym (i .is-at .ensures) ∙ not-false _ (e .before .before .if1 .left)) (e .if2 .left) in
     r .1
 
 element-write-left : tie.Need-element-write-left
 element-write-left c =
-    let e = c .before .before .before in
+    let c3 = c .before .before .before in
+    let e = c3 in
     let i = e .before .before .before in
     let s = i .before .before .before .before in
-    let r = drop-all _ _ _ _ _ (s .pre .2) _ _ _ (s .pre .0) (i .before .before .wide .ensures .0) (c .before .wide16 .ensures) (sym (i .is-at .ensures) ∙ not-false _ (e .before .before .if1 .left)) (e .if2 .left) in
+    let r = drop-all _ _ _ _ _ (s .pre .2) _ _ _ (s .pre .0) (i .before .before .wide .ensures .0) (c .before .wide16 .ensures)
+    (sym (i .is-at .ensures) ∙ not-false _ (e .before .before .if1 .left)) (e .if2 .left) in
     r .0
 
 fail-node-requires : tie.Need-fail-node-requires
 fail-node-requires c κs =
-    let e = c .before .before .before .before .before .before .before in
+    let c5 = c .before .before .before .before .before in
+    let c7 = c5 .before .before in
+    let e = c7 in
     let i = e .before .before .before in
     let s = i .before .before .before .before in
-    let r = drop-all _ _ _ _ _ (s .pre .2) _ _ _ (s .pre .0) (i .before .before .wide .ensures .0) (c .before .before .before .before .before .wide16 .ensures) (sym (i .is-at .ensures) ∙ not-false _ (e .before .before .if1 .left)) (e .if2 .left) in
+    let r = drop-all _ _ _ _ _ (s .pre .2) _ _ _ (s .pre .0) (i .before .before .wide .ensures .0) (c5 .wide16 .ensures)
+    (sym (i .is-at .ensures) ∙ not-false _ (e .before .before .if1 .left)) (e .if2 .left) in
     (r .0, s .pre .1, (λ z. r .2), r .3)
 
 pub drop-edge-spec : {M : Type 1} → statement M

@@ -8,7 +8,10 @@ chain-requires : tie.Need-chain-requires
 chain-requires c κs = (c .before .before .pre .1, chain-start _)
 
 fail-childless-requires : tie.Need-fail-childless-requires
-fail-childless-requires c κs = (c .before .before .before .before .before .before .before .before .pre .0, failing-start _ _ _ (c .before .before .before .before .before .before .before .before .pre .1) (c .before .before .before .before .before .before .before .before .pre .2) (c .before .before .before .before .tally .ensures))
+fail-childless-requires c κs =
+    let c4 = c .before .before .before .before in
+    let c8 = c4 .before .before .before .before in
+    (c8 .pre .0, failing-start _ _ _ (c8 .pre .1) (c8 .pre .2) (c4 .tally .ensures))
 
 returns : tie.Need-returns
 returns c = failing-sound (c .run-queue .ensures)

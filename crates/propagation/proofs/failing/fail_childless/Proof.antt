@@ -16,7 +16,12 @@ loop-holds : tie.Need-loop-holds Inv-loop μ-loop
 loop-holds c = (omega arith, c .pre .1)
 
 fail-node-requires : tie.Need-fail-node-requires Inv-loop μ-loop
-fail-node-requires c κs = (omega (arith, c .before .before .loop-test .taken, c .before .before .before .before .pre .0), c .before .before .before .loop .inv .0, (λ e. absurd (false-true e)), c .before .before .before .loop .inv .1)
+fail-node-requires c κs = (
+  omega (arith, c .before .before .loop-test .taken, c .before .before .before .before .pre .0),
+  c .before .before .before .loop .inv .0,
+  (λ e. absurd (false-true e)),
+  c .before .before .before .loop .inv .1,
+)
 
 loop-again : tie.Need-loop-again Inv-loop μ-loop
 loop-again c = c .fail-node .ensures

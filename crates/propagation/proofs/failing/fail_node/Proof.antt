@@ -7,7 +7,12 @@ use Rattle.propagation.proofs.failing.fail_node.Statement.{statement}
 use Rattle.propagation.proofs.failing.fail_node.Tie as tie
 
 returns-4 : tie.Need-returns-4
-returns-4 c = (omega arith, failing-node _ _ _ _ _ (c .before .before .before .before .before .before .before .pre .3) _ _ (c .before .before .before .before .before .before .before .pre .0) (c .before .before .before .before .before .before .before .pre .2) (sym (c .before .fails .ensures) ∙ not-false _ (c .if3 .left)))
+returns-4 c = (
+  omega arith,
+  failing-node _ _ _ _ _ (c .before .before .before .before .before .before .before .pre .3) _ _
+      (c .before .before .before .before .before .before .before .pre .0) (c .before .before .before .before .before .before .before .pre .2)
+      (sym (c .before .fails .ensures) ∙ not-false _ (c .if3 .left)),
+)
 
 pub fail-node-spec : {M : Type 1} → statement M
 fail-node-spec =

@@ -23,19 +23,35 @@ touched-requires : tie.Need-touched-requires Inv-loop μ-loop
 touched-requires c κs = (c .before .before .before .pre .1, c .before .before .before .pre .2, c .before .loop .inv .size)
 
 touched-requires-2 : tie.Need-touched-requires-2 Inv-loop μ-loop
-touched-requires-2 c κs = (c .before .before .before .before .before .pre .1, c .before .before .before .before .before .pre .2, c .before .before .before .loop .inv .size)
+touched-requires-2 c κs =
+    let c3 = c .before .before .before in
+    let c5 = c3 .before .before in
+    (c5 .pre .1, c5 .pre .2, c3 .loop .inv .size)
 
 swept-requires : tie.Need-swept-requires Inv-loop μ-loop
-swept-requires c κs = (c .before .before .before .before .before .before .before .before .pre .0, c .before .before .before .before .before .before .before .before .pre .3, c .before .before .before .before .before .before .loop .inv .size)
+swept-requires c κs =
+    let c6 = c .before .before .before .before .before .before in
+    let c8 = c6 .before .before in
+    (c8 .pre .0, c8 .pre .3, c6 .loop .inv .size)
 
 loop-less : tie.Need-loop-less Inv-loop μ-loop
 loop-less c = omega (arith, c .before .before .before .swept .ensures .counted, cnt-few (c .before .before .before .swept .result .failed))
 
 loop-again : tie.Need-loop-again Inv-loop μ-loop
-loop-again c = round-sound _ (c .before .before .before .before .before .before .before .before .touched .ensures) (c .before .before .before .before .before .before .touched2 .ensures) (c .before .before .before .swept .ensures) (c .before .before .before .before .before .before .before .before .before .before .loop .inv)
+loop-again c =
+    let c3 = c .before .before .before in
+    let c6 = c3 .before .before .before in
+    let c8 = c6 .before .before in
+    let c10 = c8 .before .before in
+    round-sound _ (c8 .touched .ensures) (c6 .touched2 .ensures) (c3 .swept .ensures) (c10 .loop .inv)
 
 returns : tie.Need-returns Inv-loop μ-loop
-returns c = round-last _ (c .before .before .before .before .before .before .before .before .touched .ensures) (c .before .before .before .before .before .before .touched2 .ensures) (c .before .before .before .swept .ensures) (c .before .before .before .before .before .before .before .before .before .before .loop .inv) (c .if1 .taken)
+returns c =
+    let c3 = c .before .before .before in
+    let c6 = c3 .before .before .before in
+    let c8 = c6 .before .before in
+    let c10 = c8 .before .before in
+    round-last _ (c8 .touched .ensures) (c6 .touched2 .ensures) (c3 .swept .ensures) (c10 .loop .inv) (c .if1 .taken)
 
 pub failed-spec : {M : Type 1} → statement M
 failed-spec =

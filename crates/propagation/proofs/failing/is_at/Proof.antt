@@ -7,10 +7,14 @@ returns : tie.Need-returns
 returns c = is-past (c .before .args .failed .now) (c .before .args .f) (c .before .args .on) (c .if1 .taken)
 
 returns-2 : tie.Need-returns-2
-returns-2 c = is-on (c .before .before .before .args .failed .now) (c .before .before .before .args .f) (c .before .before .before .args .on) (c .before .before .if1 .left) (c .before .if2 .taken)
+returns-2 c =
+    let c3 = c .before .before .before in
+    is-on (c3 .args .failed .now) (c3 .args .f) (c3 .args .on) (c .before .before .if1 .left) (c .before .if2 .taken)
 
 returns-3 : tie.Need-returns-3
-returns-3 c = is-off (c .before .before .before .args .failed .now) (c .before .before .before .args .f) (c .before .before .before .args .on) (c .before .before .if1 .left) (c .before .if2 .left)
+returns-3 c =
+    let c3 = c .before .before .before in
+    is-off (c3 .args .failed .now) (c3 .args .f) (c3 .args .on) (c .before .before .if1 .left) (c .before .if2 .left)
 
 pub is-at-spec : {M : Type 1} → statement M
 is-at-spec =

@@ -6,7 +6,8 @@ use Rattle.propagation.proofs.failing.run_queue.Statement.{statement}
 use Rattle.propagation.proofs.failing.run_queue.Tie as tie
 
 abbrev Inv-loop : tie.InvT-loop
-Inv-loop m from slot way head next left₀ gone₀ failed₀ queue₀ tail t₀ q₀ left gone failed queue t q = (t ≤ 128) × Failing m (graph from slot way) failed left gone
+Inv-loop m from slot way head next left₀ gone₀ failed₀ queue₀ tail t₀ q₀ left gone failed queue t q =
+    (t ≤ 128) × Failing m (graph from slot way) failed left gone
 
 abbrev μ-loop : tie.MeasureT-loop
 μ-loop m from slot way head next left₀ gone₀ failed₀ queue₀ tail t₀ q₀ left gone failed queue t q = 128 - q
@@ -23,8 +24,17 @@ wide16-requires c κs = tt
 drop-chain-requires : tie.Need-drop-chain-requires Inv-loop μ-loop
 drop-chain-requires c κs =
     let s = c .before .before .before .before .before .before .before .before .before .before in
-    let l = c .before .before .before .before .before .before .before .before .before .loop in
-    (omega (arith, c .before .before .before .before .wide16 .ensures, s .pre .1 .head-low (c .before .before .before .before .before .before .wide .result)), l .inv .0, s .pre .1 .next-low, l .inv .1)
+    let l = c .before .before .before .before .before .before .before .before .before .loop in (
+      omega (
+        arith,
+        c .before .before .before .before .wide16 .ensures,
+        s .pre .1 .head-low
+            (c .before .before .before .before .before .before .wide .result),
+      ),
+      l .inv .0,
+      s .pre .1 .next-low,
+      l .inv .1,
+    )
 
 loop-again : tie.Need-loop-again Inv-loop μ-loop
 loop-again c = c .drop-chain .ensures

@@ -19,7 +19,13 @@ fails-anew-requires : tie.Need-fails-anew-requires Inv-loop μ-loop
 fails-anew-requires c κs = tt
 
 add-added : tie.Need-add-added Inv-loop μ-loop
-add-added c = omega (arith, c .before .before .before .before .before .before .loop .inv .counted, cnt-few (c .before .before .before .before .before .before .loop .next))
+add-added c =
+    omega (
+      arith,
+      c .before .before .before .before .before .before .loop .inv .counted,
+      cnt-few
+          (c .before .before .before .before .before .before .loop .next),
+    )
 
 loop-again : tie.Need-loop-again Inv-loop μ-loop
 loop-again c =

@@ -20,13 +20,35 @@ wide16-requires : tie.Need-wide16-requires Inv-loop μ-loop
 wide16-requires c κs = tt
 
 array-read-left : tie.Need-array-read-left Inv-loop μ-loop
-array-read-left c = omega (arith, (c .before .before .wide16 .ensures), c .before .before .before .before .before .before .pre .1 (c .before .before .before .before .before .loop .j))
+array-read-left c =
+    omega (
+      arith,
+      (c .before .before .wide16 .ensures),
+      c .before .before .before .before .before .before .pre .1
+          (c .before .before .before .before .before .loop .j),
+    )
 
 add-left : tie.Need-add-left Inv-loop μ-loop
-add-left c = omega (arith, tally-low (c .before .before .before .before .before .loop .inv .1) (omega arith) (c .before .before .wide16 .result / 4) (omega (arith, (c .before .before .wide16 .ensures), c .before .before .before .before .before .before .pre .1 (c .before .before .before .before .before .loop .j))))
+add-left c =
+    omega (
+      arith,
+      tally-low (c .before .before .before .before .before .loop .inv .1) (omega arith) (c .before .before .wide16 .result / 4)
+          (omega (
+            arith,
+            (c .before .before .wide16 .ensures),
+            c .before .before .before .before .before .before .pre .1
+                (c .before .before .before .before .before .loop .j),
+          )),
+    )
 
 array-write-left : tie.Need-array-write-left Inv-loop μ-loop
-array-write-left c = omega (arith, (c .before .before .wide16 .ensures), c .before .before .before .before .before .before .pre .1 (c .before .before .before .before .before .loop .j))
+array-write-left c =
+    omega (
+      arith,
+      (c .before .before .wide16 .ensures),
+      c .before .before .before .before .before .before .pre .1
+          (c .before .before .before .before .before .loop .j),
+    )
 
 loop-again : tie.Need-loop-again Inv-loop μ-loop
 loop-again c =

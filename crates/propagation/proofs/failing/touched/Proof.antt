@@ -26,7 +26,13 @@ is-at-requires : tie.Need-is-at-requires Inv-loop μ-loop
 is-at-requires c κs = c .before .before .before .before .before .before .pre .2
 
 array-write-r : tie.Need-array-write-r Inv-loop μ-loop
-array-write-r c = omega (arith, c .before .before .before .before .wide16 .ensures, c .before .before .before .before .before .before .before .before .pre .1 (c .before .before .before .before .before .before .before .loop .j))
+array-write-r c =
+    omega (
+      arith,
+      c .before .before .before .before .wide16 .ensures,
+      c .before .before .before .before .before .before .before .before .pre .1
+          (c .before .before .before .before .before .before .before .loop .j),
+    )
 
 loop-again : tie.Need-loop-again Inv-loop μ-loop
 loop-again c =
@@ -38,8 +44,10 @@ loop-again c =
     let g = graph (s .args .from .now) (s .args .slot .now) (s .args .way .now) in (
       omega arith,
       ⊎-elim
-          (λ w. touch-add-at (l .j) g (s .args .failed .now) (s .args .on) _ _ (p .result) (f .result) _ (p .ensures) (s .pre .1 _) (f .ensures .0) (t .ensures) (w .0 .taken) (w .1) (l .inv .1))
-          (λ w. touch-skip-at (l .j) g (s .args .failed .now) (s .args .on) _ _ (f .result) _ (f .ensures .0) (t .ensures) (w .0 .left) (w .1) (l .inv .1)) (c .if1 .came),
+          (λ w. touch-add-at (l .j) g (s .args .failed .now) (s .args .on) _ _ (p .result) (f .result) _ (p .ensures) (s .pre .1 _) (f .ensures .0)
+          (t .ensures) (w .0 .taken) (w .1) (l .inv .1))
+          (λ w. touch-skip-at (l .j) g (s .args .failed .now) (s .args .on) _ _ (f .result) _ (f .ensures .0) (t .ensures) (w .0 .left) (w .1)
+          (l .inv .1)) (c .if1 .came),
     )
 
 returns : tie.Need-returns Inv-loop μ-loop

@@ -14,7 +14,10 @@ mark-requires c κs =
     (omega (arith, p .ensures, s .pre .2 .slots (s .args .j)), fill-at _ _ _ _ _ (p .ensures) (s .pre .2) (s .pre .0) (s .pre .1))
 
 returns : tie.Need-returns
-returns c = bring-at _ _ _ _ _ _ _ _ (c .before .before .before .before .wide16 .ensures) (c .before .before .before .before .before .before .pre .2) (c .before .before .before .before .before .before .pre .3) (c .mark .ensures)
+returns c =
+    let c4 = c .before .before .before .before in
+    let c6 = c4 .before .before in
+    bring-at _ _ _ _ _ _ _ _ (c4 .wide16 .ensures) (c6 .pre .2) (c6 .pre .3) (c .mark .ensures)
 
 pub bring-spec : {M : Type 1} → statement M
 bring-spec =

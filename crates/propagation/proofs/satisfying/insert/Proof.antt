@@ -10,17 +10,32 @@ bring-requires : tie.Need-bring-requires
 bring-requires c κs =
     let s = c .before .before .before .before .before .before .before .before .before .before .before in
     let g = graph (s .args .from .now) (s .args .slot .now) (s .args .need .now) in
-    let w = work (s .args .got .now) (s .args .sat .now) (s .args .queue .now) (s .args .tail) in
-    (omega arith, insert-on _ g w _ (c .before .before .before .before .before .before .wide .ensures .0) (c .before .before .before .if2 .taken), base-more _ _ _ (s .pre .0) (s .pre .2 .base), s .pre .2 .full)
+    let w = work (s .args .got .now) (s .args .sat .now) (s .args .queue .now) (s .args .tail) in (
+      omega arith,
+      insert-on _ g w _ (c .before .before .before .before .before .before .wide .ensures .0) (c .before .before .before .if2 .taken),
+      base-more _ _ _ (s .pre .0) (s .pre .2 .base),
+      s .pre .2 .full,
+    )
 
 settle-requires : tie.Need-settle-requires
-settle-requires c κs = (c .before .before .before .before .before .before .before .before .before .before .before .before .before .before .link .ensures, done-bring _ _ _ _ (c .before .before .before .before .before .before .before .before .before .before .before .before .before .before .before .before .before .pre .2) (c .before .before .before .before .before .bring .ensures))
+settle-requires c κs =
+    let c5 = c .before .before .before .before .before in
+    let c14 = c5 .before .before .before .before .before .before .before .before .before in
+    let c17 = c14 .before .before .before in
+    (c14 .link .ensures, done-bring _ _ _ _ (c17 .pre .2) (c5 .bring .ensures))
 
 returns-2 : tie.Need-returns-2
-returns-2 c = (c .before .before .before .before .before .link .ensures, insert-off _ _ _ _ (c .before .before .before .before .before .before .before .before .pre .0) (c .before .before .before .before .before .before .before .before .pre .2) (c .before .before .before .wide .ensures .0) (c .if2 .left))
+returns-2 c =
+    let c3 = c .before .before .before in
+    let c5 = c3 .before .before in
+    let c8 = c5 .before .before .before in
+    (c5 .link .ensures, insert-off _ _ _ _ (c8 .pre .0) (c8 .pre .2) (c3 .wide .ensures .0) (c .if2 .left))
 
 returns-3 : tie.Need-returns-3
-returns-3 c = (c .before .before .before .link .ensures, insert-past _ _ _ _ (c .before .before .before .before .before .before .pre .0) (c .before .before .before .before .before .before .pre .2) (c .before .wide .ensures .0) (c .if1 .left))
+returns-3 c =
+    let c3 = c .before .before .before in
+    let c6 = c3 .before .before .before in
+    (c3 .link .ensures, insert-past _ _ _ _ (c6 .pre .0) (c6 .pre .2) (c .before .wide .ensures .0) (c .if1 .left))
 
 pub insert-spec : {M : Type 1} → statement M
 insert-spec =

@@ -8,7 +8,8 @@ use Rattle.propagation.proofs.satisfying.satisfied.Statement.{statement
 use Rattle.propagation.proofs.satisfying.satisfied.Tie as tie
 
 abbrev Inv-loop : tie.InvT-loop
-Inv-loop n m from slot need head₀ next₀ got₀ sat₀ queue₀ t₀ j₀ head next got sat queue t j = (j ≤ m) × Chained j from head next × Done j (graph from slot need) (work got sat queue t) t
+Inv-loop n m from slot need head₀ next₀ got₀ sat₀ queue₀ t₀ j₀ head next got sat queue t j =
+    (j ≤ m) × Chained j from head next × Done j (graph from slot need) (work got sat queue t) t
 
 abbrev μ-loop : tie.MeasureT-loop
 μ-loop n m from slot need head₀ next₀ got₀ sat₀ queue₀ t₀ j₀ head next got sat queue t j = m - j
@@ -20,7 +21,11 @@ loop-holds : tie.Need-loop-holds Inv-loop μ-loop
 loop-holds c = (omega arith, chain-start _, c .seed .ensures)
 
 insert-requires : tie.Need-insert-requires Inv-loop μ-loop
-insert-requires c κs = (omega (arith, c .before .before .before .before .before .before .before .before .before .before .before .pre .1), c .before .before .before .before .before .before .loop .inv .1, c .before .before .before .before .before .before .loop .inv .2)
+insert-requires c κs = (
+  omega (arith, c .before .before .before .before .before .before .before .before .before .before .before .pre .1),
+  c .before .before .before .before .before .before .loop .inv .1,
+  c .before .before .before .before .before .before .loop .inv .2,
+)
 
 loop-again : tie.Need-loop-again Inv-loop μ-loop
 loop-again c = (omega arith, c .insert .ensures .0, c .insert .ensures .1)

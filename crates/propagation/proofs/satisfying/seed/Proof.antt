@@ -7,7 +7,8 @@ use Rattle.propagation.proofs.satisfying.seed.Statement.{statement}
 use Rattle.propagation.proofs.satisfying.seed.Tie as tie
 
 abbrev Inv-loop : tie.InvT-loop
-Inv-loop n from slot need got sat₀ queue₀ t₀ i₀ sat queue t i = Base 0 (graph from slot need) (work got sat queue t) × Full i (graph from slot need) (work got sat queue t)
+Inv-loop n from slot need got sat₀ queue₀ t₀ i₀ sat queue t i =
+    Base 0 (graph from slot need) (work got sat queue t) × Full i (graph from slot need) (work got sat queue t)
 
 abbrev μ-loop : tie.MeasureT-loop
 μ-loop n from slot need got sat₀ queue₀ t₀ i₀ sat queue t i = n - i

@@ -20,8 +20,11 @@ element-copy-out-v c = omega (arith, tail-few (c .before .loop .inv .base))
 
 visit-requires : tie.Need-visit-requires Inv-loop μ-loop
 visit-requires c κs =
-    let l = c .before .before .before .before .before .loop in
-    (l .inv .base .standing _ (c .before .before .before .before .loop-test .taken) .1, c .before .before .before .before .before .before .pre .0, l .inv .base, l .inv .full)
+    let c4 = c .before .before .before .before in
+    let c5 = c4 .before in
+    let c6 = c5 .before in
+    let l = c5 .loop in
+    (l .inv .base .standing _ (c4 .loop-test .taken) .1, c6 .pre .0, l .inv .base, l .inv .full)
 
 add-q : tie.Need-add-q Inv-loop μ-loop
 add-q c = omega (arith, tail-few (c .before .before .before .before .before .before .loop .inv .base))
@@ -30,7 +33,10 @@ loop-less : tie.Need-loop-less Inv-loop μ-loop
 loop-less c = omega (arith, tail-few (c .before .before .before .before .before .before .loop .inv .base))
 
 loop-again : tie.Need-loop-again Inv-loop μ-loop
-loop-again c = settle-step _ (c .before .before .before .before .before .loop-test .taken) (c .before .before .before .before .before .before .loop .inv) (c .visit .ensures)
+loop-again c =
+    let c5 = c .before .before .before .before .before in
+    let c6 = c5 .before in
+    settle-step _ (c5 .loop-test .taken) (c6 .loop .inv) (c .visit .ensures)
 
 returns : tie.Need-returns Inv-loop μ-loop
 returns c = done-all _ (c .loop-test .left) (c .before .loop .inv)

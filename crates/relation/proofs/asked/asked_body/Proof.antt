@@ -12,19 +12,29 @@ abbrev pool : (c : tie.Start) → Pool
 pool c = poolOf (c .args .n) (c .args .heads .now) (c .args .kinds .now) (c .args .numbers .now)
 
 returns : tie.Need-returns
-returns c = asked-heads (pool (c .before .before .before .before .before)) (c .before .before .before .before .before .args .e) (c .before .before .before .before .before .args .i) (c .before .before .before .before .before .args .old) (c .before .before .before .before .before .pre .1) (c .if1 .taken)
+returns c =
+    let c5 = c .before .before .before .before .before in
+    asked-heads (pool (c5)) (c5 .args .e) (c5 .args .i) (c5 .args .old) (c5 .pre .1) (c .if1 .taken)
 
 returns-2 : tie.Need-returns-2
-returns-2 c = asked-entity (pool (c .before .before .before .before .before .before .before)) (c .before .before .before .before .before .before .before .args .e) (c .before .before .before .before .before .before .before .args .i) (c .before .before .before .before .before .before .before .args .old) (c .before .before .before .before .before .before .before .pre .1) (c .if2 .taken)
+returns-2 c =
+    let c7 = c .before .before .before .before .before .before .before in
+    asked-entity (pool (c7)) (c7 .args .e) (c7 .args .i) (c7 .args .old) (c7 .pre .1) (c .if2 .taken)
 
 returns-3 : tie.Need-returns-3
-returns-3 c = asked-link (pool (c .before .before .before .before .before .before .before .before)) (c .before .before .before .before .before .before .before .before .args .e) (c .before .before .before .before .before .before .before .before .args .i) (c .before .before .before .before .before .before .before .before .args .old) (c .before .before .before .before .before .before .before .before .pre .1) (c .if3 .taken)
+returns-3 c =
+    let c8 = c .before .before .before .before .before .before .before .before in
+    asked-link (pool (c8)) (c8 .args .e) (c8 .args .i) (c8 .args .old) (c8 .pre .1) (c .if3 .taken)
 
 asked-rows-requires : tie.Need-asked-rows-requires
-asked-rows-requires c κs = c .before .before .before .before .before .before .before .before .before .pre .1 ∙ ap (fourRows (rowOf (pool (c .before .before .before .before .before .before .before .before .before)))) (sym (c .body-at .ensures))
+asked-rows-requires c κs =
+    let c9 = c .before .before .before .before .before .before .before .before .before in
+    c9 .pre .1 ∙ ap (fourRows (rowOf (pool (c9)))) (sym (c .body-at .ensures))
 
 returns-4 : tie.Need-returns-4
-returns-4 c = c .asked-rows .ensures ∙ ap (fourRows (rowFor (pool (c .before .before .before .before .before .before .before .before .before .before)) (c .before .before .before .before .before .before .before .before .before .before .args .e))) (c .before .body-at .ensures)
+returns-4 c =
+    let c10 = c .before .before .before .before .before .before .before .before .before .before in
+    c .asked-rows .ensures ∙ ap (fourRows (rowFor (pool (c10)) (c10 .args .e))) (c .before .body-at .ensures)
 
 pub asked-body-spec : {M : Type 1} → statement M
 asked-body-spec =

@@ -21,13 +21,27 @@ loop-holds : tie.Need-loop-holds Inv-loop μ-loop
 loop-holds c = (parts-start _ _, omega arith)
 
 asked-body-requires : tie.Need-asked-body-requires Inv-loop μ-loop
-asked-body-requires c κs = (omega (arith, c .before .before .before .before .before .before .pre .0), c .before .before .before .before .before .before .pre .1 .four (c .before .before .before .before .before .loop .i) (c .before .before .before .before .loop-test .taken))
+asked-body-requires c κs = (
+  omega (arith, c .before .before .before .before .before .before .pre .0),
+  c .before .before .before .before .before .before .pre .1 .four
+      (c .before .before .before .before .before .loop .i) (c .before .before .before .before .loop-test .taken),
+)
 
 loop-again : tie.Need-loop-again Inv-loop μ-loop
-loop-again c = (parts-add (rowFor (pool (c .before .before .before .before .before .before .before)) (c .before .before .before .before .before .before .before .args .e)) (pool (c .before .before .before .before .before .before .before)) (row-for-small (pool (c .before .before .before .before .before .before .before)) (c .before .before .before .before .before .before .before .pre .0) (c .before .before .before .before .before .before .before .args .e)) (c .before .before .before .before .before .before .loop .i) (c .before .before .before .before .before .before .loop .next) (c .asked-body .result) (omega arith) (c .asked-body .ensures) (c .before .before .before .before .before .before .loop .inv .0), omega arith)
+loop-again c = (
+  parts-add (rowFor (pool (c .before .before .before .before .before .before .before))
+      (c .before .before .before .before .before .before .before .args .e)) (pool (c .before .before .before .before .before .before .before))
+      (row-for-small (pool (c .before .before .before .before .before .before .before))
+      (c .before .before .before .before .before .before .before .pre .0) (c .before .before .before .before .before .before .before .args .e))
+      (c .before .before .before .before .before .before .loop .i) (c .before .before .before .before .before .before .loop .next)
+      (c .asked-body .result) (omega arith) (c .asked-body .ensures) (c .before .before .before .before .before .before .loop .inv .0),
+  omega arith,
+)
 
 returns : tie.Need-returns Inv-loop μ-loop
-returns c = parts-end _ _ (c .before .loop .i) (c .before .before .args .n) (c .before .loop .next) (c .before .loop .inv .1) (c .loop-test .left) (c .before .loop .inv .0)
+returns c =
+    parts-end _ _ (c .before .loop .i) (c .before .before .args .n) (c .before .loop .next) (c .before .loop .inv .1) (c .loop-test .left)
+    (c .before .loop .inv .0)
 
 pub asked-parts-spec : {M : Type 1} → statement M
 asked-parts-spec =

@@ -12,10 +12,14 @@ returns : tie.Need-returns
 returns c = asked-kept (pool (c .before)) (c .before .args .e) (c .before .args .p) (c .before .args .old) (c .before .pre) (c .if1 .taken)
 
 returns-2 : tie.Need-returns-2
-returns-2 c = asked-own (pool (c .before .before .before)) (c .before .before .before .args .e) (c .before .before .before .args .p) (c .before .before .before .args .old) (c .before .before .before .pre) (c .before .before .if1 .left) (c .before .same .ensures) (c .if2 .taken)
+returns-2 c =
+    let c3 = c .before .before .before in
+    asked-own (pool (c3)) (c3 .args .e) (c3 .args .p) (c3 .args .old) (c3 .pre) (c .before .before .if1 .left) (c .before .same .ensures) (c .if2 .taken)
 
 returns-3 : tie.Need-returns-3
-returns-3 c = asked-none (pool (c .before .before .before)) (c .before .before .before .args .e) (c .before .before .before .args .p) (c .before .before .before .args .old) (c .before .before .before .pre) (c .before .before .if1 .left) (c .before .same .ensures) (c .if2 .left)
+returns-3 c =
+    let c3 = c .before .before .before in
+    asked-none (pool (c3)) (c3 .args .e) (c3 .args .p) (c3 .args .old) (c3 .pre) (c .before .before .if1 .left) (c .before .same .ensures) (c .if2 .left)
 
 pub asked-row-spec : {M : Type 1} → statement M
 asked-row-spec = tie.close (tie.spec returns (λ c κs. search needs) returns-2 returns-3)

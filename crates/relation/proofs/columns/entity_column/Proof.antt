@@ -20,7 +20,9 @@ abbrev pool : (c : tie.Start Inv-loop μ-loop) → Pool
 pool c = poolOf (c .args .n) (c .args .heads .now) (c .args .kinds .now) (c .args .numbers .now)
 
 returns : tie.Need-returns Inv-loop μ-loop
-returns c = no-column (pool (c .before .before)) (c .before .before .args .on .now) (c .before .before .pre .0) (c .before .before .args .mem .now) (c .before .before .pre .1) (c .before .before .args .b) (c .before .source .result) (c .before .source .ensures) (c .if1 .taken)
+returns c =
+    no-column (pool (c .before .before)) (c .before .before .args .on .now) (c .before .before .pre .0) (c .before .before .args .mem .now)
+    (c .before .before .pre .1) (c .before .before .args .b) (c .before .source .result) (c .before .source .ensures) (c .if1 .taken)
 
 loop-holds : tie.Need-loop-holds Inv-loop μ-loop
 loop-holds c = (moved-start _ _, omega arith)
@@ -29,19 +31,28 @@ bit-requires : tie.Need-bit-requires Inv-loop μ-loop
 bit-requires c κs = (omega (arith, c .before .before .before .before .pre .0), c .before .before .if1 .left)
 
 mark-requires : tie.Need-mark-requires Inv-loop μ-loop
-mark-requires c κs = (omega (arith, c .before .before .before .before .before .before .before .pre .0), omega arith, c .before .before .before .before .loop .inv .0 .sized)
+mark-requires c κs =
+    (omega (arith, c .before .before .before .before .before .before .before .pre .0), omega arith, c .before .before .before .before .loop .inv .0 .sized)
 
 loop-again : tie.Need-loop-again Inv-loop μ-loop
 loop-again c = (
   ⊎-elim
-      (λ w. rw (w .3) (moved-add (c .before .before .before .before .before .before .args .mem .now) (c .before .before .before .before .before .source .result) (c .before .before .before .loop .r) (c .before .before .before .loop .rows) _ (c .before .bit .ensures) (w .0 .taken) (w .2 .ensures) (c .before .before .before .loop .inv .0)))
-      (λ w. rw (w .1) (moved-skip (c .before .before .before .before .before .before .args .mem .now) (c .before .before .before .before .before .source .result) (c .before .before .before .loop .r) (c .before .before .before .loop .rows) (c .before .bit .ensures) (w .0 .left) (c .before .before .before .loop .inv .0)))
+      (λ w. rw (w .3) (moved-add (c .before .before .before .before .before .before .args .mem .now)
+      (c .before .before .before .before .before .source .result) (c .before .before .before .loop .r) (c .before .before .before .loop .rows) _
+      (c .before .bit .ensures) (w .0 .taken) (w .2 .ensures) (c .before .before .before .loop .inv .0)))
+      (λ w. rw (w .1) (moved-skip (c .before .before .before .before .before .before .args .mem .now)
+      (c .before .before .before .before .before .source .result) (c .before .before .before .loop .r) (c .before .before .before .loop .rows)
+      (c .before .bit .ensures) (w .0 .left) (c .before .before .before .loop .inv .0)))
       (c .if2 .came),
   omega arith,
 )
 
 returns-2 : tie.Need-returns-2 Inv-loop μ-loop
-returns-2 c = entity-column (pool (c .before .before .before .before)) (c .before .before .before .before .args .on .now) (c .before .before .before .before .pre .0) (c .before .before .before .before .args .mem .now) (c .before .before .before .before .pre .1) (c .before .before .before .before .args .b) (c .before .before .before .source .result) (c .before .before .before .source .ensures) (c .before .before .if1 .left) (c .before .loop .r) (c .loop-test .left) (c .before .loop .rows) (c .before .loop .inv .0)
+returns-2 c =
+    let c3 = c .before .before .before in
+    let c4 = c3 .before in
+    entity-column (pool (c4)) (c4 .args .on .now) (c4 .pre .0) (c4 .args .mem .now) (c4 .pre .1) (c4 .args .b) (c3 .source .result)
+    (c3 .source .ensures) (c .before .before .if1 .left) (c .before .loop .r) (c .loop-test .left) (c .before .loop .rows) (c .before .loop .inv .0)
 
 pub entity-column-spec : {M : Type 1} → statement M
 entity-column-spec =

@@ -16,9 +16,12 @@ rules c = rulesOf (c .args .n) (c .args .words) (c .args .head .now) (c .args .p
 
 returns : tie.Need-returns
 returns c =
-    column-of (pool (c .before .before .before .before .before .before)) (c .before .before .before .before .before .before .args .on .now) (c .before .before .before .before .before .before .pre .0) (c .before .before .before .before .before .before .args .mem .now) (c .before .before .before .before .before .before .pre .2) (c .before .before .before .before .before .before .args .e) (rules (c .before .before .before .before .before .before))
-    (rulesOf (c .before .before .before .before .before .before .args .n) 1 (c .before .before .before .before .before .before .args .head .now) (c .before .before .before .before .before .asked-parts .result) (c .before .before .before .before .before .before .args .first .now) (c .before .before .before .before .before .before .args .named .now) (c .before .before .before .before .before .before .args .src .now))
-    (c .before .before .before .before .before .before .pre .1) refl refl refl refl refl refl (c .before .before .before .before .before .asked-parts .ensures) _ _ (c .before .before .before .asked .ensures) (c .close .ensures)
+    let c3 = c .before .before .before in
+    let c5 = c3 .before .before in
+    let c6 = c5 .before in
+    column-of (pool (c6)) (c6 .args .on .now) (c6 .pre .0) (c6 .args .mem .now) (c6 .pre .2) (c6 .args .e) (rules (c6))
+    (rulesOf (c6 .args .n) 1 (c6 .args .head .now) (c5 .asked-parts .result) (c6 .args .first .now) (c6 .args .named .now) (c6 .args .src .now))
+    (c6 .pre .1) refl refl refl refl refl refl (c5 .asked-parts .ensures) _ _ (c3 .asked .ensures) (c .close .ensures)
 
 pub rule-column-spec : {M : Type 1} → statement M
 rule-column-spec =

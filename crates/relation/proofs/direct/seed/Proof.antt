@@ -10,16 +10,31 @@ abbrev pool : (c : tie.Start) → Pool
 pool c = poolOf (c .args .n) (c .args .heads .now) (c .args .kinds .now) (c .args .numbers .now)
 
 returns : tie.Need-returns
-returns c = seed-none (pool (c .before .before)) (c .before .before .pre .0) (c .before .before .args .i) (c .before .before .args .rows .now) (c .before .before .pre .4) (c .if1 .taken)
+returns c =
+    seed-none (pool (c .before .before)) (c .before .before .pre .0) (c .before .before .args .i) (c .before .before .args .rows .now)
+    (c .before .before .pre .4) (c .if1 .taken)
 
 find-source-requires : tie.Need-find-source-requires
 find-source-requires c κs = (c .before .before .before .pre .0, c .before .before .before .pre .3)
 
 mark-requires : tie.Need-mark-requires
-mark-requires c κs = (c .before .before .before .before .before .before .pre .2 .under .under (c .before .before .before .before .before .before .args .i), body-bit (pool (c .before .before .before .before .before .before)) (c .before .before .before .before .before .before .pre .0) (c .before .before .before .before .before .before .args .i) _ (c .before .before .find-source .result) (c .before .before .before .before .before .before .pre .1) (body-one (pool (c .before .before .before .before .before .before)) (c .before .before .before .before .before .before .pre .0) (c .before .before .before .before .before .before .args .i) (c .before .before .before .before .if1 .left)) (c .before .before .find-source .ensures), c .before .before .before .before .before .before .pre .4)
+mark-requires c κs =
+    let c4 = c .before .before .before .before in
+    let c6 = c4 .before .before in (
+      c6 .pre .2 .under .under (c6 .args .i),
+      body-bit (pool (c6)) (c6 .pre .0) (c6 .args .i) _ (c .before .before .find-source .result) (c6 .pre .1)
+          (body-one (pool (c6)) (c6 .pre .0) (c6 .args .i) (c4 .if1 .left)) (c .before .before .find-source .ensures),
+      c6 .pre .4,
+    )
 
 returns-2 : tie.Need-returns-2
-returns-2 c = seed-mark (pool (c .before .before .before .before .before .before .before)) (c .before .before .before .before .before .before .before .args .i) (c .before .before .before .before .before .before .before .args .rows .now) _ _ (c .before .before .before .find-source .result) _ (body-one (pool (c .before .before .before .before .before .before .before)) (c .before .before .before .before .before .before .before .pre .0) (c .before .before .before .before .before .before .before .args .i) (c .before .before .before .before .before .if1 .left)) (c .before .before .before .before .before .before .before .pre .2 .upto (c .before .before .before .before .before .before .before .args .i) (c .before .before .before .before .before .before .before .pre .1)) (c .before .before .before .find-source .ensures) (c .mark .ensures)
+returns-2 c =
+    let c3 = c .before .before .before in
+    let c5 = c3 .before .before in
+    let c7 = c5 .before .before in
+    seed-mark (pool (c7)) (c7 .args .i) (c7 .args .rows .now) _ _ (c3 .find-source .result) _
+    (body-one (pool (c7)) (c7 .pre .0) (c7 .args .i) (c5 .if1 .left)) (c7 .pre .2 .upto (c7 .args .i) (c7 .pre .1)) (c3 .find-source .ensures)
+    (c .mark .ensures)
 
 pub seed-spec : {M : Type 1} → statement M
 seed-spec =

@@ -10,7 +10,9 @@ abbrev pool : (c : tie.Start) → Pool
 pool c = poolOf (c .args .n) (c .args .heads .now) (c .args .kinds .now) (c .args .numbers .now)
 
 returns : tie.Need-returns
-returns c = entity-from (chosen (pool (c .before .before .before)) (c .before .before .before .args .on .now)) (c .before .before .before .args .f) _ (c .before .before .before .args .e) (c .before .enum-told .given .1) (c .same .ensures)
+returns c =
+    let c3 = c .before .before .before in
+    entity-from (chosen (pool (c3)) (c3 .args .on .now)) (c3 .args .f) _ (c3 .args .e) (c .before .enum-told .given .1) (c .same .ensures)
 
 returns-2 : tie.Need-returns-2
 returns-2 c = rw (c .before .before .f .given .1) (c .role-from .ensures)
@@ -22,7 +24,9 @@ returns-4 : tie.Need-returns-4
 returns-4 c = rw (c .before .before .f3 .given .1) (c .meet-from .ensures)
 
 returns-5 : tie.Need-returns-5
-returns-5 c = goal-from (chosen (pool (c .before .before .before)) (c .before .before .before .args .on .now)) (c .before .before .before .args .f) _ (c .before .before .before .args .e) (c .before .enum-told2 .given .1) (c .same2 .ensures)
+returns-5 c =
+    let c3 = c .before .before .before in
+    goal-from (chosen (pool (c3)) (c3 .args .on .now)) (c3 .args .f) _ (c3 .args .e) (c .before .enum-told2 .given .1) (c .same2 .ensures)
 
 pub by-form-spec : {M : Type 1} → statement M
 by-form-spec =

@@ -23,16 +23,41 @@ loop-holds : tie.Need-loop-holds Inv-loop μ-loop
 loop-holds c = (refl, omega arith)
 
 leads-requires : tie.Need-leads-requires Inv-loop μ-loop
-leads-requires c κs = (c .before .before .before .before .before .pre .0, c .before .before .before .before .before .pre .1, c .before .before .before .before .before .pre .2, omega (arith, c .before .before .before .before .before .pre .0), c .before .before .before .note-bodies .ensures)
+leads-requires c κs = (
+  c .before .before .before .before .before .pre .0,
+  c .before .before .before .before .before .pre .1,
+  c .before .before .before .before .before .pre .2,
+  omega (arith, c .before .before .before .before .before .pre .0),
+  c .before .before .before .note-bodies .ensures,
+)
 
 returns : tie.Need-returns Inv-loop μ-loop
-returns c = found-at (leadsAt (poolOf (c .before .before .before .before .before .before .before .args .n) (c .before .before .before .before .before .before .before .args .heads .now) (c .before .before .before .before .before .before .before .args .kinds .now) (c .before .before .before .before .before .before .before .args .numbers .now)) (c .before .before .before .before .before .before .before .args .mem .now) (c .before .before .before .before .before .before .before .args .vals .now) (c .before .before .before .before .before .before .before .args .z) (c .before .before .before .before .before .before .before .args .r) (c .before .before .before .before .before .before .before .args .m)) (c .before .before .before .before .loop .j) (c .before .before .before .loop-test .taken) (c .before .leads .ensures) (c .if1 .taken)
+returns c =
+    let c3 = c .before .before .before in
+    let c4 = c3 .before in
+    let c7 = c4 .before .before .before in
+    found-at (leadsAt (poolOf (c7 .args .n) (c7 .args .heads .now) (c7 .args .kinds .now) (c7 .args .numbers .now)) (c7 .args .mem .now)
+    (c7 .args .vals .now) (c7 .args .z) (c7 .args .r) (c7 .args .m)) (c4 .loop .j) (c3 .loop-test .taken) (c .before .leads .ensures) (c .if1 .taken)
 
 loop-again : tie.Need-loop-again Inv-loop μ-loop
-loop-again c = (not-at (leadsAt (poolOf (c .before .before .before .before .before .before .before .args .n) (c .before .before .before .before .before .before .before .args .heads .now) (c .before .before .before .before .before .before .before .args .kinds .now) (c .before .before .before .before .before .before .before .args .numbers .now)) (c .before .before .before .before .before .before .before .args .mem .now) (c .before .before .before .before .before .before .before .args .vals .now) (c .before .before .before .before .before .before .before .args .z) (c .before .before .before .before .before .before .before .args .r) (c .before .before .before .before .before .before .before .args .m)) (c .before .before .before .before .loop .j) (c .before .before .before .before .loop .inv .0) (c .before .leads .ensures) (c .if1 .left), omega arith)
+loop-again c = (
+  not-at (leadsAt (poolOf (c .before .before .before .before .before .before .before .args .n)
+      (c .before .before .before .before .before .before .before .args .heads .now)
+      (c .before .before .before .before .before .before .before .args .kinds .now)
+      (c .before .before .before .before .before .before .before .args .numbers .now))
+      (c .before .before .before .before .before .before .before .args .mem .now)
+      (c .before .before .before .before .before .before .before .args .vals .now) (c .before .before .before .before .before .before .before .args .z)
+      (c .before .before .before .before .before .before .before .args .r) (c .before .before .before .before .before .before .before .args .m))
+      (c .before .before .before .before .loop .j) (c .before .before .before .before .loop .inv .0) (c .before .leads .ensures) (c .if1 .left),
+  omega arith,
+)
 
 returns-2 : tie.Need-returns-2 Inv-loop μ-loop
-returns-2 c = nowhere (leadsAt (poolOf (c .before .before .before .before .args .n) (c .before .before .before .before .args .heads .now) (c .before .before .before .before .args .kinds .now) (c .before .before .before .before .args .numbers .now)) (c .before .before .before .before .args .mem .now) (c .before .before .before .before .args .vals .now) (c .before .before .before .before .args .z) (c .before .before .before .before .args .r) (c .before .before .before .before .args .m)) (c .before .loop .j) (c .before .loop .inv .1) (c .loop-test .left) (c .before .loop .inv .0)
+returns-2 c =
+    let c4 = c .before .before .before .before in
+    nowhere (leadsAt (poolOf (c4 .args .n) (c4 .args .heads .now) (c4 .args .kinds .now) (c4 .args .numbers .now)) (c4 .args .mem .now)
+    (c4 .args .vals .now) (c4 .args .z) (c4 .args .r) (c4 .args .m)) (c .before .loop .j) (c .before .loop .inv .1) (c .loop-test .left)
+    (c .before .loop .inv .0)
 
 pub leads-on-spec : {M : Type 1} → statement M
 leads-on-spec =

@@ -10,13 +10,26 @@ abbrev pool : (c : tie.Start) → Pool
 pool c = poolOf (c .args .n) (c .args .heads .now) (c .args .kinds .now) (c .args .numbers .now)
 
 returns : tie.Need-returns
-returns c = link-once (pool (c .before .before .before)) (c .before .before .before .args .on .now) (c .before .before .before .pre .0) (c .before .before .before .args .e) (c .before .before .before .args .z) (c .before .before .before .args .vals .now) (c .before .before .before .pre .3) (c .before .before .before .args .mem .now) (c .before .before .before .pre .2) (c .before .before .before .args .a) (c .before .before .before .args .m) (c .before .once .ensures) (c .if1 .taken)
+returns c =
+    let c3 = c .before .before .before in
+    link-once (pool (c3)) (c3 .args .on .now) (c3 .pre .0) (c3 .args .e) (c3 .args .z) (c3 .args .vals .now) (c3 .pre .3) (c3 .args .mem .now)
+    (c3 .pre .2) (c3 .args .a) (c3 .args .m) (c .before .once .ensures) (c .if1 .taken)
 
 leads-on-requires : tie.Need-leads-on-requires
-leads-on-requires c κs = (c .before .before .before .pre .0, c .before .before .before .pre .1, rw (c .before .before .row .ensures) (row-small (pool (c .before .before .before)) (c .before .before .before .pre .0) (c .before .before .before .args .a)))
+leads-on-requires c κs = (
+  c .before .before .before .pre .0,
+  c .before .before .before .pre .1,
+  rw (c .before .before .row .ensures)
+      (row-small (pool (c .before .before .before)) (c .before .before .before .pre .0) (c .before .before .before .args .a)),
+)
 
 returns-2 : tie.Need-returns-2
-returns-2 c = link-on (pool (c .before .before .before .before)) (c .before .before .before .before .args .on .now) (c .before .before .before .before .pre .0) (c .before .before .before .before .args .e) (c .before .before .before .before .args .z) (c .before .before .before .before .args .vals .now) (c .before .before .before .before .pre .3) (c .before .before .before .before .args .mem .now) (c .before .before .before .before .pre .2) (c .before .before .before .before .args .a) (c .before .before .before .before .args .m) (c .before .before .once .ensures) (c .before .if1 .left) (c .before .before .before .row .result) (c .before .before .before .row .ensures) (c .leads-on .ensures)
+returns-2 c =
+    let c3 = c .before .before .before in
+    let c4 = c3 .before in
+    link-on (pool (c4)) (c4 .args .on .now) (c4 .pre .0) (c4 .args .e) (c4 .args .z) (c4 .args .vals .now) (c4 .pre .3) (c4 .args .mem .now)
+    (c4 .pre .2) (c4 .args .a) (c4 .args .m) (c .before .before .once .ensures) (c .before .if1 .left) (c3 .row .result) (c3 .row .ensures)
+    (c .leads-on .ensures)
 
 pub link-from-spec : {M : Type 1} → statement M
 link-from-spec =

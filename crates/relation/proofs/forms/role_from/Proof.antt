@@ -9,10 +9,16 @@ abbrev pool : (c : tie.Start) → Pool
 pool c = poolOf (c .args .n) (c .args .heads .now) (c .args .kinds .now) (c .args .numbers .now)
 
 returns : tie.Need-returns
-returns c = role-none (pool (c .before .before .before)) (c .before .before .before .args .on .now) (c .before .before .before .pre .0) (c .before .before .before .args .e) (c .before .before .before .args .z) (c .before .before .before .args .vals .now) (c .before .before .before .pre .2) (c .before .before .before .args .p) (c .before .before .row .result) (c .before .before .row .ensures) (c .before .if1 .taken) (c .same .ensures)
+returns c =
+    let c3 = c .before .before .before in
+    role-none (pool (c3)) (c3 .args .on .now) (c3 .pre .0) (c3 .args .e) (c3 .args .z) (c3 .args .vals .now) (c3 .pre .2) (c3 .args .p)
+    (c .before .before .row .result) (c .before .before .row .ensures) (c .before .if1 .taken) (c .same .ensures)
 
 returns-2 : tie.Need-returns-2
-returns-2 c = role-head (pool (c .before .before .before)) (c .before .before .before .args .on .now) (c .before .before .before .pre .0) (c .before .before .before .args .e) (c .before .before .before .args .z) (c .before .before .before .args .vals .now) (c .before .before .before .pre .2) (c .before .before .before .args .p) (c .before .before .row .result) (c .before .before .row .ensures) (c .before .if1 .left) (c .bit .ensures)
+returns-2 c =
+    let c3 = c .before .before .before in
+    role-head (pool (c3)) (c3 .args .on .now) (c3 .pre .0) (c3 .args .e) (c3 .args .z) (c3 .args .vals .now) (c3 .pre .2) (c3 .args .p)
+    (c .before .before .row .result) (c .before .before .row .ensures) (c .before .if1 .left) (c .bit .ensures)
 
 pub role-from-spec : {M : Type 1} → statement M
 role-from-spec = tie.close (tie.spec (λ c κs. search needs) (λ c κs. search needs) returns (λ c κs. search needs) returns-2)

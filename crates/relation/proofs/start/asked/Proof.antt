@@ -30,34 +30,75 @@ own-row-requires : tie.Need-own-row-requires Inv-loop μ-loop
 own-row-requires c κs = c .before .before .pre .0
 
 mark-requires : tie.Need-mark-requires Inv-loop μ-loop
-mark-requires c κs = (c .before .own-row .ensures .small, omega arith, ap (λ (l : List ℕ). length l) (c .before .before .before .before .pre .4) ∙ length-replicate {A = ℕ} 260 0)
+mark-requires c κs = (
+  c .before .own-row .ensures .small,
+  omega arith,
+  ap (λ (l : List ℕ). length l) (c .before .before .before .before .pre .4)
+      ∙ length-replicate {A = ℕ} 260 0,
+)
 
 read-too-requires : tie.Need-read-too-requires Inv-loop μ-loop
 read-too-requires c κs = c .before .before .own-row .ensures .small
 
 loop-holds : tie.Need-loop-holds Inv-loop μ-loop
-loop-holds c = (asked-start (pool (c .before .before .before .before .before .before)) (c .before .before .before .before .before .before .args .on .now) (c .before .before .before .before .before .before .args .mem .now) (c .before .before .before .before .before .before .pre .0) (c .before .before .before .before .before .before .pre .3) (c .before .before .before .before .before .before .args .e) (c .before .before .before .own-row .result) _ _ (c .before .before .before .before .before .before .pre .4) (c .before .before .before .own-row .ensures) (c .before .mark .ensures), omega arith)
+loop-holds c = (
+  asked-start (pool (c .before .before .before .before .before .before)) (c .before .before .before .before .before .before .args .on .now)
+      (c .before .before .before .before .before .before .args .mem .now) (c .before .before .before .before .before .before .pre .0)
+      (c .before .before .before .before .before .before .pre .3) (c .before .before .before .before .before .before .args .e)
+      (c .before .before .before .own-row .result) _ _ (c .before .before .before .before .before .before .pre .4)
+      (c .before .before .before .own-row .ensures) (c .before .mark .ensures),
+  omega arith,
+)
 
 starts-requires : tie.Need-starts-requires Inv-loop μ-loop
-starts-requires c κs = (c .before .before .before .before .before .before .before .before .pre .0, c .loop-test .taken, c .before .before .before .before .before .before .before .before .pre .2, c .before .before .before .before .before .before .before .raw-of .ensures, c .before .before .before .before .before .before .own-source .ensures)
+starts-requires c κs =
+    let c6 = c .before .before .before .before .before .before in
+    let c7 = c6 .before in
+    let c8 = c7 .before in
+    (c8 .pre .0, c .loop-test .taken, c8 .pre .2, c7 .raw-of .ensures, c6 .own-source .ensures)
 
 mark-requires-2 : tie.Need-mark-requires-2 Inv-loop μ-loop
-mark-requires-2 c κs = (c .before .before .before .before .before .before .before .before .before .before .before .before .pre .1 .under .under (c .before .before .before .before .before .loop .i), omega arith, c .before .before .before .before .before .loop .inv .0 .sized)
+mark-requires-2 c κs = (
+  c .before .before .before .before .before .before .before .before .before .before .before .before .pre .1 .under .under
+      (c .before .before .before .before .before .loop .i),
+  omega arith,
+  c .before .before .before .before .before .loop .inv .0 .sized,
+)
 
 read-too-requires-2 : tie.Need-read-too-requires-2 Inv-loop μ-loop
-read-too-requires-2 c κs = c .before .before .before .before .before .before .before .before .before .before .before .before .before .pre .1 .under .under (c .before .before .before .before .before .before .loop .i)
+read-too-requires-2 c κs =
+    let c6 = c .before .before .before .before .before .before in
+    let c13 = c6 .before .before .before .before .before .before .before in
+    c13 .pre .1 .under .under (c6 .loop .i)
 
 loop-again : tie.Need-loop-again Inv-loop μ-loop
 loop-again c = (
   ⊎-elim
-      (λ w. rw (w .5) (asked-add (pool (c .before .before .before .before .before .before .before .before .before .before)) (c .before .before .before .before .before .before .before .before .before .before .args .on .now) (c .before .before .before .before .before .before .before .before .before .before .args .mem .now) (c .before .before .before .before .before .before .before .before .before .before .pre .0) (c .before .before .before .before .before .before .before .before .before .before .pre .3) (c .before .before .before .before .before .before .before .before .before .before .args .e) (c .before .before .before .loop .i) _ (c .before .before .before .loop .rows) _ (c .before .before .loop-test .taken) (c .before .starts .ensures) (w .0 .taken) (c .before .before .before .before .before .before .before .before .before .before .pre .1 .upto (c .before .before .before .loop .i) (c .before .before .loop-test .taken)) (w .3 .ensures) (c .before .before .before .loop .inv .0)))
-      (λ w. rw (w .1) (asked-skip (pool (c .before .before .before .before .before .before .before .before .before .before)) (c .before .before .before .before .before .before .before .before .before .before .args .on .now) (c .before .before .before .before .before .before .before .before .before .before .args .mem .now) (c .before .before .before .before .before .before .before .before .before .before .pre .0) (c .before .before .before .before .before .before .before .before .before .before .pre .3) (c .before .before .before .before .before .before .before .before .before .before .args .e) (c .before .before .before .loop .i) (c .before .before .before .loop .rows) (c .before .starts .ensures) (w .0 .left) (c .before .before .before .loop .inv .0)))
+      (λ w. rw (w .5) (asked-add (pool (c .before .before .before .before .before .before .before .before .before .before))
+      (c .before .before .before .before .before .before .before .before .before .before .args .on .now)
+      (c .before .before .before .before .before .before .before .before .before .before .args .mem .now)
+      (c .before .before .before .before .before .before .before .before .before .before .pre .0)
+      (c .before .before .before .before .before .before .before .before .before .before .pre .3)
+      (c .before .before .before .before .before .before .before .before .before .before .args .e) (c .before .before .before .loop .i) _
+      (c .before .before .before .loop .rows) _ (c .before .before .loop-test .taken) (c .before .starts .ensures) (w .0 .taken)
+      (c .before .before .before .before .before .before .before .before .before .before .pre .1 .upto (c .before .before .before .loop .i)
+      (c .before .before .loop-test .taken)) (w .3 .ensures) (c .before .before .before .loop .inv .0)))
+      (λ w. rw (w .1) (asked-skip (pool (c .before .before .before .before .before .before .before .before .before .before))
+      (c .before .before .before .before .before .before .before .before .before .before .args .on .now)
+      (c .before .before .before .before .before .before .before .before .before .before .args .mem .now)
+      (c .before .before .before .before .before .before .before .before .before .before .pre .0)
+      (c .before .before .before .before .before .before .before .before .before .before .pre .3)
+      (c .before .before .before .before .before .before .before .before .before .before .args .e) (c .before .before .before .loop .i)
+      (c .before .before .before .loop .rows) (c .before .starts .ensures) (w .0 .left) (c .before .before .before .loop .inv .0)))
       (c .if1 .came),
   omega arith,
 )
 
 returns : tie.Need-returns Inv-loop μ-loop
-returns c = asked-end (pool (c .before .before .before .before .before .before .before .before)) (c .before .before .before .before .before .before .before .before .args .on .now) (c .before .before .before .before .before .before .before .before .args .mem .now) (c .before .before .before .before .before .before .before .before .pre .0) (c .before .before .before .before .before .before .before .before .pre .3) (c .before .before .before .before .before .before .before .before .args .e) (c .before .loop .i) (c .before .loop .rows) (c .loop-test .left) (c .before .loop .inv .0)
+returns c =
+    let c8 = c .before .before .before .before .before .before .before .before in
+    asked-end (pool (c8)) (c8 .args .on .now) (c8 .args .mem .now) (c8 .pre .0) (c8 .pre .3) (c8 .args .e) (c .before .loop .i)
+    (c .before .loop .rows) (c .loop-test .left) (c .before .loop .inv .0)
 
 pub asked-spec : {M : Type 1} → statement M
 asked-spec =

@@ -9,13 +9,21 @@ abbrev pool : (c : tie.Start) → Pool
 pool c = poolOf (c .args .n) (c .args .heads .now) (c .args .kinds .now) (c .args .numbers .now)
 
 returns : tie.Need-returns
-returns c = body-lead (pool (c .before .before .before)) (c .before .before .before .args .i) (c .before .before .before .args .e) (c .before .before .before .args .raw) (c .before .before .before .pre .1) (c .if1 .taken)
+returns c =
+    let c3 = c .before .before .before in
+    body-lead (pool (c3)) (c3 .args .i) (c3 .args .e) (c3 .args .raw) (c3 .pre .1) (c .if1 .taken)
 
 returns-2 : tie.Need-returns-2
-returns-2 c = body-kind (pool (c .before .before .before .before .before .before)) (c .before .before .before .before .before .before .args .i) (c .before .before .before .before .before .before .args .e) (c .before .before .before .before .before .before .args .raw) (c .before .before .before .before .before .before .pre .1) (c .before .before .if2 .taken) (c .if3 .taken)
+returns-2 c =
+    let c6 = c .before .before .before .before .before .before in
+    body-kind (pool (c6)) (c6 .args .i) (c6 .args .e) (c6 .args .raw) (c6 .pre .1) (c .before .before .if2 .taken) (c .if3 .taken)
 
 returns-3 : tie.Need-returns-3
-returns-3 c = body-two (pool (c .before .before .before .before .before .before .before .before .before)) (c .before .before .before .before .before .before .before .before .before .args .i) (c .before .before .before .before .before .before .before .before .before .args .e) (c .before .before .before .before .before .before .before .before .before .args .raw) (c .before .before .before .before .before .before .before .before .before .pre .1) (c .before .before .if4 .taken) (c .before .before .before .if3 .left) (c .before .before .before .before .before .before .if1 .left)
+returns-3 c =
+    let c3 = c .before .before .before in
+    let c6 = c3 .before .before .before in
+    let c9 = c6 .before .before .before in
+    body-two (pool (c9)) (c9 .args .i) (c9 .args .e) (c9 .args .raw) (c9 .pre .1) (c .before .before .if4 .taken) (c3 .if3 .left) (c6 .if1 .left)
 
 returns-4 : tie.Need-returns-4
 returns-4 c = rw (← c .before .body-at .ensures) (c .same .ensures)

@@ -15,7 +15,9 @@ unfolding atOnce
 returns c = rw (sym (c .before .same .ensures) ∙ c .if1 .taken)
 
 own-requires : tie.Need-own-requires
-own-requires c κs = (c .before .before .before .before .before .pre .0, c .before .before .before .before .before .pre .1 ∙ ap (firstRow (pool (c .before .before .before .before .before))) (c .before .x .given .1))
+own-requires c κs =
+    let c5 = c .before .before .before .before .before in
+    (c5 .pre .0, c5 .pre .1 ∙ ap (firstRow (pool (c5))) (c .before .x .given .1))
 
 returns-2 : tie.Need-returns-2
 unfolding atOnce
@@ -27,7 +29,9 @@ returns-3 c = rw (sym (c .before .before .before .same .ensures) ∙ c .before .
 
 returns-4 : tie.Need-returns-4
 unfolding atOnce
-returns-4 c = rw (sym (c .before .before .before .before .before .same .ensures) ∙ c .before .before .before .before .if1 .left, c .before .before .x .given .1) (c .own .ensures)
+returns-4 c =
+    rw (sym (c .before .before .before .before .before .same .ensures) ∙ c .before .before .before .before .if1 .left, c .before .before .x .given .1)
+    (c .own .ensures)
 
 returns-5 : tie.Need-returns-5
 unfolding atOnce

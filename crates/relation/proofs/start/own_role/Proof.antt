@@ -18,10 +18,16 @@ unfolding bits
 returns-2 c = rw (eq-eqb _ _ (c .before .before .if1 .left), ← c .before .source .ensures, le-ltb (c .before .source .result) 128 (c .if2 .taken))
 
 bit-requires : tie.Need-bit-requires
-bit-requires c κs = (rw (c .before .before .before .before .pre .1) (row-small (pool (c .before .before .before .before)) (c .before .before .before .before .pre .0) (c .before .before .before .before .args .a)), c .if2 .left)
+bit-requires c κs = (
+  rw (c .before .before .before .before .pre .1)
+      (row-small (pool (c .before .before .before .before)) (c .before .before .before .before .pre .0) (c .before .before .before .before .args .a)),
+  c .if2 .left,
+)
 
 returns-3 : tie.Need-returns-3
-returns-3 c = rw (eq-eqb _ _ (c .before .before .before .if1 .left), ← c .before .before .source .ensures, ← c .before .before .before .before .before .pre .1) (c .bit .ensures)
+returns-3 c =
+    rw (eq-eqb _ _ (c .before .before .before .if1 .left), ← c .before .before .source .ensures, ← c .before .before .before .before .before .pre .1)
+    (c .bit .ensures)
 
 pub own-role-spec : {M : Type 1} → statement M
 own-role-spec =

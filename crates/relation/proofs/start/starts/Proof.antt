@@ -11,16 +11,31 @@ abbrev pool : (c : tie.Start) → Pool
 pool c = poolOf (c .args .n) (c .args .heads .now) (c .args .kinds .now) (c .args .numbers .now)
 
 returns : tie.Need-returns
-returns c = starts-off (pool (c .before .before)) (c .before .before .args .on .now) (c .before .before .args .rows .now) (c .before .before .args .e) (c .before .before .args .i) (c .if1 .taken)
+returns c =
+    starts-off (pool (c .before .before)) (c .before .before .args .on .now) (c .before .before .args .rows .now) (c .before .before .args .e)
+    (c .before .before .args .i) (c .if1 .taken)
 
 leads-to-requires : tie.Need-leads-to-requires
-leads-to-requires c κs = (c .before .before .pre .0, c .before .before .pre .1, c .before .before .pre .2, ap (λ (r : Raw). r .n1) (c .before .before .pre .3), c .before .before .pre .4)
+leads-to-requires c κs = (
+  c .before .before .pre .0,
+  c .before .before .pre .1,
+  c .before .before .pre .2,
+  ap (λ (r : Raw). r .n1) (c .before .before .pre .3),
+  c .before .before .pre .4,
+)
 
 returns-2 : tie.Need-returns-2
-returns-2 c = starts-link (pool (c .before .before .before .before)) (c .before .before .before .before .args .on .now) (c .before .before .before .before .args .rows .now) (c .before .before .before .before .args .e) (c .before .before .before .before .args .i) (c .before .before .if1 .left) (c .before .leads-to .ensures) (c .if2 .taken)
+returns-2 c =
+    let c4 = c .before .before .before .before in
+    starts-link (pool (c4)) (c4 .args .on .now) (c4 .args .rows .now) (c4 .args .e) (c4 .args .i) (c .before .before .if1 .left)
+    (c .before .leads-to .ensures) (c .if2 .taken)
 
 returns-3 : tie.Need-returns-3
-returns-3 c = starts-same (pool (c .before .before .before .before .before)) (c .before .before .before .before .before .args .on .now) (c .before .before .before .before .before .args .rows .now) (c .before .before .before .before .before .args .e) (c .before .before .before .before .before .args .i) (c .before .before .before .if1 .left) (c .before .before .leads-to .ensures) (c .before .if2 .left) (c .is-e .ensures)
+returns-3 c =
+    let c3 = c .before .before .before in
+    let c5 = c3 .before .before in
+    starts-same (pool (c5)) (c5 .args .on .now) (c5 .args .rows .now) (c5 .args .e) (c5 .args .i) (c3 .if1 .left)
+    (c .before .before .leads-to .ensures) (c .before .if2 .left) (c .is-e .ensures)
 
 pub starts-spec : {M : Type 1} → statement M
 starts-spec =

@@ -18,7 +18,14 @@ element-copy-out-one-if : tie.Need-element-copy-out-one-if Inv-loop μ-loop
 element-copy-out-one-if c = omega (arith, (c .if1 .taken), (c .before .before .before .pre))
 
 add-n : tie.Need-add-n Inv-loop μ-loop
-add-n c = omega (arith, (c .one-if .ensures .1), (c .before .before .if1 .taken), (c .before .before .before .before .loop .inv .few), (c .before .before .before .before .before .pre))
+add-n c =
+    omega (
+      arith,
+      (c .one-if .ensures .1),
+      (c .before .before .if1 .taken),
+      (c .before .before .before .before .loop .inv .few),
+      (c .before .before .before .before .before .pre),
+    )
 
 add-k : tie.Need-add-k Inv-loop μ-loop
 add-k c = omega (arith, (c .before .before .if1 .taken), (c .before .before .before .before .before .pre))
@@ -30,7 +37,11 @@ loop-again : tie.Need-loop-again Inv-loop μ-loop
 loop-again c = counted-next _ _ (c .before .before .before .before .loop .inv) (c .before .before .if1 .taken) (c .one-if .ensures .0)
 
 returns : tie.Need-returns Inv-loop μ-loop
-returns c = (counted-end _ _ (c .before .before .loop .inv) (c .if1 .left), omega (arith, (c .before .before .loop .inv .few), (c .before .before .loop .inv .inside), (c .before .before .before .pre)))
+returns c = (
+  counted-end _ _ (c .before .before .loop .inv) (c .if1 .left),
+  omega
+      (arith, (c .before .before .loop .inv .few), (c .before .before .loop .inv .inside), (c .before .before .before .pre)),
+)
 
 pub count-on-spec : {M : Type 1} → statement M
 count-on-spec =

@@ -9,10 +9,15 @@ add-shown : tie.Need-add-shown
 add-shown c = omega (arith, within-few _ (c .before .before .before .before .before .pre .0) .2, (c .before .count-on .ensures .1))
 
 returns : tie.Need-returns
-returns c = room-none (c .before .before .before .before .before .before .args .n) (c .before .before .before .before .before .before .args .t2) (c .before .before .before .before .before .before .pre .0) (c .before .before .count-on .ensures .0) (c .if1 .taken)
+returns c =
+    let c6 = c .before .before .before .before .before .before in
+    room-none (c6 .args .n) (c6 .args .t2) (c6 .pre .0) (c .before .before .count-on .ensures .0) (c .if1 .taken)
 
 returns-2 : tie.Need-returns-2
-returns-2 c = room-left (c .before .before .before .before .before .before .before .args .n) (c .before .before .before .before .before .before .before .args .t2) (c .before .before .before .before .before .before .before .pre .0) (c .before .before .before .count-on .ensures .0) (c .before .if1 .left) (c .has-room .ensures)
+returns-2 c =
+    let c3 = c .before .before .before in
+    let c7 = c3 .before .before .before .before in
+    room-left (c7 .args .n) (c7 .args .t2) (c7 .pre .0) (c3 .count-on .ensures .0) (c .before .if1 .left) (c .has-room .ensures)
 
 pub room-for-spec : {M : Type 1} → statement M
 room-for-spec =

@@ -8,7 +8,12 @@ add-result : tie.Need-add-result
 add-result c = omega (arith, size-few (c .before .before .before .before .before .args .t1 .command) (c .before .count-on .ensures .1) (c .size-of .ensures))
 
 returns : tie.Need-returns
-returns c = (size-outgoing (c .before .before .before .before .before .args .t1) (c .before .count-on .ensures .0) (c .size-of .ensures), size-few (c .before .before .before .before .before .args .t1 .command) (c .before .count-on .ensures .1) (c .size-of .ensures))
+returns c =
+    let c5 = c .before .before .before .before .before in (
+      size-outgoing (c5 .args .t1) (c .before .count-on .ensures .0) (c .size-of .ensures),
+      size-few (c5 .args .t1 .command)
+          (c .before .count-on .ensures .1) (c .size-of .ensures),
+    )
 
 pub size-of-outgoing-spec : {M : Type 1} → statement M
 size-of-outgoing-spec =

@@ -7,7 +7,10 @@ returns : tie.Need-returns
 returns c = other-head _ _ (c .before .before .head-at .ensures) (c .before .same-role .ensures) (c .if1 .taken)
 
 returns-2 : tie.Need-returns-2
-returns-2 c = same-head _ _ (c .before .before .before .before .head-at .ensures) (c .before .before .before .same-role .ensures) (c .before .before .if1 .left) (c .before .body-at .ensures) (c .same .ensures)
+returns-2 c =
+    let c3 = c .before .before .before in
+    let c4 = c3 .before in
+    same-head _ _ (c4 .head-at .ensures) (c3 .same-role .ensures) (c .before .before .if1 .left) (c .before .body-at .ensures) (c .same .ensures)
 
 pub is-at-spec : {M : Type 1} → statement M
 is-at-spec =

@@ -6,10 +6,22 @@ use Rattle.rules.proofs.digits.find_source.Statement.{statement}
 use Rattle.rules.proofs.digits.find_source.Tie as tie
 
 returns : tie.Need-returns
-returns c = bit-missed (poolOf (c .before .before .before .before .args .n) (c .before .before .before .before .args .heads .now) (c .before .before .before .before .args .kinds .now) (c .before .before .before .before .args .numbers .now)) (c .before .before .before .before .pre .0) (c .before .before .before .before .args .b) (c .before .before .before .before .args .body .now) _ _ (c .before .least-of .result) (c .before .before .before .before .pre .1) (c .before .before .before .alike .ensures) (c .before .before .alike2 .ensures) (c .before .least-of .ensures) (c .if1 .taken)
+returns c =
+    let c3 = c .before .before .before in
+    let c4 = c3 .before in
+    bit-missed (poolOf (c4 .args .n) (c4 .args .heads .now) (c4 .args .kinds .now) (c4 .args .numbers .now)) (c4 .pre .0) (c4 .args .b)
+    (c4 .args .body .now) _ _ (c .before .least-of .result) (c4 .pre .1) (c3 .alike .ensures) (c .before .before .alike2 .ensures)
+    (c .before .least-of .ensures) (c .if1 .taken)
 
 returns-2 : tie.Need-returns-2
-returns-2 c = bit-hit (poolOf (c .before .before .before .before .before .before .args .n) (c .before .before .before .before .before .before .args .heads .now) (c .before .before .before .before .before .before .args .kinds .now) (c .before .before .before .before .before .before .args .numbers .now)) (c .before .before .before .before .before .before .pre .0) (c .before .before .before .before .before .before .args .b) (c .before .before .before .before .before .before .args .body .now) _ _ (c .before .before .before .least-of .result) (c .before .before .before .before .before .before .pre .1) (c .before .before .before .before .before .alike .ensures) (c .before .before .before .before .alike2 .ensures) (c .before .before .before .least-of .ensures) (omega arith) (c .before .is-body .ensures) (c .if2 .taken)
+returns-2 c =
+    bit-hit (poolOf (c .before .before .before .before .before .before .args .n) (c .before .before .before .before .before .before .args .heads .now)
+    (c .before .before .before .before .before .before .args .kinds .now) (c .before .before .before .before .before .before .args .numbers .now))
+    (c .before .before .before .before .before .before .pre .0) (c .before .before .before .before .before .before .args .b)
+    (c .before .before .before .before .before .before .args .body .now) _ _ (c .before .before .before .least-of .result)
+    (c .before .before .before .before .before .before .pre .1) (c .before .before .before .before .before .alike .ensures)
+    (c .before .before .before .before .alike2 .ensures) (c .before .before .before .least-of .ensures) (omega arith) (c .before .is-body .ensures)
+    (c .if2 .taken)
 
 pub find-source-spec : {M : Type 1} → statement M
 find-source-spec =

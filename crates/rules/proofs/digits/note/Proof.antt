@@ -4,7 +4,10 @@ use Rattle.rules.proofs.digits.note.Statement.{statement}
 use Rattle.rules.proofs.digits.note.Tie as tie
 
 returns : tie.Need-returns
-returns c = noted (c .before .before .before .before .before .before .args .x) (c .before .before .before .before .before .before .args .j) (c .before .before .before .before .before .before .args .table .now) _ _ _ (c .before .before .before .before .mark .ensures) (c .before .before .mark2 .ensures) (c .mark3 .ensures)
+returns c =
+    let c4 = c .before .before .before .before in
+    let c6 = c4 .before .before in
+    noted (c6 .args .x) (c6 .args .j) (c6 .args .table .now) _ _ _ (c4 .mark .ensures) (c .before .before .mark2 .ensures) (c .mark3 .ensures)
 
 pub note-spec : {M : Type 1} → statement M
 note-spec =

@@ -14,7 +14,11 @@ abbrev μ-loop : tie.MeasureT-loop
 μ-loop n heads kinds numbers entity₀ name₀ j₀ entity name j = n - j
 
 loop-holds : tie.Need-loop-holds Inv-loop μ-loop
-loop-holds c = (heads-start (poolOf (c .args .n) (c .args .heads .now) (c .args .kinds .now) (c .args .numbers .now)) (c .args .entity .now) (c .args .name .now) (c .pre .1) (c .pre .2), omega arith)
+loop-holds c = (
+  heads-start (poolOf (c .args .n) (c .args .heads .now) (c .args .kinds .now) (c .args .numbers .now)) (c .args .entity .now) (c .args .name .now)
+      (c .pre .1) (c .pre .2),
+  omega arith,
+)
 
 note-requires : tie.Need-note-requires Inv-loop μ-loop
 note-requires c κs = (omega arith, c .before .before .before .loop .inv .0 .sized)
@@ -23,10 +27,22 @@ note-requires-2 : tie.Need-note-requires-2 Inv-loop μ-loop
 note-requires-2 c κs = (omega arith, c .before .before .before .before .before .before .loop .inv .0 .sized′)
 
 loop-again : tie.Need-loop-again Inv-loop μ-loop
-loop-again c = (heads-add (poolOf (c .before .before .before .before .before .before .before .before .args .n) (c .before .before .before .before .before .before .before .before .args .heads .now) (c .before .before .before .before .before .before .before .before .args .kinds .now) (c .before .before .before .before .before .before .before .before .args .numbers .now)) (c .before .before .before .before .before .before .before .loop .j) _ _ (c .before .before .before .before .before .before .before .loop .entity) _ (c .before .before .before .before .before .before .before .loop .name) _ refl refl (c .before .before .before .note .ensures) (c .note2 .ensures) (c .before .before .before .before .before .before .before .loop .inv .0), omega arith)
+loop-again c = (
+  heads-add (poolOf (c .before .before .before .before .before .before .before .before .args .n)
+      (c .before .before .before .before .before .before .before .before .args .heads .now)
+      (c .before .before .before .before .before .before .before .before .args .kinds .now)
+      (c .before .before .before .before .before .before .before .before .args .numbers .now))
+      (c .before .before .before .before .before .before .before .loop .j) _ _ (c .before .before .before .before .before .before .before .loop .entity)
+      _ (c .before .before .before .before .before .before .before .loop .name) _ refl refl (c .before .before .before .note .ensures)
+      (c .note2 .ensures) (c .before .before .before .before .before .before .before .loop .inv .0),
+  omega arith,
+)
 
 returns : tie.Need-returns Inv-loop μ-loop
-returns c = heads-end (poolOf (c .before .before .args .n) (c .before .before .args .heads .now) (c .before .before .args .kinds .now) (c .before .before .args .numbers .now)) (c .before .loop .j) (c .before .before .args .n) _ _ (c .before .loop .inv .1) (c .loop-test .left) (c .before .loop .inv .0)
+returns c =
+    heads-end (poolOf (c .before .before .args .n) (c .before .before .args .heads .now) (c .before .before .args .kinds .now)
+    (c .before .before .args .numbers .now)) (c .before .loop .j) (c .before .before .args .n) _ _ (c .before .loop .inv .1) (c .loop-test .left)
+    (c .before .loop .inv .0)
 
 pub note-heads-spec : {M : Type 1} → statement M
 note-heads-spec =

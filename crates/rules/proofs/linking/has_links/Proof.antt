@@ -23,10 +23,17 @@ loop-holds : tie.Need-loop-holds Inv-loop μ-loop
 loop-holds c = (omega arith, refl)
 
 returns : tie.Need-returns Inv-loop μ-loop
-returns c = found-at (hasLink (pool (c .before .before .before .before))) (c .before .before .before .loop .i) (c .before .before .loop-test .taken) (c .before .has-link .ensures) (c .if1 .taken)
+returns c =
+    let c3 = c .before .before .before in
+    let c4 = c3 .before in
+    found-at (hasLink (pool (c4))) (c3 .loop .i) (c .before .before .loop-test .taken) (c .before .has-link .ensures) (c .if1 .taken)
 
 loop-again : tie.Need-loop-again Inv-loop μ-loop
-loop-again c = (omega arith, not-at (hasLink (pool (c .before .before .before .before))) (c .before .before .before .loop .i) (c .before .before .before .loop .inv .1) (c .before .has-link .ensures) (c .if1 .left))
+loop-again c = (
+  omega arith,
+  not-at (hasLink (pool (c .before .before .before .before))) (c .before .before .before .loop .i)
+      (c .before .before .before .loop .inv .1) (c .before .has-link .ensures) (c .if1 .left),
+)
 
 returns-2 : tie.Need-returns-2 Inv-loop μ-loop
 returns-2 c = nowhere (hasLink (pool (c .before .before))) (c .before .loop .i) (c .before .loop .inv .0) (c .loop-test .left) (c .before .loop .inv .1)

@@ -9,10 +9,15 @@ abbrev pool : (c : tie.Start) → Pool
 pool c = poolOf (c .args .n) (c .args .heads .now) (c .args .kinds .now) (c .args .numbers .now)
 
 returns : tie.Need-returns
-returns c = source-none (pool (c .before .before)) _ (c .before .before .args .j) (c .before .before .pre .2 .upto (c .before .before .args .j) (c .before .before .pre .1)) (c .if1 .taken)
+returns c =
+    source-none (pool (c .before .before)) _ (c .before .before .args .j)
+    (c .before .before .pre .2 .upto (c .before .before .args .j) (c .before .before .pre .1)) (c .if1 .taken)
 
 returns-2 : tie.Need-returns-2
-returns-2 c = source-here (pool (c .before .before .before .before)) _ (c .before .before .before .before .args .j) (c .find-source .result) (c .before .before .before .before .pre .2 .upto (c .before .before .before .before .args .j) (c .before .before .before .before .pre .1)) (c .before .before .if1 .left) (c .find-source .ensures)
+returns-2 c =
+    let c4 = c .before .before .before .before in
+    source-here (pool (c4)) _ (c4 .args .j) (c .find-source .result) (c4 .pre .2 .upto (c4 .args .j) (c4 .pre .1)) (c .before .before .if1 .left)
+    (c .find-source .ensures)
 
 pub link-source-spec : {M : Type 1} → statement M
 link-source-spec =

@@ -29,19 +29,33 @@ loop-holds : tie.Need-loop-holds Inv-loop μ-loop
 loop-holds c = (able-start (pool (c .before .before .before)) (c .before .before .before .args .lit), omega arith)
 
 link-source-requires : tie.Need-link-source-requires Inv-loop μ-loop
-link-source-requires c κs = (c .before .before .before .before .before .before .pre .0, c .before .loop-test .taken, c .before .before .before .before .before .before .pre .1, c .before .before .before .note-bodies .ensures)
+link-source-requires c κs =
+    let c3 = c .before .before .before in
+    let c6 = c3 .before .before .before in
+    (c6 .pre .0, c .before .loop-test .taken, c6 .pre .1, c3 .note-bodies .ensures)
 
 loop-again : tie.Need-loop-again Inv-loop μ-loop
 loop-again c = (
   ⊎-elim
-      (λ w. rw (w .1, w .2) (able-add (pool (c .before .before .before .before .before .before .before .before)) (c .before .before .before .before .before .before .before .before .pre .0) (c .before .before .before .before .before .before .before .before .args .lit) (c .before .before .before .before .loop .src) (c .before .before .before .before .loop .able) (c .before .before .before .before .loop .j) (c .before .link-source .result) (c .before .before .before .loop-test .taken) (c .before .link-source .ensures) (w .0 .taken) (c .before .before .before .before .loop .inv .0)))
-      (λ w. rw (w .1, w .2) (able-skip (pool (c .before .before .before .before .before .before .before .before)) (c .before .before .before .before .before .before .before .before .args .lit) (c .before .before .before .before .loop .src) (c .before .before .before .before .loop .able) (c .before .before .before .before .loop .j) (c .before .link-source .result) (c .before .link-source .ensures) (c .before .before .before .before .before .before .before .before .pre .0) (w .0 .left) (c .before .before .before .before .loop .inv .0)))
+      (λ w. rw (w .1, w .2) (able-add (pool (c .before .before .before .before .before .before .before .before))
+      (c .before .before .before .before .before .before .before .before .pre .0)
+      (c .before .before .before .before .before .before .before .before .args .lit) (c .before .before .before .before .loop .src)
+      (c .before .before .before .before .loop .able) (c .before .before .before .before .loop .j) (c .before .link-source .result)
+      (c .before .before .before .loop-test .taken) (c .before .link-source .ensures) (w .0 .taken) (c .before .before .before .before .loop .inv .0)))
+      (λ w. rw (w .1, w .2) (able-skip (pool (c .before .before .before .before .before .before .before .before))
+      (c .before .before .before .before .before .before .before .before .args .lit) (c .before .before .before .before .loop .src)
+      (c .before .before .before .before .loop .able) (c .before .before .before .before .loop .j) (c .before .link-source .result)
+      (c .before .link-source .ensures) (c .before .before .before .before .before .before .before .before .pre .0) (w .0 .left)
+      (c .before .before .before .before .loop .inv .0)))
       (c .if2 .came),
   omega arith,
 )
 
 returns-2 : tie.Need-returns-2 Inv-loop μ-loop
-returns-2 c = able-end (pool (c .before .before .before .before .before)) (c .before .before .before .before .before .args .lit) (c .before .loop .src) (c .before .loop .able) (c .before .loop .j) (c .before .before .before .before .before .args .n) (c .before .loop .inv .1) (c .loop-test .left) (c .before .loop .inv .0)
+returns-2 c =
+    let c5 = c .before .before .before .before .before in
+    able-end (pool (c5)) (c5 .args .lit) (c .before .loop .src) (c .before .loop .able) (c .before .loop .j) (c5 .args .n) (c .before .loop .inv .1)
+    (c .loop-test .left) (c .before .loop .inv .0)
 
 pub linkable-spec : {M : Type 1} → statement M
 linkable-spec =

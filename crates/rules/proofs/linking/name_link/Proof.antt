@@ -11,19 +11,34 @@ abbrev pool : (c : tie.Start) → Pool
 pool c = poolOf (c .args .n) (c .args .heads .now) (c .args .kinds .now) (c .args .numbers .now)
 
 returns : tie.Need-returns
-returns c = link-none (pool (c .before .before)) (c .before .before .args .able .now) (c .before .before .args .i) (c .before .before .args .n) (c .before .before .args .x) (c .before .before .args .named .now) (c .before .before .pre .2) (not-linked (c .before .before .args .x) (ap isLinked (c .enum-told .given .1)))
+returns c =
+    link-none (pool (c .before .before)) (c .before .before .args .able .now) (c .before .before .args .i) (c .before .before .args .n)
+    (c .before .before .args .x) (c .before .before .args .named .now) (c .before .before .pre .2)
+    (not-linked (c .before .before .args .x) (ap isLinked (c .enum-told .given .1)))
 
 returns-2 : tie.Need-returns-2
-returns-2 c = link-none (pool (c .before .before)) (c .before .before .args .able .now) (c .before .before .args .i) (c .before .before .args .n) (c .before .before .args .x) (c .before .before .args .named .now) (c .before .before .pre .2) (not-linked (c .before .before .args .x) (ap isLinked (c .enum-told2 .given .1)))
+returns-2 c =
+    link-none (pool (c .before .before)) (c .before .before .args .able .now) (c .before .before .args .i) (c .before .before .args .n)
+    (c .before .before .args .x) (c .before .before .args .named .now) (c .before .before .pre .2)
+    (not-linked (c .before .before .args .x) (ap isLinked (c .enum-told2 .given .1)))
 
 returns-3 : tie.Need-returns-3
-returns-3 c = link-row (pool (c .before .before .before .before .before)) (c .before .before .before .before .before .args .able .now) (c .before .before .before .before .before .args .i) (c .before .before .before .before .before .args .n) (c .before .before .before .before .before .args .x) (c .before .before .before .before .before .args .named .now) _ _ _ (c .before .before .before .x .given .1) (c .name-row .ensures)
+returns-3 c =
+    let c3 = c .before .before .before in
+    let c5 = c3 .before .before in
+    link-row (pool (c5)) (c5 .args .able .now) (c5 .args .i) (c5 .args .n) (c5 .args .x) (c5 .args .named .now) _ _ _ (c3 .x .given .1) (c .name-row .ensures)
 
 returns-4 : tie.Need-returns-4
-returns-4 c = link-none (pool (c .before .before)) (c .before .before .args .able .now) (c .before .before .args .i) (c .before .before .args .n) (c .before .before .args .x) (c .before .before .args .named .now) (c .before .before .pre .2) (not-linked (c .before .before .args .x) (ap isLinked (c .enum-told3 .given .1)))
+returns-4 c =
+    link-none (pool (c .before .before)) (c .before .before .args .able .now) (c .before .before .args .i) (c .before .before .args .n)
+    (c .before .before .args .x) (c .before .before .args .named .now) (c .before .before .pre .2)
+    (not-linked (c .before .before .args .x) (ap isLinked (c .enum-told3 .given .1)))
 
 returns-5 : tie.Need-returns-5
-returns-5 c = link-none (pool (c .before .before)) (c .before .before .args .able .now) (c .before .before .args .i) (c .before .before .args .n) (c .before .before .args .x) (c .before .before .args .named .now) (c .before .before .pre .2) (not-linked (c .before .before .args .x) (ap isLinked (c .enum-told4 .given .1)))
+returns-5 c =
+    link-none (pool (c .before .before)) (c .before .before .args .able .now) (c .before .before .args .i) (c .before .before .args .n)
+    (c .before .before .args .x) (c .before .before .args .named .now) (c .before .before .pre .2)
+    (not-linked (c .before .before .args .x) (ap isLinked (c .enum-told4 .given .1)))
 
 pub name-link-spec : {M : Type 1} → statement M
 name-link-spec =

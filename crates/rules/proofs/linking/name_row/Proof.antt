@@ -26,14 +26,23 @@ mark-requires c κs = (omega arith, omega arith, c .before .before .before .befo
 loop-again : tie.Need-loop-again Inv-loop μ-loop
 loop-again c = (
   ⊎-elim
-      (λ w. rw (w .3) (name-add (pool (c .before .before .before .before)) (c .before .before .before .before .args .able .now) (c .before .before .before .before .args .i) (c .before .before .before .before .args .m) (c .before .before .before .before .args .named .now) (c .before .before .before .loop .j) (c .before .before .before .loop .named) _ (c .before .is-named .ensures) (w .0 .taken) (c .before .before .before .loop .inv .0) (w .2 .ensures)))
-      (λ w. rw (w .1) (name-skip (pool (c .before .before .before .before)) (c .before .before .before .before .args .able .now) (c .before .before .before .before .args .i) (c .before .before .before .before .args .m) (c .before .before .before .before .args .named .now) (c .before .before .before .loop .j) (c .before .before .before .loop .named) (c .before .is-named .ensures) (w .0 .left) (c .before .before .before .loop .inv .0)))
+      (λ w. rw (w .3) (name-add (pool (c .before .before .before .before)) (c .before .before .before .before .args .able .now)
+      (c .before .before .before .before .args .i) (c .before .before .before .before .args .m)
+      (c .before .before .before .before .args .named .now) (c .before .before .before .loop .j) (c .before .before .before .loop .named) _
+      (c .before .is-named .ensures) (w .0 .taken) (c .before .before .before .loop .inv .0) (w .2 .ensures)))
+      (λ w. rw (w .1) (name-skip (pool (c .before .before .before .before)) (c .before .before .before .before .args .able .now)
+      (c .before .before .before .before .args .i) (c .before .before .before .before .args .m)
+      (c .before .before .before .before .args .named .now) (c .before .before .before .loop .j) (c .before .before .before .loop .named)
+      (c .before .is-named .ensures) (w .0 .left) (c .before .before .before .loop .inv .0)))
       (c .if1 .came),
   omega arith,
 )
 
 returns : tie.Need-returns Inv-loop μ-loop
-returns c = name-end (pool (c .before .before)) (c .before .before .args .able .now) (c .before .before .args .i) (c .before .before .args .m) (c .before .before .args .named .now) (c .before .loop .j) (c .before .before .args .n) (c .before .loop .named) (c .before .loop .inv .1) (c .loop-test .left) (c .before .loop .inv .0)
+returns c =
+    name-end (pool (c .before .before)) (c .before .before .args .able .now) (c .before .before .args .i) (c .before .before .args .m)
+    (c .before .before .args .named .now) (c .before .loop .j) (c .before .before .args .n) (c .before .loop .named) (c .before .loop .inv .1)
+    (c .loop-test .left) (c .before .loop .inv .0)
 
 pub name-row-spec : {M : Type 1} → statement M
 name-row-spec =

@@ -15,16 +15,33 @@ abbrev μ-loop : tie.MeasureT-loop
 μ-loop n heads kinds numbers able named₀ k₀ i₀ named k i = n - i
 
 loop-holds : tie.Need-loop-holds Inv-loop μ-loop
-loop-holds c = (names-start (poolOf (c .args .n) (c .args .heads .now) (c .args .kinds .now) (c .args .numbers .now)) (c .args .able .now), omega arith, omega arith)
+loop-holds c =
+    (names-start (poolOf (c .args .n) (c .args .heads .now) (c .args .kinds .now) (c .args .numbers .now)) (c .args .able .now), omega arith, omega arith)
 
 name-next-requires : tie.Need-name-next-requires Inv-loop μ-loop
-name-next-requires c κs = (c .before .before .before .before .before .pre, c .before .before .before .loop-test .taken, c .before .before .before .before .loop .inv .2, sym (c .before .before .has-link .ensures) ∙ c .before .if1 .taken, c .before .before .before .before .loop .inv .0)
+name-next-requires c κs =
+    let c3 = c .before .before .before in
+    let c4 = c3 .before in
+    let c5 = c4 .before in
+    (c5 .pre, c3 .loop-test .taken, c4 .loop .inv .2, sym (c .before .before .has-link .ensures) ∙ c .before .if1 .taken, c4 .loop .inv .0)
 
 loop-again : tie.Need-loop-again Inv-loop μ-loop
-loop-again c = ⊎-elim (λ w. rw (w .3, w .4) (w .2 .ensures, omega arith, omega arith)) (λ w. rw (w .1, w .2) (names-skip (poolOf (c .before .before .before .before .args .n) (c .before .before .before .before .args .heads .now) (c .before .before .before .before .args .kinds .now) (c .before .before .before .before .args .numbers .now)) (c .before .before .before .before .args .able .now) (c .before .before .before .loop .i) (c .before .before .before .loop .named) (sym (c .before .has-link .ensures) ∙ w .0 .left) (c .before .before .before .loop .inv .0), omega arith, c .before .before .before .loop .inv .2)) (c .if1 .came)
+loop-again c =
+    ⊎-elim (λ w. rw (w .3, w .4) (w .2 .ensures, omega arith, omega arith))
+    (λ w. rw (w .1, w .2) (
+      names-skip (poolOf (c .before .before .before .before .args .n) (c .before .before .before .before .args .heads .now)
+          (c .before .before .before .before .args .kinds .now) (c .before .before .before .before .args .numbers .now))
+          (c .before .before .before .before .args .able .now) (c .before .before .before .loop .i) (c .before .before .before .loop .named)
+          (sym (c .before .has-link .ensures) ∙ w .0 .left) (c .before .before .before .loop .inv .0),
+      omega arith,
+      c .before .before .before .loop .inv .2,
+    )) (c .if1 .came)
 
 returns : tie.Need-returns Inv-loop μ-loop
-returns c = names-end (poolOf (c .before .before .args .n) (c .before .before .args .heads .now) (c .before .before .args .kinds .now) (c .before .before .args .numbers .now)) (c .before .before .args .able .now) (c .before .loop .i) (c .before .before .args .n) (c .before .loop .named) (c .before .loop .inv .1) (c .loop-test .left) (c .before .loop .inv .0)
+returns c =
+    names-end (poolOf (c .before .before .args .n) (c .before .before .args .heads .now) (c .before .before .args .kinds .now)
+    (c .before .before .args .numbers .now)) (c .before .before .args .able .now) (c .before .loop .i) (c .before .before .args .n)
+    (c .before .loop .named) (c .before .loop .inv .1) (c .loop-test .left) (c .before .loop .inv .0)
 
 pub names-spec : {M : Type 1} → statement M
 names-spec =

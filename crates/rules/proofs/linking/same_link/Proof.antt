@@ -14,7 +14,13 @@ returns-2 : tie.Need-returns-2
 returns-2 c = record { before = λ q. absurd (false-true q); link = λ q. absurd (false-true q); name = λ q. absurd (false-true q) }
 
 returns-3 : tie.Need-returns-3
-returns-3 c = record { before = λ q. omega (arith, c .before .before .before .before .if1 .left); link = λ q. sym (c .before .before .before .has-link .ensures) ∙ not-left _ (c .before .before .if2 .left); name = λ q. eqb-true _ _ q }
+returns-3 c =
+    record {
+      before = λ q. omega (arith, c .before .before .before .before .if1 .left);
+      link = λ q. sym (c .before .before .before .has-link .ensures)
+          ∙ not-left _ (c .before .before .if2 .left);
+      name = λ q. eqb-true _ _ q;
+    }
 
 pub same-link-spec : {M : Type 1} → statement M
 same-link-spec =

@@ -20,7 +20,8 @@ returns : tie.Need-returns
 returns c = rw (ne-eqb _ _ (c .if1 .taken)) (and-false (eqb (el (c .before .before .args .kinds .now) (c .before .before .args .s * 2)) 1))
 
 returns-2 : tie.Need-returns-2
-returns-2 c = rw (eq-eqb _ _ (c .before .if1 .left)) (and-true (eqb (el (c .before .before .before .args .kinds .now) (c .before .before .before .args .s * 2)) 1))
+returns-2 c =
+    rw (eq-eqb _ _ (c .before .if1 .left)) (and-true (eqb (el (c .before .before .before .args .kinds .now) (c .before .before .before .args .s * 2)) 1))
 
 pub is-body-spec : {M : Type 1} → statement M
 is-body-spec =

@@ -24,14 +24,24 @@ loop-holds c = (omega arith, refl)
 
 returns : tie.Need-returns Inv-loop μ-loop
 unfolding rowOf
-returns c = first-at (c .before .before .before .before .args .n) (isHead (pool (c .before .before .before .before)) (c .before .before .before .before .args .p)) (c .before .before .before .loop .j) (c .before .before .loop-test .taken) (c .before .before .before .loop .inv .1) (c .before .is-head .ensures) (c .if1 .taken)
+returns c =
+    let c3 = c .before .before .before in
+    let c4 = c3 .before in
+    first-at (c4 .args .n) (isHead (pool (c4)) (c4 .args .p)) (c3 .loop .j) (c .before .before .loop-test .taken) (c3 .loop .inv .1)
+    (c .before .is-head .ensures) (c .if1 .taken)
 
 loop-again : tie.Need-loop-again Inv-loop μ-loop
-loop-again c = (omega arith, not-at (isHead (pool (c .before .before .before .before)) (c .before .before .before .before .args .p)) (c .before .before .before .loop .j) (c .before .before .before .loop .inv .1) (c .before .is-head .ensures) (c .if1 .left))
+loop-again c = (
+  omega arith,
+  not-at (isHead (pool (c .before .before .before .before)) (c .before .before .before .before .args .p))
+      (c .before .before .before .loop .j) (c .before .before .before .loop .inv .1) (c .before .is-head .ensures) (c .if1 .left),
+)
 
 returns-2 : tie.Need-returns-2 Inv-loop μ-loop
 unfolding rowOf
-returns-2 c = first-nowhere (c .before .before .args .n) (isHead (pool (c .before .before)) (c .before .before .args .p)) (c .before .loop .j) (c .before .loop .inv .0) (c .loop-test .left) (c .before .loop .inv .1)
+returns-2 c =
+    first-nowhere (c .before .before .args .n) (isHead (pool (c .before .before)) (c .before .before .args .p)) (c .before .loop .j)
+    (c .before .loop .inv .0) (c .loop-test .left) (c .before .loop .inv .1)
 
 pub row-spec : {M : Type 1} → statement M
 row-spec =

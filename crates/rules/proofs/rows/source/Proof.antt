@@ -24,14 +24,24 @@ loop-holds c = (omega arith, refl)
 
 returns : tie.Need-returns Inv-loop μ-loop
 unfolding bitOf
-returns c = first-at (c .before .before .before .before .args .n) (isBody (pool (c .before .before .before .before)) (c .before .before .before .before .args .b)) (c .before .before .before .loop .s) (c .before .before .loop-test .taken) (c .before .before .before .loop .inv .1) (c .before .is-body .ensures) (c .if1 .taken)
+returns c =
+    let c3 = c .before .before .before in
+    let c4 = c3 .before in
+    first-at (c4 .args .n) (isBody (pool (c4)) (c4 .args .b)) (c3 .loop .s) (c .before .before .loop-test .taken) (c3 .loop .inv .1)
+    (c .before .is-body .ensures) (c .if1 .taken)
 
 loop-again : tie.Need-loop-again Inv-loop μ-loop
-loop-again c = (omega arith, not-at (isBody (pool (c .before .before .before .before)) (c .before .before .before .before .args .b)) (c .before .before .before .loop .s) (c .before .before .before .loop .inv .1) (c .before .is-body .ensures) (c .if1 .left))
+loop-again c = (
+  omega arith,
+  not-at (isBody (pool (c .before .before .before .before)) (c .before .before .before .before .args .b))
+      (c .before .before .before .loop .s) (c .before .before .before .loop .inv .1) (c .before .is-body .ensures) (c .if1 .left),
+)
 
 returns-2 : tie.Need-returns-2 Inv-loop μ-loop
 unfolding bitOf
-returns-2 c = first-nowhere (c .before .before .args .n) (isBody (pool (c .before .before)) (c .before .before .args .b)) (c .before .loop .s) (c .before .loop .inv .0) (c .loop-test .left) (c .before .loop .inv .1)
+returns-2 c =
+    first-nowhere (c .before .before .args .n) (isBody (pool (c .before .before)) (c .before .before .args .b)) (c .before .loop .s)
+    (c .before .loop .inv .0) (c .loop-test .left) (c .before .loop .inv .1)
 
 pub source-spec : {M : Type 1} → statement M
 source-spec =

@@ -7,7 +7,10 @@ returns : tie.Need-returns
 returns c = command-join _ _ _ _ _ (c .before .before .child-number .ensures) (c .if1 .taken)
 
 returns-2 : tie.Need-returns-2
-returns-2 c = command-bring _ _ _ _ _ (c .before .before .before .before .before .before .before .child-number .ensures) (c .before .before .before .before .before .if1 .left) (c .initial-state .ensures)
+returns-2 c =
+    let c5 = c .before .before .before .before .before in
+    let c7 = c5 .before .before in
+    command-bring _ _ _ _ _ (c7 .child-number .ensures) (c5 .if1 .left) (c .initial-state .ensures)
 
 pub edge-command-spec : {M : Type 1} → statement M
 edge-command-spec =

@@ -10,7 +10,8 @@ use Rattle.sending.proofs.pool.own_pool.Statement.{statement}
 use Rattle.sending.proofs.pool.own_pool.Tie as tie
 
 abbrev Inv-loop : tie.InvT-loop
-Inv-loop m heads kinds numbers on shown h₀ k₀ u₀ count₀ i₀ h k u count i = Behind (λ c. not (isShown (credentials shown) c)) shown (poolOf m heads kinds numbers) on i (poolOf count h k u)
+Inv-loop m heads kinds numbers on shown h₀ k₀ u₀ count₀ i₀ h k u count i =
+    Behind (λ c. not (isShown (credentials shown) c)) shown (poolOf m heads kinds numbers) on i (poolOf count h k u)
 
 abbrev μ-loop : tie.MeasureT-loop
 μ-loop m heads kinds numbers on shown h₀ k₀ u₀ count₀ i₀ h k u count i = m - i
@@ -19,15 +20,38 @@ loop-holds : tie.Need-loop-holds Inv-loop μ-loop
 loop-holds c = behind-start _ _ _ _ (record { heads = search needs; kinds = search needs; numbers = search needs })
 
 store-if-requires : tie.Need-store-if-requires Inv-loop μ-loop
-store-if-requires c κs = (omega (arith, c .before .before .before .before .before .before .before .before .before .before .before .loop .inv .few, c .before .before .before .before .before .before .before .before .before .before .loop-test .taken, c .before .before .before .before .before .before .before .before .before .before .before .before .before .before .before .pre .0, c .before .before .before .before .before .before .before .before .before .before .before .before .before .before .before .pre .1), c .before .before .before .before .before .before .before .before .before .before .before .loop .inv .sized)
+store-if-requires c κs = (
+  omega (
+    arith,
+    c .before .before .before .before .before .before .before .before .before .before .before .loop .inv .few,
+    c .before .before .before .before .before .before .before .before .before .before .loop-test .taken,
+    c .before .before .before .before .before .before .before .before .before .before .before .before .before .before .before .pre .0,
+    c .before .before .before .before .before .before .before .before .before .before .before .before .before .before .before .pre .1,
+  ),
+  c .before .before .before .before .before .before .before .before .before .before .before .loop .inv .sized,
+)
 
 loop-again : tie.Need-loop-again Inv-loop μ-loop
 unfolding isNew
-loop-again c = behind-next _ _ _ _ (c .before .before .before .before .before .before .before .before .before .before .before .before .loop .inv) (c .before .before .before .before .before .before .before .before .before .before .before .loop-test .taken) (c .before .before .before .before .before .before .before .before .before .before .credential-at .ensures) (c .before .before .before .before .is-new .ensures) (c .store-if .ensures)
+loop-again c =
+    let c4 = c .before .before .before .before in
+    let c10 = c4 .before .before .before .before .before .before in
+    let c11 = c10 .before in
+    let c12 = c11 .before in
+    behind-next _ _ _ _ (c12 .loop .inv) (c11 .loop-test .taken) (c10 .credential-at .ensures) (c4 .is-new .ensures) (c .store-if .ensures)
 
 returns : tie.Need-returns Inv-loop μ-loop
 unfolding unshownOf
-returns c = (omega (arith, c .before .loop .inv .few, c .before .loop .inv .within, c .before .before .before .before .before .pre .0, c .before .before .before .before .before .pre .1), behind-all _ _ _ _ (c .before .loop .inv) (c .loop-test .left))
+returns c = (
+  omega (
+    arith,
+    c .before .loop .inv .few,
+    c .before .loop .inv .within,
+    c .before .before .before .before .before .pre .0,
+    c .before .before .before .before .before .pre .1,
+  ),
+  behind-all _ _ _ _ (c .before .loop .inv) (c .loop-test .left),
+)
 
 pub own-pool-spec : {M : Type 1} → statement M
 own-pool-spec =

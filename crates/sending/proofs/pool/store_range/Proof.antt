@@ -6,7 +6,8 @@ use Rattle.sending.proofs.pool.store_range.Statement.{statement}
 use Rattle.sending.proofs.pool.store_range.Tie as tie
 
 abbrev Inv-loop : tie.InvT-loop
-Inv-loop n heads kinds numbers flags a b h₀ k₀ u₀ m count₀ i₀ h k u count i = Selected (poolOf n heads kinds numbers) flags a (i - a) (poolOf m h₀ k₀ u₀) (poolOf count h k u) × (a ≤ i) × (i ≤ b)
+Inv-loop n heads kinds numbers flags a b h₀ k₀ u₀ m count₀ i₀ h k u count i =
+    Selected (poolOf n heads kinds numbers) flags a (i - a) (poolOf m h₀ k₀ u₀) (poolOf count h k u) × (a ≤ i) × (i ≤ b)
 
 abbrev μ-loop : tie.MeasureT-loop
 μ-loop n heads kinds numbers flags a b h₀ k₀ u₀ m count₀ i₀ h k u count i = b - i
@@ -18,16 +19,48 @@ element-copy-out-store-flagged : tie.Need-element-copy-out-store-flagged Inv-loo
 element-copy-out-store-flagged c = omega (arith, c .before .before .pre .0, c .before .before .pre .2)
 
 store-flagged-requires : tie.Need-store-flagged-requires Inv-loop μ-loop
-store-flagged-requires c κs = (omega (arith, c .before .before .before .before .loop-test .taken, c .before .before .before .before .before .before .pre .0, c .before .before .before .before .before .before .pre .2), omega (arith, c .before .before .before .before .loop-test .taken, c .before .before .before .before .before .loop .inv .0 .few, c .before .before .before .before .before .loop .inv .1, c .before .before .before .before .before .before .pre .0, c .before .before .before .before .before .before .pre .2, c .before .before .before .before .before .before .pre .3), c .before .before .before .before .before .loop .inv .0 .sized)
+store-flagged-requires c κs = (
+  omega (
+    arith,
+    c .before .before .before .before .loop-test .taken,
+    c .before .before .before .before .before .before .pre .0,
+    c .before .before .before .before .before .before .pre .2,
+  ),
+  omega (
+    arith,
+    c .before .before .before .before .loop-test .taken,
+    c .before .before .before .before .before .loop .inv .0 .few,
+    c .before .before .before .before .before .loop .inv .1,
+    c .before .before .before .before .before .before .pre .0,
+    c .before .before .before .before .before .before .pre .2,
+    c .before .before .before .before .before .before .pre .3,
+  ),
+  c .before .before .before .before .before .loop .inv .0 .sized,
+)
 
 add-i : tie.Need-add-i Inv-loop μ-loop
-add-i c = omega (arith, c .before .before .before .before .before .loop-test .taken, c .before .before .before .before .before .before .before .pre .0, c .before .before .before .before .before .before .before .pre .2)
+add-i c =
+    omega (
+      arith,
+      c .before .before .before .before .before .loop-test .taken,
+      c .before .before .before .before .before .before .before .pre .0,
+      c .before .before .before .before .before .before .before .pre .2,
+    )
 
 loop-less : tie.Need-loop-less Inv-loop μ-loop
 loop-less c = omega (arith, c .before .before .before .before .before .loop-test .taken)
 
 loop-again : tie.Need-loop-again Inv-loop μ-loop
-loop-again c = (selected-next _ _ (c .before .before .before .before .before .before .loop .i) (c .before .before .before .before .before .before .loop .inv .0) (omega (arith, c .before .before .before .before .before .before .loop .inv .1)) (omega (arith, c .before .before .before .before .before .before .loop .inv .1)) (omega (arith, c .before .before .before .before .before .loop-test .taken, c .before .before .before .before .before .before .before .pre .2)) (c .store-flagged .ensures), omega (arith, c .before .before .before .before .before .before .loop .inv .1), omega (arith, c .before .before .before .before .before .loop-test .taken))
+loop-again c = (
+  selected-next _ _ (c .before .before .before .before .before .before .loop .i) (c .before .before .before .before .before .before .loop .inv .0)
+      (omega (arith, c .before .before .before .before .before .before .loop .inv .1))
+      (omega (arith, c .before .before .before .before .before .before .loop .inv .1))
+      (omega (arith, c .before .before .before .before .before .loop-test .taken, c .before .before .before .before .before .before .before .pre .2))
+      (c .store-flagged .ensures),
+  omega (arith, c .before .before .before .before .before .before .loop .inv .1),
+  omega
+      (arith, c .before .before .before .before .before .loop-test .taken),
+)
 
 returns : tie.Need-returns Inv-loop μ-loop
 returns c = selected-all _ _ (omega (arith, c .loop-test .left, c .before .loop .inv .1, c .before .loop .inv .2)) (c .before .loop .inv .0)

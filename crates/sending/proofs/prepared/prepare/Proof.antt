@@ -7,15 +7,26 @@ use Rattle.sending.proofs.prepared.prepare.Statement.{statement}
 use Rattle.sending.proofs.prepared.prepare.Tie as tie
 
 stops-requires-3 : tie.Need-stops-requires-3
-stops-requires-3 c κs = (c .before .before .before .before .before .before .before .before .before .before .before .before .before .before .before .before .before .before .before .before .before .before .before .before .before .before .before .before .before .before .before .before .before .pre .names, c .before .before .before .before .before .before .before .before .before .before .before .before .before .before .before .before .before .before .before .before .before .before .before .before .before .before .before .before .before .before .before .before .before .pre .ascending, c .before .before .before .before .before .before .before .before .before .before .before .before .before .before .before .before .before .before .before .before .before .before .before .before .before .before .before .before .before .before .before .before .before .pre .sensitive, omega (arith, c .before .before .before .before .before .before .before .before .before .before .before .before .before .before .before .before .before .before .before .before .before .before .before .before .before .before .before .before .before .before .before .before .before .pre .subject))
+stops-requires-3 c κs = (
+  c .before .before .before .before .before .before .before .before .before .before .before .before .before .before .before .before .before .before .before .before .before .before .before .before .before .before .before .before .before .before .before .before .before .pre .names,
+  c .before .before .before .before .before .before .before .before .before .before .before .before .before .before .before .before .before .before .before .before .before .before .before .before .before .before .before .before .before .before .before .before .before .pre .ascending,
+  c .before .before .before .before .before .before .before .before .before .before .before .before .before .before .before .before .before .before .before .before .before .before .before .before .before .before .before .before .before .before .before .before .before .pre .sensitive,
+  omega (
+    arith,
+    c .before .before .before .before .before .before .before .before .before .before .before .before .before .before .before .before .before .before .before .before .before .before .before .before .before .before .before .before .before .before .before .before .before .pre .subject,
+  ),
+)
 
 returns : tie.Need-returns
 unfolding tablesOf publicOf
 returns c = (
   record {
-    housed = c .before .before .before .before .before .before .before .before .before .before .before .before .before .before .before .before .before .before .before .before .before .before .before .before .before .before .before .before .before .before .before .before .before .before .pre;
-    visible = c .before .before .before .before .before .before .before .before .before .before .before .before .before .before .before .before .before .before .before .before .before .before .before .before .before .before .before .visible-of .ensures;
-    oppo = c .before .before .before .before .before .before .before .before .before .before .before .before .before .before .before .before .before .before .stops .ensures;
+    housed =
+        c .before .before .before .before .before .before .before .before .before .before .before .before .before .before .before .before .before .before .before .before .before .before .before .before .before .before .before .before .before .before .before .before .before .before .pre;
+    visible =
+        c .before .before .before .before .before .before .before .before .before .before .before .before .before .before .before .before .before .before .before .before .before .before .before .before .before .before .before .visible-of .ensures;
+    oppo =
+        c .before .before .before .before .before .before .before .before .before .before .before .before .before .before .before .before .before .before .stops .ensures;
     simp = c .before .before .before .before .before .before .before .before .before .stops2 .ensures;
     sens = c .stops3 .ensures;
   },

@@ -12,7 +12,8 @@ use Rattle.sending.proofs.prepared.visible_of.Statement.{statement}
 use Rattle.sending.proofs.prepared.visible_of.Tie as tie
 
 abbrev Inv-loop : tie.InvT-loop
-Inv-loop own k roles others m heads kinds numbers on₀ i₀ on i = Picked (λ c. not (isDirect own (pairsOf (pairsFrom k roles others)) c)) (poolOf m heads kinds numbers) i on
+Inv-loop own k roles others m heads kinds numbers on₀ i₀ on i =
+    Picked (λ c. not (isDirect own (pairsOf (pairsFrom k roles others)) c)) (poolOf m heads kinds numbers) i on
 
 abbrev μ-loop : tie.MeasureT-loop
 μ-loop own k roles others m heads kinds numbers on₀ i₀ on i = m - i
@@ -21,7 +22,10 @@ loop-holds : tie.Need-loop-holds Inv-loop μ-loop
 loop-holds c = picked-start _ _ _ refl
 
 loop-again : tie.Need-loop-again Inv-loop μ-loop
-loop-again c = picked-next _ _ (c .before .before .before .loop .inv) (omega (arith, (c .before .before .loop-test .taken), (c .before .before .before .before .pre .1))) (c .before .credential-at .ensures) (c .visible-flag .ensures) refl
+loop-again c =
+    picked-next _ _ (c .before .before .before .loop .inv)
+    (omega (arith, (c .before .before .loop-test .taken), (c .before .before .before .before .pre .1))) (c .before .credential-at .ensures)
+    (c .visible-flag .ensures) refl
 
 returns : tie.Need-returns Inv-loop μ-loop
 unfolding lessDirect

@@ -25,7 +25,8 @@ returns-5 c = simp (c .before .match .keys4, ne-eqb _ _ (c .if1 .left))
 
 returns-6 : tie.Need-returns-6
 unfolding needBy
-returns-6 c = simp (ne-eqb _ _ (c .match .rest .0 .0 .0 .1), ne-eqb _ _ (c .match .rest .0 .0 .1), ne-eqb _ _ (c .match .rest .0 .1), ne-eqb _ _ (c .match .rest .1))
+returns-6 c =
+    simp (ne-eqb _ _ (c .match .rest .0 .0 .0 .1), ne-eqb _ _ (c .match .rest .0 .0 .1), ne-eqb _ _ (c .match .rest .0 .1), ne-eqb _ _ (c .match .rest .1))
 
 pub need-of-spec : {M : Type 1} → statement M
 need-of-spec = tie.close (tie.spec returns returns-2 returns-3 returns-4 returns-5 returns-6)

@@ -6,16 +6,35 @@ use Rattle.states.proofs.fill.slot_by.Statement.{statement}
 use Rattle.states.proofs.fill.slot_by.Tie as tie
 
 returns : tie.Need-returns
-returns c = slot-outside (c .before .before .before .args .n) (c .before .before .before .args .k) (c .before .before .before .args .p) (c .before .before .before .args .c) (expressionFrom (c .before .before .before .args .kind .now) (c .before .before .before .args .parts .now) (c .before .before .before .args .n0 .now) (c .before .before .before .args .n1 .now) (c .before .before .before .args .n2 .now) (c .before .before .before .args .n3 .now) (c .before .before .before .args .n4 .now) (c .before .before .before .args .n5 .now) (c .before .before .before .args .n6 .now) (c .before .before .before .args .n7 .now)) (c .before .before .wide .ensures) (c .before .wide2 .ensures) (c .if1 .taken)
+returns c =
+    let c3 = c .before .before .before in
+    slot-outside (c3 .args .n) (c3 .args .k) (c3 .args .p) (c3 .args .c)
+    (expressionFrom (c3 .args .kind .now) (c3 .args .parts .now) (c3 .args .n0 .now) (c3 .args .n1 .now) (c3 .args .n2 .now) (c3 .args .n3 .now)
+    (c3 .args .n4 .now) (c3 .args .n5 .now) (c3 .args .n6 .now) (c3 .args .n7 .now)) (c .before .before .wide .ensures)
+    (c .before .wide2 .ensures) (c .if1 .taken)
 
 slot-as-requires : tie.Need-slot-as-requires
 slot-as-requires c κs = let t = inside (c .before .before .before .args .n) (c .if1 .left) in (omega (arith, t .0), omega (arith, t .1))
 
 returns-2 : tie.Need-returns-2
-returns-2 c = slot-none (c .before .before .before .before .before .args .n) (c .before .before .before .before .before .args .k) (c .before .before .before .before .before .args .p) (c .before .before .before .before .before .args .c) (expressionFrom (c .before .before .before .before .before .args .kind .now) (c .before .before .before .before .before .args .parts .now) (c .before .before .before .before .before .args .n0 .now) (c .before .before .before .before .before .args .n1 .now) (c .before .before .before .before .before .args .n2 .now) (c .before .before .before .before .before .args .n3 .now) (c .before .before .before .before .before .args .n4 .now) (c .before .before .before .before .before .args .n5 .now) (c .before .before .before .before .before .args .n6 .now) (c .before .before .before .before .before .args .n7 .now)) (c .before .before .before .before .wide .ensures) (c .before .before .before .wide2 .ensures) (c .before .slot-as .ensures) (c .if2 .taken)
+returns-2 c =
+    let c3 = c .before .before .before in
+    let c4 = c3 .before in
+    let c5 = c4 .before in
+    slot-none (c5 .args .n) (c5 .args .k) (c5 .args .p) (c5 .args .c)
+    (expressionFrom (c5 .args .kind .now) (c5 .args .parts .now) (c5 .args .n0 .now) (c5 .args .n1 .now) (c5 .args .n2 .now) (c5 .args .n3 .now)
+    (c5 .args .n4 .now) (c5 .args .n5 .now) (c5 .args .n6 .now) (c5 .args .n7 .now)) (c4 .wide .ensures) (c3 .wide2 .ensures)
+    (c .before .slot-as .ensures) (c .if2 .taken)
 
 returns-3 : tie.Need-returns-3
-returns-3 c = slot-some (c .before .before .before .before .before .args .n) (c .before .before .before .before .before .args .k) (c .before .before .before .before .before .args .p) (c .before .before .before .before .before .args .c) (expressionFrom (c .before .before .before .before .before .args .kind .now) (c .before .before .before .before .before .args .parts .now) (c .before .before .before .before .before .args .n0 .now) (c .before .before .before .before .before .args .n1 .now) (c .before .before .before .before .before .args .n2 .now) (c .before .before .before .before .before .args .n3 .now) (c .before .before .before .before .before .args .n4 .now) (c .before .before .before .before .before .args .n5 .now) (c .before .before .before .before .before .args .n6 .now) (c .before .before .before .before .before .args .n7 .now)) (c .before .before .before .before .wide .ensures) (c .before .before .before .wide2 .ensures) (c .before .before .if1 .left) (c .before .slot-as .ensures) (c .if2 .left)
+returns-3 c =
+    let c3 = c .before .before .before in
+    let c4 = c3 .before in
+    let c5 = c4 .before in
+    slot-some (c5 .args .n) (c5 .args .k) (c5 .args .p) (c5 .args .c)
+    (expressionFrom (c5 .args .kind .now) (c5 .args .parts .now) (c5 .args .n0 .now) (c5 .args .n1 .now) (c5 .args .n2 .now) (c5 .args .n3 .now)
+    (c5 .args .n4 .now) (c5 .args .n5 .now) (c5 .args .n6 .now) (c5 .args .n7 .now)) (c4 .wide .ensures) (c3 .wide2 .ensures)
+    (c .before .before .if1 .left) (c .before .slot-as .ensures) (c .if2 .left)
 
 pub slot-by-spec : {M : Type 1} → statement M
 slot-by-spec =

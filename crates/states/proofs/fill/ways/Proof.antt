@@ -10,7 +10,9 @@ use Rattle.states.proofs.fill.ways.Statement.{statement}
 use Rattle.states.proofs.fill.ways.Tie as tie
 
 abbrev Inv-loop : tie.InvT-loop
-Inv-loop n kind state r₀ i₀ r i = (i ≤ n) × ((o : Nodes) → NodeColumn (nodesFrom n kind (o .parts) (o .n0) (o .n1) (o .n2) (o .n3) (o .n4) (o .n5) (o .n6) (o .n7) (o .subject) (o .verifier) state) wayOf i r)
+Inv-loop n kind state r₀ i₀ r i =
+    (i ≤ n) × ((o : Nodes) → NodeColumn (nodesFrom n kind (o .parts) (o .n0) (o .n1) (o .n2) (o .n3) (o .n4) (o .n5) (o .n6) (o .n7) (o .subject)
+    (o .verifier) state) wayOf i r)
 
 abbrev μ-loop : tie.MeasureT-loop
 μ-loop n kind state r₀ i₀ r i = n - i

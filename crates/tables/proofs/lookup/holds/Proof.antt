@@ -19,7 +19,10 @@ loop-holds c = missed-start _ _
 
 returns : tie.Need-returns Inv-loop μ-loop
 unfolding holds credentials
-returns c = any-at (c .before .before .before .before .args .n) (c .before .before .before .loop .inv) (c .before .before .loop-test .taken) (c .before .is-direct-at .ensures) (c .if1 .taken)
+returns c =
+    let c3 = c .before .before .before in
+    let c4 = c3 .before in
+    any-at (c4 .args .n) (c3 .loop .inv) (c .before .before .loop-test .taken) (c .before .is-direct-at .ensures) (c .if1 .taken)
 
 loop-again : tie.Need-loop-again Inv-loop μ-loop
 loop-again c = missed-more (c .before .before .before .loop .inv) (c .before .is-direct-at .ensures) (c .if1 .left)

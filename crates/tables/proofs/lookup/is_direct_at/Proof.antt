@@ -9,10 +9,17 @@ use Rattle.tables.proofs.lookup.is_direct_at.Statement.{statement}
 use Rattle.tables.proofs.lookup.is_direct_at.Tie as tie
 
 returns : tie.Need-returns
-returns c = first-fails _ (c .before .same-role .ensures ∙ ap (λ (p : Role). sameRole p (c .before .before .before .args .r)) (c .before .before .head-at .ensures)) (c .if1 .taken)
+returns c =
+    let c3 = c .before .before .before in
+    first-fails _ (c .before .same-role .ensures ∙ ap (λ (p : Role). sameRole p (c3 .args .r)) (c .before .before .head-at .ensures)) (c .if1 .taken)
 
 returns-2 : tie.Need-returns-2
-returns-2 c = second-decides (c .before .before .before .same-role .ensures ∙ ap (λ (p : Role). sameRole p (c .before .before .before .before .before .args .r)) (c .before .before .before .before .head-at .ensures)) (c .before .before .if1 .left) (c .same .ensures ∙ ap (λ (x : Expression). same x (E.Entity (c .before .before .before .before .before .args .own))) (c .before .body-at .ensures))
+returns-2 c =
+    let c3 = c .before .before .before in
+    let c4 = c3 .before in
+    let c5 = c4 .before in
+    second-decides (c3 .same-role .ensures ∙ ap (λ (p : Role). sameRole p (c5 .args .r)) (c4 .head-at .ensures)) (c .before .before .if1 .left)
+    (c .same .ensures ∙ ap (λ (x : Expression). same x (E.Entity (c5 .args .own))) (c .before .body-at .ensures))
 
 pub is-direct-at-spec : {M : Type 1} → statement M
 is-direct-at-spec =

@@ -17,10 +17,19 @@ loop-holds : tie.Need-loop-holds Inv-loop μ-loop
 loop-holds c = missed-start _ _
 
 returns : tie.Need-returns Inv-loop μ-loop
-returns c = other-at _ _ (c .before .before .before .before .before .before .loop .inv) (c .before .before .before .before .before .loop-test .taken) (c .before .before .before .before .pair-at .ensures) (c .before .same-role .ensures) (c .if1 .taken)
+returns c =
+    let c4 = c .before .before .before .before in
+    let c5 = c4 .before in
+    let c6 = c5 .before in
+    other-at _ _ (c6 .loop .inv) (c5 .loop-test .taken) (c4 .pair-at .ensures) (c .before .same-role .ensures) (c .if1 .taken)
 
 loop-again : tie.Need-loop-again Inv-loop μ-loop
-loop-again c = missed-pair (pairsFrom (c .before .before .before .before .before .before .before .args .n) (c .before .before .before .before .before .before .before .args .roles .now) (c .before .before .before .before .before .before .before .args .others .now)) _ (c .before .before .before .before .before .before .loop .inv) (c .before .before .before .before .pair-at .ensures) (c .before .same-role .ensures) (c .if1 .left)
+loop-again c =
+    let c4 = c .before .before .before .before in
+    let c6 = c4 .before .before in
+    let c7 = c6 .before in
+    missed-pair (pairsFrom (c7 .args .n) (c7 .args .roles .now) (c7 .args .others .now)) _ (c6 .loop .inv) (c4 .pair-at .ensures)
+    (c .before .same-role .ensures) (c .if1 .left)
 
 returns-2 : tie.Need-returns-2 Inv-loop μ-loop
 returns-2 c = other-none _ _ (c .before .loop .inv) (c .loop-test .left)

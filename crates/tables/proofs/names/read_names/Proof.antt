@@ -19,16 +19,36 @@ unfolding namesOf
 loop-holds c = reading-start _ _ (namesFrom 0 _ _) _ refl refl (record { name = length-replicate {A = ℕ} 64 0; class = length-replicate {A = ℕ} 64 0 })
 
 store-name-requires : tie.Need-store-name-requires Inv-loop μ-loop
-store-name-requires c κs = (names-room (c .before .before .before .before .before .before .before .loop .inv) (c .before .before .before .before .before .before .loop-test .taken) (c .before .before .before .before .before .next-name .ensures) _ (c .before .before .before .n .given .1), c .before .before .before .before .before .before .before .loop .inv .sized)
+store-name-requires c κs =
+    let c3 = c .before .before .before in
+    let c5 = c3 .before .before in
+    let c6 = c5 .before in
+    let c7 = c6 .before in
+    (names-room (c7 .loop .inv) (c6 .loop-test .taken) (c5 .next-name .ensures) _ (c3 .n .given .1), c7 .loop .inv .sized)
 
 add-count : tie.Need-add-count Inv-loop μ-loop
-add-count c = omega (arith, names-room (c .before .before .before .before .before .before .before .before .loop .inv) (c .before .before .before .before .before .before .before .loop-test .taken) (c .before .before .before .before .before .before .next-name .ensures) _ (c .before .before .before .before .n .given .1))
+add-count c =
+    omega (
+      arith,
+      names-room (c .before .before .before .before .before .before .before .before .loop .inv)
+          (c .before .before .before .before .before .before .before .loop-test .taken)
+          (c .before .before .before .before .before .before .next-name .ensures) _ (c .before .before .before .before .n .given .1),
+    )
 
 loop-again : tie.Need-loop-again Inv-loop μ-loop
-loop-again c = names-next (c .before .before .before .before .before .before .before .before .loop .inv) (c .before .before .before .before .before .before .before .loop-test .taken) (c .before .before .before .before .before .before .next-name .ensures) _ (c .before .before .before .before .n .given .1) refl (c .store-name .ensures)
+loop-again c =
+    let c4 = c .before .before .before .before in
+    let c6 = c4 .before .before in
+    let c7 = c6 .before in
+    let c8 = c7 .before in
+    names-next (c8 .loop .inv) (c7 .loop-test .taken) (c6 .next-name .ensures) _ (c4 .n .given .1) refl (c .store-name .ensures)
 
 returns : tie.Need-returns Inv-loop μ-loop
-returns c = names-stop (c .before .before .before .before .before .loop .inv) (c .before .before .before .before .loop-test .taken) (c .before .before .before .next-name .ensures) _ (c .before .k .given .1)
+returns c =
+    let c3 = c .before .before .before in
+    let c4 = c3 .before in
+    let c5 = c4 .before in
+    names-stop (c5 .loop .inv) (c4 .loop-test .taken) (c3 .next-name .ensures) _ (c .before .k .given .1)
 
 returns-2 : tie.Need-returns-2 Inv-loop μ-loop
 returns-2 c = names-past (c .before .loop .inv) (c .loop-test .left)

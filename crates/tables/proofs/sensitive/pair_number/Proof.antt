@@ -4,13 +4,25 @@ use Rattle.tables.proofs.sensitive.pair_number.Statement.{statement}
 use Rattle.tables.proofs.sensitive.pair_number.Tie as tie
 
 returns : tie.Need-returns
-returns c = pair-unnamed (c .before .before .before .before .before .args .access) _ _ _ _ (c .before .before .before .before .before .args .x) (c .before .before .class-of .ensures) (c .before .class-of2 .ensures) (c .if1 .taken)
+returns c =
+    let c5 = c .before .before .before .before .before in
+    pair-unnamed (c5 .args .access) _ _ _ _ (c5 .args .x) (c .before .before .class-of .ensures) (c .before .class-of2 .ensures) (c .if1 .taken)
 
 returns-2 : tie.Need-returns-2
-returns-2 c = pair-kept (c .before .before .before .before .before .before .before .args .access) _ _ _ _ (c .before .before .before .before .before .before .before .args .x) (c .before .before .before .before .class-of .ensures) (c .before .before .before .class-of2 .ensures) (c .before .before .if1 .left) (c .before .suits-pair .ensures) (c .if2 .taken)
+returns-2 c =
+    let c3 = c .before .before .before in
+    let c4 = c3 .before in
+    let c7 = c4 .before .before .before in
+    pair-kept (c7 .args .access) _ _ _ _ (c7 .args .x) (c4 .class-of .ensures) (c3 .class-of2 .ensures) (c .before .before .if1 .left)
+    (c .before .suits-pair .ensures) (c .if2 .taken)
 
 returns-3 : tie.Need-returns-3
-returns-3 c = pair-broken (c .before .before .before .before .before .before .before .args .access) _ _ _ _ (c .before .before .before .before .before .before .before .args .x) (c .before .before .before .before .class-of .ensures) (c .before .before .before .class-of2 .ensures) (c .before .before .if1 .left) (c .before .suits-pair .ensures) (c .if2 .left)
+returns-3 c =
+    let c3 = c .before .before .before in
+    let c4 = c3 .before in
+    let c7 = c4 .before .before .before in
+    pair-broken (c7 .args .access) _ _ _ _ (c7 .args .x) (c4 .class-of .ensures) (c3 .class-of2 .ensures) (c .before .before .if1 .left)
+    (c .before .suits-pair .ensures) (c .if2 .left)
 
 pub pair-number-spec : {M : Type 1} → statement M
 pair-number-spec =

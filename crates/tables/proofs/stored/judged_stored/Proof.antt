@@ -5,10 +5,18 @@ use Rattle.tables.proofs.stored.judged_stored.Statement.{statement}
 use Rattle.tables.proofs.stored.judged_stored.Tie as tie
 
 returns : tie.Need-returns
-returns c = step-zero _ (stored-behind _ _ _ _ _ (c .before .before .before .before .before-credential .ensures) (c .before .before .before .stored-number .ensures) (c .before .before .rising .ensures) (c .before .or-else .ensures)) (c .if1 .taken)
+returns c =
+    let c3 = c .before .before .before in
+    let c4 = c3 .before in
+    step-zero _ (stored-behind _ _ _ _ _ (c4 .before-credential .ensures) (c3 .stored-number .ensures) (c .before .before .rising .ensures)
+    (c .before .or-else .ensures)) (c .if1 .taken)
 
 returns-2 : tie.Need-returns-2
-returns-2 c = step-number _ (stored-behind _ _ _ _ _ (c .before .before .before .before .before-credential .ensures) (c .before .before .before .stored-number .ensures) (c .before .before .rising .ensures) (c .before .or-else .ensures)) (c .if1 .left)
+returns-2 c =
+    let c3 = c .before .before .before in
+    let c4 = c3 .before in
+    step-number _ (stored-behind _ _ _ _ _ (c4 .before-credential .ensures) (c3 .stored-number .ensures) (c .before .before .rising .ensures)
+    (c .before .or-else .ensures)) (c .if1 .left)
 
 pub judged-stored-spec : {M : Type 1} → statement M
 judged-stored-spec =

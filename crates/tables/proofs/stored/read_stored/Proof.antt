@@ -19,22 +19,51 @@ abbrev μ-loop : tie.MeasureT-loop
 
 loop-holds : tie.Need-loop-holds Inv-loop μ-loop
 unfolding credentials
-loop-holds c = stored-start _ _ _ _ (poolOf 0 _ _ _) _ refl (record { heads = length-replicate {A = ℕ} 256 0; kinds = length-replicate {A = ℕ} 256 0; numbers = length-replicate {A = ℕ} 1024 0 })
+loop-holds c =
+    stored-start _ _ _ _ (poolOf 0 _ _ _) _ refl (record {
+      heads = length-replicate {A = ℕ} 256 0;
+      kinds = length-replicate {A = ℕ} 256 0;
+      numbers =
+          length-replicate {A = ℕ} 1024 0;
+    })
 
 next-stored-requires : tie.Need-next-stored-requires Inv-loop μ-loop
 next-stored-requires c κs = (c .loop-test .taken, c .before .before .before .pre .0, c .before .before .before .pre .1)
 
 store-requires : tie.Need-store-requires Inv-loop μ-loop
-store-requires c κs = (omega (arith, stored-room (c .before .before .before .before .before .before .before .before .loop .inv) (c .before .before .before .before .before .before .before .loop-test .taken) (c .before .before .before .before .before .before .next-stored .ensures) _ (c .before .before .before .before .c .given .1)), c .before .before .before .before .before .before .before .before .loop .inv .sized)
+store-requires c κs = (
+  omega (
+    arith,
+    stored-room (c .before .before .before .before .before .before .before .before .loop .inv)
+        (c .before .before .before .before .before .before .before .loop-test .taken)
+        (c .before .before .before .before .before .before .next-stored .ensures) _ (c .before .before .before .before .c .given .1),
+  ),
+  c .before .before .before .before .before .before .before .before .loop .inv .sized,
+)
 
 add-count : tie.Need-add-count Inv-loop μ-loop
-add-count c = omega (arith, stored-room (c .before .before .before .before .before .before .before .before .before .loop .inv) (c .before .before .before .before .before .before .before .before .loop-test .taken) (c .before .before .before .before .before .before .before .next-stored .ensures) _ (c .before .before .before .before .before .c .given .1))
+add-count c =
+    omega (
+      arith,
+      stored-room (c .before .before .before .before .before .before .before .before .before .loop .inv)
+          (c .before .before .before .before .before .before .before .before .loop-test .taken)
+          (c .before .before .before .before .before .before .before .next-stored .ensures) _ (c .before .before .before .before .before .c .given .1),
+    )
 
 loop-again : tie.Need-loop-again Inv-loop μ-loop
-loop-again c = stored-next (c .before .before .before .before .before .before .before .before .before .loop .inv) (c .before .before .before .before .before .before .before .before .loop-test .taken) (c .before .before .before .before .before .before .before .next-stored .ensures) _ (c .before .before .before .before .before .c .given .1) (c .store .ensures)
+loop-again c =
+    let c5 = c .before .before .before .before .before in
+    let c7 = c5 .before .before in
+    let c8 = c7 .before in
+    let c9 = c8 .before in
+    stored-next (c9 .loop .inv) (c8 .loop-test .taken) (c7 .next-stored .ensures) _ (c5 .c .given .1) (c .store .ensures)
 
 returns : tie.Need-returns Inv-loop μ-loop
-returns c = stored-stop (c .before .before .before .before .before .loop .inv) (c .before .before .before .before .loop-test .taken) (c .before .before .before .next-stored .ensures) _ (c .before .k .given .1)
+returns c =
+    let c3 = c .before .before .before in
+    let c4 = c3 .before in
+    let c5 = c4 .before in
+    stored-stop (c5 .loop .inv) (c4 .loop-test .taken) (c3 .next-stored .ensures) _ (c .before .k .given .1)
 
 returns-2 : tie.Need-returns-2 Inv-loop μ-loop
 returns-2 c = stored-past (c .before .loop .inv) (c .loop-test .left)
