@@ -41,21 +41,5 @@ returns-6 c = step-for _ _ _ _ (c .enum-told .given .1) (step-end _ _)
 pub step-spec : {M : Type 1} → statement M
 step-spec =
     tie.close
-    (tie.spec
-    (λ c. search needs)
-    show-requires
-    (λ c. search needs)
-    opened-requires
-    (λ c. search needs)
-    brought-requires
-    (λ c. search needs)
-    add-edge-requires
-    (λ c. search needs)
-    marked-requires
-    (λ c. search needs)
-    returns
-    returns-2
-    returns-3
-    returns-4
-    returns-5
-    returns-6)
+    (tie.spec (λ c. search needs) show-requires (λ c. search needs) opened-requires (λ c. search needs) brought-requires (λ c. search needs)
+    add-edge-requires (λ c. search needs) marked-requires (λ c. search needs) returns returns-2 returns-3 returns-4 returns-5 returns-6)

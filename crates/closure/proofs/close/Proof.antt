@@ -41,14 +41,4 @@ returns-2 c =
 pub close-spec : {M : Type 1} → statement M
 close-spec =
     tie.close
-    (tie.spec
-    Inv-loop
-    μ-loop
-    run-worklist-requires
-    still-requires
-    returns
-    loop-holds
-    pass-requires
-    loop-less
-    loop-again
-    returns-2)
+    (tie.spec Inv-loop μ-loop run-worklist-requires still-requires returns loop-holds pass-requires loop-less loop-again returns-2)

@@ -114,15 +114,5 @@ returns-5 c =
 pub graph-sound-spec : {M : Type 1} → statement M
 graph-sound-spec =
     tie.close
-    (tie.spec
-    (λ c κs. search needs)
-    returns
-    records-sound-requires
-    returns-2
-    edges-fit-requires
-    returns-3
-    edges-justified-requires
-    returns-4
-    state-of-requires
-    (λ c κs. search needs)
-    returns-5)
+    (tie.spec (λ c κs. search needs) returns records-sound-requires returns-2 edges-fit-requires returns-3 edges-justified-requires returns-4
+    state-of-requires (λ c κs. search needs) returns-5)

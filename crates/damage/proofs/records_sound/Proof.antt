@@ -31,11 +31,4 @@ returns-3 c =
 pub records-sound-spec : {M : Type 1} → statement M
 records-sound-spec =
     tie.close
-    (tie.spec
-    (λ c κs. search needs)
-    returns
-    node-at-requires
-    (λ c κs. search needs)
-    returns-2
-    shown-fit-requires
-    returns-3)
+    (tie.spec (λ c κs. search needs) returns node-at-requires (λ c κs. search needs) returns-2 shown-fit-requires returns-3)

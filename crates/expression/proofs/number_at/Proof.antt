@@ -20,12 +20,4 @@ add-result-2 c =
 pub number-at-spec : {M : Type 1} → statement M
 number-at-spec =
     tie.close
-    (tie.spec
-    (λ c. search needs)
-    cast-result
-    mul-result
-    (λ c. search needs)
-    (λ c. search needs)
-    cast-result-2
-    add-result-2
-    (λ c. search needs))
+    (tie.spec (λ c. search needs) cast-result mul-result (λ c. search needs) (λ c. search needs) cast-result-2 add-result-2 (λ c. search needs))

@@ -26,13 +26,5 @@ returns-3 c =
 pub join-spec : {M : Type 1} → statement M
 join-spec =
     tie.close
-    (tie.spec
-    (λ c. search needs)
-    returns
-    (λ c κs. search needs)
-    returns-2
-    (λ c. search needs)
-    (λ c. search needs)
-    element-write-queue
-    add-result
+    (tie.spec (λ c. search needs) returns (λ c κs. search needs) returns-2 (λ c. search needs) (λ c. search needs) element-write-queue add-result
     returns-3)

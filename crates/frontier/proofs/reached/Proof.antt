@@ -52,15 +52,4 @@ returns c = run-end _ (c .loop-test .left) (c .before .before .enter .ensures) (
 pub reached-spec : {M : Type 1} → statement M
 reached-spec =
     tie.close
-    (tie.spec
-    Inv-loop
-    μ-loop
-    enter-requires
-    loop-holds
-    array-read-wide
-    wide-requires
-    follow-requires
-    add-q
-    loop-less
-    loop-again
-    returns)
+    (tie.spec Inv-loop μ-loop enter-requires loop-holds array-read-wide wide-requires follow-requires add-q loop-less loop-again returns)

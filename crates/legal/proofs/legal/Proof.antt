@@ -49,22 +49,6 @@ returns-6 c = legal-for _ _ _ _ _ _ (c .before .enum-told .given .1) (c .end-num
 pub legal-spec : {M : Type 1} → statement M
 legal-spec =
     tie.close
-    (tie.spec
-    (λ c. search needs)
-    show-number-requires
-    (λ c. search needs)
-    open-number-requires
-    (λ c. search needs)
-    bring-number-requires
-    (λ c. search needs)
-    join-number-requires
-    (λ c. search needs)
-    mark-number-requires
-    (λ c. search needs)
-    (λ c κs. search needs)
-    returns
-    returns-2
-    returns-3
-    returns-4
-    returns-5
-    returns-6)
+    (tie.spec (λ c. search needs) show-number-requires (λ c. search needs) open-number-requires (λ c. search needs) bring-number-requires
+    (λ c. search needs) join-number-requires (λ c. search needs) mark-number-requires (λ c. search needs) (λ c κs. search needs) returns returns-2
+    returns-3 returns-4 returns-5 returns-6)

@@ -82,19 +82,5 @@ returns-5 c =
 pub measure-questions-spec : {M : Type 1} → statement M
 measure-questions-spec =
     tie.close
-    (tie.spec
-    (λ c κs. search needs)
-    returns
-    list-requires
-    returns-2
-    operand-requires
-    (λ c. search needs)
-    (λ c. search needs)
-    returns-3
-    operand-requires-2
-    (λ c. search needs)
-    (λ c. search needs)
-    returns-4
-    (λ c κs. search needs)
-    mul-result
-    returns-5)
+    (tie.spec (λ c κs. search needs) returns list-requires returns-2 operand-requires (λ c. search needs) (λ c. search needs) returns-3
+    operand-requires-2 (λ c. search needs) (λ c. search needs) returns-4 (λ c κs. search needs) mul-result returns-5)

@@ -81,17 +81,5 @@ loop-again c =
 pub keep-spec : {M : Type 1} → statement M
 keep-spec =
     tie.close
-    (tie.spec
-    Inv-loop
-    μ-loop
-    loop-holds
-    next-kept-requires
-    with-rest-requires
-    returns
-    returns-2
-    array-write-r
-    add-if3
-    returns-3
-    add-a
-    loop-less
+    (tie.spec Inv-loop μ-loop loop-holds next-kept-requires with-rest-requires returns returns-2 array-write-r add-if3 returns-3 add-a loop-less
     loop-again)

@@ -28,10 +28,4 @@ returns c = (c .keep .ensures .holds, (c .keep .ensures .own, c .keep .ensures .
 pub needed-spec : {M : Type 1} → statement M
 needed-spec =
     tie.close
-    (tie.spec
-    (λ c κs. search needs)
-    (λ c κs. search needs)
-    (λ c κs. search needs)
-    relation-requires
-    keep-requires
-    returns)
+    (tie.spec (λ c κs. search needs) (λ c κs. search needs) (λ c κs. search needs) relation-requires keep-requires returns)

@@ -52,12 +52,5 @@ returns c = (
 pub switch-on-spec : {M : Type 1} → statement M
 switch-on-spec =
     tie.close
-    (tie.spec
-    (λ c. search needs)
-    (λ c. search needs)
-    readers-of-row-requires
-    (λ c κs. search needs)
-    seed-requires
-    (λ c. search needs)
-    (λ c κs. search needs)
-    returns)
+    (tie.spec (λ c. search needs) (λ c. search needs) readers-of-row-requires (λ c κs. search needs) seed-requires (λ c. search needs)
+    (λ c κs. search needs) returns)

@@ -42,14 +42,5 @@ returns c =
 pub first-rows-spec : {M : Type 1} → statement M
 first-rows-spec =
     tie.close
-    (tie.spec
-    Inv-loop
-    μ-loop
-    loop-holds
-    first-at-requires
-    (λ c. omega arith)
-    array-write-first
-    (λ c. omega arith)
-    (λ c. omega arith)
-    loop-again
+    (tie.spec Inv-loop μ-loop loop-holds first-at-requires (λ c. omega arith) array-write-first (λ c. omega arith) (λ c. omega arith) loop-again
     returns)

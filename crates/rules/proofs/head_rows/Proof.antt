@@ -45,15 +45,5 @@ returns c =
 pub head-rows-spec : {M : Type 1} → statement M
 head-rows-spec =
     tie.close
-    (tie.spec
-    Inv-loop
-    μ-loop
-    loop-holds
-    (λ c κs. omega arith)
-    find-row-requires
-    (λ c. omega arith)
-    array-write-head
-    (λ c. omega arith)
-    (λ c. omega arith)
-    loop-again
-    returns)
+    (tie.spec Inv-loop μ-loop loop-holds (λ c κs. omega arith) find-row-requires (λ c. omega arith) array-write-head (λ c. omega arith)
+    (λ c. omega arith) loop-again returns)

@@ -62,13 +62,5 @@ returns c =
 pub rules-of-spec : {M : Type 1} → statement M
 rules-of-spec =
     tie.close
-    (tie.spec
-    note-heads-requires
-    head-rows-requires
-    part-rows-requires
-    first-rows-requires
-    has-links-requires
-    linkable-requires
-    names-requires
-    words-for-requires
-    returns)
+    (tie.spec note-heads-requires head-rows-requires part-rows-requires first-rows-requires has-links-requires linkable-requires names-requires
+    words-for-requires returns)

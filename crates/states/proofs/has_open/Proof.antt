@@ -32,13 +32,4 @@ returns-2 c = any-none _ (c .before .loop .inv) (c .loop-test .left)
 pub has-open-spec : {M : Type 1} → statement M
 has-open-spec =
     tie.close
-    (tie.spec
-    Inv-loop
-    μ-loop
-    loop-holds
-    is-open-requires
-    returns
-    (λ c. omega arith)
-    (λ c. omega arith)
-    loop-again
-    returns-2)
+    (tie.spec Inv-loop μ-loop loop-holds is-open-requires returns (λ c. omega arith) (λ c. omega arith) loop-again returns-2)

@@ -42,10 +42,4 @@ returns c =
 pub node-states-spec : {M : Type 1} → statement M
 node-states-spec =
     tie.close
-    (tie.spec
-    (λ c κs. search needs)
-    (λ c κs. search needs)
-    satisfied-requires
-    ways-requires
-    failed-requires
-    returns)
+    (tie.spec (λ c κs. search needs) (λ c κs. search needs) satisfied-requires ways-requires failed-requires returns)

@@ -116,16 +116,5 @@ returns-4 c =
 pub state-of-spec : {M : Type 1} → statement M
 state-of-spec =
     tie.close
-    (tie.spec
-    (λ c κs. search needs)
-    (λ c κs. search needs)
-    satisfied-requires
-    array-read-if1
-    returns
-    ways-requires
-    failed-requires
-    is-complete-requires
-    returns-2
-    array-read-if3
-    returns-3
-    returns-4)
+    (tie.spec (λ c κs. search needs) (λ c κs. search needs) satisfied-requires array-read-if1 returns ways-requires failed-requires
+    is-complete-requires returns-2 array-read-if3 returns-3 returns-4)

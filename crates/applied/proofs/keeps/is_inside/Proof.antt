@@ -39,14 +39,4 @@ returns-2 c = λ h. inside-all _ _ _ (omega (arith, (c .loop-test .left))) (c .b
 pub is-inside-spec : {M : Type 1} → statement M
 is-inside-spec =
     tie.close
-    (tie.spec
-    Inv-loop
-    μ-loop
-    loop-holds
-    element-copy-out-wide
-    (λ c κs. search needs)
-    returns
-    add-j
-    loop-less
-    loop-again
-    returns-2)
+    (tie.spec Inv-loop μ-loop loop-holds element-copy-out-wide (λ c κs. search needs) returns add-j loop-less loop-again returns-2)

@@ -22,11 +22,4 @@ returns-2 c =
 pub join-keeps-spec : {M : Type 1} → statement M
 join-keeps-spec =
     tie.close
-    (tie.spec
-    (λ c κs. search needs)
-    returns
-    node-of-requires
-    (λ c κs. search needs)
-    (λ c κs. search needs)
-    (λ c κs. search needs)
-    returns-2)
+    (tie.spec (λ c κs. search needs) returns node-of-requires (λ c κs. search needs) (λ c κs. search needs) (λ c κs. search needs) returns-2)

@@ -43,15 +43,5 @@ returns c = added-count (c .before .loop .inv .0) (c .loop-test .left) (c .befor
 pub add-flags-spec : {M : Type 1} → statement M
 add-flags-spec =
     tie.close
-    (tie.spec
-    Inv-loop
-    μ-loop
-    loop-holds
-    element-copy-out-flag-of
-    element-copy-out-flag-of-2
-    (λ c κs. search needs)
-    element-write-all
-    add-i
-    loop-less
-    loop-again
-    returns)
+    (tie.spec Inv-loop μ-loop loop-holds element-copy-out-flag-of element-copy-out-flag-of-2 (λ c κs. search needs) element-write-all add-i loop-less
+    loop-again returns)

@@ -55,15 +55,5 @@ returns c = collected-count _ _ _ _ _ (c .before .loop .inv .0) (c .loop-test .l
 pub found-from-all-spec : {M : Type 1} → statement M
 found-from-all-spec =
     tie.close
-    (tie.spec
-    Inv-loop
-    μ-loop
-    next-flagged-requires
-    loop-holds
-    body-at-requires
-    add-found-requires
-    add-next-flagged
-    next-flagged-requires-2
-    loop-less
-    loop-again
-    returns)
+    (tie.spec Inv-loop μ-loop next-flagged-requires loop-holds body-at-requires add-found-requires add-next-flagged next-flagged-requires-2 loop-less
+    loop-again returns)

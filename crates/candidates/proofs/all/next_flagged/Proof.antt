@@ -37,13 +37,4 @@ returns-2 c = (c .before .loop .inv, λ l. absurd (omega (arith, c .loop-test .l
 pub next-flagged-spec : {M : Type 1} → statement M
 next-flagged-spec =
     tie.close
-    (tie.spec
-    Inv-loop
-    μ-loop
-    loop-holds
-    element-copy-out-if1
-    returns
-    add-k
-    loop-less
-    loop-again
-    returns-2)
+    (tie.spec Inv-loop μ-loop loop-holds element-copy-out-if1 returns add-k loop-less loop-again returns-2)

@@ -64,15 +64,5 @@ returns c = folded-all _ _ (c .before .loop .inv .0) (c .loop-test .left) (c .be
 pub with-roles-spec : {M : Type 1} → statement M
 with-roles-spec =
     tie.close
-    (tie.spec
-    Inv-loop
-    μ-loop
-    next-flagged-requires
-    loop-holds
-    body-at-requires
-    with-role-requires
-    add-next-flagged
-    next-flagged-requires-2
-    loop-less
-    loop-again
-    returns)
+    (tie.spec Inv-loop μ-loop next-flagged-requires loop-holds body-at-requires with-role-requires add-next-flagged next-flagged-requires-2 loop-less
+    loop-again returns)

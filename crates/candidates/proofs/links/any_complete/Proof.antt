@@ -102,17 +102,5 @@ returns-2 c = any-none (c .before .before .before .before .before .before .args 
 pub any-complete-spec : {M : Type 1} → statement M
 any-complete-spec =
     tie.close
-    (tie.spec
-    Inv-loop
-    μ-loop
-    next-monitor-requires
-    loop-holds
-    element-copy-out-wide
-    (λ c κs. search needs)
-    is-complete-requires
-    returns
-    add-next-monitor
-    next-monitor-requires-2
-    loop-less
-    loop-again
-    returns-2)
+    (tie.spec Inv-loop μ-loop next-monitor-requires loop-holds element-copy-out-wide (λ c κs. search needs) is-complete-requires returns
+    add-next-monitor next-monitor-requires-2 loop-less loop-again returns-2)

@@ -44,14 +44,5 @@ returns-3 c =
 pub is-solution-spec : {M : Type 1} → statement M
 is-solution-spec =
     tie.close
-    (tie.spec
-    (λ c. search needs)
-    returns
-    (λ c. search needs)
-    (λ c κs. search needs)
-    (λ c. search needs)
-    (λ c κs. search needs)
-    returns-2
-    element-copy-out-result
-    element-copy-out-result-2
-    returns-3)
+    (tie.spec (λ c. search needs) returns (λ c. search needs) (λ c κs. search needs) (λ c. search needs) (λ c κs. search needs) returns-2
+    element-copy-out-result element-copy-out-result-2 returns-3)

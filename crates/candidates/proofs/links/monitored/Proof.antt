@@ -50,16 +50,5 @@ returns c = monitoring-all _ _ (c .before .loop .inv .0) (c .loop-test .left) (c
 pub monitored-spec : {M : Type 1} → statement M
 monitored-spec =
     tie.close
-    (tie.spec
-    Inv-loop
-    μ-loop
-    loop-holds
-    element-copy-out-wide
-    (λ c κs. search needs)
-    element-copy-out-if1
-    element-copy-out-if1-2
-    array-write-r
-    (λ c. omega arith)
-    loop-less
-    loop-again
-    returns)
+    (tie.spec Inv-loop μ-loop loop-holds element-copy-out-wide (λ c κs. search needs) element-copy-out-if1 element-copy-out-if1-2 array-write-r
+    (λ c. omega arith) loop-less loop-again returns)

@@ -35,13 +35,4 @@ returns-2 c = first-end _ (c .before .loop .inv) (c .loop-test .left)
 pub next-monitor-spec : {M : Type 1} → statement M
 next-monitor-spec =
     tie.close
-    (tie.spec
-    Inv-loop
-    μ-loop
-    loop-holds
-    is-monitor-requires
-    returns
-    add-j
-    loop-less
-    loop-again
-    returns-2)
+    (tie.spec Inv-loop μ-loop loop-holds is-monitor-requires returns add-j loop-less loop-again returns-2)

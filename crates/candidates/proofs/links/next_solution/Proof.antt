@@ -35,13 +35,4 @@ returns-2 c = first-end _ (c .before .loop .inv) (c .loop-test .left)
 pub next-solution-spec : {M : Type 1} → statement M
 next-solution-spec =
     tie.close
-    (tie.spec
-    Inv-loop
-    μ-loop
-    loop-holds
-    is-solution-requires
-    returns
-    add-j
-    loop-less
-    loop-again
-    returns-2)
+    (tie.spec Inv-loop μ-loop loop-holds is-solution-requires returns add-j loop-less loop-again returns-2)

@@ -88,16 +88,5 @@ returns c = folded-all _ _ (c .before .loop .inv .0) (c .loop-test .left) (c .be
 pub with-solutions-spec : {M : Type 1} → statement M
 with-solutions-spec =
     tie.close
-    (tie.spec
-    Inv-loop
-    μ-loop
-    next-solution-requires
-    loop-holds
-    element-copy-out-wide
-    (λ c κs. search needs)
-    with-solution-requires
-    add-next-solution
-    next-solution-requires-2
-    loop-less
-    loop-again
-    returns)
+    (tie.spec Inv-loop μ-loop next-solution-requires loop-holds element-copy-out-wide (λ c κs. search needs) with-solution-requires add-next-solution
+    next-solution-requires-2 loop-less loop-again returns)

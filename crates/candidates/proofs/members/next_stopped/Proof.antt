@@ -35,13 +35,4 @@ returns-2 c = c .before .loop .inv
 pub next-stopped-spec : {M : Type 1} → statement M
 next-stopped-spec =
     tie.close
-    (tie.spec
-    Inv-loop
-    μ-loop
-    loop-holds
-    is-stopped-requires
-    returns
-    add-k
-    loop-less
-    loop-again
-    returns-2)
+    (tie.spec Inv-loop μ-loop loop-holds is-stopped-requires returns add-k loop-less loop-again returns-2)

@@ -54,14 +54,5 @@ returns c = folded-all _ _ (c .before .loop .inv .0) (c .loop-test .left) (c .be
 pub with-members-spec : {M : Type 1} → statement M
 with-members-spec =
     tie.close
-    (tie.spec
-    Inv-loop
-    μ-loop
-    next-stopped-requires
-    loop-holds
-    with-member-requires
-    add-next-stopped
-    next-stopped-requires-2
-    loop-less
-    loop-again
+    (tie.spec Inv-loop μ-loop next-stopped-requires loop-holds with-member-requires add-next-stopped next-stopped-requires-2 loop-less loop-again
     returns)

@@ -12,10 +12,4 @@ returns-2 c = subject-same _ _ _ _ _ (c .before .before .if1 .left) (c .before .
 pub is-subject-at-spec : {M : Type 1} → statement M
 is-subject-at-spec =
     tie.close
-    (tie.spec
-    (λ c. search needs)
-    (λ c. search needs)
-    returns
-    (λ c κs. search needs)
-    (λ c κs. search needs)
-    returns-2)
+    (tie.spec (λ c. search needs) (λ c. search needs) returns (λ c κs. search needs) (λ c κs. search needs) returns-2)

@@ -103,18 +103,5 @@ returns-2 c =
 pub next-choice-spec : {M : Type 1} → statement M
 next-choice-spec =
     tie.close
-    (tie.spec
-    Inv-loop
-    μ-loop
-    next-open-requires
-    loop-holds
-    cast-node
-    node-of-requires
-    choice-at-requires
-    (λ c κs. search needs)
-    returns
-    add-next-open
-    next-open-requires-2
-    loop-less
-    loop-again
-    returns-2)
+    (tie.spec Inv-loop μ-loop next-open-requires loop-holds cast-node node-of-requires choice-at-requires (λ c κs. search needs) returns add-next-open
+    next-open-requires-2 loop-less loop-again returns-2)

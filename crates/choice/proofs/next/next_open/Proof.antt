@@ -35,13 +35,4 @@ returns-2 c = c .before .loop .inv
 pub next-open-spec : {M : Type 1} → statement M
 next-open-spec =
     tie.close
-    (tie.spec
-    Inv-loop
-    μ-loop
-    loop-holds
-    is-open-requires
-    returns
-    add-i
-    loop-less
-    loop-again
-    returns-2)
+    (tie.spec Inv-loop μ-loop loop-holds is-open-requires returns add-i loop-less loop-again returns-2)

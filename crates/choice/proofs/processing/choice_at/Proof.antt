@@ -47,10 +47,4 @@ returns-3 c =
 pub choice-at-spec : {M : Type 1} → statement M
 choice-at-spec =
     tie.close
-    (tie.spec
-    (λ c κs. search needs)
-    returns
-    (λ c κs. search needs)
-    returns-2
-    opponent-rules-requires
-    returns-3)
+    (tie.spec (λ c κs. search needs) returns (λ c κs. search needs) returns-2 opponent-rules-requires returns-3)

@@ -69,15 +69,5 @@ returns-2 c =
 pub own-rules-spec : {M : Type 1} → statement M
 own-rules-spec =
     tie.close
-    (tie.spec
-    (λ c κs. search needs)
-    (λ c. search needs)
-    (λ c. search needs)
-    plain-edges-requires
-    (λ c κs. search needs)
-    returns
-    rest-of-requires
-    known-of-requires
-    (λ c κs. search needs)
-    (λ c κs. search needs)
-    returns-2)
+    (tie.spec (λ c κs. search needs) (λ c. search needs) (λ c. search needs) plain-edges-requires (λ c κs. search needs) returns rest-of-requires
+    known-of-requires (λ c κs. search needs) (λ c κs. search needs) returns-2)

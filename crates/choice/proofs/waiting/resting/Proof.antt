@@ -37,14 +37,4 @@ returns-2 c = unchanged-all (c .before .loop .inv) (c .loop-test .left)
 pub resting-spec : {M : Type 1} → statement M
 resting-spec =
     tie.close
-    (tie.spec
-    Inv-loop
-    μ-loop
-    loop-holds
-    element-copy-out-if1
-    element-copy-out-if1-2
-    returns
-    add-j
-    loop-less
-    loop-again
-    returns-2)
+    (tie.spec Inv-loop μ-loop loop-holds element-copy-out-if1 element-copy-out-if1-2 returns add-j loop-less loop-again returns-2)

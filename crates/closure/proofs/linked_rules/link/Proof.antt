@@ -46,19 +46,5 @@ returns-5 c =
 pub link-spec : {M : Type 1} → statement M
 link-spec =
     tie.close
-    (tie.spec
-    returns
-    (λ c. search needs)
-    returns-2
-    (λ c κs. search needs)
-    returns-3
-    (λ c. search needs)
-    (λ c. search needs)
-    (λ c. search needs)
-    (λ c. search needs)
-    member-requires
-    returns-4
-    (λ c. search needs)
-    (λ c. search needs)
-    add-row-requires
-    returns-5)
+    (tie.spec returns (λ c. search needs) returns-2 (λ c κs. search needs) returns-3 (λ c. search needs) (λ c. search needs) (λ c. search needs)
+    (λ c. search needs) member-requires returns-4 (λ c. search needs) (λ c. search needs) add-row-requires returns-5)

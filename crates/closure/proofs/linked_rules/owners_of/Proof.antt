@@ -25,14 +25,5 @@ returns c = c .before .loop .inv
 pub owners-of-spec : {M : Type 1} → statement M
 owners-of-spec =
     tie.close
-    (tie.spec
-    Inv-loop
-    μ-loop
-    (λ c. search needs)
-    (λ c. omega arith)
-    (λ c. omega arith)
-    mark-requires
-    (λ c. omega arith)
-    (λ c. omega arith)
-    loop-again
+    (tie.spec Inv-loop μ-loop (λ c. search needs) (λ c. omega arith) (λ c. omega arith) mark-requires (λ c. omega arith) (λ c. omega arith) loop-again
     returns)

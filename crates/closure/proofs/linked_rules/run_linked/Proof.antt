@@ -104,30 +104,7 @@ returns-2 c = c .before .loop .inv .1
 pub run-linked-spec : {M : Type 1} → statement M
 run-linked-spec =
     tie.close
-    (tie.spec
-    Inv-loop
-    μ-loop
-    owners-of-requires
-    (λ c κs. omega arith)
-    loop-holds
-    (λ c κs. omega arith)
-    (λ c κs. omega arith)
-    returns
-    (λ c κs. omega arith)
-    step-requires
-    mul-r
-    element-copy-out-r
-    mul-touched
-    mul-touched-2
-    element-copy-out-touched
-    mul-touched-3
-    add-touched
-    mul-touched-4
-    element-copy-out-touched-2
-    (λ c. omega arith)
-    (λ c. omega arith)
-    (λ c κs. omega arith)
-    (λ c. omega arith)
-    (λ c. omega arith)
-    loop-again
-    returns-2)
+    (tie.spec Inv-loop μ-loop owners-of-requires (λ c κs. omega arith) loop-holds (λ c κs. omega arith) (λ c κs. omega arith) returns
+    (λ c κs. omega arith) step-requires mul-r element-copy-out-r mul-touched mul-touched-2 element-copy-out-touched mul-touched-3 add-touched
+    mul-touched-4 element-copy-out-touched-2 (λ c. omega arith) (λ c. omega arith) (λ c κs. omega arith) (λ c. omega arith) (λ c. omega arith)
+    loop-again returns-2)

@@ -27,13 +27,4 @@ returns-2 c = (c .before .before .before .before .before .fresh .ensures, c .fol
 pub step-spec : {M : Type 1} → statement M
 step-spec =
     tie.close
-    (tie.spec
-    bit-requires
-    rule-requires
-    returns
-    (λ c. omega arith)
-    (λ c. omega arith)
-    fresh-requires
-    (λ c κs. omega arith)
-    follow-requires
-    returns-2)
+    (tie.spec bit-requires rule-requires returns (λ c. omega arith) (λ c. omega arith) fresh-requires (λ c κs. omega arith) follow-requires returns-2)

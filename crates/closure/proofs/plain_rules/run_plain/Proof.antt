@@ -87,23 +87,5 @@ returns-2 c = c .before .loop .inv
 pub run-plain-spec : {M : Type 1} → statement M
 run-plain-spec =
     tie.close
-    (tie.spec
-    Inv-loop
-    μ-loop
-    loop-holds
-    (λ c κs. omega arith)
-    returns
-    (λ c κs. omega arith)
-    plain-requires
-    mul-r
-    element-copy-out-r
-    mul-r-2
-    mul-t22
-    element-copy-out-t28
-    add-t25
-    mul-t30
-    element-copy-out-t33
-    (λ c. omega arith)
-    (λ c. omega arith)
-    loop-again
-    returns-2)
+    (tie.spec Inv-loop μ-loop loop-holds (λ c κs. omega arith) returns (λ c κs. omega arith) plain-requires mul-r element-copy-out-r mul-r-2 mul-t22
+    element-copy-out-t28 add-t25 mul-t30 element-copy-out-t33 (λ c. omega arith) (λ c. omega arith) loop-again returns-2)

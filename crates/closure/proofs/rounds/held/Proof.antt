@@ -35,15 +35,4 @@ returns c =
 pub held-spec : {M : Type 1} → statement M
 held-spec =
     tie.close
-    (tie.spec
-    Inv-loop
-    μ-loop
-    loop-holds
-    (λ c. omega arith)
-    add-w
-    mul-w-2
-    element-copy-out-w
-    (λ c. omega arith)
-    (λ c. omega arith)
-    loop-again
-    returns)
+    (tie.spec Inv-loop μ-loop loop-holds (λ c. omega arith) add-w mul-w-2 element-copy-out-w (λ c. omega arith) (λ c. omega arith) loop-again returns)

@@ -35,21 +35,5 @@ returns c = links-all _ _ _ _ _ _ _ _ _ (c .loop-test .left) (c .before .loop .i
 pub links-spec : {M : Type 1} → statement M
 links-spec =
     tie.close
-    (tie.spec
-    Inv-loop
-    μ-loop
-    loop-holds
-    (λ c κs. omega arith)
-    (λ c. omega arith)
-    (λ c. omega arith)
-    (λ c. omega arith)
-    (λ c. omega arith)
-    (λ c. omega arith)
-    (λ c. omega arith)
-    (λ c. omega arith)
-    bit-requires
-    (λ c κs. omega arith)
-    (λ c κs. omega arith)
-    loop-less
-    loop-again
-    returns)
+    (tie.spec Inv-loop μ-loop loop-holds (λ c κs. omega arith) (λ c. omega arith) (λ c. omega arith) (λ c. omega arith) (λ c. omega arith)
+    (λ c. omega arith) (λ c. omega arith) (λ c. omega arith) bit-requires (λ c κs. omega arith) (λ c κs. omega arith) loop-less loop-again returns)

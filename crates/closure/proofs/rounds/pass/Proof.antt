@@ -45,15 +45,5 @@ returns c = pass-all (rulesOf _ _ _ _ _ _ _) _ _ _ (c .loop-test .left) (c .befo
 pub pass-spec : {M : Type 1} → statement M
 pass-spec =
     tie.close
-    (tie.spec
-    Inv-loop
-    μ-loop
-    (λ c κs. omega arith)
-    (λ c κs. omega arith)
-    loop-holds
-    rule-below-requires
-    add-added
-    (λ c. omega arith)
-    (λ c. omega arith)
-    loop-again
-    returns)
+    (tie.spec Inv-loop μ-loop (λ c κs. omega arith) (λ c κs. omega arith) loop-holds rule-below-requires add-added (λ c. omega arith)
+    (λ c. omega arith) loop-again returns)

@@ -39,15 +39,5 @@ returns-3 c = rule-all (rulesOf _ _ _ _ _ _ _) _ _ _ (c .loop-test .left) (c .be
 pub rule-spec : {M : Type 1} → statement M
 rule-spec =
     tie.close
-    (tie.spec
-    Inv-loop
-    μ-loop
-    returns
-    (λ c. omega arith)
-    returns-2
-    loop-holds
-    turn-requires
-    (λ c. omega arith)
-    (λ c. omega arith)
-    loop-again
+    (tie.spec Inv-loop μ-loop returns (λ c. omega arith) returns-2 loop-holds turn-requires (λ c. omega arith) (λ c. omega arith) loop-again
     returns-3)

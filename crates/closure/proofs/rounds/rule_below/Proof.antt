@@ -15,10 +15,4 @@ returns c =
 pub rule-below-spec : {M : Type 1} → statement M
 rule-below-spec =
     tie.close
-    (tie.spec
-    (λ c. search needs)
-    (λ c. search needs)
-    is-full-requires
-    returns
-    (λ c κs. search needs)
-    (λ c. search needs))
+    (tie.spec (λ c. search needs) (λ c. search needs) is-full-requires returns (λ c κs. search needs) (λ c. search needs))

@@ -57,16 +57,5 @@ returns-2 c =
 pub turn-spec : {M : Type 1} → statement M
 turn-spec =
     tie.close
-    (tie.spec
-    (λ c. search needs)
-    (λ c. search needs)
-    mul-at-2
-    add-at
-    mul-old
-    element-copy-out-old
-    gives-requires
-    (λ c κs. search needs)
-    mul-rows
-    element-write-rows
-    returns
-    returns-2)
+    (tie.spec (λ c. search needs) (λ c. search needs) mul-at-2 add-at mul-old element-copy-out-old gives-requires (λ c κs. search needs) mul-rows
+    element-write-rows returns returns-2)

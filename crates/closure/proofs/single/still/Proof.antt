@@ -47,16 +47,5 @@ returns-3 c = still-all (rulesOf _ _ _ _ _ _ _) _ _ _ _ (c .before .loop .i) (c 
 pub still-spec : {M : Type 1} → statement M
 still-spec =
     tie.close
-    (tie.spec
-    Inv-loop
-    μ-loop
-    returns
-    (λ c κs. omega arith)
-    filled-requires
-    loop-holds
-    rests-requires
-    returns-2
-    add-i
-    (λ c. omega arith)
-    loop-again
+    (tie.spec Inv-loop μ-loop returns (λ c κs. omega arith) filled-requires loop-holds rests-requires returns-2 add-i (λ c. omega arith) loop-again
     returns-3)

@@ -21,19 +21,6 @@ known-requires c κs = (c .before .before .before .before .pre .2 .under _, c .b
 pub ahead-spec : {M : Type 1} → statement M
 ahead-spec =
     tie.close
-    (tie.spec
-    (λ c. search needs)
-    (λ c. search needs)
-    mul-if2-2
-    mul-if2-3
-    element-copy-out-if2-2
-    (λ c. search needs)
-    (λ c. search needs)
-    (λ c. search needs)
-    members-requires
-    known-requires
-    (λ c. search needs)
-    (λ c. search needs)
-    (λ c. search needs)
-    (λ c κs. search needs)
+    (tie.spec (λ c. search needs) (λ c. search needs) mul-if2-2 mul-if2-3 element-copy-out-if2-2 (λ c. search needs) (λ c. search needs)
+    (λ c. search needs) members-requires known-requires (λ c. search needs) (λ c. search needs) (λ c. search needs) (λ c κs. search needs)
     (λ c. search needs))

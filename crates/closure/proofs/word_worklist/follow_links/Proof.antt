@@ -57,21 +57,5 @@ returns-3 c =
 pub follow-links-spec : {M : Type 1} → statement M
 follow-links-spec =
     tie.close
-    (tie.spec
-    returns
-    (λ c. omega arith)
-    returns-2
-    (λ c. omega arith)
-    (λ c. omega arith)
-    mul-at-2
-    mul-old
-    element-copy-out-old
-    (λ c. omega arith)
-    (λ c. omega arith)
-    (λ c. omega arith)
-    (λ c. omega arith)
-    (λ c. omega arith)
-    gathered-requires
-    mul-rows
-    element-write-rows
-    returns-3)
+    (tie.spec returns (λ c. omega arith) returns-2 (λ c. omega arith) (λ c. omega arith) mul-at-2 mul-old element-copy-out-old (λ c. omega arith)
+    (λ c. omega arith) (λ c. omega arith) (λ c. omega arith) (λ c. omega arith) gathered-requires mul-rows element-write-rows returns-3)

@@ -28,14 +28,4 @@ loop-again c = tt
 pub owned-spec : {M : Type 1} → statement M
 owned-spec =
     tie.close
-    (tie.spec
-    Inv-loop
-    μ-loop
-    loop-holds
-    (λ c κs. omega arith)
-    mul-w
-    element-copy-out-w
-    (λ c κs. omega arith)
-    loop-less
-    loop-again
-    (λ c. omega arith))
+    (tie.spec Inv-loop μ-loop loop-holds (λ c κs. omega arith) mul-w element-copy-out-w (λ c κs. omega arith) loop-less loop-again (λ c. omega arith))

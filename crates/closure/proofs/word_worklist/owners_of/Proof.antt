@@ -31,18 +31,5 @@ returns c = c .before .loop .inv
 pub owners-of-spec : {M : Type 1} → statement M
 owners-of-spec =
     tie.close
-    (tie.spec
-    Inv-loop
-    μ-loop
-    (λ c. search needs)
-    (λ c. omega arith)
-    (λ c. omega arith)
-    mul-old
-    array-read-old
-    (λ c κs. omega arith)
-    mul-owners
-    array-write-owners
-    (λ c. omega arith)
-    (λ c. omega arith)
-    (λ c. search needs)
-    returns)
+    (tie.spec Inv-loop μ-loop (λ c. search needs) (λ c. omega arith) (λ c. omega arith) mul-old array-read-old (λ c κs. omega arith) mul-owners
+    array-write-owners (λ c. omega arith) (λ c. omega arith) (λ c. search needs) returns)

@@ -88,28 +88,6 @@ returns-2 c = c .before .loop .inv .2
 pub run-word-spec : {M : Type 1} → statement M
 run-word-spec =
     tie.close
-    (tie.spec
-    Inv-loop
-    μ-loop
-    owners-of-requires
-    all-named-requires
-    (λ c. omega arith)
-    read-on-requires
-    (λ c κs. omega arith)
-    (λ c κs. omega arith)
-    loop-holds
-    (λ c κs. omega arith)
-    returns
-    (λ c κs. omega arith)
-    one-requires
-    step-requires
-    mul-r
-    element-copy-out-r
-    mul-touched
-    mul-touched-2
-    element-copy-out-touched
-    touched-requires
-    (λ c. omega arith)
-    (λ c. omega arith)
-    loop-again
-    returns-2)
+    (tie.spec Inv-loop μ-loop owners-of-requires all-named-requires (λ c. omega arith) read-on-requires (λ c κs. omega arith) (λ c κs. omega arith)
+    loop-holds (λ c κs. omega arith) returns (λ c κs. omega arith) one-requires step-requires mul-r element-copy-out-r mul-touched mul-touched-2
+    element-copy-out-touched touched-requires (λ c. omega arith) (λ c. omega arith) loop-again returns-2)

@@ -41,11 +41,4 @@ returns-3 c = (c .before .before .before .ahead .ensures .0, c .before .before .
 pub step-spec : {M : Type 1} → statement M
 step-spec =
     tie.close
-    (tie.spec
-    test-requires
-    rule-requires
-    returns
-    ahead-requires
-    returns-2
-    follow-links-requires
-    returns-3)
+    (tie.spec test-requires rule-requires returns ahead-requires returns-2 follow-links-requires returns-3)

@@ -83,28 +83,6 @@ returns c = c .before .loop .inv
 pub read-rule-spec : {M : Type 1} → statement M
 read-rule-spec =
     tie.close
-    (tie.spec
-    Inv-loop
-    μ-loop
-    mul-mark
-    element-copy-out-mark
-    mark-requires
-    mul-read-word
-    mul-read-word-2
-    element-copy-out-read-word
-    read-word-requires
-    mul-read-word-3
-    add-read-word
-    mul-read-word-4
-    element-copy-out-read-word-2
-    read-word-requires-2
-    loop-holds
-    mul-mark-2
-    add-mark
-    mul-mark-3
-    element-copy-out-mark-2
-    mark-requires-2
-    add-k
-    loop-less
-    loop-again
-    returns)
+    (tie.spec Inv-loop μ-loop mul-mark element-copy-out-mark mark-requires mul-read-word mul-read-word-2 element-copy-out-read-word read-word-requires
+    mul-read-word-3 add-read-word mul-read-word-4 element-copy-out-read-word-2 read-word-requires-2 loop-holds mul-mark-2 add-mark mul-mark-3
+    element-copy-out-mark-2 mark-requires-2 add-k loop-less loop-again returns)

@@ -45,17 +45,5 @@ returns-3 c = c .before .loop .inv
 pub read-word-spec : {M : Type 1} → statement M
 read-word-spec =
     tie.close
-    (tie.spec
-    Inv-loop
-    μ-loop
-    returns
-    mark-requires
-    returns-2
-    loop-holds
-    (λ c κs. omega arith)
-    add-mark
-    mark-requires-2
-    (λ c κs. omega arith)
-    loop-less
-    loop-again
-    returns-3)
+    (tie.spec Inv-loop μ-loop returns mark-requires returns-2 loop-holds (λ c κs. omega arith) add-mark mark-requires-2 (λ c κs. omega arith)
+    loop-less loop-again returns-3)

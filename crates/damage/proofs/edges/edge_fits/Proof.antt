@@ -39,11 +39,4 @@ returns-3 c =
 pub edge-fits-spec : {M : Type 1} → statement M
 edge-fits-spec =
     tie.close
-    (tie.spec
-    (λ c κs. search needs)
-    (λ c κs. search needs)
-    returns
-    formed-requires
-    returns-2
-    (λ c κs. search needs)
-    returns-3)
+    (tie.spec (λ c κs. search needs) (λ c κs. search needs) returns formed-requires returns-2 (λ c κs. search needs) returns-3)

@@ -48,16 +48,5 @@ returns-2 c = bringing-done _ _ _ (c .before .loop .inv) (c .loop-test .left)
 pub edges-fit-spec : {M : Type 1} → statement M
 edges-fit-spec =
     tie.close
-    (tie.spec
-    Inv-loop
-    μ-loop
-    loop-holds
-    edge-fits-requires
-    returns
-    (λ c. omega arith)
-    (λ c κs. search needs)
-    add-b
-    add-j
-    (λ c. omega arith)
-    loop-again
-    returns-2)
+    (tie.spec Inv-loop μ-loop loop-holds edge-fits-requires returns (λ c. omega arith) (λ c κs. search needs) add-b add-j (λ c. omega arith)
+    loop-again returns-2)

@@ -30,13 +30,4 @@ returns-2 c = nodes-done _ _ (c .before .loop .inv) (c .loop-test .left)
 pub nodes-fit-spec : {M : Type 1} → statement M
 nodes-fit-spec =
     tie.close
-    (tie.spec
-    Inv-loop
-    μ-loop
-    loop-holds
-    (λ c κs. search needs)
-    returns
-    (λ c. omega arith)
-    (λ c. omega arith)
-    loop-again
-    returns-2)
+    (tie.spec Inv-loop μ-loop loop-holds (λ c κs. search needs) returns (λ c. omega arith) (λ c. omega arith) loop-again returns-2)

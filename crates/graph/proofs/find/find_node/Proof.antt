@@ -29,13 +29,4 @@ returns-2 c = node-none _ _ _ _ (c .before .loop .inv .1) (c .before .loop .inv 
 pub find-node-spec : {M : Type 1} → statement M
 find-node-spec =
     tie.close
-    (tie.spec
-    Inv-loop
-    μ-loop
-    loop-holds
-    (λ c κs. omega arith)
-    returns
-    (λ c. omega arith)
-    (λ c. omega arith)
-    loop-again
-    returns-2)
+    (tie.spec Inv-loop μ-loop loop-holds (λ c κs. omega arith) returns (λ c. omega arith) (λ c. omega arith) loop-again returns-2)

@@ -28,13 +28,4 @@ returns-2 c = edge-none _ _ (c .before .loop .inv) (c .loop-test .left)
 pub has-edge-spec : {M : Type 1} → statement M
 has-edge-spec =
     tie.close
-    (tie.spec
-    Inv-loop
-    μ-loop
-    loop-holds
-    (λ c κs. omega arith)
-    returns
-    (λ c. omega arith)
-    (λ c. omega arith)
-    loop-again
-    returns-2)
+    (tie.spec Inv-loop μ-loop loop-holds (λ c κs. omega arith) returns (λ c. omega arith) (λ c. omega arith) loop-again returns-2)

@@ -40,15 +40,5 @@ returns c = children-all _ (c .before .loop .inv .1) _ (c .before .loop .inv .0)
 pub children-spec : {M : Type 1} → statement M
 children-spec =
     tie.close
-    (tie.spec
-    Inv-loop
-    μ-loop
-    loop-holds
-    (λ c. omega arith)
-    (λ c. omega arith)
-    (λ c κs. search needs)
-    array-write-r
-    (λ c. omega arith)
-    (λ c. omega arith)
-    loop-again
-    returns)
+    (tie.spec Inv-loop μ-loop loop-holds (λ c. omega arith) (λ c. omega arith) (λ c κs. search needs) array-write-r (λ c. omega arith)
+    (λ c. omega arith) loop-again returns)

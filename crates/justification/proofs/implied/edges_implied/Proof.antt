@@ -54,10 +54,4 @@ returns c =
 pub edges-implied-spec : {M : Type 1} → statement M
 edges-implied-spec =
     tie.close
-    (tie.spec
-    children-requires
-    rules-of-requires
-    (λ c κs. search needs)
-    relation-requires
-    nodes-implied-requires
-    returns)
+    (tie.spec children-requires rules-of-requires (λ c κs. search needs) relation-requires nodes-implied-requires returns)

@@ -27,13 +27,5 @@ returns-2 c =
 pub implied-at-spec : {M : Type 1} → statement M
 implied-at-spec =
     tie.close
-    (tie.spec
-    (λ c. search needs)
-    (λ c. search needs)
-    (λ c κs. search needs)
-    returns
-    (λ c. search needs)
-    (λ c κs. search needs)
-    expression-at-requires
-    (λ c κs. search needs)
-    returns-2)
+    (tie.spec (λ c. search needs) (λ c. search needs) (λ c κs. search needs) returns (λ c. search needs) (λ c κs. search needs) expression-at-requires
+    (λ c κs. search needs) returns-2)

@@ -40,13 +40,4 @@ returns-2 c = from-done _ _ _ _ (c .before .loop .inv) (c .loop-test .left)
 pub implied-from-spec : {M : Type 1} → statement M
 implied-from-spec =
     tie.close
-    (tie.spec
-    Inv-loop
-    μ-loop
-    loop-holds
-    implied-at-requires
-    returns
-    (λ c. omega arith)
-    (λ c. omega arith)
-    loop-again
-    returns-2)
+    (tie.spec Inv-loop μ-loop loop-holds implied-at-requires returns (λ c. omega arith) (λ c. omega arith) loop-again returns-2)

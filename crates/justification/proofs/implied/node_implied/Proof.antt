@@ -10,10 +10,4 @@ returns c = from-none _ _ _ _ (omega arith) (c .before .before .pre .6) (c .if1 
 pub node-implied-spec : {M : Type 1} → statement M
 node-implied-spec =
     tie.close
-    (tie.spec
-    (λ c. search needs)
-    returns
-    (λ c κs. search needs)
-    (λ c κs. search needs)
-    (λ c κs. search needs)
-    (λ c. search needs))
+    (tie.spec (λ c. search needs) returns (λ c κs. search needs) (λ c κs. search needs) (λ c κs. search needs) (λ c. search needs))

@@ -40,13 +40,4 @@ returns-2 c = below-done _ _ _ (c .before .loop .inv) (c .before .before .pre .1
 pub nodes-implied-spec : {M : Type 1} → statement M
 nodes-implied-spec =
     tie.close
-    (tie.spec
-    Inv-loop
-    μ-loop
-    loop-holds
-    node-implied-requires
-    returns
-    (λ c. omega arith)
-    (λ c. omega arith)
-    loop-again
-    returns-2)
+    (tie.spec Inv-loop μ-loop loop-holds node-implied-requires returns (λ c. omega arith) (λ c. omega arith) loop-again returns-2)

@@ -33,13 +33,4 @@ returns-2 c = λ e. missed-fewer (c .before .loop .inv) (c .loop-test .left)
 pub has-linking-spec : {M : Type 1} → statement M
 has-linking-spec =
     tie.close
-    (tie.spec
-    Inv-loop
-    μ-loop
-    loop-holds
-    element-copy-out-if1
-    returns
-    (λ c. omega arith)
-    (λ c. omega arith)
-    loop-again
-    returns-2)
+    (tie.spec Inv-loop μ-loop loop-holds element-copy-out-if1 returns (λ c. omega arith) (λ c. omega arith) loop-again returns-2)

@@ -75,15 +75,4 @@ returns-2 c = monitoring-done _ _ _ _ _ (c .before .loop .inv) (c .loop-test .le
 pub linked-in-turn-spec : {M : Type 1} → statement M
 linked-in-turn-spec =
     tie.close
-    (tie.spec
-    Inv-loop
-    μ-loop
-    loop-holds
-    (λ c κs. search needs)
-    is-monitored-if-requires
-    returns
-    insert-requires
-    add-j
-    loop-less
-    loop-again
-    returns-2)
+    (tie.spec Inv-loop μ-loop loop-holds (λ c κs. search needs) is-monitored-if-requires returns insert-requires add-j loop-less loop-again returns-2)

@@ -50,11 +50,4 @@ returns-2 c = c .linked-in-turn .ensures
 pub links-justified-spec : {M : Type 1} → statement M
 links-justified-spec =
     tie.close
-    (tie.spec
-    has-linking-requires
-    returns
-    needs-requires
-    links-requires
-    seed-requires
-    linked-in-turn-requires
-    returns-2)
+    (tie.spec has-linking-requires returns needs-requires links-requires seed-requires linked-in-turn-requires returns-2)

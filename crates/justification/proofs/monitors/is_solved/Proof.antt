@@ -31,13 +31,4 @@ returns-2 c = solved-none _ _ _ _ _ (c .before .loop .inv) (c .loop-test .left)
 pub is-solved-spec : {M : Type 1} → statement M
 is-solved-spec =
     tie.close
-    (tie.spec
-    Inv-loop
-    μ-loop
-    loop-holds
-    (λ c κs. search needs)
-    returns
-    (λ c. omega arith)
-    (λ c. omega arith)
-    loop-again
-    returns-2)
+    (tie.spec Inv-loop μ-loop loop-holds (λ c κs. search needs) returns (λ c. omega arith) (λ c. omega arith) loop-again returns-2)

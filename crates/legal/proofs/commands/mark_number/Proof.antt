@@ -45,11 +45,4 @@ returns-4 c =
 pub mark-number-spec : {M : Type 1} → statement M
 mark-number-spec =
     tie.close
-    (tie.spec
-    returns
-    (λ c κs. search needs)
-    returns-2
-    node-of-requires
-    (λ c κs. search needs)
-    returns-3
-    returns-4)
+    (tie.spec returns (λ c κs. search needs) returns-2 node-of-requires (λ c κs. search needs) returns-3 returns-4)

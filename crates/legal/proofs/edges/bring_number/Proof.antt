@@ -169,18 +169,5 @@ returns-8 c =
 pub bring-number-spec : {M : Type 1} → statement M
 bring-number-spec =
     tie.close
-    (tie.spec
-    (λ c κs. search needs)
-    (λ c κs. search needs)
-    returns
-    returns-2
-    (λ c κs. search needs)
-    returns-3
-    bring-wrong-requires
-    returns-4
-    returns-5
-    node-of-requires
-    (λ c κs. search needs)
-    returns-6
-    returns-7
-    returns-8)
+    (tie.spec (λ c κs. search needs) (λ c κs. search needs) returns returns-2 (λ c κs. search needs) returns-3 bring-wrong-requires returns-4
+    returns-5 node-of-requires (λ c κs. search needs) returns-6 returns-7 returns-8)

@@ -166,17 +166,5 @@ returns-8 c =
 pub join-number-spec : {M : Type 1} → statement M
 join-number-spec =
     tie.close
-    (tie.spec
-    returns
-    (λ c κs. search needs)
-    returns-2
-    (λ c κs. search needs)
-    returns-3
-    join-wrong-requires
-    returns-4
-    returns-5
-    node-of-requires
-    (λ c κs. search needs)
-    returns-6
-    returns-7
-    returns-8)
+    (tie.spec returns (λ c κs. search needs) returns-2 (λ c κs. search needs) returns-3 join-wrong-requires returns-4 returns-5 node-of-requires
+    (λ c κs. search needs) returns-6 returns-7 returns-8)

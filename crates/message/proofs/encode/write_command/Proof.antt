@@ -73,28 +73,7 @@ returns-6 c =
 pub write-command-spec : {M : Type 1} → statement M
 write-command-spec =
     tie.close
-    (tie.spec
-    (λ c. search needs)
-    write-show-requires
-    (λ c. search needs)
-    write-open-requires
-    (λ c. search needs)
-    write-bring-requires
-    (λ c. search needs)
-    write-join-requires
-    (λ c. search needs)
-    write-mark-requires
-    (λ c. search needs)
-    write-end-requires
-    (λ c. search needs)
-    returns
-    (λ c. search needs)
-    returns-2
-    (λ c. search needs)
-    returns-3
-    (λ c. search needs)
-    returns-4
-    (λ c. search needs)
-    returns-5
-    (λ c. search needs)
+    (tie.spec (λ c. search needs) write-show-requires (λ c. search needs) write-open-requires (λ c. search needs) write-bring-requires
+    (λ c. search needs) write-join-requires (λ c. search needs) write-mark-requires (λ c. search needs) write-end-requires (λ c. search needs) returns
+    (λ c. search needs) returns-2 (λ c. search needs) returns-3 (λ c. search needs) returns-4 (λ c. search needs) returns-5 (λ c. search needs)
     returns-6)

@@ -16,12 +16,4 @@ returns-3 c = sens-at _ _ _ _ (c .before .enum-told3 .given .1) (c .is-sensitive
 pub stops-at-spec : {M : Type 1} → statement M
 stops-at-spec =
     tie.close
-    (tie.spec
-    (λ c. search needs)
-    (λ c κs. search needs)
-    (λ c. search needs)
-    (λ c. search needs)
-    (λ c κs. search needs)
-    returns
-    returns-2
-    returns-3)
+    (tie.spec (λ c. search needs) (λ c κs. search needs) (λ c. search needs) (λ c. search needs) (λ c κs. search needs) returns returns-2 returns-3)

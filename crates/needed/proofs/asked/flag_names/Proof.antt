@@ -32,14 +32,5 @@ returns c = marked-all _ (c .loop-test .left) (c .before .loop .inv)
 pub flag-names-spec : {M : Type 1} → statement M
 flag-names-spec =
     tie.close
-    (tie.spec
-    Inv-loop
-    μ-loop
-    loop-holds
-    element-copy-out-flag-name
-    flag-name-requires
-    element-write-flags
-    (λ c. omega arith)
-    (λ c. omega arith)
-    loop-again
-    returns)
+    (tie.spec Inv-loop μ-loop loop-holds element-copy-out-flag-name flag-name-requires element-write-flags (λ c. omega arith) (λ c. omega arith)
+    loop-again returns)

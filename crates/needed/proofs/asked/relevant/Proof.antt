@@ -45,14 +45,4 @@ returns-2 c = all-closed _ _ (c .before .before .before .before .pre)
 pub relevant-spec : {M : Type 1} → statement M
 relevant-spec =
     tie.close
-    (tie.spec
-    Inv-loop
-    μ-loop
-    flag-asked-requires
-    loop-holds
-    pass-requires
-    returns
-    add-k
-    loop-less
-    loop-again
-    returns-2)
+    (tie.spec Inv-loop μ-loop flag-asked-requires loop-holds pass-requires returns add-k loop-less loop-again returns-2)

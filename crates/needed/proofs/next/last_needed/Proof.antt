@@ -81,14 +81,4 @@ returns-2 c =
 pub last-needed-spec : {M : Type 1} → statement M
 last-needed-spec =
     tie.close
-    (tie.spec
-    Inv-loop
-    μ-loop
-    add-i
-    loop-holds
-    (λ c. omega arith)
-    holds-with-requires
-    returns
-    (λ c. omega arith)
-    loop-again
-    returns-2)
+    (tie.spec Inv-loop μ-loop add-i loop-holds (λ c. omega arith) holds-with-requires returns (λ c. omega arith) loop-again returns-2)

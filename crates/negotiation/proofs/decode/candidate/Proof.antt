@@ -66,18 +66,6 @@ returns c =
 pub candidate-spec : {M : Type 1} → statement M
 candidate-spec =
     tie.close
-    (tie.spec
-    (λ c. search needs)
-    cast-at-most
-    (λ c κs. search needs)
-    (λ c κs. search needs)
-    (λ c. search needs)
-    (λ c κs. search needs)
-    (λ c. search needs)
-    cast-at-most-3
-    (λ c κs. search needs)
-    (λ c κs. search needs)
-    read-nodes-requires
-    read-edges-requires
-    read-shown-requires
+    (tie.spec (λ c. search needs) cast-at-most (λ c κs. search needs) (λ c κs. search needs) (λ c. search needs) (λ c κs. search needs)
+    (λ c. search needs) cast-at-most-3 (λ c κs. search needs) (λ c κs. search needs) read-nodes-requires read-edges-requires read-shown-requires
     returns)

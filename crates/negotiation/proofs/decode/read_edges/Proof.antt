@@ -108,22 +108,6 @@ returns c =
 pub read-edges-spec : {M : Type 1} → statement M
 read-edges-spec =
     tie.close
-    (tie.spec
-    Inv-loop
-    μ-loop
-    (λ c κs. search needs)
-    loop-holds
-    mul-at
-    add-at
-    shared-slice-read-edges
-    element-write-edges
-    add-edges
-    shared-slice-read-edges-2
-    element-write-edges-2
-    add-edges-2
-    shared-slice-read-edges-3
-    element-write-edges-3
-    add-edges-3
-    loop-less
-    loop-again
+    (tie.spec Inv-loop μ-loop (λ c κs. search needs) loop-holds mul-at add-at shared-slice-read-edges element-write-edges add-edges
+    shared-slice-read-edges-2 element-write-edges-2 add-edges-2 shared-slice-read-edges-3 element-write-edges-3 add-edges-3 loop-less loop-again
     returns)

@@ -219,43 +219,8 @@ returns c =
 pub read-nodes-spec : {M : Type 1} → statement M
 read-nodes-spec =
     tie.close
-    (tie.spec
-    Inv-loop
-    μ-loop
-    (λ c κs. search needs)
-    loop-holds
-    mul-at
-    add-at
-    raw-at-requires
-    element-write-nodes
-    element-write-nodes-2
-    mul-nodes
-    element-write-nodes-3
-    mul-nodes-2
-    element-write-nodes-4
-    mul-nodes-3
-    element-write-nodes-5
-    mul-nodes-4
-    element-write-nodes-6
-    mul-nodes-5
-    element-write-nodes-7
-    mul-nodes-6
-    element-write-nodes-8
-    mul-nodes-7
-    element-write-nodes-9
-    mul-nodes-8
-    element-write-nodes-10
-    add-number-at
-    number-at-requires
-    mul-nodes-9
-    element-write-nodes-11
-    add-nodes
-    shared-slice-read-nodes
-    element-write-nodes-12
-    add-nodes-2
-    shared-slice-read-nodes-2
-    element-write-nodes-13
-    add-nodes-3
-    loop-less
-    loop-again
-    returns)
+    (tie.spec Inv-loop μ-loop (λ c κs. search needs) loop-holds mul-at add-at raw-at-requires element-write-nodes element-write-nodes-2 mul-nodes
+    element-write-nodes-3 mul-nodes-2 element-write-nodes-4 mul-nodes-3 element-write-nodes-5 mul-nodes-4 element-write-nodes-6 mul-nodes-5
+    element-write-nodes-7 mul-nodes-6 element-write-nodes-8 mul-nodes-7 element-write-nodes-9 mul-nodes-8 element-write-nodes-10 add-number-at
+    number-at-requires mul-nodes-9 element-write-nodes-11 add-nodes shared-slice-read-nodes element-write-nodes-12 add-nodes-2
+    shared-slice-read-nodes-2 element-write-nodes-13 add-nodes-3 loop-less loop-again returns)

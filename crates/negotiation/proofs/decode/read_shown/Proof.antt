@@ -48,15 +48,5 @@ returns c =
 pub read-shown-spec : {M : Type 1} → statement M
 read-shown-spec =
     tie.close
-    (tie.spec
-    Inv-loop
-    μ-loop
-    loop-holds
-    (λ c. omega arith)
-    (λ c. omega arith)
-    (λ c κs. omega arith)
-    store-requires
-    (λ c. omega arith)
-    (λ c. omega arith)
-    loop-again
-    returns)
+    (tie.spec Inv-loop μ-loop loop-holds (λ c. omega arith) (λ c. omega arith) (λ c κs. omega arith) store-requires (λ c. omega arith)
+    (λ c. omega arith) loop-again returns)

@@ -71,13 +71,5 @@ returns c =
 pub write-spec : {M : Type 1} → statement M
 write-spec =
     tie.close
-    (tie.spec
-    header-bytes-requires
-    (λ c. search needs)
-    (λ c κs. search needs)
-    (λ c κs. search needs)
-    write-nodes-requires
-    write-edges-requires
-    write-shown-requires
-    same-length
-    returns)
+    (tie.spec header-bytes-requires (λ c. search needs) (λ c κs. search needs) (λ c κs. search needs) write-nodes-requires write-edges-requires
+    write-shown-requires same-length returns)

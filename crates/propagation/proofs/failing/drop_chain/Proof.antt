@@ -51,15 +51,5 @@ returns c = (c .before .loop .inv .1, c .before .loop .inv .2)
 pub drop-chain-spec : {M : Type 1} → statement M
 drop-chain-spec =
     tie.close
-    (tie.spec
-    Inv-loop
-    μ-loop
-    loop-holds
-    (λ c. omega arith)
-    drop-edge-requires
-    (λ c. omega arith)
-    element-copy-out-wide16
-    wide16-requires
-    loop-less
-    loop-again
-    returns)
+    (tie.spec Inv-loop μ-loop loop-holds (λ c. omega arith) drop-edge-requires (λ c. omega arith) element-copy-out-wide16 wide16-requires loop-less
+    loop-again returns)

@@ -56,14 +56,4 @@ returns c =
 pub failed-spec : {M : Type 1} → statement M
 failed-spec =
     tie.close
-    (tie.spec
-    Inv-loop
-    μ-loop
-    fail-by-queue-requires
-    loop-holds
-    touched-requires
-    touched-requires-2
-    swept-requires
-    loop-less
-    loop-again
-    returns)
+    (tie.spec Inv-loop μ-loop fail-by-queue-requires loop-holds touched-requires touched-requires-2 swept-requires loop-less loop-again returns)

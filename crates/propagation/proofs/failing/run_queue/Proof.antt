@@ -45,17 +45,5 @@ returns c = c .before .loop .inv .1
 pub run-queue-spec : {M : Type 1} → statement M
 run-queue-spec =
     tie.close
-    (tie.spec
-    Inv-loop
-    μ-loop
-    loop-holds
-    (λ c. omega arith)
-    wide-requires
-    (λ c. omega arith)
-    (λ c. omega arith)
-    wide16-requires
-    drop-chain-requires
-    (λ c. omega arith)
-    (λ c. omega arith)
-    loop-again
-    returns)
+    (tie.spec Inv-loop μ-loop loop-holds (λ c. omega arith) wide-requires (λ c. omega arith) (λ c. omega arith) wide16-requires drop-chain-requires
+    (λ c. omega arith) (λ c. omega arith) loop-again returns)

@@ -40,18 +40,5 @@ returns c = sweep-all _ _ _ _ _ _ _ _ (c .loop-test .left) (c .before .before .p
 pub swept-spec : {M : Type 1} → statement M
 swept-spec =
     tie.close
-    (tie.spec
-    Inv-loop
-    μ-loop
-    loop-holds
-    (λ c. omega arith)
-    (λ c. omega arith)
-    (λ c. omega arith)
-    (λ c. omega arith)
-    fails-anew-requires
-    (λ c. omega arith)
-    add-added
-    (λ c. omega arith)
-    (λ c. omega arith)
-    loop-again
-    returns)
+    (tie.spec Inv-loop μ-loop loop-holds (λ c. omega arith) (λ c. omega arith) (λ c. omega arith) (λ c. omega arith) fails-anew-requires
+    (λ c. omega arith) add-added (λ c. omega arith) (λ c. omega arith) loop-again returns)

@@ -67,19 +67,5 @@ returns c = tally-all _ _ _ _ (c .before .loop .inv .0) (c .loop-test .left) (c 
 pub tally-spec : {M : Type 1} → statement M
 tally-spec =
     tie.close
-    (tie.spec
-    Inv-loop
-    μ-loop
-    loop-holds
-    (λ c. omega arith)
-    (λ c. omega arith)
-    wide16-requires
-    (λ c. omega arith)
-    (λ c. omega arith)
-    array-read-left
-    add-left
-    array-write-left
-    (λ c. omega arith)
-    (λ c. omega arith)
-    loop-again
-    returns)
+    (tie.spec Inv-loop μ-loop loop-holds (λ c. omega arith) (λ c. omega arith) wide16-requires (λ c. omega arith) (λ c. omega arith) array-read-left
+    add-left array-write-left (λ c. omega arith) (λ c. omega arith) loop-again returns)

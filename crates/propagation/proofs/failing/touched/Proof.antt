@@ -56,18 +56,5 @@ returns c = touch-all _ _ _ _ _ _ (c .before .loop .inv .0) (c .loop-test .left)
 pub touched-spec : {M : Type 1} → statement M
 touched-spec =
     tie.close
-    (tie.spec
-    Inv-loop
-    μ-loop
-    loop-holds
-    (λ c. omega arith)
-    (λ c. omega arith)
-    wide16-requires
-    (λ c. omega arith)
-    wide-requires
-    is-at-requires
-    array-write-r
-    (λ c. omega arith)
-    (λ c. omega arith)
-    loop-again
-    returns)
+    (tie.spec Inv-loop μ-loop loop-holds (λ c. omega arith) (λ c. omega arith) wide16-requires (λ c. omega arith) wide-requires is-at-requires
+    array-write-r (λ c. omega arith) (λ c. omega arith) loop-again returns)

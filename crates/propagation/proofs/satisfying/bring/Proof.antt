@@ -22,10 +22,4 @@ returns c =
 pub bring-spec : {M : Type 1} → statement M
 bring-spec =
     tie.close
-    (tie.spec
-    (λ c. search needs)
-    (λ c. search needs)
-    (λ c κs. search needs)
-    element-write-got
-    mark-requires
-    returns)
+    (tie.spec (λ c. search needs) (λ c. search needs) (λ c κs. search needs) element-write-got mark-requires returns)

@@ -40,15 +40,5 @@ returns-3 c =
 pub insert-spec : {M : Type 1} → statement M
 insert-spec =
     tie.close
-    (tie.spec
-    (λ c κs. search needs)
-    (λ c. search needs)
-    (λ c κs. search needs)
-    (λ c. search needs)
-    (λ c. search needs)
-    bring-requires
-    (λ c. search needs)
-    settle-requires
-    (λ c. search needs)
-    returns-2
-    returns-3)
+    (tie.spec (λ c κs. search needs) (λ c. search needs) (λ c κs. search needs) (λ c. search needs) (λ c. search needs) bring-requires
+    (λ c. search needs) settle-requires (λ c. search needs) returns-2 returns-3)

@@ -36,13 +36,4 @@ returns c = settled-at (c .before .loop .inv .0) (c .loop-test .left) (c .before
 pub satisfied-spec : {M : Type 1} → statement M
 satisfied-spec =
     tie.close
-    (tie.spec
-    Inv-loop
-    μ-loop
-    seed-requires
-    loop-holds
-    insert-requires
-    (λ c. omega arith)
-    (λ c. omega arith)
-    loop-again
-    returns)
+    (tie.spec Inv-loop μ-loop seed-requires loop-holds insert-requires (λ c. omega arith) (λ c. omega arith) loop-again returns)

@@ -44,13 +44,4 @@ returns c = done-all _ (c .loop-test .left) (c .before .loop .inv)
 pub settle-spec : {M : Type 1} → statement M
 settle-spec =
     tie.close
-    (tie.spec
-    Inv-loop
-    μ-loop
-    loop-holds
-    element-copy-out-v
-    visit-requires
-    add-q
-    loop-less
-    loop-again
-    returns)
+    (tie.spec Inv-loop μ-loop loop-holds element-copy-out-v visit-requires add-q loop-less loop-again returns)

@@ -73,22 +73,5 @@ returns c = visit-all (c .loop-test .left) (c .before .loop .inv)
 pub visit-spec : {M : Type 1} → statement M
 visit-spec =
     tie.close
-    (tie.spec
-    Inv-loop
-    μ-loop
-    wide-requires
-    (λ c. omega arith)
-    (λ c. omega arith)
-    wide16-requires
-    loop-holds
-    (λ c. omega arith)
-    mul-wide16-2
-    element-copy-out-wide16-2
-    wide16-requires-2
-    element-copy-out-if1
-    bring-requires
-    loop-less
-    loop-again
-    (λ c. omega arith)
-    loop-again-2
-    returns)
+    (tie.spec Inv-loop μ-loop wide-requires (λ c. omega arith) (λ c. omega arith) wide16-requires loop-holds (λ c. omega arith) mul-wide16-2
+    element-copy-out-wide16-2 wide16-requires-2 element-copy-out-if1 bring-requires loop-less loop-again (λ c. omega arith) loop-again-2 returns)

@@ -16,12 +16,4 @@ returns-3 c = whole _ _ _ (c .before .before .before .before .if1 .left) (sym (c
 pub credential-step-spec : {M : Type 1} → statement M
 credential-step-spec =
     tie.close
-    (tie.spec
-    (λ c. search needs)
-    returns
-    (λ c. search needs)
-    (λ c κs. search needs)
-    (λ c. search needs)
-    (λ c. search needs)
-    returns-2
-    returns-3)
+    (tie.spec (λ c. search needs) returns (λ c. search needs) (λ c κs. search needs) (λ c. search needs) (λ c. search needs) returns-2 returns-3)

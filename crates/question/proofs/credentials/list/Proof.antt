@@ -75,19 +75,5 @@ returns-3 c = list-past (c .before .loop .inv .0) (c .loop-test .left) (c .befor
 pub list-spec : {M : Type 1} → statement M
 list-spec =
     tie.close
-    (tie.spec
-    Inv-loop
-    μ-loop
-    loop-holds
-    (λ c κs. search needs)
-    (λ c. search needs)
-    store-requires
-    add-count
-    (λ c. search needs)
-    (λ c. omega arith)
-    loop-again
-    (λ c. search needs)
-    returns
-    (λ c. search needs)
-    returns-2
-    returns-3)
+    (tie.spec Inv-loop μ-loop loop-holds (λ c κs. search needs) (λ c. search needs) store-requires add-count (λ c. search needs) (λ c. omega arith)
+    loop-again (λ c. search needs) returns (λ c. search needs) returns-2 returns-3)

@@ -39,12 +39,4 @@ returns-4 c =
 pub asked-body-spec : {M : Type 1} → statement M
 asked-body-spec =
     tie.close
-    (tie.spec
-    returns
-    (λ c. search needs)
-    (λ c. search needs)
-    returns-2
-    returns-3
-    (λ c κs. search needs)
-    asked-rows-requires
-    returns-4)
+    (tie.spec returns (λ c. search needs) (λ c. search needs) returns-2 returns-3 (λ c κs. search needs) asked-rows-requires returns-4)

@@ -66,21 +66,6 @@ returns-5 c = c .before .before .pre ∙ rw (c .enum-told3 .given .1)
 pub asked-rows-spec : {M : Type 1} → statement M
 asked-rows-spec =
     tie.close
-    (tie.spec
-    (λ c. search needs)
-    (λ c. search needs)
-    asked-row-requires
-    (λ c. search needs)
-    (λ c. search needs)
-    asked-row-requires-2
-    asked-row-requires-3
-    (λ c κs. search needs)
-    asked-row-requires-4
-    (λ c κs. search needs)
-    asked-row-requires-5
-    (λ c. search needs)
-    returns
-    returns-2
-    returns-3
-    returns-4
-    returns-5)
+    (tie.spec (λ c. search needs) (λ c. search needs) asked-row-requires (λ c. search needs) (λ c. search needs) asked-row-requires-2
+    asked-row-requires-3 (λ c κs. search needs) asked-row-requires-4 (λ c κs. search needs) asked-row-requires-5 (λ c. search needs) returns returns-2
+    returns-3 returns-4 returns-5)

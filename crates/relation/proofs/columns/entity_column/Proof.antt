@@ -57,15 +57,5 @@ returns-2 c =
 pub entity-column-spec : {M : Type 1} → statement M
 entity-column-spec =
     tie.close
-    (tie.spec
-    Inv-loop
-    μ-loop
-    (λ c κs. search needs)
-    returns
-    loop-holds
-    bit-requires
-    mark-requires
-    (λ c. omega arith)
-    (λ c. omega arith)
-    loop-again
+    (tie.spec Inv-loop μ-loop (λ c κs. search needs) returns loop-holds bit-requires mark-requires (λ c. omega arith) (λ c. omega arith) loop-again
     returns-2)

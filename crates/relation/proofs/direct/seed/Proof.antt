@@ -39,15 +39,5 @@ returns-2 c =
 pub seed-spec : {M : Type 1} → statement M
 seed-spec =
     tie.close
-    (tie.spec
-    (λ c. search needs)
-    (λ c. search needs)
-    returns
-    (λ c. search needs)
-    (λ c. search needs)
-    (λ c. search needs)
-    find-source-requires
-    (λ c. search needs)
-    (λ c. search needs)
-    mark-requires
-    returns-2)
+    (tie.spec (λ c. search needs) (λ c. search needs) returns (λ c. search needs) (λ c. search needs) (λ c. search needs) find-source-requires
+    (λ c. search needs) (λ c. search needs) mark-requires returns-2)

@@ -54,14 +54,5 @@ returns c =
 pub seeds-spec : {M : Type 1} → statement M
 seeds-spec =
     tie.close
-    (tie.spec
-    Inv-loop
-    μ-loop
-    note-bodies-requires
-    loop-holds
-    (λ c. omega arith)
-    seed-requires
-    (λ c. omega arith)
-    (λ c. omega arith)
-    loop-again
+    (tie.spec Inv-loop μ-loop note-bodies-requires loop-holds (λ c. omega arith) seed-requires (λ c. omega arith) (λ c. omega arith) loop-again
     returns)

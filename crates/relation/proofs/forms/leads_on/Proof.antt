@@ -62,14 +62,4 @@ returns-2 c =
 pub leads-on-spec : {M : Type 1} → statement M
 leads-on-spec =
     tie.close
-    (tie.spec
-    Inv-loop
-    μ-loop
-    note-bodies-requires
-    loop-holds
-    leads-requires
-    returns
-    (λ c. omega arith)
-    (λ c. omega arith)
-    loop-again
-    returns-2)
+    (tie.spec Inv-loop μ-loop note-bodies-requires loop-holds leads-requires returns (λ c. omega arith) (λ c. omega arith) loop-again returns-2)

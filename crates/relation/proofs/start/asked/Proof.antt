@@ -103,21 +103,5 @@ returns c =
 pub asked-spec : {M : Type 1} → statement M
 asked-spec =
     tie.close
-    (tie.spec
-    Inv-loop
-    μ-loop
-    raw-of-requires
-    own-source-requires
-    own-row-requires
-    mark-requires
-    read-too-requires
-    loop-holds
-    starts-requires
-    (λ c. omega arith)
-    (λ c. omega arith)
-    mark-requires-2
-    read-too-requires-2
-    (λ c. omega arith)
-    (λ c. omega arith)
-    loop-again
-    returns)
+    (tie.spec Inv-loop μ-loop raw-of-requires own-source-requires own-row-requires mark-requires read-too-requires loop-holds starts-requires
+    (λ c. omega arith) (λ c. omega arith) mark-requires-2 read-too-requires-2 (λ c. omega arith) (λ c. omega arith) loop-again returns)

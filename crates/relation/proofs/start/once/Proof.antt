@@ -44,17 +44,5 @@ returns-6 c = rw (sym (c .before .before .before .same .ensures) ∙ c .before .
 pub once-spec : {M : Type 1} → statement M
 once-spec =
     tie.close
-    (tie.spec
-    (λ c κs. search needs)
-    returns
-    (λ c. search needs)
-    (λ c. search needs)
-    (λ c. search needs)
-    own-requires
-    (λ c. search needs)
-    (λ c. search needs)
-    returns-2
-    returns-3
-    returns-4
-    returns-5
-    returns-6)
+    (tie.spec (λ c κs. search needs) returns (λ c. search needs) (λ c. search needs) (λ c. search needs) own-requires (λ c. search needs)
+    (λ c. search needs) returns-2 returns-3 returns-4 returns-5 returns-6)

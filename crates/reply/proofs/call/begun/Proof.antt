@@ -35,13 +35,5 @@ returns-2 c =
 pub begun-spec : {M : Type 1} → statement M
 begun-spec =
     tie.close
-    (tie.spec
-    (λ c κs. search needs)
-    returns
-    (λ c κs. search needs)
-    write-command-requires
-    step-requires
-    (λ c κs. search needs)
-    (λ c κs. search needs)
-    (λ c. search needs)
-    returns-2)
+    (tie.spec (λ c κs. search needs) returns (λ c κs. search needs) write-command-requires step-requires (λ c κs. search needs) (λ c κs. search needs)
+    (λ c. search needs) returns-2)

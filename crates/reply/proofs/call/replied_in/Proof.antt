@@ -101,18 +101,5 @@ returns-3 c =
 pub replied-in-spec : {M : Type 1} → statement M
 replied-in-spec =
     tie.close
-    (tie.spec
-    (λ c κs. search needs)
-    returns
-    (λ c κs. search needs)
-    (λ c κs. search needs)
-    returns-2
-    (λ c κs. search needs)
-    (λ c κs. search needs)
-    reply-from-requires
-    after-message-requires
-    write-command-requires
-    (λ c. search needs)
-    (λ c κs. search needs)
-    same-length
-    returns-3)
+    (tie.spec (λ c κs. search needs) returns (λ c κs. search needs) (λ c κs. search needs) returns-2 (λ c κs. search needs) (λ c κs. search needs)
+    reply-from-requires after-message-requires write-command-requires (λ c. search needs) (λ c κs. search needs) same-length returns-3)

@@ -93,20 +93,6 @@ returns-4 c =
 pub reply-spec : {M : Type 1} → statement M
 reply-spec =
     tie.close
-    (tie.spec
-    (λ c κs. search needs)
-    returns
-    (λ c κs. search needs)
-    (λ c. search needs)
-    returns-2
-    replied-in-requires
-    (λ c. search needs)
-    (λ c. search needs)
-    returns-3
-    write-requires
-    write-zeros-requires
-    mul-result
-    (λ c. search needs)
-    (λ c. search needs)
-    (λ c. search needs)
+    (tie.spec (λ c κs. search needs) returns (λ c κs. search needs) (λ c. search needs) returns-2 replied-in-requires (λ c. search needs)
+    (λ c. search needs) returns-3 write-requires write-zeros-requires mul-result (λ c. search needs) (λ c. search needs) (λ c. search needs)
     returns-4)

@@ -48,12 +48,5 @@ returns c =
 pub carry-spec : {M : Type 1} → statement M
 carry-spec =
     tie.close
-    (tie.spec
-    show-all-requires
-    count-on-requires
-    (λ c. search needs)
-    (λ c. search needs)
-    write-command-requires
-    step-requires
-    (λ c. search needs)
+    (tie.spec show-all-requires count-on-requires (λ c. search needs) (λ c. search needs) write-command-requires step-requires (λ c. search needs)
     returns)

@@ -46,14 +46,4 @@ returns c = (
 pub count-on-spec : {M : Type 1} → statement M
 count-on-spec =
     tie.close
-    (tie.spec
-    Inv-loop
-    μ-loop
-    loop-holds
-    element-copy-out-one-if
-    (λ c κs. search needs)
-    add-n
-    add-k
-    loop-less
-    loop-again
-    returns)
+    (tie.spec Inv-loop μ-loop loop-holds element-copy-out-one-if (λ c κs. search needs) add-n add-k loop-less loop-again returns)

@@ -78,19 +78,5 @@ returns c = showing-end _ _ _ _ _ (c .before .before .loop .inv) (c .if1 .left)
 pub show-all-spec : {M : Type 1} → statement M
 show-all-spec =
     tie.close
-    (tie.spec
-    Inv-loop
-    μ-loop
-    next-flagged-requires
-    loop-holds
-    array-read-flag
-    show-at-requires
-    (λ c κs. search needs)
-    mul-at
-    add-at
-    add-next-flagged
-    next-flagged-requires-2
-    loop-less
-    loop-again
-    same-length
-    returns)
+    (tie.spec Inv-loop μ-loop next-flagged-requires loop-holds array-read-flag show-at-requires (λ c κs. search needs) mul-at add-at add-next-flagged
+    next-flagged-requires-2 loop-less loop-again same-length returns)

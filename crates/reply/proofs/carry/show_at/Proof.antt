@@ -33,10 +33,4 @@ returns-2 c =
 pub show-at-spec : {M : Type 1} → statement M
 show-at-spec =
     tie.close
-    (tie.spec
-    returns
-    (λ c κs. search needs)
-    write-command-requires
-    show-requires
-    (λ c. search needs)
-    returns-2)
+    (tie.spec returns (λ c κs. search needs) write-command-requires show-requires (λ c. search needs) returns-2)

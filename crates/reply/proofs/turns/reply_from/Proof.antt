@@ -236,39 +236,7 @@ returns-5 c =
 pub reply-from-spec : {M : Type 1} → statement M
 reply-from-spec =
     tie.close
-    (tie.spec
-    Inv-loop
-    μ-loop
-    loop-holds
-    node-states-requires
-    (λ c. search needs)
-    (λ c κs. search needs)
-    same-length
-    returns
-    resting-requires
-    next-choice-requires
-    (λ c κs. search needs)
-    (λ c κs. search needs)
-    same-length-2
-    returns-2
-    outgoing-requires
-    room-for-requires
-    (λ c κs. search needs)
-    same-length-3
-    returns-3
-    size-of-outgoing-requires
-    add-if4
-    add-if4-2
-    (λ c κs. search needs)
-    same-length-4
-    returns-4
-    carry-requires
-    add-at
-    (λ c κs. search needs)
-    (λ c κs. search needs)
-    sub-left
-    loop-less
-    loop-again
-    (λ c κs. search needs)
-    same-length-5
-    returns-5)
+    (tie.spec Inv-loop μ-loop loop-holds node-states-requires (λ c. search needs) (λ c κs. search needs) same-length returns resting-requires
+    next-choice-requires (λ c κs. search needs) (λ c κs. search needs) same-length-2 returns-2 outgoing-requires room-for-requires
+    (λ c κs. search needs) same-length-3 returns-3 size-of-outgoing-requires add-if4 add-if4-2 (λ c κs. search needs) same-length-4 returns-4
+    carry-requires add-at (λ c κs. search needs) (λ c κs. search needs) sub-left loop-less loop-again (λ c κs. search needs) same-length-5 returns-5)

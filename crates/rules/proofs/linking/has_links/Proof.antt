@@ -41,13 +41,4 @@ returns-2 c = nowhere (hasLink (pool (c .before .before))) (c .before .loop .i) 
 pub has-links-spec : {M : Type 1} → statement M
 has-links-spec =
     tie.close
-    (tie.spec
-    Inv-loop
-    μ-loop
-    loop-holds
-    (λ c κs. omega arith)
-    returns
-    (λ c. omega arith)
-    (λ c. omega arith)
-    loop-again
-    returns-2)
+    (tie.spec Inv-loop μ-loop loop-holds (λ c κs. omega arith) returns (λ c. omega arith) (λ c. omega arith) loop-again returns-2)

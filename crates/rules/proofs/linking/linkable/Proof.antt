@@ -60,17 +60,5 @@ returns-2 c =
 pub linkable-spec : {M : Type 1} → statement M
 linkable-spec =
     tie.close
-    (tie.spec
-    Inv-loop
-    μ-loop
-    returns
-    note-bodies-requires
-    loop-holds
-    link-source-requires
-    (λ c. omega arith)
-    (λ c. omega arith)
-    (λ c. omega arith)
-    (λ c. omega arith)
-    (λ c. omega arith)
-    loop-again
-    returns-2)
+    (tie.spec Inv-loop μ-loop returns note-bodies-requires loop-holds link-source-requires (λ c. omega arith) (λ c. omega arith) (λ c. omega arith)
+    (λ c. omega arith) (λ c. omega arith) loop-again returns-2)

@@ -47,13 +47,4 @@ returns c =
 pub name-row-spec : {M : Type 1} → statement M
 name-row-spec =
     tie.close
-    (tie.spec
-    Inv-loop
-    μ-loop
-    loop-holds
-    (λ c κs. omega arith)
-    mark-requires
-    (λ c. omega arith)
-    (λ c. omega arith)
-    loop-again
-    returns)
+    (tie.spec Inv-loop μ-loop loop-holds (λ c κs. omega arith) mark-requires (λ c. omega arith) (λ c. omega arith) loop-again returns)

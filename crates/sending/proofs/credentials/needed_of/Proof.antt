@@ -40,11 +40,4 @@ returns-2 c =
 pub needed-of-spec : {M : Type 1} → statement M
 needed-of-spec =
     tie.close
-    (tie.spec
-    (λ c κs. search needs)
-    (λ c κs. search needs)
-    part-of-requires
-    needed-requires
-    returns
-    with-rest-requires
-    returns-2)
+    (tie.spec (λ c κs. search needs) (λ c κs. search needs) part-of-requires needed-requires returns with-rest-requires returns-2)

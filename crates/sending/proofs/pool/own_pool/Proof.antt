@@ -56,15 +56,5 @@ returns c = (
 pub own-pool-spec : {M : Type 1} → statement M
 own-pool-spec =
     tie.close
-    (tie.spec
-    Inv-loop
-    μ-loop
-    loop-holds
-    (λ c κs. search needs)
-    (λ c. search needs)
-    (λ c κs. search needs)
-    store-if-requires
-    (λ c. omega arith)
-    (λ c. omega arith)
-    loop-again
-    returns)
+    (tie.spec Inv-loop μ-loop loop-holds (λ c κs. search needs) (λ c. search needs) (λ c κs. search needs) store-if-requires (λ c. omega arith)
+    (λ c. omega arith) loop-again returns)

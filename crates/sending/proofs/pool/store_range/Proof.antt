@@ -68,13 +68,4 @@ returns c = selected-all _ _ (omega (arith, c .loop-test .left, c .before .loop 
 pub store-range-spec : {M : Type 1} → statement M
 store-range-spec =
     tie.close
-    (tie.spec
-    Inv-loop
-    μ-loop
-    loop-holds
-    element-copy-out-store-flagged
-    store-flagged-requires
-    add-i
-    loop-less
-    loop-again
-    returns)
+    (tie.spec Inv-loop μ-loop loop-holds element-copy-out-store-flagged store-flagged-requires add-i loop-less loop-again returns)

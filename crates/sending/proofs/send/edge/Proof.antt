@@ -49,12 +49,4 @@ returns-3 c =
 pub edge-spec : {M : Type 1} → statement M
 edge-spec =
     tie.close
-    (tie.spec
-    edge-command-requires
-    (λ c κs. search needs)
-    returns
-    node-of-requires
-    direct-for-requires
-    returns-2
-    needed-for-requires
-    returns-3)
+    (tie.spec edge-command-requires (λ c κs. search needs) returns node-of-requires direct-for-requires returns-2 needed-for-requires returns-3)

@@ -39,12 +39,4 @@ returns-3 c =
 pub slot-by-spec : {M : Type 1} → statement M
 slot-by-spec =
     tie.close
-    (tie.spec
-    (λ c κs. search needs)
-    (λ c κs. search needs)
-    returns
-    slot-as-requires
-    returns-2
-    (λ c. search needs)
-    (λ c. search needs)
-    returns-3)
+    (tie.spec (λ c κs. search needs) (λ c κs. search needs) returns slot-as-requires returns-2 (λ c. search needs) (λ c. search needs) returns-3)

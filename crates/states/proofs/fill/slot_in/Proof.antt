@@ -88,15 +88,5 @@ returns-7 c =
 pub slot-in-spec : {M : Type 1} → statement M
 slot-in-spec =
     tie.close
-    (tie.spec
-    (λ c κs. search needs)
-    returns
-    (λ c κs. search needs)
-    returns-2
-    returns-3
-    (λ c κs. search needs)
-    returns-4
-    returns-5
-    (λ c κs. search needs)
-    returns-6
-    returns-7)
+    (tie.spec (λ c κs. search needs) returns (λ c κs. search needs) returns-2 returns-3 (λ c κs. search needs) returns-4 returns-5
+    (λ c κs. search needs) returns-6 returns-7)

@@ -15,11 +15,4 @@ returns-2 c = rw (sym (c .before .before .before .before .read-record .ensures))
 pub next-name-spec : {M : Type 1} → statement M
 next-name-spec =
     tie.close
-    (tie.spec
-    (λ c κs. search needs)
-    (λ c. search needs)
-    (λ c. search needs)
-    (λ c κs. search needs)
-    returns
-    (λ c κs. search needs)
-    returns-2)
+    (tie.spec (λ c κs. search needs) (λ c. search needs) (λ c. search needs) (λ c κs. search needs) returns (λ c κs. search needs) returns-2)

@@ -56,17 +56,5 @@ returns-2 c = names-past (c .before .loop .inv) (c .loop-test .left)
 pub read-names-spec : {M : Type 1} → statement M
 read-names-spec =
     tie.close
-    (tie.spec
-    Inv-loop
-    μ-loop
-    loop-holds
-    (λ c κs. search needs)
-    (λ c. search needs)
-    store-name-requires
-    add-count
-    (λ c. search needs)
-    (λ c. omega arith)
-    loop-again
-    (λ c. search needs)
-    returns
-    returns-2)
+    (tie.spec Inv-loop μ-loop loop-holds (λ c κs. search needs) (λ c. search needs) store-name-requires add-count (λ c. search needs)
+    (λ c. omega arith) loop-again (λ c. search needs) returns returns-2)

@@ -82,12 +82,5 @@ returns-3 c =
 pub decode-pairs-spec : {M : Type 1} → statement M
 decode-pairs-spec =
     tie.close
-    (tie.spec
-    (λ c κs. search needs)
-    (λ c κs. search needs)
-    returns
-    read-pairs-requires-2
-    (λ c κs. search needs)
-    returns-2
-    left-over-requires
+    (tie.spec (λ c κs. search needs) (λ c κs. search needs) returns read-pairs-requires-2 (λ c κs. search needs) returns-2 left-over-requires
     returns-3)

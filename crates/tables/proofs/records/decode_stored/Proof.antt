@@ -51,12 +51,5 @@ returns-3 c =
 pub decode-stored-spec : {M : Type 1} → statement M
 decode-stored-spec =
     tie.close
-    (tie.spec
-    (λ c κs. search needs)
-    (λ c κs. search needs)
-    returns
-    (λ c κs. search needs)
-    (λ c κs. search needs)
-    returns-2
-    decode-pairs-requires
+    (tie.spec (λ c κs. search needs) (λ c κs. search needs) returns (λ c κs. search needs) (λ c κs. search needs) returns-2 decode-pairs-requires
     returns-3)

@@ -62,17 +62,5 @@ returns-2 c = pairs-past (c .before .loop .inv) (c .loop-test .left)
 pub read-pairs-spec : {M : Type 1} → statement M
 read-pairs-spec =
     tie.close
-    (tie.spec
-    Inv-loop
-    μ-loop
-    loop-holds
-    (λ c κs. search needs)
-    (λ c. search needs)
-    store-pair-requires
-    add-count
-    (λ c. search needs)
-    (λ c. omega arith)
-    loop-again
-    (λ c. search needs)
-    returns
-    returns-2)
+    (tie.spec Inv-loop μ-loop loop-holds (λ c κs. search needs) (λ c. search needs) store-pair-requires add-count (λ c. search needs)
+    (λ c. omega arith) loop-again (λ c. search needs) returns returns-2)

@@ -71,17 +71,5 @@ returns-2 c = stored-past (c .before .loop .inv) (c .loop-test .left)
 pub read-stored-spec : {M : Type 1} → statement M
 read-stored-spec =
     tie.close
-    (tie.spec
-    Inv-loop
-    μ-loop
-    loop-holds
-    next-stored-requires
-    (λ c. search needs)
-    store-requires
-    add-count
-    (λ c. search needs)
-    (λ c. omega arith)
-    loop-again
-    (λ c. search needs)
-    returns
-    returns-2)
+    (tie.spec Inv-loop μ-loop loop-holds next-stored-requires (λ c. search needs) store-requires add-count (λ c. search needs) (λ c. omega arith)
+    loop-again (λ c. search needs) returns returns-2)

@@ -75,17 +75,5 @@ returns-4 c =
 pub take-spec : {M : Type 1} → statement M
 take-spec =
     tie.close
-    (tie.spec
-    (λ c κs. search needs)
-    returns
-    (λ c κs. search needs)
-    (λ c. search needs)
-    returns-2
-    taken-in-requires
-    (λ c. search needs)
-    returns-3
-    write-requires
-    write-zeros-requires
-    (λ c. search needs)
-    (λ c. search needs)
-    returns-4)
+    (tie.spec (λ c κs. search needs) returns (λ c κs. search needs) (λ c. search needs) returns-2 taken-in-requires (λ c. search needs) returns-3
+    write-requires write-zeros-requires (λ c. search needs) (λ c. search needs) returns-4)

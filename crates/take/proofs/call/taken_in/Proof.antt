@@ -50,15 +50,5 @@ returns-4 c =
 pub taken-in-spec : {M : Type 1} → statement M
 taken-in-spec =
     tie.close
-    (tie.spec
-    (λ c κs. search needs)
-    returns
-    (λ c κs. search needs)
-    (λ c κs. search needs)
-    (λ c κs. search needs)
-    returns-2
-    take-commands-requires
-    returns-3
-    after-message-requires
-    (λ c κs. search needs)
-    returns-4)
+    (tie.spec (λ c κs. search needs) returns (λ c κs. search needs) (λ c κs. search needs) (λ c κs. search needs) returns-2 take-commands-requires
+    returns-3 after-message-requires (λ c κs. search needs) returns-4)

@@ -120,29 +120,6 @@ returns-3 c = reading-past _ _ _ (c .before .before .loop .inv .0) _ (c .before 
 pub take-commands-spec : {M : Type 1} → statement M
 take-commands-spec =
     tie.close
-    (tie.spec
-    Inv-loop
-    μ-loop
-    (λ c κs. search needs)
-    (λ c κs. search needs)
-    loop-holds
-    (λ c κs. search needs)
-    (λ c. search needs)
-    (λ c. search needs)
-    (λ c κs. search needs)
-    (λ c κs. search needs)
-    returns
-    (λ c κs. search needs)
-    proved-by-requires
-    ready-requires
-    is-proved-requires
-    judge-requires
-    (λ c κs. search needs)
-    (λ c κs. search needs)
-    returns-2
-    carried-requires
-    step-requires
-    loop-less
-    loop-again
-    (λ c κs. search needs)
-    returns-3)
+    (tie.spec Inv-loop μ-loop (λ c κs. search needs) (λ c κs. search needs) loop-holds (λ c κs. search needs) (λ c. search needs) (λ c. search needs)
+    (λ c κs. search needs) (λ c κs. search needs) returns (λ c κs. search needs) proved-by-requires ready-requires is-proved-requires judge-requires
+    (λ c κs. search needs) (λ c κs. search needs) returns-2 carried-requires step-requires loop-less loop-again (λ c κs. search needs) returns-3)

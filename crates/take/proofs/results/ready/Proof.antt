@@ -27,10 +27,4 @@ returns-2 c =
 pub ready-spec : {M : Type 1} → statement M
 ready-spec =
     tie.close
-    (tie.spec
-    (λ c κs. search needs)
-    (λ c κs. search needs)
-    returns
-    satisfied-nodes-requires
-    is-inside-requires
-    returns-2)
+    (tie.spec (λ c κs. search needs) (λ c κs. search needs) returns satisfied-nodes-requires is-inside-requires returns-2)
