@@ -126,21 +126,14 @@ module _ {P : State → Type 0} (k : Stays P) (after : (S : State) (m full : Boo
   unfolding repliedIn repliedState
   given-kept m e = go (not (eqb (S .header .end) 0)) (not (K.sends (S .header .side) (S .header .messages))) e
     where
-      left : Answer (List ℕ × State) → State
-      left (refused n) = S
-      left (accepted (m, B)) = B
-
-      isGiven : Answer (List ℕ × State) → Bool
-      isGiven (refused n) = false
-      isGiven (accepted (m, B)) = true
-
       r : Replied
       r = replyIn W S
 
-      go : (b d : Bool) → cond b (refused ENDED) (cond d (refused TURN) (accepted (replyBytes r, repliedState r))) ≡ accepted (m, A) → P A
-      go true d q = absurd (false-true (ap isGiven q))
-      go false true q = absurd (false-true (ap isGiven q))
-      go false false q = subst P (ap left q) (after (r .state) (moved (r .commands)) (r .full) (reply-stays k W S h))
+      go : (b d : Bool) → cond {A = Answer (List ℕ × State)} b (refused ENDED) (cond d (refused TURN) (accepted (replyBytes r, repliedState r)))
+          ≡ accepted (m, A) → P A
+      go true d q = absurd (false-true (ap isAccepted q))
+      go false true q = absurd (false-true (ap isAccepted q))
+      go false false q = subst P (ap (secondOf S) q) (after (r .state) (moved (r .commands)) (r .full) (reply-stays k W S h))
 
   taken-kept : (m : List ℕ) → takenIn m W S ≡ accepted A → P A
   taken-kept m e =

@@ -25,26 +25,27 @@ use Rattle.begin.specs.laws.Kept.{begin-undamaged}
 use Rattle.runs.specs.Runs.{Call, take, reply, report, takenTo, givenTo, afterCall, after}
 use Rattle.numbers.specs.Answer.{Answer, refused, accepted}
 use Rattle.applied.specs.laws.After.{after-within}
-use Rattle.numbers.specs.Refusals.{LENGTH}
+use Rattle.numbers.specs.Refusals.{LENGTH, DAMAGED}
+use Rattle.numbers.specs.Sizes.{NEGOTIATION-BYTES}
 
 -- What a call finds in the bytes of a state
 
 -- a refusal, or that state
 pub data Finds (T : Tables) (S : State) (x : Answer (Tables × State)) : Type 0 where
-  refused : (k : ℕ) → x ≡ refused k → Finds T S x
-  found : x ≡ accepted (T, S) → Finds T S x
+  none-found : (k : ℕ) → x ≡ refused k → Finds T S x
+  state-found : x ≡ accepted (T, S) → Finds T S x
 
 pub finds : (tables : List ℕ) (T : Tables) (S : State) → C.readTables tables ≡ accepted T → within S ≡ true → Finds T S (R.restoreOf tables (stateBytes S))
 unfolding R.restoreOf readSound
 finds tables T S h w =
-    let b : Bool = eqb (length (stateBytes S)) 5120 in
+    let b : Bool = eqb (length (stateBytes S)) NEGOTIATION-BYTES in
     go b (sound T S) (ap (λ (o : Answer Tables). cond b (R.behindTables (stateBytes S) o) (refused LENGTH)) h
     ∙ ap (λ (x : Option State). cond b (R.behindDamage T (ifSound T x)) (refused LENGTH)) (state-back S w))
   where
     go : {x : Answer (Tables × State)} (b c : Bool) → x ≡ cond b (R.behindDamage T (cond c (some S) none)) (refused LENGTH) → Finds T S x
-    go true true e = found e
-    go true false e = refused 20 e
-    go false c e = refused 1 e
+    go true true e = state-found e
+    go true false e = none-found DAMAGED e
+    go false c e = none-found LENGTH e
 
 -- What a message accepted and a reply given keep, calls keep
 
@@ -65,8 +66,9 @@ module _ {P : State → Type 0} (k : Keeps P) (tables : List ℕ) (T : Tables) (
 
       sized : (b : Bool) (x : Answer (Tables × State)) → Finds T S x → P (takenTo S (cond b (K.behindStanding message x) (refused LENGTH)))
       sized false x f = p
-      sized true x (refused n e) = subst (λ (v : Answer (Tables × State)). P (takenTo S (K.behindStanding message v))) (sym e) p
-      sized true x (found e) = subst (λ (v : Answer (Tables × State)). P (takenTo S (K.behindStanding message v))) (sym e) (led (K.takenIn message T S) refl)
+      sized true x (none-found n e) = subst (λ (v : Answer (Tables × State)). P (takenTo S (K.behindStanding message v))) (sym e) p
+      sized true x (state-found e) =
+          subst (λ (v : Answer (Tables × State)). P (takenTo S (K.behindStanding message v))) (sym e) (led (K.takenIn message T S) refl)
 
   reply-keeps : (S : State) (buffer scratch : List ℕ) → P S → P (givenTo S (A.replyOf tables (stateBytes S) buffer scratch))
   unfolding A.replyOf
@@ -78,8 +80,8 @@ module _ {P : State → Type 0} (k : Keeps P) (tables : List ℕ) (T : Tables) (
 
       sized : (b : Bool) (x : Answer (Tables × State)) → Finds T S x → P (givenTo S (cond b (A.behindStanding x) (refused LENGTH)))
       sized false x f = p
-      sized true x (refused n e) = subst (λ (v : Answer (Tables × State)). P (givenTo S (A.behindStanding v))) (sym e) p
-      sized true x (found e) = subst (λ (v : Answer (Tables × State)). P (givenTo S (A.behindStanding v))) (sym e) (led (A.repliedIn T S) refl)
+      sized true x (none-found n e) = subst (λ (v : Answer (Tables × State)). P (givenTo S (A.behindStanding v))) (sym e) p
+      sized true x (state-found e) = subst (λ (v : Answer (Tables × State)). P (givenTo S (A.behindStanding v))) (sym e) (led (A.repliedIn T S) refl)
 
   pub call-keeps : (S : State) (c : Call) → P S → P (afterCall tables S c)
   unfolding afterCall

@@ -32,7 +32,7 @@ use Rattle.moves.specs.Move.{Move, nextMove}
 use Rattle.moves.specs.Carried.{carried, hasRoomFor}
 use Rattle.reply.specs.Reply.{Replied, stopped, withMove, replyFrom, opening, replyIn}
 use Rattle.numbers.specs.Answer.{Answer, refused, accepted, judged}
-use Rattle.numbers.specs.laws.Answer.{firstOf}
+use Rattle.numbers.specs.laws.Answer.{firstOf, isAccepted}
 use Rattle.numbers.specs.Sizes.{MOST-NODES}
 
 -- every command that has room keeps P
@@ -64,12 +64,8 @@ opening-room W S = go (eqb (length (S .nodes)) 0) refl
         (lt-ltb (length (S .nodes)) MOST-NODES (omega (arith, z))) refl
     go false q = refl
 
-abbrev number : Answer (State × Bool) → ℕ
-number (refused n) = 0
-number (accepted (A, v)) = 1
-
-refused-taken : {n : ℕ} {A : State} {v : Bool} → refused n ≡ accepted (A, v) → ⊥
-refused-taken e = let z : _≡_ {A = ℕ} 0 1 = ap number e in omega (arith, z)
+refused-taken : {n : ℕ} {A : State} {v : Bool} → _≡_ {A = Answer (State × Bool)} (refused n) (accepted (A, v)) → ⊥
+refused-taken e = false-true (ap isAccepted e)
 
 module _ {P : State → Type 0} (k : Stays P) where
   pub carried-stays : (s : ℕ) (S : State) (cs : List Command) → hasRoomFor s S cs ≡ true → P S → P (carried s S cs)
