@@ -6,3 +6,4 @@ pub mod Alike
 pub mod Stops
 pub mod Own
 pub mod Candidates
+pub mod Members

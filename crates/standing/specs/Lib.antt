@@ -1,4 +1,5 @@
 pub mod Standing
 pub mod Turn
 pub mod Buffers
+pub mod Holds
 pub mod laws

@@ -1,2 +1,3 @@
 pub mod Standing
 pub mod StandingPublic
+pub mod Exactly

@@ -1,0 +1,27 @@
+-- What the lent bytes hold, and when a negotiation is damaged (document 01, "From the state", 20). Assumes nothing.
+use Prim.Native.Nat.{ℕ}
+use mathlib.Core.Path.{_≡_}
+use mathlib.Core.Bool.{true}
+use mathlib.Core.List.{List}
+use lib.ListN.{length}
+use Rattle.numbers.specs.Sizes.{NEGOTIATION-BYTES}
+use Rattle.numbers.specs.Answer.{accepted}
+use Rattle.tables.specs.Tables.{Tables}
+use Rattle.tables.specs.Check.{readTables}
+use Rattle.negotiation.specs.State.{State, within}
+use Rattle.negotiation.specs.Layout.{stateBytes}
+use Rattle.damage.specs.Damage.{sound}
+
+-- the lent bytes are those of accepted tables T and of a negotiation S within the sizes that is not damaged
+pub record Holds (tables negotiation : List ℕ) (T : Tables) (S : State) : Type 0 where
+  pub house : readTables tables ≡ accepted T
+  pub bytes : negotiation ≡ stateBytes S
+  pub sizes : within S ≡ true
+  pub undamaged : sound T S ≡ true
+
+-- the tables are accepted, and the bytes, as many as they must be, are those of no such state
+pub record Damaged (tables negotiation : List ℕ) : Type 0 where
+  pub size : length negotiation ≡ NEGOTIATION-BYTES
+  pub house : Tables
+  pub read : readTables tables ≡ accepted house
+  pub none-held : (S : State) → Holds tables negotiation house S → ⊥
