@@ -15,17 +15,9 @@ ghost use Rattle.frontier.specs.laws.Frontier.{Reaches};
 ghost use Rattle.frontier.specs.laws.Queue.{isNext as isNextOf, work, Queue, Joined, Entered, Followed};
 
 // Whether credential i is on and has the head p.
-fn is_next<'a>(
-    n: usize,
-    heads: &'a [u16; 256],
-    kinds: &'a [u8; 256],
-    numbers: &'a [u16; 1024],
-    on: &'a [u8; 128],
-    p: Role,
-    i: usize,
-) -> bool
+fn is_next<'a>(heads: &'a [u16; 256], on: &'a [u8; 128], p: Role, i: usize) -> bool
     requires { ⌜ i < 128 ⌝ }
-    ensures { λ r. ⌜ r ≡ isNextOf (poolOf n (now (heads .entry)) (now (kinds .entry)) (now (numbers .entry))) (now (on .entry)) p i ⌝ }
+    ensures { λ r. ⌜ r ≡ isNextOf (now (heads .entry)) (now (on .entry)) p i ⌝ }
 {
     if on[i] != 1 {
         return false;
@@ -56,7 +48,7 @@ fn join<'a>(
     if found[i] == 1 {
         return tail;
     }
-    if !is_next(n, heads, kinds, numbers, on, p, i) {
+    if !is_next(heads, on, p, i) {
         return tail;
     }
     found[i] = 1;

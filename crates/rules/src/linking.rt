@@ -11,19 +11,14 @@ ghost use Prim.Native.Nat.{_<_, _≤_, _+_};
 ghost use lib.ListN.{length};
 ghost use Rattle.rt0.specs.laws.Pool.{poolOf};
 ghost use Rattle.word.specs.laws.Search.{anyTo};
-ghost use Rattle.rules.specs.laws.Columns.{Column, headRow, Able, NamedRow, NamedLink, NamesTo, isNamed, hasLink, linkSource, SameLink, copied};
+ghost use Rattle.rules.specs.laws.Columns.{Column, headRow, Able, NamedRow, NamedLink, NamesTo, isNamedIn, hasLink, hasLinkIn, linkSource};
+ghost use Rattle.rules.specs.laws.Columns.{SameLink, copied};
 ghost use Rattle.rules.specs.laws.Digits.{BodiesIn};
 
 // Whether body i is a link.
-pub fn has_link<'a>(
-    n: usize,
-    heads: &'a [u16; 256],
-    kinds: &'a [u8; 256],
-    numbers: &'a [u16; 1024],
-    i: usize,
-) -> bool
+pub fn has_link<'a>(kinds: &'a [u8; 256], i: usize) -> bool
     requires { ⌜ i < 128 ⌝ }
-    ensures { λ r. ⌜ r ≡ hasLink (poolOf n (now (heads .entry)) (now (kinds .entry)) (now (numbers .entry))) i ⌝ }
+    ensures { λ r. ⌜ r ≡ hasLinkIn (now (kinds .entry)) i ⌝ }
 {
     kinds[i * 2] == 3
 }
@@ -40,7 +35,7 @@ pub fn has_links<'a>(
 {
     let mut i = 0;
     while i < n {
-        if has_link(n, heads, kinds, numbers, i) {
+        if has_link(kinds, i) {
             return true;
         }
         i += 1;
@@ -59,7 +54,7 @@ fn link_source<'a>(
     j: usize,
 ) -> usize
     requires { ⌜ (n ≤ 128) × (j < n) × Column (headRow (poolOf n (now heads) (now kinds) (now numbers))) 128 130 n (now head)
-        × BodiesIn (poolOf n (now heads) (now kinds) (now numbers)) n (now body) ⌝ }
+        × BodiesIn (now kinds) (now numbers) n (now body) ⌝ }
     ensures { λ r. ⌜ r ≡ linkSource (poolOf n (now (heads .entry)) (now (kinds .entry)) (now (numbers .entry))) j ⌝ }
 {
     if head[j] != j {
@@ -87,7 +82,7 @@ pub fn linkable<'a>(
         return Links { src, able };
     }
     let mut body = [0u64; 260];
-    note_bodies(n, heads, kinds, numbers, &mut body);
+    note_bodies(n, kinds, numbers, &mut body);
     while j < n {
         let s = link_source(n, heads, kinds, numbers, head, &body, j);
         if s < 128 {
@@ -100,17 +95,9 @@ pub fn linkable<'a>(
 }
 
 // Whether links can go by head j, and its name is m.
-fn is_named<'a>(
-    n: usize,
-    heads: &'a [u16; 256],
-    kinds: &'a [u8; 256],
-    numbers: &'a [u16; 1024],
-    able: &'a [u8; 128],
-    m: u16,
-    j: usize,
-) -> bool
+fn is_named<'a>(heads: &'a [u16; 256], able: &'a [u8; 128], m: u16, j: usize) -> bool
     requires { ⌜ j < 128 ⌝ }
-    ensures { λ r. ⌜ r ≡ isNamed (poolOf n (now (heads .entry)) (now (kinds .entry)) (now (numbers .entry))) (now (able .entry)) m j ⌝ }
+    ensures { λ r. ⌜ r ≡ isNamedIn (now (heads .entry)) (now (able .entry)) m j ⌝ }
 {
     (able[j] == 1) & (heads[j * 2 + 1] == m)
 }
@@ -132,7 +119,7 @@ fn name_row<'a>(
 {
     let mut j = 0;
     while j < n {
-        if is_named(n, heads, kinds, numbers, able, m, j) {
+        if is_named(heads, able, m, j) {
             mark(named, i, j);
         }
         j += 1;
@@ -178,7 +165,7 @@ fn same_link<'a>(
     if i <= k {
         return false;
     }
-    if !has_link(n, heads, kinds, numbers, k) {
+    if !has_link(kinds, k) {
         return false;
     }
     numbers[k * 8 + 2] == numbers[i * 8 + 2]
@@ -233,7 +220,7 @@ pub fn names<'a>(
     let mut k = 0;
     let mut i = 0;
     while i < n {
-        if has_link(n, heads, kinds, numbers, i) {
+        if has_link(kinds, i) {
             name_next(n, heads, kinds, numbers, able, k, i, &mut named);
             k = i;
         }

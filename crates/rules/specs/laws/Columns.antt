@@ -101,12 +101,18 @@ pub record NamesTo (P : Pool) (able : List ℕ) (k : ℕ) (N : List ℕ) : Type 
   pub all : (q : ℕ) (a : Role) (m t : ℕ) → q < k → bodyAt P q ≡ E.Linked a m → t < P .count → el able t ≡ 1 → headAt P t .name ≡ m → bits N q t ≡ true
 
 -- links can go by head t, and its name is m
+abbrev pub isNamedIn : List ℕ → List ℕ → ℕ → ℕ → Bool
+isNamedIn H able m t = eqb (el able t) 1 && eqb (el H (t * 2 + 1)) m
+
 abbrev pub isNamed : Pool → List ℕ → ℕ → ℕ → Bool
-isNamed P able m t = eqb (el able t) 1 && eqb (headAt P t .name) m
+isNamed P able m t = isNamedIn (P .heads) able m t
 
 -- credential i has a linked body
+abbrev pub hasLinkIn : List ℕ → ℕ → Bool
+hasLinkIn K i = eqb (el K (i * 2)) 3
+
 abbrev pub hasLink : Pool → ℕ → Bool
-hasLink P i = eqb (el (P .kinds) (i * 2)) 3
+hasLink P i = hasLinkIn (P .kinds) i
 
 -- the bit of the entity of head j, where j is the row of that head
 abbrev pub linkSource : Pool → ℕ → ℕ
