@@ -130,7 +130,8 @@ fn leads_to<'a>(
 ) -> bool
     requires { ⌜ (i < 128) × Under 130 (now first) ⌝ }
     ensures { λ r. ⌜ ((n : ℕ) (H : List ℕ) (e : Expression)
-        → el (now (first .entry)) i ≡ bodyFirst (poolOf n H (now (kinds .entry)) (now (numbers .entry))) i → m ≡ rawOf e .n1 → s ≡ ownBit (poolOf n H (now (kinds .entry)) (now (numbers .entry))) e
+        → el (now (first .entry)) i ≡ bodyFirst (poolOf n H (now (kinds .entry)) (now (numbers .entry))) i → m ≡ rawOf e .n1
+        → s ≡ ownBit (poolOf n H (now (kinds .entry)) (now (numbers .entry))) e
         → r ≡ ownLink (poolOf n H (now (kinds .entry)) (now (numbers .entry))) (now (rows .entry)) e
         (bodyAt (poolOf n H (now (kinds .entry)) (now (numbers .entry))) i)) ⌝ }
 {

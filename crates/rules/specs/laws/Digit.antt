@@ -141,7 +141,8 @@ none-held lo hi r i none l a b h = go (ltb i 64) refl
 
 module _ (P : Pool) (small : P .count ≤ 128) where
   module _ (p : Role) (E N : List ℕ) (lo hi r : ℕ) (tables : HeadsIn (P .heads) (P .count) E N)
-      (low : lo ≡ bitAnd (shared E (p .entity) 0) (shared N (p .name) 0)) (high : hi ≡ bitAnd (shared E (p .entity) 1) (shared N (p .name) 1)) (none : NoneBelow lo hi r) where
+      (low : lo ≡ bitAnd (shared E (p .entity) 0) (shared N (p .name) 0)) (high : hi ≡ bitAnd (shared E (p .entity) 1) (shared N (p .name) 1))
+      (none : NoneBelow lo hi r) where
     no-head : (i : ℕ) → i < P .count → i < r → isHead P p i ≡ false
     no-head i l h = go (isHead P p i) refl
       where
