@@ -6,6 +6,7 @@ ghost use mathlib.Core.Path.{_≡_};
 ghost use mathlib.Core.Bool.{true, not, _&&_};
 ghost use lib.Dec.{eqb, ltb};
 ghost use Prim.Native.Nat.{ℕ, _≤_, _<_};
+ghost use mathlib.Core.List.{List};
 ghost use lib.ListN.{length, getD};
 ghost use Rattle.propagation.specs.Flags.{at};
 ghost use Rattle.propagation.specs.laws.Flags.{flag};
@@ -36,10 +37,10 @@ fn is_at<'a>(failed: &'a [u8; 128], f: usize, on: bool) -> bool
     failed[f] != 1
 }
 
-// How many of the first m edges bring each node a child.
-fn tally<'a>(m: usize, from: &'a [u8; 256], slot: &'a [u16; 256], way: &'a [u8; 128]) -> [u16; 128]
+// How many of the first m edges bring each node a child, whatever the ways of the nodes.
+fn tally<'a>(m: usize, from: &'a [u8; 256], slot: &'a [u16; 256]) -> [u16; 128]
     requires { ⌜ (m ≤ 256) × ((j : ℕ) → getD (now slot) j 0 < 512) ⌝ }
-    ensures { λ r. ⌜ Tallied m (graph (now (from .entry)) (now (slot .entry)) (now (way .entry))) r ⌝ }
+    ensures { λ r. ⌜ ((W : List ℕ) → Tallied m (graph (now (from .entry)) (now (slot .entry)) W) r) ⌝ }
 {
     let mut left = [0u16; 128];
     let mut j = 0;
@@ -216,7 +217,7 @@ fn fail_by_queue<'a>(
     let mut failed = [0u8; 128];
     let mut queue = [0u8; 128];
     chain(m, from, &mut head, &mut next);
-    let mut left = tally(m, from, slot, way);
+    let mut left = tally(m, from, slot);
     let t = fail_childless(n, m, from, slot, way, &left, &gone, &mut failed, &mut queue);
     run_queue(
         m,
@@ -234,17 +235,16 @@ fn fail_by_queue<'a>(
     failed
 }
 
-// The nodes to which an edge brings a child that is in the column, or that is not.
+// The nodes to which an edge brings a child that is in the column, or that is not, whatever the ways of the nodes.
 fn touched<'a>(
     m: usize,
     from: &'a [u8; 256],
     slot: &'a [u16; 256],
-    way: &'a [u8; 128],
     failed: &'a [u8; 128],
     on: bool,
 ) -> [u8; 128]
     requires { ⌜ (m ≤ 256) × ((j : ℕ) → getD (now slot) j 0 < 512) × (length (now failed) ≡ 128) ⌝ }
-    ensures { λ r. ⌜ Touched m (graph (now (from .entry)) (now (slot .entry)) (now (way .entry))) (now (failed .entry)) on r ⌝ }
+    ensures { λ r. ⌜ ((W : List ℕ) → Touched m (graph (now (from .entry)) (now (slot .entry)) W) (now (failed .entry)) on r) ⌝ }
 {
     let mut r = [0u8; 128];
     let mut j = 0;
@@ -309,8 +309,8 @@ pub fn failed<'a>(
 {
     let mut failed = fail_by_queue(n, m, from, slot, way);
     loop {
-        let alive = touched(m, from, slot, way, &failed, false);
-        let hit = touched(m, from, slot, way, &failed, true);
+        let alive = touched(m, from, slot, &failed, false);
+        let hit = touched(m, from, slot, &failed, true);
         let s = swept(n, way, &alive, &hit, failed);
         failed = s.failed;
         if s.added == 0 {

@@ -11,7 +11,7 @@ fail-childless-requires : tie.Need-fail-childless-requires
 fail-childless-requires c κs =
     let c4 = c .before .before .before .before in
     let c8 = c4 .before .before .before .before in
-    (c8 .pre .0, failing-start _ _ _ (c8 .pre .1) (c8 .pre .2) (c4 .tally .ensures))
+    (c8 .pre .0, failing-start _ _ _ (c8 .pre .1) (c8 .pre .2) (c4 .tally .ensures _))
 
 returns : tie.Need-returns
 returns c = failing-sound (c .run-queue .ensures)
