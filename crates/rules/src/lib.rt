@@ -299,7 +299,7 @@ pub fn rules_of<'a>(
     let head = head_rows(n, heads, kinds, numbers, &entity, &name);
     let part = part_rows(n, heads, kinds, numbers, &entity, &name);
     let first = first_rows(n, heads, kinds, numbers, &entity, &name);
-    let lit = has_links(n, heads, kinds, numbers);
+    let lit = has_links(n, kinds);
     let links = linkable(n, heads, kinds, numbers, &head, lit);
     let src = links.src;
     let able = links.able;

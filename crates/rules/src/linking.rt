@@ -7,7 +7,8 @@ use expression::Expression;
 use rt0::body_at;
 ghost use mathlib.Core.Path.{_≡_};
 ghost use mathlib.Core.Bool.{true};
-ghost use Prim.Native.Nat.{_<_, _≤_, _+_};
+ghost use mathlib.Core.List.{List};
+ghost use Prim.Native.Nat.{ℕ, _<_, _≤_, _+_};
 ghost use lib.ListN.{length};
 ghost use Rattle.rt0.specs.laws.Pool.{poolOf};
 ghost use Rattle.word.specs.laws.Search.{anyTo};
@@ -24,14 +25,9 @@ pub fn has_link<'a>(kinds: &'a [u8; 256], i: usize) -> bool
 }
 
 // Whether a credential has a linked body.
-pub fn has_links<'a>(
-    n: usize,
-    heads: &'a [u16; 256],
-    kinds: &'a [u8; 256],
-    numbers: &'a [u16; 1024],
-) -> bool
+pub fn has_links<'a>(n: usize, kinds: &'a [u8; 256]) -> bool
     requires { ⌜ n ≤ 128 ⌝ }
-    ensures { λ r. ⌜ r ≡ anyTo n (hasLink (poolOf n (now (heads .entry)) (now (kinds .entry)) (now (numbers .entry)))) ⌝ }
+    ensures { λ r. ⌜ r ≡ anyTo n (hasLinkIn (now (kinds .entry))) ⌝ }
 {
     let mut i = 0;
     while i < n {
@@ -106,16 +102,13 @@ fn is_named<'a>(heads: &'a [u16; 256], able: &'a [u8; 128], m: u16, j: usize) ->
 fn name_row<'a>(
     n: usize,
     heads: &'a [u16; 256],
-    kinds: &'a [u8; 256],
-    numbers: &'a [u16; 1024],
     able: &'a [u8; 128],
     i: usize,
     m: u16,
     named: &'a mut [u64; 260],
 )
     requires { ⌜ (n ≤ 128) × (i < 128) × (length (now named) ≡ 260) ⌝ }
-    ensures { λ _. ⌜ NamedRow (poolOf n (now (heads .entry)) (now (kinds .entry)) (now (numbers .entry))) (now (able .entry)) i m n
-        (now (named .entry)) (now (named .exit)) ⌝ }
+    ensures { λ _. ⌜ ((K N : List ℕ) → NamedRow (poolOf n (now (heads .entry)) K N) (now (able .entry)) i m n (now (named .entry)) (now (named .exit))) ⌝ }
 {
     let mut j = 0;
     while j < n {
@@ -130,37 +123,27 @@ fn name_row<'a>(
 pub fn name_link<'a>(
     n: usize,
     heads: &'a [u16; 256],
-    kinds: &'a [u8; 256],
-    numbers: &'a [u16; 1024],
     able: &'a [u8; 128],
     i: usize,
     x: Expression,
     named: &'a mut [u64; 260],
 )
     requires { ⌜ (n ≤ 128) × (i < 128) × (length (now named) ≡ 260) ⌝ }
-    ensures { λ _. ⌜ NamedLink (poolOf n (now (heads .entry)) (now (kinds .entry)) (now (numbers .entry))) (now (able .entry)) i n x
-        (now (named .entry)) (now (named .exit)) ⌝ }
+    ensures { λ _. ⌜ ((K N : List ℕ) → NamedLink (poolOf n (now (heads .entry)) K N) (now (able .entry)) i n x (now (named .entry)) (now (named .exit))) ⌝ }
 {
     match x {
         Expression::Entity(_) => {}
         Expression::Role(_) => {}
-        Expression::Linked(_, m) => name_row(n, heads, kinds, numbers, able, i, m, named),
+        Expression::Linked(_, m) => name_row(n, heads, able, i, m, named),
         Expression::Intersection(_) => {}
         Expression::Goal(_) => {}
     }
 }
 
 // Whether bodies k and i are links with one name, and k comes before i, a link.
-fn same_link<'a>(
-    n: usize,
-    heads: &'a [u16; 256],
-    kinds: &'a [u8; 256],
-    numbers: &'a [u16; 1024],
-    k: usize,
-    i: usize,
-) -> bool
+fn same_link<'a>(kinds: &'a [u8; 256], numbers: &'a [u16; 1024], k: usize, i: usize) -> bool
     requires { ⌜ (k < 128) × (i < 128) ⌝ }
-    ensures { λ r. ⌜ SameLink (poolOf n (now (heads .entry)) (now (kinds .entry)) (now (numbers .entry))) k i r ⌝ }
+    ensures { λ r. ⌜ SameLink (now (kinds .entry)) (now (numbers .entry)) k i r ⌝ }
 {
     if i <= k {
         return false;
@@ -197,12 +180,12 @@ fn name_next<'a>(
         × NamesTo (poolOf n (now heads) (now kinds) (now numbers)) (now able) i (now named) ⌝ }
     ensures { λ _. ⌜ NamesTo (poolOf n (now (heads .entry)) (now (kinds .entry)) (now (numbers .entry))) (now (able .entry)) (i + 1) (now (named .exit)) ⌝ }
 {
-    if same_link(n, heads, kinds, numbers, k, i) {
+    if same_link(kinds, numbers, k, i) {
         copy_row(k, i, named);
         return;
     }
     let x = body_at(n, heads, kinds, numbers, i);
-    name_link(n, heads, kinds, numbers, able, i, x, named);
+    name_link(n, heads, able, i, x, named);
 }
 
 // The heads that each rule names.

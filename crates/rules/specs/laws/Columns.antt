@@ -119,10 +119,10 @@ abbrev pub linkSource : Pool → ℕ → ℕ
 linkSource P j = cond (eqb (rowOf P (headAt P j)) j) (bitOf P (headAt P j .entity)) 128
 
 -- where b is true, bodies k and i are links with one name, if i is a link, and k comes before i
-pub record SameLink (P : Pool) (k i : ℕ) (b : Bool) : Type 0 where
+pub record SameLink (K N : List ℕ) (k i : ℕ) (b : Bool) : Type 0 where
   pub before : b ≡ true → k < i
-  pub link : b ≡ true → hasLink P k ≡ true
-  pub name : b ≡ true → el (P .numbers) (k * 8 + 2) ≡ el (P .numbers) (i * 8 + 2)
+  pub link : b ≡ true → hasLinkIn K k ≡ true
+  pub name : b ≡ true → el N (k * 8 + 2) ≡ el N (i * 8 + 2)
 
 -- the table with row k as its row i
 unfoldable pub copied : List ℕ → ℕ → ℕ → List ℕ
