@@ -1,7 +1,5 @@
-use mathlib.Core.Path.{_≡_, sym, _∙_, ap}
+use mathlib.Core.Path.{sym, _∙_, ap}
 use borrow.Author.Needs.{needs}
-use Rattle.expression.specs.declared.Expression.{Expression}
-use Rattle.rt0.specs.declared.Pool.{Pool}
 use Rattle.rules.specs.declared.Four.{Four}
 use Rattle.rules.specs.laws.Table.{rowOf, rowFor}
 use Rattle.rules.specs.laws.Columns.{fourRows}
