@@ -54,25 +54,21 @@ fn tally<'a>(m: usize, from: &'a [u8; 256], slot: &'a [u16; 256]) -> [u16; 128]
     left
 }
 
-// Node p, if it fails by what is left, or by a failed child that an edge brought, joins the queue.
+// Node p, if it fails by what is left, or by a failed child that an edge brought, joins the queue, whatever the edges.
 fn fail_node<'a>(
-    m: usize,
-    from: &'a [u8; 256],
-    slot: &'a [u16; 256],
     way: &'a [u8; 128],
     left: &'a [u16; 128],
-    gone: &'a [u8; 256],
     failed: &'a mut [u8; 128],
     queue: &'a mut [u8; 128],
     tail: usize,
     p: usize,
     hit: bool,
 ) -> usize
-    requires { ⌜ (p < 128) × (tail ≤ 128) × (hit ≡ true
-        → childOf m (graph (now from) (now slot) (now way)) (at (failedOf m (graph (now from) (now slot) (now way)))) p ≡ true)
-        × Failing m (graph (now from) (now slot) (now way)) (now failed) (now left) (now gone) ⌝ }
-    ensures { λ r. ⌜ (r ≤ 128) × Failing m (graph (now (from .entry)) (now (slot .entry)) (now (way .entry))) (now (failed .exit)) (now (left .entry))
-        (now (gone .entry)) ⌝ }
+    requires { ⌜ (p < 128) × (tail ≤ 128) ⌝ }
+    ensures { λ r. ⌜ (r ≤ 128) × ((m : ℕ) (F S G : List ℕ)
+        → (hit ≡ true → childOf m (graph F S (now (way .entry))) (at (failedOf m (graph F S (now (way .entry))))) p ≡ true)
+        → Failing m (graph F S (now (way .entry))) (now (failed .entry)) (now (left .entry)) G
+        → Failing m (graph F S (now (way .entry))) (now (failed .exit)) (now (left .entry)) G) ⌝ }
 {
     if 128 <= tail {
         return tail;
@@ -115,7 +111,7 @@ fn drop_edge<'a>(
     let p = wide16(slot[j]) / 4;
     gone[j] = 1;
     left[p] -= 1;
-    fail_node(m, from, slot, way, left, gone, failed, queue, tail, p, true)
+    fail_node(way, left, failed, queue, tail, p, true)
 }
 
 // The edges of a chain.
@@ -175,26 +171,22 @@ fn run_queue<'a>(
     }
 }
 
-// Of n nodes, those that fail with no failed child.
+// Of n nodes, those that fail with no failed child, whatever the edges.
 fn fail_childless<'a>(
     n: usize,
-    m: usize,
-    from: &'a [u8; 256],
-    slot: &'a [u16; 256],
     way: &'a [u8; 128],
     left: &'a [u16; 128],
-    gone: &'a [u8; 256],
     failed: &'a mut [u8; 128],
     queue: &'a mut [u8; 128],
 ) -> usize
-    requires { ⌜ (n ≤ 128) × Failing m (graph (now from) (now slot) (now way)) (now failed) (now left) (now gone) ⌝ }
-    ensures { λ r. ⌜ (r ≤ 128) × Failing m (graph (now (from .entry)) (now (slot .entry)) (now (way .entry))) (now (failed .exit)) (now (left .entry))
-        (now (gone .entry)) ⌝ }
+    requires { ⌜ n ≤ 128 ⌝ }
+    ensures { λ r. ⌜ (r ≤ 128) × ((m : ℕ) (F S G : List ℕ) → Failing m (graph F S (now (way .entry))) (now (failed .entry)) (now (left .entry)) G
+        → Failing m (graph F S (now (way .entry))) (now (failed .exit)) (now (left .entry)) G) ⌝ }
 {
     let mut t = 0;
     let mut i = 0;
     while i < n {
-        t = fail_node(m, from, slot, way, left, gone, failed, queue, t, i, false);
+        t = fail_node(way, left, failed, queue, t, i, false);
         i += 1;
     }
     t
@@ -218,7 +210,7 @@ fn fail_by_queue<'a>(
     let mut queue = [0u8; 128];
     chain(m, from, &mut head, &mut next);
     let mut left = tally(m, from, slot);
-    let t = fail_childless(n, m, from, slot, way, &left, &gone, &mut failed, &mut queue);
+    let t = fail_childless(n, way, &left, &mut failed, &mut queue);
     run_queue(
         m,
         from,
