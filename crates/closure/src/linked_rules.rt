@@ -9,7 +9,8 @@ use crate::worklist::least;
 use crate::worklist::rest;
 use word::one;
 ghost use mathlib.Core.Path.{_≡_};
-ghost use Prim.Native.Nat.{_<_, _≤_};
+ghost use Prim.Native.Nat.{ℕ, _<_, _≤_};
+ghost use mathlib.Core.List.{List};
 ghost use lib.ListN.{length};
 ghost use Rattle.closure.specs.laws.Rules.{rulesOf, bits, memRows, Under, Fits, Grown};
 ghost use Rattle.closure.specs.laws.Words.{Poured};
@@ -25,10 +26,10 @@ fn member<'a>(vals: &'a [u64; 260], mem: &'a [u64; 260], own: bool, r: usize, s:
     bit(mem, r, s)
 }
 
-// Row r takes in row j, in word h, one of those in use: whether it grew.
-fn add_word<'a>(words: usize, j: usize, r: usize, h: usize, rows: &'a mut [u64; 260]) -> bool
-    requires { ⌜ (words ≤ 2) × (j < 130) × (r < 130) × (h < words) × (length (now rows) ≡ 260) ⌝ }
-    ensures { λ g. ⌜ Poured words j r (now (rows .entry)) (now (rows .exit)) ⌝ }
+// Row r takes in row j, in word h: whether it grew.
+fn add_word<'a>(j: usize, r: usize, h: usize, rows: &'a mut [u64; 260]) -> bool
+    requires { ⌜ (j < 130) × (r < 130) × (h < 2) × (length (now rows) ≡ 260) ⌝ }
+    ensures { λ g. ⌜ ((w : ℕ) → h < w → Poured w j r (now (rows .entry)) (now (rows .exit))) ⌝ }
 {
     let at = r * 2 + h;
     let old = rows[at];
@@ -45,11 +46,11 @@ fn add_row<'a>(words: usize, j: usize, r: usize, rows: &'a mut [u64; 260]) -> bo
     if words == 0 {
         return false;
     }
-    let a = add_word(words, j, r, 0, rows);
+    let a = add_word(j, r, 0, rows);
     if words == 1 {
         return a;
     }
-    let b = add_word(words, j, r, 1, rows);
+    let b = add_word(j, r, 1, rows);
     a | b
 }
 
@@ -58,7 +59,6 @@ fn link<'a>(
     n: usize,
     words: usize,
     head: &'a [usize; 128],
-    part: &'a [usize; 512],
     first: &'a [usize; 128],
     named: &'a [u64; 260],
     src: &'a [usize; 128],
@@ -69,9 +69,9 @@ fn link<'a>(
     j: usize,
     rows: &'a mut [u64; 260],
 ) -> bool
-    requires { ⌜ (i < 128) × (j < 128) × Fits (rulesOf n words (now head) (now part) (now first) (now named) (now src)) × (length (now rows) ≡ 260) ⌝ }
-    ensures { λ g. ⌜ Grown (rulesOf n words (now (head .entry)) (now (part .entry)) (now (first .entry)) (now (named .entry)) (now (src .entry)))
-        (now (on .entry)) own (now (mem .entry)) (now (rows .entry)) (now (rows .exit)) ⌝ }
+    requires { ⌜ (i < 128) × (j < 128) × (words ≤ 2) × Under 130 (now head) × Under 130 (now first) × Under 128 (now src) × (length (now rows) ≡ 260) ⌝ }
+    ensures { λ g. ⌜ ((P : List ℕ) → Grown (rulesOf n words (now (head .entry)) P (now (first .entry)) (now (named .entry)) (now (src .entry)))
+        (now (on .entry)) own (now (mem .entry)) (now (rows .entry)) (now (rows .exit))) ⌝ }
 {
     if n <= i {
         return false;
@@ -94,7 +94,6 @@ fn follow<'a>(
     n: usize,
     words: usize,
     head: &'a [usize; 128],
-    part: &'a [usize; 512],
     first: &'a [usize; 128],
     named: &'a [u64; 260],
     src: &'a [usize; 128],
@@ -106,9 +105,9 @@ fn follow<'a>(
     hi: u64,
     rows: &'a mut [u64; 260],
 ) -> bool
-    requires { ⌜ (i < 128) × Fits (rulesOf n words (now head) (now part) (now first) (now named) (now src)) × (length (now rows) ≡ 260) ⌝ }
-    ensures { λ g. ⌜ Grown (rulesOf n words (now (head .entry)) (now (part .entry)) (now (first .entry)) (now (named .entry)) (now (src .entry)))
-        (now (on .entry)) own (now (mem .entry)) (now (rows .entry)) (now (rows .exit)) ⌝ }
+    requires { ⌜ (i < 128) × (words ≤ 2) × Under 130 (now head) × Under 130 (now first) × Under 128 (now src) × (length (now rows) ≡ 260) ⌝ }
+    ensures { λ g. ⌜ ((P : List ℕ) → Grown (rulesOf n words (now (head .entry)) P (now (first .entry)) (now (named .entry)) (now (src .entry)))
+        (now (on .entry)) own (now (mem .entry)) (now (rows .entry)) (now (rows .exit))) ⌝ }
 {
     let mut todo = Dirty {
         lo: lo & named[i * 2],
@@ -122,21 +121,7 @@ fn follow<'a>(
             return grew;
         }
         todo = rest(todo);
-        let t = link(
-            n,
-            words,
-            head,
-            part,
-            first,
-            named,
-            src,
-            on,
-            mem,
-            own,
-            i,
-            j,
-            rows,
-        );
+        let t = link(n, words, head, first, named, src, on, mem, own, i, j, rows);
         grew = grew | t;
         fuel -= 1;
     }
@@ -244,7 +229,6 @@ fn step<'a>(
         n,
         words,
         head,
-        part,
         first,
         named,
         src,

@@ -29,20 +29,7 @@ fn plain<'a>(
         (now (on .entry)) own (now (mem .entry)) (now (rows .entry)) (now (rows .exit)) ⌝ }
 {
     if words == 1 {
-        return meets(
-            n,
-            words,
-            head,
-            part,
-            first,
-            named,
-            src,
-            on,
-            mem,
-            own,
-            i,
-            rows,
-        );
+        return meets(n, head, part, on, i, rows);
     }
     rule(
         n,

@@ -5,7 +5,8 @@ use word::lowest;
 use word::others;
 use word::with;
 ghost use mathlib.Core.Path.{_≡_};
-ghost use Prim.Native.Nat.{_<_, _≤_};
+ghost use Prim.Native.Nat.{ℕ, _<_, _≤_};
+ghost use mathlib.Core.List.{List};
 ghost use lib.ListN.{length};
 ghost use Rattle.closure.specs.laws.Rules.{rulesOf, bits, memRows, Under, Fits, Within};
 ghost use Rattle.closure.specs.laws.Words.{LinksOf, meetOf, WordOf, TurnOf, RuleOf, PassOf, HeldOf, FullOf, level};
@@ -43,9 +44,6 @@ pub fn meet<'a>(vals: &'a [u64; 260], a: usize, b: usize, c: usize, d: usize, h:
 
 // What rule i gives of word h.
 pub fn word<'a>(
-    n: usize,
-    words: usize,
-    head: &'a [usize; 128],
     part: &'a [usize; 512],
     first: &'a [usize; 128],
     named: &'a [u64; 260],
@@ -55,9 +53,9 @@ pub fn word<'a>(
     i: usize,
     h: usize,
 ) -> u64
-    requires { ⌜ (i < 128) × (h < 2) × Fits (rulesOf n words (now head) (now part) (now first) (now named) (now src)) ⌝ }
-    ensures { λ w. ⌜ WordOf (rulesOf n words (now (head .entry)) (now (part .entry)) (now (first .entry)) (now (named .entry)) (now (src .entry))) i h
-        (now (vals .entry)) (now (mem .entry)) w ⌝ }
+    requires { ⌜ (i < 128) × (h < 2) × Under 130 (now part) × Under 130 (now first) × Under 128 (now src) ⌝ }
+    ensures { λ r. ⌜ ((n w : ℕ) (H : List ℕ) → WordOf (rulesOf n w H (now (part .entry)) (now (first .entry)) (now (named .entry)) (now (src .entry))) i h
+        (now (vals .entry)) (now (mem .entry)) r) ⌝ }
 {
     let w = meet(
         vals,
@@ -75,9 +73,6 @@ pub fn word<'a>(
 
 // Membership goes by the rows themselves where own is set, and else by the rows mem.
 fn gives<'a>(
-    n: usize,
-    words: usize,
-    head: &'a [usize; 128],
     part: &'a [usize; 512],
     first: &'a [usize; 128],
     named: &'a [u64; 260],
@@ -88,20 +83,18 @@ fn gives<'a>(
     i: usize,
     h: usize,
 ) -> u64
-    requires { ⌜ (i < 128) × (h < 2) × Fits (rulesOf n words (now head) (now part) (now first) (now named) (now src)) ⌝ }
-    ensures { λ w. ⌜ WordOf (rulesOf n words (now (head .entry)) (now (part .entry)) (now (first .entry)) (now (named .entry)) (now (src .entry))) i h
-        (now (vals .entry)) (memRows own (now (vals .entry)) (now (mem .entry))) w ⌝ }
+    requires { ⌜ (i < 128) × (h < 2) × Under 130 (now part) × Under 130 (now first) × Under 128 (now src) ⌝ }
+    ensures { λ r. ⌜ ((n w : ℕ) (H : List ℕ) → WordOf (rulesOf n w H (now (part .entry)) (now (first .entry)) (now (named .entry)) (now (src .entry))) i h
+        (now (vals .entry)) (memRows own (now (vals .entry)) (now (mem .entry))) r) ⌝ }
 {
     if own {
-        return word(n, words, head, part, first, named, src, vals, vals, i, h);
+        return word(part, first, named, src, vals, vals, i, h);
     }
-    word(n, words, head, part, first, named, src, vals, mem, i, h)
+    word(part, first, named, src, vals, mem, i, h)
 }
 
 // Rule i, word h: whether its row grew.
 fn turn<'a>(
-    n: usize,
-    words: usize,
     head: &'a [usize; 128],
     part: &'a [usize; 512],
     first: &'a [usize; 128],
@@ -113,29 +106,15 @@ fn turn<'a>(
     h: usize,
     rows: &'a mut [u64; 260],
 ) -> bool
-    requires { ⌜ (i < 128) × (h < words) × Fits (rulesOf n words (now head) (now part) (now first) (now named) (now src)) × (length (now rows) ≡ 260) ⌝ }
-    ensures { λ r. ⌜ TurnOf (rulesOf n words (now (head .entry)) (now (part .entry)) (now (first .entry)) (now (named .entry)) (now (src .entry))) own
-        (now (mem .entry)) i h (now (rows .entry)) (now (rows .exit)) r ⌝ }
+    requires { ⌜ (i < 128) × (h < 2) × Under 130 (now head) × Under 130 (now part) × Under 130 (now first) × Under 128 (now src)
+        × (length (now rows) ≡ 260) ⌝ }
+    ensures { λ r. ⌜ ((n w : ℕ) → h < w → TurnOf
+        (rulesOf n w (now (head .entry)) (now (part .entry)) (now (first .entry)) (now (named .entry)) (now (src .entry)))
+        own (now (mem .entry)) i h (now (rows .entry)) (now (rows .exit)) r) ⌝ }
 {
     let at = head[i] * 2 + h;
     let old = rows[at];
-    let w = join(
-        old,
-        gives(
-            n,
-            words,
-            head,
-            part,
-            first,
-            named,
-            src,
-            rows,
-            mem,
-            own,
-            i,
-            h,
-        ),
-    );
+    let w = join(old, gives(part, first, named, src, rows, mem, own, i, h));
     if w != old {
         rows[at] = w;
         return true;
@@ -171,20 +150,7 @@ pub fn rule<'a>(
     let mut grew = false;
     let mut h = 0;
     while h < words {
-        let t = turn(
-            n,
-            words,
-            head,
-            part,
-            first,
-            named,
-            src,
-            mem,
-            own,
-            i,
-            h,
-            rows,
-        );
+        let t = turn(head, part, first, named, src, mem, own, i, h, rows);
         grew = grew | t;
         h += 1;
     }

@@ -4,29 +4,25 @@ use crate::rounds::meet;
 use crate::word_worklist::filled;
 use crate::word_worklist::gathered;
 ghost use mathlib.Core.Path.{_≡_};
-ghost use Prim.Native.Nat.{_<_};
+ghost use Prim.Native.Nat.{ℕ, _<_};
+ghost use mathlib.Core.Bool.{Bool};
+ghost use mathlib.Core.List.{List};
 ghost use lib.ListN.{length};
-ghost use Rattle.closure.specs.laws.Rules.{rulesOf, Fits, Grown};
+ghost use Rattle.closure.specs.laws.Rules.{rulesOf, Under, Fits, Grown};
 ghost use Rattle.closure.specs.laws.Words.{FilledOf, HeldOf, RestsOf, StillOf};
 
 // Rule i, which names no rows: whether its row grew by what its parts share.
 pub fn meets<'a>(
     n: usize,
-    words: usize,
     head: &'a [usize; 128],
     part: &'a [usize; 512],
-    first: &'a [usize; 128],
-    named: &'a [u64; 260],
-    src: &'a [usize; 128],
     on: &'a [u8; 128],
-    mem: &'a [u64; 260],
-    own: bool,
     i: usize,
     rows: &'a mut [u64; 260],
 ) -> bool
-    requires { ⌜ (i < 128) × (0 < words) × Fits (rulesOf n words (now head) (now part) (now first) (now named) (now src)) × (length (now rows) ≡ 260) ⌝ }
-    ensures { λ g. ⌜ Grown (rulesOf n words (now (head .entry)) (now (part .entry)) (now (first .entry)) (now (named .entry)) (now (src .entry)))
-        (now (on .entry)) own (now (mem .entry)) (now (rows .entry)) (now (rows .exit)) ⌝ }
+    requires { ⌜ (i < 128) × Under 130 (now head) × Under 130 (now part) × (length (now rows) ≡ 260) ⌝ }
+    ensures { λ g. ⌜ ((w : ℕ) (F N S M : List ℕ) (own : Bool) → 0 < w → Grown (rulesOf n w (now (head .entry)) (now (part .entry)) F N S)
+        (now (on .entry)) own M (now (rows .entry)) (now (rows .exit))) ⌝ }
 {
     if n <= i {
         return false;
@@ -52,8 +48,6 @@ pub fn meets<'a>(
 
 // Whether rule i, where it is on, gives its row nothing new. The rows in the set hold bits, and no row holds more than lo.
 fn rests<'a>(
-    n: usize,
-    words: usize,
     head: &'a [usize; 128],
     part: &'a [usize; 512],
     first: &'a [usize; 128],
@@ -67,10 +61,11 @@ fn rests<'a>(
     i: usize,
     rows: &'a [u64; 260],
 ) -> bool
-    requires { ⌜ (i < 128) × (words ≡ 1) × Fits (rulesOf n words (now head) (now part) (now first) (now named) (now src)) × (length (now rows) ≡ 260)
+    requires { ⌜ (i < 128) × Under 130 (now head) × Under 130 (now part) × Under 130 (now first) × Under 128 (now src) × (length (now rows) ≡ 260)
         × FilledOf 64 (now rows) set × HeldOf 0 130 (now rows) lo ⌝ }
-    ensures { λ r. ⌜ RestsOf (rulesOf n words (now (head .entry)) (now (part .entry)) (now (first .entry)) (now (named .entry)) (now (src .entry)))
-        (now (on .entry)) own (now (mem .entry)) i (now (rows .entry)) r ⌝ }
+    ensures { λ r. ⌜ ((n w : ℕ) → w ≡ 1 → RestsOf
+        (rulesOf n w (now (head .entry)) (now (part .entry)) (now (first .entry)) (now (named .entry)) (now (src .entry)))
+        (now (on .entry)) own (now (mem .entry)) i (now (rows .entry)) r) ⌝ }
 {
     if on[i] != 1 {
         return true;
@@ -120,8 +115,6 @@ pub fn still<'a>(
     let mut i = 0;
     while i < n {
         if !rests(
-            n,
-            words,
             head,
             part,
             first,

@@ -6,7 +6,8 @@ use word::one;
 use word::others;
 use word::test;
 ghost use mathlib.Core.Path.{_≡_};
-ghost use Prim.Native.Nat.{_<_, _≤_};
+ghost use Prim.Native.Nat.{ℕ, _<_, _≤_};
+ghost use mathlib.Core.List.{List};
 ghost use lib.ListN.{length};
 ghost use Rattle.closure.specs.laws.Rules.{rulesOf, memRows, Under, Fits, Grown};
 ghost use Rattle.closure.specs.laws.Words.{LinksOf, FilledOf};
@@ -103,9 +104,7 @@ pub fn gathered<'a>(
 // Rule i along its links to the rows of the set: whether its row grew.
 fn follow_links<'a>(
     n: usize,
-    words: usize,
     head: &'a [usize; 128],
-    part: &'a [usize; 512],
     first: &'a [usize; 128],
     named: &'a [u64; 260],
     src: &'a [usize; 128],
@@ -116,9 +115,9 @@ fn follow_links<'a>(
     set: u64,
     rows: &'a mut [u64; 260],
 ) -> bool
-    requires { ⌜ (i < 128) × (0 < words) × Fits (rulesOf n words (now head) (now part) (now first) (now named) (now src)) × (length (now rows) ≡ 260) ⌝ }
-    ensures { λ g. ⌜ Grown (rulesOf n words (now (head .entry)) (now (part .entry)) (now (first .entry)) (now (named .entry)) (now (src .entry)))
-        (now (on .entry)) own (now (mem .entry)) (now (rows .entry)) (now (rows .exit)) ⌝ }
+    requires { ⌜ (i < 128) × Under 130 (now head) × Under 130 (now first) × Under 128 (now src) × (length (now rows) ≡ 260) ⌝ }
+    ensures { λ g. ⌜ ((w : ℕ) (P : List ℕ) → 0 < w → Grown (rulesOf n w (now (head .entry)) P (now (first .entry)) (now (named .entry)) (now (src .entry)))
+        (now (on .entry)) own (now (mem .entry)) (now (rows .entry)) (now (rows .exit))) ⌝ }
 {
     if n <= i {
         return false;
@@ -219,21 +218,7 @@ fn step<'a>(
     if set == 0 {
         return false;
     }
-    follow_links(
-        n,
-        words,
-        head,
-        part,
-        first,
-        named,
-        src,
-        on,
-        mem,
-        own,
-        i,
-        set,
-        rows,
-    )
+    follow_links(n, head, first, named, src, on, mem, own, i, set, rows)
 }
 
 // The rows that a rule names.

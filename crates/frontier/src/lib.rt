@@ -8,24 +8,17 @@ use expression::Role;
 use rt0::body_at;
 use word::wide;
 ghost use mathlib.Core.Path.{_≡_};
-ghost use Prim.Native.Nat.{_<_, _≤_};
+ghost use mathlib.Core.List.{List};
+ghost use Prim.Native.Nat.{ℕ, _<_, _≤_};
 ghost use Rattle.expression.specs.declared.Expression.the-variants as E;
 ghost use Rattle.rt0.specs.laws.Pool.{poolOf};
 ghost use Rattle.frontier.specs.laws.Frontier.{Reaches};
 ghost use Rattle.frontier.specs.laws.Queue.{isNext as isNextOf, work, Queue, Joined, Entered, Followed};
 
 // Whether credential i is on and has the head p.
-fn is_next<'a>(
-    n: usize,
-    heads: &'a [u16; 256],
-    kinds: &'a [u8; 256],
-    numbers: &'a [u16; 1024],
-    on: &'a [u8; 128],
-    p: Role,
-    i: usize,
-) -> bool
+fn is_next<'a>(heads: &'a [u16; 256], on: &'a [u8; 128], p: Role, i: usize) -> bool
     requires { ⌜ i < 128 ⌝ }
-    ensures { λ r. ⌜ r ≡ isNextOf (poolOf n (now (heads .entry)) (now (kinds .entry)) (now (numbers .entry))) (now (on .entry)) p i ⌝ }
+    ensures { λ r. ⌜ r ≡ isNextOf (now (heads .entry)) (now (on .entry)) p i ⌝ }
 {
     if on[i] != 1 {
         return false;
@@ -36,12 +29,9 @@ fn is_next<'a>(
     heads[i * 2 + 1] == p.name
 }
 
-// Credential i, if it is on and has the head p, is found and joins the queue.
+// Credential i, if it is on and has the head p, is found and joins the queue, whatever the bodies.
 fn join<'a>(
-    n: usize,
     heads: &'a [u16; 256],
-    kinds: &'a [u8; 256],
-    numbers: &'a [u16; 1024],
     on: &'a [u8; 128],
     found: &'a mut [u8; 128],
     queue: &'a mut [u8; 128],
@@ -49,14 +39,14 @@ fn join<'a>(
     p: Role,
     i: usize,
 ) -> usize
-    requires { ⌜ (i < n) × (n ≤ 128) × Queue (work (now found) (now queue) tail) ⌝ }
-    ensures { λ r. ⌜ Joined (poolOf n (now (heads .entry)) (now (kinds .entry)) (now (numbers .entry))) (now (on .entry))
-        (work (now (found .entry)) (now (queue .entry)) tail) (work (now (found .exit)) (now (queue .exit)) r) p i ⌝ }
+    requires { ⌜ (i < 128) × Queue (work (now found) (now queue) tail) ⌝ }
+    ensures { λ r. ⌜ ((n : ℕ) (K N : List ℕ) → i < n → Joined (poolOf n (now (heads .entry)) K N) (now (on .entry))
+        (work (now (found .entry)) (now (queue .entry)) tail) (work (now (found .exit)) (now (queue .exit)) r) p i) ⌝ }
 {
     if found[i] == 1 {
         return tail;
     }
-    if !is_next(n, heads, kinds, numbers, on, p, i) {
+    if !is_next(heads, on, p, i) {
         return tail;
     }
     found[i] = 1;
@@ -68,8 +58,6 @@ fn join<'a>(
 fn enter<'a>(
     n: usize,
     heads: &'a [u16; 256],
-    kinds: &'a [u8; 256],
-    numbers: &'a [u16; 1024],
     on: &'a [u8; 128],
     found: &'a mut [u8; 128],
     queue: &'a mut [u8; 128],
@@ -77,13 +65,13 @@ fn enter<'a>(
     p: Role,
 ) -> usize
     requires { ⌜ (n ≤ 128) × Queue (work (now found) (now queue) tail) ⌝ }
-    ensures { λ r. ⌜ Entered (poolOf n (now (heads .entry)) (now (kinds .entry)) (now (numbers .entry))) (now (on .entry))
-        (work (now (found .entry)) (now (queue .entry)) tail) (work (now (found .exit)) (now (queue .exit)) r) (E.Role p) n ⌝ }
+    ensures { λ r. ⌜ ((K N : List ℕ) → Entered (poolOf n (now (heads .entry)) K N) (now (on .entry))
+        (work (now (found .entry)) (now (queue .entry)) tail) (work (now (found .exit)) (now (queue .exit)) r) (E.Role p) n) ⌝ }
 {
     let mut t = tail;
     let mut i = 0;
     while i < n {
-        t = join(n, heads, kinds, numbers, on, found, queue, t, p, i);
+        t = join(heads, on, found, queue, t, p, i);
         i += 1;
     }
     t
@@ -93,8 +81,6 @@ fn enter<'a>(
 fn enter_body<'a>(
     n: usize,
     heads: &'a [u16; 256],
-    kinds: &'a [u8; 256],
-    numbers: &'a [u16; 1024],
     on: &'a [u8; 128],
     found: &'a mut [u8; 128],
     queue: &'a mut [u8; 128],
@@ -102,12 +88,12 @@ fn enter_body<'a>(
     x: Expression,
 ) -> usize
     requires { ⌜ (n ≤ 128) × Queue (work (now found) (now queue) tail) ⌝ }
-    ensures { λ r. ⌜ Entered (poolOf n (now (heads .entry)) (now (kinds .entry)) (now (numbers .entry))) (now (on .entry))
-        (work (now (found .entry)) (now (queue .entry)) tail) (work (now (found .exit)) (now (queue .exit)) r) x n ⌝ }
+    ensures { λ r. ⌜ ((K N : List ℕ) → Entered (poolOf n (now (heads .entry)) K N) (now (on .entry))
+        (work (now (found .entry)) (now (queue .entry)) tail) (work (now (found .exit)) (now (queue .exit)) r) x n) ⌝ }
 {
     match x {
         Expression::Entity(_) => tail,
-        Expression::Role(p) => enter(n, heads, kinds, numbers, on, found, queue, tail, p),
+        Expression::Role(p) => enter(n, heads, on, found, queue, tail, p),
         Expression::Linked(_, _) => tail,
         Expression::Intersection(_) => tail,
         Expression::Goal(_) => tail,
@@ -135,7 +121,7 @@ fn follow<'a>(
         return tail;
     }
     let x = body_at(n, heads, kinds, numbers, j);
-    enter_body(n, heads, kinds, numbers, on, found, queue, tail, x)
+    enter_body(n, heads, on, found, queue, tail, x)
 }
 
 // The credentials that are found from the role e.
@@ -153,7 +139,7 @@ pub fn reached<'a>(
 {
     let mut found = [0u8; 128];
     let mut queue = [0u8; 128];
-    let mut t = enter(n, heads, kinds, numbers, on, &mut found, &mut queue, 0, e);
+    let mut t = enter(n, heads, on, &mut found, &mut queue, 0, e);
     let mut q = 0;
     while q < t {
         let j = wide(queue[q]);

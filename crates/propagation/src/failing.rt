@@ -6,6 +6,7 @@ ghost use mathlib.Core.Path.{_≡_};
 ghost use mathlib.Core.Bool.{true, not, _&&_};
 ghost use lib.Dec.{eqb, ltb};
 ghost use Prim.Native.Nat.{ℕ, _≤_, _<_};
+ghost use mathlib.Core.List.{List};
 ghost use lib.ListN.{length, getD};
 ghost use Rattle.propagation.specs.Flags.{at};
 ghost use Rattle.propagation.specs.laws.Flags.{flag};
@@ -36,10 +37,10 @@ fn is_at<'a>(failed: &'a [u8; 128], f: usize, on: bool) -> bool
     failed[f] != 1
 }
 
-// How many of the first m edges bring each node a child.
-fn tally<'a>(m: usize, from: &'a [u8; 256], slot: &'a [u16; 256], way: &'a [u8; 128]) -> [u16; 128]
+// How many of the first m edges bring each node a child, whatever the ways of the nodes.
+fn tally<'a>(m: usize, from: &'a [u8; 256], slot: &'a [u16; 256]) -> [u16; 128]
     requires { ⌜ (m ≤ 256) × ((j : ℕ) → getD (now slot) j 0 < 512) ⌝ }
-    ensures { λ r. ⌜ Tallied m (graph (now (from .entry)) (now (slot .entry)) (now (way .entry))) r ⌝ }
+    ensures { λ r. ⌜ ((W : List ℕ) → Tallied m (graph (now (from .entry)) (now (slot .entry)) W) r) ⌝ }
 {
     let mut left = [0u16; 128];
     let mut j = 0;
@@ -53,25 +54,21 @@ fn tally<'a>(m: usize, from: &'a [u8; 256], slot: &'a [u16; 256], way: &'a [u8; 
     left
 }
 
-// Node p, if it fails by what is left, or by a failed child that an edge brought, joins the queue.
+// Node p, if it fails by what is left, or by a failed child that an edge brought, joins the queue, whatever the edges.
 fn fail_node<'a>(
-    m: usize,
-    from: &'a [u8; 256],
-    slot: &'a [u16; 256],
     way: &'a [u8; 128],
     left: &'a [u16; 128],
-    gone: &'a [u8; 256],
     failed: &'a mut [u8; 128],
     queue: &'a mut [u8; 128],
     tail: usize,
     p: usize,
     hit: bool,
 ) -> usize
-    requires { ⌜ (p < 128) × (tail ≤ 128) × (hit ≡ true
-        → childOf m (graph (now from) (now slot) (now way)) (at (failedOf m (graph (now from) (now slot) (now way)))) p ≡ true)
-        × Failing m (graph (now from) (now slot) (now way)) (now failed) (now left) (now gone) ⌝ }
-    ensures { λ r. ⌜ (r ≤ 128) × Failing m (graph (now (from .entry)) (now (slot .entry)) (now (way .entry))) (now (failed .exit)) (now (left .entry))
-        (now (gone .entry)) ⌝ }
+    requires { ⌜ (p < 128) × (tail ≤ 128) ⌝ }
+    ensures { λ r. ⌜ (r ≤ 128) × ((m : ℕ) (F S G : List ℕ)
+        → (hit ≡ true → childOf m (graph F S (now (way .entry))) (at (failedOf m (graph F S (now (way .entry))))) p ≡ true)
+        → Failing m (graph F S (now (way .entry))) (now (failed .entry)) (now (left .entry)) G
+        → Failing m (graph F S (now (way .entry))) (now (failed .exit)) (now (left .entry)) G) ⌝ }
 {
     if 128 <= tail {
         return tail;
@@ -114,7 +111,7 @@ fn drop_edge<'a>(
     let p = wide16(slot[j]) / 4;
     gone[j] = 1;
     left[p] -= 1;
-    fail_node(m, from, slot, way, left, gone, failed, queue, tail, p, true)
+    fail_node(way, left, failed, queue, tail, p, true)
 }
 
 // The edges of a chain.
@@ -174,26 +171,22 @@ fn run_queue<'a>(
     }
 }
 
-// Of n nodes, those that fail with no failed child.
+// Of n nodes, those that fail with no failed child, whatever the edges.
 fn fail_childless<'a>(
     n: usize,
-    m: usize,
-    from: &'a [u8; 256],
-    slot: &'a [u16; 256],
     way: &'a [u8; 128],
     left: &'a [u16; 128],
-    gone: &'a [u8; 256],
     failed: &'a mut [u8; 128],
     queue: &'a mut [u8; 128],
 ) -> usize
-    requires { ⌜ (n ≤ 128) × Failing m (graph (now from) (now slot) (now way)) (now failed) (now left) (now gone) ⌝ }
-    ensures { λ r. ⌜ (r ≤ 128) × Failing m (graph (now (from .entry)) (now (slot .entry)) (now (way .entry))) (now (failed .exit)) (now (left .entry))
-        (now (gone .entry)) ⌝ }
+    requires { ⌜ n ≤ 128 ⌝ }
+    ensures { λ r. ⌜ (r ≤ 128) × ((m : ℕ) (F S G : List ℕ) → Failing m (graph F S (now (way .entry))) (now (failed .entry)) (now (left .entry)) G
+        → Failing m (graph F S (now (way .entry))) (now (failed .exit)) (now (left .entry)) G) ⌝ }
 {
     let mut t = 0;
     let mut i = 0;
     while i < n {
-        t = fail_node(m, from, slot, way, left, gone, failed, queue, t, i, false);
+        t = fail_node(way, left, failed, queue, t, i, false);
         i += 1;
     }
     t
@@ -216,8 +209,8 @@ fn fail_by_queue<'a>(
     let mut failed = [0u8; 128];
     let mut queue = [0u8; 128];
     chain(m, from, &mut head, &mut next);
-    let mut left = tally(m, from, slot, way);
-    let t = fail_childless(n, m, from, slot, way, &left, &gone, &mut failed, &mut queue);
+    let mut left = tally(m, from, slot);
+    let t = fail_childless(n, way, &left, &mut failed, &mut queue);
     run_queue(
         m,
         from,
@@ -234,17 +227,16 @@ fn fail_by_queue<'a>(
     failed
 }
 
-// The nodes to which an edge brings a child that is in the column, or that is not.
+// The nodes to which an edge brings a child that is in the column, or that is not, whatever the ways of the nodes.
 fn touched<'a>(
     m: usize,
     from: &'a [u8; 256],
     slot: &'a [u16; 256],
-    way: &'a [u8; 128],
     failed: &'a [u8; 128],
     on: bool,
 ) -> [u8; 128]
     requires { ⌜ (m ≤ 256) × ((j : ℕ) → getD (now slot) j 0 < 512) × (length (now failed) ≡ 128) ⌝ }
-    ensures { λ r. ⌜ Touched m (graph (now (from .entry)) (now (slot .entry)) (now (way .entry))) (now (failed .entry)) on r ⌝ }
+    ensures { λ r. ⌜ ((W : List ℕ) → Touched m (graph (now (from .entry)) (now (slot .entry)) W) (now (failed .entry)) on r) ⌝ }
 {
     let mut r = [0u8; 128];
     let mut j = 0;
@@ -309,8 +301,8 @@ pub fn failed<'a>(
 {
     let mut failed = fail_by_queue(n, m, from, slot, way);
     loop {
-        let alive = touched(m, from, slot, way, &failed, false);
-        let hit = touched(m, from, slot, way, &failed, true);
+        let alive = touched(m, from, slot, &failed, false);
+        let hit = touched(m, from, slot, &failed, true);
         let s = swept(n, way, &alive, &hit, failed);
         failed = s.failed;
         if s.added == 0 {

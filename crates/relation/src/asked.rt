@@ -9,23 +9,15 @@ use rules::row;
 use rules::third_of;
 ghost use mathlib.Core.Path.{_≡_};
 ghost use Prim.Native.Nat.{_<_, _≤_};
+ghost use Rattle.rt0.specs.declared.Pool.{Pool};
 ghost use Rattle.rt0.specs.laws.Pool.{poolOf, bodyAt};
 ghost use Rattle.rules.specs.laws.Table.{rowOf, rowFor};
 ghost use Rattle.rules.specs.laws.Columns.{fourRows, PartsTo};
 ghost use Rattle.relation.specs.laws.Question.{OwnRow};
 
-// The row of p where e is asked about; old is its row.
-fn asked_row<'a>(
-    n: usize,
-    heads: &'a [u16; 256],
-    kinds: &'a [u8; 256],
-    numbers: &'a [u16; 1024],
-    e: Expression,
-    p: Role,
-    old: usize,
-) -> usize
-    requires { ⌜ old ≡ rowOf (poolOf n (now heads) (now kinds) (now numbers)) p ⌝ }
-    ensures { λ r. ⌜ r ≡ rowFor (poolOf n (now (heads .entry)) (now (kinds .entry)) (now (numbers .entry))) e p ⌝ }
+// The row of p where e is asked about; old is its row, whatever the pool.
+fn asked_row(e: Expression, p: Role, old: usize) -> usize
+    ensures { λ r. ⌜ ((P : Pool) → old ≡ rowOf P p → r ≡ rowFor P e p) ⌝ }
 {
     if old != 128 {
         return old;
@@ -36,23 +28,14 @@ fn asked_row<'a>(
     128
 }
 
-// The rows of the rule of x where e is asked about.
-fn asked_rows<'a>(
-    n: usize,
-    heads: &'a [u16; 256],
-    kinds: &'a [u8; 256],
-    numbers: &'a [u16; 1024],
-    e: Expression,
-    x: Expression,
-    old: Four,
-) -> Four
-    requires { ⌜ old ≡ fourRows (rowOf (poolOf n (now heads) (now kinds) (now numbers))) x ⌝ }
-    ensures { λ r. ⌜ r ≡ fourRows (rowFor (poolOf n (now (heads .entry)) (now (kinds .entry)) (now (numbers .entry))) e) x ⌝ }
+// The rows of the rule of x where e is asked about; old are its rows, whatever the pool.
+fn asked_rows(e: Expression, x: Expression, old: Four) -> Four
+    ensures { λ r. ⌜ ((P : Pool) → old ≡ fourRows (rowOf P) x → r ≡ fourRows (rowFor P e) x) ⌝ }
 {
     match x {
         Expression::Entity(_) => old,
         Expression::Role(p) => {
-            let r = asked_row(n, heads, kinds, numbers, e, p, old.a);
+            let r = asked_row(e, p, old.a);
             Four {
                 a: r,
                 b: r,
@@ -62,10 +45,10 @@ fn asked_rows<'a>(
         }
         Expression::Linked(_, _) => old,
         Expression::Intersection(p) => {
-            let a = asked_row(n, heads, kinds, numbers, e, p.first, old.a);
-            let b = asked_row(n, heads, kinds, numbers, e, p.second, old.b);
-            let c = asked_row(n, heads, kinds, numbers, e, third_of(p), old.c);
-            let d = asked_row(n, heads, kinds, numbers, e, fourth_of(p), old.d);
+            let a = asked_row(e, p.first, old.a);
+            let b = asked_row(e, p.second, old.b);
+            let c = asked_row(e, third_of(p), old.c);
+            let d = asked_row(e, fourth_of(p), old.d);
             Four { a, b, c, d }
         }
         Expression::Goal(_) => old,
@@ -98,7 +81,7 @@ fn asked_body<'a>(
         return old;
     }
     let x = body_at(n, heads, kinds, numbers, i);
-    asked_rows(n, heads, kinds, numbers, e, x, old)
+    asked_rows(e, x, old)
 }
 
 // The four rows of each rule where e is asked about.
@@ -147,15 +130,7 @@ pub fn own_row<'a>(
 {
     match e {
         Expression::Entity(_) => 129,
-        Expression::Role(q) => asked_row(
-            n,
-            heads,
-            kinds,
-            numbers,
-            e,
-            q,
-            row(n, heads, kinds, numbers, q),
-        ),
+        Expression::Role(q) => asked_row(e, q, row(n, heads, kinds, numbers, q)),
         Expression::Linked(_, _) => 129,
         Expression::Intersection(_) => 129,
         Expression::Goal(_) => 129,

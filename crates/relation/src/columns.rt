@@ -6,24 +6,25 @@ use closure::close;
 use closure::mark;
 use expression::Expression;
 use rules::source;
-ghost use Prim.Native.Nat.{_≤_};
+ghost use Prim.Native.Nat.{ℕ, _≤_};
+ghost use mathlib.Core.List.{List};
 ghost use Rattle.rt0.specs.laws.Pool.{poolOf};
 ghost use Rattle.closure.specs.laws.Rules.{rulesOf};
 ghost use Rattle.rules.specs.laws.Ruled.{Ruled};
 ghost use Rattle.relation.specs.laws.Relation.{Relation, Answers};
 
-// The rows of the entity b: its bit of the relation.
+// The rows of the entity b: its bit of the relation, whatever credentials are on.
 fn entity_column<'a>(
     n: usize,
     heads: &'a [u16; 256],
     kinds: &'a [u8; 256],
     numbers: &'a [u16; 1024],
-    on: &'a [u8; 128],
     mem: &'a [u64; 260],
     b: u16,
 ) -> [u64; 260]
-    requires { ⌜ (n ≤ 128) × Relation (poolOf n (now heads) (now kinds) (now numbers)) (now on) (now mem) ⌝ }
-    ensures { λ r. ⌜ Answers (poolOf n (now (heads .entry)) (now (kinds .entry)) (now (numbers .entry))) (now (on .entry)) (Expression.Entity b) 0 r ⌝ }
+    requires { ⌜ n ≤ 128 ⌝ }
+    ensures { λ r. ⌜ ((on : List ℕ) → Relation (poolOf n (now (heads .entry)) (now (kinds .entry)) (now (numbers .entry))) on (now (mem .entry))
+        → Answers (poolOf n (now (heads .entry)) (now (kinds .entry)) (now (numbers .entry))) on (Expression.Entity b) 0 r) ⌝ }
 {
     let mut rows = [0u64; 260];
     let s = source(n, heads, kinds, numbers, b);
@@ -119,7 +120,7 @@ pub fn column<'a>(
     ensures { λ r. ⌜ Answers (poolOf n (now (heads .entry)) (now (kinds .entry)) (now (numbers .entry))) (now (on .entry)) e 0 r ⌝ }
 {
     if let Expression::Entity(b) = e {
-        return entity_column(n, heads, kinds, numbers, on, mem, b);
+        return entity_column(n, heads, kinds, numbers, mem, b);
     }
     rule_column(
         n,

@@ -23,7 +23,7 @@ pub fn seed<'a>(
     rows: &'a mut [u64; 260],
 )
     requires { ⌜ (n ≤ 128) × (i < n) × Column (headRow (poolOf n (now heads) (now kinds) (now numbers))) 128 130 n (now head)
-        × BodiesIn (poolOf n (now heads) (now kinds) (now numbers)) n (now body) × (length (now rows) ≡ 260) ⌝ }
+        × BodiesIn (now kinds) (now numbers) n (now body) × (length (now rows) ≡ 260) ⌝ }
     ensures { λ _. ⌜ Seeded (poolOf n (now (heads .entry)) (now (kinds .entry)) (now (numbers .entry))) i (now (rows .entry)) (now (rows .exit)) ⌝ }
 {
     if kinds[i * 2] != 1 {
@@ -47,7 +47,7 @@ pub fn seeds<'a>(
 {
     let mut rows = [0u64; 260];
     let mut body = [0u64; 260];
-    note_bodies(n, heads, kinds, numbers, &mut body);
+    note_bodies(n, kinds, numbers, &mut body);
     let mut i = 0;
     while i < n {
         if on[i] == 1 {

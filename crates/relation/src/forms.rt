@@ -89,7 +89,7 @@ fn leads<'a>(
     m: u16,
     j: usize,
 ) -> bool
-    requires { ⌜ (n ≤ 128) × (z < 128) × (r < 130) × (j < 128) × BodiesIn (poolOf n (now heads) (now kinds) (now numbers)) n (now body) ⌝ }
+    requires { ⌜ (n ≤ 128) × (z < 128) × (r < 130) × (j < 128) × BodiesIn (now kinds) (now numbers) n (now body) ⌝ }
     ensures { λ b. ⌜ b ≡ leadsAt (poolOf n (now (heads .entry)) (now (kinds .entry)) (now (numbers .entry))) (now (mem .entry)) (now (vals .entry)) z r m j ⌝ }
 {
     if heads[j * 2 + 1] != m {
@@ -122,7 +122,7 @@ fn leads_on<'a>(
         (now (vals .entry)) z r m) ⌝ }
 {
     let mut body = [0u64; 260];
-    note_bodies(n, heads, kinds, numbers, &mut body);
+    note_bodies(n, kinds, numbers, &mut body);
     let mut j = 0;
     while j < n {
         if leads(n, heads, kinds, numbers, &body, mem, vals, z, r, m, j) {

@@ -11,30 +11,32 @@ use expression::same;
 use rt0::body_at;
 use rules::source;
 ghost use mathlib.Core.Path.{_≡_};
-ghost use Prim.Native.Nat.{_<_, _≤_};
+ghost use Prim.Native.Nat.{ℕ, _<_, _≤_};
+ghost use mathlib.Core.List.{List};
 ghost use lib.ListN.{replicate};
 ghost use Rattle.expression.specs.Form.{rawOf};
 ghost use Rattle.expression.specs.Same.{same as sameOf};
 ghost use Rattle.rt0.specs.laws.Pool.{poolOf, bodyAt};
+ghost use Rattle.closure.specs.laws.Rules.{el, Under};
 ghost use Rattle.rules.specs.laws.Table.{rowOf};
 ghost use Rattle.rules.specs.laws.Columns.{Column, headRow, bodyFirst, firstRow};
 ghost use Rattle.relation.specs.laws.Relation.{Relation, ownRole, ownLink, atOnce, Asked};
 ghost use Rattle.relation.specs.laws.Question.{ownBit, startsAt};
 
-// Whether q is B.m, with B in the role a, whose row is r.
+// Whether q is B.m, with B in the role whose row is r.
 fn own_role<'a>(
     n: usize,
     heads: &'a [u16; 256],
     kinds: &'a [u8; 256],
     numbers: &'a [u16; 1024],
     rows: &'a [u64; 260],
-    a: Role,
     m: u16,
     q: Role,
     r: usize,
 ) -> bool
-    requires { ⌜ (n ≤ 128) × (r ≡ rowOf (poolOf n (now heads) (now kinds) (now numbers)) a) ⌝ }
-    ensures { λ r. ⌜ r ≡ ownRole (poolOf n (now (heads .entry)) (now (kinds .entry)) (now (numbers .entry))) (now (rows .entry)) a m (Expression.Role q) ⌝ }
+    requires { ⌜ (n ≤ 128) × (r < 130) ⌝ }
+    ensures { λ b. ⌜ ((a : Role) → r ≡ rowOf (poolOf n (now (heads .entry)) (now (kinds .entry)) (now (numbers .entry))) a
+        → b ≡ ownRole (poolOf n (now (heads .entry)) (now (kinds .entry)) (now (numbers .entry))) (now (rows .entry)) a m (Expression.Role q)) ⌝ }
 {
     if q.name != m {
         return false;
@@ -46,24 +48,24 @@ fn own_role<'a>(
     bit(rows, r, s)
 }
 
-// Whether e is B.m, with B in the role a, whose row is r.
+// Whether e is B.m, with B in the role whose row is r.
 fn own<'a>(
     n: usize,
     heads: &'a [u16; 256],
     kinds: &'a [u8; 256],
     numbers: &'a [u16; 1024],
     rows: &'a [u64; 260],
-    a: Role,
     m: u16,
     e: Expression,
     r: usize,
 ) -> bool
-    requires { ⌜ (n ≤ 128) × (r ≡ rowOf (poolOf n (now heads) (now kinds) (now numbers)) a) ⌝ }
-    ensures { λ r. ⌜ r ≡ ownRole (poolOf n (now (heads .entry)) (now (kinds .entry)) (now (numbers .entry))) (now (rows .entry)) a m e ⌝ }
+    requires { ⌜ (n ≤ 128) × (r < 130) ⌝ }
+    ensures { λ b. ⌜ ((a : Role) → r ≡ rowOf (poolOf n (now (heads .entry)) (now (kinds .entry)) (now (numbers .entry))) a
+        → b ≡ ownRole (poolOf n (now (heads .entry)) (now (kinds .entry)) (now (numbers .entry))) (now (rows .entry)) a m e) ⌝ }
 {
     match e {
         Expression::Entity(_) => false,
-        Expression::Role(q) => own_role(n, heads, kinds, numbers, rows, a, m, q, r),
+        Expression::Role(q) => own_role(n, heads, kinds, numbers, rows, m, q, r),
         Expression::Linked(_, _) => false,
         Expression::Intersection(_) => false,
         Expression::Goal(_) => false,
@@ -90,7 +92,7 @@ pub fn once<'a>(
     match x {
         Expression::Entity(_) => false,
         Expression::Role(_) => false,
-        Expression::Linked(a, m) => own(n, heads, kinds, numbers, rows, a, m, e, r),
+        Expression::Linked(_, m) => own(n, heads, kinds, numbers, rows, m, e, r),
         Expression::Intersection(_) => false,
         Expression::Goal(_) => false,
     }
@@ -116,23 +118,22 @@ fn own_source<'a>(
     }
 }
 
-// Whether body i is a link that leads to e, a role with name m, the bit of whose entity is s.
+// Whether body i is a link that leads to a role with name m, the bit of whose entity is s, whatever the heads.
 fn leads_to<'a>(
-    n: usize,
-    heads: &'a [u16; 256],
     kinds: &'a [u8; 256],
     numbers: &'a [u16; 1024],
     first: &'a [usize; 128],
     rows: &'a [u64; 260],
-    e: Expression,
     m: u16,
     s: usize,
     i: usize,
 ) -> bool
-    requires { ⌜ (n ≤ 128) × (i < n) × Column (bodyFirst (poolOf n (now heads) (now kinds) (now numbers))) 128 130 n (now first) × (m ≡ rawOf e .n1)
-        × (s ≡ ownBit (poolOf n (now heads) (now kinds) (now numbers)) e) ⌝ }
-    ensures { λ r. ⌜ r ≡ ownLink (poolOf n (now (heads .entry)) (now (kinds .entry)) (now (numbers .entry))) (now (rows .entry)) e
-        (bodyAt (poolOf n (now (heads .entry)) (now (kinds .entry)) (now (numbers .entry))) i) ⌝ }
+    requires { ⌜ (i < 128) × Under 130 (now first) ⌝ }
+    ensures { λ r. ⌜ ((n : ℕ) (H : List ℕ) (e : Expression)
+        → el (now (first .entry)) i ≡ bodyFirst (poolOf n H (now (kinds .entry)) (now (numbers .entry))) i → m ≡ rawOf e .n1
+        → s ≡ ownBit (poolOf n H (now (kinds .entry)) (now (numbers .entry))) e
+        → r ≡ ownLink (poolOf n H (now (kinds .entry)) (now (numbers .entry))) (now (rows .entry)) e
+        (bodyAt (poolOf n H (now (kinds .entry)) (now (numbers .entry))) i)) ⌝ }
 {
     if kinds[i * 2] != 3 {
         return false;
@@ -195,7 +196,7 @@ fn starts<'a>(
     if on[i] != 1 {
         return false;
     }
-    if leads_to(n, heads, kinds, numbers, first, rows, e, raw.n1, s, i) {
+    if leads_to(kinds, numbers, first, rows, raw.n1, s, i) {
         return true;
     }
     is_e(n, heads, kinds, numbers, e, raw, i)

@@ -54,13 +54,11 @@ fn least_of(lo: u64, hi: u64) -> usize
 pub fn note_heads<'a>(
     n: usize,
     heads: &'a [u16; 256],
-    kinds: &'a [u8; 256],
-    numbers: &'a [u16; 1024],
     entity: &'a mut [u64; 260],
     name: &'a mut [u64; 260],
 )
     requires { ⌜ (n ≤ 128) × (length (now entity) ≡ 260) × (length (now name) ≡ 260) ⌝ }
-    ensures { λ _. ⌜ HeadsIn (poolOf n (now (heads .entry)) (now (kinds .entry)) (now (numbers .entry))) n (now (entity .exit)) (now (name .exit)) ⌝ }
+    ensures { λ _. ⌜ HeadsIn (now (heads .entry)) n (now (entity .exit)) (now (name .exit)) ⌝ }
 {
     let mut j = 0;
     while j < n {
@@ -73,13 +71,12 @@ pub fn note_heads<'a>(
 // The table of the entities that are bodies.
 pub fn note_bodies<'a>(
     n: usize,
-    heads: &'a [u16; 256],
     kinds: &'a [u8; 256],
     numbers: &'a [u16; 1024],
     body: &'a mut [u64; 260],
 )
     requires { ⌜ (n ≤ 128) × (length (now body) ≡ 260) ⌝ }
-    ensures { λ _. ⌜ BodiesIn (poolOf n (now (heads .entry)) (now (kinds .entry)) (now (numbers .entry))) n (now (body .exit)) ⌝ }
+    ensures { λ _. ⌜ BodiesIn (now (kinds .entry)) (now (numbers .entry)) n (now (body .exit)) ⌝ }
 {
     let mut j = 0;
     while j < n {
@@ -100,7 +97,7 @@ pub fn find_row<'a>(
     name: &'a [u64; 260],
     p: Role,
 ) -> usize
-    requires { ⌜ (n ≤ 128) × HeadsIn (poolOf n (now heads) (now kinds) (now numbers)) n (now entity) (now name) ⌝ }
+    requires { ⌜ (n ≤ 128) × HeadsIn (now heads) n (now entity) (now name) ⌝ }
     ensures { λ r. ⌜ r ≡ rowOf (poolOf n (now (heads .entry)) (now (kinds .entry)) (now (numbers .entry))) p ⌝ }
 {
     let lo = alike(entity, p.entity, 0) & alike(name, p.name, 0);
@@ -109,7 +106,7 @@ pub fn find_row<'a>(
     if n <= j {
         return 128;
     }
-    if is_head(n, heads, kinds, numbers, p, j) {
+    if is_head(heads, p, j) {
         return j;
     }
     row(n, heads, kinds, numbers, p)
@@ -124,7 +121,7 @@ pub fn find_source<'a>(
     body: &'a [u64; 260],
     b: u16,
 ) -> usize
-    requires { ⌜ (n ≤ 128) × BodiesIn (poolOf n (now heads) (now kinds) (now numbers)) n (now body) ⌝ }
+    requires { ⌜ (n ≤ 128) × BodiesIn (now kinds) (now numbers) n (now body) ⌝ }
     ensures { λ r. ⌜ r ≡ bitOf (poolOf n (now (heads .entry)) (now (kinds .entry)) (now (numbers .entry))) b ⌝ }
 {
     let lo = alike(body, b, 0);
@@ -133,7 +130,7 @@ pub fn find_source<'a>(
     if n <= s {
         return 128;
     }
-    if is_body(n, heads, kinds, numbers, b, s) {
+    if is_body(kinds, numbers, b, s) {
         return s;
     }
     source(n, heads, kinds, numbers, b)

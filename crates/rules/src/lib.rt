@@ -79,7 +79,7 @@ fn meet_rows<'a>(
     name: &'a [u64; 260],
     p: Parts,
 ) -> Four
-    requires { ⌜ (n ≤ 128) × HeadsIn (poolOf n (now heads) (now kinds) (now numbers)) n (now entity) (now name) ⌝ }
+    requires { ⌜ (n ≤ 128) × HeadsIn (now heads) n (now entity) (now name) ⌝ }
     ensures { λ r. ⌜ r ≡ fourRows (rowOf (poolOf n (now (heads .entry)) (now (kinds .entry)) (now (numbers .entry)))) (Expression.Intersection p) ⌝ }
 {
     let a = find_row(n, heads, kinds, numbers, entity, name, p.first);
@@ -105,7 +105,7 @@ pub fn rows_of<'a>(
     name: &'a [u64; 260],
     x: Expression,
 ) -> Four
-    requires { ⌜ (n ≤ 128) × HeadsIn (poolOf n (now heads) (now kinds) (now numbers)) n (now entity) (now name) ⌝ }
+    requires { ⌜ (n ≤ 128) × HeadsIn (now heads) n (now entity) (now name) ⌝ }
     ensures { λ r. ⌜ r ≡ fourRows (rowOf (poolOf n (now (heads .entry)) (now (kinds .entry)) (now (numbers .entry)))) x ⌝ }
 {
     match x {
@@ -150,7 +150,7 @@ pub fn first_of<'a>(
     name: &'a [u64; 260],
     x: Expression,
 ) -> usize
-    requires { ⌜ (n ≤ 128) × HeadsIn (poolOf n (now heads) (now kinds) (now numbers)) n (now entity) (now name) ⌝ }
+    requires { ⌜ (n ≤ 128) × HeadsIn (now heads) n (now entity) (now name) ⌝ }
     ensures { λ r. ⌜ r ≡ firstRow (poolOf n (now (heads .entry)) (now (kinds .entry)) (now (numbers .entry))) x ⌝ }
 {
     match x {
@@ -184,7 +184,7 @@ fn head_rows<'a>(
     entity: &'a [u64; 260],
     name: &'a [u64; 260],
 ) -> [usize; 128]
-    requires { ⌜ (n ≤ 128) × HeadsIn (poolOf n (now heads) (now kinds) (now numbers)) n (now entity) (now name) ⌝ }
+    requires { ⌜ (n ≤ 128) × HeadsIn (now heads) n (now entity) (now name) ⌝ }
     ensures { λ r. ⌜ Column (headRow (poolOf n (now (heads .entry)) (now (kinds .entry)) (now (numbers .entry)))) 128 130 n r ⌝ }
 {
     let mut head = [128usize; 128];
@@ -208,10 +208,10 @@ fn first_at<'a>(
     name: &'a [u64; 260],
     i: usize,
 ) -> usize
-    requires { ⌜ (n ≤ 128) × (i < 128) × HeadsIn (poolOf n (now heads) (now kinds) (now numbers)) n (now entity) (now name) ⌝ }
+    requires { ⌜ (n ≤ 128) × (i < 128) × HeadsIn (now heads) n (now entity) (now name) ⌝ }
     ensures { λ r. ⌜ r ≡ bodyFirst (poolOf n (now (heads .entry)) (now (kinds .entry)) (now (numbers .entry))) i ⌝ }
 {
-    if !has_link(n, heads, kinds, numbers, i) {
+    if !has_link(kinds, i) {
         return 128;
     }
     first_of(
@@ -234,7 +234,7 @@ fn first_rows<'a>(
     entity: &'a [u64; 260],
     name: &'a [u64; 260],
 ) -> [usize; 128]
-    requires { ⌜ (n ≤ 128) × HeadsIn (poolOf n (now heads) (now kinds) (now numbers)) n (now entity) (now name) ⌝ }
+    requires { ⌜ (n ≤ 128) × HeadsIn (now heads) n (now entity) (now name) ⌝ }
     ensures { λ r. ⌜ Column (bodyFirst (poolOf n (now (heads .entry)) (now (kinds .entry)) (now (numbers .entry)))) 128 130 n r ⌝ }
 {
     let mut first = [128usize; 128];
@@ -256,7 +256,7 @@ fn part_rows<'a>(
     entity: &'a [u64; 260],
     name: &'a [u64; 260],
 ) -> [usize; 512]
-    requires { ⌜ (n ≤ 128) × HeadsIn (poolOf n (now heads) (now kinds) (now numbers)) n (now entity) (now name) ⌝ }
+    requires { ⌜ (n ≤ 128) × HeadsIn (now heads) n (now entity) (now name) ⌝ }
     ensures { λ r. ⌜ PartsTo (rowOf (poolOf n (now (heads .entry)) (now (kinds .entry)) (now (numbers .entry))))
         (poolOf n (now (heads .entry)) (now (kinds .entry)) (now (numbers .entry))) n r ⌝ }
 {
@@ -295,11 +295,11 @@ pub fn rules_of<'a>(
 {
     let mut entity = [0u64; 260];
     let mut name = [0u64; 260];
-    note_heads(n, heads, kinds, numbers, &mut entity, &mut name);
+    note_heads(n, heads, &mut entity, &mut name);
     let head = head_rows(n, heads, kinds, numbers, &entity, &name);
     let part = part_rows(n, heads, kinds, numbers, &entity, &name);
     let first = first_rows(n, heads, kinds, numbers, &entity, &name);
-    let lit = has_links(n, heads, kinds, numbers);
+    let lit = has_links(n, kinds);
     let links = linkable(n, heads, kinds, numbers, &head, lit);
     let src = links.src;
     let able = links.able;

@@ -7,40 +7,31 @@ use expression::Expression;
 use rt0::body_at;
 ghost use mathlib.Core.Path.{_≡_};
 ghost use mathlib.Core.Bool.{true};
-ghost use Prim.Native.Nat.{_<_, _≤_, _+_};
+ghost use mathlib.Core.List.{List};
+ghost use Prim.Native.Nat.{ℕ, _<_, _≤_, _+_};
 ghost use lib.ListN.{length};
 ghost use Rattle.rt0.specs.laws.Pool.{poolOf};
 ghost use Rattle.word.specs.laws.Search.{anyTo};
-ghost use Rattle.rules.specs.laws.Columns.{Column, headRow, Able, NamedRow, NamedLink, NamesTo, isNamed, hasLink, linkSource, SameLink, copied};
+ghost use Rattle.rules.specs.laws.Columns.{Column, headRow, Able, NamedRow, NamedLink, NamesTo, isNamedIn, hasLink, hasLinkIn, linkSource};
+ghost use Rattle.rules.specs.laws.Columns.{SameLink, copied};
 ghost use Rattle.rules.specs.laws.Digits.{BodiesIn};
 
 // Whether body i is a link.
-pub fn has_link<'a>(
-    n: usize,
-    heads: &'a [u16; 256],
-    kinds: &'a [u8; 256],
-    numbers: &'a [u16; 1024],
-    i: usize,
-) -> bool
+pub fn has_link<'a>(kinds: &'a [u8; 256], i: usize) -> bool
     requires { ⌜ i < 128 ⌝ }
-    ensures { λ r. ⌜ r ≡ hasLink (poolOf n (now (heads .entry)) (now (kinds .entry)) (now (numbers .entry))) i ⌝ }
+    ensures { λ r. ⌜ r ≡ hasLinkIn (now (kinds .entry)) i ⌝ }
 {
     kinds[i * 2] == 3
 }
 
 // Whether a credential has a linked body.
-pub fn has_links<'a>(
-    n: usize,
-    heads: &'a [u16; 256],
-    kinds: &'a [u8; 256],
-    numbers: &'a [u16; 1024],
-) -> bool
+pub fn has_links<'a>(n: usize, kinds: &'a [u8; 256]) -> bool
     requires { ⌜ n ≤ 128 ⌝ }
-    ensures { λ r. ⌜ r ≡ anyTo n (hasLink (poolOf n (now (heads .entry)) (now (kinds .entry)) (now (numbers .entry)))) ⌝ }
+    ensures { λ r. ⌜ r ≡ anyTo n (hasLinkIn (now (kinds .entry))) ⌝ }
 {
     let mut i = 0;
     while i < n {
-        if has_link(n, heads, kinds, numbers, i) {
+        if has_link(kinds, i) {
             return true;
         }
         i += 1;
@@ -59,7 +50,7 @@ fn link_source<'a>(
     j: usize,
 ) -> usize
     requires { ⌜ (n ≤ 128) × (j < n) × Column (headRow (poolOf n (now heads) (now kinds) (now numbers))) 128 130 n (now head)
-        × BodiesIn (poolOf n (now heads) (now kinds) (now numbers)) n (now body) ⌝ }
+        × BodiesIn (now kinds) (now numbers) n (now body) ⌝ }
     ensures { λ r. ⌜ r ≡ linkSource (poolOf n (now (heads .entry)) (now (kinds .entry)) (now (numbers .entry))) j ⌝ }
 {
     if head[j] != j {
@@ -87,7 +78,7 @@ pub fn linkable<'a>(
         return Links { src, able };
     }
     let mut body = [0u64; 260];
-    note_bodies(n, heads, kinds, numbers, &mut body);
+    note_bodies(n, kinds, numbers, &mut body);
     while j < n {
         let s = link_source(n, heads, kinds, numbers, head, &body, j);
         if s < 128 {
@@ -100,17 +91,9 @@ pub fn linkable<'a>(
 }
 
 // Whether links can go by head j, and its name is m.
-fn is_named<'a>(
-    n: usize,
-    heads: &'a [u16; 256],
-    kinds: &'a [u8; 256],
-    numbers: &'a [u16; 1024],
-    able: &'a [u8; 128],
-    m: u16,
-    j: usize,
-) -> bool
+fn is_named<'a>(heads: &'a [u16; 256], able: &'a [u8; 128], m: u16, j: usize) -> bool
     requires { ⌜ j < 128 ⌝ }
-    ensures { λ r. ⌜ r ≡ isNamed (poolOf n (now (heads .entry)) (now (kinds .entry)) (now (numbers .entry))) (now (able .entry)) m j ⌝ }
+    ensures { λ r. ⌜ r ≡ isNamedIn (now (heads .entry)) (now (able .entry)) m j ⌝ }
 {
     (able[j] == 1) & (heads[j * 2 + 1] == m)
 }
@@ -119,20 +102,17 @@ fn is_named<'a>(
 fn name_row<'a>(
     n: usize,
     heads: &'a [u16; 256],
-    kinds: &'a [u8; 256],
-    numbers: &'a [u16; 1024],
     able: &'a [u8; 128],
     i: usize,
     m: u16,
     named: &'a mut [u64; 260],
 )
     requires { ⌜ (n ≤ 128) × (i < 128) × (length (now named) ≡ 260) ⌝ }
-    ensures { λ _. ⌜ NamedRow (poolOf n (now (heads .entry)) (now (kinds .entry)) (now (numbers .entry))) (now (able .entry)) i m n
-        (now (named .entry)) (now (named .exit)) ⌝ }
+    ensures { λ _. ⌜ ((K N : List ℕ) → NamedRow (poolOf n (now (heads .entry)) K N) (now (able .entry)) i m n (now (named .entry)) (now (named .exit))) ⌝ }
 {
     let mut j = 0;
     while j < n {
-        if is_named(n, heads, kinds, numbers, able, m, j) {
+        if is_named(heads, able, m, j) {
             mark(named, i, j);
         }
         j += 1;
@@ -143,42 +123,32 @@ fn name_row<'a>(
 pub fn name_link<'a>(
     n: usize,
     heads: &'a [u16; 256],
-    kinds: &'a [u8; 256],
-    numbers: &'a [u16; 1024],
     able: &'a [u8; 128],
     i: usize,
     x: Expression,
     named: &'a mut [u64; 260],
 )
     requires { ⌜ (n ≤ 128) × (i < 128) × (length (now named) ≡ 260) ⌝ }
-    ensures { λ _. ⌜ NamedLink (poolOf n (now (heads .entry)) (now (kinds .entry)) (now (numbers .entry))) (now (able .entry)) i n x
-        (now (named .entry)) (now (named .exit)) ⌝ }
+    ensures { λ _. ⌜ ((K N : List ℕ) → NamedLink (poolOf n (now (heads .entry)) K N) (now (able .entry)) i n x (now (named .entry)) (now (named .exit))) ⌝ }
 {
     match x {
         Expression::Entity(_) => {}
         Expression::Role(_) => {}
-        Expression::Linked(_, m) => name_row(n, heads, kinds, numbers, able, i, m, named),
+        Expression::Linked(_, m) => name_row(n, heads, able, i, m, named),
         Expression::Intersection(_) => {}
         Expression::Goal(_) => {}
     }
 }
 
 // Whether bodies k and i are links with one name, and k comes before i, a link.
-fn same_link<'a>(
-    n: usize,
-    heads: &'a [u16; 256],
-    kinds: &'a [u8; 256],
-    numbers: &'a [u16; 1024],
-    k: usize,
-    i: usize,
-) -> bool
+fn same_link<'a>(kinds: &'a [u8; 256], numbers: &'a [u16; 1024], k: usize, i: usize) -> bool
     requires { ⌜ (k < 128) × (i < 128) ⌝ }
-    ensures { λ r. ⌜ SameLink (poolOf n (now (heads .entry)) (now (kinds .entry)) (now (numbers .entry))) k i r ⌝ }
+    ensures { λ r. ⌜ SameLink (now (kinds .entry)) (now (numbers .entry)) k i r ⌝ }
 {
     if i <= k {
         return false;
     }
-    if !has_link(n, heads, kinds, numbers, k) {
+    if !has_link(kinds, k) {
         return false;
     }
     numbers[k * 8 + 2] == numbers[i * 8 + 2]
@@ -210,12 +180,12 @@ fn name_next<'a>(
         × NamesTo (poolOf n (now heads) (now kinds) (now numbers)) (now able) i (now named) ⌝ }
     ensures { λ _. ⌜ NamesTo (poolOf n (now (heads .entry)) (now (kinds .entry)) (now (numbers .entry))) (now (able .entry)) (i + 1) (now (named .exit)) ⌝ }
 {
-    if same_link(n, heads, kinds, numbers, k, i) {
+    if same_link(kinds, numbers, k, i) {
         copy_row(k, i, named);
         return;
     }
     let x = body_at(n, heads, kinds, numbers, i);
-    name_link(n, heads, kinds, numbers, able, i, x, named);
+    name_link(n, heads, able, i, x, named);
 }
 
 // The heads that each rule names.
@@ -233,7 +203,7 @@ pub fn names<'a>(
     let mut k = 0;
     let mut i = 0;
     while i < n {
-        if has_link(n, heads, kinds, numbers, i) {
+        if has_link(kinds, i) {
             name_next(n, heads, kinds, numbers, able, k, i, &mut named);
             k = i;
         }

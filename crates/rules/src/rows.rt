@@ -3,19 +3,12 @@ use expression::Role;
 ghost use mathlib.Core.Path.{_≡_};
 ghost use Prim.Native.Nat.{_<_, _≤_};
 ghost use Rattle.rt0.specs.laws.Pool.{poolOf};
-ghost use Rattle.rules.specs.laws.Table.{isHead, rowOf, isBody, bitOf};
+ghost use Rattle.rules.specs.laws.Table.{isHeadIn, rowOf, isBodyIn, bitOf};
 
 // Whether credential j has p as its head.
-pub fn is_head<'a>(
-    n: usize,
-    heads: &'a [u16; 256],
-    kinds: &'a [u8; 256],
-    numbers: &'a [u16; 1024],
-    p: Role,
-    j: usize,
-) -> bool
+pub fn is_head<'a>(heads: &'a [u16; 256], p: Role, j: usize) -> bool
     requires { ⌜ j < 128 ⌝ }
-    ensures { λ r. ⌜ r ≡ isHead (poolOf n (now (heads .entry)) (now (kinds .entry)) (now (numbers .entry))) p j ⌝ }
+    ensures { λ r. ⌜ r ≡ isHeadIn (now (heads .entry)) p j ⌝ }
 {
     if heads[j * 2] != p.entity {
         return false;
@@ -36,7 +29,7 @@ pub fn row<'a>(
 {
     let mut j = 0;
     while j < n {
-        if is_head(n, heads, kinds, numbers, p, j) {
+        if is_head(heads, p, j) {
             return j;
         }
         j += 1;
@@ -45,16 +38,9 @@ pub fn row<'a>(
 }
 
 // Whether credential s has the entity b as its body.
-pub fn is_body<'a>(
-    n: usize,
-    heads: &'a [u16; 256],
-    kinds: &'a [u8; 256],
-    numbers: &'a [u16; 1024],
-    b: u16,
-    s: usize,
-) -> bool
+pub fn is_body<'a>(kinds: &'a [u8; 256], numbers: &'a [u16; 1024], b: u16, s: usize) -> bool
     requires { ⌜ s < 128 ⌝ }
-    ensures { λ r. ⌜ r ≡ isBody (poolOf n (now (heads .entry)) (now (kinds .entry)) (now (numbers .entry))) b s ⌝ }
+    ensures { λ r. ⌜ r ≡ isBodyIn (now (kinds .entry)) (now (numbers .entry)) b s ⌝ }
 {
     if numbers[s * 8] != b {
         return false;
@@ -75,7 +61,7 @@ pub fn source<'a>(
 {
     let mut s = 0;
     while s < n {
-        if is_body(n, heads, kinds, numbers, b, s) {
+        if is_body(kinds, numbers, b, s) {
             return s;
         }
         s += 1;

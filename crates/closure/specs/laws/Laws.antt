@@ -14,7 +14,7 @@ use lib.Seq.{getD-set-same, getD-set-other}
 use Rattle.word.specs.laws.Bit.{bitAt, only, bit-or, bit-and, bit-zero, bit-only, without, without-sub, without-gone, or-more}
 use Rattle.word.specs.laws.Bools.{false-true, or-neither, and-parts}
 use Rattle.closure.specs.declared.Rules.{Rules}
-use Rattle.closure.specs.laws.Rules.{el, bits, Fits, Takes, memOf, memRows, Used, Model, Within, Grown, Closed, Marked}
+use Rattle.closure.specs.laws.Rules.{el, bits, Under, Fits, Takes, memOf, memRows, Used, Model, Within, Grown, Closed, Marked}
 use Rattle.closure.specs.laws.Words.{InWord, LinksOf, meetOf, WordOf, room, Unchanged, TurnOf, RuleOf, PassOf, Poured, HeldOf, FullOf, level}
 use Rattle.closure.specs.laws.Words.{FilledOf, RestsOf, StillOf}
 
@@ -305,20 +305,19 @@ takes-part f t = record { meet = λ s z. t .meet s (f s z); link = λ j s z. t .
 
 -- One turn
 
-module _ (X : Rules) (own : Bool) (M : List ℕ) (i h : ℕ) (K : List ℕ) (w : ℕ) (fits : Fits X) (lt : h < X .words) (size : length K ≡ 260)
-    (word : WordOf X i h K (memRows own K M) w) where
+module _ (X : Rules) (own : Bool) (M : List ℕ) (i h : ℕ) (K : List ℕ) (w : ℕ) (under : Under 130 (X .head)) (two : h < 2) (lt : h < X .words)
+    (size : length K ≡ 260) (word : WordOf X i h K (memRows own K M) w) where
   pub turn-new : (v : ℕ) → v ≡ bitOr (el K (el (X .head) i * 2 + h)) w → (v ≡ el K (el (X .head) i * 2 + h) → ⊥) → el K (el (X .head) i * 2 + h) < 2 ^ 64
       → TurnOf X own M i h K (set K (el (X .head) i * 2 + h) v) true
   turn-new v e new b =
       let r = el (X .head) i in
-      let u : h < 2 = omega (arith, fits .words) in
-      let l : r * 2 + h < length K = omega (arith, fits .head .under i) in
+      let l : r * 2 + h < length K = omega (arith, under .under i) in
       let m : el K (r * 2 + h) < bitOr (el K (r * 2 + h)) w = lib.Arith.lt-of-le-ne (or-more (el K (r * 2 + h)) w) (λ q. new (e ∙ sym q)) in
       subst (λ (x : ℕ). TurnOf X own M i h K (set K (r * 2 + h) x) true) (sym e)
       record {
         sized = length-set K (r * 2 + h) _ ∙ size;
-        kept = take-kept K r h w u l;
-        least = λ G t k. take-in K r h w u l G k
+        kept = take-kept K r h w two l;
+        least = λ G t k. take-in K r h w two l G k
             (λ s z q. word .least (memOf own G (bits M)) G (G r) k (mem-within own K M G k) (takes-part (λ s z. omega arith) t) s z q);
         fewer = room-set K (r * 2 + h) (bitOr (el K (r * 2 + h)) w) l m b;
         same = λ q. absurd (true-false q);
@@ -341,7 +340,7 @@ module _ (X : Rules) (own : Bool) (M : List ℕ) (i h : ℕ) (K : List ℕ) (w :
     where
       in′ : (s : ℕ) → s / 64 ≡ h → bitAt w (s % 64) ≡ true → bits K (el (X .head) i) s ≡ true
       in′ s z q =
-          word-bits K (el (X .head) i) s h (omega (arith, fits .words)) z
+          word-bits K (el (X .head) i) s h two z
           (ap (λ (x : ℕ). bitAt x (s % 64)) (sym same ∙ e) ∙ or-right (el K (el (X .head) i * 2 + h)) w (s % 64) q)
 
 -- One rule, word by word
@@ -473,9 +472,8 @@ module _ (w j r : ℕ) where
   pub add-more : {K₀ K K′ : List ℕ} → Poured w j r K₀ K → Poured w j r K K′ → Poured w j r K₀ K′
   add-more a b = record { sized = b .sized; kept = within-trans (a .kept) (b .kept); least = λ G f k. b .least G f (a .least G f k) }
 
-  pub add-word : (K : List ℕ) (h : ℕ) → w ≤ 2 → h < w → r < 130 → length K ≡ 260 → Poured w j r K (take K (r * 2 + h) (el K (j * 2 + h)))
-  add-word K h m n l e =
-      let u : h < 2 = omega arith in
+  pub add-word : (K : List ℕ) (h : ℕ) → h < 2 → h < w → r < 130 → length K ≡ 260 → Poured w j r K (take K (r * 2 + h) (el K (j * 2 + h)))
+  add-word K h u n l e =
       let z : r * 2 + h < length K = omega arith in
       record {
         sized = length-set K (r * 2 + h) _ ∙ e;
@@ -497,13 +495,14 @@ link-grown {own = own} {M} {K} {i = i} {j} l o n m p =
     }
 
 -- A rule along some of its links, in the first word
-pub links-grown : (X : Rules) (on : List ℕ) (own : Bool) (M K : List ℕ) (i m w : ℕ) → Fits X → 0 < X .words → length K ≡ 260 → i < X .count → el on i ≡ 1
-    → LinksOf (bitAnd m (el (X .named) (i * 2))) 0 0 (el (X .first) i) (X .src) K (memRows own K M) w → Grown X on own M K (take K (el (X .head) i * 2) w)
-links-grown X on own M K i m w fits some size l o links =
+pub links-grown : (X : Rules) (on : List ℕ) (own : Bool) (M K : List ℕ) (i m w : ℕ) → Under 130 (X .head) → 0 < X .words → length K ≡ 260 → i < X .count
+    → el on i ≡ 1 → LinksOf (bitAnd m (el (X .named) (i * 2))) 0 0 (el (X .first) i) (X .src) K (memRows own K M) w
+    → Grown X on own M K (take K (el (X .head) i * 2) w)
+links-grown X on own M K i m w under some size l o links =
     let r = el (X .head) i in
     let e : r * 2 + 0 ≡ r * 2 = add-zero (r * 2) in
     let u : _<_ 0 2 = omega arith in
-    let z : r * 2 + 0 < length K = omega (arith, fits .head .under i) in
+    let z : r * 2 + 0 < length K = omega (arith, under .under i) in
     let says : Says X i 0 K (memRows own K M) 0 w = λ t b.
     (let q = links .says t b in (
       q .0,
@@ -604,14 +603,14 @@ rule-full X on own M K i lo hi fits size within full e =
 -- The first word alone
 
 -- a rule's row takes in what its parts share
-pub meet-grown : (X : Rules) (on : List ℕ) (own : Bool) (M K : List ℕ) (i w : ℕ) → Fits X → 0 < X .words → length K ≡ 260 → i < X .count → el on i ≡ 1
-    → w ≡ meetOf K (el (X .part) (i * 4)) (el (X .part) (i * 4 + 1)) (el (X .part) (i * 4 + 2)) (el (X .part) (i * 4 + 3)) 0
+pub meet-grown : (X : Rules) (on : List ℕ) (own : Bool) (M K : List ℕ) (i w : ℕ) → Under 130 (X .head) → 0 < X .words → length K ≡ 260 → i < X .count
+    → el on i ≡ 1 → w ≡ meetOf K (el (X .part) (i * 4)) (el (X .part) (i * 4 + 1)) (el (X .part) (i * 4 + 2)) (el (X .part) (i * 4 + 3)) 0
     → Grown X on own M K (take K (el (X .head) i * 2) w)
-meet-grown X on own M K i w fits some size l o is =
+meet-grown X on own M K i w under some size l o is =
     let r = el (X .head) i in
     let e : r * 2 + 0 ≡ r * 2 = add-zero (r * 2) in
     let u : _<_ 0 2 = omega arith in
-    let z : r * 2 + 0 < length K = omega (arith, fits .head .under i) in
+    let z : r * 2 + 0 < length K = omega (arith, under .under i) in
     subst (λ (x : ℕ). Grown X on own M K (take K x w)) e
     record {
       sized = length-set K (r * 2 + 0) _ ∙ size;

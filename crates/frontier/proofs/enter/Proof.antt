@@ -1,4 +1,5 @@
-use Prim.Native.Nat.{_-_}
+use Prim.Native.Nat.{ℕ, _-_}
+use mathlib.Core.List.{List, []}
 use native.Mathlib.Omega.{arith}
 use Rattle.expression.specs.declared.Expression.the-variants as E
 use Rattle.rt0.specs.laws.Pool.{poolOf}
@@ -8,23 +9,24 @@ use Rattle.frontier.proofs.enter.Statement.{statement}
 use Rattle.frontier.proofs.enter.Tie as tie
 
 abbrev Inv-loop : tie.InvT-loop
-Inv-loop n heads kinds numbers on found₀ queue₀ tail p t₀ i₀ found queue t i =
-    Entered (poolOf n heads kinds numbers) on (work found₀ queue₀ tail) (work found queue t) (E.Role p) i
+Inv-loop n heads on found₀ queue₀ tail p t₀ i₀ found queue t i =
+    (K N : List ℕ) → Entered (poolOf n heads K N) on (work found₀ queue₀ tail) (work found queue t) (E.Role p) i
 
 abbrev μ-loop : tie.MeasureT-loop
-μ-loop n heads kinds numbers on found₀ queue₀ tail p t₀ i₀ found queue t i = n - i
+μ-loop n heads on found₀ queue₀ tail p t₀ i₀ found queue t i = n - i
 
 loop-holds : tie.Need-loop-holds Inv-loop μ-loop
-loop-holds c = enter-start _ _ _ _ (c .pre .1)
+loop-holds c = λ K N. enter-start _ _ _ _ (c .pre .1)
 
 join-requires : tie.Need-join-requires Inv-loop μ-loop
-join-requires c κs = (c .before .before .loop-test .taken, c .before .before .before .before .pre .0, c .before .before .before .loop .inv .base)
+join-requires c κs =
+    (omega (arith, c .before .before .loop-test .taken, c .before .before .before .before .pre .0), c .before .before .before .loop .inv [] [] .base)
 
 loop-again : tie.Need-loop-again Inv-loop μ-loop
-loop-again c = enter-next _ (c .before .before .before .before .loop .inv) (c .join .ensures)
+loop-again c = λ K N. enter-next _ (c .before .before .before .before .loop .inv K N) (c .join .ensures _ K N (c .before .before .before .loop-test .taken))
 
 returns : tie.Need-returns Inv-loop μ-loop
-returns c = enter-all _ (c .loop-test .left) (c .before .loop .inv)
+returns c = λ K N. enter-all _ (c .loop-test .left) (c .before .loop .inv K N)
 
 pub enter-spec : {M : Type 1} → statement M
 enter-spec =

@@ -1,4 +1,5 @@
 use Prim.Native.Nat.{_-_}
+use mathlib.Core.List.{[]}
 use native.Mathlib.Omega.{arith}
 use Rattle.rt0.specs.laws.Pool.{poolOf}
 use Rattle.frontier.specs.laws.Queue.{work, Running}
@@ -17,7 +18,7 @@ enter-requires : tie.Need-enter-requires Inv-loop μ-loop
 enter-requires c κs = (c .before .before .pre, empty)
 
 loop-holds : tie.Need-loop-holds Inv-loop μ-loop
-loop-holds c = run-start (c .enter .ensures .base)
+loop-holds c = run-start (c .enter .ensures [] [] .base)
 
 array-read-wide : tie.Need-array-read-wide Inv-loop μ-loop
 array-read-wide c = omega (arith, tail-few (c .before .loop .inv .base))
@@ -47,7 +48,7 @@ loop-again c =
     run-next _ (c4 .loop-test .taken) (c3 .wide .ensures) (c5 .loop .inv) (c .follow .ensures)
 
 returns : tie.Need-returns Inv-loop μ-loop
-returns c = run-end _ (c .loop-test .left) (c .before .before .enter .ensures) (c .before .loop .inv)
+returns c = run-end _ (c .loop-test .left) (c .before .before .enter .ensures _ _) (c .before .loop .inv)
 
 pub reached-spec : {M : Type 1} → statement M
 reached-spec =

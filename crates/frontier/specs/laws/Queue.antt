@@ -1,5 +1,5 @@
 -- What the queue of the credentials found keeps. Assumes nothing.
-use Prim.Native.Nat.{ℕ, _≤_, _<_}
+use Prim.Native.Nat.{ℕ, _+_, _*_, _≤_, _<_}
 use mathlib.Core.Path.{_≡_}
 use mathlib.Core.Logic.{_⊎_}
 use mathlib.Core.Bool.{Bool, true, false, _&&_}
@@ -10,6 +10,7 @@ use Rattle.expression.specs.declared.Role.{Role}
 use Rattle.expression.specs.declared.Expression.{Expression}
 use Rattle.expression.specs.declared.Expression.the-variants as E
 use Rattle.expression.specs.Same.{sameRole}
+use Rattle.rt0.specs.From.{roleOf}
 use Rattle.rt0.specs.declared.Pool.{Pool}
 use Rattle.rt0.specs.laws.Pool.{headAt, bodyAt}
 use Rattle.closure.specs.laws.Rules.{el}
@@ -17,8 +18,8 @@ use Rattle.propagation.specs.laws.Flags.{flag, cnt}
 use Rattle.frontier.specs.laws.Frontier.{Chain}
 
 -- credential i is on and has the head p
-unfoldable pub isNext : Pool → List ℕ → Role → ℕ → Bool
-isNext P on p i = eqb (el on i) 1 && sameRole (headAt P i) p
+unfoldable pub isNext : List ℕ → List ℕ → Role → ℕ → Bool
+isNext H on p i = eqb (el on i) 1 && sameRole (roleOf (getD H (i * 2) 0) (getD H (i * 2 + 1) 0)) p
 
 -- credential i is on, and its head is x
 pub record Next (P : Pool) (on : List ℕ) (x : Expression) (i : ℕ) : Type 0 where

@@ -26,13 +26,13 @@ use Rattle.frontier.specs.laws.Queue.{isNext, Next, Work, work, Queue, L
 
 -- One credential
 
-next-of : (P : Pool) (on : List ℕ) (p : Role) (i : ℕ) → i < P .count → isNext P on p i ≡ true → Next P on (E.Role p) i
+next-of : (P : Pool) (on : List ℕ) (p : Role) (i : ℕ) → i < P .count → isNext (P .heads) on p i ≡ true → Next P on (E.Role p) i
 unfolding isNext
 next-of P on p i l h =
     let w = and-parts (eqb (el on i) 1) (sameRole (headAt P i) p) h in
     record { below = l; is-on = eqb-true (el on i) 1 (w .0); head = ap E.Role (sym (sameRole-eq (headAt P i) p (w .1))) }
 
-of-next : (P : Pool) (on : List ℕ) (p : Role) (i : ℕ) → Next P on (E.Role p) i → isNext P on p i ≡ true
+of-next : (P : Pool) (on : List ℕ) (p : Role) (i : ℕ) → Next P on (E.Role p) i → isNext (P .heads) on p i ≡ true
 unfolding isNext
 of-next P on p i h = and-both (eqb (el on i) 1) (sameRole (headAt P i) p) (eq-eqb (el on i) 1 (h .is-on)) (eq-sameRole (headAt P i) p (sym (role-eq (h .head))))
 
@@ -48,7 +48,7 @@ later-trans {U} {X} {W} a b =
 pub join-stands : (P : Pool) (on : List ℕ) (W : Work) (p : Role) (i : ℕ) → Queue W → getD (W .found) i 0 ≡ 1 → Joined P on W W p i
 join-stands P on W p i b h = record { base = b; later = later-refl W; here = λ z. eq-eqb (getD (W .found) i 0) 1 h; only = λ j t. inl t }
 
-pub join-not : (P : Pool) (on : List ℕ) (W : Work) (p : Role) (i : ℕ) → Queue W → isNext P on p i ≡ false → Joined P on W W p i
+pub join-not : (P : Pool) (on : List ℕ) (W : Work) (p : Role) (i : ℕ) → Queue W → isNext (P .heads) on p i ≡ false → Joined P on W W p i
 join-not P on W p i b h = record { base = b; later = later-refl W; here = λ z. absurd (false-true (sym h ∙ of-next P on p i z)); only = λ j t. inl t }
 
 pub join-room : (W : Work) (i : ℕ) → Queue W → i < 128 → (getD (W .found) i 0 ≡ 1 → ⊥) → W .tail < 128
@@ -59,7 +59,7 @@ abbrev joined : Work → ℕ → Work
 joined W i = work (set (W .found) i 1) (set (W .queue) (W .tail) i) (W .tail + 1)
 
 pub join-new : (P : Pool) (on : List ℕ) (W : Work) (p : Role) (i : ℕ) → Queue W → i < P .count → i < 128 → (getD (W .found) i 0 ≡ 1 → ⊥)
-    → isNext P on p i ≡ true → Joined P on W (joined W i) p i
+    → isNext (P .heads) on p i ≡ true → Joined P on W (joined W i) p i
 join-new P on W p i b c l h is =
     let off : flag (W .found) i ≡ false = ne-eqb (getD (W .found) i 0) 1 h in
     let fs : length (W .found) ≡ 128 = b .found-size in

@@ -25,7 +25,7 @@ readers-of-row-requires c κs = (c .before .pre .2 .head .under .under (c .befor
 seed-requires : tie.Need-seed-requires
 seed-requires c κs =
     let c5 = c .before .before .before .before .before in
-    (c5 .pre .0, c5 .pre .1, c5 .pre .2 .head, open-bodies (pool (c5)) (c5 .args .n) _ (c5 .pre .0) (c .before .before .open-table .ensures), c5 .pre .4 .sized)
+    (c5 .pre .0, c5 .pre .1, c5 .pre .2 .head, open-bodies _ _ (c5 .args .n) _ (c5 .pre .0) (c .before .before .open-table .ensures), c5 .pre .4 .sized)
 
 returns : tie.Need-returns
 returns c = (

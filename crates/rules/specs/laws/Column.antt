@@ -475,8 +475,8 @@ module _ (N : List ℕ) (k i : ℕ) (size : length N ≡ 260) (l : i < 128) wher
   copy-size = length-set (set N (i * 2) (el N (k * 2))) (i * 2 + 1) (el N (k * 2 + 1)) ∙ length-set N (i * 2) (el N (k * 2)) ∙ size
 
 -- a link with the name of one before names the same heads
-pub names-copy : (P : Pool) (able : List ℕ) (k i : ℕ) (N N′ : List ℕ) {b : Bool} → i < 128 → hasLink P i ≡ true → SameLink P k i b → b ≡ true
-    → N′ ≡ copied N k i
+pub names-copy : (P : Pool) (able : List ℕ) (k i : ℕ) (N N′ : List ℕ) {b : Bool} → i < 128 → hasLink P i ≡ true
+    → SameLink (P .kinds) (P .numbers) k i b → b ≡ true → N′ ≡ copied N k i
     → NamesTo P able i N → NamesTo P able (i + 1) N′
 names-copy P able k i N N′ l link same e new inv = subst (λ (x : List ℕ). NamesTo P able (i + 1) x) (sym new)
     record {

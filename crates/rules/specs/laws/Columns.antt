@@ -101,22 +101,28 @@ pub record NamesTo (P : Pool) (able : List ℕ) (k : ℕ) (N : List ℕ) : Type 
   pub all : (q : ℕ) (a : Role) (m t : ℕ) → q < k → bodyAt P q ≡ E.Linked a m → t < P .count → el able t ≡ 1 → headAt P t .name ≡ m → bits N q t ≡ true
 
 -- links can go by head t, and its name is m
+abbrev pub isNamedIn : List ℕ → List ℕ → ℕ → ℕ → Bool
+isNamedIn H able m t = eqb (el able t) 1 && eqb (el H (t * 2 + 1)) m
+
 abbrev pub isNamed : Pool → List ℕ → ℕ → ℕ → Bool
-isNamed P able m t = eqb (el able t) 1 && eqb (headAt P t .name) m
+isNamed P able m t = isNamedIn (P .heads) able m t
 
 -- credential i has a linked body
+abbrev pub hasLinkIn : List ℕ → ℕ → Bool
+hasLinkIn K i = eqb (el K (i * 2)) 3
+
 abbrev pub hasLink : Pool → ℕ → Bool
-hasLink P i = eqb (el (P .kinds) (i * 2)) 3
+hasLink P i = hasLinkIn (P .kinds) i
 
 -- the bit of the entity of head j, where j is the row of that head
 abbrev pub linkSource : Pool → ℕ → ℕ
 linkSource P j = cond (eqb (rowOf P (headAt P j)) j) (bitOf P (headAt P j .entity)) 128
 
 -- where b is true, bodies k and i are links with one name, if i is a link, and k comes before i
-pub record SameLink (P : Pool) (k i : ℕ) (b : Bool) : Type 0 where
+pub record SameLink (K N : List ℕ) (k i : ℕ) (b : Bool) : Type 0 where
   pub before : b ≡ true → k < i
-  pub link : b ≡ true → hasLink P k ≡ true
-  pub name : b ≡ true → el (P .numbers) (k * 8 + 2) ≡ el (P .numbers) (i * 8 + 2)
+  pub link : b ≡ true → hasLinkIn K k ≡ true
+  pub name : b ≡ true → el N (k * 8 + 2) ≡ el N (i * 8 + 2)
 
 -- the table with row k as its row i
 unfoldable pub copied : List ℕ → ℕ → ℕ → List ℕ

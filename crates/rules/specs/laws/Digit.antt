@@ -55,43 +55,43 @@ held-next f x k T T′ e n h j l = go (eqb j k) refl
     go true q = let z : j ≡ k = eqb-true j k q in subst (λ (i : ℕ). Held T′ (f i) i) (sym z) (subst (λ (y : ℕ). Held T′ y k) e (n .here))
     go false q = held-kept T T′ (f j) j (n .kept) (h j (omega (arith, eqb-false j k q)))
 
-pub heads-start : (P : Pool) (E N : List ℕ) → length E ≡ 260 → length N ≡ 260 → HeadsIn P 0 E N
-heads-start P E N e n = record { sized = e; sized′ = n; entity = λ j l. absurd (omega arith); name = λ j l. absurd (omega arith) }
+pub heads-start : (H E N : List ℕ) → length E ≡ 260 → length N ≡ 260 → HeadsIn H 0 E N
+heads-start H E N e n = record { sized = e; sized′ = n; entity = λ j l. absurd (omega arith); name = λ j l. absurd (omega arith) }
 
-pub heads-add : (P : Pool) (k x y : ℕ) (E E′ N N′ : List ℕ) → x ≡ headAt P k .entity → y ≡ headAt P k .name → Noted x k E E′ → Noted y k N N′ → HeadsIn P k E N
-    → HeadsIn P (k + 1) E′ N′
-heads-add P k x y E E′ N N′ e f a b inv =
+pub heads-add : (H : List ℕ) (k x y : ℕ) (E E′ N N′ : List ℕ) → x ≡ el H (k * 2) → y ≡ el H (k * 2 + 1) → Noted x k E E′ → Noted y k N N′
+    → HeadsIn H k E N → HeadsIn H (k + 1) E′ N′
+heads-add H k x y E E′ N N′ e f a b inv =
     record {
       sized = a .sized;
       sized′ = b .sized;
-      entity = held-next (λ (j : ℕ). headAt P j .entity) x k E E′ e a (inv .entity);
-      name = held-next (λ (j : ℕ). headAt P j .name) y k N N′ f b (inv .name);
+      entity = held-next (λ (j : ℕ). el H (j * 2)) x k E E′ e a (inv .entity);
+      name = held-next (λ (j : ℕ). el H (j * 2 + 1)) y k N N′ f b (inv .name);
     }
 
-pub heads-end : (P : Pool) (k n : ℕ) (E N : List ℕ) → k ≤ n → n ≤ k → HeadsIn P k E N → HeadsIn P n E N
-heads-end P k n E N l g inv = let z : k ≡ n = omega arith in subst (λ (i : ℕ). HeadsIn P i E N) z inv
+pub heads-end : (H : List ℕ) (k n : ℕ) (E N : List ℕ) → k ≤ n → n ≤ k → HeadsIn H k E N → HeadsIn H n E N
+heads-end H k n E N l g inv = let z : k ≡ n = omega arith in subst (λ (i : ℕ). HeadsIn H i E N) z inv
 
-pub bodies-start : (P : Pool) (T : List ℕ) → length T ≡ 260 → BodiesIn P 0 T
-bodies-start P T e = record { sized = e; body = λ j l. absurd (omega arith) }
+pub bodies-start : (K N T : List ℕ) → length T ≡ 260 → BodiesIn K N 0 T
+bodies-start K N T e = record { sized = e; body = λ j l. absurd (omega arith) }
 
-pub bodies-add : (P : Pool) (k x : ℕ) (T T′ : List ℕ) → x ≡ el (P .numbers) (k * 8) → Noted x k T T′ → BodiesIn P k T → BodiesIn P (k + 1) T′
-bodies-add P k x T T′ e n inv = record { sized = n .sized; body = λ j l h. go j l h (eqb j k) refl }
+pub bodies-add : (K N : List ℕ) (k x : ℕ) (T T′ : List ℕ) → x ≡ el N (k * 8) → Noted x k T T′ → BodiesIn K N k T → BodiesIn K N (k + 1) T′
+bodies-add K N k x T T′ e n inv = record { sized = n .sized; body = λ j l h. go j l h (eqb j k) refl }
   where
-    go : (j : ℕ) → j < k + 1 → el (P .kinds) (j * 2) ≡ 1 → (t : Bool) → eqb j k ≡ t → Held T′ (el (P .numbers) (j * 8)) j
+    go : (j : ℕ) → j < k + 1 → el K (j * 2) ≡ 1 → (t : Bool) → eqb j k ≡ t → Held T′ (el N (j * 8)) j
     go j l h true q =
         let z : j ≡ k = eqb-true j k q in
-        subst (λ (i : ℕ). Held T′ (el (P .numbers) (i * 8)) i) (sym z) (subst (λ (y : ℕ). Held T′ y k) e (n .here))
-    go j l h false q = held-kept T T′ (el (P .numbers) (j * 8)) j (n .kept) (inv .body j (omega (arith, eqb-false j k q)) h)
+        subst (λ (i : ℕ). Held T′ (el N (i * 8)) i) (sym z) (subst (λ (y : ℕ). Held T′ y k) e (n .here))
+    go j l h false q = held-kept T T′ (el N (j * 8)) j (n .kept) (inv .body j (omega (arith, eqb-false j k q)) h)
 
-pub bodies-skip : (P : Pool) (k : ℕ) (T : List ℕ) → (el (P .kinds) (k * 2) ≡ 1 → ⊥) → BodiesIn P k T → BodiesIn P (k + 1) T
-bodies-skip P k T other inv = record { sized = inv .sized; body = λ j l h. go j l h (eqb j k) refl }
+pub bodies-skip : (K N : List ℕ) (k : ℕ) (T : List ℕ) → (el K (k * 2) ≡ 1 → ⊥) → BodiesIn K N k T → BodiesIn K N (k + 1) T
+bodies-skip K N k T other inv = record { sized = inv .sized; body = λ j l h. go j l h (eqb j k) refl }
   where
-    go : (j : ℕ) → j < k + 1 → el (P .kinds) (j * 2) ≡ 1 → (t : Bool) → eqb j k ≡ t → Held T (el (P .numbers) (j * 8)) j
-    go j l h true q = absurd (other (subst (λ (i : ℕ). el (P .kinds) (i * 2) ≡ 1) (eqb-true j k q) h))
+    go : (j : ℕ) → j < k + 1 → el K (j * 2) ≡ 1 → (t : Bool) → eqb j k ≡ t → Held T (el N (j * 8)) j
+    go j l h true q = absurd (other (subst (λ (i : ℕ). el K (i * 2) ≡ 1) (eqb-true j k q) h))
     go j l h false q = inv .body j (omega (arith, eqb-false j k q)) h
 
-pub bodies-end : (P : Pool) (k n : ℕ) (T : List ℕ) → k ≤ n → n ≤ k → BodiesIn P k T → BodiesIn P n T
-bodies-end P k n T l g inv = let z : k ≡ n = omega arith in subst (λ (i : ℕ). BodiesIn P i T) z inv
+pub bodies-end : (K N : List ℕ) (k n : ℕ) (T : List ℕ) → k ≤ n → n ≤ k → BodiesIn K N k T → BodiesIn K N n T
+bodies-end K N k n T l g inv = let z : k ≡ n = omega arith in subst (λ (i : ℕ). BodiesIn K N i T) z inv
 
 -- Finding
 
@@ -140,8 +140,9 @@ none-held lo hi r i none l a b h = go (ltb i 64) refl
     go false q = let m : 64 ≤ i = ltb-false i 64 q in let z : i / 64 ≡ 1 = omega arith in false-true (sym (none .high i h z) ∙ b z)
 
 module _ (P : Pool) (small : P .count ≤ 128) where
-  module _ (p : Role) (E N : List ℕ) (lo hi r : ℕ) (tables : HeadsIn P (P .count) E N) (low : lo ≡ bitAnd (shared E (p .entity) 0) (shared N (p .name) 0))
-      (high : hi ≡ bitAnd (shared E (p .entity) 1) (shared N (p .name) 1)) (none : NoneBelow lo hi r) where
+  module _ (p : Role) (E N : List ℕ) (lo hi r : ℕ) (tables : HeadsIn (P .heads) (P .count) E N)
+      (low : lo ≡ bitAnd (shared E (p .entity) 0) (shared N (p .name) 0)) (high : hi ≡ bitAnd (shared E (p .entity) 1) (shared N (p .name) 1))
+      (none : NoneBelow lo hi r) where
     no-head : (i : ℕ) → i < P .count → i < r → isHead P p i ≡ false
     no-head i l h = go (isHead P p i) refl
       where
@@ -168,8 +169,8 @@ module _ (P : Pool) (small : P .count ≤ 128) where
     unfolding rowOf
     row-hit g e t = first-at (P .count) (isHead P p) r g (nowhere-to r (isHead P p) (λ i l. no-head i (omega arith) l)) e t
 
-  module _ (b : ℕ) (T : List ℕ) (lo hi r : ℕ) (table : BodiesIn P (P .count) T) (low : lo ≡ shared T b 0) (high : hi ≡ shared T b 1)
-      (none : NoneBelow lo hi r) where
+  module _ (b : ℕ) (T : List ℕ) (lo hi r : ℕ) (table : BodiesIn (P .kinds) (P .numbers) (P .count) T) (low : lo ≡ shared T b 0)
+      (high : hi ≡ shared T b 1) (none : NoneBelow lo hi r) where
     no-body : (i : ℕ) → i < P .count → i < r → isBody P b i ≡ false
     no-body i l h = go (isBody P b i) refl
       where
@@ -221,14 +222,14 @@ open-start =
 open-held : (T : List ℕ) (x j : ℕ) → j < 128 → Open T → Held T x j
 open-held T x j l o = record { low = o .all _ j (omega arith) l; mid = o .all _ j (omega arith) l; high = o .all _ j (omega arith) l }
 
-pub open-heads : (P : Pool) (k : ℕ) (T : List ℕ) → k ≤ 128 → Open T → HeadsIn P k T T
-open-heads P k T l o =
+pub open-heads : (H : List ℕ) (k : ℕ) (T : List ℕ) → k ≤ 128 → Open T → HeadsIn H k T T
+open-heads H k T l o =
     record {
       sized = o .sized;
       sized′ = o .sized;
-      entity = λ j m. open-held T (headAt P j .entity) j (omega arith) o;
-      name = λ j m. open-held T (headAt P j .name) j (omega arith) o;
+      entity = λ j m. open-held T (el H (j * 2)) j (omega arith) o;
+      name = λ j m. open-held T (el H (j * 2 + 1)) j (omega arith) o;
     }
 
-pub open-bodies : (P : Pool) (k : ℕ) (T : List ℕ) → k ≤ 128 → Open T → BodiesIn P k T
-open-bodies P k T l o = record { sized = o .sized; body = λ j m h. open-held T (el (P .numbers) (j * 8)) j (omega arith) o }
+pub open-bodies : (K N : List ℕ) (k : ℕ) (T : List ℕ) → k ≤ 128 → Open T → BodiesIn K N k T
+open-bodies K N k T l o = record { sized = o .sized; body = λ j m h. open-held T (el N (j * 8)) j (omega arith) o }

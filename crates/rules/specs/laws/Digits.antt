@@ -6,8 +6,6 @@ use mathlib.Core.List.{List}
 use lib.Bits.{bitAnd}
 use lib.ListN.{length}
 use Rattle.word.specs.laws.Bit.{bitAt}
-use Rattle.rt0.specs.declared.Pool.{Pool}
-use Rattle.rt0.specs.laws.Pool.{headAt}
 use Rattle.closure.specs.laws.Rules.{el, bits, Within}
 
 -- credential j is in the rows of the digits of x
@@ -32,16 +30,16 @@ pub record NoneBelow (lo hi r : ℕ) : Type 0 where
   pub high : (i : ℕ) → i < r → i / 64 ≡ 1 → bitAt hi (i % 64) ≡ false
 
 -- the tables have the heads of the credentials below k: their entities in E, their names in N
-pub record HeadsIn (P : Pool) (k : ℕ) (E N : List ℕ) : Type 0 where
+pub record HeadsIn (H : List ℕ) (k : ℕ) (E N : List ℕ) : Type 0 where
   pub sized : length E ≡ 260
   pub sized′ : length N ≡ 260
-  pub entity : (j : ℕ) → j < k → Held E (headAt P j .entity) j
-  pub name : (j : ℕ) → j < k → Held N (headAt P j .name) j
+  pub entity : (j : ℕ) → j < k → Held E (el H (j * 2)) j
+  pub name : (j : ℕ) → j < k → Held N (el H (j * 2 + 1)) j
 
 -- the table has the entities that are bodies of the credentials below k
-pub record BodiesIn (P : Pool) (k : ℕ) (T : List ℕ) : Type 0 where
+pub record BodiesIn (K N : List ℕ) (k : ℕ) (T : List ℕ) : Type 0 where
   pub sized : length T ≡ 260
-  pub body : (j : ℕ) → j < k → el (P .kinds) (j * 2) ≡ 1 → Held T (el (P .numbers) (j * 8)) j
+  pub body : (j : ℕ) → j < k → el K (j * 2) ≡ 1 → Held T (el N (j * 8)) j
 
 -- each credential is in each row
 pub record Open (T : List ℕ) : Type 0 where

@@ -10,6 +10,7 @@ use Rattle.expression.specs.declared.Credential.{Credential}
 use Rattle.expression.specs.declared.Expression.{Expression}
 use Rattle.expression.specs.declared.Expression.the-variants as E
 use Rattle.expression.specs.Same.{same, sameRole}
+use Rattle.rt0.specs.From.{roleOf}
 use Rattle.rt0.specs.declared.Pool.{Pool}
 use Rattle.rt0.specs.laws.Pool.{headAt, bodyAt, credentialAt}
 use Rattle.closure.specs.declared.Rules.{Rules}
@@ -22,16 +23,22 @@ firstTo zero f = 128
 firstTo (suc n) f = cond (anyTo n f) (firstTo n f) (cond (f n) n 128)
 
 -- credential j has the role p as its head
+abbrev pub isHeadIn : List ℕ → Role → ℕ → Bool
+isHeadIn H p j = sameRole (roleOf (el H (j * 2)) (el H (j * 2 + 1))) p
+
 abbrev pub isHead : Pool → Role → ℕ → Bool
-isHead P p j = sameRole (headAt P j) p
+isHead P p j = isHeadIn (P .heads) p j
 
 -- the row of a role
 unfoldable pub rowOf : Pool → Role → ℕ
 rowOf P p = firstTo (P .count) (isHead P p)
 
 -- credential s has the entity b as its body
+abbrev pub isBodyIn : List ℕ → List ℕ → ℕ → ℕ → Bool
+isBodyIn K N b s = eqb (el K (s * 2)) 1 && eqb (el N (s * 8)) b
+
 abbrev pub isBody : Pool → ℕ → ℕ → Bool
-isBody P b s = eqb (el (P .kinds) (s * 2)) 1 && eqb (el (P .numbers) (s * 8)) b
+isBody P b s = isBodyIn (P .kinds) (P .numbers) b s
 
 -- the bit of an entity
 unfoldable pub bitOf : Pool → ℕ → ℕ

@@ -4,7 +4,7 @@ use Rattle.closure.proofs.linked_rules.add_word.Statement.{statement}
 use Rattle.closure.proofs.linked_rules.add_word.Tie as tie
 
 returns : tie.Need-returns
-returns c = add-word _ _ _ _ _ (c .before .before .pre .0) (c .before .before .pre .3) (c .before .before .pre .2) (c .before .before .pre .4)
+returns c = λ w l. add-word w _ _ _ _ (c .before .before .pre .2) l (c .before .before .pre .1) (c .before .before .pre .3)
 
 pub add-word-spec : {M : Type 1} → statement M
 add-word-spec =

@@ -19,10 +19,10 @@ fresh-requires c κs =
 follow-requires : tie.Need-follow-requires
 follow-requires c κs =
     let c10 = c .before .before .before .before .before .before .before .before .before .before in
-    (c10 .pre .0, c10 .pre .1, c10 .pre .3)
+    (c10 .pre .0, c10 .pre .1 .words, c10 .pre .1 .head, c10 .pre .1 .first, c10 .pre .1 .src, c10 .pre .3)
 
 returns-2 : tie.Need-returns-2
-returns-2 c = (c .before .before .before .before .before .fresh .ensures, c .follow .ensures)
+returns-2 c = (c .before .before .before .before .before .fresh .ensures, c .follow .ensures _)
 
 pub step-spec : {M : Type 1} → statement M
 step-spec =

@@ -24,14 +24,16 @@ loop-holds c = rule-start (rulesOf _ _ _ _ _ _ _) _ _ _ _ _ (c .before .before .
 turn-requires : tie.Need-turn-requires Inv-loop μ-loop
 turn-requires c κs =
     let c6 = c .before .before .before .before .before .before in
-    (c6 .pre .0, c .before .loop-test .taken, c6 .pre .1, c .before .before .loop .inv .grown .sized)
+    let f = c6 .pre .1 in
+    (c6 .pre .0, omega (arith, f .words, c .before .loop-test .taken), f .head, f .part, f .first, f .src, c .before .before .loop .inv .grown .sized)
 
 loop-again : tie.Need-loop-again Inv-loop μ-loop
 loop-again c =
     let c3 = c .before .before .before in
     let c4 = c3 .before in
     let c6 = c4 .before .before in
-    rule-turn (rulesOf _ _ _ _ _ _ _) _ _ _ (c6 .if1 .left) (c4 .if2 .left) (c .before .before .loop-test .taken) (c .turn .ensures) (c3 .loop .inv)
+    rule-turn (rulesOf _ _ _ _ _ _ _) _ _ _ (c6 .if1 .left) (c4 .if2 .left) (c .before .before .loop-test .taken)
+    (c .turn .ensures _ _ (c .before .before .loop-test .taken)) (c3 .loop .inv)
 
 returns-3 : tie.Need-returns-3 Inv-loop μ-loop
 returns-3 c = rule-all (rulesOf _ _ _ _ _ _ _) _ _ _ (c .loop-test .left) (c .before .loop .inv)

@@ -6,22 +6,24 @@ use Rattle.closure.proofs.rounds.turn.Statement.{statement}
 use Rattle.closure.proofs.rounds.turn.Tie as tie
 
 mul-at-2 : tie.Need-mul-at-2
-mul-at-2 c = omega (arith, c .before .pre .2 .head .under (c .before .args .i))
+mul-at-2 c = omega (arith, c .before .pre .2 .under (c .before .args .i))
 
 add-at : tie.Need-add-at
-add-at c = omega (arith, c .before .pre .1, c .before .pre .2 .words, c .before .pre .2 .head .under (c .before .args .i))
+add-at c = omega (arith, c .before .pre .1, c .before .pre .2 .under (c .before .args .i))
 
 mul-old : tie.Need-mul-old
-mul-old c = omega (arith, c .before .pre .1, c .before .pre .2 .words, c .before .pre .2 .head .under (c .before .args .i))
+mul-old c = omega (arith, c .before .pre .1, c .before .pre .2 .under (c .before .args .i))
 
 element-copy-out-old : tie.Need-element-copy-out-old
-element-copy-out-old c = omega (arith, c .before .pre .1, c .before .pre .2 .words, c .before .pre .2 .head .under (c .before .args .i))
+element-copy-out-old c = omega (arith, c .before .pre .1, c .before .pre .2 .under (c .before .args .i))
 
 gives-requires : tie.Need-gives-requires
 gives-requires c κs = (
   c .before .before .before .pre .0,
-  omega (arith, c .before .before .before .pre .1, c .before .before .before .pre .2 .words),
-  c .before .before .before .pre .2,
+  c .before .before .before .pre .1,
+  c .before .before .before .pre .3,
+  c .before .before .before .pre .4,
+  c .before .before .before .pre .5,
 )
 
 mul-rows : tie.Need-mul-rows
@@ -29,8 +31,7 @@ mul-rows c =
     omega (
       arith,
       c .before .before .before .before .before .before .pre .1,
-      c .before .before .before .before .before .before .pre .2 .words,
-      c .before .before .before .before .before .before .pre .2 .head .under (c .before .before .before .before .before .before .args .i),
+      c .before .before .before .before .before .before .pre .2 .under (c .before .before .before .before .before .before .args .i),
     )
 
 element-write-rows : tie.Need-element-write-rows
@@ -38,20 +39,19 @@ element-write-rows c =
     omega (
       arith,
       c .before .before .before .before .before .before .pre .1,
-      c .before .before .before .before .before .before .pre .2 .words,
-      c .before .before .before .before .before .before .pre .2 .head .under (c .before .before .before .before .before .before .args .i),
+      c .before .before .before .before .before .before .pre .2 .under (c .before .before .before .before .before .before .args .i),
     )
 
 returns : tie.Need-returns
 returns c =
     let c6 = c .before .before .before .before .before .before in
-    turn-new (rulesOf _ _ _ _ _ _ _) _ _ _ _ _ _ (c6 .pre .2) (c6 .pre .1) (c6 .pre .3) (c .before .before .gives .ensures) _
+    λ n w l. turn-new (rulesOf _ _ _ _ _ _ _) _ _ _ _ _ _ (c6 .pre .2) (c6 .pre .1) l (c6 .pre .6) (c .before .before .gives .ensures _ _ _) _
     (c .before .join .ensures .0) (c .if1 .taken) (c .before .join .ensures .1)
 
 returns-2 : tie.Need-returns-2
 returns-2 c =
     let c6 = c .before .before .before .before .before .before in
-    turn-same (rulesOf _ _ _ _ _ _ _) _ _ _ _ _ _ (c6 .pre .2) (c6 .pre .1) (c6 .pre .3) (c .before .before .gives .ensures) _
+    λ n w l. turn-same (rulesOf _ _ _ _ _ _ _) _ _ _ _ _ _ (c6 .pre .2) (c6 .pre .1) l (c6 .pre .6) (c .before .before .gives .ensures _ _ _) _
     (c .before .join .ensures .0) (c .if1 .left)
 
 pub turn-spec : {M : Type 1} → statement M

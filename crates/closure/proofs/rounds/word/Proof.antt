@@ -8,29 +8,29 @@ use Rattle.closure.proofs.rounds.word.Tie as tie
 meet-requires : tie.Need-meet-requires
 meet-requires c κs =
     let c4 = c .before .before .before .before in
-    (c4 .pre .2 .part .under _, c4 .pre .2 .part .under _, c4 .pre .2 .part .under _, c4 .pre .2 .part .under _, c4 .pre .1)
+    (c4 .pre .2 .under _, c4 .pre .2 .under _, c4 .pre .2 .under _, c4 .pre .2 .under _, c4 .pre .1)
 
 links-requires : tie.Need-links-requires
 links-requires c κs = (
   omega arith,
   c .before .before .before .before .before .before .before .pre .1,
-  c .before .before .before .before .before .before .before .pre .2 .first .under _,
-  c .before .before .before .before .before .before .before .pre .2 .src,
+  c .before .before .before .before .before .before .before .pre .3 .under _,
+  c .before .before .before .before .before .before .before .pre .4,
 )
 
 links-requires-2 : tie.Need-links-requires-2
 links-requires-2 c κs = (
   omega arith,
   c .before .before .before .before .before .before .before .before .before .pre .1,
-  c .before .before .before .before .before .before .before .before .before .pre .2 .first .under _,
-  c .before .before .before .before .before .before .before .before .before .pre .2 .src,
+  c .before .before .before .before .before .before .before .before .before .pre .3 .under _,
+  c .before .before .before .before .before .before .before .before .before .pre .4,
 )
 
 returns : tie.Need-returns
 returns c =
     let c5 = c .before .before .before .before .before in
     let c10 = c5 .before .before .before .before .before in
-    word-of (rulesOf _ _ _ _ _ _ _) _ _ _ _ _ _ _ (c10 .pre .1) (c5 .meet .ensures) (c .before .before .links .ensures) (c .links2 .ensures)
+    λ n w H. word-of (rulesOf _ _ _ _ _ _ _) _ _ _ _ _ _ _ (c10 .pre .1) (c5 .meet .ensures) (c .before .before .links .ensures) (c .links2 .ensures)
 
 pub word-spec : {M : Type 1} → statement M
 word-spec =

@@ -23,8 +23,10 @@ loop-holds c = still-start (rulesOf _ _ _ _ _ _ _) _ _ _ _
 rests-requires : tie.Need-rests-requires Inv-loop μ-loop
 rests-requires c κs = (
   omega (arith, c .before .before .before .before .before .pre .0 .count),
-  c .before .before .before .before .if1 .left,
-  c .before .before .before .before .before .pre .0,
+  c .before .before .before .before .before .pre .0 .head,
+  c .before .before .before .before .before .pre .0 .part,
+  c .before .before .before .before .before .pre .0 .first,
+  c .before .before .before .before .before .pre .0 .src,
   c .before .before .before .before .before .pre .1,
   c .before .before .filled .ensures,
   c .before .before .before .held .ensures,
@@ -39,7 +41,9 @@ add-i c = omega (arith, c .before .before .before .before .before .before .befor
 loop-again : tie.Need-loop-again Inv-loop μ-loop
 loop-again c =
     let c3 = c .before .before .before in
-    still-next (rulesOf _ _ _ _ _ _ _) _ _ _ _ (c3 .loop .i) (c .before .before .loop-test .taken) (c .before .rests .ensures) (c .if2 .left) (c3 .loop .inv)
+    let c6 = c3 .before .before .before in
+    still-next (rulesOf _ _ _ _ _ _ _) _ _ _ _ (c3 .loop .i) (c .before .before .loop-test .taken)
+    (c .before .rests .ensures _ _ (c6 .if1 .left)) (c .if2 .left) (c3 .loop .inv)
 
 returns-3 : tie.Need-returns-3 Inv-loop μ-loop
 returns-3 c = still-all (rulesOf _ _ _ _ _ _ _) _ _ _ _ (c .before .loop .i) (c .loop-test .left) (c .before .loop .inv)

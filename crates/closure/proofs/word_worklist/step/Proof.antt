@@ -30,13 +30,16 @@ returns-2 c =
 follow-links-requires : tie.Need-follow-links-requires
 follow-links-requires c κs = (
   omega (arith, c .before .before .before .before .before .before .before .before .pre .0),
-  c .before .before .before .before .before .before .before .before .pre .1,
-  c .before .before .before .before .before .before .before .before .pre .2,
+  c .before .before .before .before .before .before .before .before .pre .2 .head,
+  c .before .before .before .before .before .before .before .before .pre .2 .first,
+  c .before .before .before .before .before .before .before .before .pre .2 .src,
   c .before .before .before .before .before .before .before .before .pre .5,
 )
 
 returns-3 : tie.Need-returns-3
-returns-3 c = (c .before .before .before .ahead .ensures .0, c .before .before .before .ahead .ensures .1, c .follow-links .ensures)
+returns-3 c =
+    let c9 = c .before .before .before .before .before .before .before .before .before in
+    (c .before .before .before .ahead .ensures .0, c .before .before .before .ahead .ensures .1, c .follow-links .ensures _ _ (c9 .pre .1))
 
 pub step-spec : {M : Type 1} → statement M
 step-spec =

@@ -1,3 +1,4 @@
+use native.Mathlib.Omega.{arith}
 use mathlib.Core.Path.{sym, _∙_}
 use borrow.Author.Tests.{not-false}
 use borrow.Author.Needs.{needs}
@@ -36,18 +37,25 @@ element-write-left c =
 
 fail-node-requires : tie.Need-fail-node-requires
 fail-node-requires c κs =
+    let c4 = c .before .before .before .before in
+    let e = c4 .before .before in
+    let i = e .before .before .before in
+    let s = i .before .before .before .before in
+    (omega (arith, c4 .wide16 .ensures, s .pre .2 .slots (s .args .j)), s .pre .1)
+
+returns-3 : tie.Need-returns-3
+returns-3 c =
     let c5 = c .before .before .before .before .before in
-    let c7 = c5 .before .before in
-    let e = c7 in
+    let e = c5 .before .before in
     let i = e .before .before .before in
     let s = i .before .before .before .before in
     let r = drop-all _ _ _ _ _ (s .pre .2) _ _ _ (s .pre .0) (i .before .before .wide .ensures .0) (c5 .wide16 .ensures)
     (sym (i .is-at .ensures) ∙ not-false _ (e .before .before .if1 .left)) (e .if2 .left) in
-    (r .0, s .pre .1, (λ z. r .2), r .3)
+    (c .fail-node .ensures .0, c .fail-node .ensures .1 _ _ _ _ (λ z. r .2) (r .3))
 
 pub drop-edge-spec : {M : Type 1} → statement M
 drop-edge-spec =
     tie.close
     (tie.spec (λ c. search needs) (λ c κs. search needs) (λ c κs. search needs) (λ c. search needs) (λ c. search needs) (λ c. search needs)
     (λ c. search needs) (λ c. search needs) (λ c κs. search needs) (λ c. search needs) (λ c. search needs) element-copy-out-left sub-left
-    element-write-left fail-node-requires (λ c. search needs))
+    element-write-left fail-node-requires returns-3)

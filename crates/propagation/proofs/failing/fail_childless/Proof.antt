@@ -1,4 +1,5 @@
-use Prim.Native.Nat.{_-_, _≤_}
+use Prim.Native.Nat.{ℕ, _-_, _≤_}
+use mathlib.Core.List.{List}
 use native.Mathlib.Omega.{arith}
 use Rattle.word.specs.laws.Bools.{false-true}
 use Rattle.propagation.specs.laws.Satisfied.{graph}
@@ -7,24 +8,26 @@ use Rattle.propagation.proofs.failing.fail_childless.Statement.{stateme
 use Rattle.propagation.proofs.failing.fail_childless.Tie as tie
 
 abbrev Inv-loop : tie.InvT-loop
-Inv-loop n m from slot way left gone failed₀ queue₀ t₀ i₀ failed queue t i = (t ≤ 128) × Failing m (graph from slot way) failed left gone
+Inv-loop n way left failed₀ queue₀ t₀ i₀ failed queue t i =
+    (t ≤ 128) × ((m : ℕ) (F S G : List ℕ) → Failing m (graph F S way) failed₀ left G → Failing m (graph F S way) failed left G)
 
 abbrev μ-loop : tie.MeasureT-loop
-μ-loop n m from slot way left gone failed₀ queue₀ t₀ i₀ failed queue t i = n - i
+μ-loop n way left failed₀ queue₀ t₀ i₀ failed queue t i = n - i
 
 loop-holds : tie.Need-loop-holds Inv-loop μ-loop
-loop-holds c = (omega arith, c .pre .1)
+loop-holds c = (omega arith, λ m F S G w. w)
 
 fail-node-requires : tie.Need-fail-node-requires Inv-loop μ-loop
 fail-node-requires c κs = (
-  omega (arith, c .before .before .loop-test .taken, c .before .before .before .before .pre .0),
+  omega (arith, c .before .before .loop-test .taken, c .before .before .before .before .pre),
   c .before .before .before .loop .inv .0,
-  (λ e. absurd (false-true e)),
-  c .before .before .before .loop .inv .1,
 )
 
 loop-again : tie.Need-loop-again Inv-loop μ-loop
-loop-again c = c .fail-node .ensures
+loop-again c = (
+  c .fail-node .ensures .0,
+  λ m F S G w. c .fail-node .ensures .1 m F S G (λ e. absurd (false-true e)) (c .before .before .before .before .loop .inv .1 m F S G w),
+)
 
 returns : tie.Need-returns Inv-loop μ-loop
 returns c = c .before .loop .inv

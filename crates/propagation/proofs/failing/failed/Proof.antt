@@ -43,7 +43,7 @@ loop-again c =
     let c6 = c3 .before .before .before in
     let c8 = c6 .before .before in
     let c10 = c8 .before .before in
-    round-sound _ (c8 .touched .ensures) (c6 .touched2 .ensures) (c3 .swept .ensures) (c10 .loop .inv)
+    round-sound _ (c8 .touched .ensures _) (c6 .touched2 .ensures _) (c3 .swept .ensures) (c10 .loop .inv)
 
 returns : tie.Need-returns Inv-loop μ-loop
 returns c =
@@ -51,7 +51,7 @@ returns c =
     let c6 = c3 .before .before .before in
     let c8 = c6 .before .before in
     let c10 = c8 .before .before in
-    round-last _ (c8 .touched .ensures) (c6 .touched2 .ensures) (c3 .swept .ensures) (c10 .loop .inv) (c .if1 .taken)
+    round-last _ (c8 .touched .ensures _) (c6 .touched2 .ensures _) (c3 .swept .ensures) (c10 .loop .inv) (c .if1 .taken)
 
 pub failed-spec : {M : Type 1} → statement M
 failed-spec =

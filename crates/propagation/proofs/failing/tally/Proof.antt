@@ -1,20 +1,21 @@
-use Prim.Native.Nat.{_-_, _/_, _≤_}
+use Prim.Native.Nat.{ℕ, _-_, _/_, _≤_}
+use mathlib.Core.List.{List, []}
 use native.Mathlib.Omega.{arith}
 use mathlib.Core.Logic.{⊎-elim}
 use Rattle.propagation.specs.laws.FailingLaws.{tally-start, tally-add, tally-skip, tally-all, tally-low}
-use Rattle.propagation.specs.laws.Satisfied.{graph}
+use Rattle.propagation.specs.laws.Satisfied.{Graph, graph}
 use Rattle.propagation.specs.laws.Failing.{Tallied}
 use Rattle.propagation.proofs.failing.tally.Statement.{statement}
 use Rattle.propagation.proofs.failing.tally.Tie as tie
 
 abbrev Inv-loop : tie.InvT-loop
-Inv-loop m from slot way left₀ j₀ left j = (j ≤ m) × Tallied j (graph from slot way) left
+Inv-loop m from slot left₀ j₀ left j = (j ≤ m) × ((W : List ℕ) → Tallied j (graph from slot W) left)
 
 abbrev μ-loop : tie.MeasureT-loop
-μ-loop m from slot way left₀ j₀ left j = m - j
+μ-loop m from slot left₀ j₀ left j = m - j
 
 loop-holds : tie.Need-loop-holds Inv-loop μ-loop
-loop-holds c = (omega arith, tally-start _)
+loop-holds c = (omega arith, λ W. tally-start _)
 
 wide16-requires : tie.Need-wide16-requires Inv-loop μ-loop
 wide16-requires c κs = tt
@@ -32,7 +33,7 @@ add-left : tie.Need-add-left Inv-loop μ-loop
 add-left c =
     omega (
       arith,
-      tally-low (c .before .before .before .before .before .loop .inv .1) (omega arith) (c .before .before .wide16 .result / 4)
+      tally-low (c .before .before .before .before .before .loop .inv .1 []) (omega arith) (c .before .before .wide16 .result / 4)
           (omega (
             arith,
             (c .before .before .wide16 .ensures),
@@ -55,14 +56,14 @@ loop-again c =
     let s = c .before .before .before .before .before .before in
     let l = c .before .before .before .before .before .loop in
     let p = c .before .before .wide16 in
-    let g = graph (s .args .from .now) (s .args .slot .now) (s .args .way .now) in (
+    let g : List ℕ → Graph = λ W. graph (s .args .from .now) (s .args .slot .now) W in (
       omega arith,
-      ⊎-elim (λ w. tally-add (l .j) g (l .left) _ (p .result) (p .ensures) (s .pre .1 _) (w .0 .taken) (w .1) (l .inv .1))
-          (λ w. tally-skip (l .j) g (l .left) _ (w .0 .left) (w .1) (l .inv .1)) (c .if1 .came),
+      λ W. ⊎-elim (λ w. tally-add (l .j) (g W) (l .left) _ (p .result) (p .ensures) (s .pre .1 _) (w .0 .taken) (w .1) (l .inv .1 W))
+          (λ w. tally-skip (l .j) (g W) (l .left) _ (w .0 .left) (w .1) (l .inv .1 W)) (c .if1 .came),
     )
 
 returns : tie.Need-returns Inv-loop μ-loop
-returns c = tally-all _ _ _ _ (c .before .loop .inv .0) (c .loop-test .left) (c .before .loop .inv .1)
+returns c = λ W. tally-all _ _ _ _ (c .before .loop .inv .0) (c .loop-test .left) (c .before .loop .inv .1 W)
 
 pub tally-spec : {M : Type 1} → statement M
 tally-spec =

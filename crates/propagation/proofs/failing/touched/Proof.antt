@@ -1,20 +1,21 @@
-use Prim.Native.Nat.{_-_, _≤_}
+use Prim.Native.Nat.{ℕ, _-_, _≤_}
+use mathlib.Core.List.{List}
 use native.Mathlib.Omega.{arith}
 use mathlib.Core.Logic.{⊎-elim}
-use Rattle.propagation.specs.laws.Satisfied.{graph}
+use Rattle.propagation.specs.laws.Satisfied.{Graph, graph}
 use Rattle.propagation.specs.laws.Failed.{Touched}
 use Rattle.propagation.specs.laws.FailedLaws.{touch-start, touch-add-at, touch-skip-at, touch-all}
 use Rattle.propagation.proofs.failing.touched.Statement.{statement}
 use Rattle.propagation.proofs.failing.touched.Tie as tie
 
 abbrev Inv-loop : tie.InvT-loop
-Inv-loop m from slot way failed on r₀ j₀ r j = (j ≤ m) × Touched j (graph from slot way) failed on r
+Inv-loop m from slot failed on r₀ j₀ r j = (j ≤ m) × ((W : List ℕ) → Touched j (graph from slot W) failed on r)
 
 abbrev μ-loop : tie.MeasureT-loop
-μ-loop m from slot way failed on r₀ j₀ r j = m - j
+μ-loop m from slot failed on r₀ j₀ r j = m - j
 
 loop-holds : tie.Need-loop-holds Inv-loop μ-loop
-loop-holds c = (omega arith, touch-start _ _ _)
+loop-holds c = (omega arith, λ W. touch-start _ _ _)
 
 wide16-requires : tie.Need-wide16-requires Inv-loop μ-loop
 wide16-requires c κs = tt
@@ -41,17 +42,17 @@ loop-again c =
     let p = c .before .before .before .before .wide16 in
     let f = c .before .before .wide in
     let t = c .before .is-at in
-    let g = graph (s .args .from .now) (s .args .slot .now) (s .args .way .now) in (
+    let g : List ℕ → Graph = λ W. graph (s .args .from .now) (s .args .slot .now) W in (
       omega arith,
-      ⊎-elim
-          (λ w. touch-add-at (l .j) g (s .args .failed .now) (s .args .on) _ _ (p .result) (f .result) _ (p .ensures) (s .pre .1 _) (f .ensures .0)
-          (t .ensures) (w .0 .taken) (w .1) (l .inv .1))
-          (λ w. touch-skip-at (l .j) g (s .args .failed .now) (s .args .on) _ _ (f .result) _ (f .ensures .0) (t .ensures) (w .0 .left) (w .1)
-          (l .inv .1)) (c .if1 .came),
+      λ W. ⊎-elim
+          (λ w. touch-add-at (l .j) (g W) (s .args .failed .now) (s .args .on) _ _ (p .result) (f .result) _ (p .ensures) (s .pre .1 _) (f .ensures .0)
+          (t .ensures) (w .0 .taken) (w .1) (l .inv .1 W))
+          (λ w. touch-skip-at (l .j) (g W) (s .args .failed .now) (s .args .on) _ _ (f .result) _ (f .ensures .0) (t .ensures) (w .0 .left) (w .1)
+          (l .inv .1 W)) (c .if1 .came),
     )
 
 returns : tie.Need-returns Inv-loop μ-loop
-returns c = touch-all _ _ _ _ _ _ (c .before .loop .inv .0) (c .loop-test .left) (c .before .loop .inv .1)
+returns c = λ W. touch-all _ _ _ _ _ _ (c .before .loop .inv .0) (c .loop-test .left) (c .before .loop .inv .1 W)
 
 pub touched-spec : {M : Type 1} → statement M
 touched-spec =

@@ -26,17 +26,13 @@ returns-3 c =
     let c8 = c .before .before .before .before .before .before .before .before in
     asked-link (pool (c8)) (c8 .args .e) (c8 .args .i) (c8 .args .old) (c8 .pre .1) (c .if3 .taken)
 
-asked-rows-requires : tie.Need-asked-rows-requires
-asked-rows-requires c κs =
-    let c9 = c .before .before .before .before .before .before .before .before .before in
-    c9 .pre .1 ∙ ap (fourRows (rowOf (pool (c9)))) (sym (c .body-at .ensures))
-
 returns-4 : tie.Need-returns-4
 returns-4 c =
     let c10 = c .before .before .before .before .before .before .before .before .before .before in
-    c .asked-rows .ensures ∙ ap (fourRows (rowFor (pool (c10)) (c10 .args .e))) (c .before .body-at .ensures)
+    c .asked-rows .ensures (pool (c10)) (c10 .pre .1 ∙ ap (fourRows (rowOf (pool (c10)))) (sym (c .before .body-at .ensures)))
+    ∙ ap (fourRows (rowFor (pool (c10)) (c10 .args .e))) (c .before .body-at .ensures)
 
 pub asked-body-spec : {M : Type 1} → statement M
 asked-body-spec =
     tie.close
-    (tie.spec returns (λ c. search needs) (λ c. search needs) returns-2 returns-3 (λ c κs. search needs) asked-rows-requires returns-4)
+    (tie.spec returns (λ c. search needs) (λ c. search needs) returns-2 returns-3 (λ c κs. search needs) (λ c κs. search needs) returns-4)

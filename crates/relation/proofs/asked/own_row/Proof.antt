@@ -17,7 +17,7 @@ returns-2 : tie.Need-returns-2
 returns-2 c =
     own-role (pool (c .before .before .before .before .before)) (c .before .before .before .before .before .pre)
     (c .before .before .before .before .before .args .e) _ (c .asked-row .result) (c .before .before .before .e .given .1)
-    (rw (c .before .before .before .e .given .1) (c .asked-row .ensures))
+    (rw (c .before .before .before .e .given .1) (c .asked-row .ensures _ (c .before .row .ensures)))
 
 returns-3 : tie.Need-returns-3
 returns-3 c = own-none (pool (c .before .before)) (c .before .before .args .e) (ap isRoleExpression (c .enum-told2 .given .1))

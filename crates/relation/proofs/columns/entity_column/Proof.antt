@@ -11,28 +11,28 @@ use Rattle.relation.proofs.columns.entity_column.Statement.{statement}
 use Rattle.relation.proofs.columns.entity_column.Tie as tie
 
 abbrev Inv-loop : tie.InvT-loop
-Inv-loop n heads kinds numbers on mem b rows₀ s r₀ rows r = Moved mem s r rows × (r ≤ n)
+Inv-loop n heads kinds numbers mem b rows₀ s r₀ rows r = Moved mem s r rows × (r ≤ n)
 
 abbrev μ-loop : tie.MeasureT-loop
-μ-loop n heads kinds numbers on mem b rows₀ s r₀ rows r = n - r
+μ-loop n heads kinds numbers mem b rows₀ s r₀ rows r = n - r
 
 abbrev pool : (c : tie.Start Inv-loop μ-loop) → Pool
 pool c = poolOf (c .args .n) (c .args .heads .now) (c .args .kinds .now) (c .args .numbers .now)
 
 returns : tie.Need-returns Inv-loop μ-loop
 returns c =
-    no-column (pool (c .before .before)) (c .before .before .args .on .now) (c .before .before .pre .0) (c .before .before .args .mem .now)
-    (c .before .before .pre .1) (c .before .before .args .b) (c .before .source .result) (c .before .source .ensures) (c .if1 .taken)
+    λ on h. no-column (pool (c .before .before)) on (c .before .before .pre) (c .before .before .args .mem .now)
+    h (c .before .before .args .b) (c .before .source .result) (c .before .source .ensures) (c .if1 .taken)
 
 loop-holds : tie.Need-loop-holds Inv-loop μ-loop
 loop-holds c = (moved-start _ _, omega arith)
 
 bit-requires : tie.Need-bit-requires Inv-loop μ-loop
-bit-requires c κs = (omega (arith, c .before .before .before .before .pre .0), c .before .before .if1 .left)
+bit-requires c κs = (omega (arith, c .before .before .before .before .pre), c .before .before .if1 .left)
 
 mark-requires : tie.Need-mark-requires Inv-loop μ-loop
 mark-requires c κs =
-    (omega (arith, c .before .before .before .before .before .before .before .pre .0), omega arith, c .before .before .before .before .loop .inv .0 .sized)
+    (omega (arith, c .before .before .before .before .before .before .before .pre), omega arith, c .before .before .before .before .loop .inv .0 .sized)
 
 loop-again : tie.Need-loop-again Inv-loop μ-loop
 loop-again c = (
@@ -51,7 +51,7 @@ returns-2 : tie.Need-returns-2 Inv-loop μ-loop
 returns-2 c =
     let c3 = c .before .before .before in
     let c4 = c3 .before in
-    entity-column (pool (c4)) (c4 .args .on .now) (c4 .pre .0) (c4 .args .mem .now) (c4 .pre .1) (c4 .args .b) (c3 .source .result)
+    λ on h. entity-column (pool (c4)) on (c4 .pre) (c4 .args .mem .now) h (c4 .args .b) (c3 .source .result)
     (c3 .source .ensures) (c .before .before .if1 .left) (c .before .loop .r) (c .loop-test .left) (c .before .loop .rows) (c .before .loop .inv .0)
 
 pub entity-column-spec : {M : Type 1} → statement M

@@ -3,6 +3,7 @@ use borrow.Author.Needs.{needs}
 use Rattle.rt0.specs.declared.Pool.{Pool}
 use Rattle.rt0.specs.laws.Pool.{poolOf}
 use Rattle.rules.specs.laws.Columns.{firstRow}
+use Rattle.rules.specs.laws.Column.{row-small}
 use Rattle.relation.specs.laws.Relation.{atOnce}
 use Rattle.relation.proofs.start.once.Statement.{statement}
 use Rattle.relation.proofs.start.once.Tie as tie
@@ -17,7 +18,7 @@ returns c = rw (sym (c .before .same .ensures) ∙ c .if1 .taken)
 own-requires : tie.Need-own-requires
 own-requires c κs =
     let c5 = c .before .before .before .before .before in
-    (c5 .pre .0, c5 .pre .1 ∙ ap (firstRow (pool (c5))) (c .before .x .given .1))
+    (c5 .pre .0, rw (c5 .pre .1 ∙ ap (firstRow (pool (c5))) (c .before .x .given .1)) (row-small (pool (c5)) (c5 .pre .0) _))
 
 returns-2 : tie.Need-returns-2
 unfolding atOnce
@@ -30,8 +31,9 @@ returns-3 c = rw (sym (c .before .before .before .same .ensures) ∙ c .before .
 returns-4 : tie.Need-returns-4
 unfolding atOnce
 returns-4 c =
+    let c6 = c .before .before .before .before .before .before in
     rw (sym (c .before .before .before .before .before .same .ensures) ∙ c .before .before .before .before .if1 .left, c .before .before .x .given .1)
-    (c .own .ensures)
+    (c .own .ensures _ (c6 .pre .1 ∙ ap (firstRow (pool (c6))) (c .before .before .x .given .1)))
 
 returns-5 : tie.Need-returns-5
 unfolding atOnce

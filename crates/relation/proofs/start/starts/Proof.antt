@@ -1,3 +1,4 @@
+use native.Mathlib.Omega.{arith}
 use borrow.Author.Needs.{needs}
 use mathlib.Core.Path.{ap}
 use Rattle.expression.specs.declared.Raw.{Raw}
@@ -16,26 +17,21 @@ returns c =
     (c .before .before .args .i) (c .if1 .taken)
 
 leads-to-requires : tie.Need-leads-to-requires
-leads-to-requires c κs = (
-  c .before .before .pre .0,
-  c .before .before .pre .1,
-  c .before .before .pre .2,
-  ap (λ (r : Raw). r .n1) (c .before .before .pre .3),
-  c .before .before .pre .4,
-)
+leads-to-requires c κs = (omega (arith, c .before .before .pre .0, c .before .before .pre .1), c .before .before .pre .2 .under)
 
 returns-2 : tie.Need-returns-2
 returns-2 c =
     let c4 = c .before .before .before .before in
     starts-link (pool (c4)) (c4 .args .on .now) (c4 .args .rows .now) (c4 .args .e) (c4 .args .i) (c .before .before .if1 .left)
-    (c .before .leads-to .ensures) (c .if2 .taken)
+    (c .before .leads-to .ensures _ _ _ (c4 .pre .2 .upto (c4 .args .i) (c4 .pre .1)) (ap (λ (r : Raw). r .n1) (c4 .pre .3)) (c4 .pre .4)) (c .if2 .taken)
 
 returns-3 : tie.Need-returns-3
 returns-3 c =
     let c3 = c .before .before .before in
     let c5 = c3 .before .before in
     starts-same (pool (c5)) (c5 .args .on .now) (c5 .args .rows .now) (c5 .args .e) (c5 .args .i) (c3 .if1 .left)
-    (c .before .before .leads-to .ensures) (c .before .if2 .left) (c .is-e .ensures)
+    (c .before .before .leads-to .ensures _ _ _ (c5 .pre .2 .upto (c5 .args .i) (c5 .pre .1)) (ap (λ (r : Raw). r .n1) (c5 .pre .3)) (c5 .pre .4))
+    (c .before .if2 .left) (c .is-e .ensures)
 
 pub starts-spec : {M : Type 1} → statement M
 starts-spec =

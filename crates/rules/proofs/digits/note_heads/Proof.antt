@@ -1,6 +1,5 @@
 use Prim.Native.Nat.{_-_, _≤_}
 use mathlib.Core.Path.{refl}
-use Rattle.rt0.specs.laws.Pool.{poolOf}
 use Rattle.rules.specs.laws.Digits.{HeadsIn}
 use Rattle.rules.specs.laws.Digit.{heads-start, heads-add, heads-end}
 use native.Mathlib.Omega.{arith}
@@ -8,14 +7,14 @@ use Rattle.rules.proofs.digits.note_heads.Statement.{statement}
 use Rattle.rules.proofs.digits.note_heads.Tie as tie
 
 abbrev Inv-loop : tie.InvT-loop
-Inv-loop n heads kinds numbers entity₀ name₀ j₀ entity name j = HeadsIn (poolOf n heads kinds numbers) j entity name × (j ≤ n)
+Inv-loop n heads entity₀ name₀ j₀ entity name j = HeadsIn heads j entity name × (j ≤ n)
 
 abbrev μ-loop : tie.MeasureT-loop
-μ-loop n heads kinds numbers entity₀ name₀ j₀ entity name j = n - j
+μ-loop n heads entity₀ name₀ j₀ entity name j = n - j
 
 loop-holds : tie.Need-loop-holds Inv-loop μ-loop
 loop-holds c = (
-  heads-start (poolOf (c .args .n) (c .args .heads .now) (c .args .kinds .now) (c .args .numbers .now)) (c .args .entity .now) (c .args .name .now)
+  heads-start (c .args .heads .now) (c .args .entity .now) (c .args .name .now)
       (c .pre .1) (c .pre .2),
   omega arith,
 )
@@ -28,10 +27,7 @@ note-requires-2 c κs = (omega arith, c .before .before .before .before .before 
 
 loop-again : tie.Need-loop-again Inv-loop μ-loop
 loop-again c = (
-  heads-add (poolOf (c .before .before .before .before .before .before .before .before .args .n)
-      (c .before .before .before .before .before .before .before .before .args .heads .now)
-      (c .before .before .before .before .before .before .before .before .args .kinds .now)
-      (c .before .before .before .before .before .before .before .before .args .numbers .now))
+  heads-add (c .before .before .before .before .before .before .before .before .args .heads .now)
       (c .before .before .before .before .before .before .before .loop .j) _ _ (c .before .before .before .before .before .before .before .loop .entity)
       _ (c .before .before .before .before .before .before .before .loop .name) _ refl refl (c .before .before .before .note .ensures)
       (c .note2 .ensures) (c .before .before .before .before .before .before .before .loop .inv .0),
@@ -40,8 +36,7 @@ loop-again c = (
 
 returns : tie.Need-returns Inv-loop μ-loop
 returns c =
-    heads-end (poolOf (c .before .before .args .n) (c .before .before .args .heads .now) (c .before .before .args .kinds .now)
-    (c .before .before .args .numbers .now)) (c .before .loop .j) (c .before .before .args .n) _ _ (c .before .loop .inv .1) (c .loop-test .left)
+    heads-end (c .before .before .args .heads .now) (c .before .loop .j) (c .before .before .args .n) _ _ (c .before .loop .inv .1) (c .loop-test .left)
     (c .before .loop .inv .0)
 
 pub note-heads-spec : {M : Type 1} → statement M

@@ -2,22 +2,17 @@ use Prim.Native.Nat.{_-_, _≤_}
 use native.Mathlib.Omega.{arith}
 use mathlib.Core.Path.{_≡_, refl}
 use mathlib.Core.Bool.{false}
-use Rattle.rt0.specs.declared.Pool.{Pool}
-use Rattle.rt0.specs.laws.Pool.{poolOf}
 use Rattle.word.specs.laws.Search.{anyTo}
-use Rattle.rules.specs.laws.Columns.{hasLink}
+use Rattle.rules.specs.laws.Columns.{hasLinkIn}
 use Rattle.rules.specs.laws.Search.{found-at, not-at, nowhere}
 use Rattle.rules.proofs.linking.has_links.Statement.{statement}
 use Rattle.rules.proofs.linking.has_links.Tie as tie
 
 abbrev Inv-loop : tie.InvT-loop
-Inv-loop n heads kinds numbers i₀ i = (i ≤ n) × (anyTo i (hasLink (poolOf n heads kinds numbers)) ≡ false)
+Inv-loop n kinds i₀ i = (i ≤ n) × (anyTo i (hasLinkIn kinds) ≡ false)
 
 abbrev μ-loop : tie.MeasureT-loop
-μ-loop n heads kinds numbers i₀ i = n - i
-
-abbrev pool : (c : tie.Start Inv-loop μ-loop) → Pool
-pool c = poolOf (c .args .n) (c .args .heads .now) (c .args .kinds .now) (c .args .numbers .now)
+μ-loop n kinds i₀ i = n - i
 
 loop-holds : tie.Need-loop-holds Inv-loop μ-loop
 loop-holds c = (omega arith, refl)
@@ -26,17 +21,18 @@ returns : tie.Need-returns Inv-loop μ-loop
 returns c =
     let c3 = c .before .before .before in
     let c4 = c3 .before in
-    found-at (hasLink (pool (c4))) (c3 .loop .i) (c .before .before .loop-test .taken) (c .before .has-link .ensures) (c .if1 .taken)
+    found-at (hasLinkIn (c4 .args .kinds .now)) (c3 .loop .i) (c .before .before .loop-test .taken) (c .before .has-link .ensures) (c .if1 .taken)
 
 loop-again : tie.Need-loop-again Inv-loop μ-loop
 loop-again c = (
   omega arith,
-  not-at (hasLink (pool (c .before .before .before .before))) (c .before .before .before .loop .i)
+  not-at (hasLinkIn (c .before .before .before .before .args .kinds .now)) (c .before .before .before .loop .i)
       (c .before .before .before .loop .inv .1) (c .before .has-link .ensures) (c .if1 .left),
 )
 
 returns-2 : tie.Need-returns-2 Inv-loop μ-loop
-returns-2 c = nowhere (hasLink (pool (c .before .before))) (c .before .loop .i) (c .before .loop .inv .0) (c .loop-test .left) (c .before .loop .inv .1)
+returns-2 c =
+    nowhere (hasLinkIn (c .before .before .args .kinds .now)) (c .before .loop .i) (c .before .loop .inv .0) (c .loop-test .left) (c .before .loop .inv .1)
 
 pub has-links-spec : {M : Type 1} → statement M
 has-links-spec =
