@@ -13,7 +13,8 @@ use message::NewEdge;
 use word::wide;
 ghost use mathlib.Core.Path.{_≡_};
 ghost use mathlib.Core.Bool.{true};
-ghost use Prim.Native.Nat.{_≤_};
+ghost use mathlib.Core.List.{List};
+ghost use Prim.Native.Nat.{ℕ, _≤_};
 ghost use Rattle.graph.specs.laws.Graph.{nodesOf, edgesOf};
 ghost use Rattle.propagation.specs.laws.Flags.{flag};
 ghost use Rattle.message.specs.declared.Command.the-variants as C;
@@ -57,10 +58,10 @@ fn brings_nothing(kind: u8, state: u8, child: bool, parent: bool) -> bool
             & ((kind != INTERSECTION) | (state != BOTH_PROCESSED)))
 }
 
-// A new child is satisfied only if it is an entity.
-fn bring_keeps(nodes: Nodes, sat: [u8; 128], b: NewEdge) -> bool
+// A new child is satisfied only if it is an entity, whatever other nodes are.
+fn bring_keeps(nodes: Nodes, b: NewEdge) -> bool
     requires { ⌜ nodes .count ≤ MOST-NODES ⌝ }
-    ensures { λ r. ⌜ r ≡ keepsStates (nodesOf nodes) sat (C.Bring b) ⌝ }
+    ensures { λ r. ⌜ ((sat : List ℕ) → r ≡ keepsStates (nodesOf nodes) sat (C.Bring b)) ⌝ }
 {
     if nodes.count <= wide(b.parent) {
         return false;
@@ -82,9 +83,10 @@ fn join_keeps(nodes: Nodes, sat: [u8; 128], e: Edge) -> bool
     brings_nothing(e.kind, p.state, child, parent)
 }
 
-fn mark_keeps(nodes: Nodes, sat: [u8; 128], i: u8) -> bool
+// A mark matters to an intersection only, whatever nodes are satisfied.
+fn mark_keeps(nodes: Nodes, i: u8) -> bool
     requires { ⌜ nodes .count ≤ MOST-NODES ⌝ }
-    ensures { λ r. ⌜ r ≡ keepsStates (nodesOf nodes) sat (C.Mark i) ⌝ }
+    ensures { λ r. ⌜ ((sat : List ℕ) → r ≡ keepsStates (nodesOf nodes) sat (C.Mark i)) ⌝ }
 {
     if nodes.count <= wide(i) {
         return false;
@@ -102,9 +104,9 @@ pub fn keeps_states(nodes: Nodes, sat: [u8; 128], c: Command) -> bool
     match c {
         Command::Show(_) => true,
         Command::Open(_) => true,
-        Command::Bring(b) => bring_keeps(nodes, sat, b),
+        Command::Bring(b) => bring_keeps(nodes, b),
         Command::Join(e) => join_keeps(nodes, sat, e),
-        Command::Mark(i) => mark_keeps(nodes, sat, i),
+        Command::Mark(i) => mark_keeps(nodes, i),
         Command::End => true,
     }
 }

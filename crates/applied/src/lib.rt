@@ -10,7 +10,7 @@ use sides::primary_of;
 use word::wide;
 ghost use mathlib.Core.Path.{_≡_};
 ghost use mathlib.Core.Bool.{true};
-ghost use Prim.Native.Nat.{_≤_, _<_};
+ghost use Prim.Native.Nat.{ℕ, _≤_, _<_};
 ghost use Rattle.message.specs.declared.Command.the-variants as C;
 ghost use Rattle.negotiation.specs.laws.State.{stateOf};
 ghost use Rattle.negotiation.specs.State.{within};
@@ -25,19 +25,19 @@ mod after;
 mod keeps;
 mod sides;
 
-// The primary is added.
-fn opened(n: Negotiation, side: u8, o: Opening) -> Negotiation
+// The primary is added, whichever side sends it.
+fn opened(n: Negotiation, o: Opening) -> Negotiation
     requires { ⌜ n .nodes .count < MOST-NODES ⌝ }
-    ensures { λ r. ⌜ stateOf r ≡ stepped (stateOf n) side (C.Open o) ⌝ }
+    ensures { λ r. ⌜ ((side : ℕ) → stateOf r ≡ stepped (stateOf n) side (C.Open o)) ⌝ }
 {
     let h = n.header;
     n.add_node(primary_of(h, o))
 }
 
-// A child is added, then the edge to it.
-fn brought(n: Negotiation, side: u8, b: NewEdge) -> Negotiation
+// A child is added, then the edge to it, whichever side sends them.
+fn brought(n: Negotiation, b: NewEdge) -> Negotiation
     requires { ⌜ (b .parent < n .nodes .count) × (n .nodes .count < MOST-NODES) × (n .edges .count < MOST-EDGES) ⌝ }
-    ensures { λ r. ⌜ stateOf r ≡ stepped (stateOf n) side (C.Bring b) ⌝ }
+    ensures { λ r. ⌜ ((side : ℕ) → stateOf r ≡ stepped (stateOf n) side (C.Bring b)) ⌝ }
 {
     let nodes = n.nodes;
     let p = node_of(nodes, b.parent);
@@ -67,8 +67,8 @@ pub fn step(n: Negotiation, sender: u8, c: Command) -> Negotiation
 {
     match c {
         Command::Show(d) => n.show(d),
-        Command::Open(o) => opened(n, sender, o),
-        Command::Bring(b) => brought(n, sender, b),
+        Command::Open(o) => opened(n, o),
+        Command::Bring(b) => brought(n, b),
         Command::Join(e) => n.add_edge(e),
         Command::Mark(i) => marked(n, sender, i),
         Command::End => n,

@@ -36,7 +36,6 @@ pub fn is_done(nodes: Nodes, edges: Edges, i: u8, w: Candidate) -> bool
         &nodes.n7,
         &nodes.subject,
         &nodes.verifier,
-        &nodes.state,
         y,
         w.verifier,
         w.subject,

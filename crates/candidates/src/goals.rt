@@ -11,7 +11,7 @@ use moves::Choice;
 use moves::Preparation;
 use rt0::head_at;
 ghost use mathlib.Core.Path.{_≡_};
-ghost use Prim.Native.Nat.{_≤_, _<_};
+ghost use Prim.Native.Nat.{ℕ, _≤_, _<_};
 ghost use Rattle.rt0.specs.laws.Pool.{poolOf};
 ghost use Rattle.rules.specs.laws.Table.{chosen};
 ghost use Rattle.tables.specs.laws.Tables.{pairsFrom, pairsOf};
@@ -21,14 +21,12 @@ ghost use Rattle.moves.specs.declared.Choice.the-variants as C;
 ghost use Rattle.moves.specs.Candidates.{isDone, ordered, firstNot};
 ghost use Rattle.candidates.specs.laws.Offers.{folded, offer};
 ghost use Rattle.candidates.specs.laws.Goals.{isNamedPair, pairEdge, isNamedHead, headEdge, solutionEdge, namedRoles};
-ghost use mathlib.Core.List.{map};
+ghost use mathlib.Core.List.{List, map};
 ghost use Rattle.numbers.specs.Sizes.{MOST-NODES, MOST-EDGES};
 
-// The best of what is chosen and the edge to sensitive role k, if it has the name r.
+// The best of what is chosen and the edge to sensitive role k, if it has the name r, whatever the other roles.
 fn with_pair<'a>(
-    q: usize,
     roles: &'a [u16; 64],
-    others: &'a [u16; 64],
     nodes: Nodes,
     edges: Edges,
     i: u8,
@@ -38,8 +36,8 @@ fn with_pair<'a>(
     k: usize,
 ) -> Choice
     requires { ⌜ (k < 32) × (nodes .count ≤ MOST-NODES) × (edges .count ≤ MOST-EDGES) ⌝ }
-    ensures { λ c. ⌜ c ≡ offer (isDone (nodesOf nodes) (edgesOf edges) i) (isNamedPair (pairsFrom q (now (roles .entry)) (now (others .entry))) r)
-        (pairEdge (pairsFrom q (now (roles .entry)) (now (others .entry))) n) best k ⌝ }
+    ensures { λ c. ⌜ ((q : ℕ) (others : List ℕ) → c ≡ offer (isDone (nodesOf nodes) (edgesOf edges) i)
+        (isNamedPair (pairsFrom q (now (roles .entry)) others) r) (pairEdge (pairsFrom q (now (roles .entry)) others) n) best k) ⌝ }
 {
     let a = Role {
         entity: roles[k * 2],
@@ -52,11 +50,10 @@ fn with_pair<'a>(
     better(nodes, edges, i, best, w)
 }
 
-// The best of the edges to sensitive roles of the name r.
+// The best of the edges to sensitive roles of the name r, whatever the other roles.
 fn with_pairs<'a>(
     q: usize,
     roles: &'a [u16; 64],
-    others: &'a [u16; 64],
     nodes: Nodes,
     edges: Edges,
     i: u8,
@@ -64,14 +61,13 @@ fn with_pairs<'a>(
     r: u16,
 ) -> Choice
     requires { ⌜ (q ≤ 32) × (nodes .count ≤ MOST-NODES) × (edges .count ≤ MOST-EDGES) ⌝ }
-    ensures { λ c. ⌜ c ≡ folded q (offer (isDone (nodesOf nodes) (edgesOf edges) i)
-        (isNamedPair (pairsFrom q (now (roles .entry)) (now (others .entry))) r)
-        (pairEdge (pairsFrom q (now (roles .entry)) (now (others .entry))) n)) C.Nothing ⌝ }
+    ensures { λ c. ⌜ ((others : List ℕ) → c ≡ folded q (offer (isDone (nodesOf nodes) (edgesOf edges) i)
+        (isNamedPair (pairsFrom q (now (roles .entry)) others) r) (pairEdge (pairsFrom q (now (roles .entry)) others) n)) C.Nothing) ⌝ }
 {
     let mut best = Choice::Nothing;
     let mut k = 0;
     while k < q {
-        best = with_pair(q, roles, others, nodes, edges, i, n, r, best, k);
+        best = with_pair(roles, nodes, edges, i, n, r, best, k);
         k += 1;
     }
     best
@@ -145,16 +141,7 @@ pub fn solutions(own: Preparation, nodes: Nodes, edges: Edges, i: u8, n: Node, r
     let house = own.house;
     let pairs = house.sensitive;
     let pool = house.subject;
-    let first = with_pairs(
-        pairs.count,
-        &pairs.roles,
-        &pairs.others,
-        nodes,
-        edges,
-        i,
-        n,
-        r,
-    );
+    let first = with_pairs(pairs.count, &pairs.roles, nodes, edges, i, n, r);
     with_heads(
         pool.count,
         &pool.heads,

@@ -45,7 +45,6 @@ pub fn is_acknowledged(n: Negotiation, sat: &[u8; 128], r: Role) -> bool
         &nodes.n7,
         &nodes.subject,
         &nodes.verifier,
-        &nodes.state,
         Expression::Role(r),
         h.side,
         h.other,

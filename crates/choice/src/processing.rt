@@ -26,10 +26,13 @@ use tables::RoleAnswer;
 use tables::other_of;
 ghost use mathlib.Core.Path.{_≡_};
 ghost use Prim.Native.Nat.{_≤_, _<_};
+ghost use Rattle.tables.specs.Tables.{Tables};
 ghost use Rattle.tables.specs.laws.Tables.{tablesOf};
 ghost use Rattle.negotiation.specs.laws.State.{stateOf};
 ghost use Rattle.graph.specs.laws.Graph.{nodesOf, edgesOf};
 ghost use Rattle.graph.specs.Graph.{nodeIn};
+ghost use Rattle.states.specs.laws.Brings.{EdgesFormed};
+ghost use Rattle.states.specs.laws.Complete.{StateColumns};
 ghost use Rattle.expression.specs.declared.Expression.the-variants as E;
 ghost use Rattle.moves.specs.declared.Choice.the-variants as C;
 ghost use Rattle.moves.specs.Candidates.{firstNot, chosenIn, isDone};
@@ -41,18 +44,11 @@ ghost use Rattle.choice.specs.laws.Asked.{restEdges, Asked};
 ghost use Rattle.choice.specs.laws.Exhausted.{Exhausted};
 ghost use Rattle.numbers.specs.Sizes.{MOST-NODES, MOST-EDGES};
 
-// A linked target by the rules that both sides share.
-fn linked(
-    own: Preparation,
-    n: Negotiation,
-    states: NodeStates,
-    i: u8,
-    x: Node,
-    a: Role,
-    r: u16,
-) -> Choice
-    requires { ⌜ Ready own n states ⌝ }
-    ensures { λ c. ⌜ c ≡ chosenIn (isDone (nodesOf (n .nodes)) (edgesOf (n .edges)) i) (linkRules (endIn (tablesOf (own .house)) (stateOf n)) i x a r) ⌝ }
+// A linked target by the rules that both sides share, whatever our tables.
+fn linked(n: Negotiation, states: NodeStates, i: u8, x: Node, a: Role, r: u16) -> Choice
+    requires { ⌜ (n .nodes .count ≤ MOST-NODES) × (n .edges .count ≤ MOST-EDGES) × EdgesFormed (nodesOf (n .nodes)) (edgesOf (n .edges))
+        × StateColumns (nodesOf (n .nodes)) (edgesOf (n .edges)) (states .satisfied) (states .failed) ⌝ }
+    ensures { λ c. ⌜ ((T : Tables) → c ≡ chosenIn (isDone (nodesOf (n .nodes)) (edgesOf (n .edges)) i) (linkRules (endIn T (stateOf n)) i x a r)) ⌝ }
 {
     let nodes = n.nodes;
     let edges = n.edges;
@@ -77,7 +73,7 @@ fn verifier_link(
     let names = house.names;
     let k = class_of(names.count, &names.name, &names.class, a.name);
     if k == ISSUER_DEF {
-        return linked(own, n, states, i, x, a, r);
+        return linked(n, states, i, x, a, r);
     }
     if k != ISSUER_ALL {
         return Choice::Mark;
@@ -193,7 +189,7 @@ fn opponent_rules(
     match e {
         Expression::Entity(_) => Choice::Mark,
         Expression::Role(a) => opponent_role(own, n, states, i, x, a, passed),
-        Expression::Linked(a, r) => linked(own, n, states, i, x, a, r),
+        Expression::Linked(a, r) => linked(n, states, i, x, a, r),
         Expression::Intersection(p) => or_else(part_edges(nodes, edges, i, x, p), Choice::Mark),
         Expression::Goal(r) => or_else(solutions(own, nodes, edges, i, x, r), Choice::Mark),
     }

@@ -116,9 +116,8 @@ fn records_sound<'a>(
     shown_fit(k, name, class, q, heads, kinds, numbers)
 }
 
-// Every edge is justified.
+// Every edge is justified, whatever the header.
 fn edges_justified<'a>(
-    h: Header,
     n: usize,
     kind: &'a [u8; 128],
     parts: &'a [u8; 128],
@@ -145,11 +144,11 @@ fn edges_justified<'a>(
     requires { ⌜ (n ≤ 128) × (m ≤ 256) × (q ≤ 128)
         × NodesFormed (nodesOf (nodesFrom n (now kind) (now parts) (now n0) (now n1) (now n2) (now n3) (now n4) (now n5) (now n6) (now n7)
         (now subject) (now verifier) (now state))) × Inside n (edgesFrom m (now edge) (now parent) (now child)) ⌝ }
-    ensures { λ b. ⌜ b ≡ edgesJustified (stateWith h
+    ensures { λ b. ⌜ ((h : Header) → b ≡ edgesJustified (stateWith h
         (nodesOf (nodesFrom n (now (kind .entry)) (now (parts .entry)) (now (n0 .entry)) (now (n1 .entry)) (now (n2 .entry)) (now (n3 .entry))
         (now (n4 .entry)) (now (n5 .entry)) (now (n6 .entry)) (now (n7 .entry)) (now (subject .entry)) (now (verifier .entry)) (now (state .entry))))
         (edgesOf (edgesFrom m (now (edge .entry)) (now (parent .entry)) (now (child .entry))))
-        (credentials (poolOf q (now (heads .entry)) (now (kinds .entry)) (now (numbers .entry))))) ⌝ }
+        (credentials (poolOf q (now (heads .entry)) (now (kinds .entry)) (now (numbers .entry)))))) ⌝ }
 {
     if !edges_implied(
         n,
@@ -255,7 +254,6 @@ fn graph_sound(names: Names, h: Header, nodes: Nodes, edges: Edges, shown: Pool)
         return false;
     }
     if !edges_justified(
-        h,
         nodes.count,
         &nodes.kind,
         &nodes.parts,

@@ -108,7 +108,6 @@ fn node_fits<'a>(
         n7,
         subject,
         verifier,
-        state,
         e,
         x.verifier,
         x.subject,

@@ -9,10 +9,13 @@ use expression::same;
 use numbers::MOST_NODES;
 use word::wide;
 ghost use mathlib.Core.Path.{_≡_};
-ghost use Prim.Native.Nat.{_≤_, _<_};
-ghost use Rattle.graph.specs.laws.Graph.{nodesFrom, edgesFrom, expressionFrom, nodeAt, edgeAt, nodesOf, edgesOf, edgeIn};
+ghost use mathlib.Core.List.{List};
+ghost use Prim.Native.Nat.{ℕ, _≤_, _<_};
+ghost use lib.ListN.{getD};
+ghost use Rattle.graph.specs.laws.Graph.{nodesFrom, edgesFrom, expressionFrom, edgeFrom, nodesOf, edgesOf, edgeIn};
 ghost use Rattle.graph.specs.Graph.{nodeIn};
-ghost use Rattle.graph.specs.Find.{isNode, findNode, sameEdge, hasEdge};
+ghost use Rattle.graph.specs.Find.{findNode, sameEdge, hasEdge};
+ghost use Rattle.graph.specs.laws.Find.{isNodeBy};
 ghost use mathlib.Core.Bool.{true};
 ghost use Rattle.numbers.specs.Sizes.{MOST-NODES};
 
@@ -81,7 +84,6 @@ pub fn node_at<'a>(
 
 // Whether node i has expression x, verifier v and subject s.
 fn is_node<'a>(
-    n: usize,
     kind: &'a [u8; 128],
     parts: &'a [u8; 128],
     n0: &'a [u16; 128],
@@ -94,16 +96,15 @@ fn is_node<'a>(
     n7: &'a [u16; 128],
     subject: &'a [u16; 128],
     verifier: &'a [u8; 128],
-    state: &'a [u8; 128],
     x: Expression,
     v: u8,
     s: u16,
     i: usize,
 ) -> bool
     requires { ⌜ i < 128 ⌝ }
-    ensures { λ r. ⌜ r ≡ isNode x v s (nodeAt (nodesFrom n (now (kind .entry)) (now (parts .entry)) (now (n0 .entry)) (now (n1 .entry))
-        (now (n2 .entry)) (now (n3 .entry)) (now (n4 .entry)) (now (n5 .entry)) (now (n6 .entry)) (now (n7 .entry)) (now (subject .entry))
-        (now (verifier .entry)) (now (state .entry))) i) ⌝ }
+    ensures { λ r. ⌜ r ≡ isNodeBy x v s (expressionFrom (now (kind .entry)) (now (parts .entry)) (now (n0 .entry)) (now (n1 .entry)) (now (n2 .entry))
+        (now (n3 .entry)) (now (n4 .entry)) (now (n5 .entry)) (now (n6 .entry)) (now (n7 .entry)) i) (getD (now (verifier .entry)) i 0)
+        (getD (now (subject .entry)) i 0) ⌝ }
 {
     if (verifier[i] != v) | (subject[i] != s) {
         return false;
@@ -114,7 +115,7 @@ fn is_node<'a>(
     )
 }
 
-// The first node with expression x, verifier v and subject s, or 128.
+// The first node with expression x, verifier v and subject s, or 128, whatever the states.
 pub fn find_node<'a>(
     n: usize,
     kind: &'a [u8; 128],
@@ -129,20 +130,18 @@ pub fn find_node<'a>(
     n7: &'a [u16; 128],
     subject: &'a [u16; 128],
     verifier: &'a [u8; 128],
-    state: &'a [u8; 128],
     x: Expression,
     v: u8,
     s: u16,
 ) -> usize
     requires { ⌜ n ≤ 128 ⌝ }
-    ensures { λ r. ⌜ r ≡ findNode (nodesOf (nodesFrom n (now (kind .entry)) (now (parts .entry)) (now (n0 .entry)) (now (n1 .entry)) (now (n2 .entry))
-        (now (n3 .entry)) (now (n4 .entry)) (now (n5 .entry)) (now (n6 .entry)) (now (n7 .entry)) (now (subject .entry)) (now (verifier .entry))
-        (now (state .entry)))) x v s ⌝ }
+    ensures { λ r. ⌜ ((state : List ℕ) → r ≡ findNode (nodesOf (nodesFrom n (now (kind .entry)) (now (parts .entry)) (now (n0 .entry)) (now (n1 .entry))
+        (now (n2 .entry)) (now (n3 .entry)) (now (n4 .entry)) (now (n5 .entry)) (now (n6 .entry)) (now (n7 .entry)) (now (subject .entry))
+        (now (verifier .entry)) state)) x v s) ⌝ }
 {
     let mut i = 0;
     while i < n {
         if is_node(
-            n,
             kind,
             parts,
             n0,
@@ -155,7 +154,6 @@ pub fn find_node<'a>(
             n7,
             subject,
             verifier,
-            state,
             x,
             v,
             s,
@@ -188,7 +186,6 @@ pub fn edge_at<'a>(
 
 // Whether edge j is x.
 fn is_edge<'a>(
-    m: usize,
     kind: &'a [u8; 256],
     parent: &'a [u8; 256],
     child: &'a [u8; 256],
@@ -196,7 +193,7 @@ fn is_edge<'a>(
     j: usize,
 ) -> bool
     requires { ⌜ j < 256 ⌝ }
-    ensures { λ r. ⌜ r ≡ sameEdge (edgeAt (edgesFrom m (now (kind .entry)) (now (parent .entry)) (now (child .entry))) j) x ⌝ }
+    ensures { λ r. ⌜ r ≡ sameEdge (edgeFrom (now (kind .entry)) (now (parent .entry)) (now (child .entry)) j) x ⌝ }
 {
     (kind[j] == x.kind) & (parent[j] == x.parent) & (child[j] == x.child)
 }
@@ -214,7 +211,7 @@ pub fn has_edge<'a>(
 {
     let mut j = 0;
     while j < m {
-        if is_edge(m, kind, parent, child, x, j) {
+        if is_edge(kind, parent, child, x, j) {
             return true;
         }
         j += 1;

@@ -9,11 +9,12 @@ use relation::relation;
 use rules::rules_of;
 use word::wide;
 ghost use mathlib.Core.Path.{_≡_};
-ghost use Prim.Native.Nat.{_≤_, _<_};
+ghost use Prim.Native.Nat.{ℕ, _≤_, _<_};
+ghost use lib.ListN.{getD};
 ghost use Rattle.rt0.specs.Lists.{all};
 ghost use Rattle.rt0.specs.laws.Pool.{poolOf, credentials};
 ghost use Rattle.graph.specs.declared.Nodes.{Nodes};
-ghost use Rattle.graph.specs.laws.Graph.{expressionFrom, nodesFrom, edgesFrom, edgeAt, nodesOf, edgesOf};
+ghost use Rattle.graph.specs.laws.Graph.{expressionFrom, nodesFrom, edgesFrom, edgeFrom, nodesOf, edgesOf};
 ghost use Rattle.rules.specs.laws.Table.{chosen};
 ghost use Rattle.rules.specs.laws.Ruled.{Ruled};
 ghost use Rattle.closure.specs.laws.Rules.{rulesOf};
@@ -23,14 +24,9 @@ ghost use Rattle.justification.specs.Justified.{impliedIf};
 ghost use Rattle.justification.specs.laws.Implied.{impliedFrom, allFrom, allImplied, Children};
 
 // The children of edges of kind 1.
-fn children<'a>(
-    m: usize,
-    edge: &'a [u8; 256],
-    parent: &'a [u8; 256],
-    child: &'a [u8; 256],
-) -> [u8; 128]
-    requires { ⌜ (m ≤ 256) × Inside 128 (edgesFrom m (now edge) (now parent) (now child)) ⌝ }
-    ensures { λ r. ⌜ Children (edgesFrom m (now (edge .entry)) (now (parent .entry)) (now (child .entry))) m r ⌝ }
+fn children<'a>(m: usize, edge: &'a [u8; 256], child: &'a [u8; 256]) -> [u8; 128]
+    requires { ⌜ (m ≤ 256) × ((j : ℕ) → j < m → getD (now child) j 0 < 128) ⌝ }
+    ensures { λ r. ⌜ Children (now (edge .entry)) (now (child .entry)) m r ⌝ }
 {
     let mut r = [0u8; 128];
     let mut j = 0;
@@ -55,7 +51,6 @@ fn implied_at<'a>(
     n5: &'a [u16; 128],
     n6: &'a [u16; 128],
     n7: &'a [u16; 128],
-    m: usize,
     edge: &'a [u8; 256],
     parent: &'a [u8; 256],
     child: &'a [u8; 256],
@@ -70,14 +65,14 @@ fn implied_at<'a>(
     c: usize,
     j: usize,
 ) -> bool
-    requires { ⌜ (j < m) × (m ≤ 256) × Inside 128 (edgesFrom m (now edge) (now parent) (now child)) × (q ≤ 128)
+    requires { ⌜ (j < 256) × (getD (now parent) j 0 < 128) × (q ≤ 128)
         × Relation (poolOf q (now heads) (now kinds) (now numbers)) (now on) (now mem)
         × Answers (poolOf q (now heads) (now kinds) (now numbers)) (now on) e 0 (now vals)
         × (e ≡ expressionFrom (now kind) (now parts) (now n0) (now n1) (now n2) (now n3) (now n4) (now n5) (now n6) (now n7) c) ⌝ }
     ensures { λ r. ⌜ r ≡ impliedFrom (chosen (poolOf q (now (heads .entry)) (now (kinds .entry)) (now (numbers .entry))) (now (on .entry)))
         (expressionFrom (now (kind .entry)) (now (parts .entry)) (now (n0 .entry)) (now (n1 .entry)) (now (n2 .entry)) (now (n3 .entry))
         (now (n4 .entry)) (now (n5 .entry)) (now (n6 .entry)) (now (n7 .entry))) c
-        (edgeAt (edgesFrom m (now (edge .entry)) (now (parent .entry)) (now (child .entry))) j) ⌝ }
+        (edgeFrom (now (edge .entry)) (now (parent .entry)) (now (child .entry)) j) ⌝ }
 {
     if (edge[j] != IMPLICATION) | (wide(child[j]) != c) {
         return true;
@@ -134,7 +129,6 @@ fn implied_from<'a>(
             n5,
             n6,
             n7,
-            m,
             edge,
             parent,
             child,
@@ -191,7 +185,7 @@ fn node_implied<'a>(
     requires { ⌜ (c < 128) × (m ≤ 256) × Inside 128 (edgesFrom m (now edge) (now parent) (now child)) × (q ≤ 128)
         × Ruled (poolOf q (now heads) (now kinds) (now numbers)) (rulesOf q words (now head) (now part) (now first) (now named) (now src))
         × Relation (poolOf q (now heads) (now kinds) (now numbers)) (now on) (now mem)
-        × Children (edgesFrom m (now edge) (now parent) (now child)) m (now used) ⌝ }
+        × Children (now edge) (now child) m (now used) ⌝ }
     ensures { λ r. ⌜ r ≡ allFrom (chosen (poolOf q (now (heads .entry)) (now (kinds .entry)) (now (numbers .entry))) (now (on .entry)))
         (expressionFrom (now (kind .entry)) (now (parts .entry)) (now (n0 .entry)) (now (n1 .entry)) (now (n2 .entry)) (now (n3 .entry))
         (now (n4 .entry)) (now (n5 .entry)) (now (n6 .entry)) (now (n7 .entry)))
@@ -280,7 +274,7 @@ fn nodes_implied<'a>(
         × Inside 128 (edgesFrom m (now edge) (now parent) (now child)) × (q ≤ 128)
         × Ruled (poolOf q (now heads) (now kinds) (now numbers)) (rulesOf q words (now head) (now part) (now first) (now named) (now src))
         × Relation (poolOf q (now heads) (now kinds) (now numbers)) (now on) (now mem)
-        × Children (edgesFrom m (now edge) (now parent) (now child)) m (now used) ⌝ }
+        × Children (now edge) (now child) m (now used) ⌝ }
     ensures { λ r. ⌜ r ≡ allImplied (chosen (poolOf q (now (heads .entry)) (now (kinds .entry)) (now (numbers .entry))) (now (on .entry)))
         (expressionFrom (now (kind .entry)) (now (parts .entry)) (now (n0 .entry)) (now (n1 .entry)) (now (n2 .entry)) (now (n3 .entry))
         (now (n4 .entry)) (now (n5 .entry)) (now (n6 .entry)) (now (n7 .entry)))
@@ -354,7 +348,7 @@ pub fn edges_implied<'a>(
         (now (n4 .entry)) (now (n5 .entry)) (now (n6 .entry)) (now (n7 .entry)) (o .subject) (o .verifier) (o .state))))
         (edgesOf (edgesFrom m (now (edge .entry)) (now (parent .entry)) (now (child .entry))))) ⌝ }
 {
-    let used = children(m, edge, parent, child);
+    let used = children(m, edge, child);
     let x = rules_of(q, heads, kinds, numbers);
     let deps = dependents(q, &x.part, &x.first, &x.named);
     let on = [1u8; 128];

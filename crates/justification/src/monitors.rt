@@ -9,7 +9,10 @@ use word::wide;
 ghost use mathlib.Core.Path.{_≡_};
 ghost use Prim.Native.Nat.{_≤_, _<_};
 ghost use Rattle.rt0.specs.Lists.{any};
-ghost use Rattle.graph.specs.laws.Graph.{nodesFrom, edgesFrom, edgeAt, nodesOf, edgesOf};
+ghost use mathlib.Core.List.{List};
+ghost use Rattle.graph.specs.declared.Nodes.{Nodes};
+ghost use Rattle.graph.specs.declared.Edge.{Edge};
+ghost use Rattle.graph.specs.laws.Graph.{nodesFrom, edgesFrom, edgeFrom, nodesOf, edgesOf};
 ghost use Rattle.justification.specs.Justified.{isSolutionFor, solves, solved, monitors};
 ghost use Rattle.justification.specs.laws.Justified.{Says};
 
@@ -26,7 +29,7 @@ fn is_solution_for(x: Expression, b: u16, y: Expression) -> bool
     }
 }
 
-// Whether edge j brings the goal g a satisfied solution for x and B.
+// Whether edge j brings the goal g a satisfied solution for x and B, sat being the satisfied nodes, whatever the nodes' other columns.
 fn solves_at<'a>(
     n: usize,
     kind: &'a [u8; 128],
@@ -39,10 +42,6 @@ fn solves_at<'a>(
     n5: &'a [u16; 128],
     n6: &'a [u16; 128],
     n7: &'a [u16; 128],
-    subject: &'a [u16; 128],
-    verifier: &'a [u8; 128],
-    state: &'a [u8; 128],
-    m: usize,
     edge: &'a [u8; 256],
     parent: &'a [u8; 256],
     child: &'a [u8; 256],
@@ -52,13 +51,13 @@ fn solves_at<'a>(
     g: u8,
     j: usize,
 ) -> bool
-    requires { ⌜ (n ≤ 128) × (m ≤ 256) × (j < m) × Says
-        (nodesOf (nodesFrom n (now kind) (now parts) (now n0) (now n1) (now n2) (now n3) (now n4) (now n5) (now n6) (now n7) (now subject)
-        (now verifier) (now state))) (edgesOf (edgesFrom m (now edge) (now parent) (now child))) (now sat) ⌝ }
-    ensures { λ r. ⌜ r ≡ solves (nodesOf (nodesFrom n (now (kind .entry)) (now (parts .entry)) (now (n0 .entry)) (now (n1 .entry)) (now (n2 .entry))
-        (now (n3 .entry)) (now (n4 .entry)) (now (n5 .entry)) (now (n6 .entry)) (now (n7 .entry)) (now (subject .entry)) (now (verifier .entry))
-        (now (state .entry)))) (edgesOf (edgesFrom m (now (edge .entry)) (now (parent .entry)) (now (child .entry)))) x b g
-        (edgeAt (edgesFrom m (now (edge .entry)) (now (parent .entry)) (now (child .entry))) j) ⌝ }
+    requires { ⌜ (n ≤ 128) × (j < 256) ⌝ }
+    ensures { λ r. ⌜ ((o : Nodes) (es : List Edge) → Says
+        (nodesOf (nodesFrom n (now (kind .entry)) (now (parts .entry)) (now (n0 .entry)) (now (n1 .entry)) (now (n2 .entry))
+        (now (n3 .entry)) (now (n4 .entry)) (now (n5 .entry)) (now (n6 .entry)) (now (n7 .entry)) (o .subject) (o .verifier) (o .state))) es (now (sat .entry))
+        → r ≡ solves (nodesOf (nodesFrom n (now (kind .entry)) (now (parts .entry)) (now (n0 .entry)) (now (n1 .entry)) (now (n2 .entry))
+        (now (n3 .entry)) (now (n4 .entry)) (now (n5 .entry)) (now (n6 .entry)) (now (n7 .entry)) (o .subject) (o .verifier) (o .state)))
+        es x b g (edgeFrom (now (edge .entry)) (now (parent .entry)) (now (child .entry)) j)) ⌝ }
 {
     if (edge[j] != SOLUTION) | (parent[j] != g) {
         return false;
@@ -77,7 +76,7 @@ fn solves_at<'a>(
     )
 }
 
-// Whether the goal g has a satisfied solution for x and B.
+// Whether the goal g has one.
 fn is_solved<'a>(
     n: usize,
     kind: &'a [u8; 128],
@@ -90,9 +89,6 @@ fn is_solved<'a>(
     n5: &'a [u16; 128],
     n6: &'a [u16; 128],
     n7: &'a [u16; 128],
-    subject: &'a [u16; 128],
-    verifier: &'a [u8; 128],
-    state: &'a [u8; 128],
     m: usize,
     edge: &'a [u8; 256],
     parent: &'a [u8; 256],
@@ -102,12 +98,14 @@ fn is_solved<'a>(
     b: u16,
     g: u8,
 ) -> bool
-    requires { ⌜ (n ≤ 128) × (m ≤ 256) × Says (nodesOf
-        (nodesFrom n (now kind) (now parts) (now n0) (now n1) (now n2) (now n3) (now n4) (now n5) (now n6) (now n7) (now subject) (now verifier)
-        (now state))) (edgesOf (edgesFrom m (now edge) (now parent) (now child))) (now sat) ⌝ }
-    ensures { λ r. ⌜ r ≡ solved (nodesOf (nodesFrom n (now (kind .entry)) (now (parts .entry)) (now (n0 .entry)) (now (n1 .entry)) (now (n2 .entry))
-        (now (n3 .entry)) (now (n4 .entry)) (now (n5 .entry)) (now (n6 .entry)) (now (n7 .entry)) (now (subject .entry)) (now (verifier .entry))
-        (now (state .entry)))) (edgesOf (edgesFrom m (now (edge .entry)) (now (parent .entry)) (now (child .entry)))) x b g ⌝ }
+    requires { ⌜ (n ≤ 128) × (m ≤ 256) ⌝ }
+    ensures { λ r. ⌜ ((o : Nodes) → Says
+        (nodesOf (nodesFrom n (now (kind .entry)) (now (parts .entry)) (now (n0 .entry)) (now (n1 .entry)) (now (n2 .entry))
+        (now (n3 .entry)) (now (n4 .entry)) (now (n5 .entry)) (now (n6 .entry)) (now (n7 .entry)) (o .subject) (o .verifier) (o .state)))
+        (edgesOf (edgesFrom m (now (edge .entry)) (now (parent .entry)) (now (child .entry)))) (now (sat .entry))
+        → r ≡ solved (nodesOf (nodesFrom n (now (kind .entry)) (now (parts .entry)) (now (n0 .entry)) (now (n1 .entry)) (now (n2 .entry))
+        (now (n3 .entry)) (now (n4 .entry)) (now (n5 .entry)) (now (n6 .entry)) (now (n7 .entry)) (o .subject) (o .verifier) (o .state)))
+        (edgesOf (edgesFrom m (now (edge .entry)) (now (parent .entry)) (now (child .entry)))) x b g) ⌝ }
 {
     let mut j = 0;
     while j < m {
@@ -123,10 +121,6 @@ fn is_solved<'a>(
             n5,
             n6,
             n7,
-            subject,
-            verifier,
-            state,
-            m,
             edge,
             parent,
             child,
@@ -143,7 +137,7 @@ fn is_solved<'a>(
     false
 }
 
-// Whether edge j brings node p a goal with a satisfied solution for x and B.
+// Whether edge j brings node p a goal that has one.
 fn monitors_at<'a>(
     n: usize,
     kind: &'a [u8; 128],
@@ -156,9 +150,6 @@ fn monitors_at<'a>(
     n5: &'a [u16; 128],
     n6: &'a [u16; 128],
     n7: &'a [u16; 128],
-    subject: &'a [u16; 128],
-    verifier: &'a [u8; 128],
-    state: &'a [u8; 128],
     m: usize,
     edge: &'a [u8; 256],
     parent: &'a [u8; 256],
@@ -169,13 +160,15 @@ fn monitors_at<'a>(
     p: u8,
     j: usize,
 ) -> bool
-    requires { ⌜ (n ≤ 128) × (m ≤ 256) × (j < m) × Says
-        (nodesOf (nodesFrom n (now kind) (now parts) (now n0) (now n1) (now n2) (now n3) (now n4) (now n5) (now n6) (now n7) (now subject)
-        (now verifier) (now state))) (edgesOf (edgesFrom m (now edge) (now parent) (now child))) (now sat) ⌝ }
-    ensures { λ r. ⌜ r ≡ monitors (nodesOf (nodesFrom n (now (kind .entry)) (now (parts .entry)) (now (n0 .entry)) (now (n1 .entry)) (now (n2 .entry))
-        (now (n3 .entry)) (now (n4 .entry)) (now (n5 .entry)) (now (n6 .entry)) (now (n7 .entry)) (now (subject .entry)) (now (verifier .entry))
-        (now (state .entry)))) (edgesOf (edgesFrom m (now (edge .entry)) (now (parent .entry)) (now (child .entry)))) x b p
-        (edgeAt (edgesFrom m (now (edge .entry)) (now (parent .entry)) (now (child .entry))) j) ⌝ }
+    requires { ⌜ (n ≤ 128) × (m ≤ 256) × (j < m) ⌝ }
+    ensures { λ r. ⌜ ((o : Nodes) → Says
+        (nodesOf (nodesFrom n (now (kind .entry)) (now (parts .entry)) (now (n0 .entry)) (now (n1 .entry)) (now (n2 .entry))
+        (now (n3 .entry)) (now (n4 .entry)) (now (n5 .entry)) (now (n6 .entry)) (now (n7 .entry)) (o .subject) (o .verifier) (o .state)))
+        (edgesOf (edgesFrom m (now (edge .entry)) (now (parent .entry)) (now (child .entry)))) (now (sat .entry))
+        → r ≡ monitors (nodesOf (nodesFrom n (now (kind .entry)) (now (parts .entry)) (now (n0 .entry)) (now (n1 .entry)) (now (n2 .entry))
+        (now (n3 .entry)) (now (n4 .entry)) (now (n5 .entry)) (now (n6 .entry)) (now (n7 .entry)) (o .subject) (o .verifier) (o .state)))
+        (edgesOf (edgesFrom m (now (edge .entry)) (now (parent .entry)) (now (child .entry)))) x b p
+        (edgeFrom (now (edge .entry)) (now (parent .entry)) (now (child .entry)) j)) ⌝ }
 {
     if (edge[j] != MONITOR) | (parent[j] != p) {
         return false;
@@ -196,9 +189,6 @@ fn monitors_at<'a>(
         n5,
         n6,
         n7,
-        subject,
-        verifier,
-        state,
         m,
         edge,
         parent,
@@ -210,7 +200,7 @@ fn monitors_at<'a>(
     )
 }
 
-// Whether node p has a goal as child that has a satisfied solution for x and B.
+// Whether node p has a goal as child that has a satisfied solution for x and B, sat being the satisfied nodes, whatever the nodes' other columns.
 pub fn is_monitored_for<'a>(
     n: usize,
     kind: &'a [u8; 128],
@@ -223,9 +213,6 @@ pub fn is_monitored_for<'a>(
     n5: &'a [u16; 128],
     n6: &'a [u16; 128],
     n7: &'a [u16; 128],
-    subject: &'a [u16; 128],
-    verifier: &'a [u8; 128],
-    state: &'a [u8; 128],
     m: usize,
     edge: &'a [u8; 256],
     parent: &'a [u8; 256],
@@ -235,13 +222,15 @@ pub fn is_monitored_for<'a>(
     b: u16,
     p: u8,
 ) -> bool
-    requires { ⌜ (n ≤ 128) × (m ≤ 256) × Says (nodesOf
-        (nodesFrom n (now kind) (now parts) (now n0) (now n1) (now n2) (now n3) (now n4) (now n5) (now n6) (now n7) (now subject) (now verifier)
-        (now state))) (edgesOf (edgesFrom m (now edge) (now parent) (now child))) (now sat) ⌝ }
-    ensures { λ r. ⌜ r ≡ any (monitors (nodesOf (nodesFrom n (now (kind .entry)) (now (parts .entry)) (now (n0 .entry)) (now (n1 .entry))
-        (now (n2 .entry)) (now (n3 .entry)) (now (n4 .entry)) (now (n5 .entry)) (now (n6 .entry)) (now (n7 .entry)) (now (subject .entry))
-        (now (verifier .entry)) (now (state .entry)))) (edgesOf (edgesFrom m (now (edge .entry)) (now (parent .entry)) (now (child .entry)))) x b p)
-        (edgesOf (edgesFrom m (now (edge .entry)) (now (parent .entry)) (now (child .entry)))) ⌝ }
+    requires { ⌜ (n ≤ 128) × (m ≤ 256) ⌝ }
+    ensures { λ r. ⌜ ((o : Nodes) → Says
+        (nodesOf (nodesFrom n (now (kind .entry)) (now (parts .entry)) (now (n0 .entry)) (now (n1 .entry)) (now (n2 .entry))
+        (now (n3 .entry)) (now (n4 .entry)) (now (n5 .entry)) (now (n6 .entry)) (now (n7 .entry)) (o .subject) (o .verifier) (o .state)))
+        (edgesOf (edgesFrom m (now (edge .entry)) (now (parent .entry)) (now (child .entry)))) (now (sat .entry))
+        → r ≡ any (monitors (nodesOf (nodesFrom n (now (kind .entry)) (now (parts .entry)) (now (n0 .entry)) (now (n1 .entry)) (now (n2 .entry))
+        (now (n3 .entry)) (now (n4 .entry)) (now (n5 .entry)) (now (n6 .entry)) (now (n7 .entry)) (o .subject) (o .verifier) (o .state)))
+        (edgesOf (edgesFrom m (now (edge .entry)) (now (parent .entry)) (now (child .entry)))) x b p)
+        (edgesOf (edgesFrom m (now (edge .entry)) (now (parent .entry)) (now (child .entry))))) ⌝ }
 {
     let mut j = 0;
     while j < m {
@@ -257,9 +246,6 @@ pub fn is_monitored_for<'a>(
             n5,
             n6,
             n7,
-            subject,
-            verifier,
-            state,
             m,
             edge,
             parent,

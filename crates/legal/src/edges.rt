@@ -125,7 +125,6 @@ fn bring_wrong(n: Negotiation, b: NewEdge) -> bool
         &nodes.n7,
         &nodes.subject,
         &nodes.verifier,
-        &nodes.state,
         y,
         c.verifier,
         b.subject,

@@ -35,7 +35,6 @@ fn child_number(nodes: Nodes, w: Candidate) -> usize
         &nodes.n7,
         &nodes.subject,
         &nodes.verifier,
-        &nodes.state,
         expression,
         w.verifier,
         w.subject,

@@ -7,7 +7,7 @@ use word::wide;
 ghost use mathlib.Core.Path.{_≡_};
 ghost use Prim.Native.Nat.{_≤_, _<_};
 ghost use Rattle.rt0.specs.Lists.{any};
-ghost use Rattle.graph.specs.laws.Graph.{nodesFrom, edgesFrom, edgeAt, nodesOf, edgesOf};
+ghost use Rattle.graph.specs.laws.Graph.{nodesFrom, edgesFrom, edgeFrom, nodesOf, edgesOf};
 ghost use Rattle.graph.specs.Propagated.{completeB, propagatedState};
 ghost use Rattle.states.specs.laws.Brings.{NodesFormed, EdgesFormed};
 ghost use Rattle.states.specs.laws.Complete.{isUnknown, completeBy, StateColumns};
@@ -33,7 +33,6 @@ pub struct NodeStates {
 // Whether edge j brings goal i a solution that is neither satisfied nor failed.
 fn is_open<'a>(
     n: usize,
-    m: usize,
     kind: &'a [u8; 256],
     parent: &'a [u8; 256],
     child: &'a [u8; 256],
@@ -44,7 +43,7 @@ fn is_open<'a>(
 ) -> bool
     requires { ⌜ (n ≤ 128) × (j < 256) ⌝ }
     ensures { λ r. ⌜ r ≡ isUnknown n (now (sat .entry)) (now (failed .entry)) i
-        (edgeAt (edgesFrom m (now (kind .entry)) (now (parent .entry)) (now (child .entry))) j) ⌝ }
+        (edgeFrom (now (kind .entry)) (now (parent .entry)) (now (child .entry)) j) ⌝ }
 {
     let p = wide(parent[j]);
     if (kind[j] != 3) | (p != i) {
@@ -74,7 +73,7 @@ fn has_open<'a>(
 {
     let mut j = 0;
     while j < m {
-        if is_open(n, m, kind, parent, child, sat, failed, i, j) {
+        if is_open(n, kind, parent, child, sat, failed, i, j) {
             return true;
         }
         j += 1;
@@ -89,21 +88,10 @@ fn complete_by(kind: u8, state: u8, any_open: bool) -> bool
     (kind != 1) & (kind != 2) & (kind != 3) & (kind != 4) & (state == 3) & !any_open
 }
 
-// Whether node i is a complete goal.
+// Whether node i is a complete goal, whatever the nodes' other columns with which sat and failed are those of the graph.
 pub fn is_complete<'a>(
     n: usize,
     kind: &'a [u8; 128],
-    parts: &'a [u8; 128],
-    n0: &'a [u16; 128],
-    n1: &'a [u16; 128],
-    n2: &'a [u16; 128],
-    n3: &'a [u16; 128],
-    n4: &'a [u16; 128],
-    n5: &'a [u16; 128],
-    n6: &'a [u16; 128],
-    n7: &'a [u16; 128],
-    subject: &'a [u16; 128],
-    verifier: &'a [u8; 128],
     state: &'a [u8; 128],
     m: usize,
     edge: &'a [u8; 256],
@@ -113,12 +101,12 @@ pub fn is_complete<'a>(
     failed: &'a [u8; 128],
     i: usize,
 ) -> bool
-    requires { ⌜ (i < n) × (n ≤ 128) × (m ≤ 256) × StateColumns
-        (nodesOf (nodesFrom n (now kind) (now parts) (now n0) (now n1) (now n2) (now n3) (now n4) (now n5) (now n6) (now n7) (now subject)
-        (now verifier) (now state))) (edgesOf (edgesFrom m (now edge) (now parent) (now child))) (now sat) (now failed) ⌝ }
-    ensures { λ r. ⌜ r ≡ completeB (nodesOf (nodesFrom n (now (kind .entry)) (now (parts .entry)) (now (n0 .entry)) (now (n1 .entry))
-        (now (n2 .entry)) (now (n3 .entry)) (now (n4 .entry)) (now (n5 .entry)) (now (n6 .entry)) (now (n7 .entry)) (now (subject .entry))
-        (now (verifier .entry)) (now (state .entry)))) (edgesOf (edgesFrom m (now (edge .entry)) (now (parent .entry)) (now (child .entry)))) i ⌝ }
+    requires { ⌜ (i < n) × (n ≤ 128) × (m ≤ 256) ⌝ }
+    ensures { λ r. ⌜ ((o : Nodes) → StateColumns (nodesOf (nodesFrom n (now (kind .entry)) (o .parts) (o .n0) (o .n1) (o .n2) (o .n3) (o .n4) (o .n5)
+        (o .n6) (o .n7) (o .subject) (o .verifier) (now (state .entry))))
+        (edgesOf (edgesFrom m (now (edge .entry)) (now (parent .entry)) (now (child .entry)))) (now (sat .entry)) (now (failed .entry))
+        → r ≡ completeB (nodesOf (nodesFrom n (now (kind .entry)) (o .parts) (o .n0) (o .n1) (o .n2) (o .n3) (o .n4) (o .n5) (o .n6) (o .n7)
+        (o .subject) (o .verifier) (now (state .entry)))) (edgesOf (edgesFrom m (now (edge .entry)) (now (parent .entry)) (now (child .entry)))) i) ⌝ }
 {
     let any_open = has_open(n, m, edge, parent, child, sat, failed, i);
     complete_by(kind[i], state[i], any_open)
@@ -191,17 +179,6 @@ pub fn state_of(nodes: Nodes, edges: Edges, i: usize) -> u8
     if is_complete(
         nodes.count,
         &nodes.kind,
-        &nodes.parts,
-        &nodes.n0,
-        &nodes.n1,
-        &nodes.n2,
-        &nodes.n3,
-        &nodes.n4,
-        &nodes.n5,
-        &nodes.n6,
-        &nodes.n7,
-        &nodes.subject,
-        &nodes.verifier,
         &nodes.state,
         m,
         &edges.kind,

@@ -5,7 +5,7 @@ use record::Pair;
 ghost use mathlib.Core.Path.{_≡_};
 ghost use Prim.Native.Nat.{_<_, _+_};
 ghost use Rattle.class.specs.laws.Names.{namesFrom};
-ghost use Rattle.tables.specs.laws.Tables.{pairsFrom, pairAt};
+ghost use Rattle.tables.specs.laws.Tables.{pairsFrom, pairFrom};
 ghost use Rattle.tables.specs.laws.Columns.{NamesSized, NamesStored, PairsSized, PairsStored};
 
 // The name x goes into the columns as number i.
@@ -32,9 +32,9 @@ pub fn store_pair<'a>(roles: &'a mut [u16; 64], others: &'a mut [u16; 64], i: us
 }
 
 // Pair i.
-pub fn pair_at<'a>(n: usize, roles: &'a [u16; 64], others: &'a [u16; 64], i: usize) -> Pair
+pub fn pair_at<'a>(roles: &'a [u16; 64], others: &'a [u16; 64], i: usize) -> Pair
     requires { ⌜ i < 32 ⌝ }
-    ensures { λ p. ⌜ p ≡ pairAt (pairsFrom n (now (roles .entry)) (now (others .entry))) i ⌝ }
+    ensures { λ p. ⌜ p ≡ pairFrom (now (roles .entry)) (now (others .entry)) i ⌝ }
 {
     let at = i * 2;
     Pair {

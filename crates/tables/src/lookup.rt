@@ -66,7 +66,7 @@ pub fn other_of<'a>(n: usize, roles: &'a [u16; 64], others: &'a [u16; 64], r: Ro
 {
     let mut i = 0;
     while i < n {
-        let p = pair_at(n, roles, others, i);
+        let p = pair_at(roles, others, i);
         let role = p.role;
         let other = p.other;
         if same_role(role, r) {

@@ -8,9 +8,9 @@ add-edge-requires : tie.Need-add-edge-requires
 add-edge-requires c κs = omega (arith, edges-kept _ _ _ (c .add-node .ensures), (c .before .before .before .before .before .pre .2))
 
 returns : tie.Need-returns
-returns c =
+returns c side =
     let c4 = c .before .before .before .before in
-    step-bring _ _ _ (c4 .node-of .ensures) (c .before .before .child-of .ensures) (c .before .add-node .ensures) (c .add-edge .ensures)
+    step-bring _ side _ (c4 .node-of .ensures) (c .before .before .child-of .ensures) (c .before .add-node .ensures) (c .add-edge .ensures)
 
 pub brought-spec : {M : Type 1} → statement M
 brought-spec =

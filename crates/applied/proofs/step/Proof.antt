@@ -24,10 +24,10 @@ returns : tie.Need-returns
 returns c = step-for _ _ _ _ (c .before .before .c .given .1) (step-show _ _ _ (c .show .ensures))
 
 returns-2 : tie.Need-returns-2
-returns-2 c = step-for _ _ _ _ (c .before .before .c2 .given .1) (c .opened .ensures)
+returns-2 c = step-for _ _ _ _ (c .before .before .c2 .given .1) (c .opened .ensures _)
 
 returns-3 : tie.Need-returns-3
-returns-3 c = step-for _ _ _ _ (c .before .before .c3 .given .1) (c .brought .ensures)
+returns-3 c = step-for _ _ _ _ (c .before .before .c3 .given .1) (c .brought .ensures _)
 
 returns-4 : tie.Need-returns-4
 returns-4 c = step-for _ _ _ _ (c .before .before .c4 .given .1) (step-join _ _ _ (c .add-edge .ensures))

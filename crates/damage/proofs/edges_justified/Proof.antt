@@ -14,13 +14,13 @@ edges-implied-requires : tie.Need-edges-implied-requires
 edges-implied-requires c κs = (c .pre .0, c .pre .1, c .pre .2, c .pre .4)
 
 returns : tie.Need-returns
-returns c = let s = c .before .before in not-implied _ (c .before .edges-implied .ensures (N s)) (c .if1 .taken)
+returns c h = let s = c .before .before in not-implied _ (c .before .edges-implied .ensures (N s)) (c .if1 .taken)
 
 links-justified-requires : tie.Need-links-justified-requires
 links-justified-requires c κs = (c .before .before .pre .0, c .before .before .pre .1, c .before .before .pre .3, c .before .before .pre .4)
 
 returns-2 : tie.Need-returns-2
-returns-2 c =
+returns-2 c h =
     let c3 = c .before .before .before in
     let s = c3 in both-justified _ (c .before .before .edges-implied .ensures (N s)) (c .before .if1 .left) (c .links-justified .ensures)
 

@@ -74,7 +74,7 @@ returns-4 c =
     let c68 = c67 .before in
     let c69 = c68 .before in
     graph-unjustified _ _ (c68 .count-sound .ensures) (c67 .if1 .left) (c45 .records-sound .ensures (edgesOf (c69 .args .t4))) (c44 .if2 .left)
-    (c25 .edges-fit .ensures) (c24 .if3 .left) (c .before .edges-justified .ensures) (c .if4 .taken)
+    (c25 .edges-fit .ensures) (c24 .if3 .left) (c .before .edges-justified .ensures _) (c .if4 .taken)
 
 state-of-requires : tie.Need-state-of-requires
 state-of-requires c κs =
@@ -108,7 +108,7 @@ returns-5 c =
     let c70 = c69 .before in
     let c71 = c70 .before in
     graph-end _ _ (c70 .count-sound .ensures) (c69 .if1 .left) (c47 .records-sound .ensures (edgesOf (c71 .args .t4))) (c46 .if2 .left)
-    (c27 .edges-fit .ensures) (c26 .if3 .left) (c3 .edges-justified .ensures) (c .before .before .if4 .left) (c .before .state-of .ensures)
+    (c27 .edges-fit .ensures) (c26 .if3 .left) (c3 .edges-justified .ensures _) (c .before .before .if4 .left) (c .before .state-of .ensures)
     (c .end-sound .ensures)
 
 pub graph-sound-spec : {M : Type 1} → statement M

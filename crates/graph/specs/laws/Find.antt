@@ -10,7 +10,6 @@ use Rattle.word.specs.laws.Bools.{false-true}
 use Rattle.rt0.specs.Pool.{upTo}
 use Rattle.rt0.specs.Lists.{firstOr}
 use Rattle.rt0.specs.laws.Find.{Missed, missed-fewer, first-at, first-none, any-at, any-none}
-use Rattle.graph.specs.declared.Node.{Node}
 use Rattle.graph.specs.declared.Edge.{Edge}
 use Rattle.graph.specs.declared.Nodes.{Nodes}
 use Rattle.graph.specs.declared.Edges.{Edges}
@@ -21,22 +20,26 @@ use Rattle.graph.specs.laws.Columns.{nodes-length, node-in}
 
 -- Nodes
 
-module _ (x : Expression) (v s : ℕ) (n : Node) where
+-- a node of expression e, verifier w and subject t, whatever its state
+abbrev pub isNodeBy : Expression → ℕ → ℕ → Expression → ℕ → ℕ → Bool
+isNodeBy x v s e w t = isNode x v s (record { expression = e; subject = t; verifier = w; state = 0 })
+
+module _ (x : Expression) (v s : ℕ) (e : Expression) (w t : ℕ) where
   -- its verifier or its subject is another one
-  pub other-ends : (not (eqb (n .verifier) v) || not (eqb (n .subject) s)) ≡ true → false ≡ isNode x v s n
-  other-ends h = go (eqb (n .verifier) v) (eqb (n .subject) s) h
+  pub other-ends : (not (eqb w v) || not (eqb t s)) ≡ true → false ≡ isNodeBy x v s e w t
+  other-ends h = go (eqb w v) (eqb t s) h
     where
-      go : (a b : Bool) → (not a || not b) ≡ true → false ≡ (a && b && same (n .expression) x)
+      go : (a b : Bool) → (not a || not b) ≡ true → false ≡ (a && b && same e x)
       go true true h = absurd (false-true h)
       go true false h = refl
       go false b h = refl
 
   -- else its expression decides
-  pub same-ends : {b : Bool} → (not (eqb (n .verifier) v) || not (eqb (n .subject) s)) ≡ false → b ≡ same (n .expression) x → b ≡ isNode x v s n
-  same-ends {b} h e = go (eqb (n .verifier) v) (eqb (n .subject) s) h
+  pub same-ends : {b : Bool} → (not (eqb w v) || not (eqb t s)) ≡ false → b ≡ same e x → b ≡ isNodeBy x v s e w t
+  same-ends {b} h d = go (eqb w v) (eqb t s) h
     where
-      go : (p q : Bool) → (not p || not q) ≡ false → b ≡ (p && q && same (n .expression) x)
-      go true true h = e
+      go : (p q : Bool) → (not p || not q) ≡ false → b ≡ (p && q && same e x)
+      go true true h = d
       go true false h = absurd (false-true (sym h))
       go false q h = absurd (false-true (sym h))
 

@@ -63,8 +63,12 @@ nodeAt N i =
       state = getD (N .state) i 0;
     }
 
+-- edge j of columns
+abbrev pub edgeFrom : List ℕ → List ℕ → List ℕ → ℕ → Edge
+edgeFrom K P C j = record { kind = getD K j 0; parent = getD P j 0; child = getD C j 0 }
+
 abbrev pub edgeAt : Edges → ℕ → Edge
-edgeAt E j = record { kind = getD (E .kind) j 0; parent = getD (E .parent) j 0; child = getD (E .child) j 0 }
+edgeAt E j = edgeFrom (E .kind) (E .parent) (E .child) j
 
 -- "Nodes are numbered in one byte from 0 as added"
 unfoldable pub nodesOf : Nodes → List Node

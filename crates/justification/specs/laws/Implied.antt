@@ -11,7 +11,6 @@ use Rattle.rt0.specs.Decide.{from? as fromOf}
 use Rattle.rt0.specs.Lists.{all}
 use Rattle.propagation.specs.laws.Flags.{flag}
 use Rattle.graph.specs.declared.Edge.{Edge}
-use Rattle.graph.specs.declared.Edges.{Edges}
 
 -- an edge of kind 1 from node c: its parent is from its child, the nodes having the expressions x
 unfoldable pub impliedFrom : List Credential → (ℕ → Expression) → ℕ → Edge → Bool
@@ -29,7 +28,7 @@ impliedBy C x d = not (eqb (d .kind) 1) || fromOf C (x (d .parent)) (x (d .child
 unfoldable pub allImplied : List Credential → (ℕ → Expression) → List Edge → Bool
 allImplied C x es = all (impliedBy C x) es
 
--- the column has the children of the edges of kind 1 below j
-pub record Children (E : Edges) (j : ℕ) (r : List ℕ) : Type 0 where
+-- the column r has the children of the edges of kind 1 below j, edges of kinds K and children D
+pub record Children (K D : List ℕ) (j : ℕ) (r : List ℕ) : Type 0 where
   pub size : length r ≡ 128
-  pub marked : (i : ℕ) → i < j → getD (E .kind) i 0 ≡ 1 → flag r (getD (E .child) i 0) ≡ true
+  pub marked : (i : ℕ) → i < j → getD K i 0 ≡ 1 → flag r (getD D i 0) ≡ true

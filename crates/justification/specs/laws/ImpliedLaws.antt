@@ -29,33 +29,33 @@ use Rattle.justification.specs.laws.Implied.{impliedFrom, allFrom, impli
 
 -- The children
 
-pub children-none : (E : Edges) → Children E 0 (replicate 128 0)
-children-none E = record { size = length-replicate {A = ℕ} 128 0; marked = λ i l. absurd (omega arith) }
+pub children-none : (K D : List ℕ) → Children K D 0 (replicate 128 0)
+children-none K D = record { size = length-replicate {A = ℕ} 128 0; marked = λ i l. absurd (omega arith) }
 
-module _ (E : Edges) {j : ℕ} {r : List ℕ} (g : Children E j r) where
+module _ (K D : List ℕ) {j : ℕ} {r : List ℕ} (g : Children K D j r) where
   -- an edge of kind 1
-  pub children-add : {c : ℕ} {r′ : List ℕ} → c ≡ getD (E .child) j 0 → c < 128 → r′ ≡ set r c 1 → Children E (j + 1) r′
-  children-add {c} ce l e = subst (Children E (j + 1)) (sym e)
+  pub children-add : {c : ℕ} {r′ : List ℕ} → c ≡ getD D j 0 → c < 128 → r′ ≡ set r c 1 → Children K D (j + 1) r′
+  children-add {c} ce l e = subst (Children K D (j + 1)) (sym e)
       (record {
         size = length-set r c 1 ∙ g .size;
         marked = λ i k h. ⊎-elim
-            (λ q. let z : getD (E .child) i 0 ≡ c = ap (λ (n : ℕ). getD (E .child) n 0) (eqb-true i j q)
+            (λ q. let z : getD D i 0 ≡ c = ap (λ (n : ℕ). getD D n 0) (eqb-true i j q)
             ∙ sym ce in subst (λ (n : ℕ). flag (set r c 1) n ≡ true) (sym z) (flag-same r c (omega (arith, g .size))))
-            (λ q. flag-grows r c (getD (E .child) i 0) (omega (arith, g .size)) (g .marked i (omega (arith, eqb-false i j q)) h))
+            (λ q. flag-grows r c (getD D i 0) (omega (arith, g .size)) (g .marked i (omega (arith, eqb-false i j q)) h))
             (decided (eqb i j));
       })
 
   -- one of another kind
-  pub children-skip : {r′ : List ℕ} → (getD (E .kind) j 0 ≡ 1 → ⊥) → r′ ≡ r → Children E (j + 1) r′
-  children-skip o e = subst (Children E (j + 1)) (sym e)
+  pub children-skip : {r′ : List ℕ} → (getD K j 0 ≡ 1 → ⊥) → r′ ≡ r → Children K D (j + 1) r′
+  children-skip o e = subst (Children K D (j + 1)) (sym e)
       (record {
         size = g .size;
-        marked = λ i k h. ⊎-elim (λ q. absurd (o (ap (λ (n : ℕ). getD (E .kind) n 0) (sym (eqb-true i j q)) ∙ h)))
+        marked = λ i k h. ⊎-elim (λ q. absurd (o (ap (λ (n : ℕ). getD K n 0) (sym (eqb-true i j q)) ∙ h)))
             (λ q. g .marked i (omega (arith, eqb-false i j q)) h) (decided (eqb i j));
       })
 
-  pub children-all : (m : ℕ) → j ≤ m → m ≤ j → Children E m r
-  children-all m a b = let z : j ≡ m = omega arith in subst (λ (k : ℕ). Children E k r) z g
+  pub children-all : (m : ℕ) → j ≤ m → m ≤ j → Children K D m r
+  children-all m a b = let z : j ≡ m = omega arith in subst (λ (k : ℕ). Children K D k r) z g
 
 -- One edge
 
@@ -139,7 +139,7 @@ module _ (C : List Credential) (x : ℕ → Expression) where
 
   module _ (E : Edges) where
     -- no edge of kind 1 comes from node c
-    pub from-none : {m : ℕ} {r : List ℕ} (c : ℕ) → E .count ≤ m → Children E m r → (getD r c 0 ≡ 1 → ⊥) → true ≡ allFrom C x (edgesOf E) c
+    pub from-none : {m : ℕ} {r : List ℕ} (c : ℕ) → E .count ≤ m → Children (E .kind) (E .child) m r → (getD r c 0 ≡ 1 → ⊥) → true ≡ allFrom C x (edgesOf E) c
     unfolding allFrom impliedFrom
     from-none {m} {r} c l g o = sym (all-edges (impliedFrom C x c) E (λ j k. or-left (not (eqb (getD (E .kind) j 0) 1) || not (eqb (getD (E .child) j 0) c)) _
         (⊎-elim

@@ -5,14 +5,13 @@ use Rattle.states.proofs.is_complete.Statement.{statement}
 use Rattle.states.proofs.is_complete.Tie as tie
 
 returns : tie.Need-returns
-returns c =
+returns c o columns =
     let c3 = c .before .before .before in
     let c4 = c3 .before in
     let s = c4 in
-    complete-read (nodesFrom (s .args .n) (s .args .kind .now) (s .args .parts .now) (s .args .n0 .now) (s .args .n1 .now) (s .args .n2 .now)
-    (s .args .n3 .now) (s .args .n4 .now) (s .args .n5 .now) (s .args .n6 .now) (s .args .n7 .now) (s .args .subject .now)
-    (s .args .verifier .now) (s .args .state .now)) (edgesFrom (s .args .m) (s .args .edge .now) (s .args .parent .now) (s .args .child .now))
-    (s .pre .3) (s .args .i) (s .pre .0) (c .complete-by .ensures) (c3 .has-open .ensures)
+    complete-read (nodesFrom (s .args .n) (s .args .kind .now) (o .parts) (o .n0) (o .n1) (o .n2) (o .n3) (o .n4) (o .n5) (o .n6) (o .n7)
+    (o .subject) (o .verifier) (s .args .state .now)) (edgesFrom (s .args .m) (s .args .edge .now) (s .args .parent .now) (s .args .child .now))
+    columns (s .args .i) (s .pre .0) (c .complete-by .ensures) (c3 .has-open .ensures)
 
 pub is-complete-spec : {M : Type 1} → statement M
 is-complete-spec =

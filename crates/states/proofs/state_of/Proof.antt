@@ -8,23 +8,22 @@ use Rattle.states.proofs.state_of.Tie as tie
 
 -- the columns of satisfied and failed nodes
 settled : (c : tie.After-fail) → StateColumns (nodesOf
-    (c .before .before .before .before .before .before .before .before .before .before .before .before .before .before .before .before .before .before .before .before .before .before .before .before .before .before .before .before .before .before .before .before .before .before .before .before .before .before .before .before .before .before .before .before .before .before .before .before .before .before .before .before .before .before .before .before .args .t1))
+    (c .before .before .before .before .before .before .before .before .before .before .before .before .before .before .before .before .before .before .before .before .before .before .before .before .before .before .before .before .before .before .before .before .before .before .before .before .before .before .before .before .before .before .before .before .before .args .t1))
     (edgesOf
-    (c .before .before .before .before .before .before .before .before .before .before .before .before .before .before .before .before .before .before .before .before .before .before .before .before .before .before .before .before .before .before .before .before .before .before .before .before .before .before .before .before .before .before .before .before .before .before .before .before .before .before .before .before .before .before .before .before .args .t2))
-    (c .before .before .before .before .before .before .before .before .before .before .before .before .before .before .before .before .before .before .before .before .before .before .before .before .before .before .before .before .before .before .satisfied .result)
-    (c .before .before .before .before .before .before .before .before .before .before .before .before .before .before .before .before .before .before .before .before .failed .result)
+    (c .before .before .before .before .before .before .before .before .before .before .before .before .before .before .before .before .before .before .before .before .before .before .before .before .before .before .before .before .before .before .before .before .before .before .before .before .before .before .before .before .before .before .before .before .before .args .t2))
+    (c .before .before .before .before .before .before .before .before .before .before .before .before .before .before .before .before .before .before .before .satisfied .result)
+    (c .before .before .before .before .before .before .before .before .before .failed .result)
 settled c =
-    let c14 = c .before .before .before .before .before .before .before .before .before .before .before .before .before .before in
-    let c20 = c14 .before .before .before .before .before .before in
-    let c25 = c20 .before .before .before .before .before in
-    let c30 = c25 .before .before .before .before .before in
-    let c35 = c30 .before .before .before .before .before in
-    let c49 = c35 .before .before .before .before .before .before .before .before .before .before .before .before .before .before in
-    let c51 = c49 .before .before in
-    let c56 = c51 .before .before .before .before .before in
-    let s = c56 in
-    settled-read (s .args .t1) (s .args .t2) _ _ (s .pre .3) (c35 .links .ensures (s .args .t1)) _ _ (s .pre .4) (c51 .needs .ensures (s .args .t1))
-    (c25 .ways .ensures (s .args .t1)) (c30 .satisfied .ensures) (c20 .failed .ensures)
+    let c9 = c .before .before .before .before .before .before .before .before .before in
+    let c14 = c9 .before .before .before .before .before in
+    let c19 = c14 .before .before .before .before .before in
+    let c24 = c19 .before .before .before .before .before in
+    let c38 = c24 .before .before .before .before .before .before .before .before .before .before .before .before .before .before in
+    let c40 = c38 .before .before in
+    let c45 = c40 .before .before .before .before .before in
+    let s = c45 in
+    settled-read (s .args .t1) (s .args .t2) _ _ (s .pre .3) (c24 .links .ensures (s .args .t1)) _ _ (s .pre .4) (c40 .needs .ensures (s .args .t1))
+    (c14 .ways .ensures (s .args .t1)) (c19 .satisfied .ensures) (c9 .failed .ensures)
 
 satisfied-requires : tie.Need-satisfied-requires
 satisfied-requires c κs =
@@ -73,45 +72,44 @@ is-complete-requires c κs =
     let c14 = c .before .before .before .before .before .before .before .before .before .before .before .before .before .before in
     let c28 = c14 .before .before .before .before .before .before .before .before .before .before .before .before .before .before in
     let c42 = c28 .before .before .before .before .before .before .before .before .before .before .before .before .before .before in
-    let c56 = c42 .before .before .before .before .before .before .before .before .before .before .before .before .before .before in
-    let s = c56 in (s .pre .0, s .pre .1, s .pre .2, settled c)
+    let s = c42 .before .before .before in (s .pre .0, s .pre .1, s .pre .2)
 
 returns-2 : tie.Need-returns-2
 returns-2 c =
     let c14 = c .before .before .before .before .before .before .before .before .before .before .before .before .before .before in
     let c28 = c14 .before .before .before .before .before .before .before .before .before .before .before .before .before .before in
     let c42 = c28 .before .before .before .before .before .before .before .before .before .before .before .before .before .before in
-    let c56 = c42 .before .before .before .before .before .before .before .before .before .before .before .before .before .before in
-    let c58 = c56 .before .before in
-    state-complete (settled (c .before .before)) (c58 .args .i) (c .before .is-complete .ensures) (c .if2 .taken)
+    let c47 = c42 .before .before .before .before .before in
+    state-complete (settled (c .before .before)) (c47 .args .i) (c .before .is-complete .ensures (c47 .args .t1) (settled (c .before .before)))
+    (c .if2 .taken)
 
 array-read-if3 : tie.Need-array-read-if3
 array-read-if3 c =
-    omega (
-      arith,
-      c .before .before .before .before .before .before .before .before .before .before .before .before .before .before .before .before .before .before .before .before .before .before .before .before .before .before .before .before .before .before .before .before .before .before .before .before .before .before .before .before .before .before .before .before .before .before .before .before .before .before .before .before .before .before .before .before .before .before .pre .0,
-      c .before .before .before .before .before .before .before .before .before .before .before .before .before .before .before .before .before .before .before .before .before .before .before .before .before .before .before .before .before .before .before .before .before .before .before .before .before .before .before .before .before .before .before .before .before .before .before .before .before .before .before .before .before .before .before .before .before .before .pre .1,
-    )
+    let c14 = c .before .before .before .before .before .before .before .before .before .before .before .before .before .before in
+    let c28 = c14 .before .before .before .before .before .before .before .before .before .before .before .before .before .before in
+    let c42 = c28 .before .before .before .before .before .before .before .before .before .before .before .before .before .before in
+    let c47 = c42 .before .before .before .before .before in
+    omega (arith, c47 .pre .0, c47 .pre .1)
 
 returns-3 : tie.Need-returns-3
 returns-3 c =
     let c3 = c .before .before .before in
     let c17 = c3 .before .before .before .before .before .before .before .before .before .before .before .before .before .before in
-    let c31 = c17 .before .before .before .before .before .before .before .before .before .before .before .before .before .before in
-    let c32 = c31 .before in
-    let c46 = c32 .before .before .before .before .before .before .before .before .before .before .before .before .before .before in
-    let c59 = c46 .before .before .before .before .before .before .before .before .before .before .before .before .before in
-    state-failed (settled (c3)) (c59 .args .i) (c .before .before .is-complete .ensures) (c32 .if1 .left) (c .before .if2 .left) (c .if3 .taken)
+    let c21 = c17 .before .before .before .before in
+    let c35 = c21 .before .before .before .before .before .before .before .before .before .before .before .before .before .before in
+    let c48 = c35 .before .before .before .before .before .before .before .before .before .before .before .before .before in
+    state-failed (settled c3) (c48 .args .i) (c .before .before .is-complete .ensures (c48 .args .t1) (settled c3)) (c21 .if1 .left)
+    (c .before .if2 .left) (c .if3 .taken)
 
 returns-4 : tie.Need-returns-4
 returns-4 c =
     let c3 = c .before .before .before in
     let c17 = c3 .before .before .before .before .before .before .before .before .before .before .before .before .before .before in
-    let c31 = c17 .before .before .before .before .before .before .before .before .before .before .before .before .before .before in
-    let c32 = c31 .before in
-    let c46 = c32 .before .before .before .before .before .before .before .before .before .before .before .before .before .before in
-    let c59 = c46 .before .before .before .before .before .before .before .before .before .before .before .before .before in
-    state-none (settled (c3)) (c59 .args .i) (c .before .before .is-complete .ensures) (c32 .if1 .left) (c .before .if2 .left) (c .if3 .left)
+    let c21 = c17 .before .before .before .before in
+    let c35 = c21 .before .before .before .before .before .before .before .before .before .before .before .before .before .before in
+    let c48 = c35 .before .before .before .before .before .before .before .before .before .before .before .before .before in
+    state-none (settled c3) (c48 .args .i) (c .before .before .is-complete .ensures (c48 .args .t1) (settled c3)) (c21 .if1 .left)
+    (c .before .if2 .left) (c .if3 .left)
 
 pub state-of-spec : {M : Type 1} → statement M
 state-of-spec =

@@ -28,13 +28,16 @@ pairsIn false T = T .sensitive
 abbrev pub pairsFrom : ℕ → List ℕ → List ℕ → Pairs
 pairsFrom n R S = record { count = n; roles = R; others = S }
 
-abbrev pub pairAt : Pairs → ℕ → Pair
-pairAt P i =
+-- pair i of columns
+abbrev pub pairFrom : List ℕ → List ℕ → ℕ → Pair
+pairFrom R S i =
     record {
-      role = roleOf (getD (P .roles) (i * 2) 0) (getD (P .roles) (i * 2 + 1) 0);
-      other = roleOf (getD (P .others) (i * 2) 0)
-          (getD (P .others) (i * 2 + 1) 0);
+      role = roleOf (getD R (i * 2) 0) (getD R (i * 2 + 1) 0);
+      other = roleOf (getD S (i * 2) 0) (getD S (i * 2 + 1) 0);
     }
+
+abbrev pub pairAt : Pairs → ℕ → Pair
+pairAt P i = pairFrom (P .roles) (P .others) i
 
 -- the pairs of the columns, in their order
 unfoldable pub pairsOf : Pairs → List Pair

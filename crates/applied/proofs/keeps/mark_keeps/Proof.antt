@@ -5,14 +5,14 @@ use Rattle.applied.proofs.keeps.mark_keeps.Statement.{statement}
 use Rattle.applied.proofs.keeps.mark_keeps.Tie as tie
 
 returns : tie.Need-returns
-returns c = mark-absent _ _ _ (omega (arith, (c .before .before .wide .ensures), (c .if1 .taken)))
+returns c sat = mark-absent _ sat _ (omega (arith, (c .before .before .wide .ensures), (c .if1 .taken)))
 
 node-of-requires : tie.Need-node-of-requires
 node-of-requires c κs = (omega (arith, (c .before .before .wide .ensures), (c .if1 .left)), (c .before .before .before .pre))
 
 returns-2 : tie.Need-returns-2
-returns-2 c =
-    mark-keeps _ _ _ (omega (arith, (c .before .before .before .before .wide .ensures), (c .before .before .if1 .left))) (c .before .node-of .ensures)
+returns-2 c sat =
+    mark-keeps _ sat _ (omega (arith, (c .before .before .before .before .wide .ensures), (c .before .before .if1 .left))) (c .before .node-of .ensures)
     (c .is-parts .ensures)
 
 pub mark-keeps-spec : {M : Type 1} → statement M

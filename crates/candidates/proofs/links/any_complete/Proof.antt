@@ -32,66 +32,54 @@ element-copy-out-wide c = omega (arith, c .before .before .before .before .befor
 
 is-complete-requires : tie.Need-is-complete-requires Inv-loop μ-loop
 is-complete-requires c κs =
-    let c14 = c .before .before .before .before .before .before .before .before .before .before .before .before .before .before in
-    let c18 = c14 .before .before .before .before in
-    let c20 = c18 .before .before in
-    let c21 = c20 .before in
-    let c26 = c21 .before .before .before .before .before in
-    let s = c26 in (
-      child-inside (s .args .t1) (s .args .t2) (s .pre .2) (c21 .loop .j) (c20 .loop-test .taken) (c18 .wide .ensures),
+    let c7 = c .before .before .before .before .before .before .before in
+    let c9 = c7 .before .before in
+    let c10 = c9 .before in
+    let c15 = c10 .before .before .before .before .before in
+    let s = c15 in (
+      child-inside (s .args .t1) (s .args .t2) (s .pre .2) (c10 .loop .j) (c9 .loop-test .taken) (c7 .wide .ensures),
       s .pre .0,
       s .pre .1,
-      s .pre .3,
     )
 
 returns : tie.Need-returns Inv-loop μ-loop
 returns c =
-    let c14 = c .before .before .before .before .before .before .before .before .before .before .before .before .before .before in
-    let c20 = c14 .before .before .before .before .before .before in
-    let c22 = c20 .before .before in
-    let c23 = c22 .before in
-    let c28 = c23 .before .before .before .before .before in
-    any-at (c28 .args .t2 .count) (c23 .loop .inv .0) (c22 .loop-test .taken)
-    (complete-goal _ _ _ _ (c23 .loop .inv .2 (c22 .loop-test .taken)) (c20 .wide .ensures) (c .before .is-complete .ensures)) (c .if1 .taken)
+    let c9 = c .before .before .before .before .before .before .before .before .before in
+    let c11 = c9 .before .before in
+    let c12 = c11 .before in
+    let c17 = c12 .before .before .before .before .before in
+    any-at (c17 .args .t2 .count) (c12 .loop .inv .0) (c11 .loop-test .taken)
+    (complete-goal _ _ _ _ (c12 .loop .inv .2 (c11 .loop-test .taken)) (c9 .wide .ensures)
+    (c .before .is-complete .ensures (c17 .args .t1) (c17 .pre .3))) (c .if1 .taken)
 
 add-next-monitor : tie.Need-add-next-monitor Inv-loop μ-loop
 add-next-monitor c =
-    omega (
-      arith,
-      c .before .before .before .before .before .before .before .before .before .before .before .before .before .before .before .before .before .before .before .before .before .before .before .before .before .loop-test .taken,
-      c .before .before .before .before .before .before .before .before .before .before .before .before .before .before .before .before .before .before .before .before .before .before .before .before .before .before .before .before .before .before .before .pre .1,
-    )
+    let c14 = c .before .before .before .before .before .before .before .before .before .before .before .before .before .before in
+    let c20 = c14 .before .before .before .before .before .before in
+    omega (arith, c14 .loop-test .taken, c20 .pre .1)
 
 next-monitor-requires-2 : tie.Need-next-monitor-requires-2 Inv-loop μ-loop
-next-monitor-requires-2 c κs = (
-  c .before .before .before .before .before .before .before .before .before .before .before .before .before .before .before .before .before .before .before .before .before .before .before .before .before .before .before .before .before .before .before .pre .1,
-  omega (
-    arith,
-    c .before .before .before .before .before .before .before .before .before .before .before .before .before .before .before .before .before .before .before .before .before .before .before .before .before .loop-test .taken,
-  ),
-)
+next-monitor-requires-2 c κs =
+    let c14 = c .before .before .before .before .before .before .before .before .before .before .before .before .before .before in
+    let c20 = c14 .before .before .before .before .before .before in (c20 .pre .1, omega (arith, c14 .loop-test .taken))
 
 loop-less : tie.Need-loop-less Inv-loop μ-loop
 loop-less c =
-    let s = c .next-monitor2 .ensures .skipped in omega (
-      arith,
-      s .from,
-      s .within,
-      c .before .before .before .before .before .before .before .before .before .before .before .before .before .before .before .before .before .before .before .before .before .before .before .before .before .before .loop-test .taken,
-    )
+    let c15 = c .before .before .before .before .before .before .before .before .before .before .before .before .before .before .before in
+    let s = c .next-monitor2 .ensures .skipped in omega (arith, s .from, s .within, c15 .loop-test .taken)
 
 loop-again : tie.Need-loop-again Inv-loop μ-loop
 loop-again c =
     let c4 = c .before .before .before .before in
     let c5 = c4 .before in
-    let c19 = c5 .before .before .before .before .before .before .before .before .before .before .before .before .before .before in
-    let c24 = c19 .before .before .before .before .before in
-    let c26 = c24 .before .before in
-    let c27 = c26 .before in
+    let c13 = c5 .before .before .before .before .before .before .before .before in
+    let c15 = c13 .before .before in
+    let c16 = c15 .before in
+    let c21 = c16 .before .before .before .before .before in
     let s = c .next-monitor2 .ensures in (
       missed-skip _
-          (missed-more (c27 .loop .inv .0) (complete-goal _ _ _ _ (c27 .loop .inv .2 (c26 .loop-test .taken)) (c24 .wide .ensures)
-          (c5 .is-complete .ensures)) (c4 .if1 .left)) (λ j l h. complete-skip _ _ _ j (s .skipped .none j l h)),
+          (missed-more (c16 .loop .inv .0) (complete-goal _ _ _ _ (c16 .loop .inv .2 (c15 .loop-test .taken)) (c13 .wide .ensures)
+          (c5 .is-complete .ensures (c21 .args .t1) (c21 .pre .3))) (c4 .if1 .left)) (λ j l h. complete-skip _ _ _ j (s .skipped .none j l h)),
       s .skipped .within,
       s .passes,
     )

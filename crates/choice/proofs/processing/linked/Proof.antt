@@ -1,5 +1,4 @@
 use mathlib.Core.Path.{refl}
-use Rattle.tables.specs.laws.Tables.{tablesOf}
 use Rattle.negotiation.specs.laws.State.{stateOf}
 use Rattle.moves.specs.Rules.{endIn}
 use Rattle.candidates.specs.laws.Links.{linked-rules}
@@ -9,10 +8,10 @@ use Rattle.choice.proofs.processing.linked.Tie as tie
 
 returns : tie.Need-returns
 unfolding endIn stateOf
-returns c =
+returns c T =
     let c3 = c .before .before .before in
-    let s = c3 in linked-rules (endIn (tablesOf (s .args .own .house)) (stateOf (s .args .n))) (s .args .n .nodes) (s .args .n .edges) refl refl
-    (s .pre .formed) (s .pre .nodes) (s .pre .settled) (c .link-rules .ensures)
+    let s = c3 in linked-rules (endIn T (stateOf (s .args .n))) (s .args .n .nodes) (s .args .n .edges) refl refl
+    (s .pre .2) (s .pre .0) (s .pre .3) (c .link-rules .ensures)
 
 pub linked-spec : {M : Type 1} → statement M
 linked-spec = tie.close (tie.spec (λ c κs. search needs) returns)

@@ -29,7 +29,7 @@ returns-3 : tie.Need-returns-3
 returns-3 c =
     let c6 = c .before .before .before .before .before .before in
     let s = c6 in opponent-as (tablesOf (s .args .own .house)) (stateOf (s .args .n)) _ (s .args .i) (s .args .x) (c .before .before .e2 .given .1)
-    (opponent-link _ _ _ _ _ _ _ (c .linked .ensures))
+    (opponent-link _ _ _ _ _ _ _ (c .linked .ensures _))
 
 returns-4 : tie.Need-returns-4
 returns-4 c =

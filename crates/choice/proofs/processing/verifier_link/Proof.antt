@@ -11,7 +11,7 @@ unfolding tablesOf
 returns c =
     let c8 = c .before .before .before .before .before .before .before .before in
     let s = c8 in link-def (tablesOf (s .args .own .house)) (stateOf (s .args .n)) _ (s .args .i) (s .args .x) (s .args .a) (s .args .r)
-    (c .before .before .class-of .ensures) (c .before .if1 .taken) (c .linked .ensures)
+    (c .before .before .class-of .ensures) (c .before .if1 .taken) (c .linked .ensures _)
 
 returns-2 : tie.Need-returns-2
 unfolding tablesOf

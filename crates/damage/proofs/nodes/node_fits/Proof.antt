@@ -10,7 +10,7 @@ returns c = node-unsound _ _ _ (c .before .before .before .pre .2) (c .before .b
 returns-2 : tie.Need-returns-2
 returns-2 c =
     node-new _ _ _ (c .before .before .before .before .pre .2) (c .before .before .before .node-at .ensures) (c .before .before .node-sound .ensures)
-    (omega (arith, (c .before .before .before .before .pre .2), (c .before .before .before .before .pre .3))) (c .before .if1 .left) (c .find-node .ensures)
+    (omega (arith, (c .before .before .before .before .pre .2), (c .before .before .before .before .pre .3))) (c .before .if1 .left) (c .find-node .ensures _)
 
 pub node-fits-spec : {M : Type 1} → statement M
 node-fits-spec =

@@ -1,4 +1,5 @@
-use Prim.Native.Nat.{_-_, _≤_}
+use Prim.Native.Nat.{ℕ, _-_, _≤_}
+use mathlib.Core.List.{List}
 use native.Mathlib.Omega.{arith}
 use Rattle.rt0.specs.laws.Find.{Missed, missed-start, missed-more}
 use Rattle.graph.specs.laws.Graph.{nodesFrom, nodeAt}
@@ -8,23 +9,24 @@ use Rattle.graph.proofs.find.find_node.Statement.{statement}
 use Rattle.graph.proofs.find.find_node.Tie as tie
 
 abbrev Inv-loop : tie.InvT-loop
-Inv-loop n kind parts n0 n1 n2 n3 n4 n5 n6 n7 subject verifier state x v s i₀ i =
-    (i ≤ n) × Missed (isNode x v s) (nodeAt (nodesFrom n kind parts n0 n1 n2 n3 n4 n5 n6 n7 subject verifier state)) i
+Inv-loop n kind parts n0 n1 n2 n3 n4 n5 n6 n7 subject verifier x v s i₀ i =
+    (i ≤ n) × ((state : List ℕ) → Missed (isNode x v s) (nodeAt (nodesFrom n kind parts n0 n1 n2 n3 n4 n5 n6 n7 subject verifier state)) i)
 
 abbrev μ-loop : tie.MeasureT-loop
-μ-loop n kind parts n0 n1 n2 n3 n4 n5 n6 n7 subject verifier state x v s i₀ i = n - i
+μ-loop n kind parts n0 n1 n2 n3 n4 n5 n6 n7 subject verifier x v s i₀ i = n - i
 
 loop-holds : tie.Need-loop-holds Inv-loop μ-loop
-loop-holds c = (omega arith, missed-start _ _)
+loop-holds c = (omega arith, λ state. missed-start _ _)
 
 returns : tie.Need-returns Inv-loop μ-loop
-returns c = node-at _ _ _ _ (c .before .before .before .loop .inv .1) (c .before .before .loop-test .taken) (c .before .is-node .ensures) (c .if1 .taken)
+returns c state =
+    node-at _ _ _ _ (c .before .before .before .loop .inv .1 state) (c .before .before .loop-test .taken) (c .before .is-node .ensures) (c .if1 .taken)
 
 loop-again : tie.Need-loop-again Inv-loop μ-loop
-loop-again c = (omega arith, missed-more (c .before .before .before .loop .inv .1) (c .before .is-node .ensures) (c .if1 .left))
+loop-again c = (omega arith, λ state. missed-more (c .before .before .before .loop .inv .1 state) (c .before .is-node .ensures) (c .if1 .left))
 
 returns-2 : tie.Need-returns-2 Inv-loop μ-loop
-returns-2 c = node-none _ _ _ _ (c .before .loop .inv .1) (c .before .loop .inv .0) (c .loop-test .left)
+returns-2 c state = node-none _ _ _ _ (c .before .loop .inv .1 state) (c .before .loop .inv .0) (c .loop-test .left)
 
 pub find-node-spec : {M : Type 1} → statement M
 find-node-spec =

@@ -14,7 +14,7 @@ abbrev P : tie.Start → Pool
 P s = poolOf (s .args .q) (s .args .heads .now) (s .args .kinds .now) (s .args .numbers .now)
 
 children-requires : tie.Need-children-requires
-children-requires c κs = (c .pre .1, inside-more (c .pre .0) (c .pre .3))
+children-requires c κs = (c .pre .1, inside-more (c .pre .0) (c .pre .3) .child)
 
 rules-of-requires : tie.Need-rules-of-requires
 rules-of-requires c κs = c .before .pre .2

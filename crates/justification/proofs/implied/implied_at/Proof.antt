@@ -12,8 +12,7 @@ expression-at-requires c κs =
     omega (
       arith,
       (c .wide2 .ensures),
-      (c .before .before .before .before .before .before .pre .2 .parent) _
-          (c .before .before .before .before .before .before .pre .0),
+      (c .before .before .before .before .before .before .pre .1),
     )
 
 returns-2 : tie.Need-returns-2
@@ -21,7 +20,7 @@ returns-2 c =
     let c4 = c .before .before .before .before in
     let c5 = c4 .before in
     let c8 = c5 .before .before .before in
-    from-here _ _ _ _ (c5 .wide .ensures) (c4 .if1 .left) (c .before .before .wide2 .ensures) (c .before .expression-at .ensures) (c8 .pre .6)
+    from-here _ _ _ _ (c5 .wide .ensures) (c4 .if1 .left) (c .before .before .wide2 .ensures) (c .before .expression-at .ensures) (c8 .pre .5)
     (c .in-column .ensures)
 
 pub implied-at-spec : {M : Type 1} → statement M

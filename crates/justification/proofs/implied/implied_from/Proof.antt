@@ -19,9 +19,8 @@ loop-holds c = from-start _ _ _ _
 
 implied-at-requires : tie.Need-implied-at-requires Inv-loop μ-loop
 implied-at-requires c κs = (
-  (c .loop-test .taken),
-  (c .before .before .pre .0),
-  (c .before .before .pre .1),
+  omega (arith, (c .loop-test .taken), (c .before .before .pre .0)),
+  (c .before .before .pre .1 .parent) _ (c .loop-test .taken),
   (c .before .before .pre .2),
   (c .before .before .pre .3),
   (c .before .before .pre .4),

@@ -1,14 +1,23 @@
+use Rattle.graph.specs.declared.Nodes.{Nodes}
+use Rattle.graph.specs.laws.Graph.{nodesFrom}
 use Rattle.justification.specs.laws.Justified.{monitored-by}
 use borrow.Author.Needs.{needs}
 use Rattle.justification.proofs.linked.is_monitored.Statement.{statement}
 use Rattle.justification.proofs.linked.is_monitored.Tie as tie
 
+-- the nodes of the columns
+abbrev N : tie.Start → Nodes
+N s =
+    nodesFrom (s .args .n) (s .args .kind .now) (s .args .parts .now) (s .args .n0 .now) (s .args .n1 .now) (s .args .n2 .now) (s .args .n3 .now)
+    (s .args .n4 .now) (s .args .n5 .now) (s .args .n6 .now) (s .args .n7 .now) (s .args .subject .now) (s .args .verifier .now) (s .args .state .now)
+
 returns : tie.Need-returns
 returns c =
     let c3 = c .before .before .before in
     let c4 = c3 .before in
+    let s = c4 .before in
     monitored-by _ _ _ (c4 .wide .ensures) (c3 .node-at .ensures) (c .before .before .wide2 .ensures) (c .before .node-at2 .ensures)
-    (c .is-monitored-for .ensures)
+    (c .is-monitored-for .ensures (N s) (s .pre .4))
 
 pub is-monitored-spec : {M : Type 1} → statement M
 is-monitored-spec =

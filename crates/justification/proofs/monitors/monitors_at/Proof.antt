@@ -4,15 +4,15 @@ use Rattle.justification.proofs.monitors.monitors_at.Statement.{stateme
 use Rattle.justification.proofs.monitors.monitors_at.Tie as tie
 
 returns : tie.Need-returns
-returns c = monitors-other _ _ _ _ _ _ (c .if1 .taken)
+returns c o says = monitors-other _ _ _ _ _ _ (c .if1 .taken)
 
 returns-2 : tie.Need-returns-2
-returns-2 c = monitors-past _ _ _ _ _ _ (c .before .wide .ensures) (c .if2 .taken)
+returns-2 c o says = monitors-past _ _ _ _ _ _ (c .before .wide .ensures) (c .if2 .taken)
 
 returns-3 : tie.Need-returns-3
-returns-3 c =
+returns-3 c o says =
     let c4 = c .before .before .before .before in
-    monitors-is _ _ _ _ _ _ (c4 .if1 .left) (c .before .before .wide .ensures) (c .before .if2 .left) (c .is-solved .ensures)
+    monitors-is _ _ _ _ _ _ (c4 .if1 .left) (c .before .before .wide .ensures) (c .before .if2 .left) (c .is-solved .ensures o says)
 
 pub monitors-at-spec : {M : Type 1} → statement M
 monitors-at-spec =

@@ -14,9 +14,8 @@ returns-2 c =
     let c15 = c14 .before in
     let c16 = c15 .before in
     let c17 = c16 .before in
-    let c18 = c17 .before in
-    let c21 = c18 .before .before .before in
-    bring-there _ _ _ _ (c18 .node-of .ensures) (c17 .child-of .ensures) (c16 .formed-as .ensures) (c21 .pre .1) (c15 .if1 .left) (c .find-node .ensures)
+    let c20 = c17 .before .before .before in
+    bring-there _ _ _ _ (c17 .node-of .ensures) (c16 .child-of .ensures) (c15 .formed-as .ensures) (c20 .pre .1) (c14 .if1 .left) (c .find-node .ensures _)
 
 pub bring-wrong-spec : {M : Type 1} → statement M
 bring-wrong-spec =
