@@ -30,7 +30,8 @@ module _ (tables negotiation reply scratch m : List ℕ) (A : State) where
     where
       by-turn : (T : Tables) (S : State) → replySize (length reply) (length scratch) ≡ true → restoreOf tables negotiation ≡ accepted (T, S)
           → S .header .end ≡ 0 → (b : Bool) → sends (S .header .side) (S .header .messages) ≡ b
-          → cond (not b) (refused TURN) (accepted (messageBytes (replyIn T S .commands), repliedState (replyIn T S))) ≡ accepted (m, A)
+          → cond {A = Answer (List ℕ × State)} (not b) (refused TURN) (accepted (messageBytes (replyIn T S .commands), repliedState (replyIn T S)))
+          ≡ accepted (m, A)
           → Given tables negotiation reply scratch m A
       by-turn T S z e g true x q =
           let w : Holds tables negotiation T S = restored-exactly tables negotiation T S .0 e in
@@ -49,7 +50,7 @@ module _ (tables negotiation reply scratch m : List ℕ) (A : State) where
 
       by-end : (T : Tables) (S : State) → replySize (length reply) (length scratch) ≡ true → restoreOf tables negotiation ≡ accepted (T, S)
           → (b : Bool) → eqb (S .header .end) 0 ≡ b
-          → cond (not b) (refused ENDED)
+          → cond {A = Answer (List ℕ × State)} (not b) (refused ENDED)
           (cond (not (sends (S .header .side) (S .header .messages))) (refused TURN)
           (accepted (messageBytes (replyIn T S .commands), repliedState (replyIn T S))))
           ≡ accepted (m, A) → Given tables negotiation reply scratch m A
@@ -72,7 +73,8 @@ module _ (tables negotiation reply scratch m : List ℕ) (A : State) where
       let S : State = w .state in
       let given : List ℕ × State = (messageBytes (replyIn (w .house) S .commands), repliedState (replyIn (w .house) S)) in
       (λ i. cond (w .sized i) (behindStanding (restored-exactly tables negotiation (w .house) S .1 (w .held) i)) (refused LENGTH))
-      ∙ (λ i. cond (not (eq-eqb (S .header .end) 0 (w .going) i)) (refused ENDED) (cond (not (w .turn i)) (refused TURN) (accepted given)))
+      ∙ (λ i. cond (not (eq-eqb (S .header .end) 0 (w .going) i)) (refused ENDED)
+      (cond {A = Answer (List ℕ × State)} (not (w .turn i)) (refused TURN) (accepted given)))
       ∙ (λ i. accepted (sym (w .bytes) i, sym (w .after) i))
 
   -- a reply is given exactly where lengths, tables, soundness, turn and no end allow it, and it is what the rules yield in order

@@ -9,7 +9,7 @@ use borrow.Author.Tests.{eqb-true, lt-ltb}
 use lib.Dec.{eqb, ltb, leb}
 use lib.ListN.{length}
 use Rattle.expression.specs.declared.Expression.the-variants as E
-use Rattle.word.specs.laws.Bools.{and-parts, and-both}
+use Rattle.word.specs.laws.Bools.{and-parts, and-both, false-true}
 use Rattle.class.specs.declared.Name.{Name}
 use Rattle.tables.specs.Tables.{Tables}
 use Rattle.graph.specs.Propagated.{propagatedState as propagated}
