@@ -14,7 +14,7 @@ use Rattle.reply.specs.Reply.{replyIn, repliedState, replySize}
 
 -- the call gives the message m and leaves the state A: lengths, tables, soundness, turn and no end allow it, m has the bytes of the commands
 -- that the rules yield in order, each a legal update, and A is what they lead to, with its count and end
-pub record Given (tables negotiation reply scratch m : List ℕ) (A : State) : Type 0 where
+pub record ReplyGiven (tables negotiation reply scratch m : List ℕ) (A : State) : Type 0 where
   pub sized : replySize (length reply) (length scratch) ≡ true
   pub house : Tables
   pub state : State

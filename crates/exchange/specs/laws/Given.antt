@@ -21,10 +21,10 @@ use Rattle.standing.specs.Holds.{Holds}
 use Rattle.standing.specs.laws.Exactly.{restored-exactly}
 use Rattle.reply.specs.Reply.{replyIn, repliedState, replyBytes, repliedIn, behindStanding, replySize, replyOf}
 use Rattle.reply.specs.laws.ReplyLegal.{reply-updates}
-use Rattle.exchange.specs.Given.{Given}
+use Rattle.exchange.specs.Given.{ReplyGiven}
 
 module _ (tables negotiation reply scratch m : List ℕ) (A : State) where
-  to-given : replyOf tables negotiation reply scratch ≡ accepted (m, A) → Given tables negotiation reply scratch m A
+  to-given : replyOf tables negotiation reply scratch ≡ accepted (m, A) → ReplyGiven tables negotiation reply scratch m A
   unfolding replyOf repliedIn replyBytes
   to-given h = by-size (replySize (length reply) (length scratch)) refl h
     where
@@ -32,7 +32,7 @@ module _ (tables negotiation reply scratch m : List ℕ) (A : State) where
           → S .header .end ≡ 0 → (b : Bool) → sends (S .header .side) (S .header .messages) ≡ b
           → cond {A = Answer (List ℕ × State)} (not b) (refused TURN) (accepted (messageBytes (replyIn T S .commands), repliedState (replyIn T S)))
           ≡ accepted (m, A)
-          → Given tables negotiation reply scratch m A
+          → ReplyGiven tables negotiation reply scratch m A
       by-turn T S z e g true x q =
           let w : Holds tables negotiation T S = restored-exactly tables negotiation T S .0 e in
           record {
@@ -53,21 +53,21 @@ module _ (tables negotiation reply scratch m : List ℕ) (A : State) where
           → cond {A = Answer (List ℕ × State)} (not b) (refused ENDED)
           (cond (not (sends (S .header .side) (S .header .messages))) (refused TURN)
           (accepted (messageBytes (replyIn T S .commands), repliedState (replyIn T S))))
-          ≡ accepted (m, A) → Given tables negotiation reply scratch m A
+          ≡ accepted (m, A) → ReplyGiven tables negotiation reply scratch m A
       by-end T S z e true x q = by-turn T S z e (eqb-true (S .header .end) 0 x) (sends (S .header .side) (S .header .messages)) refl q
       by-end T S z e false x q = absurd (false-true (ap isAccepted q))
 
       by-standing : replySize (length reply) (length scratch) ≡ true → (a : Answer (Tables × State)) → restoreOf tables negotiation ≡ a
-          → behindStanding a ≡ accepted (m, A) → Given tables negotiation reply scratch m A
+          → behindStanding a ≡ accepted (m, A) → ReplyGiven tables negotiation reply scratch m A
       by-standing z (refused k) e q = absurd (false-true (ap isAccepted q))
       by-standing z (accepted (T, S)) e q = by-end T S z e (eqb (S .header .end) 0) refl q
 
       by-size : (b : Bool) → replySize (length reply) (length scratch) ≡ b
-          → cond b (behindStanding (restoreOf tables negotiation)) (refused LENGTH) ≡ accepted (m, A) → Given tables negotiation reply scratch m A
+          → cond b (behindStanding (restoreOf tables negotiation)) (refused LENGTH) ≡ accepted (m, A) → ReplyGiven tables negotiation reply scratch m A
       by-size true x q = by-standing x (restoreOf tables negotiation) refl q
       by-size false x q = absurd (false-true (ap isAccepted q))
 
-  from-given : Given tables negotiation reply scratch m A → replyOf tables negotiation reply scratch ≡ accepted (m, A)
+  from-given : ReplyGiven tables negotiation reply scratch m A → replyOf tables negotiation reply scratch ≡ accepted (m, A)
   unfolding replyOf repliedIn replyBytes
   from-given w =
       let S : State = w .state in
@@ -78,5 +78,5 @@ module _ (tables negotiation reply scratch m : List ℕ) (A : State) where
       ∙ (λ i. accepted (sym (w .bytes) i, sym (w .after) i))
 
   -- a reply is given exactly where lengths, tables, soundness, turn and no end allow it, and it is what the rules yield in order
-  pub given-exactly : (replyOf tables negotiation reply scratch ≡ accepted (m, A)) ↔ Given tables negotiation reply scratch m A
+  pub given-exactly : (replyOf tables negotiation reply scratch ≡ accepted (m, A)) ↔ ReplyGiven tables negotiation reply scratch m A
   given-exactly = (to-given, from-given)
