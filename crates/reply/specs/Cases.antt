@@ -3,7 +3,7 @@
 use Prim.Native.Nat.{ℕ, zero, suc}
 use mathlib.Core.Bool.{Bool, true, false, _&&_}
 use lib.Dec.{eqb}
-use mathlib.Core.List.{List, [], _∷_}
+use mathlib.Core.List.{List, [], _∷_, _++_}
 use lib.ListN.{length}
 use Rattle.expression.specs.declared.Role.{Role}
 use Rattle.expression.specs.declared.Credential.{Credential}
@@ -12,6 +12,7 @@ use Rattle.expression.specs.declared.Expression.the-variants as E
 use Rattle.rt0.specs.From.{roleOf}
 use Rattle.class.specs.declared.Name.{Name}
 use Rattle.tables.specs.Tables.{Tables}
+use Rattle.negotiation.specs.Layout.{zeros}
 use Rattle.negotiation.specs.State.{State, freshState}
 use Rattle.rt0.specs.Decide.{from?}
 use Rattle.applied.specs.Step.{stepped, moved}
@@ -70,15 +71,37 @@ abbrev house : List Credential → Tables
 house held =
     record { own = 2; names = names; issuerStored = []; subjectStored = held; sensitive = record { role = roleOf 4 3; other = roleOf 1 2 } ∷ []; access = [] }
 
--- a message as both ends see it: its length, whether each of its commands is a legal update at the end that takes it, and the end and the nodes there
+-- The messages of (i), byte by byte
+
+-- open 3.1; 3.1←4.3; an implication into node 0 from 4.3 of 2; node 0 marked; the end
+abbrev pub firstMessage : List ℕ
+firstMessage =
+    2 ∷ 0 ∷ 3 ∷ 0 ∷ 1 ∷ 2 ∷ 1 ∷ 0 ∷ 3 ∷ 0 ∷ 1 ∷ 2 ∷ 0 ∷ 0 ∷ 4 ∷ 0 ∷ 3 ∷ (zeros 12
+    ++ (3 ∷ 1 ∷ 0 ∷ 2 ∷ 0 ∷ 0 ∷ 4 ∷ 0 ∷ 3 ∷ (zeros 12 ++ (0 ∷ 2 ∷ 1 ∷ 5 ∷ 0 ∷ 6 ∷ []))))
+
+-- a control edge into node 1 from 1.2 of 3; the end
+abbrev pub secondMessage : List ℕ
+secondMessage = 3 ∷ 6 ∷ 1 ∷ 2 ∷ 0 ∷ 0 ∷ 1 ∷ 0 ∷ 2 ∷ (zeros 12 ++ (0 ∷ 3 ∷ 1 ∷ 6 ∷ []))
+
+-- 1.2←3; an implication into node 2 from 3; node 2 marked; the end
+abbrev pub thirdMessage : List ℕ
+thirdMessage =
+    1 ∷ 0 ∷ 1 ∷ 0 ∷ 2 ∷ 1 ∷ 0 ∷ 0 ∷ 3 ∷ (zeros 14 ++ (3 ∷ 1 ∷ 2 ∷ 1 ∷ 0 ∷ 0 ∷ 3 ∷ (zeros 14 ++ (0 ∷ 3 ∷ 3 ∷ 5 ∷ 2 ∷ 6 ∷ []))))
+
+-- 4.3←2; an implication into node 1 from 2; the end
+abbrev pub fourthMessage : List ℕ
+fourthMessage =
+    1 ∷ 0 ∷ 4 ∷ 0 ∷ 3 ∷ 1 ∷ 0 ∷ 0 ∷ 2 ∷ (zeros 14 ++ (3 ∷ 1 ∷ 1 ∷ 1 ∷ 0 ∷ 0 ∷ 2 ∷ (zeros 14 ++ (0 ∷ 2 ∷ 3 ∷ 6 ∷ []))))
+
+-- a message as both ends see it: its bytes, whether each of its commands is a legal update at the end that takes it, and the end and the nodes there
 -- afterwards
 pub record Turn : Type 0 where
-  pub bytes : ℕ
+  pub bytes : List ℕ
   pub legal : Bool
   pub end : ℕ
   pub nodes : ℕ
 
-abbrev pub turn : ℕ → ℕ → ℕ → Turn
+abbrev pub turn : List ℕ → ℕ → ℕ → Turn
 turn b e n = record { bytes = b; legal = true; end = e; nodes = n }
 
 -- each command is legal where it stands
@@ -96,7 +119,7 @@ play zero T S U R = []
 play (suc k) T S U R =
     let r : Replied = replyIn T S in
     let A : State = takenState (S .header .side) R (r .commands) in
-    record { bytes = length (replyBytes r); legal = allLegal (U .names) (S .header .side) R (r .commands); end = A .header .end; nodes = length (A .nodes) }
+    record { bytes = replyBytes r; legal = allLegal (U .names) (S .header .side) R (r .commands); end = A .header .end; nodes = length (A .nodes) }
     ∷ play k U A T (repliedState r)
 
 -- "Studio 3 mediates 3.1 for House 2"

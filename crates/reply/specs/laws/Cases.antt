@@ -38,11 +38,14 @@ use Rattle.moves.specs.Candidates.{ordered, firstNot, chosenIn, isDone}
 use Rattle.moves.specs.Rules.{endIn, verifierRules, sensitiveRules, opponentRules}
 use Rattle.moves.specs.Move.{credentialsFor, choiceAt, movesFrom, nextMove}
 use Rattle.reply.specs.Reply.{replyFrom, replyIn, repliedState, replyBytes}
-use Rattle.reply.specs.Cases.{turn, outcome, table, answer, turns}
+use Rattle.reply.specs.Cases.{turn, outcome, table, answer, turns, firstMessage, secondMessage, thirdMessage, fourthMessage}
+use Rattle.negotiation.specs.Layout.{zeros}
+use lib.ListN.{length}
 
 pub marked-cases : map outcome table
     ≡ answer true ∷ answer false ∷ answer true ∷ answer false ∷ answer true ∷ answer false ∷ answer false ∷ answer true
-    ∷ turns (turn 56 0 2 ∷ turn 25 0 3 ∷ turn 50 0 4 ∷ turn 48 1 5 ∷ []) ∷ turns (turn 56 0 2 ∷ turn 25 0 3 ∷ turn 50 0 4 ∷ turn 3 2 4 ∷ []) ∷ []
+    ∷ turns (turn firstMessage 0 2 ∷ turn secondMessage 0 3 ∷ turn thirdMessage 0 4 ∷ turn fourthMessage 1 5 ∷ [])
+    ∷ turns (turn firstMessage 0 2 ∷ turn secondMessage 0 3 ∷ turn thirdMessage 0 4 ∷ turn (5 ∷ 1 ∷ 6 ∷ []) 2 4 ∷ []) ∷ []
 unfolding roleFrom reaches pass close closure from? sameRole same beforeOf beforeCredential wellFormedCredential readCredential namesOf classOf
     namedType linkedType together typeOf credentialNumber holds isSensitive otherOf isDirect lessDirect heldOf publicOf hiddenOf cnt rounds least
     expressionFrom nodesOf edgesOf findNode hasEdge hasRole form legalState satisfiedB failedB completeB propagated solves solved monitors monitored
@@ -51,5 +54,10 @@ unfolding roleFrom reaches pass close closure from? sameRole same beforeOf befor
     restOf processedBy markedState primaryOf verifierOf childOf stepped hasRoom refuse first isFresh isAbsent formedAs showNumber openNumber
     markNumber endNumber joinWrong justifiedBy justifiedFor joinNumber bringWrong bringNumber justifiedIn legalBy legalNumber endOf isStalled idleOf
     headerAfter afterMessage holdingOf isAcknowledged knownOf traced initialState spread frontierOf ordered verifierRules sensitiveRules opponentRules
-    firstNot chosenIn isDone credentialsFor choiceAt movesFrom nextMove endIn replyFrom replyIn repliedState replyBytes
+    firstNot chosenIn isDone credentialsFor choiceAt movesFrom nextMove endIn replyFrom replyIn repliedState replyBytes zeros
 marked-cases = refl
+
+-- "Four messages of 56, 25, 50 and 48 bytes"
+pub message-lengths : map length (firstMessage ∷ secondMessage ∷ thirdMessage ∷ fourthMessage ∷ []) ≡ 56 ∷ 25 ∷ 50 ∷ 48 ∷ []
+unfolding zeros
+message-lengths = refl
