@@ -42,7 +42,7 @@ withMove next S cs (c ∷ ms) =
     (cond (leb (length (bytesOf (cs ++ (c ∷ ms))) + 1) MOST-MESSAGE-BYTES) (next (carried (S .header .side) S (c ∷ ms)) (cs ++ (c ∷ ms))) (stopped cs S false))
     (stopped cs S true)
 
--- "The reply stops when no move remains, the primary is satisfied, .." The first number is at least that of the moves bufferAfter.
+-- "The reply stops when no move remains, the primary is satisfied, .." The first number is at least that of the moves left.
 unfoldable pub replyFrom : ℕ → Tables → State → List Command → Replied
 replyFrom zero T S cs = stopped cs S false
 replyFrom (suc f) T S cs =

@@ -51,7 +51,7 @@ leftBy tables negotiation (take message scratch) = leftByTake negotiation messag
 leftBy tables negotiation (reply buffer scratch) = leftByReply negotiation buffer scratch (A.replyOf tables negotiation buffer scratch)
 leftBy tables negotiation (report node) = leftByReport negotiation (B.reportOf tables negotiation node)
 
--- what the calls of a list leave, each lent the negotiation that the one before it bufferAfter
+-- what the calls of a list leave, each lent the negotiation that the one before it left
 unfoldable pub run : List ℕ → List ℕ → List Call → List Left
 run tables negotiation [] = []
 run tables negotiation (c ∷ cs) = leftBy tables negotiation c ∷ run tables (leftBy tables negotiation c .negotiation) cs

@@ -18,7 +18,7 @@ use Rattle.numbers.specs.Answer.{Answer, refused, accepted, onward}
 abbrev pub behindCommands : Answer (State × Bool) → Answer State
 behindCommands a = onward (λ x. accepted (afterMessage (x .0) (x .1) false)) a
 
--- "22 already ended", "21 not that side's turn", then the commands bufferAfter to right
+-- "22 already ended", "21 not that side's turn", then the commands left to right
 unfoldable pub takenIn : List ℕ → Tables → State → Answer State
 takenIn message T S =
     cond (not (eqb (S .header .end) 0)) (refused ENDED)
@@ -32,7 +32,7 @@ behindStanding message a = onward (λ x. takenIn message (x .0) (x .1)) a
 unfoldable pub messageSize : ℕ → ℕ → Bool
 messageSize message scratch = leb 1 message && leb message MOST-MESSAGE-BYTES && eqb scratch SCRATCH-BYTES
 
--- "Order: 1, tables 2 to 6 record by record .., 20, 22, 21, then commands bufferAfter to right, each by rising number"
+-- "Order: 1, tables 2 to 6 record by record .., 20, 22, 21, then commands left to right, each by rising number"
 unfoldable pub takeOf : List ℕ → List ℕ → List ℕ → List ℕ → Answer State
 takeOf tables negotiation message scratch =
     cond (messageSize (length message) (length scratch)) (behindStanding message (R.restoreOf tables negotiation)) (refused LENGTH)

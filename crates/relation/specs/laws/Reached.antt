@@ -152,7 +152,7 @@ module _ (P : Pool) (on : List ℕ) (small : P .count ≤ 128) (e : Expression) 
       (λ k. ⊎-elim (λ w. let y : rowOf P p < P .count = w .0 in absurd (omega arith)) (λ w. h ∙ eq-same (E.Role p) e (w .1)) (row-answers p k))
 
   module _ (K : List ℕ) (rel : Relation P on K) (a : Role) (m : ℕ) where
-    -- a link is from e where it is not-false at once
+    -- a link is from e where it is so at once
     pub link-once : {t : Bool} → t ≡ atOnce P K e (E.Linked a m) → t ≡ true → true ≡ from? (chosen P on) (E.Linked a m) e
     link-once h k = sym (complete (chosen P on) (E.Linked a m) e (once-says P on small K rel e (E.Linked a m) (sym h ∙ k)))
 

@@ -9,7 +9,7 @@ use Rattle.reply.specs.Reply as A
 use Rattle.runs.specs.Runs.{Call, take, reply, report, leftByTake, leftByReply, leftByReport, leftBy, run, takenTo, givenTo, afterCall, after, Left}
 use Rattle.numbers.specs.Answer.{Answer, refused, accepted, bufferAfter}
 
--- the negotiation that the last of them bufferAfter
+-- the negotiation that the last of them left
 unfoldable pub lastOf : List ℕ → List Left → List ℕ
 lastOf negotiation [] = negotiation
 lastOf negotiation (x ∷ xs) = lastOf (x .negotiation) xs
