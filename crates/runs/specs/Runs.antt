@@ -1,18 +1,20 @@
 -- The calls of a run, what each leaves, and where the tables of two runs differ (document 01, "Two runs"). Assumes nothing.
 use Rattle.report.specs.Report.{Report, packed}
 use Rattle.reply.specs.Reply.{lengthOf}
-use Prim.Native.Nat.{ℕ}
+use Prim.Native.Nat.{ℕ, _<_}
 use mathlib.Core.Path.{_≡_}
-use mathlib.Core.Bool.{true}
 use mathlib.Core.List.{List, [], _∷_, List·Memᴰ}
+use lib.ListN.{length}
 use Rattle.expression.specs.declared.Role.{Role}
+use Rattle.expression.specs.declared.Expression.the-variants as E
 use Rattle.record.specs.declared.Pair.{Pair}
 use Rattle.tables.specs.Tables.{Tables}
 use Rattle.tables.specs.Lookup.{holds, otherOf}
+use Rattle.graph.specs.Graph.{nodeIn}
+use Rattle.graph.specs.States.{Satisfied}
 use Rattle.negotiation.specs.State.{State}
 use Rattle.negotiation.specs.Layout.{stateBytes}
 use Rattle.take.specs.Take as K
-use Rattle.moves.specs.Known.{isAcknowledged}
 use Rattle.reply.specs.Reply as A
 use Rattle.report.specs.Report as B
 use Rattle.numbers.specs.Answer.{Answer, refused, accepted, answerOf, noValue, bufferAfter}
@@ -84,6 +86,16 @@ pub data Differing (T U : Tables) (r : Role) : Type 0 where
   held : (holds (T .own) (T .subjectStored) r ≡ holds (U .own) (U .subjectStored) r → ⊥) → Differing T U r
   policy : (otherOf (T .access) r ≡ otherOf (U .access) r → ⊥) → Differing T U r
 
--- "A role's Ack target .. is satisfied if it stands and propagation satisfies it": that of no sensitive role in which the tables differ
+-- "A role's Ack target is the node there with our end as verifier, its Ack role and the other end as subject; it is satisfied if it stands and
+-- propagation satisfies it": that of a role whose Ack role is r
+pub record AckSatisfied (S : State) (r : Role) : Type 0 where
+  pub node : ℕ
+  pub stands : node < length (S .nodes)
+  pub verifier : nodeIn (S .nodes) node .verifier ≡ S .header .side
+  pub role : nodeIn (S .nodes) node .expression ≡ E.Role r
+  pub subject : nodeIn (S .nodes) node .subject ≡ S .header .other
+  pub satisfied : Satisfied (S .nodes) (S .edges) node
+
+-- that of no sensitive role in which the tables differ
 abbrev pub NoneSatisfied : Tables → Tables → State → Type 0
-NoneSatisfied T U S = (p : Pair) → List·Memᴰ p (T .sensitive) → Differing T U (p .role) → isAcknowledged S (p .other) ≡ true → ⊥
+NoneSatisfied T U S = (p : Pair) → List·Memᴰ p (T .sensitive) → Differing T U (p .role) → AckSatisfied S (p .other) → ⊥

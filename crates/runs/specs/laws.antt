@@ -4,3 +4,5 @@ pub mod TwoRuns
 pub mod ReplyPublic
 pub mod Stays
 pub mod TwoReplies
+pub mod Acknowledged
+pub mod Built

@@ -1,5 +1,5 @@
 -- A report says what the lent bytes hold, and a reported success is proved by the credentials shown. Assumes nothing.
-use Prim.Native.Nat.{ℕ, _*_, _≤_, _<_}
+use Prim.Native.Nat.{ℕ, _<_}
 use native.Mathlib.Omega.{arith}
 use mathlib.Core.Path.{_≡_, refl, sym, _∙_, ap, subst}
 use mathlib.Core.Logic.{_↔_, _⊎_, inl, inr, ⊎-elim}
@@ -20,7 +20,7 @@ use Rattle.expression.specs.laws.Same.{same-eq}
 use Rattle.rt0.specs.From.{From}
 use Rattle.graph.specs.declared.Node.{Node}
 use Rattle.graph.specs.Graph.{nodeIn}
-use Rattle.graph.specs.States.{Satisfied, Complete}
+use Rattle.graph.specs.States.{Complete}
 use Rattle.graph.specs.Propagated.{propagatedState}
 use Rattle.graph.specs.laws.Propagated.{state-one}
 use Rattle.tables.specs.Tables.{Tables}
@@ -33,7 +33,6 @@ use Rattle.damage.specs.Records.{nodeFits, primarySound, credentialFits}
 use Rattle.damage.specs.laws.Damage.{graph-parts, sound-some}
 use Rattle.damage.specs.laws.Proved.{satisfied-proved, primary-proved}
 use Rattle.standing.specs.Standing.{restoreOf}
-use Rattle.standing.specs.Holds.{Holds}
 use Rattle.standing.specs.laws.Exactly.{restored-exactly}
 use Rattle.report.specs.Report.{Report, reportOn, behindNegotiation, reportOf, packed, unpacked}
 use Rattle.report.specs.Reported.{Reported, Success}

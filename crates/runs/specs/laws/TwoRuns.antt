@@ -3,7 +3,9 @@ use Prim.Native.Nat.{ℕ}
 use mathlib.Core.Path.{_≡_, refl, sym, _∙_, ap}
 use mathlib.Core.Logic.{_⊎_, inl, inr, ⊎-elim}
 use mathlib.Core.Bool.{Bool, true, false}
-use mathlib.Core.List.{List, [], _∷_, List·Memᴰ}
+use mathlib.Core.List.{List, [], _∷_, _++_, List·Memᴰ}
+use lib.ListN.{length}
+use lib.ListN as L
 use Rattle.expression.specs.declared.Role.{Role}
 use Rattle.expression.specs.Same.{sameRole}
 use Rattle.expression.specs.laws.Same.{eq-sameRole}
@@ -28,6 +30,7 @@ use Rattle.begin.specs.laws.Kept.{begin-alike}
 use Rattle.runs.specs.Runs.{Call, take, reply, report, leftByTake, leftByReply, leftByReport, leftBy, run, takenTo, givenTo, afterCall, after}
 use Rattle.runs.specs.Runs.{Differing, held, policy, NoneSatisfied}
 use Rattle.runs.specs.laws.Runs.{left-after}
+use Rattle.runs.specs.laws.Acknowledged.{acknowledged-stands}
 use Rattle.runs.specs.laws.RunsKept.{call-keeps, calls-keep, keeps-sizes, keeps-disclosed, begun-within}
 use Rattle.numbers.specs.Answer.{Answer, refused, accepted}
 
@@ -49,12 +52,14 @@ stands-sensitive : (P : List Pair) (p : Pair) → List·Memᴰ p P → isSensiti
 unfolding isSensitive
 stands-sensitive P p m = any-here (λ (q : Pair). sameRole (q .role) (p .role)) m (eq-sameRole (p .role) (p .role) refl)
 
-none-disclosed : (T U : Tables) (S : State) → T .sensitive ≡ U .sensitive → NoneSatisfied T U S → isDisclosed T U S ≡ false
-none-disclosed T U S e n = not-of (isDisclosed T U S) (λ h. shut (disclosed-exact T U S .0 h))
+none-disclosed : (T U : Tables) (S : State) → T .sensitive ≡ U .sensitive → within S ≡ true → NoneSatisfied T U S → isDisclosed T U S ≡ false
+none-disclosed T U S e w n = not-of (isDisclosed T U S) (λ h. shut (disclosed-exact T U S .0 h))
   where
     shut : Disclosed T U S → ⊥
     shut o =
-        n (o .pair) (o .stands) (differs-differing T U (o .pair .role) e (stands-sensitive (T .sensitive) (o .pair) (o .stands)) (o .differs)) (o .acknowledged)
+        let p : Pair = o .pair in
+        n p (o .stands) (differs-differing T U (p .role) e (stands-sensitive (T .sensitive) p (o .stands)) (o .differs))
+        (acknowledged-stands S (p .other) w (o .acknowledged))
 
 -- One call
 
@@ -102,6 +107,13 @@ module _ (T U : Tables) (e : publicOf T ≡ publicOf U) (s t : List ℕ) (h : re
       ap (λ (x : List ℕ). run s x cs) b ∙ rest .0 ∙ sym (ap (λ (x : List ℕ). run t x cs) d) in
       (λ i. l i ∷ more i, rest .1 ∙ ap (λ (N : State). after t N cs) n)
 
+-- The first calls of a list leave what they leave alone
+run-first : (tables negotiation : List ℕ) (before behind : List Call)
+    → L.take (length before) (run tables negotiation (before ++ behind)) ≡ run tables negotiation before
+unfolding run
+run-first tables negotiation [] behind = refl
+run-first tables negotiation (c ∷ cs) behind = ap (λ x. leftBy tables negotiation c ∷ x) (run-first tables (leftBy tables negotiation c .negotiation) cs behind)
+
 -- Two runs whose tables differ only in which sensitive roles are held and in access policies
 
 module _ (s t : List ℕ) (T U : Tables) (h : readTables s ≡ accepted T) (k : readTables t ≡ accepted U) (d : DifferOnly T U) (negotiation : List ℕ)
@@ -114,8 +126,18 @@ module _ (s t : List ℕ) (T U : Tables) (h : readTables s ≡ accepted T) (k : 
       → NoneSatisfied T U (after s S cs) ⊎ NoneSatisfied T U (after t S cs)
       → (run s (stateBytes S) cs ≡ run t (stateBytes S) cs) × (after s S cs ≡ after t S cs))
   two-runs =
-      let e : publicOf T ≡ publicOf U = accepted-public s t T U h k .0 d in (
+      let e : publicOf T ≡ publicOf U = accepted-public s t T U h k .0 d in
+      let sizes : (S : State) → beginOf s negotiation other entity name ≡ accepted S → within S ≡ true
+      = λ S b. begun-within s negotiation other entity name T S h b in (
         begin-alike s t negotiation other entity name h k e,
-        λ S b cs n. calls-alike T U e s t h k cs S (begun-within s negotiation other entity name T S h b)
-            (⊎-elim (λ z. inl (none-disclosed T U (after s S cs) (d .sensitive) z)) (λ z. inr (none-disclosed T U (after t S cs) (d .sensitive) z)) n),
+        λ S b cs n. calls-alike T U e s t h k cs S (sizes S b)
+            (⊎-elim (λ z. inl (none-disclosed T U (after s S cs) (d .sensitive) (calls-keep keeps-sizes s T h S cs (sizes S b)) z))
+            (λ z. inr (none-disclosed T U (after t S cs) (d .sensitive) (calls-keep keeps-sizes t U k S cs (sizes S b)) z)) n),
       )
+
+  -- "until": of a list that goes on with other calls, all that was left before is the same in both
+  pub two-runs-until : (S : State) → beginOf s negotiation other entity name ≡ accepted S → (before behind : List Call)
+      → NoneSatisfied T U (after s S before) ⊎ NoneSatisfied T U (after t S before)
+      → L.take (length before) (run s (stateBytes S) (before ++ behind)) ≡ L.take (length before) (run t (stateBytes S) (before ++ behind))
+  two-runs-until S b before behind n =
+      run-first s (stateBytes S) before behind ∙ two-runs .1 S b before n .0 ∙ sym (run-first t (stateBytes S) before behind)
