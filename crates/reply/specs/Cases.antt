@@ -67,7 +67,7 @@ studio =
     }
 
 -- "House has 0x13 4.3←2, 4.3 sensitive, Ack 1.2, no AC"; (j) "House without 4.3←2"
-abbrev house : List Credential → Tables
+abbrev pub house : List Credential → Tables
 house held =
     record { own = 2; names = names; issuerStored = []; subjectStored = held; sensitive = record { role = roleOf 4 3; other = roleOf 1 2 } ∷ []; access = [] }
 

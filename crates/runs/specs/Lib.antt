@@ -1,3 +1,4 @@
 pub mod Runs
 pub mod Built
+pub mod Cases
 pub mod laws

@@ -6,3 +6,4 @@ pub mod Stays
 pub mod TwoReplies
 pub mod Acknowledged
 pub mod Built
+pub mod Cases
