@@ -5,7 +5,8 @@ use mathlib.Core.Bool.{true}
 use mathlib.Core.List.{List}
 use lib.ListN.{length}
 use Rattle.numbers.specs.Sizes.{NEGOTIATION-BYTES}
-use Rattle.numbers.specs.Answer.{accepted}
+use Rattle.numbers.specs.Answer.{refused, accepted}
+use Rattle.numbers.specs.Refusals.{LENGTH, DAMAGED}
 use Rattle.tables.specs.Tables.{Tables}
 use Rattle.tables.specs.Check.{readTables}
 use Rattle.negotiation.specs.State.{State, within}
@@ -25,3 +26,12 @@ pub record Damaged (tables negotiation : List ℕ) : Type 0 where
   pub house : Tables
   pub read : readTables tables ≡ accepted house
   pub none-held : (S : State) → Holds tables negotiation house S → ⊥
+
+-- why a call finds nothing in its tables and its negotiation, and k is its number
+pub data Unrestored (tables negotiation : List ℕ) (k : ℕ) : Type 0 where
+  -- "1 a lent length outside the sizes": the negotiation's
+  wrong-length : (length negotiation ≡ NEGOTIATION-BYTES → ⊥) → k ≡ LENGTH → Unrestored tables negotiation k
+  -- the tables' number
+  unread : length negotiation ≡ NEGOTIATION-BYTES → readTables tables ≡ refused k → Unrestored tables negotiation k
+  -- "20 negotiation damaged"
+  damaged : Damaged tables negotiation → k ≡ DAMAGED → Unrestored tables negotiation k

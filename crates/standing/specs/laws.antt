@@ -1,3 +1,4 @@
 pub mod Standing
 pub mod StandingPublic
 pub mod Exactly
+pub mod Unrestored

@@ -5,13 +5,13 @@ use mathlib.Core.Path.{_≡_, refl, sym, _∙_, ap, subst}
 use mathlib.Core.Logic.{_↔_, _⊎_, inl, inr, ⊎-elim}
 use mathlib.Core.Bool.{Bool, true, false, cond, _&&_}
 use mathlib.Core.List.{List, []}
-use borrow.Author.Tests.{eq-eqb, lt-ltb, ltb-true}
+use borrow.Author.Tests.{eq-eqb, lt-ltb, le-ltb, ltb-true, ltb-false}
 use lib.Dec.{eqb, ltb}
 use lib.ListN.{length}
 use Rattle.word.specs.laws.Bools.{false-true, and-parts}
 use Rattle.numbers.specs.Refusals.{ABSENT}
 use Rattle.numbers.specs.Answer.{Answer, refused, accepted}
-use Rattle.numbers.specs.laws.Answer.{isAccepted, valueOr}
+use Rattle.numbers.specs.laws.Answer.{isAccepted, isRefused, numberOf, valueOr}
 use Rattle.expression.specs.declared.Expression.{Expression}
 use Rattle.expression.specs.declared.Expression.the-variants as E
 use Rattle.expression.specs.Kinds.{isRoleExpression}
@@ -33,9 +33,11 @@ use Rattle.damage.specs.Records.{nodeFits, primarySound, credentialFits}
 use Rattle.damage.specs.laws.Damage.{graph-parts, sound-some}
 use Rattle.damage.specs.laws.Proved.{satisfied-proved, primary-proved}
 use Rattle.standing.specs.Standing.{restoreOf}
+use Rattle.standing.specs.Holds.{Holds}
 use Rattle.standing.specs.laws.Exactly.{restored-exactly}
+use Rattle.standing.specs.laws.Unrestored.{unrestored-exactly}
 use Rattle.report.specs.Report.{Report, reportOn, behindNegotiation, reportOf, packed, unpacked}
-use Rattle.report.specs.Reported.{Reported, Success}
+use Rattle.report.specs.Reported.{Reported, ReportRefused, unrestored, absent, Success}
 use Rattle.report.specs.laws.Report.{report-numbers}
 
 module _ (tables negotiation : List ℕ) (i : ℕ) (r : Report) where
@@ -76,6 +78,32 @@ module _ (tables negotiation : List ℕ) (i : ℕ) (r : Report) where
       let w : Reported tables negotiation i r = to-reported h in
       ap (λ (x : Report). unpacked (packed x)) (w .numbers)
       ∙ report-numbers (w .house) (w .state) (w .held .sizes) (w .held .undamaged) i (w .stands) ∙ sym (w .numbers)
+
+module _ (tables negotiation : List ℕ) (i k : ℕ) where
+  to-report-refused : reportOf tables negotiation i ≡ refused k → ReportRefused tables negotiation i k
+  unfolding reportOf
+  to-report-refused h = by-standing (restoreOf tables negotiation) refl h
+    where
+      by-node : (T : Tables) (S : State) → Holds tables negotiation T S → (b : Bool) → ltb i (length (S .nodes)) ≡ b
+          → cond b (accepted (reportOn S i)) (refused ABSENT) ≡ refused k → ReportRefused tables negotiation i k
+      by-node T S w true x q = absurd (false-true (ap isRefused q))
+      by-node T S w false x q = absent w (ltb-false i (length (S .nodes)) x) (sym (ap numberOf q))
+
+      by-standing : (a : Answer (Tables × State)) → restoreOf tables negotiation ≡ a → behindNegotiation i a ≡ refused k → ReportRefused tables negotiation i k
+      by-standing (refused j) e q = unrestored (unrestored-exactly tables negotiation k .0 (e ∙ ap refused (ap numberOf q)))
+      by-standing (accepted (T, S)) e q = by-node T S (restored-exactly tables negotiation T S .0 e) (ltb i (length (S .nodes))) refl q
+
+  from-report-refused : ReportRefused tables negotiation i k → reportOf tables negotiation i ≡ refused k
+  unfolding reportOf
+  from-report-refused (unrestored u) = ap (behindNegotiation i) (unrestored-exactly tables negotiation k .1 u)
+  from-report-refused (absent {T} {S} w l e) =
+      ap (behindNegotiation i) (restored-exactly tables negotiation T S .1 w)
+      ∙ ap (λ (b : Bool). cond b (accepted (reportOn S i)) (refused ABSENT)) (le-ltb i (length (S .nodes)) l)
+      ∙ ap refused (sym e)
+
+  -- a report is refused with a number exactly where its reason holds and no earlier one does
+  pub report-refused-exactly : (reportOf tables negotiation i ≡ refused k) ↔ ReportRefused tables negotiation i k
+  report-refused-exactly = (to-report-refused, from-report-refused)
 
 -- the mediator's primary is the wanted role
 mediator-primary : (h : Header) (n : Node) → primarySound h n ≡ true → h .side ≡ 0 → n .expression ≡ E.Role (h .wanted)
