@@ -55,7 +55,7 @@ module _ (T U : Tables) (e : publicOf T ≡ publicOf U) where
       go true q false k = refl
       go false q d k = refl
 
-  -- the two are shut at the end, so they were at the start
+  -- nothing is disclosed at the end, so nothing was at the start
   undisclosed-before : (f : ℕ) (S : State) (cs : List Command) → within S ≡ true → OneUndisclosed (replyFrom f T S cs) (replyFrom f U S cs)
       → isDisclosed T U S ≡ false
   undisclosed-before f S cs w h =

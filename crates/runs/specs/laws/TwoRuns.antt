@@ -82,7 +82,7 @@ module _ (T U : Tables) (e : publicOf T ≡ publicOf U) (s t : List ℕ) (h : re
       (ap (leftByReply (stateBytes S) buffer scratch) o, ap (givenTo S) o)
   call-alike S (report node) q = (ap (leftByReport (stateBytes S)) (report-public s t T U h k e (stateBytes S) node), refl)
 
-  -- not open at the end, not open before
+  -- not disclosed at the end, not disclosed before
   undisclosed-earlier : (w : List ℕ) (W : Tables) → readTables w ≡ accepted W → (S : State) (cs : List Call) → within S ≡ true
       → isDisclosed T U (after w S cs) ≡ false → isDisclosed T U S ≡ false
   undisclosed-earlier w W r S cs v z =
