@@ -13,7 +13,7 @@ use Rattle.expression.specs.declared.Expression.the-variants as E
 use Rattle.rt0.specs.From.{From, roleOf}
 use Rattle.class.specs.declared.Name.{Name}
 use Rattle.class.specs.Names.{classOf}
-use Rattle.class.specs.Typing.{typeOf, credentialNumber}
+use Rattle.class.specs.Typing.{typeOf, suits, isUnnamed}
 use Rattle.graph.specs.declared.Node.{Node}
 use Rattle.graph.specs.declared.Edge.{Edge}
 use Rattle.graph.specs.Graph.{nodeIn}
@@ -28,6 +28,7 @@ use Rattle.damage.specs.Records.{isTyped}
 use Rattle.graph.specs.Processed.{processedBy}
 use Rattle.applied.specs.Step.{parentIn, childIn}
 use Rattle.legal.specs.Number.{formedAs}
+use Rattle.numbers.specs.Refusals.{NAME, CLASS, OPENING, ABSENT, PRESENT, UNJUSTIFIED, PROCESSED, FULL}
 
 -- "has a linking-monitor child ⟨V : ?X.r2 ← S⟩, and ⟨V : ?X.r2 ← S⟩ has a link-solution child ⟨V : B.r2 ← S⟩ that is satisfied" (section 4.2);
 -- x is A.r1.r2, the expression of the node p, and b is B
@@ -48,75 +49,106 @@ pub record Justifies (S : State) (k p : ℕ) (y : Expression) (b : ℕ) : Type 0
   pub implied : k ≡ 1 → From (S .shown) (nodeIn (S .nodes) p .expression) y
   pub monitored : k ≡ 4 → Monitored S (nodeIn (S .nodes) p .expression) b p
 
--- 0x01 credential
-pub record LegalCredential (ns : List Name) (S : State) (c : Credential) : Type 0 where
-  -- every name has a class, and the class rules are kept
-  pub classes : credentialNumber ns c ≡ 0
-  -- a node stands
-  pub some : 0 < length (S .nodes)
-  -- it is not among those shown
-  pub absent : List·Memᴰ c (S .shown) → ⊥
-  -- there is room for one more
-  pub room : length (S .shown) < MOST-SHOWN
+-- What the rules ask of a command, by the numbers of "From the input" and "From the state"
 
--- 0x02 open
-pub record LegalOpen (ns : List Name) (S : State) (o : Opening) : Type 0 where
-  -- the role's name has a class
-  pub classes : classOf ns (o .role .name) ≡ 0 → ⊥
-  -- no node stands
-  pub fresh : length (S .nodes) ≡ 0
+-- "4 a name without class"
+unfoldable pub NamesClassed : List Name → Command → Type 0
+NamesClassed ns (Show c) = (classOf ns (c .head .name) ≡ 0 → ⊥) × (isUnnamed (typeOf ns (c .body)) ≡ false)
+NamesClassed ns (Open o) = classOf ns (o .role .name) ≡ 0 → ⊥
+NamesClassed ns (Bring n) = isUnnamed (typeOf ns (n .expression)) ≡ false
+NamesClassed ns (Join e) = Unit {0}
+NamesClassed ns (Mark i) = Unit {0}
+NamesClassed ns End = Unit {0}
 
--- 0x03 edge with a new child, sent by side s
-pub record LegalNewChild (ns : List Name) (s : ℕ) (S : State) (n : NewEdge) : Type 0 where
-  -- every name of the child has a class, and it is well typed
-  pub classes : isTyped (typeOf ns (n .expression)) ≡ true
-  -- the parent stands
-  pub parent : n .parent < length (S .nodes)
-  -- the edge has the form of its kind
-  pub form : formedAs (S .header) (n .kind) (parentIn S n) (childIn S n) ≡ true
-  -- no node has the child's expression, verifier and subject
-  pub absent : (x : Node) → List·Memᴰ x (S .nodes) → x .expression ≡ n .expression → x .verifier ≡ childIn S n .verifier → x .subject ≡ n .subject → ⊥
-  pub justified : Justifies S (n .kind) (n .parent) (n .expression) (n .subject)
-  -- "Only a side that has not processed the parent may add an edge into it"
-  pub unprocessed : processedBy s (parentIn S n) ≡ false
-  -- there is room for one more node and one more edge
-  pub node-room : length (S .nodes) < MOST-NODES
-  pub edge-room : length (S .edges) < MOST-EDGES
+-- "5 a class rule broken"
+unfoldable pub ClassesSuit : List Name → Command → Type 0
+ClassesSuit ns (Show c) = suits (typeOf ns (c .body)) (classOf ns (c .head .name)) ≡ true
+ClassesSuit ns (Open o) = Unit {0}
+ClassesSuit ns (Bring n) = isTyped (typeOf ns (n .expression)) ≡ true
+ClassesSuit ns (Join e) = Unit {0}
+ClassesSuit ns (Mark i) = Unit {0}
+ClassesSuit ns End = Unit {0}
 
--- 0x04 edge between old nodes, sent by side s
-pub record LegalOldChild (s : ℕ) (S : State) (e : Edge) : Type 0 where
-  -- both nodes stand
-  pub parent : e .parent < length (S .nodes)
-  pub child : e .child < length (S .nodes)
-  -- the edge has the form of its kind
-  pub form : formedAs (S .header) (e .kind) (nodeIn (S .nodes) (e .parent)) (nodeIn (S .nodes) (e .child)) ≡ true
-  -- "No edge joins a node to itself"
-  pub other : e .parent ≡ e .child → ⊥
-  -- it is not there already
-  pub absent : List·Memᴰ e (S .edges) → ⊥
-  pub justified : Justifies S (e .kind) (e .parent) (nodeIn (S .nodes) (e .child) .expression) (nodeIn (S .nodes) (e .child) .subject)
-  -- "Only a side that has not processed the parent may add an edge into it"
-  pub unprocessed : processedBy s (nodeIn (S .nodes) (e .parent)) ≡ false
-  -- there is room for one more edge
-  pub room : length (S .edges) < MOST-EDGES
+-- "23 any command but open while no node stands, or open later"
+unfoldable pub OpenFirst : State → Command → Type 0
+OpenFirst S (Show c) = 0 < length (S .nodes)
+OpenFirst S (Open o) = length (S .nodes) ≡ 0
+OpenFirst S (Bring n) = 0 < length (S .nodes)
+OpenFirst S (Join e) = 0 < length (S .nodes)
+OpenFirst S (Mark i) = 0 < length (S .nodes)
+OpenFirst S End = 0 < length (S .nodes)
 
--- 0x05 mark, sent by side s
-pub record LegalMark (s : ℕ) (S : State) (i : ℕ) : Type 0 where
-  -- the node stands
-  pub node : i < length (S .nodes)
-  -- the sender has not processed it
-  pub unprocessed : processedBy s (nodeIn (S .nodes) i) ≡ false
+-- "24 no such node"
+unfoldable pub NodesStand : State → Command → Type 0
+NodesStand S (Show c) = Unit {0}
+NodesStand S (Open o) = Unit {0}
+NodesStand S (Bring n) = n .parent < length (S .nodes)
+NodesStand S (Join e) = (e .parent < length (S .nodes)) × (e .child < length (S .nodes))
+NodesStand S (Mark i) = i < length (S .nodes)
+NodesStand S End = Unit {0}
 
--- 0x06 end
-pub record LegalEnd (S : State) : Type 0 where
-  -- a node stands
-  pub some : 0 < length (S .nodes)
+-- "25 edge form wrong, or node, edge or credential already present"; "No edge joins a node to itself"
+unfoldable pub FormedAndNew : State → Command → Type 0
+FormedAndNew S (Show c) = List·Memᴰ c (S .shown) → ⊥
+FormedAndNew S (Open o) = Unit {0}
+FormedAndNew S (Bring n) =
+    (formedAs (S .header) (n .kind) (parentIn S n) (childIn S n) ≡ true)
+    × ((x : Node) → List·Memᴰ x (S .nodes) → x .expression ≡ n .expression → x .verifier ≡ childIn S n .verifier → x .subject ≡ n .subject → ⊥)
+FormedAndNew S (Join e) =
+    (formedAs (S .header) (e .kind) (nodeIn (S .nodes) (e .parent)) (nodeIn (S .nodes) (e .child)) ≡ true)
+    × (e .parent ≡ e .child → ⊥) × (List·Memᴰ e (S .edges) → ⊥)
+FormedAndNew S (Mark i) = Unit {0}
+FormedAndNew S End = Unit {0}
+
+-- "26 not justified"
+unfoldable pub EdgeJustified : State → Command → Type 0
+EdgeJustified S (Show c) = Unit {0}
+EdgeJustified S (Open o) = Unit {0}
+EdgeJustified S (Bring n) = Justifies S (n .kind) (n .parent) (n .expression) (n .subject)
+EdgeJustified S (Join e) =
+    Justifies S (e .kind) (e .parent) (nodeIn (S .nodes) (e .child) .expression) (nodeIn (S .nodes) (e .child) .subject)
+EdgeJustified S (Mark i) = Unit {0}
+EdgeJustified S End = Unit {0}
+
+-- "27 already processed by the sender"; "Only a side that has not processed the parent may add an edge into it"
+unfoldable pub Unprocessed : ℕ → State → Command → Type 0
+Unprocessed s S (Show c) = Unit {0}
+Unprocessed s S (Open o) = Unit {0}
+Unprocessed s S (Bring n) = processedBy s (parentIn S n) ≡ false
+Unprocessed s S (Join e) = processedBy s (nodeIn (S .nodes) (e .parent)) ≡ false
+Unprocessed s S (Mark i) = processedBy s (nodeIn (S .nodes) i) ≡ false
+Unprocessed s S End = Unit {0}
+
+-- "28 a size passed"
+unfoldable pub RoomLeft : State → Command → Type 0
+RoomLeft S (Show c) = length (S .shown) < MOST-SHOWN
+RoomLeft S (Open o) = Unit {0}
+RoomLeft S (Bring n) = (length (S .nodes) < MOST-NODES) × (length (S .edges) < MOST-EDGES)
+RoomLeft S (Join e) = length (S .edges) < MOST-EDGES
+RoomLeft S (Mark i) = Unit {0}
+RoomLeft S End = Unit {0}
 
 -- the command of side s is legal in the state S, the house having the names ns
-unfoldable pub Legal : List Name → ℕ → State → Command → Type 0
-Legal ns s S (Show c) = LegalCredential ns S c
-Legal ns s S (Open o) = LegalOpen ns S o
-Legal ns s S (Bring n) = LegalNewChild ns s S n
-Legal ns s S (Join e) = LegalOldChild s S e
-Legal ns s S (Mark i) = LegalMark s S i
-Legal ns s S End = LegalEnd S
+pub record Legal (ns : List Name) (s : ℕ) (S : State) (c : Command) : Type 0 where
+  pub names : NamesClassed ns c
+  pub classes : ClassesSuit ns c
+  pub open-first : OpenFirst S c
+  pub nodes : NodesStand S c
+  pub form : FormedAndNew S c
+  pub justified : EdgeJustified S c
+  pub unprocessed : Unprocessed s S c
+  pub room : RoomLeft S c
+
+-- why it is not: "each by rising number", the first rule that it breaks
+pub data Illegal (ns : List Name) (s : ℕ) (S : State) (c : Command) : ℕ → Type 0 where
+  unnamed : (NamesClassed ns c → ⊥) → Illegal ns s S c NAME
+  class-rule : NamesClassed ns c → (ClassesSuit ns c → ⊥) → Illegal ns s S c CLASS
+  opening : NamesClassed ns c → ClassesSuit ns c → (OpenFirst S c → ⊥) → Illegal ns s S c OPENING
+  no-node : NamesClassed ns c → ClassesSuit ns c → OpenFirst S c → (NodesStand S c → ⊥) → Illegal ns s S c ABSENT
+  present : NamesClassed ns c → ClassesSuit ns c → OpenFirst S c → NodesStand S c → (FormedAndNew S c → ⊥) → Illegal ns s S c PRESENT
+  unjustified : NamesClassed ns c → ClassesSuit ns c → OpenFirst S c → NodesStand S c → FormedAndNew S c → (EdgeJustified S c → ⊥)
+      → Illegal ns s S c UNJUSTIFIED
+  processed : NamesClassed ns c → ClassesSuit ns c → OpenFirst S c → NodesStand S c → FormedAndNew S c → EdgeJustified S c
+      → (Unprocessed s S c → ⊥) → Illegal ns s S c PROCESSED
+  full : NamesClassed ns c → ClassesSuit ns c → OpenFirst S c → NodesStand S c → FormedAndNew S c → EdgeJustified S c
+      → Unprocessed s S c → (RoomLeft S c → ⊥) → Illegal ns s S c FULL

@@ -7,13 +7,13 @@ use lib.ListN.{length}
 use Rattle.class.specs.declared.Name.{Name}
 use Rattle.message.specs.declared.Command.{Command}
 use Rattle.message.specs.declared.Command.the-variants.{End}
-use Rattle.message.specs.declared.CommandAnswer.the-variants.{Read, Refused}
+use Rattle.message.specs.declared.CommandAnswer.the-variants.{Read}
 use Rattle.message.specs.Command.{formedCommand, commandAt}
 use Rattle.negotiation.specs.State.{State}
 use Rattle.applied.specs.Step.{stepped}
-use Rattle.legal.specs.Number.{legalNumber}
-use Rattle.legal.specs.Legal.{Legal}
+use Rattle.legal.specs.Legal.{Legal, Illegal}
 use Rattle.message.specs.Message.{isEnd, messageBytes, bytesOf}
+use Rattle.message.specs.Unreadable.{Unreadable}
 
 -- commands of side s lead from one state to another: none is an end, each has operands of right form and is legal in the state before it.
 -- "Each command carries the negotiation to its next state"
@@ -30,8 +30,8 @@ pub record Carries (ns : List Name) (s : ℕ) (m : List ℕ) (S : State) (cs : L
 
 -- the command at an index is refused with k: it cannot be read, or it is not legal
 pub data Wrong (ns : List Name) (s : ℕ) (m : List ℕ) (at : ℕ) (S : State) (k : ℕ) : Type 0 where
-  unreadable : commandAt m at ≡ Refused k → Wrong ns s m at S k
-  illegal : (c : Command) → commandAt m at ≡ Read c → legalNumber ns s S c ≡ k → (k ≡ 0 → ⊥) → Wrong ns s m at S k
+  unreadable : Unreadable m at k → Wrong ns s m at S k
+  illegal : (c : Command) → commandAt m at ≡ Read c → Illegal ns s S c k → Wrong ns s m at S k
 
 -- the message m begins with commands that lead from S on, and the one behind them is refused with k
 pub record RefusedAt (ns : List Name) (s : ℕ) (m : List ℕ) (S : State) (k : ℕ) : Type 0 where

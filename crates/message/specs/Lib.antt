@@ -1,3 +1,4 @@
 pub mod Command
 pub mod Message
+pub mod Unreadable
 pub mod laws

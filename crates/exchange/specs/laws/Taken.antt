@@ -16,7 +16,7 @@ use Rattle.negotiation.specs.State.{State, within, withHeader}
 use Rattle.damage.specs.Damage.{sound}
 use Rattle.negotiation.specs.Ends.{otherSide}
 use Rattle.applied.specs.After.{headerAfter, afterMessage}
-use Rattle.legal.specs.Legal.{Legal}
+use Rattle.legal.specs.Legal.{NamesClassed, ClassesSuit, OpenFirst, NodesStand, FormedAndNew, EdgeJustified, Unprocessed, RoomLeft, Legal}
 use Rattle.message.specs.Message.{messageBytes}
 use Rattle.applied.specs.Step.{moved}
 use Rattle.take.specs.Commands as C
@@ -43,8 +43,18 @@ module _ (T : Tables) (t : Sound T) (S : State) (h : sound T S ≡ true) (w : wi
       go false e = omega (arith, m .header .side, eqb-false (S .header .side) 0 e)
 
   end-legal : (ns : List Name) → Legal ns (S .header .side) (withHeader (replyIn T S .state) (R .header)) End
-  unfolding Legal withHeader
-  end-legal ns = record { some = omega (arith, reply-going T t S h w turn .some) }
+  unfolding NamesClassed ClassesSuit OpenFirst NodesStand FormedAndNew EdgeJustified Unprocessed RoomLeft withHeader
+  end-legal ns =
+      record {
+        names = tt;
+        classes = tt;
+        open-first = omega (arith, reply-going T t S h w turn .some);
+        nodes = tt;
+        form = tt;
+        justified = tt;
+        unprocessed = tt;
+        room = tt;
+      }
 
   -- the commands are carried out
   reply-carried : (b : List ℕ) → b ≡ messageBytes (replyIn T S .commands)

@@ -3,7 +3,7 @@ use Prim.Native.Nat.{ℕ, _<_}
 use native.Mathlib.Omega.{arith}
 use mathlib.Core.Path.{_≡_, refl, sym, _∙_, ap, subst}
 use mathlib.Core.Logic.{⊎-elim}
-use mathlib.Core.Bool.{Bool, true, false, not, _&&_, _||_}
+use mathlib.Core.Bool.{Bool, true, false, not, cond, _&&_, _||_}
 use mathlib.Core.List.{List, List·Memᴰ}
 use borrow.Author.Tests.{eq-eqb, ne-eqb, eqb-true, eqb-false, lt-ltb, ltb-true, lt-leb, leb-false, not-false}
 use lib.Dec.{eqb, ltb, leb}
@@ -25,7 +25,7 @@ use Rattle.class.specs.declared.Name.{Name}
 use Rattle.class.specs.declared.Typing.{Typing}
 use Rattle.class.specs.declared.Typing.the-variants.{Unnamed, Ill, Any, Class}
 use Rattle.class.specs.Names.{classOf}
-use Rattle.class.specs.Typing.{typeOf, credentialNumber}
+use Rattle.class.specs.Typing.{typeOf, suits, isUnnamed, credentialNumber}
 use Rattle.propagation.specs.Flags.{at}
 use Rattle.graph.specs.declared.Node.{Node}
 use Rattle.graph.specs.declared.Edge.{Edge}
@@ -49,16 +49,11 @@ use Rattle.legal.specs.Number.{refuse, first, isFresh, isAbsent, formedA
 use Rattle.legal.specs.Number.{justifiedFor, joinNumber, typeNumber, bringWrong, bringNumber, justifiedIn, legalBy, legalNumber}
 use Rattle.legal.specs.laws.Number.{passes, first-passes, refuse-none, first-none}
 use Rattle.legal.specs.laws.Edge.{join-justified}
-use Rattle.legal.specs.Legal.{Monitored, Justifies, Legal}
+use Rattle.legal.specs.Legal.{Monitored, Justifies, NamesClassed, ClassesSuit, OpenFirst, NodesStand, FormedAndNew, EdgeJustified, Unprocessed}
+use Rattle.legal.specs.Legal.{RoomLeft, Legal, Illegal, unnamed, class-rule, opening, no-node, present, unjustified, processed, full}
+use Rattle.numbers.specs.Refusals.{NAME, CLASS, OPENING, ABSENT, PRESENT, UNJUSTIFIED, PROCESSED, FULL}
 
 -- Tests
-
--- not refused here, nor further on
-goes-on : (b : Bool) (k rest : ℕ) → b ≡ false → rest ≡ 0 → refuse b k rest ≡ 0
-goes-on b k rest e h = sym (passes b k rest e (sym h))
-
-goes-first : (k rest : ℕ) → k ≡ 0 → rest ≡ 0 → first k rest ≡ 0
-goes-first k rest e h = sym (first-passes k k rest refl e (sym e ∙ e ∙ sym h))
 
 or-none : (a b : Bool) → a ≡ false → b ≡ false → (a || b) ≡ false
 or-none a b h k = λ i. h i || k i
@@ -154,18 +149,6 @@ module _ (xs : List Node) (y : Expression) (v b : ℕ) where
       let q = and-parts (eqb (x .verifier) v) (eqb (x .subject) b) (p .0) in
       h x m (same-eq (x .expression) y (p .1)) (eqb-true (x .verifier) v (q .0)) (eqb-true (x .subject) b (q .1)))
 
-typed-of : (t : Typing) → typeNumber t ≡ 0 → isTyped t ≡ true
-typed-of Unnamed h = absurd (omega arith)
-typed-of Ill h = absurd (omega arith)
-typed-of Any h = refl
-typed-of (Class a) h = refl
-
-of-typed : (t : Typing) → isTyped t ≡ true → typeNumber t ≡ 0
-of-typed Unnamed h = absurd (false-true h)
-of-typed Ill h = absurd (false-true h)
-of-typed Any h = refl
-of-typed (Class a) h = refl
-
 -- Justification
 
 -- A.r1.r2 and B.r2
@@ -250,145 +233,358 @@ module _ (S : State) (k p : ℕ) (y : Expression) (b : ℕ) where
             (kind-if k 4 m (λ e. of-monitored S x b p (j .monitored e))),
       )
 
--- The commands
+-- The rules, one by one
 
-abbrev Exactly : List Name → ℕ → State → Command → Type 0
-Exactly ns s S c = (legalNumber ns s S c ≡ 0 → Legal ns s S c) × (Legal ns s S c → legalNumber ns s S c ≡ 0)
+-- a rule with its test
+record Decided (P : Type 0) : Type 0 where
+  broken : Bool
+  holds : broken ≡ false → P
+  fails : broken ≡ true → P → ⊥
 
-module _ (ns : List Name) (s : ℕ) (S : State) where
-  credential-exactly : (c : Credential) → Exactly ns s S (Show c)
-  unfolding legalNumber legalBy showNumber Legal
-  credential-exactly c = (
-    λ h.
-        let k = first-none (credentialNumber ns c) _ h in
-        let a = refuse-none (isFresh S) 23 _ (omega arith) (k .1) in
-        let b = refuse-none (isShown (S .shown) c) 25 _ (omega arith) (a .1) in
-        let d = refuse-none (leb MOST-SHOWN (length (S .shown))) 28 _ (omega arith) (b .1) in
-        record { classes = k .0; some = some-of S (a .0); absent = not-shown-of (S .shown) c (b .0); room = leb-false MOST-SHOWN (length (S .shown)) (d .0) },
-    λ l.
-        goes-first (credentialNumber ns c) _ (l .classes)
-        (goes-on (isFresh S) 23 _ (of-some S (l .some))
-        (goes-on (isShown (S .shown) c) 25 _ (of-not-shown (S .shown) c (l .absent))
-        (goes-on (leb MOST-SHOWN (length (S .shown))) 28 0 (lt-leb MOST-SHOWN (length (S .shown)) (l .room)) refl))),
-  )
+-- a rule that asks nothing of a command
+nothing : Decided (Unit {0})
+nothing = record { broken = false; holds = λ e. tt; fails = λ e p. false-true e }
 
-  open-exactly : (o : Opening) → Exactly ns s S (Open o)
-  unfolding legalNumber legalBy openNumber Legal
-  open-exactly o = (
-    λ h.
-        let a = refuse-none (eqb (classOf ns (o .role .name)) 0) 4 _ (omega arith) h in
-        let b = refuse-none (not (isFresh S)) 23 _ (omega arith) (a .1) in
-        record { classes = eqb-false (classOf ns (o .role .name)) 0 (a .0); fresh = none-of S (b .0) },
-    λ l. goes-on (eqb (classOf ns (o .role .name)) 0) 4 _ (ne-eqb (classOf ns (o .role .name)) 0 (l .classes))
-        (goes-on (not (isFresh S)) 23 0 (of-none S (l .fresh)) refl),
-  )
+-- a rule whose test is exact
+tested : {P : Type 0} (b : Bool) → (b ≡ false → P) → (P → b ≡ false) → Decided P
+tested b h k = record { broken = b; holds = h; fails = λ e p. false-true (sym (k p) ∙ e) }
 
-  new-child-exactly : (n : NewEdge) → Exactly ns s S (Bring n)
-  unfolding legalNumber legalBy bringNumber bringWrong justifiedIn Legal
-  new-child-exactly n =
+module _ {P : Type 0} (d : Decided P) where
+  keeps : P → d .broken ≡ false
+  keeps p = go (d .broken) refl
+    where
+      go : (b : Bool) → d .broken ≡ b → d .broken ≡ false
+      go true e = absurd (d .fails e p)
+      go false e = e
+
+  breaks : (P → ⊥) → d .broken ≡ true
+  breaks n = go (d .broken) refl
+    where
+      go : (b : Bool) → d .broken ≡ b → d .broken ≡ true
+      go true e = e
+      go false e = absurd (n (d .holds e))
+
+module _ (ns : List Name) where
+  names-decided : (c : Command) → Decided (NamesClassed ns c)
+  unfolding NamesClassed
+  names-decided (Show c) =
+      let u : Bool = eqb (classOf ns (c .head .name)) 0 in
+      let v : Bool = isUnnamed (typeOf ns (c .body)) in
+      tested (u || v) (λ e. let w = or-neither u v e in (eqb-false (classOf ns (c .head .name)) 0 (w .0), w .1))
+      (λ p. or-none u v (ne-eqb (classOf ns (c .head .name)) 0 (p .0)) (p .1))
+  names-decided (Open o) =
+      tested (eqb (classOf ns (o .role .name)) 0) (λ e. eqb-false (classOf ns (o .role .name)) 0 e) (λ p. ne-eqb (classOf ns (o .role .name)) 0 p)
+  names-decided (Bring n) = tested (isUnnamed (typeOf ns (n .expression))) (λ e. e) (λ p. p)
+  names-decided (Join e) = nothing
+  names-decided (Mark i) = nothing
+  names-decided End = nothing
+
+  classes-decided : (c : Command) → Decided (ClassesSuit ns c)
+  unfolding ClassesSuit
+  classes-decided (Show c) = let b : Bool = suits (typeOf ns (c .body)) (classOf ns (c .head .name)) in tested (not b) (λ e. not-false b e) (λ p. ap not p)
+  classes-decided (Open o) = nothing
+  classes-decided (Bring n) = let b : Bool = isTyped (typeOf ns (n .expression)) in tested (not b) (λ e. not-false b e) (λ p. ap not p)
+  classes-decided (Join e) = nothing
+  classes-decided (Mark i) = nothing
+  classes-decided End = nothing
+
+module _ (S : State) where
+  some-decided : Decided (0 < length (S .nodes))
+  some-decided = tested (isFresh S) (some-of S) (of-some S)
+
+  open-decided : (c : Command) → Decided (OpenFirst S c)
+  unfolding OpenFirst
+  open-decided (Show c) = some-decided
+  open-decided (Open o) = tested (not (isFresh S)) (none-of S) (of-none S)
+  open-decided (Bring n) = some-decided
+  open-decided (Join e) = some-decided
+  open-decided (Mark i) = some-decided
+  open-decided End = some-decided
+
+  nodes-decided : (c : Command) → Decided (NodesStand S c)
+  unfolding NodesStand
+  nodes-decided (Show c) = nothing
+  nodes-decided (Open o) = nothing
+  nodes-decided (Bring n) = tested (isAbsent S (n .parent)) (stands-of S (n .parent)) (of-stands S (n .parent))
+  nodes-decided (Join e) =
+      let u : Bool = isAbsent S (e .parent) in
+      let v : Bool = isAbsent S (e .child) in
+      tested (u || v) (λ h. let w = or-neither u v h in (stands-of S (e .parent) (w .0), stands-of S (e .child) (w .1)))
+      (λ p. or-none u v (of-stands S (e .parent) (p .0)) (of-stands S (e .child) (p .1)))
+  nodes-decided (Mark i) = tested (isAbsent S i) (stands-of S i) (of-stands S i)
+  nodes-decided End = nothing
+
+  new-decided : (n : NewEdge) → Decided (FormedAndNew S (Bring n))
+  unfolding FormedAndNew bringWrong
+  new-decided n =
       let f : Bool = formedAs (S .header) (n .kind) (parentIn S n) (childIn S n) in
       let g : Bool = any (isNode (n .expression) (childIn S n .verifier) (n .subject)) (S .nodes) in
-      let j : Bool = justifiedFor S (n .kind) (n .parent) (n .expression) (n .subject) in
-      let u : Bool = leb MOST-NODES (length (S .nodes)) in
-      let v : Bool = leb MOST-EDGES (length (S .edges)) in
-      let exact = justifies-exactly S (n .kind) (n .parent) (n .expression) (n .subject) in (
-        λ h.
-            let k = first-none (typeNumber (typeOf ns (n .expression))) _ h in
-            let a = refuse-none (isFresh S) 23 _ (omega arith) (k .1) in
-            let b = refuse-none (isAbsent S (n .parent)) 24 _ (omega arith) (a .1) in
-            let c = refuse-none (not f || g) 25 _ (omega arith) (b .1) in
-            let w = or-neither (not f) g (c .0) in
-            let d = refuse-none (not j) 26 _ (omega arith) (c .1) in
-            let e = refuse-none (processedBy s (parentIn S n)) 27 _ (omega arith) (d .1) in
-            let z = or-neither u v (refuse-none (u || v) 28 _ (omega arith) (e .1) .0) in
-            record {
-              classes = typed-of (typeOf ns (n .expression)) (k .0);
-              parent = stands-of S (n .parent) (b .0);
-              form = not-false f (w .0);
-              absent = no-node-of (S .nodes) (n .expression) (childIn S n .verifier) (n .subject) (w .1);
-              justified = exact .0 (not-false j (d .0));
-              unprocessed = e .0;
-              node-room = leb-false MOST-NODES (length (S .nodes)) (z .0);
-              edge-room = leb-false MOST-EDGES (length (S .edges)) (z .1);
-            },
-        λ l.
-            goes-first (typeNumber (typeOf ns (n .expression))) _ (of-typed (typeOf ns (n .expression)) (l .classes))
-            (goes-on (isFresh S) 23 _ (of-some S (omega (arith, l .parent)))
-            (goes-on (isAbsent S (n .parent)) 24 _ (of-stands S (n .parent) (l .parent))
-            (goes-on (not f || g) 25 _ (or-none (not f) g (ap not (l .form))
-            (of-no-node (S .nodes) (n .expression) (childIn S n .verifier) (n .subject) (l .absent)))
-            (goes-on (not j) 26 _ (ap not (exact .1 (l .justified)))
-            (goes-on (processedBy s (parentIn S n)) 27 _ (l .unprocessed)
-            (goes-on (u || v) 28 0 (or-none u v (lt-leb MOST-NODES (length (S .nodes)) (l .node-room))
-            (lt-leb MOST-EDGES (length (S .edges)) (l .edge-room))) refl)))))),
-      )
+      tested (bringWrong S n)
+      (λ h. let w = or-neither (not f) g h in (not-false f (w .0), no-node-of (S .nodes) (n .expression) (childIn S n .verifier) (n .subject) (w .1)))
+      (λ p. or-none (not f) g (ap not (p .0)) (of-no-node (S .nodes) (n .expression) (childIn S n .verifier) (n .subject) (p .1)))
 
-  old-child-exactly : (e : Edge) → Exactly ns s S (Join e)
-  unfolding legalNumber legalBy joinNumber joinWrong justifiedIn Legal
-  old-child-exactly e =
-      let p : Node = nodeIn (S .nodes) (e .parent) in
-      let q : Node = nodeIn (S .nodes) (e .child) in
-      let f : Bool = formedAs (S .header) (e .kind) p q in
+  old-decided : (e : Edge) → Decided (FormedAndNew S (Join e))
+  unfolding FormedAndNew joinWrong
+  old-decided e =
+      let f : Bool = formedAs (S .header) (e .kind) (nodeIn (S .nodes) (e .parent)) (nodeIn (S .nodes) (e .child)) in
       let o : Bool = eqb (e .parent) (e .child) in
       let g : Bool = hasEdge (S .edges) e in
+      tested (joinWrong S e)
+      (λ h.
+      let w = or-neither (not f) (o || g) h in
+      let y = or-neither o g (w .1) in
+      (not-false f (w .0), eqb-false (e .parent) (e .child) (y .0), not-joined-of (S .edges) e (y .1)))
+      (λ p. or-none (not f) (o || g) (ap not (p .0)) (or-none o g (ne-eqb (e .parent) (e .child) (p .1)) (of-not-joined (S .edges) e (p .2))))
+
+  form-decided : (c : Command) → Decided (FormedAndNew S c)
+  unfolding FormedAndNew
+  form-decided (Show c) = tested (isShown (S .shown) c) (not-shown-of (S .shown) c) (of-not-shown (S .shown) c)
+  form-decided (Open o) = nothing
+  form-decided (Bring n) = new-decided n
+  form-decided (Join e) = old-decided e
+  form-decided (Mark i) = nothing
+  form-decided End = nothing
+
+  justified-decided : (c : Command) → Decided (EdgeJustified S c)
+  unfolding EdgeJustified
+  justified-decided (Show c) = nothing
+  justified-decided (Open o) = nothing
+  justified-decided (Bring n) =
+      let j : Bool = justifiedFor S (n .kind) (n .parent) (n .expression) (n .subject) in
+      let exact = justifies-exactly S (n .kind) (n .parent) (n .expression) (n .subject) in
+      tested (not j) (λ h. exact .0 (not-false j h)) (λ p. ap not (exact .1 p))
+  justified-decided (Join e) =
+      let q : Node = nodeIn (S .nodes) (e .child) in
       let j : Bool = justified (S .shown) (S .nodes) (S .edges) e in
       let same-test : justifiedFor S (e .kind) (e .parent) (q .expression) (q .subject) ≡ j = join-justified S e refl in
-      let exact = justifies-exactly S (e .kind) (e .parent) (q .expression) (q .subject) in (
-        λ h.
-            let a = refuse-none (isFresh S) 23 _ (omega arith) h in
-            let b = refuse-none (isAbsent S (e .parent) || isAbsent S (e .child)) 24 _ (omega arith) (a .1) in
-            let k = or-neither (isAbsent S (e .parent)) (isAbsent S (e .child)) (b .0) in
-            let c = refuse-none (not f || (o || g)) 25 _ (omega arith) (b .1) in
-            let w = or-neither (not f) (o || g) (c .0) in
-            let y = or-neither o g (w .1) in
-            let d = refuse-none (not j) 26 _ (omega arith) (c .1) in
-            let u = refuse-none (processedBy s p) 27 _ (omega arith) (d .1) in
-            let z = refuse-none (leb MOST-EDGES (length (S .edges))) 28 _ (omega arith) (u .1) in
-            record {
-              parent = stands-of S (e .parent) (k .0);
-              child = stands-of S (e .child) (k .1);
-              form = not-false f (w .0);
-              other = eqb-false (e .parent) (e .child) (y .0);
-              absent = not-joined-of (S .edges) e (y .1);
-              justified = exact .0 (same-test ∙ not-false j (d .0));
-              unprocessed = u .0;
-              room = leb-false MOST-EDGES (length (S .edges)) (z .0);
-            },
-        λ l.
-            goes-on (isFresh S) 23 _ (of-some S (omega (arith, l .parent)))
-            (goes-on (isAbsent S (e .parent) || isAbsent S (e .child)) 24 _
-            (or-none (isAbsent S (e .parent)) (isAbsent S (e .child)) (of-stands S (e .parent) (l .parent)) (of-stands S (e .child) (l .child)))
-            (goes-on (not f || (o || g)) 25 _ (or-none (not f) (o || g) (ap not (l .form))
-            (or-none o g (ne-eqb (e .parent) (e .child) (l .other)) (of-not-joined (S .edges) e (l .absent))))
-            (goes-on (not j) 26 _ (ap not (sym same-test ∙ exact .1 (l .justified)))
-            (goes-on (processedBy s p) 27 _ (l .unprocessed)
-            (goes-on (leb MOST-EDGES (length (S .edges))) 28 0 (lt-leb MOST-EDGES (length (S .edges)) (l .room)) refl))))),
-      )
+      let exact = justifies-exactly S (e .kind) (e .parent) (q .expression) (q .subject) in
+      tested (not j) (λ h. exact .0 (same-test ∙ not-false j h)) (λ p. ap not (sym same-test ∙ exact .1 p))
+  justified-decided (Mark i) = nothing
+  justified-decided End = nothing
 
-  mark-exactly : (i : ℕ) → Exactly ns s S (Mark i)
-  unfolding legalNumber legalBy markNumber Legal
-  mark-exactly i = (
-    λ h.
-        let a = refuse-none (isFresh S) 23 _ (omega arith) h in
-        let b = refuse-none (isAbsent S i) 24 _ (omega arith) (a .1) in
-        let d = refuse-none (processedBy s (nodeIn (S .nodes) i)) 27 _ (omega arith) (b .1) in
-        record { node = stands-of S i (b .0); unprocessed = d .0 },
-    λ l.
-        goes-on (isFresh S) 23 _ (of-some S (omega (arith, l .node)))
-        (goes-on (isAbsent S i) 24 _ (of-stands S i (l .node))
-        (goes-on (processedBy s (nodeIn (S .nodes) i)) 27 0 (l .unprocessed) refl)),
+  processed-decided : (s : ℕ) (c : Command) → Decided (Unprocessed s S c)
+  unfolding Unprocessed
+  processed-decided s (Show c) = nothing
+  processed-decided s (Open o) = nothing
+  processed-decided s (Bring n) = tested (processedBy s (parentIn S n)) (λ h. h) (λ p. p)
+  processed-decided s (Join e) = tested (processedBy s (nodeIn (S .nodes) (e .parent))) (λ h. h) (λ p. p)
+  processed-decided s (Mark i) = tested (processedBy s (nodeIn (S .nodes) i)) (λ h. h) (λ p. p)
+  processed-decided s End = nothing
+
+  room-decided : (c : Command) → Decided (RoomLeft S c)
+  unfolding RoomLeft
+  room-decided (Show c) = tested (leb MOST-SHOWN (length (S .shown))) (leb-false MOST-SHOWN (length (S .shown))) (lt-leb MOST-SHOWN (length (S .shown)))
+  room-decided (Open o) = nothing
+  room-decided (Bring n) =
+      let u : Bool = leb MOST-NODES (length (S .nodes)) in
+      let v : Bool = leb MOST-EDGES (length (S .edges)) in
+      tested (u || v)
+      (λ h. let w = or-neither u v h in (leb-false MOST-NODES (length (S .nodes)) (w .0), leb-false MOST-EDGES (length (S .edges)) (w .1)))
+      (λ p. or-none u v (lt-leb MOST-NODES (length (S .nodes)) (p .0)) (lt-leb MOST-EDGES (length (S .edges)) (p .1)))
+  room-decided (Join e) = tested (leb MOST-EDGES (length (S .edges))) (leb-false MOST-EDGES (length (S .edges))) (lt-leb MOST-EDGES (length (S .edges)))
+  room-decided (Mark i) = nothing
+  room-decided End = nothing
+
+-- The number, by the rules in order
+
+-- the first rule that is broken
+abbrev firstBroken : Bool → Bool → Bool → Bool → Bool → Bool → Bool → Bool → ℕ
+firstBroken a b c d e f g h =
+    refuse a NAME
+    (refuse b CLASS (refuse c OPENING (refuse d ABSENT (refuse e PRESENT (refuse f UNJUSTIFIED (refuse g PROCESSED (refuse h FULL 0)))))))
+
+-- a command that is refused with k, or legal where k is zero
+data Judged (ns : List Name) (s : ℕ) (S : State) (c : Command) : ℕ → Type 0 where
+  legal : Legal ns s S c → Judged ns s S c 0
+  illegal : {k : ℕ} → Illegal ns s S c k → Judged ns s S c k
+
+module _ (ns : List Name) (s : ℕ) (S : State) (c : Command) where
+  -- the rules in order
+  abbrev nameRule : Decided (NamesClassed ns c)
+  nameRule = names-decided ns c
+
+  abbrev classRule : Decided (ClassesSuit ns c)
+  classRule = classes-decided ns c
+
+  abbrev openRule : Decided (OpenFirst S c)
+  openRule = open-decided S c
+
+  abbrev nodeRule : Decided (NodesStand S c)
+  nodeRule = nodes-decided S c
+
+  abbrev formRule : Decided (FormedAndNew S c)
+  formRule = form-decided S c
+
+  abbrev edgeRule : Decided (EdgeJustified S c)
+  edgeRule = justified-decided S c
+
+  abbrev processedRule : Decided (Unprocessed s S c)
+  processedRule = processed-decided S s c
+
+  abbrev roomRule : Decided (RoomLeft S c)
+  roomRule = room-decided S c
+
+  abbrev byRules : ℕ
+  byRules =
+      firstBroken (nameRule .broken) (classRule .broken) (openRule .broken) (nodeRule .broken) (formRule .broken) (edgeRule .broken)
+      (processedRule .broken) (roomRule .broken)
+
+  judged : (a b d e f g h r : Bool) → nameRule .broken ≡ a → classRule .broken ≡ b → openRule .broken ≡ d → nodeRule .broken ≡ e
+      → formRule .broken ≡ f → edgeRule .broken ≡ g → processedRule .broken ≡ h → roomRule .broken ≡ r
+      → Judged ns s S c (firstBroken a b d e f g h r)
+  unfolding refuse
+  judged true b d e f g h r q1 q2 q3 q4 q5 q6 q7 q8 = illegal (unnamed (nameRule .fails q1))
+  judged false true d e f g h r q1 q2 q3 q4 q5 q6 q7 q8 = illegal (class-rule (nameRule .holds q1) (classRule .fails q2))
+  judged false false true e f g h r q1 q2 q3 q4 q5 q6 q7 q8 =
+      illegal (opening (nameRule .holds q1) (classRule .holds q2) (openRule .fails q3))
+  judged false false false true f g h r q1 q2 q3 q4 q5 q6 q7 q8 =
+      illegal (no-node (nameRule .holds q1) (classRule .holds q2) (openRule .holds q3) (nodeRule .fails q4))
+  judged false false false false true g h r q1 q2 q3 q4 q5 q6 q7 q8 =
+      illegal (present (nameRule .holds q1) (classRule .holds q2) (openRule .holds q3) (nodeRule .holds q4) (formRule .fails q5))
+  judged false false false false false true h r q1 q2 q3 q4 q5 q6 q7 q8 =
+      illegal (unjustified (nameRule .holds q1) (classRule .holds q2) (openRule .holds q3) (nodeRule .holds q4) (formRule .holds q5) (edgeRule .fails q6))
+  judged false false false false false false true r q1 q2 q3 q4 q5 q6 q7 q8 =
+      illegal
+      (processed (nameRule .holds q1) (classRule .holds q2) (openRule .holds q3) (nodeRule .holds q4) (formRule .holds q5) (edgeRule .holds q6)
+      (processedRule .fails q7))
+  judged false false false false false false false true q1 q2 q3 q4 q5 q6 q7 q8 =
+      illegal
+      (full (nameRule .holds q1) (classRule .holds q2) (openRule .holds q3) (nodeRule .holds q4) (formRule .holds q5) (edgeRule .holds q6)
+      (processedRule .holds q7) (roomRule .fails q8))
+  judged false false false false false false false false q1 q2 q3 q4 q5 q6 q7 q8 =
+      legal
+      (record {
+        names = nameRule .holds q1;
+        classes = classRule .holds q2;
+        open-first = openRule .holds q3;
+        nodes = nodeRule .holds q4;
+        form = formRule .holds q5;
+        justified = edgeRule .holds q6;
+        unprocessed = processedRule .holds q7;
+        room = roomRule .holds q8;
+      })
+
+  by-judged : Judged ns s S c byRules
+  by-judged =
+      judged (nameRule .broken) (classRule .broken) (openRule .broken) (nodeRule .broken) (formRule .broken) (edgeRule .broken)
+      (processedRule .broken) (roomRule .broken) refl refl refl refl refl refl refl refl
+
+  legal-none : Legal ns s S c → byRules ≡ 0
+  unfolding refuse
+  legal-none l =
+      λ i. firstBroken (keeps nameRule (l .names) i) (keeps classRule (l .classes) i) (keeps openRule (l .open-first) i) (keeps nodeRule (l .nodes) i)
+      (keeps formRule (l .form) i) (keeps edgeRule (l .justified) i) (keeps processedRule (l .unprocessed) i) (keeps roomRule (l .room) i)
+
+  illegal-number : {k : ℕ} → Illegal ns s S c k → byRules ≡ k
+  unfolding refuse
+  illegal-number (unnamed n) =
+      λ i. firstBroken (breaks nameRule n i) (classRule .broken) (openRule .broken) (nodeRule .broken) (formRule .broken) (edgeRule .broken)
+      (processedRule .broken) (roomRule .broken)
+  illegal-number (class-rule a n) =
+      λ i. firstBroken (keeps nameRule a i) (breaks classRule n i) (openRule .broken) (nodeRule .broken) (formRule .broken) (edgeRule .broken)
+      (processedRule .broken) (roomRule .broken)
+  illegal-number (opening a b n) =
+      λ i. firstBroken (keeps nameRule a i) (keeps classRule b i) (breaks openRule n i) (nodeRule .broken) (formRule .broken) (edgeRule .broken)
+      (processedRule .broken) (roomRule .broken)
+  illegal-number (no-node a b d n) =
+      λ i. firstBroken (keeps nameRule a i) (keeps classRule b i) (keeps openRule d i) (breaks nodeRule n i) (formRule .broken) (edgeRule .broken)
+      (processedRule .broken) (roomRule .broken)
+  illegal-number (present a b d e n) =
+      λ i. firstBroken (keeps nameRule a i) (keeps classRule b i) (keeps openRule d i) (keeps nodeRule e i) (breaks formRule n i) (edgeRule .broken)
+      (processedRule .broken) (roomRule .broken)
+  illegal-number (unjustified a b d e f n) =
+      λ i. firstBroken (keeps nameRule a i) (keeps classRule b i) (keeps openRule d i) (keeps nodeRule e i) (keeps formRule f i) (breaks edgeRule n i)
+      (processedRule .broken) (roomRule .broken)
+  illegal-number (processed a b d e f g n) =
+      λ i. firstBroken (keeps nameRule a i) (keeps classRule b i) (keeps openRule d i) (keeps nodeRule e i) (keeps formRule f i) (keeps edgeRule g i)
+      (breaks processedRule n i) (roomRule .broken)
+  illegal-number (full a b d e f g h n) =
+      λ i. firstBroken (keeps nameRule a i) (keeps classRule b i) (keeps openRule d i) (keeps nodeRule e i) (keeps formRule f i) (keeps edgeRule g i)
+      (keeps processedRule h i) (breaks roomRule n i)
+
+-- The number is that of the rules
+
+-- a credential's class rules, and an expression's
+credential-rules : (u v : Bool) (rest : ℕ) → first (cond u NAME (cond v 0 CLASS)) rest ≡ refuse u NAME (refuse (not v) CLASS rest)
+unfolding first refuse
+credential-rules true v rest = refl
+credential-rules false true rest = refl
+credential-rules false false rest = refl
+
+type-rules : (t : Typing) (rest : ℕ) → first (typeNumber t) rest ≡ refuse (isUnnamed t) NAME (refuse (not (isTyped t)) CLASS rest)
+unfolding first refuse
+type-rules Unnamed rest = refl
+type-rules Ill rest = refl
+type-rules Any rest = refl
+type-rules (Class a) rest = refl
+
+-- what a number of zero says of them
+pub credential-kept : (ns : List Name) (c : Credential) → credentialNumber ns c ≡ 0 → NamesClassed ns (Show c) × ClassesSuit ns (Show c)
+unfolding credentialNumber NamesClassed ClassesSuit
+credential-kept ns c h = go u v refl refl h
+  where
+    u : Bool
+    u = eqb (classOf ns (c .head .name)) 0 || isUnnamed (typeOf ns (c .body))
+
+    v : Bool
+    v = suits (typeOf ns (c .body)) (classOf ns (c .head .name))
+
+    go : (a b : Bool) → u ≡ a → v ≡ b → _≡_ {A = ℕ} (cond a NAME (cond b 0 CLASS)) 0
+        → ((classOf ns (c .head .name) ≡ 0 → ⊥) × (isUnnamed (typeOf ns (c .body)) ≡ false)) × (v ≡ true)
+    go true b e f z = absurd (omega (arith, z))
+    go false true e f z =
+        let w = or-neither (eqb (classOf ns (c .head .name)) 0) (isUnnamed (typeOf ns (c .body))) e in
+        ((eqb-false (classOf ns (c .head .name)) 0 (w .0), w .1), f)
+    go false false e f z = absurd (omega (arith, z))
+
+pub typed-named : (t : Typing) → isTyped t ≡ true → isUnnamed t ≡ false
+typed-named Unnamed h = absurd (false-true h)
+typed-named Ill h = refl
+typed-named Any h = refl
+typed-named (Class a) h = refl
+
+by-rules : (ns : List Name) (s : ℕ) (S : State) (c : Command) → legalNumber ns s S c ≡ byRules ns s S c
+unfolding legalNumber legalBy justifiedIn showNumber openNumber bringNumber joinNumber markNumber endNumber credentialNumber refuse tested nothing
+    names-decided classes-decided some-decided open-decided nodes-decided new-decided old-decided form-decided justified-decided processed-decided room-decided
+by-rules ns s S (Show c) =
+    credential-rules (eqb (classOf ns (c .head .name)) 0 || isUnnamed (typeOf ns (c .body))) (suits (typeOf ns (c .body)) (classOf ns (c .head .name))) _
+by-rules ns s S (Open o) = refl
+by-rules ns s S (Bring n) = type-rules (typeOf ns (n .expression)) _
+by-rules ns s S (Join e) = refl
+by-rules ns s S (Mark i) = refl
+by-rules ns s S End = refl
+
+pub illegal-some : {ns : List Name} {s : ℕ} {S : State} {c : Command} {k : ℕ} → Illegal ns s S c k → k ≡ 0 → ⊥
+illegal-some (unnamed n) e = omega (arith, e)
+illegal-some (class-rule a n) e = omega (arith, e)
+illegal-some (opening a b n) e = omega (arith, e)
+illegal-some (no-node a b d n) e = omega (arith, e)
+illegal-some (present a b d f n) e = omega (arith, e)
+illegal-some (unjustified a b d f g n) e = omega (arith, e)
+illegal-some (processed a b d f g h n) e = omega (arith, e)
+illegal-some (full a b d f g h r n) e = omega (arith, e)
+
+module _ (ns : List Name) (s : ℕ) (S : State) (c : Command) where
+  legal-judged : (k : ℕ) → Judged ns s S c k → k ≡ 0 → Legal ns s S c
+  legal-judged k (legal l) e = l
+  legal-judged k (illegal r) e = absurd (illegal-some r e)
+
+  illegal-judged : (k : ℕ) → Judged ns s S c k → (k ≡ 0 → ⊥) → Illegal ns s S c k
+  illegal-judged k (legal l) e = absurd (e refl)
+  illegal-judged k (illegal r) e = r
+
+  -- a command is legal exactly where it is not refused
+  pub legal-exactly : (legalNumber ns s S c ≡ 0 → Legal ns s S c) × (Legal ns s S c → legalNumber ns s S c ≡ 0)
+  legal-exactly = (
+    λ h. legal-judged (byRules ns s S c) (by-judged ns s S c) (sym (by-rules ns s S c) ∙ h),
+    λ l. by-rules ns s S c ∙ legal-none ns s S c l,
   )
 
-  end-exactly : Exactly ns s S End
-  unfolding legalNumber legalBy endNumber Legal
-  end-exactly = (λ h. record { some = some-of S (refuse-none (isFresh S) 23 _ (omega arith) h .0) }, λ l. goes-on (isFresh S) 23 0 (of-some S (l .some)) refl)
-
--- a command is legal exactly where it is not refused
-pub legal-exactly : (ns : List Name) (s : ℕ) (S : State) (c : Command)
-    → (legalNumber ns s S c ≡ 0 → Legal ns s S c) × (Legal ns s S c → legalNumber ns s S c ≡ 0)
-legal-exactly ns s S (Show c) = credential-exactly ns s S c
-legal-exactly ns s S (Open o) = open-exactly ns s S o
-legal-exactly ns s S (Bring n) = new-child-exactly ns s S n
-legal-exactly ns s S (Join e) = old-child-exactly ns s S e
-legal-exactly ns s S (Mark i) = mark-exactly ns s S i
-legal-exactly ns s S End = end-exactly ns s S
+  -- and refused with k exactly where rule k is the first that it breaks
+  pub illegal-exactly : (k : ℕ) → ((legalNumber ns s S c ≡ k) × (k ≡ 0 → ⊥) → Illegal ns s S c k) × (Illegal ns s S c k → legalNumber ns s S c ≡ k)
+  illegal-exactly k = (
+    λ h.
+        let e : byRules ns s S c ≡ k = sym (by-rules ns s S c) ∙ h .0 in
+        subst (λ (n : ℕ). Illegal ns s S c n) e (illegal-judged (byRules ns s S c) (by-judged ns s S c) (λ z. h .1 (sym e ∙ z))),
+    λ r. by-rules ns s S c ∙ illegal-number ns s S c r,
+  )

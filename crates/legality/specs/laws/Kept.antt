@@ -36,7 +36,7 @@ use Rattle.damage.specs.Edges.{broughtFrom, brought, edgeFits}
 use Rattle.damage.specs.Damage.{edgesJustified, graphSound, sound}
 use Rattle.damage.specs.laws.Damage.{graph-parts, sound-some}
 use Rattle.applied.specs.Step.{primaryOf, stepped}
-use Rattle.legal.specs.Legal.{Legal}
+use Rattle.legal.specs.Legal.{NamesClassed, ClassesSuit, OpenFirst, NodesStand, FormedAndNew, EdgeJustified, Unprocessed, RoomLeft, Legal}
 use Rattle.legal.specs.laws.Exact.{legal-exactly}
 use Rattle.legal.specs.laws.Kept.{GraphKept, records-of, brought-of}
 use Rattle.legal.specs.laws.KeptStep.{step-kept}
@@ -132,8 +132,18 @@ module _ (T : Tables) (t : Sound T) (S : State) (h : sound T S ≡ true) (w : wi
         (initial-legal (T .names) true (E.Role (S .header .wanted)))
 
     pub open-legal : Legal (T .names) (S .header .side) S (Open opening)
-    unfolding Legal
-    open-legal = record { classes = eqb-false (classOf (T .names) (S .header .wanted .name)) 0 (wanted-parts .1); fresh = fresh }
+    unfolding NamesClassed ClassesSuit OpenFirst NodesStand FormedAndNew EdgeJustified Unprocessed RoomLeft
+    open-legal =
+        record {
+          names = eqb-false (classOf (T .names) (S .header .wanted .name)) 0 (wanted-parts .1);
+          classes = tt;
+          open-first = fresh;
+          nodes = tt;
+          form = tt;
+          justified = tt;
+          unprocessed = tt;
+          room = tt;
+        }
 
     -- it is a legal update
     pub opening-updates : Updates (T .names) (S .header .side) S (Open opening ∷ []) (carried (S .header .side) S (Open opening ∷ []))

@@ -31,7 +31,8 @@ use Rattle.negotiation.specs.State.{State}
 use Rattle.graph.specs.Processed.{processedBy}
 use Rattle.applied.specs.Step.{childOf, stepped, hasRoom}
 use Rattle.legal.specs.Number.{formedAs}
-use Rattle.legal.specs.Legal.{Justifies, Legal}
+use Rattle.legal.specs.Legal.{Justifies, NamesClassed, ClassesSuit, OpenFirst, NodesStand, FormedAndNew, EdgeJustified, Unprocessed, RoomLeft, Legal}
+use Rattle.legal.specs.laws.Exact.{typed-named}
 use Rattle.legal.specs.Updates.{Updates, none, next}
 use Rattle.moves.specs.declared.Candidate.{Candidate}
 use Rattle.moves.specs.declared.Choice.{Choice}
@@ -129,19 +130,22 @@ module _ (T : Tables) (S : State) (g : Going T S) (i : ℕ) (l : i < length (S .
         }
 
     join-legal : childStands (S .nodes) w ≡ true → hasRoom (showing S cs) (Join oldChild) ≡ true → Legal (T .names) s (showing S cs) (Join oldChild)
-    unfolding Legal hasRoom
+    unfolding NamesClassed ClassesSuit OpenFirst NodesStand FormedAndNew EdgeJustified Unprocessed RoomLeft hasRoom
     join-legal h room =
         let x : Node = nodeIn (S .nodes) (childNumber (S .nodes) w) in
         let e = stands-node (S .nodes) w (omega (arith, going-few T S g)) h in
         let d = not-done (S .nodes) w (S .edges) i undone h in
         record {
-          parent = l;
-          child = ltb-true (childNumber (S .nodes) w) (length (S .nodes)) h;
-          form =
-              (λ j. formedAs (S .header) (w .kind) n (record { expression = e .0 j; subject = e .2 j; verifier = e .1 j; state = x .state }))
-              ∙ f .form (x .state);
-          other = eqb-false i (childNumber (S .nodes) w) (d .0);
-          absent = λ m. false-true (sym (d .1) ∙ has-exact (S .edges) oldChild .1 m);
+          names = tt;
+          classes = tt;
+          open-first = omega (arith, l);
+          nodes = (l, ltb-true (childNumber (S .nodes) w) (length (S .nodes)) h);
+          form = (
+            (λ j. formedAs (S .header) (w .kind) n (record { expression = e .0 j; subject = e .2 j; verifier = e .1 j; state = x .state }))
+                ∙ f .form (x .state),
+            eqb-false i (childNumber (S .nodes) w) (d .0),
+            λ m. false-true (sym (d .1) ∙ has-exact (S .edges) oldChild .1 m),
+          );
           justified =
               subst (λ (y : Expression). Justifies (showing S cs) (w .kind) i y (x .subject)) (sym (e .0))
               (subst (λ (b : ℕ). Justifies (showing S cs) (w .kind) i (w .expression) b) (sym (e .2)) (f .justified));
@@ -150,22 +154,25 @@ module _ (T : Tables) (S : State) (g : Going T S) (i : ℕ) (l : i < length (S .
         }
 
     bring-legal : childStands (S .nodes) w ≡ false → hasRoom (showing S cs) (Bring newChild) ≡ true → Legal (T .names) s (showing S cs) (Bring newChild)
-    unfolding Legal hasRoom childOf
+    unfolding NamesClassed ClassesSuit OpenFirst NodesStand FormedAndNew EdgeJustified Unprocessed RoomLeft hasRoom childOf
     bring-legal h room =
         let p = and-parts (ltb i (length (S .nodes)) && ltb (length (S .nodes)) MOST-NODES) (ltb (length (S .edges)) MOST-EDGES) room in
         let q = and-parts (ltb i (length (S .nodes))) (ltb (length (S .nodes)) MOST-NODES) (p .0) in
         let t : ℕ = newChild .state in
         record {
+          names = typed-named (typeOf (T .names) (w .expression)) (f .child .typed);
           classes = f .child .typed;
-          parent = l;
-          form =
-              (λ j. formedAs (S .header) (w .kind) n
-              (record { expression = w .expression; subject = w .subject; verifier = sym (f .verifier) j; state = t })) ∙ f .form t;
-          absent = λ x m e v b. no-node (S .nodes) w h x m e (v ∙ sym (f .verifier)) b;
+          open-first = omega (arith, l);
+          nodes = l;
+          form = (
+            (λ j. formedAs (S .header) (w .kind) n
+                (record { expression = w .expression; subject = w .subject; verifier = sym (f .verifier) j; state = t }))
+                ∙ f .form t,
+            λ x m e v b. no-node (S .nodes) w h x m e (v ∙ sym (f .verifier)) b,
+          );
           justified = f .justified;
           unprocessed = free;
-          node-room = ltb-true (length (S .nodes)) MOST-NODES (q .1);
-          edge-room = ltb-true (length (S .edges)) MOST-EDGES (p .1);
+          room = (ltb-true (length (S .nodes)) MOST-NODES (q .1), ltb-true (length (S .edges)) MOST-EDGES (p .1));
         }
 
     bring-formed : formedCommand (Bring newChild) ≡ true
@@ -221,7 +228,7 @@ mark-cases Q false m n = n
 
 module _ (T : Tables) (S : State) (g : Going T S) where
   choice-goes : (i : ℕ) → i < length (S .nodes) → Goes T S (moveFor (endIn T S) i (nodeIn (S .nodes) i) (choiceAt (endIn T S) i (nodeIn (S .nodes) i)))
-  unfolding choiceAt chosenIn endIn formedCommand Legal
+  unfolding choiceAt chosenIn endIn formedCommand NamesClassed ClassesSuit OpenFirst NodesStand FormedAndNew EdgeJustified Unprocessed RoomLeft
   choice-goes i l = go (processedBy (S .header .side) (nodeIn (S .nodes) i)) refl
     where
       o : End
@@ -237,8 +244,21 @@ module _ (T : Tables) (S : State) (g : Going T S) where
           → Goes T S (moveFor o i n (K.Edge w))
       edge free w m d room = carried-updates (edge-updates T S g i l free w (credentialsFor o n w) (plan-fit T S g i l w m .fit) d room)
 
+      mark-legal : processedBy (S .header .side) n ≡ false → Legal (T .names) (S .header .side) S (Mark i)
+      mark-legal free =
+          record {
+            names = tt;
+            classes = tt;
+            open-first = omega (arith, l);
+            nodes = l;
+            form = tt;
+            justified = tt;
+            unprocessed = free;
+            room = tt;
+          }
+
       mark : processedBy (S .header .side) n ≡ false → Goes T S (moveFor o i n K.Mark)
-      mark free room = next {c = Mark i} refl refl (record { node = l; unprocessed = free }) none
+      mark free room = next {c = Mark i} refl refl (mark-legal free) none
 
       go : (b : Bool) → processedBy (S .header .side) n ≡ b
           → Goes T S (moveFor o i n (cond b K.Nothing (firstNot done (markIf (planAt o i n .marks)) (planAt o i n .wanted))))

@@ -22,7 +22,7 @@ use Rattle.negotiation.specs.State.{State, withHeader, withNode, withEdge, with
 use Rattle.negotiation.specs.Ends.{requester, entityOf, otherSide}
 use Rattle.applied.specs.Step.{primaryOf, childOf, stepped}
 use Rattle.legal.specs.Number.{formedAs}
-use Rattle.legal.specs.Legal.{Monitored, Justifies, Legal}
+use Rattle.legal.specs.Legal.{Monitored, Justifies, NamesClassed, ClassesSuit, OpenFirst, NodesStand, FormedAndNew, EdgeJustified, Unprocessed, RoomLeft, Legal}
 use Rattle.legal.specs.Updates.{Updates, none, next}
 use Rattle.applied.specs.laws.Step.{step-header}
 use Rattle.legality.specs.laws.Going.{Going, going-node}
@@ -103,44 +103,57 @@ module _ (h k : Header) (m : Mirrored h k) where
 
     -- the mediator's open
     pub open-mirror : (ns : List Name) (s : ℕ) (o : Opening) → Legal ns s S (Open o) → Legal ns s (withHeader S k) (Open o)
-    unfolding Legal withHeader
-    open-mirror ns s o l = record { classes = l .classes; fresh = l .fresh }
+    unfolding NamesClassed ClassesSuit OpenFirst NodesStand FormedAndNew EdgeJustified Unprocessed RoomLeft withHeader
+    open-mirror ns s o l =
+        record { names = l .names; classes = tt; open-first = l .open-first; nodes = tt; form = tt; justified = tt; unprocessed = tt; room = tt }
+
+    -- the rules that look at the graph and the credentials alone
+    abbrev Apart : State → ℕ → Command → Type 0
+    Apart R s c = OpenFirst R c × NodesStand R c × EdgeJustified R c × Unprocessed s R c × RoomLeft R c
+
+    apart-mirror : (s : ℕ) (c : Command) → Apart S s c → Apart (withHeader S k) s c
+    unfolding OpenFirst NodesStand EdgeJustified Unprocessed RoomLeft withHeader
+    apart-mirror s (Show c) p = p
+    apart-mirror s (Open o) p = p
+    apart-mirror s (Bring n) p = (p .0, p .1, justifies-mirror (p .2), p .3, p .4)
+    apart-mirror s (Join d) p = (p .0, p .1, justifies-mirror (p .2), p .3, p .4)
+    apart-mirror s (Mark i) p = p
+    apart-mirror s End p = p
+
+    verifier-mirror : (T : Tables) → Going T S → S .header ≡ h → (i : ℕ) → i < length (S .nodes)
+        → entityOf k (nodeIn (S .nodes) i .verifier) ≡ entityOf (S .header) (nodeIn (S .nodes) i .verifier)
+    verifier-mirror T g e i l =
+        let v : ℕ = nodeIn (S .nodes) i .verifier in
+        same-entity v (going-node T S g i l .verifier) ∙ ap (λ (x : Header). entityOf x v) (sym e)
+
+    -- the one that looks at the header: the form of an edge, whose parent has the same verifier
+    form-mirror : (T : Tables) (c : Command) → Going T S → S .header ≡ h → NodesStand S c → FormedAndNew S c → FormedAndNew (withHeader S k) c
+    unfolding NodesStand FormedAndNew withHeader formedAs
+    form-mirror T (Show c) g e l f = f
+    form-mirror T (Open o) g e l f = tt
+    form-mirror T (Bring n) g e l f =
+        let p : Node = nodeIn (S .nodes) (n .parent) in
+        (ap (λ (v : ℕ). form (n .kind) v p (childOf p n)) (verifier-mirror T g e (n .parent) l) ∙ f .0, f .1)
+    form-mirror T (Join d) g e l f =
+        let p : Node = nodeIn (S .nodes) (d .parent) in
+        (ap (λ (v : ℕ). form (d .kind) v p (nodeIn (S .nodes) (d .child))) (verifier-mirror T g e (d .parent) (l .0)) ∙ f .0, f .1, f .2)
+    form-mirror T (Mark i) g e l f = tt
+    form-mirror T End g e l f = tt
 
     -- every command, where nodes stand
     legal-mirror : (T : Tables) (s : ℕ) (c : Command) → Going T S → S .header ≡ h → Legal (T .names) s S c → Legal (T .names) s (withHeader S k) c
-    unfolding Legal withHeader formedAs
-    legal-mirror T s (Show c) g e l = record { classes = l .classes; some = l .some; absent = l .absent; room = l .room }
-    legal-mirror T s (Open o) g e l = record { classes = l .classes; fresh = l .fresh }
-    legal-mirror T s (Bring n) g e l =
-        let p : Node = nodeIn (S .nodes) (n .parent) in
-        let q : entityOf k (p .verifier) ≡ entityOf (S .header) (p .verifier) = same-entity (p .verifier)
-        (going-node T S g (n .parent) (l .parent) .verifier) ∙ ap (λ (x : Header). entityOf x (p .verifier)) (sym e) in
+    legal-mirror T s c g e l =
+        let p = apart-mirror s c (l .open-first, l .nodes, l .justified, l .unprocessed, l .room) in
         record {
+          names = l .names;
           classes = l .classes;
-          parent = l .parent;
-          form = ap (λ (v : ℕ). form (n .kind) v p (childOf p n)) q ∙ l .form;
-          absent = l .absent;
-          justified = justifies-mirror (l .justified);
-          unprocessed = l .unprocessed;
-          node-room = l .node-room;
-          edge-room = l .edge-room;
+          open-first = p .0;
+          nodes = p .1;
+          form = form-mirror T c g e (l .nodes) (l .form);
+          justified = p .2;
+          unprocessed = p .3;
+          room = p .4;
         }
-    legal-mirror T s (Join d) g e l =
-        let p : Node = nodeIn (S .nodes) (d .parent) in
-        let q : entityOf k (p .verifier) ≡ entityOf (S .header) (p .verifier) = same-entity (p .verifier)
-        (going-node T S g (d .parent) (l .parent) .verifier) ∙ ap (λ (x : Header). entityOf x (p .verifier)) (sym e) in
-        record {
-          parent = l .parent;
-          child = l .child;
-          form = ap (λ (v : ℕ). form (d .kind) v p (nodeIn (S .nodes) (d .child))) q ∙ l .form;
-          other = l .other;
-          absent = l .absent;
-          justified = justifies-mirror (l .justified);
-          unprocessed = l .unprocessed;
-          room = l .room;
-        }
-    legal-mirror T s (Mark i) g e l = record { node = l .node; unprocessed = l .unprocessed }
-    legal-mirror T s End g e l = record { some = l .some }
 
   -- legal commands one after another, where nodes stand
   pub updates-mirror : (T : Tables) {s : ℕ} {S U : State} {cs : List Command} → Going T S → S .header ≡ h → Updates (T .names) s S cs U

@@ -26,7 +26,8 @@ use Rattle.message.specs.Command.{formedCommand}
 use Rattle.negotiation.specs.State.{State, withShown}
 use Rattle.rt0.specs.Shown.{isShown}
 use Rattle.applied.specs.Step.{stepped, hasRoom}
-use Rattle.legal.specs.Legal.{Legal}
+use Rattle.legal.specs.Legal.{OpenFirst, NodesStand, FormedAndNew, EdgeJustified, Unprocessed, RoomLeft, Legal}
+use Rattle.legal.specs.laws.Exact.{credential-kept}
 use Rattle.legal.specs.Updates.{Updates, next}
 use Rattle.moves.specs.Carried.{hasRoomFor}
 use Rattle.legality.specs.laws.Proper.{ProperCredential}
@@ -98,7 +99,7 @@ module _ (ns : List Name) (s : ℕ) (rest : List Command) (U : State) where
   -- the credentials, and then the commands that are legal behind them
   pub shows-updates : (cs : List Credential) (S : State) → 0 < length (S .nodes) → Showable ns (S .shown) cs → hasRoomFor s S (map Show cs ++ rest) ≡ true
       → (hasRoomFor s (showing S cs) rest ≡ true → Updates ns s (showing S cs) rest U) → Updates ns s S (map Show cs ++ rest) U
-  unfolding stepped withShown hasRoom Legal formedCommand
+  unfolding stepped withShown hasRoom OpenFirst NodesStand FormedAndNew EdgeJustified Unprocessed RoomLeft formedCommand
   shows-updates [] S some h room more =
       let e : showing S [] ≡ S = λ i. record { header = S .header; nodes = S .nodes; edges = S .edges; shown = append-nil (S .shown) i } in
       subst (λ (R : State). Updates ns s R rest U) e (more (ap (λ (R : State). hasRoomFor s R rest) e ∙ room))
@@ -108,6 +109,16 @@ module _ (ns : List Name) (s : ℕ) (rest : List Command) (U : State) where
       record { header = S .header; nodes = S .nodes; edges = S .edges; shown = append-assoc (S .shown) (c ∷ []) cs i } in
       let proper : ProperCredential ns c = h .stored .each c (List·Memᴰ·head refl) in
       next {c = Show c} refl (proper .formed)
-      (record { classes = proper .classes; some = some; absent = h .fresh c (List·Memᴰ·head refl); room = ltb-true (length (S .shown)) MOST-SHOWN (p .0) })
+      (let kept = credential-kept ns c (proper .classes) in
+      record {
+        names = kept .0;
+        classes = kept .1;
+        open-first = some;
+        nodes = tt;
+        form = h .fresh c (List·Memᴰ·head refl);
+        justified = tt;
+        unprocessed = tt;
+        room = ltb-true (length (S .shown)) MOST-SHOWN (p .0);
+      })
       (shows-updates cs (withShown S c) some (rest-showable ns (S .shown) c cs h) (p .1)
       (λ r. subst (λ (R : State). Updates ns s R rest U) (sym e) (more (ap (λ (R : State). hasRoomFor s R rest) (sym e) ∙ r))))

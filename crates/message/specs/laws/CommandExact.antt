@@ -1,17 +1,18 @@
--- Commands are read from their own bytes and from no others, and refused by two numbers. Assumes nothing.
+-- Commands are read from their own bytes and from no others, and refused for two reasons. Assumes nothing.
 use Prim.Native.Nat.{ℕ, suc, _+_, _-_, _<_, _≤_}
 use mathlib.Core.Path.{_≡_, refl, sym, ap, _∙_, subst}
-use mathlib.Core.Logic.{_⊎_, inl, inr}
+use mathlib.Core.Logic.{_⊎_, inl, inr, ⊎-elim}
 use mathlib.Core.Bool.{Bool, true, false, cond, _&&_}
 use mathlib.Core.List.{List, [], _∷_, _++_, append-assoc}
 use native.Mathlib.Omega.{arith}
 use native.Mathlib.Nat.{add-assoc}
 use native.Mathlib.Numerals.{add-one}
-use borrow.Author.Tests.{ltb-false, eqb-true}
+use borrow.Author.Tests.{ltb-true, ltb-false, eqb-true, eqb-false}
 use lib.Dec.{ltb, eqb}
-use lib.ListN.{length, getD, take, drop, length-append, length-drop, drop-of-length-le}
-use lib.Seq.{drop-cons, drop-drop, take-add, take-at, take-length, length-take-le, drop-append-seam}
+use lib.ListN.{length, getD, take, drop, length-append, length-drop, drop-of-length-le, take-append-drop}
+use lib.Seq.{drop-cons, drop-drop, getD-take, getD-drop, take-add, take-at, take-length, length-take-le, drop-append-seam}
 use Rattle.expression.specs.declared.Expression.{Expression}
+use Rattle.expression.specs.declared.Expression.the-variants as E
 use Rattle.expression.specs.declared.ExpressionAnswer.{ExpressionAnswer}
 use Rattle.expression.specs.declared.ExpressionAnswer.the-variants as e
 use Rattle.expression.specs.declared.Credential.{Credential}
@@ -34,7 +35,10 @@ use Rattle.message.specs.declared.CommandAnswer.the-variants.{Read, Refu
 use Rattle.message.specs.Command.{edgeKind, formedOpening, formedNew, formedCommand, whole, checked, shown, showAt, openingOf, openAt, newOf}
 use Rattle.message.specs.Command.{brought, bringAt, edgeOf, joinAt, markAt, endAt, byCode, commandAt, openingBytes, newBytes, edgeBytes}
 use Rattle.message.specs.Command.{commandBytes, sizeOf}
-use Rattle.message.specs.laws.Command.{show-full, open-full, bring-full, join-full, mark-full, end-last, at-code}
+use Rattle.message.specs.Unreadable.{Whole, Unreadable, cut, malformed}
+use Rattle.numbers.specs.Refusals.{COMMAND, OPERAND}
+use Rattle.numbers.specs.Bytes.{CREDENTIAL-BYTES, OPEN-BYTES, NEW-EDGE-BYTES, OLD-EDGE-BYTES, MARK-BYTES, END-BYTES}
+use Rattle.message.specs.laws.Command.{size-some, show-full, open-full, bring-full, join-full, mark-full, end-last, at-code}
 
 -- a command has this first byte, this test of its form and these operands
 record Has (code : ℕ) (good : Bool) (l : List ℕ) (c : Command) : Type 0 where
@@ -42,9 +46,9 @@ record Has (code : ℕ) (good : Bool) (l : List ℕ) (c : Command) : Type 0 wher
   form : formedCommand c ≡ good
   size : sizeOf c ≡ suc (length l)
 
-show-has : (c : Credential) → wellFormedCredential c ≡ true → Has 1 true (credentialBytes c) (Show c)
+show-has : (c : Credential) (good : Bool) → wellFormedCredential c ≡ good → Has 1 good (credentialBytes c) (Show c)
 unfolding commandBytes formedCommand
-show-has c h = record { bytes = refl; form = h; size = refl }
+show-has c good h = record { bytes = refl; form = h; size = refl }
 
 open-has : (o : Opening) → Has 2 (formedOpening o) (openingBytes o) (Open o)
 unfolding commandBytes formedCommand
@@ -128,19 +132,77 @@ isEnd End = true
 never : {A : Type 0} → false ≡ true → A
 never h = let z : _≡_ {A = ℕ} 0 1 = cc in absurd (omega arith)
 
+-- A whole command, by its first byte
+
+-- how many bytes a command with this first byte has
+abbrev sizeBy : ℕ → ℕ
+sizeBy code =
+    cond (eqb code 1) CREDENTIAL-BYTES
+    (cond (eqb code 2) OPEN-BYTES (cond (eqb code 3) NEW-EDGE-BYTES (cond (eqb code 4) OLD-EDGE-BYTES (cond (eqb code 5) MARK-BYTES END-BYTES))))
+
+abbrev firstOf : Command → ℕ
+firstOf c = getD (commandBytes c) 0 0
+
+size-by : (c : Command) → sizeBy (firstOf c) ≡ sizeOf c
+unfolding commandBytes
+size-by (Show c) = refl
+size-by (Open o) = refl
+size-by (Bring n) = refl
+size-by (Join g) = refl
+size-by (Mark n) = refl
+size-by End = refl
+
+known : (c : Command) → (0 < firstOf c) × (firstOf c < 7)
+unfolding commandBytes
+known (Show c) = (omega arith, omega arith)
+known (Open o) = (omega arith, omega arith)
+known (Bring n) = (omega arith, omega arith)
+known (Join g) = (omega arith, omega arith)
+known (Mark n) = (omega arith, omega arith)
+known End = (omega arith, omega arith)
+
+end-by : (c : Command) → firstOf c ≡ 6 → c ≡ End
+unfolding commandBytes
+end-by (Show c) h = absurd (omega (arith, h))
+end-by (Open o) h = absurd (omega (arith, h))
+end-by (Bring n) h = absurd (omega (arith, h))
+end-by (Join g) h = absurd (omega (arith, h))
+end-by (Mark n) h = absurd (omega (arith, h))
+end-by End h = refl
+
+-- three numbers in a row left out
+past : (from code : ℕ) → from < code → (code ≡ from + 1 → ⊥) → (code ≡ from + 2 → ⊥) → (code ≡ from + 3 → ⊥) → from + 3 < code
+past from code h a b c = omega arith
+
+module _ (s : List ℕ) (at : ℕ) where
+  -- a whole command has its size, by its first byte
+  whole-size : (code : ℕ) → getD s at 0 ≡ code → Whole s at → sizeBy code ≤ length s - at
+  whole-size code q w =
+      let e : sizeOf (w .command) ≡ sizeBy code = sym (size-by (w .command)) ∙ ap sizeBy (w .code ∙ q) in
+      omega (arith, w .room, e)
+
+  whole-by : (code : ℕ) (l : List ℕ) (good : Bool) (c : Command) → Has code good l c → getD s at 0 ≡ code → suc (length l) ≤ length s - at
+      → (isEnd c ≡ true → length s ≡ at + 1) → Whole s at
+  whole-by code l good c w q h last =
+      record { command = c; code = ap (λ (m : List ℕ). getD m 0 0) (w .bytes) ∙ sym q; room = omega (arith, w .size); last = λ e. last (ap isEnd e) }
+
+-- a credential of right form
+abbrev some : Credential
+some = record { head = record { entity = 1; name = 1 }; body = E.Entity 1 }
+
 -- what is known where an answer was found: of a command that it has room and right form, that its bytes stand there, and that nothing
--- follows an end; and that a refusal is 2 or 3
+-- follows an end; that a refusal is 2 where no command stands whole, and else 3
 abbrev Sure : List ℕ → ℕ → CommandAnswer → Type 0
 Sure s at (Read c) =
     (at + sizeOf c ≤ length s) × (formedCommand c ≡ true) × (Bytes s → take (sizeOf c) (drop at s) ≡ commandBytes c) × (isEnd c ≡ true → length s ≡ at + 1)
-Sure s at (Refused k) = (k ≡ 2) ⊎ (k ≡ 3)
+Sure s at (Refused k) = ((k ≡ COMMAND) × (Whole s at → ⊥)) ⊎ ((k ≡ OPERAND) × Whole s at)
 
 module _ (s : List ℕ) (at : ℕ) where
-  sure-whole : (size : ℕ) (x : CommandAnswer) → (size ≤ length s - at → Sure s at x) → Sure s at (whole size s at x)
-  sure-whole size x k = go (ltb (length s - at) size) refl
+  sure-whole : (size : ℕ) (x : CommandAnswer) → (Whole s at → size ≤ length s - at) → (size ≤ length s - at → Sure s at x) → Sure s at (whole size s at x)
+  sure-whole size x w k = go (ltb (length s - at) size) refl
     where
       go : (t : Bool) → ltb (length s - at) size ≡ t → Sure s at (cond t (Refused 2) x)
-      go true h = inl refl
+      go true h = inl (refl, λ v. omega (arith, w v, ltb-true (length s - at) size h))
       go false h = k (ltb-false (length s - at) size h)
 
   sure-read : (code : ℕ) (l : List ℕ) (c : Command) → Has code true l c → getD s at 0 ≡ code → suc (length l) ≤ length s - at
@@ -152,37 +214,37 @@ module _ (s : List ℕ) (at : ℕ) where
   sure-checked : (code : ℕ) (good : Bool) (l : List ℕ) (c : Command) → Has code good l c → getD s at 0 ≡ code → suc (length l) ≤ length s - at
       → (Bytes s → take (length l) (drop (at + 1) s) ≡ l) → (isEnd c ≡ true → length s ≡ at + 1) → Sure s at (checked good c)
   sure-checked code true l c w q h k last = sure-read code l c w q h k last
-  sure-checked code false l c w q h k last = inr refl
+  sure-checked code false l c w q h k last = inr (refl, whole-by s at code l false c w q h last)
 
   sure-show : getD s at 0 ≡ 1 → Sure s at (showAt s at)
   unfolding showAt
-  sure-show q = sure-whole 23 (shown (readCredential s (at + 1))) (λ h. go (readCredential s (at + 1)) refl h)
+  sure-show q = sure-whole 23 (shown (readCredential s (at + 1))) (whole-size s at 1 q) (λ h. go (readCredential s (at + 1)) refl h)
     where
       go : (x : CredentialAnswer) → readCredential s (at + 1) ≡ x → 23 ≤ length s - at → Sure s at (shown x)
       go (a.Read c) p h =
-          sure-read 1 (credentialBytes c) (Show c) (show-has c (read-formed s (at + 1) c p)) q h (λ b. credential-only s (at + 1) c b (omega arith) p .0) never
-      go a.Wrong p h = inr refl
+          sure-read 1 (credentialBytes c) (Show c) (show-has c true (read-formed s (at + 1) c p)) q h (λ b. credential-only s (at + 1) c b (omega arith) p .0) never
+      go a.Wrong p h = inr (refl, whole-by s at 1 (credentialBytes some) _ (Show some) (show-has some _ refl) q h never)
 
   sure-open : getD s at 0 ≡ 2 → Sure s at (openAt s at)
   unfolding openAt
-  sure-open q = sure-whole 6 _ (λ h. sure-checked 2 _ _ _ (open-has (openingOf s at)) q h (λ b. open-only s at b (omega arith)) never)
+  sure-open q = sure-whole 6 _ (whole-size s at 2 q) (λ h. sure-checked 2 _ _ _ (open-has (openingOf s at)) q h (λ b. open-only s at b (omega arith)) never)
 
   sure-bring : getD s at 0 ≡ 3 → Sure s at (bringAt s at)
   unfolding bringAt
-  sure-bring q = sure-whole 24 (brought s at (readOf s (at + 3))) (λ h. go (readOf s (at + 3)) refl h)
+  sure-bring q = sure-whole 24 (brought s at (readOf s (at + 3))) (whole-size s at 3 q) (λ h. go (readOf s (at + 3)) refl h)
     where
       go : (x : ExpressionAnswer) → readOf s (at + 3) ≡ x → 24 ≤ length s - at → Sure s at (brought s at x)
       go (e.Read child) p h =
           sure-checked 3 _ _ _ (bring-has (newOf s at child) (canonical (rawAt s (at + 3)) child p .1)) q h (λ b. bring-only s at b child (omega arith) p) never
-      go e.Wrong p h = inr refl
+      go e.Wrong p h = let n : NewEdge = newOf s at (E.Entity 1) in inr (refl, whole-by s at 3 (newBytes n) (formedNew n) (Bring n) (bring-has n refl) q h never)
 
   sure-join : getD s at 0 ≡ 4 → Sure s at (joinAt s at)
   unfolding joinAt
-  sure-join q = sure-whole 4 _ (λ h. sure-checked 4 _ _ _ (join-has (edgeOf s at)) q h (λ b. join-only s at (omega arith)) never)
+  sure-join q = sure-whole 4 _ (whole-size s at 4 q) (λ h. sure-checked 4 _ _ _ (join-has (edgeOf s at)) q h (λ b. join-only s at (omega arith)) never)
 
   sure-mark : getD s at 0 ≡ 5 → Sure s at (markAt s at)
   unfolding markAt
-  sure-mark q = sure-whole 2 _ (λ h. sure-read 5 _ _ (mark-has (getD s (at + 1) 0)) q h (λ b. next-byte 0 s at 1 (omega arith)) never)
+  sure-mark q = sure-whole 2 _ (whole-size s at 5 q) (λ h. sure-read 5 _ _ (mark-has (getD s (at + 1) 0)) q h (λ b. next-byte 0 s at 1 (omega arith)) never)
 
   sure-end : getD s at 0 ≡ 6 → Sure s at (endAt s at)
   unfolding endAt
@@ -192,31 +254,34 @@ module _ (s : List ℕ) (at : ℕ) where
       go true h =
           let one : length s - at ≡ 1 = eqb-true (length s - at) 1 h in
           sure-read 6 [] End end-has q (omega (arith, one)) (λ b. refl) (λ z. omega (arith, one))
-      go false h = inl refl
+      go false h = inl (refl, λ w. let e = w .last (end-by (w .command) (w .code ∙ q)) in eqb-false (length s - at) 1 h (omega (arith, e)))
 
-  sure-test : (code k : ℕ) (x y : CommandAnswer) → (code ≡ k → Sure s at x) → Sure s at y → Sure s at (cond (eqb code k) x y)
+  sure-test : (code k : ℕ) (x y : CommandAnswer) → (code ≡ k → Sure s at x) → ((code ≡ k → ⊥) → Sure s at y) → Sure s at (cond (eqb code k) x y)
   sure-test code k x y here other = go (eqb code k) refl
     where
       go : (t : Bool) → eqb code k ≡ t → Sure s at (cond t x y)
       go true h = here (eqb-true code k h)
-      go false h = other
+      go false h = other (eqb-false code k h)
 
   sure : Sure s at (commandAt s at)
   unfolding commandAt
   sure =
       let code : ℕ = getD s at 0 in
-      sure-whole 1 (byCode code s at) (λ inside.
-      sure-test code 1 _ _ sure-show
-      (sure-test code 2 _ _ sure-open
-      (sure-test code 3 _ _ sure-bring
-      (sure-test code 4 _ _ sure-join
-      (sure-test code 5 _ _ sure-mark
-      (sure-test code 6 _ (Refused 2) sure-end
-      (inl refl)))))))
+      sure-whole 1 (byCode code s at) (λ w. omega (arith, w .room, size-some (w .command))) (λ inside.
+      sure-test code 1 _ _ sure-show (λ n1.
+      sure-test code 2 _ _ sure-open (λ n2.
+      sure-test code 3 _ _ sure-bring (λ n3.
+      sure-test code 4 _ _ sure-join (λ n4.
+      sure-test code 5 _ _ sure-mark (λ n5.
+      sure-test code 6 _ (Refused 2) sure-end (λ n6.
+      inl (refl, λ w.
+      let k = subst (λ (n : ℕ). (0 < n) × (n < 7)) (w .code) (known (w .command)) in
+      let a = past 3 code (past 0 code (k .0) n1 n2 n3) n4 n5 n6 in
+      omega (arith, a, k .1)))))))))
 
 -- a command is refused 2 or 3
 pub command-refusal : (s : List ℕ) (at k : ℕ) → commandAt s at ≡ Refused k → (k ≡ 2) ⊎ (k ≡ 3)
-command-refusal s at k h = subst (Sure s at) h (sure s at)
+command-refusal s at k h = ⊎-elim (λ z. inl (z .0)) (λ z. inr (z .0)) (subst (Sure s at) h (sure s at))
 
 -- a command that was read ends within the bytes
 pub command-room : (s : List ℕ) (at : ℕ) (c : Command) → commandAt s at ≡ Read c → at + sizeOf c ≤ length s
@@ -301,6 +366,57 @@ command-back s at (Mark n) l h good last =
 command-back s at End l h good last =
     let inside : at < length s = begins s at 6 _ h in
     sym (end-back s at l (omega arith) h (last refl) ∙ at-code s at 6 inside (code-there s at 6 _ h))
+
+-- Unreadable commands
+
+module _ (s : List ℕ) (at : ℕ) where
+  -- a command of right form whose bytes stand there is read
+  there-read : (c : Command) → formedCommand c ≡ true → (c ≡ End → length s ≡ at + 1) → take (sizeOf c) (drop at s) ≡ commandBytes c
+      → commandAt s at ≡ Read c
+  there-read c good last h =
+      let l : List ℕ = drop (sizeOf c) (drop at s) in
+      let there : drop at s ≡ commandBytes c ++ l = sym (take-append-drop (sizeOf c) (drop at s)) ∙ ap (λ (m : List ℕ). m ++ l) h in
+      command-back s at c l there good
+      (λ e. ap (λ (k : Command). drop (sizeOf k) (drop at s)) e ∙ drop-drop 1 at s ∙ drop-of-length-le s {i = at + 1} (omega (arith, last e)))
+
+  -- an end that stands whole is the last
+  there-last : Whole s at → (c : Command) → take (sizeOf c) (drop at s) ≡ commandBytes c → c ≡ End → length s ≡ at + 1
+  unfolding commandBytes
+  there-last w c h e =
+      let same : firstOf End ≡ getD s at 0
+      = ap firstOf (sym e) ∙ ap (λ (l : List ℕ). getD l 0 0) (sym h) ∙ getD-take (sizeOf c) (drop at s) 0 0 (size-some c) ∙ getD-drop at s 0 0
+      ∙ ap (λ (n : ℕ). getD s n 0) (omega arith) in
+      w .last (end-by (w .command) (w .code ∙ sym same))
+
+  module _ (bytes : (i : ℕ) → getD s i 0 < 256) where
+    -- a command that was read stands whole
+    read-whole : (c : Command) → commandAt s at ≡ Read c → Whole s at
+    read-whole c h =
+        let same : firstOf c ≡ getD s at 0
+        = ap (λ (l : List ℕ). getD l 0 0) (sym (command-only s at c bytes h)) ∙ getD-take (sizeOf c) (drop at s) 0 0 (size-some c) ∙ getD-drop at s 0 0
+        ∙ ap (λ (n : ℕ). getD s n 0) (omega arith) in
+        record { command = c; code = same; room = command-room s at c h; last = λ e. command-end s at (h ∙ ap Read e) }
+
+    refused-by : (k : ℕ) → commandAt s at ≡ Refused k → Sure s at (Refused k) → Unreadable s at k
+    refused-by k h (inl z) = subst (λ (n : ℕ). Unreadable s at n) (sym (z .0)) (cut (z .1))
+    refused-by k h (inr z) =
+        subst (λ (n : ℕ). Unreadable s at n) (sym (z .0))
+        (malformed (z .1) (λ c good there. two-answers c (sym h ∙ there-read c good (there-last (z .1) c there) there)))
+      where
+        two-answers : (c : Command) → Refused k ≡ Read c → ⊥
+        two-answers c e = let z : _≡_ {A = ℕ} 0 1 = cc in omega arith
+
+    by-answer : (x : CommandAnswer) → commandAt s at ≡ x → {k : ℕ} → Unreadable s at k → Sure s at x → x ≡ Refused k
+    by-answer (Read c) h (cut n) u = absurd (n (read-whole c h))
+    by-answer (Read c) h (malformed w n) u = absurd (n c (command-formed s at c h) (command-only s at c bytes h))
+    by-answer (Refused j) h (cut n) (inl z) = ap Refused (z .0)
+    by-answer (Refused j) h (cut n) (inr z) = absurd (n (z .1))
+    by-answer (Refused j) h (malformed w n) (inl z) = absurd (z .1 w)
+    by-answer (Refused j) h (malformed w n) (inr z) = ap Refused (z .0)
+
+    -- nothing can be read exactly where no command stands whole (2), or its operands have wrong form (3)
+    pub unreadable-exactly : (k : ℕ) → (commandAt s at ≡ Refused k → Unreadable s at k) × (Unreadable s at k → commandAt s at ≡ Refused k)
+    unreadable-exactly k = (λ h. refused-by k h (subst (Sure s at) h (sure s at)), λ u. by-answer (commandAt s at) refl u (sure s at))
 
 -- what stands from where it was copied on
 paste-drop : (d : List ℕ) (at : ℕ) (b : List ℕ) → at ≤ length d → drop at (pasted d at b) ≡ b ++ drop (at + length b) d

@@ -24,7 +24,7 @@ use Rattle.message.specs.declared.CommandAnswer.{CommandAnswer}
 use Rattle.message.specs.declared.CommandAnswer.the-variants.{Read, Refused}
 use Rattle.message.specs.Command.{commandAt, sizeOf, commandBytes}
 use Rattle.message.specs.laws.Command.{nothing, size-some}
-use Rattle.message.specs.laws.CommandExact.{command-length, command-room, command-refusal, command-formed, command-only, command-back}
+use Rattle.message.specs.laws.CommandExact.{command-length, command-room, command-formed, command-only, command-back, unreadable-exactly}
 use Rattle.tables.specs.Tables.{Tables}
 use Rattle.tables.specs.Check.{readTables}
 use Rattle.tables.specs.laws.Accepted.{check-numbers}
@@ -33,8 +33,9 @@ use Rattle.damage.specs.Damage.{readSound}
 use Rattle.standing.specs.Standing as R
 use Rattle.applied.specs.Step.{stepped, isMove}
 use Rattle.legal.specs.Number.{refuse, first, showNumber, openNumber, markNumber, endNumber, joinNumber, typeNumber, bringNumber, legalBy, legalNumber}
-use Rattle.legal.specs.Legal.{Legal}
-use Rattle.legal.specs.laws.Exact.{legal-exactly}
+use Rattle.legal.specs.Legal.{Legal, Illegal, unnamed, class-rule, opening, no-node, present, unjustified, processed, full}
+use Rattle.message.specs.Unreadable.{cut, malformed}
+use Rattle.legal.specs.laws.Exact.{legal-exactly, illegal-exactly, illegal-some}
 use Rattle.take.specs.Commands as C
 use Rattle.message.specs.Message.{isEnd, bytesOf}
 use Rattle.take.specs.laws.Commands.{refusalOf}
@@ -50,7 +51,7 @@ use Rattle.numbers.specs.Sizes.{NEGOTIATION-BYTES}
 
 -- The commands
 
-module _ (ns : List Name) (s : ℕ) (m : List ℕ) where
+module _ (ns : List Name) (s : ℕ) (m : List ℕ) (bytes : (i : ℕ) → getD m i 0 < 256) where
   judged-refused : (k : ℕ) (x : Answer (State × Bool)) → (k ≡ 0 → ⊥) → judged k x ≡ refused k
   judged-refused zero x z = absurd (z refl)
   judged-refused (suc k) x z = refl
@@ -58,12 +59,14 @@ module _ (ns : List Name) (s : ℕ) (m : List ℕ) where
   -- a command that is refused
   refused-here : (f at : ℕ) (S : State) (v : Bool) (k : ℕ) → length m ≤ f + at → Wrong ns s m at S k → C.commandsFrom f ns s m at S v ≡ refused k
   unfolding C.commandsFrom
-  refused-here zero at S v k l (unreadable e) = ap (λ (a : CommandAnswer). refused (refusalOf a)) (nothing m at (omega arith) ∙ e)
-  refused-here zero at S v k l (illegal c e q z) = absurd (omega (arith, l, command-room m at c e, size-some c))
-  refused-here (suc f) at S v k l (unreadable e) = ap (C.onCommand (λ size T w. C.commandsFrom f ns s m (at + size) T w) ns s S v) e
-  refused-here (suc f) at S v k l (illegal c e q z) =
+  refused-here zero at S v k l (unreadable u) =
+      ap (λ (a : CommandAnswer). refused (refusalOf a)) (nothing m at (omega arith) ∙ unreadable-exactly m at bytes k .1 u)
+  refused-here zero at S v k l (illegal c e r) = absurd (omega (arith, l, command-room m at c e, size-some c))
+  refused-here (suc f) at S v k l (unreadable u) =
+      ap (C.onCommand (λ size T w. C.commandsFrom f ns s m (at + size) T w) ns s S v) (unreadable-exactly m at bytes k .1 u)
+  refused-here (suc f) at S v k l (illegal c e r) =
       let x : Answer (State × Bool) = cond (isEnd c) (accepted (S, v)) (C.commandsFrom f ns s m (at + sizeOf c) (stepped S s c) (v || isMove c)) in
-      ap (C.onCommand (λ size T w. C.commandsFrom f ns s m (at + size) T w) ns s S v) e ∙ ap (λ (n : ℕ). judged n x) q ∙ judged-refused k x z
+      ap (C.onCommand (λ size T w. C.commandsFrom f ns s m (at + size) T w) ns s S v) e ∙ ap (λ (n : ℕ). judged n x) (illegal-exactly ns s S c k .1 r) ∙ judged-refused k x (illegal-some r)
 
   -- and those before it
   refused-behind : {S T : State} {cs : List Command} → Updates ns s S cs T → (f at : ℕ) (v : Bool) (rest : List ℕ) (k : ℕ)
@@ -91,7 +94,7 @@ module _ (ns : List Name) (s : ℕ) (m : List ℕ) where
       (sym (drop-drop (sizeOf c) at m) ∙ ap (drop (sizeOf c)) there ∙ drop-at (commandBytes c) (bytesOf cs ++ rest) (sizeOf c) (command-length c))
       (omega (arith, l, size-some c)) (subst (λ (n : ℕ). Wrong ns s m n T k) behind w)
 
-  module _ (bytes : (i : ℕ) → getD m i 0 < 256) (k : ℕ) where
+  module _ (k : ℕ) where
     -- the commands from an index on
     record Rest (at : ℕ) (S : State) : Type 0 where
       before : List Command
@@ -141,16 +144,17 @@ module _ (ns : List Name) (s : ℕ) (m : List ℕ) where
       rest-number : (c : Command) → commandAt m at ≡ Read c → (j : ℕ) → legalNumber ns s S c ≡ j
           → judged j (cond (isEnd c) (accepted (S, v)) (C.commandsFrom f ns s m (at + sizeOf c) (stepped S s c) (v || isMove c))) ≡ refused k → Rest at S
       rest-number c e zero l q = rest-command c e (legal-exactly ns s S c .0 l) (isEnd c) refl q
-      rest-number c e (suc j) l q = let z : suc j ≡ k = ap numberOf q in rest-here at S (illegal c e (l ∙ z) (λ y. omega (arith, y, z)))
+      rest-number c e (suc j) l q = let z : suc j ≡ k = ap numberOf q in rest-here at S (illegal c e (illegal-exactly ns s S c k .0 (l ∙ z, λ y. omega (arith, y, z))))
 
       rest-answer : (a : CommandAnswer) → commandAt m at ≡ a
           → C.onCommand (λ size U x. C.commandsFrom f ns s m (at + size) U x) ns s S v a ≡ refused k → Rest at S
-      rest-answer (Refused j) e q = rest-here at S (unreadable (e ∙ ap Refused (ap numberOf q)))
+      rest-answer (Refused j) e q = rest-here at S (unreadable (unreadable-exactly m at bytes k .0 (e ∙ ap Refused (ap numberOf q))))
       rest-answer (Read c) e q = rest-number c e (legalNumber ns s S c) refl q
 
     rest-all : (f : ℕ) → Leads f
     unfolding C.commandsFrom
-    rest-all zero at S v l h = rest-here at S (unreadable (sym (nothing m at (omega arith)) ∙ ap Refused (ap numberOf h)))
+    rest-all zero at S v l h =
+        rest-here at S (unreadable (unreadable-exactly m at bytes k .0 (sym (nothing m at (omega arith)) ∙ ap Refused (ap numberOf h))))
     rest-all (suc f) at S v l h = rest-answer f (rest-all f) at S v l (commandAt m at) refl h
 
     -- the commands of a message are refused exactly where one of them is, those before it being legal
@@ -232,50 +236,20 @@ module _ (tables negotiation message scratch : List ℕ) (bytes : (i : ℕ) → 
 abbrev byCommand : ℕ → Bool
 byCommand k = eqb k 0 || (leb 2 k && leb k 5) || leb 23 k
 
-refuse-by : (b : Bool) (k rest : ℕ) → byCommand k ≡ true → byCommand rest ≡ true → byCommand (refuse b k rest) ≡ true
-unfolding refuse
-refuse-by true k rest h g = h
-refuse-by false k rest h g = g
-
-first-by : (k rest : ℕ) → byCommand k ≡ true → byCommand rest ≡ true → byCommand (first k rest) ≡ true
-unfolding first
-first-by k rest h g = go (eqb k 0)
-  where
-    go : (b : Bool) → byCommand (cond b rest k) ≡ true
-    go true = g
-    go false = h
-
-cond-by : (b : Bool) (j k : ℕ) → byCommand j ≡ true → byCommand k ≡ true → byCommand (cond b j k) ≡ true
-cond-by true j k h g = h
-cond-by false j k h g = g
-
-credential-by : (ns : List Name) (c : Credential) → byCommand (credentialNumber ns c) ≡ true
-unfolding credentialNumber
-credential-by ns c =
-    let rules : Bool = suits (typeOf ns (c .body)) (classOf ns (c .head .name)) in
-    cond-by (eqb (classOf ns (c .head .name)) 0 || isUnnamed (typeOf ns (c .body))) 4 (cond rules 0 5) refl (cond-by rules 0 5 refl refl)
-
-type-by : (t : Typing) → byCommand (typeNumber t) ≡ true
-type-by Unnamed = refl
-type-by Ill = refl
-type-by Any = refl
-type-by (Class a) = refl
-
-legal-by : (ns : List Name) (s : ℕ) (S : State) (c : Command) → byCommand (legalNumber ns s S c) ≡ true
-unfolding legalNumber legalBy showNumber openNumber bringNumber joinNumber markNumber endNumber
-legal-by ns s S (Show c) = first-by (credentialNumber ns c) _ (credential-by ns c) (refuse-by _ 23 _ refl (refuse-by _ 25 _ refl (refuse-by _ 28 0 refl refl)))
-legal-by ns s S (Open o) = refuse-by _ 4 _ refl (refuse-by _ 23 0 refl refl)
-legal-by ns s S (Bring n) =
-    first-by (typeNumber (typeOf ns (n .expression))) _ (type-by (typeOf ns (n .expression)))
-    (refuse-by _ 23 _ refl (refuse-by _ 24 _ refl (refuse-by _ 25 _ refl (refuse-by _ 26 _ refl (refuse-by _ 27 _ refl (refuse-by _ 28 0 refl refl))))))
-legal-by ns s S (Join e) =
-    refuse-by _ 23 _ refl (refuse-by _ 24 _ refl (refuse-by _ 25 _ refl (refuse-by _ 26 _ refl (refuse-by _ 27 _ refl (refuse-by _ 28 0 refl refl)))))
-legal-by ns s S (Mark i) = refuse-by _ 23 _ refl (refuse-by _ 24 _ refl (refuse-by _ 27 0 refl refl))
-legal-by ns s S End = refuse-by _ 23 0 refl refl
+illegal-by : {ns : List Name} {s : ℕ} {S : State} {c : Command} {k : ℕ} → Illegal ns s S c k → byCommand k ≡ true
+illegal-by (unnamed n) = refl
+illegal-by (class-rule a n) = refl
+illegal-by (opening a b n) = refl
+illegal-by (no-node a b d n) = refl
+illegal-by (present a b d e n) = refl
+illegal-by (unjustified a b d e f n) = refl
+illegal-by (processed a b d e f g n) = refl
+illegal-by (full a b d e f g h n) = refl
 
 wrong-by : {ns : List Name} {s : ℕ} {m : List ℕ} {at : ℕ} {S : State} {k : ℕ} → Wrong ns s m at S k → byCommand k ≡ true
-wrong-by {m = m} {at = at} {k = k} (unreadable e) = ⊎-elim (λ z. ap byCommand z) (λ z. ap byCommand z) (command-refusal m at k e)
-wrong-by {ns} {s} {S = S} (illegal c e q z) = sym (ap byCommand q) ∙ legal-by ns s S c
+wrong-by (unreadable (cut n)) = refl
+wrong-by (unreadable (malformed w n)) = refl
+wrong-by (illegal c e r) = illegal-by r
 
 -- the negotiation's length is refused by 1, the tables by their number, damage by 20
 module _ (tables negotiation : List ℕ) (k : ℕ) where
