@@ -7,7 +7,6 @@ use mathlib.Core.List.{List, List·Memᴰ}
 use lib.ListN.{length}
 use Rattle.numbers.specs.Sizes.{MOST-NODES, MOST-EDGES, MOST-SHOWN}
 use Rattle.expression.specs.declared.Role.{Role}
-use Rattle.expression.specs.declared.Credential.{Credential}
 use Rattle.expression.specs.declared.Expression.{Expression}
 use Rattle.expression.specs.declared.Expression.the-variants as E
 use Rattle.rt0.specs.From.{From, roleOf}
@@ -15,12 +14,9 @@ use Rattle.class.specs.declared.Name.{Name}
 use Rattle.class.specs.Names.{classOf}
 use Rattle.class.specs.Typing.{typeOf, suits, isUnnamed}
 use Rattle.graph.specs.declared.Node.{Node}
-use Rattle.graph.specs.declared.Edge.{Edge}
 use Rattle.graph.specs.Graph.{nodeIn}
 use Rattle.graph.specs.States.{solutionKind, Child, Satisfied}
 use Rattle.justification.specs.Justified.{monitorKind}
-use Rattle.message.specs.declared.Opening.{Opening}
-use Rattle.message.specs.declared.NewEdge.{NewEdge}
 use Rattle.message.specs.declared.Command.{Command}
 use Rattle.message.specs.declared.Command.the-variants.{Show, Open, Bring, Join, Mark, End}
 use Rattle.negotiation.specs.State.{State}

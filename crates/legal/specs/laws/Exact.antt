@@ -36,7 +36,6 @@ use Rattle.graph.specs.States.{solutionKind, Child}
 use Rattle.graph.specs.Propagated.{isChild, satisfiedB}
 use Rattle.graph.specs.laws.Propagated.{satisfied-exact}
 use Rattle.justification.specs.Justified.{monitorKind, isSolutionFor, solves, solved, monitors, justified}
-use Rattle.message.specs.declared.Opening.{Opening}
 use Rattle.message.specs.declared.NewEdge.{NewEdge}
 use Rattle.message.specs.declared.Command.{Command}
 use Rattle.message.specs.declared.Command.the-variants.{Show, Open, Bring, Join, Mark, End}
@@ -47,7 +46,7 @@ use Rattle.graph.specs.Processed.{processedBy}
 use Rattle.applied.specs.Step.{parentIn, childIn}
 use Rattle.legal.specs.Number.{refuse, first, isFresh, isAbsent, formedAs, showNumber, openNumber, markNumber, endNumber, joinWrong, justifiedBy}
 use Rattle.legal.specs.Number.{justifiedFor, joinNumber, typeNumber, bringWrong, bringNumber, justifiedIn, legalBy, legalNumber}
-use Rattle.legal.specs.laws.Number.{passes, first-passes, refuse-none, first-none}
+use Rattle.legal.specs.laws.Number.{passes}
 use Rattle.legal.specs.laws.Edge.{join-justified}
 use Rattle.legal.specs.Legal.{Monitored, Justifies, NamesClassed, ClassesSuit, OpenFirst, NodesStand, FormedAndNew, EdgeJustified, Unprocessed}
 use Rattle.legal.specs.Legal.{RoomLeft, Legal, Illegal, unnamed, class-rule, opening, no-node, present, unjustified, processed, full}

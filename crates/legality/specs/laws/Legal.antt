@@ -33,6 +33,7 @@ use Rattle.applied.specs.Step.{childOf, stepped, hasRoom}
 use Rattle.legal.specs.Number.{formedAs}
 use Rattle.legal.specs.Legal.{Justifies, NamesClassed, ClassesSuit, OpenFirst, NodesStand, FormedAndNew, EdgeJustified, Unprocessed, RoomLeft, Legal}
 use Rattle.legal.specs.laws.Exact.{typed-named}
+use Rattle.class.specs.Typing.{typeOf}
 use Rattle.legal.specs.Updates.{Updates, none, next}
 use Rattle.moves.specs.declared.Candidate.{Candidate}
 use Rattle.moves.specs.declared.Choice.{Choice}

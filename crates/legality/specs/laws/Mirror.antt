@@ -22,6 +22,7 @@ use Rattle.negotiation.specs.State.{State, withHeader, withNode, withEdge, with
 use Rattle.negotiation.specs.Ends.{requester, entityOf, otherSide}
 use Rattle.applied.specs.Step.{primaryOf, childOf, stepped}
 use Rattle.legal.specs.Number.{formedAs}
+use lib.ListN.{length}
 use Rattle.legal.specs.Legal.{Monitored, Justifies, NamesClassed, ClassesSuit, OpenFirst, NodesStand, FormedAndNew, EdgeJustified, Unprocessed, RoomLeft, Legal}
 use Rattle.legal.specs.Updates.{Updates, none, next}
 use Rattle.applied.specs.laws.Step.{step-header}

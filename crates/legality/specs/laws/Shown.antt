@@ -26,7 +26,7 @@ use Rattle.message.specs.Command.{formedCommand}
 use Rattle.negotiation.specs.State.{State, withShown}
 use Rattle.rt0.specs.Shown.{isShown}
 use Rattle.applied.specs.Step.{stepped, hasRoom}
-use Rattle.legal.specs.Legal.{OpenFirst, NodesStand, FormedAndNew, EdgeJustified, Unprocessed, RoomLeft, Legal}
+use Rattle.legal.specs.Legal.{OpenFirst, NodesStand, FormedAndNew, EdgeJustified, Unprocessed, RoomLeft}
 use Rattle.legal.specs.laws.Exact.{credential-kept}
 use Rattle.legal.specs.Updates.{Updates, next}
 use Rattle.moves.specs.Carried.{hasRoomFor}

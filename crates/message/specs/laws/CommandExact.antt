@@ -274,10 +274,13 @@ module _ (s : List ℕ) (at : ℕ) where
       sure-test code 4 _ _ sure-join (λ n4.
       sure-test code 5 _ _ sure-mark (λ n5.
       sure-test code 6 _ (Refused 2) sure-end (λ n6.
-      inl (refl, λ w.
-      let k = subst (λ (n : ℕ). (0 < n) × (n < 7)) (w .code) (known (w .command)) in
-      let a = past 3 code (past 0 code (k .0) n1 n2 n3) n4 n5 n6 in
-      omega (arith, a, k .1)))))))))
+      inl (
+        refl,
+        λ w.
+            let k = subst (λ (n : ℕ). (0 < n) × (n < 7)) (w .code) (known (w .command)) in
+            let a = past 3 code (past 0 code (k .0) n1 n2 n3) n4 n5 n6 in
+            omega (arith, a, k .1),
+      ))))))))
 
 -- a command is refused 2 or 3
 pub command-refusal : (s : List ℕ) (at k : ℕ) → commandAt s at ≡ Refused k → (k ≡ 2) ⊎ (k ≡ 3)

@@ -12,14 +12,8 @@ use lib.Dec.{eqb, leb}
 use lib.ListN.{length, getD, drop, length-append, length-drop, take-append-drop}
 use lib.Seq.{drop-at, drop-drop}
 use Rattle.word.specs.laws.Bools.{false-true}
-use Rattle.expression.specs.declared.Credential.{Credential}
 use Rattle.class.specs.declared.Name.{Name}
-use Rattle.class.specs.declared.Typing.{Typing}
-use Rattle.class.specs.declared.Typing.the-variants.{Unnamed, Ill, Any, Class}
-use Rattle.class.specs.Names.{classOf}
-use Rattle.class.specs.Typing.{typeOf, suits, isUnnamed, credentialNumber}
 use Rattle.message.specs.declared.Command.{Command}
-use Rattle.message.specs.declared.Command.the-variants.{Show, Open, Bring, Join, Mark, End}
 use Rattle.message.specs.declared.CommandAnswer.{CommandAnswer}
 use Rattle.message.specs.declared.CommandAnswer.the-variants.{Read, Refused}
 use Rattle.message.specs.Command.{commandAt, sizeOf, commandBytes}
@@ -32,7 +26,7 @@ use Rattle.negotiation.specs.State.{State}
 use Rattle.damage.specs.Damage.{readSound}
 use Rattle.standing.specs.Standing as R
 use Rattle.applied.specs.Step.{stepped, isMove}
-use Rattle.legal.specs.Number.{refuse, first, showNumber, openNumber, markNumber, endNumber, joinNumber, typeNumber, bringNumber, legalBy, legalNumber}
+use Rattle.legal.specs.Number.{legalNumber}
 use Rattle.legal.specs.Legal.{Legal, Illegal, unnamed, class-rule, opening, no-node, present, unjustified, processed, full}
 use Rattle.message.specs.Unreadable.{cut, malformed}
 use Rattle.legal.specs.laws.Exact.{legal-exactly, illegal-exactly, illegal-some}
