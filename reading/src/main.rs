@@ -48,27 +48,34 @@ fn sentence(head: &str) -> String {
     head.trim().trim_end_matches('.').to_string()
 }
 
-fn page(specs: &Specs, order: &[PathBuf], traced: &HashSet<Place>) -> String {
-    let mut rows = String::new();
+/// A table of the files with these definitions, and how many lines and files they are.
+fn table(specs: &Specs, order: &[PathBuf], places: &HashSet<Place>) -> (String, usize, usize) {
+    let mut rows = String::from("| file | lines | what it says |\n|---|---:|---|\n");
     let (mut total, mut count) = (0, 0);
     for path in order {
-        let file = &specs.files[path];
-        let lines: usize = file.items.iter().filter(|i| !i.is_law).map(lines_of).sum();
-        let defined = traced.iter().filter(|p| &p.0 == path && !specs.item(p).is_law).count();
-        if defined == 0 {
-            continue;
+        let here = places.iter().filter(|p| &p.0 == path && !specs.item(p).is_law);
+        let lines: usize = here.map(|p| lines_of(specs.item(p))).sum();
+        if lines > 0 {
+            (total, count) = (total + lines, count + 1);
+            rows += &format!("| [{0}](../{0}) | {lines} | {1} |\n", path.display(), sentence(&specs.files[path].head));
         }
-        (total, count) = (total + lines, count + 1);
-        rows += &format!("| [{0}](../{0}) | {lines} | {1} |\n", path.display(), sentence(&file.head));
     }
+    (rows, total, count)
+}
+
+fn page(specs: &Specs, order: &[PathBuf], traced: &HashSet<Place>, believed: &HashSet<Place>) -> String {
+    let (read, total, count) = table(specs, order, believed);
+    let settled = traced.difference(believed).cloned().collect();
+    let (found, settled_total, settled_count) = table(specs, order, &settled);
     format!(
         "# What a reader must believe\n\n\
         The definitions that the contracts of the calls and the theorems of [PROOFS](PROOFS.md) rest on, in reading order: \
         {total} lines in\n{count} files, comments and imports not counted. What is proved about them stands in the folders `laws/`, \
         and nobody has to read it.\n\
         `make reading` writes this page; the tests fail where it is not current, where one of these definitions stands among the laws,\n\
-        or where `specs/` has one that no promise rests on.\n\n\
-        | file | lines | what it says |\n|---|---:|---|\n{rows}"
+        or where `specs/` has one that no promise rests on.\n\n{read}\n\
+        ## How an answer is found\n\n\
+        {settled_total} more lines in {settled_count} files say how an answer is found. The theorems in the table \"Settled\" of         [PROOFS](PROOFS.md) say exactly which\nanswer it is, with the definitions above alone: who has read those need not read these.\n\n{found}"
     )
 }
 
@@ -98,17 +105,16 @@ fn main() {
     let files = paths.iter().map(|p| (p.clone(), items::read(p))).collect();
     let specs = Specs { files };
     let promises = fs::read_to_string("docs/PROOFS.md").expect("docs/PROOFS.md");
-    let mut roots = specs.in_calls();
-    match specs.on_page(&promises) {
-        Ok(named) => roots.extend(named),
-        Err(why) => {
-            eprintln!("{why}");
-            exit(1);
-        }
-    }
-    let traced = specs.traced(&roots);
+    let named = specs.on_page(&promises).and_then(|n| Ok((n, specs.settled(&promises)?)));
+    let (named, settled) = named.unwrap_or_else(|why| {
+        eprintln!("{why}");
+        exit(1)
+    });
+    let roots = [specs.in_calls(), named].concat();
+    let traced = specs.traced(&roots, &HashSet::new());
+    let believed = specs.traced(&roots, &settled);
     let mut faults = misplaced(&specs, &traced);
-    let page = page(&specs, &in_order(&crates), &traced);
+    let page = page(&specs, &in_order(&crates), &traced, &believed);
     if std::env::args().nth(1).as_deref() != Some("check") {
         fs::write("docs/READING.md", page).expect("docs/READING.md to be written");
     } else if fs::read_to_string("docs/READING.md").unwrap_or_default() != page {

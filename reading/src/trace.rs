@@ -50,12 +50,13 @@ impl Specs {
         lines.flat_map(words).filter_map(|w| self.behind(file, w)).collect()
     }
 
-    /// What the statements of the roots, and the definitions that they name, rest on; a law only by its statement.
-    pub fn traced(&self, roots: &[Place]) -> HashSet<Place> {
+    /// What the statements of the roots, and the definitions that they name, rest on; a law only by its statement. Those that are settled
+    /// are left out, with what only they rest on.
+    pub fn traced(&self, roots: &[Place], settled: &HashSet<Place>) -> HashSet<Place> {
         let mut seen = HashSet::new();
         let mut left: Vec<Place> = roots.to_vec();
         while let Some(place) = left.pop() {
-            if !seen.insert(place.clone()) {
+            if settled.contains(&place) || !seen.insert(place.clone()) {
                 continue;
             }
             let item = self.item(&place);
@@ -94,6 +95,24 @@ impl Specs {
                 }
                 found.extend(places);
             }
+        }
+        Ok(found)
+    }
+
+    /// The definitions in the table of settled ones. The laws beside them must say what they are.
+    pub fn settled(&self, page: &str) -> Result<HashSet<Place>, String> {
+        let mut found = HashSet::new();
+        let part = page.split("\n## Settled\n").nth(1).unwrap_or("").split("\n## ").next().unwrap_or("");
+        for row in part.lines().filter(|l| l.starts_with("| `")) {
+            let cells: Vec<&str> = row.split('|').collect();
+            let (defined, laws) = (self.on_page(&format!("|{}", cells[1]))?, self.on_page(row)?);
+            let says = |law: &Place, d: &Place| self.mentioned(&self.files[&law.0], &self.item(law).statement).contains(d);
+            for place in &defined {
+                if !laws.iter().any(|l| self.item(l).is_law && says(l, place)) {
+                    return Err(format!("docs/PROOFS.md: no law beside `{}` speaks of it", self.item(place).name));
+                }
+            }
+            found.extend(defined);
         }
         Ok(found)
     }

@@ -7,19 +7,18 @@ use lib.ListN.{length}
 use Rattle.tables.specs.Tables.{Tables}
 use Rattle.message.specs.declared.Command.{Command}
 use Rattle.negotiation.specs.State.{State}
-use Rattle.standing.specs.Standing.{restoreOf}
+use Rattle.standing.specs.Holds.{Holds, Unrestored}
 use Rattle.applied.specs.After.{afterMessage}
 use Rattle.standing.specs.Turn.{sends, senderTo}
 use Rattle.take.specs.Take.{messageSize}
 use Rattle.applied.specs.Step.{moved}
 use Rattle.legal.specs.Updates.{Carries, RefusedAt}
-use Rattle.numbers.specs.Answer.{refused, accepted}
 use Rattle.numbers.specs.Refusals.{LENGTH, TURN, ENDED}
 
 -- the lengths are right, and the tables T and the undamaged state S are what the lent bytes hold
 pub record Stands (tables negotiation message scratch : List ℕ) (T : Tables) (S : State) : Type 0 where
   pub sized : messageSize (length message) (length scratch) ≡ true
-  pub restored : restoreOf tables negotiation ≡ accepted (T, S)
+  pub held : Holds tables negotiation T S
 
 -- the negotiation has not ended, and it is the sender's turn
 pub record InTurn (S : State) : Type 0 where
@@ -38,7 +37,7 @@ pub data Refusal (tables negotiation message scratch : List ℕ) (k : ℕ) : Typ
   -- "1 a lent length outside the sizes"
   size : messageSize (length message) (length scratch) ≡ false → k ≡ LENGTH → Refusal tables negotiation message scratch k
   -- the negotiation's length 1, the tables 1 to 6, "20 negotiation damaged"
-  unrestored : messageSize (length message) (length scratch) ≡ true → restoreOf tables negotiation ≡ refused k → Refusal tables negotiation message scratch k
+  unrestored : messageSize (length message) (length scratch) ≡ true → Unrestored tables negotiation k → Refusal tables negotiation message scratch k
   -- "22 already ended"
   ended : {T : Tables} {S : State} → Stands tables negotiation message scratch T S → (S .header .end ≡ 0 → ⊥) → k ≡ ENDED
       → Refusal tables negotiation message scratch k

@@ -2,7 +2,7 @@
 use Prim.Native.Nat.{ℕ, _<_}
 use native.Mathlib.Omega.{arith}
 use mathlib.Core.Path.{_≡_, refl, sym, _∙_, ap, subst}
-use mathlib.Core.Logic.{⊎-elim}
+use mathlib.Core.Logic.{⊎-elim, _↔_}
 use mathlib.Core.Bool.{Bool, true, false, not, cond, _&&_, _||_}
 use mathlib.Core.List.{List, List·Memᴰ}
 use borrow.Author.Tests.{eq-eqb, ne-eqb, eqb-true, eqb-false, lt-ltb, ltb-true, lt-leb, leb-false, not-false}
@@ -220,7 +220,7 @@ module _ (S : State) (x : Expression) (b p : ℕ) where
 
 module _ (S : State) (k p : ℕ) (y : Expression) (b : ℕ) where
   -- an edge is justified exactly where the test says so
-  pub justifies-exactly : (justifiedFor S k p y b ≡ true → Justifies S k p y b) × (Justifies S k p y b → justifiedFor S k p y b ≡ true)
+  pub justifies-exactly : (justifiedFor S k p y b ≡ true) ↔ Justifies S k p y b
   unfolding justifiedFor justifiedBy
   justifies-exactly =
       let x : Expression = nodeIn (S .nodes) p .expression in
@@ -553,7 +553,7 @@ by-rules ns s S (Join e) = refl
 by-rules ns s S (Mark i) = refl
 by-rules ns s S End = refl
 
-pub illegal-some : {ns : List Name} {s : ℕ} {S : State} {c : Command} {k : ℕ} → Illegal ns s S c k → k ≡ 0 → ⊥
+illegal-some : {ns : List Name} {s : ℕ} {S : State} {c : Command} {k : ℕ} → Illegal ns s S c k → k ≡ 0 → ⊥
 illegal-some (unnamed n) e = omega (arith, e)
 illegal-some (class-rule a n) e = omega (arith, e)
 illegal-some (opening a b n) e = omega (arith, e)
@@ -573,17 +573,17 @@ module _ (ns : List Name) (s : ℕ) (S : State) (c : Command) where
   illegal-judged k (illegal r) e = r
 
   -- a command is legal exactly where it is not refused
-  pub legal-exactly : (legalNumber ns s S c ≡ 0 → Legal ns s S c) × (Legal ns s S c → legalNumber ns s S c ≡ 0)
+  pub legal-exactly : (legalNumber ns s S c ≡ 0) ↔ Legal ns s S c
   legal-exactly = (
     λ h. legal-judged (byRules ns s S c) (by-judged ns s S c) (sym (by-rules ns s S c) ∙ h),
     λ l. by-rules ns s S c ∙ legal-none ns s S c l,
   )
 
   -- and refused with k exactly where rule k is the first that it breaks
-  pub illegal-exactly : (k : ℕ) → ((legalNumber ns s S c ≡ k) × (k ≡ 0 → ⊥) → Illegal ns s S c k) × (Illegal ns s S c k → legalNumber ns s S c ≡ k)
+  pub illegal-exactly : (k : ℕ) → ((legalNumber ns s S c ≡ k) × (k ≡ 0 → ⊥)) ↔ Illegal ns s S c k
   illegal-exactly k = (
     λ h.
         let e : byRules ns s S c ≡ k = sym (by-rules ns s S c) ∙ h .0 in
         subst (λ (n : ℕ). Illegal ns s S c n) e (illegal-judged (byRules ns s S c) (by-judged ns s S c) (λ z. h .1 (sym e ∙ z))),
-    λ r. by-rules ns s S c ∙ illegal-number ns s S c r,
+    λ r. (by-rules ns s S c ∙ illegal-number ns s S c r, illegal-some r),
   )

@@ -1,7 +1,7 @@
 -- Commands are read from their own bytes and from no others, and refused for two reasons. Assumes nothing.
 use Prim.Native.Nat.{ℕ, suc, _+_, _-_, _<_, _≤_}
 use mathlib.Core.Path.{_≡_, refl, sym, ap, _∙_, subst}
-use mathlib.Core.Logic.{_⊎_, inl, inr, ⊎-elim}
+use mathlib.Core.Logic.{_⊎_, inl, inr, ⊎-elim, _↔_}
 use mathlib.Core.Bool.{Bool, true, false, cond, _&&_}
 use mathlib.Core.List.{List, [], _∷_, _++_, append-assoc}
 use native.Mathlib.Omega.{arith}
@@ -35,7 +35,7 @@ use Rattle.message.specs.declared.CommandAnswer.the-variants.{Read, Refu
 use Rattle.message.specs.Command.{edgeKind, formedOpening, formedNew, formedCommand, whole, checked, shown, showAt, openingOf, openAt, newOf}
 use Rattle.message.specs.Command.{brought, bringAt, edgeOf, joinAt, markAt, endAt, byCode, commandAt, openingBytes, newBytes, edgeBytes}
 use Rattle.message.specs.Command.{commandBytes, sizeOf}
-use Rattle.message.specs.Unreadable.{Whole, Unreadable, cut, malformed}
+use Rattle.message.specs.Unreadable.{StandsAt, Whole, Unreadable, cut, malformed}
 use Rattle.numbers.specs.Refusals.{COMMAND, OPERAND}
 use Rattle.numbers.specs.Bytes.{CREDENTIAL-BYTES, OPEN-BYTES, NEW-EDGE-BYTES, OLD-EDGE-BYTES, MARK-BYTES, END-BYTES}
 use Rattle.message.specs.laws.Command.{size-some, show-full, open-full, bring-full, join-full, mark-full, end-last, at-code}
@@ -178,13 +178,13 @@ module _ (s : List ℕ) (at : ℕ) where
   -- a whole command has its size, by its first byte
   whole-size : (code : ℕ) → getD s at 0 ≡ code → Whole s at → sizeBy code ≤ length s - at
   whole-size code q w =
-      let e : sizeOf (w .command) ≡ sizeBy code = sym (size-by (w .command)) ∙ ap sizeBy (w .code ∙ q) in
+      let e : sizeOf (w .like) ≡ sizeBy code = sym (size-by (w .like)) ∙ ap sizeBy (sym (w .code) ∙ q) in
       omega (arith, w .room, e)
 
   whole-by : (code : ℕ) (l : List ℕ) (good : Bool) (c : Command) → Has code good l c → getD s at 0 ≡ code → suc (length l) ≤ length s - at
       → (isEnd c ≡ true → length s ≡ at + 1) → Whole s at
   whole-by code l good c w q h last =
-      record { command = c; code = ap (λ (m : List ℕ). getD m 0 0) (w .bytes) ∙ sym q; room = omega (arith, w .size); last = λ e. last (ap isEnd e) }
+      record { like = c; code = q ∙ sym (ap (λ (m : List ℕ). getD m 0 0) (w .bytes)); room = omega (arith, w .size); last = λ e. last (ap isEnd e) }
 
 -- a credential of right form
 abbrev some : Credential
@@ -254,7 +254,7 @@ module _ (s : List ℕ) (at : ℕ) where
       go true h =
           let one : length s - at ≡ 1 = eqb-true (length s - at) 1 h in
           sure-read 6 [] End end-has q (omega (arith, one)) (λ b. refl) (λ z. omega (arith, one))
-      go false h = inl (refl, λ w. let e = w .last (end-by (w .command) (w .code ∙ q)) in eqb-false (length s - at) 1 h (omega (arith, e)))
+      go false h = inl (refl, λ w. let e = w .last (end-by (w .like) (sym (w .code) ∙ q)) in eqb-false (length s - at) 1 h (omega (arith, e)))
 
   sure-test : (code k : ℕ) (x y : CommandAnswer) → (code ≡ k → Sure s at x) → ((code ≡ k → ⊥) → Sure s at y) → Sure s at (cond (eqb code k) x y)
   sure-test code k x y here other = go (eqb code k) refl
@@ -267,7 +267,7 @@ module _ (s : List ℕ) (at : ℕ) where
   unfolding commandAt
   sure =
       let code : ℕ = getD s at 0 in
-      sure-whole 1 (byCode code s at) (λ w. omega (arith, w .room, size-some (w .command))) (λ inside.
+      sure-whole 1 (byCode code s at) (λ w. omega (arith, w .room, size-some (w .like))) (λ inside.
       sure-test code 1 _ _ sure-show (λ n1.
       sure-test code 2 _ _ sure-open (λ n2.
       sure-test code 3 _ _ sure-bring (λ n3.
@@ -277,7 +277,7 @@ module _ (s : List ℕ) (at : ℕ) where
       inl (
         refl,
         λ w.
-            let k = subst (λ (n : ℕ). (0 < n) × (n < 7)) (w .code) (known (w .command)) in
+            let k = subst (λ (n : ℕ). (0 < n) × (n < 7)) (sym (w .code)) (known (w .like)) in
             let a = past 3 code (past 0 code (k .0) n1 n2 n3) n4 n5 n6 in
             omega (arith, a, k .1),
       ))))))))
@@ -373,52 +373,51 @@ command-back s at End l h good last =
 -- Unreadable commands
 
 module _ (s : List ℕ) (at : ℕ) where
+  -- the first byte of a command that stands there
+  first-there : (c : Command) → take (sizeOf c) (drop at s) ≡ commandBytes c → getD s at 0 ≡ firstOf c
+  first-there c h =
+      ap (λ (n : ℕ). getD s n 0) (omega arith)
+      ∙ sym (getD-drop at s 0 0)
+      ∙ sym (getD-take (sizeOf c) (drop at s) 0 0 (size-some c))
+      ∙ ap (λ (l : List ℕ). getD l 0 0) h
+
   -- a command of right form whose bytes stand there is read
-  there-read : (c : Command) → formedCommand c ≡ true → (c ≡ End → length s ≡ at + 1) → take (sizeOf c) (drop at s) ≡ commandBytes c
-      → commandAt s at ≡ Read c
-  there-read c good last h =
+  there-read : Whole s at → (c : Command) → StandsAt s at c → commandAt s at ≡ Read c
+  unfolding commandBytes
+  there-read w c h =
       let l : List ℕ = drop (sizeOf c) (drop at s) in
-      let there : drop at s ≡ commandBytes c ++ l = sym (take-append-drop (sizeOf c) (drop at s)) ∙ ap (λ (m : List ℕ). m ++ l) h in
-      command-back s at c l there good
+      let there : drop at s ≡ commandBytes c ++ l = sym (take-append-drop (sizeOf c) (drop at s)) ∙ ap (λ (m : List ℕ). m ++ l) (h .bytes) in
+      let last : c ≡ End → length s ≡ at + 1
+      = λ e. w .last (end-by (w .like) (sym (w .code) ∙ first-there c (h .bytes) ∙ ap firstOf e)) in
+      command-back s at c l there (h .form)
       (λ e. ap (λ (k : Command). drop (sizeOf k) (drop at s)) e ∙ drop-drop 1 at s ∙ drop-of-length-le s {i = at + 1} (omega (arith, last e)))
 
-  -- an end that stands whole is the last
-  there-last : Whole s at → (c : Command) → take (sizeOf c) (drop at s) ≡ commandBytes c → c ≡ End → length s ≡ at + 1
-  unfolding commandBytes
-  there-last w c h e =
-      let same : firstOf End ≡ getD s at 0
-      = ap firstOf (sym e) ∙ ap (λ (l : List ℕ). getD l 0 0) (sym h) ∙ getD-take (sizeOf c) (drop at s) 0 0 (size-some c) ∙ getD-drop at s 0 0
-      ∙ ap (λ (n : ℕ). getD s n 0) (omega arith) in
-      w .last (end-by (w .command) (w .code ∙ sym same))
+  two-answers : {k : ℕ} {c : Command} → Refused k ≡ Read c → ⊥
+  two-answers e = let z : _≡_ {A = ℕ} 0 1 = cc in omega arith
 
   module _ (bytes : (i : ℕ) → getD s i 0 < 256) where
-    -- a command that was read stands whole
-    read-whole : (c : Command) → commandAt s at ≡ Read c → Whole s at
-    read-whole c h =
-        let same : firstOf c ≡ getD s at 0
-        = ap (λ (l : List ℕ). getD l 0 0) (sym (command-only s at c bytes h)) ∙ getD-take (sizeOf c) (drop at s) 0 0 (size-some c) ∙ getD-drop at s 0 0
-        ∙ ap (λ (n : ℕ). getD s n 0) (omega arith) in
-        record { command = c; code = same; room = command-room s at c h; last = λ e. command-end s at (h ∙ ap Read e) }
+    -- a command that was read stands there, and whole
+    read-there-whole : (c : Command) → commandAt s at ≡ Read c → Whole s at × StandsAt s at c
+    read-there-whole c h =
+        let b = command-only s at c bytes h in (
+          record { like = c; code = first-there c b; room = command-room s at c h; last = λ e. command-end s at (h ∙ ap Read e) },
+          record { form = command-formed s at c h; bytes = b },
+        )
 
     refused-by : (k : ℕ) → commandAt s at ≡ Refused k → Sure s at (Refused k) → Unreadable s at k
-    refused-by k h (inl z) = subst (λ (n : ℕ). Unreadable s at n) (sym (z .0)) (cut (z .1))
-    refused-by k h (inr z) =
-        subst (λ (n : ℕ). Unreadable s at n) (sym (z .0))
-        (malformed (z .1) (λ c good there. two-answers c (sym h ∙ there-read c good (there-last (z .1) c there) there)))
-      where
-        two-answers : (c : Command) → Refused k ≡ Read c → ⊥
-        two-answers c e = let z : _≡_ {A = ℕ} 0 1 = cc in omega arith
+    refused-by k h (inl z) = cut (z .1) (z .0)
+    refused-by k h (inr z) = malformed (z .1) (λ c there. two-answers (sym h ∙ there-read (z .1) c there)) (z .0)
 
     by-answer : (x : CommandAnswer) → commandAt s at ≡ x → {k : ℕ} → Unreadable s at k → Sure s at x → x ≡ Refused k
-    by-answer (Read c) h (cut n) u = absurd (n (read-whole c h))
-    by-answer (Read c) h (malformed w n) u = absurd (n c (command-formed s at c h) (command-only s at c bytes h))
-    by-answer (Refused j) h (cut n) (inl z) = ap Refused (z .0)
-    by-answer (Refused j) h (cut n) (inr z) = absurd (n (z .1))
-    by-answer (Refused j) h (malformed w n) (inl z) = absurd (z .1 w)
-    by-answer (Refused j) h (malformed w n) (inr z) = ap Refused (z .0)
+    by-answer (Read c) h (cut n e) u = absurd (n (read-there-whole c h .0))
+    by-answer (Read c) h (malformed w n e) u = absurd (n c (read-there-whole c h .1))
+    by-answer (Refused j) h (cut n e) (inl z) = ap Refused (z .0 ∙ sym e)
+    by-answer (Refused j) h (cut n e) (inr z) = absurd (n (z .1))
+    by-answer (Refused j) h (malformed w n e) (inl z) = absurd (z .1 w)
+    by-answer (Refused j) h (malformed w n e) (inr z) = ap Refused (z .0 ∙ sym e)
 
     -- nothing can be read exactly where no command stands whole (2), or its operands have wrong form (3)
-    pub unreadable-exactly : (k : ℕ) → (commandAt s at ≡ Refused k → Unreadable s at k) × (Unreadable s at k → commandAt s at ≡ Refused k)
+    pub unreadable-exactly : (k : ℕ) → (commandAt s at ≡ Refused k) ↔ Unreadable s at k
     unreadable-exactly k = (λ h. refused-by k h (subst (Sure s at) h (sure s at)), λ u. by-answer (commandAt s at) refl u (sure s at))
 
 -- what stands from where it was copied on

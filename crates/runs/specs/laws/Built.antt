@@ -41,7 +41,7 @@ module _ (tables : List ℕ) (T : Tables) (h : readTables tables ≡ accepted T)
     take-builds m scratch bytes (refused k) e b = b
     take-builds m scratch bytes (accepted A) e b =
         let q = take-exactly tables (stateBytes S) m scratch A bytes .0 e in
-        let found = finds-only S w (q .0, q .1) (q .2 .restored) in
+        let found = finds-only S w (q .0, q .1) (restored-exactly tables (stateBytes S) (q .0) (q .1) .1 (q .2 .held)) in
         let a : Accepted T S m A = subst (λ (x : Tables × State). Accepted (x .0) (x .1) m A) found (q .4) in
         next (a .commands) false (a .carries .bytes) (a .carries .updates) (subst (λ (x : State). Builds (T .names) x ms N) (a .after) b)
 

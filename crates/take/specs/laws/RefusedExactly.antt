@@ -1,14 +1,13 @@
 -- A call is refused exactly where one of the reasons holds, in their order, and by its number. Assumes nothing.
 use Prim.Native.Nat.{ℕ, zero, suc, _+_, _≤_, _<_}
 use native.Mathlib.Omega.{arith}
+use mathlib.Core.Logic.{_↔_}
 use mathlib.Core.Path.{_≡_, refl, sym, _∙_, ap, subst}
-use mathlib.Core.Logic.{_⊎_, inl, inr, ⊎-elim}
-use mathlib.Core.Bool.{Bool, true, false, not, cond, _&&_, _||_}
+use mathlib.Core.Bool.{Bool, true, false, not, cond, _||_}
 use mathlib.Core.List.{List, [], _∷_, _++_, append-assoc}
-use mathlib.Core.Option.{Option}
 use mathlib.Core.Option as O
 use borrow.Author.Tests.{eqb-true, eqb-false}
-use lib.Dec.{eqb, leb}
+use lib.Dec.{eqb}
 use lib.ListN.{length, getD, drop, length-append, length-drop, take-append-drop}
 use lib.Seq.{drop-at, drop-drop}
 use Rattle.word.specs.laws.Bools.{false-true}
@@ -20,16 +19,14 @@ use Rattle.message.specs.Command.{commandAt, sizeOf, commandBytes}
 use Rattle.message.specs.laws.Command.{nothing, size-some}
 use Rattle.message.specs.laws.CommandExact.{command-length, command-room, command-formed, command-only, command-back, unreadable-exactly}
 use Rattle.tables.specs.Tables.{Tables}
-use Rattle.tables.specs.Check.{readTables}
-use Rattle.tables.specs.laws.Accepted.{check-numbers}
 use Rattle.negotiation.specs.State.{State}
-use Rattle.damage.specs.Damage.{readSound}
 use Rattle.standing.specs.Standing as R
+use Rattle.standing.specs.laws.Exactly.{restored-exactly}
+use Rattle.standing.specs.laws.Unrestored.{unrestored-exactly}
 use Rattle.applied.specs.Step.{stepped, isMove}
 use Rattle.legal.specs.Number.{legalNumber}
-use Rattle.legal.specs.Legal.{Legal, Illegal, unnamed, class-rule, opening, no-node, present, unjustified, processed, full}
-use Rattle.message.specs.Unreadable.{cut, malformed}
-use Rattle.legal.specs.laws.Exact.{legal-exactly, illegal-exactly, illegal-some}
+use Rattle.legal.specs.Legal.{Legal}
+use Rattle.legal.specs.laws.Exact.{legal-exactly, illegal-exactly}
 use Rattle.take.specs.Commands as C
 use Rattle.message.specs.Message.{isEnd, bytesOf}
 use Rattle.take.specs.laws.Commands.{refusalOf}
@@ -41,7 +38,6 @@ use Rattle.take.specs.laws.TakenExactly.{taken-one, take-ended, take-out
 use Rattle.numbers.specs.Answer.{Answer, refused, accepted, judged}
 use Rattle.numbers.specs.laws.Answer.{isRefused, numberOf}
 use Rattle.numbers.specs.Refusals.{LENGTH, TURN, ENDED}
-use Rattle.numbers.specs.Sizes.{NEGOTIATION-BYTES}
 
 -- The commands
 
@@ -60,7 +56,7 @@ module _ (ns : List Name) (s : ℕ) (m : List ℕ) (bytes : (i : ℕ) → getD m
       ap (C.onCommand (λ size T w. C.commandsFrom f ns s m (at + size) T w) ns s S v) (unreadable-exactly m at bytes k .1 u)
   refused-here (suc f) at S v k l (illegal c e r) =
       let x : Answer (State × Bool) = cond (isEnd c) (accepted (S, v)) (C.commandsFrom f ns s m (at + sizeOf c) (stepped S s c) (v || isMove c)) in
-      ap (C.onCommand (λ size T w. C.commandsFrom f ns s m (at + size) T w) ns s S v) e ∙ ap (λ (n : ℕ). judged n x) (illegal-exactly ns s S c k .1 r) ∙ judged-refused k x (illegal-some r)
+      ap (C.onCommand (λ size T w. C.commandsFrom f ns s m (at + size) T w) ns s S v) e ∙ ap (λ (n : ℕ). judged n x) (illegal-exactly ns s S c k .1 r .0) ∙ judged-refused k x (illegal-exactly ns s S c k .1 r .1)
 
   -- and those before it
   refused-behind : {S T : State} {cs : List Command} → Updates ns s S cs T → (f at : ℕ) (v : Bool) (rest : List ℕ) (k : ℕ)
@@ -152,8 +148,7 @@ module _ (ns : List Name) (s : ℕ) (m : List ℕ) (bytes : (i : ℕ) → getD m
     rest-all (suc f) at S v l h = rest-answer f (rest-all f) at S v l (commandAt m at) refl h
 
     -- the commands of a message are refused exactly where one of them is, those before it being legal
-    pub stops-exactly : (S : State) → (C.commandsFrom (length m) ns s m 0 S false ≡ refused k → RefusedAt ns s m S k)
-        × (RefusedAt ns s m S k → C.commandsFrom (length m) ns s m 0 S false ≡ refused k)
+    pub stops-exactly : (S : State) → (C.commandsFrom (length m) ns s m 0 S false ≡ refused k) ↔ RefusedAt ns s m S k
     stops-exactly S = (
       λ h.
           let r = rest-all (length m) 0 S false (omega arith) h in
@@ -198,8 +193,8 @@ module _ (tables negotiation message scratch : List ℕ) (bytes : (i : ℕ) → 
   by-standing : messageSize (length message) (length scratch) ≡ true → (x : Answer (Tables × State)) → R.restoreOf tables negotiation ≡ x
       → behindStanding message x ≡ refused k → Refusal tables negotiation message scratch k
   unfolding takenIn
-  by-standing h (refused j) e q = unrestored h (e ∙ ap refused (ap numberOf q))
-  by-standing h (accepted (T, S)) e q = by-end T S (record { sized = h; restored = e }) (eqb (S .header .end) 0) refl q
+  by-standing h (refused j) e q = unrestored h (unrestored-exactly tables negotiation k .0 (e ∙ ap refused (ap numberOf q)))
+  by-standing h (accepted (T, S)) e q = by-end T S (record { sized = h; held = restored-exactly tables negotiation T S .0 e }) (eqb (S .header .end) 0) refl q
 
   by-size : (b : Bool) → messageSize (length message) (length scratch) ≡ b
       → cond b (behindStanding message (R.restoreOf tables negotiation)) (refused LENGTH) ≡ refused k → Refusal tables negotiation message scratch k
@@ -213,110 +208,12 @@ module _ (tables negotiation message scratch : List ℕ) (bytes : (i : ℕ) → 
   refuses : Refusal tables negotiation message scratch k → takeOf tables negotiation message scratch ≡ refused k
   unfolding takeOf
   refuses (size h e) = ap (λ (b : Bool). cond b (behindStanding message (R.restoreOf tables negotiation)) (refused LENGTH)) h ∙ ap refused (sym e)
-  refuses (unrestored h e) = λ i. cond (h i) (behindStanding message (e i)) (refused LENGTH)
+  refuses (unrestored h u) = λ i. cond (h i) (behindStanding message (unrestored-exactly tables negotiation k .1 u i)) (refused LENGTH)
   refuses (ended {T} {S} h z e) = take-ended tables negotiation message scratch T S h z ∙ ap refused (sym e)
   refuses (out-of-turn {T} {S} h z g e) = take-out-of-turn tables negotiation message scratch T S h z g ∙ ap refused (sym e)
   refuses (stopped {T} {S} h t r) =
       take-commands tables negotiation message scratch T S h t ∙ ap behindCommands (stops-exactly (T .names) (senderTo S) message bytes k S .1 r)
 
   -- a call is refused with k exactly where one of the reasons holds
-  pub take-refused-exactly : (takeOf tables negotiation message scratch ≡ refused k → Refusal tables negotiation message scratch k)
-      × (Refusal tables negotiation message scratch k → takeOf tables negotiation message scratch ≡ refused k)
+  pub take-refused-exactly : (takeOf tables negotiation message scratch ≡ refused k) ↔ Refusal tables negotiation message scratch k
   take-refused-exactly = (reason, refuses)
-
--- Numbers
-
--- none, or one that a command is refused with: 2 to 5, or 23 and above
-abbrev byCommand : ℕ → Bool
-byCommand k = eqb k 0 || (leb 2 k && leb k 5) || leb 23 k
-
-illegal-by : {ns : List Name} {s : ℕ} {S : State} {c : Command} {k : ℕ} → Illegal ns s S c k → byCommand k ≡ true
-illegal-by (unnamed n) = refl
-illegal-by (class-rule a n) = refl
-illegal-by (opening a b n) = refl
-illegal-by (no-node a b d n) = refl
-illegal-by (present a b d e n) = refl
-illegal-by (unjustified a b d e f n) = refl
-illegal-by (processed a b d e f g n) = refl
-illegal-by (full a b d e f g h n) = refl
-
-wrong-by : {ns : List Name} {s : ℕ} {m : List ℕ} {at : ℕ} {S : State} {k : ℕ} → Wrong ns s m at S k → byCommand k ≡ true
-wrong-by (unreadable (cut n)) = refl
-wrong-by (unreadable (malformed w n)) = refl
-wrong-by (illegal c e r) = illegal-by r
-
--- the negotiation's length is refused by 1, the tables by their number, damage by 20
-module _ (tables negotiation : List ℕ) (k : ℕ) where
-  abbrev Unrestored : Type 0
-  Unrestored = ((length negotiation ≡ NEGOTIATION-BYTES → ⊥) × (k ≡ 1)) ⊎ ((readTables tables ≡ refused k) ⊎ (k ≡ 20))
-
-  by-state : (T : Tables) (x : Option State) → R.behindDamage T x ≡ refused k → k ≡ 20
-  by-state T O.none q = sym (ap numberOf q)
-  by-state T (O.some S) q = absurd (false-true (ap isRefused q))
-
-  by-tables : (x : Answer Tables) → readTables tables ≡ x → R.behindTables negotiation x ≡ refused k → Unrestored
-  by-tables (refused j) e q = inr (inl (e ∙ ap refused (ap numberOf q)))
-  by-tables (accepted T) e q = inr (inr (by-state T (readSound T negotiation) q))
-
-  by-length : (b : Bool) → eqb (length negotiation) NEGOTIATION-BYTES ≡ b
-      → cond b (R.behindTables negotiation (readTables tables)) (refused LENGTH) ≡ refused k → Unrestored
-  by-length true e q = by-tables (readTables tables) refl q
-  by-length false e q = inl (eqb-false (length negotiation) NEGOTIATION-BYTES e, sym (ap numberOf q))
-
-  unrestored-by : R.restoreOf tables negotiation ≡ refused k → Unrestored
-  unfolding R.restoreOf
-  unrestored-by h = by-length (eqb (length negotiation) NEGOTIATION-BYTES) refl h
-
-  unrestored-number : R.restoreOf tables negotiation ≡ refused k → (k ≤ 6) ⊎ (k ≡ 20)
-  unrestored-number h = ⊎-elim (λ z. inl (omega (arith, z .1))) (λ z. ⊎-elim (λ y. inl (check-numbers tables k y .1)) (λ y. inr y) z) (unrestored-by h)
-
-module _ (tables negotiation message scratch : List ℕ) (bytes : (i : ℕ) → getD message i 0 < 256) where
-  -- 22 is given to a negotiation that has ended, and to no other
-  pub ended-only : takeOf tables negotiation message scratch ≡ refused 22
-      → (T : Tables) × (S : State) × Stands tables negotiation message scratch T S × (S .header .end ≡ 0 → ⊥)
-  ended-only q = go (take-refused-exactly tables negotiation message scratch bytes 22 .0 q)
-    where
-      go : Refusal tables negotiation message scratch 22 → (T : Tables) × (S : State) × Stands tables negotiation message scratch T S × (S .header .end ≡ 0 → ⊥)
-      go (size h e) = absurd (omega (arith, e))
-      go (unrestored h e) = absurd (⊎-elim (λ z. omega (arith, z)) (λ z. omega (arith, z)) (unrestored-number tables negotiation 22 e))
-      go (ended {T} {S} h z e) = (T, S, h, z)
-      go (out-of-turn h z g e) = absurd (omega (arith, e))
-      go (stopped h t r) = absurd (false-true (wrong-by (r .wrong)))
-
-  -- 21 to a message out of turn, and to no other
-  pub turn-only : takeOf tables negotiation message scratch ≡ refused 21
-      → (T : Tables) × (S : State) × Stands tables negotiation message scratch T S × (S .header .end ≡ 0) × (sends (senderTo S) (S .header .messages) ≡ false)
-  turn-only q = go (take-refused-exactly tables negotiation message scratch bytes 21 .0 q)
-    where
-      go : Refusal tables negotiation message scratch 21
-          → (T : Tables) × (S : State) × Stands tables negotiation message scratch T S × (S .header .end ≡ 0)
-          × (sends (senderTo S) (S .header .messages) ≡ false)
-      go (size h e) = absurd (omega (arith, e))
-      go (unrestored h e) = absurd (⊎-elim (λ z. omega (arith, z)) (λ z. omega (arith, z)) (unrestored-number tables negotiation 21 e))
-      go (ended h z e) = absurd (omega (arith, e))
-      go (out-of-turn {T} {S} h z g e) = (T, S, h, z, g)
-      go (stopped h t r) = absurd (false-true (wrong-by (r .wrong)))
-
-  -- 20 to a negotiation that is damaged, and to no other
-  pub damaged-only : takeOf tables negotiation message scratch ≡ refused 20 → R.restoreOf tables negotiation ≡ refused 20
-  damaged-only q = go (take-refused-exactly tables negotiation message scratch bytes 20 .0 q)
-    where
-      go : Refusal tables negotiation message scratch 20 → R.restoreOf tables negotiation ≡ refused 20
-      go (size h e) = absurd (omega (arith, e))
-      go (unrestored h e) = e
-      go (ended h z e) = absurd (omega (arith, e))
-      go (out-of-turn h z g e) = absurd (omega (arith, e))
-      go (stopped h t r) = absurd (false-true (wrong-by (r .wrong)))
-
-  -- 1 to a length: the message's or the scratch's, the negotiation's, the tables'
-  pub length-only : takeOf tables negotiation message scratch ≡ refused 1
-      → (messageSize (length message) (length scratch) ≡ false) ⊎ ((length negotiation ≡ NEGOTIATION-BYTES → ⊥) ⊎ (readTables tables ≡ refused 1))
-  length-only q = go (take-refused-exactly tables negotiation message scratch bytes 1 .0 q)
-    where
-      go : Refusal tables negotiation message scratch 1
-          → (messageSize (length message) (length scratch) ≡ false) ⊎ ((length negotiation ≡ NEGOTIATION-BYTES → ⊥) ⊎ (readTables tables ≡ refused 1))
-      go (size h e) = inl h
-      go (unrestored h e) = inr (⊎-elim (λ z. inl (z .0)) (λ z. ⊎-elim (λ y. inr y) (λ y. absurd (omega (arith, y))) z) (unrestored-by tables negotiation 1 e))
-      go (ended h z e) = absurd (omega (arith, e))
-      go (out-of-turn h z g e) = absurd (omega (arith, e))
-      go (stopped h t r) = absurd (false-true (wrong-by (r .wrong)))

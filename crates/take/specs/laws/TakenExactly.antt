@@ -1,6 +1,7 @@
 -- A message is taken exactly where it consists of legal commands and an end, and leads where they lead. Assumes nothing.
 use Prim.Native.Nat.{ℕ, zero, suc, _+_, _≤_, _<_}
 use native.Mathlib.Omega.{arith}
+use mathlib.Core.Logic.{_↔_}
 use mathlib.Core.Path.{_≡_, refl, sym, _∙_, ap, subst}
 use mathlib.Core.Bool.{Bool, true, false, not, cond, _||_, or-false, or-assoc}
 use mathlib.Core.List.{List, [], _∷_, _++_, append-nil}
@@ -19,6 +20,7 @@ use Rattle.message.specs.laws.CommandExact.{command-length, command-formed, com
 use Rattle.tables.specs.Tables.{Tables}
 use Rattle.negotiation.specs.State.{State}
 use Rattle.standing.specs.Standing as R
+use Rattle.standing.specs.laws.Exactly.{restored-exactly}
 use Rattle.applied.specs.Step.{stepped, isMove, moved}
 use Rattle.legal.specs.Number.{legalNumber}
 use Rattle.applied.specs.After.{afterMessage}
@@ -140,8 +142,7 @@ module _ (ns : List Name) (s : ℕ) (m : List ℕ) where
 
     -- the commands of a message are carried out exactly where it consists of legal commands and an end
     pub commands-exactly : (S T : State) (v : Bool)
-        → (C.commandsFrom (length m) ns s m 0 S false ≡ accepted (T, v) → (cs : List Command) × Carries ns s m S cs T × (v ≡ moved cs))
-        × (((cs : List Command) × Carries ns s m S cs T × (v ≡ moved cs)) → C.commandsFrom (length m) ns s m 0 S false ≡ accepted (T, v))
+        → (C.commandsFrom (length m) ns s m 0 S false ≡ accepted (T, v)) ↔ ((cs : List Command) × Carries ns s m S cs T × (v ≡ moved cs))
     commands-exactly S T v = (
       λ h. let r = rest-all (length m) T v 0 S false h in (r .commands, record { bytes = r .there; updates = r .updates; end = r .end }, r .moves),
       λ r. carried (r .1 .updates) (r .1 .end) (length m) 0 false (r .1 .bytes) (omega (arith, ap length (r .1 .bytes)))
@@ -153,7 +154,7 @@ module _ (ns : List Name) (s : ℕ) (m : List ℕ) where
 module _ (tables negotiation message scratch : List ℕ) (T : Tables) (S : State) (h : Stands tables negotiation message scratch T S) where
   by-standing : takeOf tables negotiation message scratch ≡ takenIn message T S
   unfolding takeOf
-  by-standing = λ i. cond (h .sized i) (behindStanding message (h .restored i)) (refused LENGTH)
+  by-standing = λ i. cond (h .sized i) (behindStanding message (restored-exactly tables negotiation T S .1 (h .held) i)) (refused LENGTH)
 
   -- what a message in its turn leads to
   abbrev pub leadsTo : Answer (State × Bool)
@@ -189,8 +190,7 @@ module _ (tables negotiation message scratch : List ℕ) (T : Tables) (S : State
         record { commands = r .0; led = U; carries = r .1; after = sym (ap (valueOr A) q) ∙ ap (λ (b : Bool). afterMessage U b false) (r .2) }
 
     -- a message in its turn is accepted exactly where it consists of legal commands and an end
-    pub taken-exactly : (takeOf tables negotiation message scratch ≡ accepted A → Accepted T S message A)
-        × (Accepted T S message A → takeOf tables negotiation message scratch ≡ accepted A)
+    pub taken-exactly : (takeOf tables negotiation message scratch ≡ accepted A) ↔ Accepted T S message A
     taken-exactly = (
       λ q. accepted-of leadsTo refl (sym (take-commands t) ∙ q),
       λ r. take-commands t ∙ ap behindCommands (commands-exactly (T .names) (senderTo S) message bytes S (r .led) (moved (r .commands)) .1
@@ -218,7 +218,7 @@ module _ (tables negotiation message scratch : List ℕ) (A : State) where
       → behindStanding message x ≡ accepted A → Ready
   unfolding takenIn
   ready-standing h (refused k) e q = absurd (false-true (ap isAccepted q))
-  ready-standing h (accepted (T, S)) e q = ready-end T S (record { sized = h; restored = e }) (eqb (S .header .end) 0) refl q
+  ready-standing h (accepted (T, S)) e q = ready-end T S (record { sized = h; held = restored-exactly tables negotiation T S .0 e }) (eqb (S .header .end) 0) refl q
 
   ready-size : (b : Bool) → messageSize (length message) (length scratch) ≡ b
       → cond b (behindStanding message (R.restoreOf tables negotiation)) (refused LENGTH) ≡ accepted A → Ready
@@ -231,10 +231,8 @@ module _ (tables negotiation message scratch : List ℕ) (A : State) where
 
   -- a call accepts exactly where all stands, it is the sender's turn, and the message consists of legal commands and an end
   pub take-exactly : ((i : ℕ) → getD message i 0 < 256)
-      → (takeOf tables negotiation message scratch ≡ accepted A
-      → (T : Tables) × (S : State) × Stands tables negotiation message scratch T S × InTurn S × Accepted T S message A)
-      × (((T : Tables) × (S : State) × Stands tables negotiation message scratch T S × InTurn S × Accepted T S message A)
-      → takeOf tables negotiation message scratch ≡ accepted A)
+      → (takeOf tables negotiation message scratch ≡ accepted A)
+      ↔ ((T : Tables) × (S : State) × Stands tables negotiation message scratch T S × InTurn S × Accepted T S message A)
   take-exactly bytes = (
     λ q. let r = ready q in (r .0, r .1, r .2, r .3, taken-exactly tables negotiation message scratch (r .0) (r .1) (r .2) (r .3) bytes A .0 q),
     λ r. taken-exactly tables negotiation message scratch (r .0) (r .1) (r .2) (r .3) bytes A .1 (r .4),
