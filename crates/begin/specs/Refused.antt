@@ -16,7 +16,7 @@ use Rattle.numbers.specs.Refusals.{LENGTH, OPERAND, NAME, OTHER}
 use Rattle.numbers.specs.Sizes.{NEGOTIATION-BYTES}
 
 -- "negotiation 5,120 exactly", and the tables are accepted as T
-pub record Given (tables negotiation : List ℕ) (T : Tables) : Type 0 where
+pub record Lent (tables negotiation : List ℕ) (T : Tables) : Type 0 where
   pub size : length negotiation ≡ NEGOTIATION-BYTES
   pub house : readTables tables ≡ accepted T
 
@@ -39,19 +39,19 @@ pub data BeginRefused (tables negotiation : List ℕ) (other entity name k : ℕ
   -- the tables' number
   unread : length negotiation ≡ NEGOTIATION-BYTES → CheckRefused tables k → BeginRefused tables negotiation other entity name k
   -- "3 .. at begin just one zero in the role"
-  one-zero : {T : Tables} → Given tables negotiation T → OneZero entity name → k ≡ OPERAND → BeginRefused tables negotiation other entity name k
+  one-zero : {T : Tables} → Lent tables negotiation T → OneZero entity name → k ≡ OPERAND → BeginRefused tables negotiation other entity name k
   -- "4 a name without class"
-  unnamed : {T : Tables} → Given tables negotiation T → (entity ≡ 0 → ⊥) → (name ≡ 0 → ⊥) → classOf (T .names) name ≡ 0 → k ≡ NAME
+  unnamed : {T : Tables} → Lent tables negotiation T → (entity ≡ 0 → ⊥) → (name ≡ 0 → ⊥) → classOf (T .names) name ≡ 0 → k ≡ NAME
       → BeginRefused tables negotiation other entity name k
   -- "7 at begin: other end is zero or self"
-  other-end : {T : Tables} → Given tables negotiation T → Wanted (T .names) entity name → (other ≡ 0) ⊎ (other ≡ T .own) → k ≡ OTHER
+  other-end : {T : Tables} → Lent tables negotiation T → Wanted (T .names) entity name → (other ≡ 0) ⊎ (other ≡ T .own) → k ≡ OTHER
       → BeginRefused tables negotiation other entity name k
 
 -- begin is accepted, and S is the fresh negotiation
 pub record Begun (tables negotiation : List ℕ) (other entity name : ℕ) (S : State) : Type 0 where
   pub house : Tables
-  pub given : Given tables negotiation house
+  pub lent : Lent tables negotiation house
   pub wanted : Wanted (house .names) entity name
-  pub there : other ≡ 0 → ⊥
-  pub elsewhere : other ≡ house .own → ⊥
+  pub nonzero : other ≡ 0 → ⊥
+  pub distinct : other ≡ house .own → ⊥
   pub fresh : S ≡ begunState house other entity name

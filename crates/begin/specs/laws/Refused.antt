@@ -16,7 +16,7 @@ use Rattle.tables.specs.laws.Accepted.{check-numbers}
 use Rattle.tables.specs.laws.Refused.{check-refused-exactly}
 use Rattle.negotiation.specs.State.{State}
 use Rattle.begin.specs.Begin.{roleNumber, otherNumber, beginNumber, begunState, behindTables, beginOf}
-use Rattle.begin.specs.Refused.{Given, Wanted, none, role, OneZero, zero-entity, zero-name, BeginRefused, wrong-length, unread, one-zero, unnamed}
+use Rattle.begin.specs.Refused.{Lent, Wanted, none, role, OneZero, zero-entity, zero-name, BeginRefused, wrong-length, unread, one-zero, unnamed}
 use Rattle.begin.specs.Refused.{other-end, Begun}
 use Rattle.numbers.specs.Answer.{Answer, refused, accepted, judged}
 use Rattle.numbers.specs.Refusals.{LENGTH}
@@ -61,7 +61,7 @@ module _ (tables negotiation : List ℕ) (other entity name : ℕ) where
   Says (refused k) = BeginRefused tables negotiation other entity name k
   Says (accepted S) = Begun tables negotiation other entity name S
 
-  module _ {T : Tables} (g : Given tables negotiation T) where
+  module _ {T : Tables} (g : Lent tables negotiation T) where
     by-numbers : {j k : ℕ} → roleNumber (T .names) entity name ≡ j → otherNumber (T .own) other ≡ k
         → beginOf tables negotiation other entity name ≡ judged (orElse j k) (accepted (begunState T other entity name))
     unfolding beginOf beginNumber
@@ -74,7 +74,7 @@ module _ (tables negotiation : List ℕ) (other entity name : ℕ) where
     other-says r true w p q = other-end g r (inl (eqb-true other 0 p)) refl
     other-says r false true p q = other-end g r (inr (eqb-true other (T .own) q)) refl
     other-says r false false p q =
-        record { house = T; given = g; wanted = r; there = eqb-false other 0 p; elsewhere = eqb-false other (T .own) q; fresh = refl }
+        record { house = T; lent = g; wanted = r; nonzero = eqb-false other 0 p; distinct = eqb-false other (T .own) q; fresh = refl }
 
     role-says : (k : ℕ) (a : Answer State) → (Wanted (T .names) entity name → Says (judged k a)) → (e n c : Bool)
         → eqb entity 0 ≡ e → eqb name 0 ≡ n → eqb (classOf (T .names) name) 0 ≡ c → Says (judged (orElse (byTests e n c) k) a)
@@ -86,8 +86,8 @@ module _ (tables negotiation : List ℕ) (other entity name : ℕ) where
     role-says k a free false false false p q r =
         free (role (eqb-false entity 0 p) (eqb-false name 0 q) (eqb-false (classOf (T .names) name) 0 r))
 
-    given-says : Says (beginOf tables negotiation other entity name)
-    given-says =
+    lent-says : Says (beginOf tables negotiation other entity name)
+    lent-says =
         subst Says (sym (by-numbers (role-tests (T .names) entity name refl refl refl) (other-tests (T .own) other refl refl)))
         (role-says (cond (eqb other 0 || eqb other (T .own)) 7 0) (accepted (begunState T other entity name))
         (λ r. other-says r (eqb other 0) (eqb other (T .own)) refl refl) (eqb entity 0) (eqb name 0) (eqb (classOf (T .names) name) 0) refl refl refl)
@@ -105,7 +105,7 @@ module _ (tables negotiation : List ℕ) (other entity name : ℕ) where
         go true (refused k) p q =
             subst Says (λ i. cond (sym p i) (behindTables other entity name (sym q i)) (refused LENGTH))
             (unread (eqb-true (length negotiation) NEGOTIATION-BYTES p) (check-refused-exactly tables bytes k .0 q))
-        go true (accepted T) p q = given-says (record { size = eqb-true (length negotiation) NEGOTIATION-BYTES p; house = q })
+        go true (accepted T) p q = lent-says (record { size = eqb-true (length negotiation) NEGOTIATION-BYTES p; house = q })
 
     from-refusal : {k : ℕ} → BeginRefused tables negotiation other entity name k → beginOf tables negotiation other entity name ≡ refused k
     unfolding beginOf
@@ -128,8 +128,8 @@ module _ (tables negotiation : List ℕ) (other entity name : ℕ) where
     from-begun : {S : State} → Begun tables negotiation other entity name S → beginOf tables negotiation other entity name ≡ accepted S
     from-begun b =
         let T : Tables = b .house in
-        by-numbers (b .given) (role-free (T .names) entity name (b .wanted))
-        (other-tests (T .own) other (ne-eqb other 0 (b .there)) (ne-eqb other (T .own) (b .elsewhere)))
+        by-numbers (b .lent) (role-free (T .names) entity name (b .wanted))
+        (other-tests (T .own) other (ne-eqb other 0 (b .nonzero)) (ne-eqb other (T .own) (b .distinct)))
         ∙ ap accepted (sym (b .fresh))
 
     -- it makes a fresh negotiation exactly where there is no reason

@@ -9,7 +9,7 @@ use Rattle.record.specs.declared.Record.{Record}
 use Rattle.record.specs.declared.RecordAnswer.{RecordAnswer}
 use Rattle.record.specs.declared.RecordAnswer.the-variants.{Read, Refused}
 use Rattle.record.specs.Record.{recordAt, recordBytes, sizeOf}
-use Rattle.record.specs.Unreadable.{StandsAt, Whole, Unreadable, cut, malformed}
+use Rattle.record.specs.Unreadable.{StandsAt, Unreadable, cut, malformed}
 use Rattle.record.specs.laws.RecordExact.{some-size, record-length, record-reason, record-whole, record-formed, record-only, record-back}
 
 module _ (s : List ℕ) (at : ℕ) where

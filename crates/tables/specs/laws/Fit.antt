@@ -13,7 +13,6 @@ use Rattle.expression.specs.declared.Expression.the-variants as E
 use Rattle.rt0.specs.From.{rolesOf}
 use Rattle.rt0.specs.Lists.{any, all}
 use Rattle.class.specs.declared.Name.{Name}
-use Rattle.class.specs.declared.Typing.{Typing}
 use Rattle.class.specs.declared.Typing.the-variants.{Unnamed, Ill, Class}
 use Rattle.class.specs.Names.{classOf}
 use Rattle.class.specs.Typing.{named, linked, together, typeOf, suits, isUnnamed, credentialNumber}
@@ -22,7 +21,7 @@ use Rattle.record.specs.declared.Record.{Record}
 use Rattle.record.specs.declared.Record.the-variants.{Own, Named, IssuerStored, SubjectStored, Sensitive, Access}
 use Rattle.tables.specs.Tables.{Tables}
 use Rattle.tables.specs.Check.{orElse, suitsStorage, storedNumber, suitsPair, pairNumber, classNumber, inOrder, above, room, orderNumber, judge}
-use Rattle.tables.specs.Fit.{namesIn, roleNames, lacksClass, keepsStored, keepsRules, Fit, Breaks, unnamed, class-rule, out-of-order}
+use Rattle.tables.specs.Fit.{namesIn, lacksClass, keepsStored, keepsRules, Fit, Breaks, unnamed, class-rule, out-of-order}
 
 or-false : (b : Bool) → (b || false) ≡ b
 or-false true = refl
