@@ -1,2 +1,3 @@
 pub mod Begin
+pub mod Refused
 pub mod laws

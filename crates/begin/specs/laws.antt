@@ -1,2 +1,3 @@
 pub mod Begin
 pub mod Kept
+pub mod Refused

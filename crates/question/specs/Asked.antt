@@ -1,4 +1,4 @@
--- Which bytes are a question of right form within the sizes, and which numbers one that is not is refused with. Assumes nothing.
+-- Which bytes are a question of right form within the sizes. Assumes nothing.
 use Prim.Native.Nat.{ℕ, _+_, _<_, _≤_}
 use mathlib.Core.Path.{_≡_}
 use mathlib.Core.Bool.{true}
@@ -7,7 +7,6 @@ use lib.ListN.{length}
 use Rattle.expression.specs.declared.Credential.{Credential}
 use Rattle.expression.specs.Credential.{wellFormedCredential, credentialBytes, isBody}
 use Rattle.question.specs.Credentials.{credentialsOf}
-use mathlib.Core.Logic.{_⊎_}
 use Rattle.numbers.specs.Sizes.{MOST-CREDENTIALS, MOST-CREDENTIALS-BYTES}
 use Rattle.numbers.specs.Bytes.{EXPRESSION-BYTES}
 use Rattle.expression.specs.declared.Expression.{Expression}
@@ -16,21 +15,20 @@ use Rattle.expression.specs.Bytes.{rawBytes}
 use Rattle.expression.specs.Form.{rawOf, wellFormed}
 use Rattle.question.specs.Question.{operandOf}
 use Rattle.numbers.specs.Answer.{accepted}
-use Rattle.numbers.specs.Refusals.{COMMAND, OPERAND}
+
+-- a command for each credential, then other bytes
+abbrev pub commandsThen : List Credential → List ℕ → List ℕ
+commandsThen [] l = l
+commandsThen (c ∷ C) l = 1 ∷ (credentialBytes c ++ commandsThen C l)
 
 -- a command for each credential, then the end
 abbrev pub commands : List Credential → List ℕ
-commands [] = 6 ∷ []
-commands (c ∷ C) = 1 ∷ (credentialBytes c ++ commands C)
+commands C = commandsThen C (6 ∷ [])
 
 -- all credentials are well formed
 abbrev pub Formed : List Credential → Type 0
 Formed [] = Unit {0}
 Formed (c ∷ C) = (wellFormedCredential c ≡ true) × Formed C
-
--- a list is refused 2 or 3
-abbrev pub Refusal : ℕ → Type 0
-Refusal k = (k ≡ COMMAND) ⊎ (k ≡ OPERAND)
 
 abbrev pub expressionBytes : Expression → List ℕ
 expressionBytes x = rawBytes (rawOf x)

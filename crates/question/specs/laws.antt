@@ -2,3 +2,4 @@ pub mod Credentials
 pub mod CredentialsExact
 pub mod Question
 pub mod QuestionExact
+pub mod Refused

@@ -1,6 +1,8 @@
 pub mod Tables
 pub mod Lookup
 pub mod Check
+pub mod Fit
+pub mod Refused
 pub mod Public
 pub mod Bytes
 pub mod Accepted

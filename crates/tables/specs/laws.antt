@@ -14,5 +14,7 @@ pub mod DecodingLaws
 pub mod Sorted
 pub mod Public
 pub mod Accepted
+pub mod Fit
+pub mod Refused
 pub mod Sound
 pub mod BehindRecords

@@ -3,11 +3,12 @@ use Prim.Native.Nat.{ℕ, zero, suc, _+_, _-_, _*_, _<_, _≤_}
 use mathlib.Core.Bool.{cond, Bool, true, false}
 use mathlib.Core.List.{List, [], _∷_, _++_}
 use lib.Dec.{ltb, eqb}
-use lib.ListN.{length, getD, length-append}
+use lib.ListN.{length, getD, take, drop, length-append, length-drop, take-append-drop}
 use Rattle.expression.specs.declared.Credential.{Credential}
 use Rattle.expression.specs.declared.CredentialAnswer.{CredentialAnswer}
 use Rattle.expression.specs.declared.CredentialAnswer.the-variants as a
-use Rattle.expression.specs.Credential.{readCredential}
+use Rattle.expression.specs.Credential.{wellFormedCredential, readCredential, credentialBytes}
+use Rattle.expression.specs.laws.There.{byte-there, code-there, size-there, skip, read-there}
 use Rattle.rt0.specs.laws.Pool.{credentials}
 use Rattle.question.specs.declared.Step.{Step}
 use Rattle.question.specs.declared.Step.the-variants.{Taken, End, Refused}
@@ -15,13 +16,15 @@ use Rattle.question.specs.declared.Listing.{Listing}
 use mathlib.Core.Path.{_≡_, refl, sym, ap, _∙_, subst}
 use mathlib.Core.Logic.{_⊎_, inl, inr, ⊎-elim}
 use native.Mathlib.Omega.{arith}
-use borrow.Author.Tests.{lt-ltb, le-ltb, ltb-false, eq-eqb, eqb-true, ne-eqb}
+use native.Mathlib.Nat.{add-zero}
+use borrow.Author.Tests.{lt-ltb, le-ltb, ltb-true, ltb-false, eq-eqb, eqb-true, eqb-false, ne-eqb}
 use Rattle.numbers.specs.Bytes.{CREDENTIAL-BYTES}
 use Rattle.numbers.specs.Sizes.{MOST-CREDENTIALS, MOST-CREDENTIALS-BYTES}
 use Rattle.rt0.specs.declared.Pool.{Pool}
 use Rattle.rt0.specs.laws.Added.{count-length}
 use Rattle.question.specs.Credentials.{taken, credentialStep, endStep, commandStep, stepAt, after, listFrom, credentialsOf}
-use Rattle.question.specs.Asked.{Refusal}
+use Rattle.question.specs.Refused.{CredentialFirst, Whole, credential, end, Unlisted, malformed}
+use Rattle.question.specs.Refused as R
 use Rattle.numbers.specs.Answer.{Answer, refused, accepted}
 
 -- what a listing says: its refusal number, or its pool's credentials where that is zero
@@ -58,44 +61,80 @@ at-code s at code h q =
 pub unknown : (s : List ℕ) (at code : ℕ) → (code ≡ 1 → ⊥) → (code ≡ 6 → ⊥) → Refused 2 ≡ commandStep s at code
 unknown s at code h k = sym (simp (ne-eqb code 1 h, ne-eqb code 6 k))
 
--- what is known where a step was found: of a credential and of the end that they stand there, and that a refusal is 2 or 3
+-- Why no command can be read at an index
+
+module _ (s : List ℕ) (at : ℕ) where
+  code-drop : getD (drop at s) 0 0 ≡ getD s at 0
+  code-drop = sym (byte-there s at 0 (drop at s) refl) ∙ ap (λ (i : ℕ). getD s i 0) (add-zero at)
+
+  pub credential-first : getD s at 0 ≡ 1 → CREDENTIAL-BYTES ≤ length s - at → CredentialFirst (drop at s)
+  credential-first code room = record { code = code-drop ∙ code; room = omega (arith, length-drop at s) }
+
+  -- the command is neither the end nor a whole credential
+  not-whole : (drop at s ≡ 6 ∷ [] → ⊥) → (getD s at 0 ≡ 1 → CREDENTIAL-BYTES ≤ length s - at → ⊥) → Unlisted (drop at s) 2
+  not-whole f g = R.cut go refl
+    where
+      go : Whole (drop at s) → ⊥
+      go (credential w) = g (sym code-drop ∙ w .code) (omega (arith, w .room, length-drop at s))
+      go (end h) = f h
+
+  -- no byte is left
+  pub none-left : length s ≤ at → Unlisted (drop at s) 2
+  none-left h = not-whole (λ e. omega (arith, length-drop at s, ap length e)) (λ code room. omega (arith, room))
+
+  -- a credential whose operands have wrong form
+  wrong-form : at < length s → readCredential s (at + 1) ≡ a.Wrong → (d : Credential) → wellFormedCredential d ≡ true
+      → take CREDENTIAL-BYTES (drop at s) ≡ 1 ∷ credentialBytes d → ⊥
+  wrong-form inside h d formed q =
+      let rest : List ℕ = drop CREDENTIAL-BYTES (drop at s) in
+      let there : drop at s ≡ (1 ∷ credentialBytes d) ++ rest = sym (take-append-drop CREDENTIAL-BYTES (drop at s)) ∙ ap (λ (l : List ℕ). l ++ rest) q in
+      let back : readCredential s (at + 1) ≡ a.Read d = read-there s (at + 1) (omega arith) d rest formed (skip s at 1 _ there) in
+      let z : _≡_ {A = ℕ} 0 1 = cc (h, back) in
+      omega arith
+
+-- what is known where a step was found: of a credential and of the end that they stand there, of a refusal its reason
 abbrev Sure : List ℕ → ℕ → Step → Type 0
 Sure s at (Taken c) = (at + CREDENTIAL-BYTES ≤ length s) × (getD s at 0 ≡ 1) × (readCredential s (at + 1) ≡ a.Read c)
 Sure s at End = (at + 1 ≡ length s) × (getD s at 0 ≡ 6)
-Sure s at (Refused k) = Refusal k
+Sure s at (Refused k) = Unlisted (drop at s) k
 
-sure-credential : (s : List ℕ) (at : ℕ) → getD s at 0 ≡ 1 → Sure s at (credentialStep s at)
-unfolding credentialStep
-sure-credential s at code = go (ltb (length s - at) CREDENTIAL-BYTES) (readCredential s (at + 1)) refl refl
-  where
-    go : (t : Bool) (r : CredentialAnswer) → ltb (length s - at) CREDENTIAL-BYTES ≡ t → readCredential s (at + 1) ≡ r → Sure s at (cond t (Refused 2) (taken r))
-    go true r h q = inl refl
-    go false (a.Read c) h q = (omega (arith, ltb-false (length s - at) CREDENTIAL-BYTES h), code, q)
-    go false a.Wrong h q = inr refl
+module _ (s : List ℕ) (at : ℕ) (inside : at < length s) where
+  sure-credential : getD s at 0 ≡ 1 → Sure s at (credentialStep s at)
+  unfolding credentialStep
+  sure-credential code = go (ltb (length s - at) CREDENTIAL-BYTES) (readCredential s (at + 1)) refl refl
+    where
+      go : (t : Bool) (r : CredentialAnswer) → ltb (length s - at) CREDENTIAL-BYTES ≡ t → readCredential s (at + 1) ≡ r
+          → Sure s at (cond t (Refused 2) (taken r))
+      go true r h q =
+          not-whole s at (λ e. omega (arith, code, code-there s at 6 [] e)) (λ c room. omega (arith, room, ltb-true (length s - at) CREDENTIAL-BYTES h))
+      go false (a.Read c) h q = (omega (arith, ltb-false (length s - at) CREDENTIAL-BYTES h), code, q)
+      go false a.Wrong h q = malformed (credential-first s at code (ltb-false (length s - at) CREDENTIAL-BYTES h)) (wrong-form s at inside q) refl
 
-sure-end : (s : List ℕ) (at : ℕ) → getD s at 0 ≡ 6 → Sure s at (endStep s at)
-unfolding endStep
-sure-end s at code = go (eqb (at + 1) (length s)) refl
-  where
-    go : (t : Bool) → eqb (at + 1) (length s) ≡ t → Sure s at (cond t End (Refused 2))
-    go true h = (eqb-true (at + 1) (length s) h, code)
-    go false h = inl refl
+  sure-end : getD s at 0 ≡ 6 → Sure s at (endStep s at)
+  unfolding endStep
+  sure-end code = go (eqb (at + 1) (length s)) refl
+    where
+      go : (t : Bool) → eqb (at + 1) (length s) ≡ t → Sure s at (cond t End (Refused 2))
+      go true h = (eqb-true (at + 1) (length s) h, code)
+      go false h =
+          not-whole s at (λ e. eqb-false (at + 1) (length s) h (sym (size-there s at (omega arith) (6 ∷ []) e))) (λ c room. omega (arith, code, c))
 
-sure-command : (s : List ℕ) (at code : ℕ) → getD s at 0 ≡ code → Sure s at (commandStep s at code)
-sure-command s at code e = go (eqb code 1) (eqb code 6) refl refl
-  where
-    go : (t u : Bool) → eqb code 1 ≡ t → eqb code 6 ≡ u → Sure s at (cond t (credentialStep s at) (cond u (endStep s at) (Refused 2)))
-    go true u h k = sure-credential s at (e ∙ eqb-true code 1 h)
-    go false true h k = sure-end s at (e ∙ eqb-true code 6 k)
-    go false false h k = inl refl
+  sure-command : (code : ℕ) → getD s at 0 ≡ code → Sure s at (commandStep s at code)
+  sure-command code e = go (eqb code 1) (eqb code 6) refl refl
+    where
+      go : (t u : Bool) → eqb code 1 ≡ t → eqb code 6 ≡ u → Sure s at (cond t (credentialStep s at) (cond u (endStep s at) (Refused 2)))
+      go true u h k = sure-credential (e ∙ eqb-true code 1 h)
+      go false true h k = sure-end (e ∙ eqb-true code 6 k)
+      go false false h k =
+          not-whole s at (λ q. eqb-false code 6 k (sym e ∙ code-there s at 6 [] q)) (λ c room. eqb-false code 1 h (sym e ∙ c))
 
 sure : (s : List ℕ) (at : ℕ) → Sure s at (stepAt s at)
 unfolding stepAt
-sure s at = go (ltb at (length s))
+sure s at = go (ltb at (length s)) refl
   where
-    go : (t : Bool) → Sure s at (cond t (commandStep s at (getD s at 0)) (Refused 2))
-    go true = sure-command s at (getD s at 0) refl
-    go false = inl refl
+    go : (t : Bool) → ltb at (length s) ≡ t → Sure s at (cond t (commandStep s at (getD s at 0)) (Refused 2))
+    go true h = sure-command s at (ltb-true at (length s) h) (getD s at 0) refl
+    go false h = none-left s at (ltb-false at (length s) h)
 
 -- a credential that was taken stands there, whole
 pub taken-sure : (s : List ℕ) (at : ℕ) (c : Credential) → stepAt s at ≡ Taken c
@@ -106,9 +145,20 @@ taken-sure s at c h = subst (Sure s at) h (sure s at)
 pub end-sure : (s : List ℕ) (at : ℕ) → stepAt s at ≡ End → (at + 1 ≡ length s) × (getD s at 0 ≡ 6)
 end-sure s at h = subst (Sure s at) h (sure s at)
 
--- a command is refused 2 or 3
+-- a command is refused for its reason
+pub step-reason : (s : List ℕ) (at k : ℕ) → stepAt s at ≡ Refused k → Unlisted (drop at s) k
+step-reason s at k h = subst (Sure s at) h (sure s at)
+
+-- and by 2 or 3
+abbrev pub Refusal : ℕ → Type 0
+Refusal k = (k ≡ 2) ⊎ (k ≡ 3)
+
 pub step-refusal : (s : List ℕ) (at k : ℕ) → stepAt s at ≡ Refused k → Refusal k
-step-refusal s at k h = subst (Sure s at) h (sure s at)
+step-refusal s at k h = go (step-reason s at k h)
+  where
+    go : Unlisted (drop at s) k → Refusal k
+    go (R.cut n e) = inl e
+    go (malformed w n e) = inr e
 
 -- The list
 

@@ -22,8 +22,8 @@ use Rattle.rt0.specs.Decide.{from?}
 use Rattle.word.specs.laws.Bools.{false-true}
 use Rattle.rt0.specs.laws.Laws.{from-exact}
 use Rattle.question.specs.Credentials.{credentialsOf}
-use Rattle.question.specs.Asked.{Refusal, Sized, Asked}
-use Rattle.question.specs.laws.Credentials.{list-refusal}
+use Rattle.question.specs.Asked.{Sized, Asked}
+use Rattle.question.specs.laws.Credentials.{Refusal, list-refusal}
 use Rattle.question.specs.Question.{sized, askable, operandOf, yesOrNo, answered, questionOf}
 use Rattle.numbers.specs.Answer.{Answer, refused, accepted, answerOf}
 use Rattle.numbers.specs.Refusals.{LENGTH}

@@ -1,23 +1,25 @@
 -- A question is answered exactly where the lent bytes are those of well-formed credentials and expressions. Assumes nothing.
-use Prim.Native.Nat.{ℕ, _+_, _*_, _<_}
+use Prim.Native.Nat.{ℕ, _<_}
 use mathlib.Core.Path.{_≡_, refl, sym, ap, _∙_}
+use mathlib.Core.Logic.{_↔_}
 use mathlib.Core.Bool.{Bool, true, false, cond}
 use mathlib.Core.List.{List, [], _∷_}
 use native.Mathlib.Omega.{arith}
-use lib.ListN.{length, getD, length-append}
+use lib.ListN.{length, getD}
 use lib.Seq.{take-all}
-use Rattle.numbers.specs.Bytes.{CREDENTIAL-BYTES, EXPRESSION-BYTES}
+use Rattle.numbers.specs.Bytes.{EXPRESSION-BYTES}
 use Rattle.expression.specs.declared.Credential.{Credential}
 use Rattle.expression.specs.declared.Expression.{Expression}
 use Rattle.expression.specs.declared.ExpressionAnswer.{ExpressionAnswer}
 use Rattle.expression.specs.declared.ExpressionAnswer.the-variants.{Read, Wrong}
 use Rattle.expression.specs.Form.{readOf}
-use Rattle.expression.specs.Credential.{isBody, credentialBytes}
+use Rattle.expression.specs.Credential.{isBody}
 use Rattle.expression.specs.laws.Codec.{read-write, read-only}
 use Rattle.expression.specs.laws.There.{self-paste}
 use Rattle.question.specs.Credentials.{credentialsOf}
-use Rattle.question.specs.Asked.{commands, Asked, expressionBytes, Askable, Written}
-use Rattle.question.specs.laws.CredentialsExact.{list-back, list-only}
+use Rattle.question.specs.Asked.{Asked, expressionBytes, Askable, Written}
+use Rattle.question.specs.Refused.{Unaskable}
+use Rattle.question.specs.laws.CredentialsExact.{length-then, list-back, list-only}
 use Rattle.question.specs.Question.{askable, operandOf}
 
 operand-back : (x : Expression) → Askable x → operandOf (expressionBytes x) ≡ Read x
@@ -43,16 +45,23 @@ operand-only s x bytes size h =
     let o = read-only s 0 x bytes (omega arith) (r .0) in
     (sym (take-all EXPRESSION-BYTES s (omega arith)) ∙ o .0, record { formed = o .1; kind = r .1 })
 
-length-commands : (C : List Credential) → length (commands C) ≡ CREDENTIAL-BYTES * length C + 1
-length-commands [] = refl
-length-commands (c ∷ C) = omega (arith, length-append (credentialBytes c) (commands C), length-commands C)
+-- the bytes of no expression that may be asked
+pub operand-wrong-exactly : (s : List ℕ) → ((i : ℕ) → getD s i 0 < 256) → length s ≡ EXPRESSION-BYTES → (operandOf s ≡ Wrong) ↔ Unaskable s
+operand-wrong-exactly s bytes size = (
+  λ h x w q. let z : _≡_ {A = ℕ} 0 1 = cc (h, ap operandOf q ∙ operand-back x w) in omega arith,
+  λ n. go n (operandOf s) refl,
+)
+  where
+    go : Unaskable s → (r : ExpressionAnswer) → operandOf s ≡ r → operandOf s ≡ Wrong
+    go n (Read x) h = let o = operand-only s x bytes size h in absurd (n x (o .1) (o .0))
+    go n Wrong h = h
 
 -- at most 64 well-formed credentials and two well-formed expressions, written as bytes, ask whether x from y
 pub written-asked : {c f e : List ℕ} {C : List Credential} {x y : Expression} → Written c f e C x y → Asked c f e C x y
 written-asked {c} {f} {e} {C} {x} {y} w = record {
   sizes = record {
-    some = omega (arith, ap length (w .credentials), length-commands C);
-    most = omega (arith, ap length (w .credentials), length-commands C, w .most);
+    some = omega (arith, ap length (w .credentials), length-then C (6 ∷ []));
+    most = omega (arith, ap length (w .credentials), length-then C (6 ∷ []), w .most);
     first = ap length (w .first);
     second = ap length (w .second);
   };
@@ -73,7 +82,7 @@ asked-written {c} {f} {e} {C} {x} {y} p q r h =
       credentials = l .0;
       first = u .0;
       second = v .0;
-      most = omega (arith, ap length (l .0), length-commands C, h .sizes .most);
+      most = omega (arith, ap length (l .0), length-then C (6 ∷ []), h .sizes .most);
       formed = l .1;
       left = u .1;
       right = v .1;

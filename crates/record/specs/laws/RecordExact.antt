@@ -1,19 +1,20 @@
 -- Records are read from their own bytes and from no others, and refused by two numbers. Assumes nothing.
 use Prim.Native.Nat.{ℕ, suc, _+_, _-_, _/_, _%_, _<_, _≤_}
 use mathlib.Core.Path.{_≡_, refl, sym, ap, _∙_, subst}
-use mathlib.Core.Logic.{_⊎_, inl, inr}
+use mathlib.Core.Logic.{_⊎_, inl, inr, ⊎-elim}
 use mathlib.Core.Bool.{Bool, true, false, cond}
 use mathlib.Core.List.{List, [], _∷_, _++_}
 use native.Mathlib.Omega.{arith}
 use native.Mathlib.Nat.{add-assoc}
 use native.Mathlib.Numerals.{add-one}
-use borrow.Author.Tests.{ltb-false, eqb-true}
+use borrow.Author.Tests.{ltb-true, ltb-false, eqb-true, eqb-false, ne-eqb}
 use lib.Dec.{ltb, eqb}
 use lib.ListN.{length, getD, take, drop, length-append}
 use lib.Seq.{drop-cons}
 use Rattle.expression.specs.declared.Credential.{Credential}
 use Rattle.expression.specs.declared.CredentialAnswer.{CredentialAnswer}
 use Rattle.expression.specs.declared.CredentialAnswer.the-variants as a
+use Rattle.expression.specs.declared.Expression.the-variants as E
 use Rattle.expression.specs.Bytes.{numberAt, numberBytes}
 use Rattle.expression.specs.Credential.{wellFormedCredential, roleAt, readCredential, roleBytes, credentialBytes}
 use Rattle.expression.specs.laws.Credential.{credential-only}
@@ -26,6 +27,7 @@ use Rattle.record.specs.declared.RecordAnswer.{RecordAnswer}
 use Rattle.record.specs.declared.RecordAnswer.the-variants.{Read, Refused}
 use Rattle.record.specs.Record.{formedName, formedPair, formed, stored, paired, whole, checked, ownAt, nameOf, nameAt, storedOf, storedAt, pairOf}
 use Rattle.record.specs.Record.{pairAt, recordAt, recordBytes, sizeOf}
+use Rattle.record.specs.Unreadable.{Whole}
 use Rattle.record.specs.laws.Record.{own-full, name-full, stored-full, pair-full, at-code}
 
 -- a record has this first byte, this test of its form and these operands
@@ -71,6 +73,40 @@ record-length (SubjectStored c) = refl
 record-length (Sensitive p) = refl
 record-length (Access p) = refl
 
+-- a record has at least three bytes
+pub some-size : (r : Record) → 2 < sizeOf r
+some-size (Own e) = omega arith
+some-size (Named n) = omega arith
+some-size (IssuerStored c) = omega arith
+some-size (SubjectStored c) = omega arith
+some-size (Sensitive p) = omega arith
+some-size (Access p) = omega arith
+
+-- The size by the first byte
+
+-- the first byte of a record, and how many bytes a command with this first byte has, the other number where there is none such
+abbrev codeOf : Record → ℕ
+codeOf r = getD (recordBytes r) 0 0
+
+abbrev sizeBy : ℕ → ℕ → ℕ
+sizeBy other code =
+    cond (eqb code 16) 3 (cond (eqb code 17) 4 (cond (eqb code 18) 23 (cond (eqb code 19) 23 (cond (eqb code 20) 9 (cond (eqb code 21) 9 other)))))
+
+size-by : (other : ℕ) (r : Record) → sizeOf r ≡ sizeBy other (codeOf r)
+unfolding recordBytes
+size-by other (Own n) = refl
+size-by other (Named n) = refl
+size-by other (IssuerStored c) = refl
+size-by other (SubjectStored c) = refl
+size-by other (Sensitive p) = refl
+size-by other (Access p) = refl
+
+module _ (s : List ℕ) (at : ℕ) where
+  whole-size : (other : ℕ) → Whole s at → at + sizeBy other (getD s at 0) ≤ length s
+  whole-size other w =
+      let e : sizeOf (w .like) ≡ sizeBy other (getD s at 0) = size-by other (w .like) ∙ ap (sizeBy other) (sym (w .code)) in
+      omega (arith, e, w .room)
+
 -- The bytes of what is read
 
 module _ (s : List ℕ) where
@@ -97,30 +133,36 @@ module _ (s : List ℕ) where
   pair-only : Bytes s → (at : ℕ) → at + 8 ≤ length s → take 8 (drop at s) ≡ pairBytes (pairOf s at)
   pair-only bytes at h = role-only bytes 4 at (omega arith) ∙ ap (λ (l : List ℕ). roleBytes (roleAt s at) ++ l) (role-only bytes 0 (at + 4) (omega arith))
 
--- what is known where an answer was found: of a record that it has room and right form and that its bytes stand there, and that a
--- refusal is 2 or 3
+-- what is known where an answer was found: of a record that it has room and right form and that its bytes stand there, of a refusal whether
+-- the command is whole
 abbrev Sure : List ℕ → ℕ → RecordAnswer → Type 0
-Sure s at (Read r) = (at + sizeOf r ≤ length s) × (formed r ≡ true) × (Bytes s → take (sizeOf r) (drop at s) ≡ recordBytes r)
-Sure s at (Refused k) = (k ≡ 2) ⊎ (k ≡ 3)
+Sure s at (Read r) = (at + sizeOf r ≤ length s) × (formed r ≡ true) × (Bytes s → take (sizeOf r) (drop at s) ≡ recordBytes r) × Whole s at
+Sure s at (Refused k) = ((k ≡ 2) × (Whole s at → ⊥)) ⊎ ((k ≡ 3) × Whole s at)
 
 module _ (s : List ℕ) (at : ℕ) where
-  sure-whole : (size : ℕ) (x : RecordAnswer) → (size ≤ length s - at → Sure s at x) → Sure s at (whole size s at x)
-  sure-whole size x k = go (ltb (length s - at) size) refl
+  sure-whole : (code : ℕ) (good : Bool) (l : List ℕ) (r : Record) → Has code good l r → getD s at 0 ≡ code → (x : RecordAnswer)
+      → (suc (length l) ≤ length s - at → Whole s at → Sure s at x) → Sure s at (whole (suc (length l)) s at x)
+  sure-whole code good l r w q x k = go (ltb (length s - at) (suc (length l))) refl
     where
-      go : (t : Bool) → ltb (length s - at) size ≡ t → Sure s at (cond t (Refused 2) x)
-      go true h = inl refl
-      go false h = k (ltb-false (length s - at) size h)
+      same : getD s at 0 ≡ codeOf r
+      same = q ∙ sym (ap (λ (m : List ℕ). getD m 0 0) (w .bytes))
 
-  sure-read : (code : ℕ) (l : List ℕ) (r : Record) → Has code true l r → getD s at 0 ≡ code → suc (length l) ≤ length s - at
+      go : (t : Bool) → ltb (length s - at) (suc (length l)) ≡ t → Sure s at (cond t (Refused 2) x)
+      go true h =
+          let size : sizeBy 0 (getD s at 0) ≡ suc (length l) = ap (sizeBy 0) same ∙ sym (size-by 0 r) ∙ w .size in
+          inl (refl, λ v. omega (arith, whole-size s at 0 v, ltb-true (length s - at) (suc (length l)) h))
+      go false h = let room = ltb-false (length s - at) (suc (length l)) h in k room (record { like = r; code = same; room = omega (arith, w .size, room) })
+
+  sure-read : (code : ℕ) (l : List ℕ) (r : Record) → Has code true l r → getD s at 0 ≡ code → suc (length l) ≤ length s - at → Whole s at
       → (Bytes s → take (length l) (drop (at + 1) s) ≡ l) → Sure s at (Read r)
-  sure-read code l r w q h k =
+  sure-read code l r w q h v k =
       let first : take (suc (length l)) (drop at s) ≡ getD s at 0 ∷ take (length l) (drop (at + 1) s) = next s (length l) at (omega arith) in
-      (omega (arith, w .size), w .form, λ b. ap (λ (n : ℕ). take n (drop at s)) (w .size) ∙ first ∙ (λ i. q i ∷ k b i) ∙ sym (w .bytes))
+      (omega (arith, w .size), w .form, λ b. ap (λ (n : ℕ). take n (drop at s)) (w .size) ∙ first ∙ (λ i. q i ∷ k b i) ∙ sym (w .bytes), v)
 
   sure-checked : (code : ℕ) (good : Bool) (l : List ℕ) (r : Record) → Has code good l r → getD s at 0 ≡ code
       → (suc (length l) ≤ length s - at → Bytes s → take (length l) (drop (at + 1) s) ≡ l) → Sure s at (whole (suc (length l)) s at (checked good r))
-  sure-checked code true l r w q k = sure-whole (suc (length l)) (Read r) (λ h. sure-read code l r w q h (k h))
-  sure-checked code false l r w q k = sure-whole (suc (length l)) (Refused 3) (λ h. inr refl)
+  sure-checked code true l r w q k = sure-whole code true l r w q (Read r) (λ h v. sure-read code l r w q h v (k h))
+  sure-checked code false l r w q k = sure-whole code false l r w q (Refused 3) (λ h v. inr (refl, v))
 
   sure-own : getD s at 0 ≡ 16 → Sure s at (ownAt s at)
   unfolding ownAt
@@ -132,40 +174,57 @@ module _ (s : List ℕ) (at : ℕ) where
 
   sure-stored : (subject : Bool) → getD s at 0 ≡ storedCode subject → Sure s at (storedAt subject s at)
   unfolding storedAt
-  sure-stored subject q = sure-whole 23 (storedOf subject (readCredential s (at + 1))) (λ h. go (readCredential s (at + 1)) refl h)
+  sure-stored subject q =
+      sure-whole (storedCode subject) _ _ _ (stored-has subject (record { head = roleAt s (at + 1); body = E.Entity 0 })) q
+      (storedOf subject (readCredential s (at + 1))) (λ h v. go (readCredential s (at + 1)) refl h v)
     where
-      go : (x : CredentialAnswer) → readCredential s (at + 1) ≡ x → 23 ≤ length s - at → Sure s at (storedOf subject x)
-      go (a.Read c) p h =
+      go : (x : CredentialAnswer) → readCredential s (at + 1) ≡ x → 23 ≤ length s - at → Whole s at → Sure s at (storedOf subject x)
+      go (a.Read c) p h v =
           let w = subst (λ (t : Bool). Has (storedCode subject) t (credentialBytes c) (stored subject c)) (read-formed s (at + 1) c p) (stored-has subject c) in
-          sure-read (storedCode subject) (credentialBytes c) (stored subject c) w q h (λ b. credential-only s (at + 1) c b (omega arith) p .0)
-      go a.Wrong p h = inr refl
+          sure-read (storedCode subject) (credentialBytes c) (stored subject c) w q h v (λ b. credential-only s (at + 1) c b (omega arith) p .0)
+      go a.Wrong p h v = inr (refl, v)
 
   sure-pair : (access : Bool) → getD s at 0 ≡ pairCode access → Sure s at (pairAt access s at)
   unfolding pairAt
   sure-pair access q = sure-checked (pairCode access) _ _ _ (paired-has access (pairOf s (at + 1))) q (λ h b. pair-only s b (at + 1) (omega arith))
 
-  sure-test : (code k : ℕ) (x y : RecordAnswer) → (code ≡ k → Sure s at x) → Sure s at y → Sure s at (cond (eqb code k) x y)
+  sure-test : (code k : ℕ) (x y : RecordAnswer) → (code ≡ k → Sure s at x) → ((code ≡ k → ⊥) → Sure s at y) → Sure s at (cond (eqb code k) x y)
   sure-test code k x y here other = go (eqb code k) refl
     where
       go : (t : Bool) → eqb code k ≡ t → Sure s at (cond t x y)
       go true h = here (eqb-true code k h)
-      go false h = other
+      go false h = other (eqb-false code k h)
+
+  unknown : (code : ℕ) → getD s at 0 ≡ code → (code ≡ 16 → ⊥) → (code ≡ 17 → ⊥) → (code ≡ 18 → ⊥) → (code ≡ 19 → ⊥) → (code ≡ 20 → ⊥) → (code ≡ 21 → ⊥)
+      → Whole s at → ⊥
+  unknown code q h0 h1 h2 h3 h4 h5 w =
+      let n : ℕ = suc (length s) in
+      let e : sizeBy n code ≡ n =
+      simp (ne-eqb code 16 h0, ne-eqb code 17 h1, ne-eqb code 18 h2, ne-eqb code 19 h3, ne-eqb code 20 h4, ne-eqb code 21 h5) in
+      omega (arith, whole-size s at n w, ap (sizeBy n) q, e)
 
   sure : Sure s at (recordAt s at)
   unfolding recordAt
   sure =
       let code : ℕ = getD s at 0 in
-      sure-test code 16 _ _ sure-own
-      (sure-test code 17 _ _ sure-name
-      (sure-test code 18 _ _ (sure-stored false)
-      (sure-test code 19 _ _ (sure-stored true)
-      (sure-test code 20 _ _ (sure-pair false)
-      (sure-test code 21 _ (Refused 2) (sure-pair true)
-      (inl refl))))))
+      sure-test code 16 _ _ sure-own (λ h0.
+      sure-test code 17 _ _ sure-name (λ h1.
+      sure-test code 18 _ _ (sure-stored false) (λ h2.
+      sure-test code 19 _ _ (sure-stored true) (λ h3.
+      sure-test code 20 _ _ (sure-pair false) (λ h4.
+      sure-test code 21 _ (Refused 2) (sure-pair true) (λ h5.
+      inl (refl, unknown code refl h0 h1 h2 h3 h4 h5)))))))
 
--- a record is refused 2 or 3
+-- a record is refused 2 where its command is not whole, and 3 where it is
+pub record-reason : (s : List ℕ) (at k : ℕ) → recordAt s at ≡ Refused k → ((k ≡ 2) × (Whole s at → ⊥)) ⊎ ((k ≡ 3) × Whole s at)
+record-reason s at k h = subst (Sure s at) h (sure s at)
+
 pub record-refusal : (s : List ℕ) (at k : ℕ) → recordAt s at ≡ Refused k → (k ≡ 2) ⊎ (k ≡ 3)
-record-refusal s at k h = subst (Sure s at) h (sure s at)
+record-refusal s at k h = ⊎-elim (λ w. inl (w .0)) (λ w. inr (w .0)) (record-reason s at k h)
+
+-- the command of a record that was read is whole
+pub record-whole : (s : List ℕ) (at : ℕ) (r : Record) → recordAt s at ≡ Read r → Whole s at
+record-whole s at r h = subst (Sure s at) h (sure s at) .3
 
 -- a record that was read ends within the bytes
 pub record-room : (s : List ℕ) (at : ℕ) (r : Record) → at < length s → recordAt s at ≡ Read r → at + sizeOf r ≤ length s

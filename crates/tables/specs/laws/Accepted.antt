@@ -22,11 +22,11 @@ use Rattle.record.specs.declared.Record.the-variants.{Own, Named, IssuerStored,
 use Rattle.record.specs.declared.RecordAnswer.{RecordAnswer}
 use Rattle.record.specs.declared.RecordAnswer.the-variants as a
 use Rattle.record.specs.Record.{formed, recordAt, recordBytes, sizeOf}
-use Rattle.record.specs.laws.RecordExact.{record-refusal, record-room, record-formed, record-only}
+use Rattle.record.specs.laws.RecordExact.{some-size, record-refusal, record-room, record-formed, record-only}
 use Rattle.tables.specs.Tables.{Tables, unread, added}
 use Rattle.tables.specs.Check.{suitsStorage, storedNumber, suitsPair, pairNumber, classNumber, none, inOrder, above, room, orderNumber, judge}
 use Rattle.tables.specs.Check.{onRecord, recordsFrom, sized, readTables}
-use Rattle.tables.specs.laws.Check.{some-size, readFrom, from-past, from-refused, from-judged}
+use Rattle.tables.specs.laws.Check.{readFrom, from-past, from-refused, from-judged}
 use Rattle.tables.specs.Accepted.{rising-none, Records, Sound}
 use Rattle.tables.specs.laws.Sorted.{rising-add}
 use Rattle.tables.specs.Bytes.{bytesOf, tablesBytes}

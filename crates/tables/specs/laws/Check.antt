@@ -5,10 +5,10 @@ use mathlib.Core.List.{List}
 use lib.Dec.{ltb, eqb}
 use lib.ListN.{length}
 use Rattle.record.specs.declared.Record.{Record}
-use Rattle.record.specs.declared.Record.the-variants.{Own, Named, IssuerStored, SubjectStored, Sensitive, Access}
 use Rattle.record.specs.declared.RecordAnswer.{RecordAnswer}
 use Rattle.record.specs.declared.RecordAnswer.the-variants as a
 use Rattle.record.specs.Record.{recordAt, sizeOf}
+use Rattle.record.specs.laws.RecordExact.{some-size}
 use Rattle.tables.specs.declared.Decoded.{Decoded}
 use Rattle.tables.specs.Tables.{Tables, added}
 use Rattle.tables.specs.laws.Tables.{tablesOf}
@@ -21,15 +21,6 @@ use Rattle.numbers.specs.Answer.{Answer, refused, accepted, judged}
 -- what decoded tables say
 unfoldable pub outcomeOf : Decoded → Answer Tables
 outcomeOf d = cond (eqb (d .refusal) 0) (accepted (tablesOf (d .house))) (refused (d .refusal))
-
--- a record has at least three bytes
-pub some-size : (r : Record) → 2 < sizeOf r
-some-size (Own e) = omega arith
-some-size (Named n) = omega arith
-some-size (IssuerStored c) = omega arith
-some-size (SubjectStored c) = omega arith
-some-size (Sensitive p) = omega arith
-some-size (Access p) = omega arith
 
 -- no byte is left
 records-past : (n : ℕ) (s : List ℕ) (at : ℕ) (T : Tables) → length s ≤ at → recordsFrom n s at T ≡ accepted T

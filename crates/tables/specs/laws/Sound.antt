@@ -16,10 +16,10 @@ use Rattle.rt0.specs.laws.Lists.{all-each}
 use Rattle.record.specs.declared.Record.{Record}
 use Rattle.record.specs.declared.Record.the-variants.{Own, Access}
 use Rattle.record.specs.Record.{formed, recordBytes, sizeOf}
-use Rattle.record.specs.laws.RecordExact.{record-length, record-back}
+use Rattle.record.specs.laws.RecordExact.{record-length, some-size, record-back}
 use Rattle.tables.specs.Tables.{Tables, unread, withNames, withStored, withPairs, added}
 use Rattle.tables.specs.Check.{orElse, pairNumber, classNumber, inOrder, above, room, orderNumber, judge, sized, readTables}
-use Rattle.tables.specs.laws.Check.{some-size, readFrom, from-past, from-judged}
+use Rattle.tables.specs.laws.Check.{readFrom, from-past, from-judged}
 use Rattle.tables.specs.laws.Group.{Group, Lawful}
 use Rattle.tables.specs.laws.Groups.{names, credentialsOf, pairs, names-lawful, credentials-lawful, pairs-lawful}
 use Rattle.tables.specs.Accepted.{Rising, Records, Sound}
