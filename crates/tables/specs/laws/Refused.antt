@@ -22,7 +22,6 @@ use Rattle.tables.specs.laws.Check.{readFrom, from-past, from-refused, f
 use Rattle.tables.specs.laws.Fit.{judge-reason, fit-number, breaks-number, breaks-some}
 use Rattle.tables.specs.laws.Group.{judged-refused}
 use Rattle.numbers.specs.Answer.{Answer, refused, accepted}
-use Rattle.numbers.specs.laws.Answer.{numberOf}
 use Rattle.numbers.specs.Sizes.{MOST-TABLES-BYTES}
 use Rattle.numbers.specs.Refusals.{LENGTH}
 
