@@ -1,20 +1,18 @@
--- Which bytes are a question of right form within the sizes. Assumes nothing.
+-- Which bytes are a question of right form within the sizes, and what its answer is. Assumes nothing.
 use Prim.Native.Nat.{ℕ, _+_, _<_, _≤_}
 use mathlib.Core.Path.{_≡_}
-use mathlib.Core.Bool.{true}
+use mathlib.Core.Logic.{_↔_}
+use mathlib.Core.Bool.{Bool, true}
 use mathlib.Core.List.{List, [], _∷_, _++_}
 use lib.ListN.{length}
 use Rattle.expression.specs.declared.Credential.{Credential}
 use Rattle.expression.specs.Credential.{wellFormedCredential, credentialBytes, isBody}
-use Rattle.question.specs.Credentials.{credentialsOf}
 use Rattle.numbers.specs.Sizes.{MOST-CREDENTIALS, MOST-CREDENTIALS-BYTES}
 use Rattle.numbers.specs.Bytes.{EXPRESSION-BYTES}
 use Rattle.expression.specs.declared.Expression.{Expression}
-use Rattle.expression.specs.declared.ExpressionAnswer.the-variants.{Read}
+use Rattle.rt0.specs.From.{From}
 use Rattle.expression.specs.Bytes.{rawBytes}
 use Rattle.expression.specs.Form.{rawOf, wellFormed}
-use Rattle.question.specs.Question.{operandOf}
-use Rattle.numbers.specs.Answer.{accepted}
 
 -- a command for each credential, then other bytes
 abbrev pub commandsThen : List Credential → List ℕ → List ℕ
@@ -55,9 +53,10 @@ pub record Sized (c f e : ℕ) : Type 0 where
   pub first : f ≡ EXPRESSION-BYTES
   pub second : e ≡ EXPRESSION-BYTES
 
--- the lent bytes ask whether x from y over the credentials C
-pub record Asked (c f e : List ℕ) (C : List Credential) (x y : Expression) : Type 0 where
-  pub sizes : Sized (length c) (length f) (length e)
-  pub credentials : credentialsOf c ≡ accepted C
-  pub first : operandOf f ≡ Read x
-  pub second : operandOf e ≡ Read y
+-- the lent bytes ask a question, and b is its answer: yes exactly where "f from e" holds over the credentials listed
+pub record Answered (c f e : List ℕ) (b : Bool) : Type 0 where
+  pub credentials : List Credential
+  pub left : Expression
+  pub right : Expression
+  pub written : Written c f e credentials left right
+  pub yes : (b ≡ true) ↔ From credentials left right

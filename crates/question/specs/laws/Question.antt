@@ -1,10 +1,9 @@
 -- What an answer says of the question, and that every question has one of five answers. Assumes nothing.
-use Prim.Native.Nat.{ℕ, _<_, _*_}
+use Prim.Native.Nat.{ℕ, _*_}
 use mathlib.Core.Path.{_≡_, refl, sym, ap, _∙_, subst}
 use mathlib.Core.Logic.{_⊎_, inl, inr, ⊎-elim}
 use mathlib.Core.Bool.{Bool, true, false, cond, _&&_}
 use mathlib.Core.List.{List}
-use native.Mathlib.Omega.{arith}
 use borrow.Author.Tests.{lt-ltb, ltb-true, le-leb, leb-true, eq-eqb, eqb-true}
 use lib.Dec.{ltb, leb, eqb}
 use lib.ListN.{length}
@@ -17,12 +16,9 @@ use Rattle.expression.specs.declared.ExpressionAnswer.the-variants.{Read, Wrong
 use Rattle.expression.specs.Form.{readOf}
 use Rattle.expression.specs.Credential.{isBody}
 use Rattle.expression.specs.laws.Laws.{and-left, and-right}
-use Rattle.rt0.specs.From.{From}
 use Rattle.rt0.specs.Decide.{from?}
-use Rattle.word.specs.laws.Bools.{false-true}
-use Rattle.rt0.specs.laws.Laws.{from-exact}
 use Rattle.question.specs.Credentials.{credentialsOf}
-use Rattle.question.specs.Asked.{Sized, Asked}
+use Rattle.question.specs.Asked.{Sized}
 use Rattle.question.specs.laws.Credentials.{Refusal, list-refusal}
 use Rattle.question.specs.Question.{sized, askable, operandOf, yesOrNo, answered, questionOf}
 use Rattle.numbers.specs.Answer.{Answer, refused, accepted, answerOf}
@@ -78,26 +74,33 @@ pub question-inside : (c f e : List ℕ) (l : Answer (List Credential)) (p q : E
     → operandOf e ≡ q → answerOf yesOrNo (answered l p q) ≡ answerOf yesOrNo (questionOf c f e)
 question-inside c f e l p q h u v w = ap (answerOf yesOrNo) (question-read c f e l p q h u v w)
 
+-- the lent bytes ask whether x from y over the credentials C
+pub record Asked (c f e : List ℕ) (C : List Credential) (x y : Expression) : Type 0 where
+  pub sizes : Sized (length c) (length f) (length e)
+  pub credentials : credentialsOf c ≡ accepted C
+  pub first : operandOf f ≡ Read x
+  pub second : operandOf e ≡ Read y
+
 -- the answer to a question that is asked in right form
 pub question-asked : {c f e : List ℕ} {C : List Credential} {x y : Expression} → Asked c f e C x y → questionOf c f e ≡ accepted (from? C x y)
 question-asked {c} {f} {e} h = sym (question-read c f e _ _ _ (sized-true (h .sizes)) (h .credentials) (h .first) (h .second))
 
 -- a refusal number
-abbrev pub Refused : ℕ → Type 0
+abbrev Refused : ℕ → Type 0
 Refused n = (n ≡ 1) ⊎ Refusal n
 
 -- the question that the lent bytes ask has the answer n
-abbrev pub Answered : List ℕ → List ℕ → List ℕ → ℕ → Type 0
-Answered c f e n = (C : List Credential) × (x : Expression) × (y : Expression) × Asked c f e C x y × (n ≡ yesOrNo (from? C x y) * 256)
+abbrev Asks : List ℕ → List ℕ → List ℕ → ℕ → Type 0
+Asks c f e n = (C : List Credential) × (x : Expression) × (y : Expression) × Asked c f e C x y × (n ≡ yesOrNo (from? C x y) * 256)
 
 -- every call is refused or answers a question
-pub question-cases : (c f e : List ℕ) → Refused (answerOf yesOrNo (questionOf c f e)) ⊎ Answered c f e (answerOf yesOrNo (questionOf c f e))
+question-cases : (c f e : List ℕ) → Refused (answerOf yesOrNo (questionOf c f e)) ⊎ Asks c f e (answerOf yesOrNo (questionOf c f e))
 unfolding questionOf
 question-cases c f e = size (sized (length c) (length f) (length e)) refl
   where
     read : (l : Answer (List Credential)) (p q : ExpressionAnswer) → sized (length c) (length f) (length e) ≡ true → credentialsOf c ≡ l
         → operandOf f ≡ p → operandOf e ≡ q
-        → Refused (answerOf yesOrNo (answered l p q)) ⊎ Answered c f e (answerOf yesOrNo (answered l p q))
+        → Refused (answerOf yesOrNo (answered l p q)) ⊎ Asks c f e (answerOf yesOrNo (answered l p q))
     read (refused k) p q h l a b = inl (inr (list-refusal c k l))
     read (accepted C) Wrong q h l a b = inl (inr (inr refl))
     read (accepted C) (Read x) Wrong h l a b = inl (inr (inr refl))
@@ -105,7 +108,7 @@ question-cases c f e = size (sized (length c) (length f) (length e)) refl
         inr (C, x, y, record { sizes = true-sized (length c) (length f) (length e) h; credentials = l; first = a; second = b }, refl)
 
     size : (t : Bool) → sized (length c) (length f) (length e) ≡ t
-        → (let n : ℕ = answerOf yesOrNo (cond t (answered (credentialsOf c) (operandOf f) (operandOf e)) (refused LENGTH)) in Refused n ⊎ Answered c f e n)
+        → (let n : ℕ = answerOf yesOrNo (cond t (answered (credentialsOf c) (operandOf f) (operandOf e)) (refused LENGTH)) in Refused n ⊎ Asks c f e n)
     size true h = read (credentialsOf c) (operandOf f) (operandOf e) h refl refl refl
     size false h = inl (inl refl)
 
@@ -118,34 +121,3 @@ pub question-numbers : (c f e : List ℕ) (n : ℕ) → answerOf yesOrNo (questi
 question-numbers c f e n h =
     ⊎-elim (λ r. inr (inr (subst Refused h r)))
     (λ w. ⊎-elim (λ y. inr (inl (sym h ∙ w .4 ∙ y .1))) (λ y. inl (sym h ∙ w .4 ∙ y .1)) (yes-or-no (from? (w .0) (w .1) (w .2)))) (question-cases c f e)
-
-refused-number : (n : ℕ) → Refused n → (0 < n) × (n < 4)
-refused-number n h = ⊎-elim (λ e. (omega arith, omega arith)) (λ r. ⊎-elim (λ e. (omega arith, omega arith)) (λ e. (omega arith, omega arith)) r) h
-
--- yes is answered only where the relation holds
-pub question-yes : (c f e : List ℕ) → answerOf yesOrNo (questionOf c f e) ≡ 256
-    → (C : List Credential) × (x : Expression) × (y : Expression) × Asked c f e C x y × From C x y
-question-yes c f e h =
-    ⊎-elim (λ r. absurd (omega (arith, refused-number _ r)))
-    (λ w. (
-      w .0,
-      w .1,
-      w .2,
-      w .3,
-      from-exact (w .0) (w .1) (w .2) .0
-          (⊎-elim (λ y. y .0) (λ y. absurd (omega (arith, w .4, y .1))) (yes-or-no (from? (w .0) (w .1) (w .2)))),
-    )) (question-cases c f e)
-
--- no is answered only where it does not
-pub question-no : (c f e : List ℕ) → answerOf yesOrNo (questionOf c f e) ≡ 0
-    → (C : List Credential) × (x : Expression) × (y : Expression) × Asked c f e C x y × (From C x y → ⊥)
-question-no c f e h =
-    ⊎-elim (λ r. absurd (omega (arith, refused-number _ r)))
-    (λ w. (
-      w .0,
-      w .1,
-      w .2,
-      w .3,
-      λ k. ⊎-elim (λ y. omega (arith, w .4, y .1)) (λ y. false-true (sym (y .0) ∙ from-exact (w .0) (w .1) (w .2) .1 k))
-          (yes-or-no (from? (w .0) (w .1) (w .2))),
-    )) (question-cases c f e)

@@ -17,7 +17,8 @@ use Rattle.expression.specs.Credential.{isBody}
 use Rattle.expression.specs.laws.Codec.{read-write, read-only}
 use Rattle.expression.specs.laws.There.{self-paste}
 use Rattle.question.specs.Credentials.{credentialsOf}
-use Rattle.question.specs.Asked.{Asked, expressionBytes, Askable, Written}
+use Rattle.question.specs.Asked.{expressionBytes, Askable, Written}
+use Rattle.question.specs.laws.Question.{Asked}
 use Rattle.question.specs.Refused.{Unaskable}
 use Rattle.question.specs.laws.CredentialsExact.{length-then, list-back, list-only}
 use Rattle.question.specs.Question.{askable, operandOf}
