@@ -58,7 +58,9 @@ keepsRules T (Access p) = suitsPair true T (p .role)
 pub record Fit (T : Tables) (r : Record) : Type 0 where
   pub classes : lacksClass T r ≡ false
   pub rules : keepsRules T r ≡ true
-  pub order : (inOrder T r && above T r && room T r) ≡ true
+  pub order : inOrder T r ≡ true
+  pub ascends : above T r ≡ true
+  pub size : room T r ≡ true
 
 -- which rule a record breaks first behind the tables T, and k is its number
 pub data Breaks (T : Tables) (r : Record) (k : ℕ) : Type 0 where
