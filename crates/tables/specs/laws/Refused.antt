@@ -13,13 +13,14 @@ use Rattle.record.specs.declared.Record.{Record}
 use Rattle.record.specs.declared.RecordAnswer.{RecordAnswer}
 use Rattle.record.specs.declared.RecordAnswer.the-variants as a
 use Rattle.record.specs.Record.{recordAt, sizeOf}
+use Rattle.record.specs.Unreadable.{cut, malformed}
 use Rattle.record.specs.laws.RecordExact.{some-size, record-room}
 use Rattle.record.specs.laws.Unreadable.{read-inside, stands-exactly, unreadable-exactly}
 use Rattle.tables.specs.Tables.{Tables, unread, added}
 use Rattle.tables.specs.Check.{judge, recordsFrom, sized, readTables}
 use Rattle.tables.specs.Refused.{Sized, Reads, start, next, Unfit, unreadable, breaks, CheckRefused, size, stopped}
 use Rattle.tables.specs.laws.Check.{readFrom, from-past, from-refused, from-judged}
-use Rattle.tables.specs.laws.Fit.{judge-reason, breaks-number, breaks-some, fit-exactly}
+use Rattle.tables.specs.laws.Fit.{judge-reason, breaks-number, breaks-range, breaks-some, fit-exactly}
 use Rattle.tables.specs.laws.Group.{judged-refused}
 use Rattle.numbers.specs.Answer.{Answer, refused, accepted}
 use Rattle.numbers.specs.Sizes.{MOST-TABLES-BYTES}
@@ -31,6 +32,13 @@ sized-exactly n = (
   λ h. let w = and-parts (ltb 0 n) (leb n MOST-TABLES-BYTES) h in record { some = ltb-true 0 n (w .0); most = leb-true n MOST-TABLES-BYTES (w .1) },
   λ w. and-both (ltb 0 n) (leb n MOST-TABLES-BYTES) (lt-ltb 0 n (w .some)) (le-leb n MOST-TABLES-BYTES (w .most)),
 )
+
+-- the numbers are 1 to 6
+pub refused-range : {s : List ℕ} {k : ℕ} → CheckRefused s k → (0 < k) × (k ≤ 6)
+refused-range (size n e) = (omega arith, omega arith)
+refused-range (stopped i w m (unreadable (cut n e))) = (omega arith, omega arith)
+refused-range (stopped i w m (unreadable (malformed v n e))) = (omega arith, omega arith)
+refused-range (stopped {T = T} i w m (breaks {r} v b)) = let o = breaks-range T r b in (omega (arith, o .0), o .1)
 
 module _ (s : List ℕ) (bytes : (i : ℕ) → getD s i 0 < 256) where
   -- what an answer says of the bytes
