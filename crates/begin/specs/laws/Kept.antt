@@ -5,7 +5,7 @@ use native.Mathlib.Omega.{arith}
 use mathlib.Core.Path.{_≡_, refl, sym, _∙_, ap}
 use mathlib.Core.Bool.{Bool, true, false, not, cond, _&&_}
 use mathlib.Core.List.{List}
-use mathlib.Core.Option as O
+use mathlib.Core.Option.{none, some}
 use borrow.Author.Tests.{eq-eqb, ne-eqb, lt-ltb}
 use lib.Dec.{eqb, ltb}
 use lib.ListN.{length}
@@ -23,7 +23,7 @@ use Rattle.negotiation.specs.laws.Codec.{state-back}
 use Rattle.damage.specs.Header.{wantedSound, otherSound, headerSound, emptySound}
 use Rattle.damage.specs.Damage.{sound, ifSound, readSound}
 use Rattle.begin.specs.Begin.{isRequester, roleNumber, otherNumber, beginNumber, sideOf, begunState, behindTables, beginOf}
-use Rattle.begin.specs.Refused.{Wanted, none, role, Begun}
+use Rattle.begin.specs.Refused.{Wanted, requester, mediator, Begun}
 use Rattle.begin.specs.laws.Begin.{within-fresh}
 use Rattle.begin.specs.laws.Refused.{begun-exactly}
 use Rattle.numbers.specs.Answer.{Answer, refused, accepted, judged}
@@ -40,10 +40,10 @@ fresh-sound T side other wanted s o w = λ i. s i && eq-eqb (T .own) (T .own) re
 -- the requester wants no role, the mediator one whose name has a class
 wanted-sound : (ns : List Name) (entity name : ℕ) → Wanted ns entity name → wantedSound ns (sideOf entity name) (roleOf entity name) ≡ true
 unfolding wantedSound
-wanted-sound ns entity name (none p q) =
+wanted-sound ns entity name (requester p q) =
     λ i. (let r : Bool = eq-eqb entity 0 p i && eq-eqb name 0 q i in
     cond (eqb (cond r 1 0) 0) (ltb 0 entity && ltb 0 name && not (eqb (classOf ns name) 0)) r)
-wanted-sound ns entity name (role p q r) =
+wanted-sound ns entity name (mediator p q r) =
     λ i. cond (eqb (cond (ne-eqb entity 0 p i && eqb name 0) 1 0) 0)
     (lt-ltb 0 entity (omega (arith, p)) i && lt-ltb 0 name (omega (arith, q)) i && not (ne-eqb (classOf ns name) 0 r i))
     (isRequester entity name)
@@ -69,13 +69,13 @@ begun-sound {other = other} {entity = entity} {name = name} b =
 
 -- the bytes that an accepted begin leaves are read back, and not damaged
 pub begin-undamaged : (tables negotiation : List ℕ) (other entity name : ℕ) {T : Tables} {S : State}
-    → beginOf tables negotiation other entity name ≡ accepted S → readTables tables ≡ accepted T → readSound T (stateBytes S) ≡ O.some S
+    → beginOf tables negotiation other entity name ≡ accepted S → readTables tables ≡ accepted T → readSound T (stateBytes S) ≡ some S
 unfolding readSound begunState
 begin-undamaged tables negotiation other entity name {T} {S} h t =
     let b = begun-exactly tables negotiation other entity name S .0 h in
     let same : b .house ≡ T = ap (valueOr T) (sym (b .lent .house) ∙ t) in
     ap (ifSound T) (state-back S (within-fresh S (sideOf entity name) (b .house .own) other (roleOf entity name) (b .fresh)))
-    ∙ ap (λ (x : Bool). cond x (O.some S) O.none) (ap (λ (U : Tables). sound U S) (sym same) ∙ begun-sound b)
+    ∙ ap (λ (x : Bool). cond x (some S) none) (ap (λ (U : Tables). sound U S) (sym same) ∙ begun-sound b)
 
 -- Nothing hidden
 

@@ -16,7 +16,7 @@ use Rattle.tables.specs.laws.Accepted.{check-numbers}
 use Rattle.tables.specs.laws.Refused.{refused-range, check-refused-exactly}
 use Rattle.negotiation.specs.State.{State}
 use Rattle.begin.specs.Begin.{roleNumber, otherNumber, beginNumber, begunState, behindTables, beginOf}
-use Rattle.begin.specs.Refused.{Lent, Wanted, none, role, OneZero, zero-entity, zero-name, BeginRefused, wrong-length, unread, one-zero, unnamed}
+use Rattle.begin.specs.Refused.{Lent, Wanted, requester, mediator, OneZero, zero-entity, zero-name, BeginRefused, wrong-length, unread, one-zero, unnamed}
 use Rattle.begin.specs.Refused.{other-end, Begun}
 use Rattle.numbers.specs.Answer.{Answer, refused, accepted, judged}
 use Rattle.numbers.specs.Refusals.{LENGTH}
@@ -37,8 +37,8 @@ module _ (ns : List Name) (entity name : ℕ) where
   role-zero (zero-name p q) = role-tests (ne-eqb entity 0 p) (eq-eqb name 0 q) refl
 
   role-free : Wanted ns entity name → roleNumber ns entity name ≡ 0
-  role-free (none p q) = role-tests (eq-eqb entity 0 p) (eq-eqb name 0 q) refl
-  role-free (role p q r) = role-tests (ne-eqb entity 0 p) (ne-eqb name 0 q) (ne-eqb (classOf ns name) 0 r)
+  role-free (requester p q) = role-tests (eq-eqb entity 0 p) (eq-eqb name 0 q) refl
+  role-free (mediator p q r) = role-tests (ne-eqb entity 0 p) (ne-eqb name 0 q) (ne-eqb (classOf ns name) 0 r)
 
 module _ (own other : ℕ) where
   other-tests : {o w : Bool} → eqb other 0 ≡ o → eqb other own ≡ w → otherNumber own other ≡ cond (o || w) 7 0
@@ -84,13 +84,13 @@ module _ (tables negotiation : List ℕ) (other entity name : ℕ) where
 
       role-says : (k : ℕ) (a : Answer State) → (Wanted (T .names) entity name → Says (judged k a)) → (e n c : Bool)
           → eqb entity 0 ≡ e → eqb name 0 ≡ n → eqb (classOf (T .names) name) 0 ≡ c → Says (judged (orElse (byTests e n c) k) a)
-      role-says k a free true true c p q r = free (none (eqb-true entity 0 p) (eqb-true name 0 q))
+      role-says k a free true true c p q r = free (requester (eqb-true entity 0 p) (eqb-true name 0 q))
       role-says k a free true false c p q r = reason 3 (one-zero g (zero-entity (eqb-true entity 0 p) (eqb-false name 0 q)) refl)
       role-says k a free false true c p q r = reason 3 (one-zero g (zero-name (eqb-false entity 0 p) (eqb-true name 0 q)) refl)
       role-says k a free false false true p q r =
           reason 4 (unnamed g (eqb-false entity 0 p) (eqb-false name 0 q) (eqb-true (classOf (T .names) name) 0 r) refl)
       role-says k a free false false false p q r =
-          free (role (eqb-false entity 0 p) (eqb-false name 0 q) (eqb-false (classOf (T .names) name) 0 r))
+          free (mediator (eqb-false entity 0 p) (eqb-false name 0 q) (eqb-false (classOf (T .names) name) 0 r))
 
       lent-says : Says (beginOf tables negotiation other entity name)
       lent-says =
