@@ -55,7 +55,9 @@ suits (Class a) k = eqb k 1 || eqb a k
 
 abbrev pub isUnnamed : Typing → Bool
 isUnnamed Unnamed = true
-isUnnamed t = false
+isUnnamed Ill = false
+isUnnamed Any = false
+isUnnamed (Class a) = false
 
 -- a credential: "4 a name without class", "5 a class rule broken" ("From the input"), or zero
 unfoldable pub credentialNumber : List Name → Credential → ℕ
