@@ -23,9 +23,9 @@ pub record Lent (tables negotiation : List ℕ) (T : Tables) : Type 0 where
 -- a role that may be wanted
 pub data Wanted (ns : List Name) (entity name : ℕ) : Type 0 where
   -- "both zero makes us the requester"
-  none : entity ≡ 0 → name ≡ 0 → Wanted ns entity name
+  requester : entity ≡ 0 → name ≡ 0 → Wanted ns entity name
   -- "the wanted role, entity and name"
-  role : (entity ≡ 0 → ⊥) → (name ≡ 0 → ⊥) → (classOf ns name ≡ 0 → ⊥) → Wanted ns entity name
+  mediator : (entity ≡ 0 → ⊥) → (name ≡ 0 → ⊥) → (classOf ns name ≡ 0 → ⊥) → Wanted ns entity name
 
 -- "just one zero in the role"
 pub data OneZero (entity name : ℕ) : Type 0 where

@@ -1,3 +1,3 @@
 pub mod Begin
-pub mod Kept
 pub mod Refused
+pub mod Kept

@@ -24,12 +24,12 @@ pub data Whole (l : List ℕ) : Type 0 where
   end : l ≡ 6 ∷ [] → Whole l
 
 -- why no command of a list can be read from the first of the bytes on, and k is its number
-pub data Unlisted (l : List ℕ) (k : ℕ) : Type 0 where
+pub data Unreadable (l : List ℕ) (k : ℕ) : Type 0 where
   -- "2 unknown command, cut command, missing end, bytes after end"
-  cut : (Whole l → ⊥) → k ≡ COMMAND → Unlisted l k
+  cut : (Whole l → ⊥) → k ≡ COMMAND → Unreadable l k
   -- "3 an operand of wrong form"
   malformed : CredentialFirst l
-      → ((d : Credential) → wellFormedCredential d ≡ true → take CREDENTIAL-BYTES l ≡ 1 ∷ credentialBytes d → ⊥) → k ≡ OPERAND → Unlisted l k
+      → ((d : Credential) → wellFormedCredential d ≡ true → take CREDENTIAL-BYTES l ≡ 1 ∷ credentialBytes d → ⊥) → k ≡ OPERAND → Unreadable l k
 
 -- the bytes are those of no expression of right form and of kinds 1 to 4
 abbrev pub Unaskable : List ℕ → Type 0
@@ -40,7 +40,7 @@ pub data QuestionRefused (c f e : List ℕ) (k : ℕ) : Type 0 where
   -- "1 a lent length outside the sizes"
   size : (Sized (length c) (length f) (length e) → ⊥) → k ≡ LENGTH → QuestionRefused c f e k
   -- "the first command that cannot be read ends the call"
-  list : (C : List Credential) {l : List ℕ} → Sized (length c) (length f) (length e) → c ≡ commandsThen C l → Formed C → Unlisted l k
+  list : (C : List Credential) {l : List ℕ} → Sized (length c) (length f) (length e) → c ≡ commandsThen C l → Formed C → Unreadable l k
       → QuestionRefused c f e k
   -- "the commands are checked before the expressions"; "3 an operand of wrong form"
   operand : (C : List Credential) → Sized (length c) (length f) (length e) → c ≡ commands C → Formed C → Unaskable f ⊎ Unaskable e → k ≡ OPERAND

@@ -58,7 +58,12 @@ keepsRules T (Access p) = suitsPair true T (p .role)
 pub record Fit (T : Tables) (r : Record) : Type 0 where
   pub classes : lacksClass T r ≡ false
   pub rules : keepsRules T r ≡ true
-  pub order : (inOrder T r && above T r && room T r) ≡ true
+  -- "House tables, in this order"
+  pub order : inOrder T r ≡ true
+  -- "Records of one command ascend strictly by bytes; 0x11, 0x14 and 0x15 never repeat their first operand."
+  pub ascends : above T r ≡ true
+  -- "Sizes"
+  pub size : room T r ≡ true
 
 -- which rule a record breaks first behind the tables T, and k is its number
 pub data Breaks (T : Tables) (r : Record) (k : ℕ) : Type 0 where

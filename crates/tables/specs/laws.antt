@@ -13,8 +13,8 @@ pub mod Decoding
 pub mod DecodingLaws
 pub mod Sorted
 pub mod Public
-pub mod Accepted
 pub mod Fit
+pub mod Accepted
 pub mod Refused
 pub mod Sound
 pub mod BehindRecords

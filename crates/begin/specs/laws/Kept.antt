@@ -1,12 +1,12 @@
 -- A begun negotiation is not damaged, and begin looks at nothing hidden (document 01, "The reply", "From the state", "Two runs"). Assumes
 -- nothing.
-use Prim.Native.Nat.{ℕ, zero, suc}
+use Prim.Native.Nat.{ℕ}
 use native.Mathlib.Omega.{arith}
 use mathlib.Core.Path.{_≡_, refl, sym, _∙_, ap}
-use mathlib.Core.Bool.{Bool, true, false, not, cond, _&&_, _||_}
+use mathlib.Core.Bool.{Bool, true, false, not, cond, _&&_}
 use mathlib.Core.List.{List}
 use mathlib.Core.Option.{none, some}
-use borrow.Author.Tests.{eq-eqb, eqb-true, eqb-false, lt-ltb}
+use borrow.Author.Tests.{eq-eqb, ne-eqb, lt-ltb}
 use lib.Dec.{eqb, ltb}
 use lib.ListN.{length}
 use Rattle.numbers.specs.Sizes.{NEGOTIATION-BYTES}
@@ -23,8 +23,11 @@ use Rattle.negotiation.specs.laws.Codec.{state-back}
 use Rattle.damage.specs.Header.{wantedSound, otherSound, headerSound, emptySound}
 use Rattle.damage.specs.Damage.{sound, ifSound, readSound}
 use Rattle.begin.specs.Begin.{isRequester, roleNumber, otherNumber, beginNumber, sideOf, begunState, behindTables, beginOf}
+use Rattle.begin.specs.Refused.{Wanted, requester, mediator, Begun}
 use Rattle.begin.specs.laws.Begin.{within-fresh}
+use Rattle.begin.specs.laws.Refused.{begun-exactly}
 use Rattle.numbers.specs.Answer.{Answer, refused, accepted, judged}
+use Rattle.numbers.specs.laws.Answer.{valueOr}
 use Rattle.numbers.specs.Refusals.{LENGTH}
 
 -- Not damaged
@@ -34,44 +37,16 @@ fresh-sound : (T : Tables) (side other : ℕ) (wanted : Role) → ltb side 2 ≡
 unfolding sound headerSound emptySound freshState
 fresh-sound T side other wanted s o w = λ i. s i && eq-eqb (T .own) (T .own) refl i && o i && w i && true
 
--- of two numbers that make zero both are zero
-both-zero : (k m : ℕ) → orElse k m ≡ 0 → (k ≡ 0) × (m ≡ 0)
-both-zero k m h = go (eqb k 0) refl h
-  where
-    go : (b : Bool) → eqb k 0 ≡ b → cond b m k ≡ 0 → (k ≡ 0) × (m ≡ 0)
-    go true e z = (eqb-true k 0 e, z)
-    go false e z = absurd (eqb-false k 0 e z)
-
-other-free : (own other : ℕ) → otherNumber own other ≡ 0 → otherSound own other ≡ true
-unfolding otherNumber
-other-free own other h = go (eqb other 0) (eqb other own) h
-  where
-    go : (a b : Bool) → _≡_ {A = ℕ} (cond (a || b) 7 0) 0 → (not a && not b) ≡ true
-    go true b z = absurd (omega arith)
-    go false true z = absurd (omega arith)
-    go false false z = refl
-
-positive : (n : ℕ) → eqb n 0 ≡ false → ltb 0 n ≡ true
-positive n h = lt-ltb 0 n (omega (arith, eqb-false n 0 h))
-
 -- the requester wants no role, the mediator one whose name has a class
-wanted-free : (ns : List Name) (entity name : ℕ) → roleNumber ns entity name ≡ 0 → wantedSound ns (sideOf entity name) (roleOf entity name) ≡ true
-unfolding roleNumber wantedSound
-wanted-free ns entity name h = go (isRequester entity name) refl h
-  where
-    role : (a b c : Bool) → eqb entity 0 ≡ a → eqb name 0 ≡ b → eqb (classOf ns name) 0 ≡ c → _≡_ {A = ℕ} (cond (a || b) 3 (cond c 4 0)) 0
-        → (ltb 0 entity && ltb 0 name && not (eqb (classOf ns name) 0)) ≡ true
-    role true b c p q r z = absurd (omega arith)
-    role false true c p q r z = absurd (omega arith)
-    role false false true p q r z = absurd (omega arith)
-    role false false false p q r z = λ i. positive entity p i && positive name q i && not (r i)
-
-    go : (b : Bool) → isRequester entity name ≡ b → _≡_ {A = ℕ} (cond b 0 (cond (eqb entity 0 || eqb name 0) 3 (cond (eqb (classOf ns name) 0) 4 0))) 0
-        → cond (eqb (cond (isRequester entity name) 1 0) 0) (ltb 0 entity && ltb 0 name && not (eqb (classOf ns name) 0)) (isRequester entity name) ≡ true
-    go true e z = λ i. cond (eqb (cond (e i) 1 0) 0) (ltb 0 entity && ltb 0 name && not (eqb (classOf ns name) 0)) (e i)
-    go false e z =
-        ap (λ (b : Bool). cond (eqb (cond b 1 0) 0) (ltb 0 entity && ltb 0 name && not (eqb (classOf ns name) 0)) (isRequester entity name)) e
-        ∙ role (eqb entity 0) (eqb name 0) (eqb (classOf ns name) 0) refl refl refl z
+wanted-sound : (ns : List Name) (entity name : ℕ) → Wanted ns entity name → wantedSound ns (sideOf entity name) (roleOf entity name) ≡ true
+unfolding wantedSound
+wanted-sound ns entity name (requester p q) =
+    λ i. (let r : Bool = eq-eqb entity 0 p i && eq-eqb name 0 q i in
+    cond (eqb (cond r 1 0) 0) (ltb 0 entity && ltb 0 name && not (eqb (classOf ns name) 0)) r)
+wanted-sound ns entity name (mediator p q r) =
+    λ i. cond (eqb (cond (ne-eqb entity 0 p i && eqb name 0) 1 0) 0)
+    (lt-ltb 0 entity (omega (arith, p)) i && lt-ltb 0 name (omega (arith, q)) i && not (ne-eqb (classOf ns name) 0 r i))
+    (isRequester entity name)
 
 side-two : (entity name : ℕ) → ltb (sideOf entity name) 2 ≡ true
 side-two entity name = go (isRequester entity name)
@@ -81,39 +56,26 @@ side-two entity name = go (isRequester entity name)
     go false = refl
 
 -- what begin makes is sound
-pub begun-sound : (T : Tables) (other entity name : ℕ) → beginNumber T other entity name ≡ 0 → sound T (begunState T other entity name) ≡ true
-unfolding beginNumber begunState
-begun-sound T other entity name h =
-    let z = both-zero (roleNumber (T .names) entity name) (otherNumber (T .own) other) h in
-    fresh-sound T (sideOf entity name) other (roleOf entity name) (side-two entity name) (other-free (T .own) other (z .1))
-    (wanted-free (T .names) entity name (z .0))
+pub begun-sound : {tables negotiation : List ℕ} {other entity name : ℕ} {S : State} (b : Begun tables negotiation other entity name S)
+    → sound (b .house) S ≡ true
+unfolding begunState
+begun-sound {other = other} {entity = entity} {name = name} b =
+    let T : Tables = b .house in
+    ap (sound T) (b .fresh)
+    ∙ fresh-sound T (sideOf entity name) other (roleOf entity name) (side-two entity name)
+    (λ i. not (ne-eqb other 0 (b .nonzero) i) && not (ne-eqb other (T .own) (b .distinct) i)) (wanted-sound (T .names) entity name (b .wanted))
 
 -- Over bytes
 
--- an accepted begin makes the state of its tables
-module _ (tables negotiation : List ℕ) (other entity name : ℕ) {T : Tables} {S : State}
-    (h : beginOf tables negotiation other entity name ≡ accepted S) (t : readTables tables ≡ accepted T) where
-  begun-number : (k : ℕ) (U : State) → judged k (accepted U) ≡ accepted S → (k ≡ 0) × (U ≡ S)
-  begun-number zero U e = (refl, cc)
-  begun-number (suc k) U e = absurd (let z : _≡_ {A = ℕ} 0 1 = cc in omega arith)
-
-  begun-only : (beginNumber T other entity name ≡ 0) × (begunState T other entity name ≡ S)
-  unfolding beginOf
-  begun-only = go (eqb (length negotiation) NEGOTIATION-BYTES) h
-    where
-      go : (b : Bool) → cond b (behindTables other entity name (readTables tables)) (refused LENGTH) ≡ accepted S
-          → (beginNumber T other entity name ≡ 0) × (begunState T other entity name ≡ S)
-      go true e = begun-number (beginNumber T other entity name) (begunState T other entity name) (sym (ap (behindTables other entity name) t) ∙ e)
-      go false e = absurd (let z : _≡_ {A = ℕ} 0 1 = cc in omega arith)
-
-  -- the bytes that it leaves are read back, and not damaged
-  pub begin-undamaged : readSound T (stateBytes S) ≡ some S
-  unfolding readSound begunState
-  begin-undamaged =
-      let r = begun-only in
-      let s : sound T S ≡ true = sym (ap (sound T) (r .1)) ∙ begun-sound T other entity name (r .0) in
-      ap (ifSound T) (state-back S (within-fresh S (sideOf entity name) (T .own) other (roleOf entity name) (sym (r .1))))
-      ∙ ap (λ (b : Bool). cond b (some S) none) s
+-- the bytes that an accepted begin leaves are read back, and not damaged
+pub begin-undamaged : (tables negotiation : List ℕ) (other entity name : ℕ) {T : Tables} {S : State}
+    → beginOf tables negotiation other entity name ≡ accepted S → readTables tables ≡ accepted T → readSound T (stateBytes S) ≡ some S
+unfolding readSound begunState
+begin-undamaged tables negotiation other entity name {T} {S} h t =
+    let b = begun-exactly tables negotiation other entity name S .0 h in
+    let same : b .house ≡ T = ap (valueOr T) (sym (b .lent .house) ∙ t) in
+    ap (ifSound T) (state-back S (within-fresh S (sideOf entity name) (b .house .own) other (roleOf entity name) (b .fresh)))
+    ∙ ap (λ (x : Bool). cond x (some S) none) (ap (λ (U : Tables). sound U S) (sym same) ∙ begun-sound b)
 
 -- Nothing hidden
 

@@ -23,7 +23,7 @@ use Rattle.numbers.specs.Sizes.{MOST-CREDENTIALS, MOST-CREDENTIALS-BYTES}
 use Rattle.rt0.specs.declared.Pool.{Pool}
 use Rattle.rt0.specs.laws.Added.{count-length}
 use Rattle.question.specs.Credentials.{taken, credentialStep, endStep, commandStep, stepAt, after, listFrom, credentialsOf}
-use Rattle.question.specs.Refused.{CredentialFirst, Whole, credential, end, Unlisted, malformed}
+use Rattle.question.specs.Refused.{CredentialFirst, Whole, credential, end, Unreadable, malformed}
 use Rattle.question.specs.Refused as R
 use Rattle.numbers.specs.Answer.{Answer, refused, accepted}
 
@@ -71,7 +71,7 @@ module _ (s : List ℕ) (at : ℕ) where
   credential-first code room = record { code = code-drop ∙ code; room = omega (arith, length-drop at s) }
 
   -- the command is neither the end nor a whole credential
-  not-whole : (drop at s ≡ 6 ∷ [] → ⊥) → (getD s at 0 ≡ 1 → CREDENTIAL-BYTES ≤ length s - at → ⊥) → Unlisted (drop at s) 2
+  not-whole : (drop at s ≡ 6 ∷ [] → ⊥) → (getD s at 0 ≡ 1 → CREDENTIAL-BYTES ≤ length s - at → ⊥) → Unreadable (drop at s) 2
   not-whole f g = R.cut go refl
     where
       go : Whole (drop at s) → ⊥
@@ -79,7 +79,7 @@ module _ (s : List ℕ) (at : ℕ) where
       go (end h) = f h
 
   -- no byte is left
-  pub none-left : length s ≤ at → Unlisted (drop at s) 2
+  pub none-left : length s ≤ at → Unreadable (drop at s) 2
   none-left h = not-whole (λ e. omega (arith, length-drop at s, ap length e)) (λ code room. omega (arith, room))
 
   -- a credential whose operands have wrong form
@@ -96,7 +96,7 @@ module _ (s : List ℕ) (at : ℕ) where
 abbrev Sure : List ℕ → ℕ → Step → Type 0
 Sure s at (Taken c) = (at + CREDENTIAL-BYTES ≤ length s) × (getD s at 0 ≡ 1) × (readCredential s (at + 1) ≡ a.Read c)
 Sure s at End = (at + 1 ≡ length s) × (getD s at 0 ≡ 6)
-Sure s at (Refused k) = Unlisted (drop at s) k
+Sure s at (Refused k) = Unreadable (drop at s) k
 
 module _ (s : List ℕ) (at : ℕ) (inside : at < length s) where
   sure-credential : getD s at 0 ≡ 1 → Sure s at (credentialStep s at)
@@ -146,7 +146,7 @@ pub end-sure : (s : List ℕ) (at : ℕ) → stepAt s at ≡ End → (at + 1 ≡
 end-sure s at h = subst (Sure s at) h (sure s at)
 
 -- a command is refused for its reason
-pub step-reason : (s : List ℕ) (at k : ℕ) → stepAt s at ≡ Refused k → Unlisted (drop at s) k
+pub step-reason : (s : List ℕ) (at k : ℕ) → stepAt s at ≡ Refused k → Unreadable (drop at s) k
 step-reason s at k h = subst (Sure s at) h (sure s at)
 
 -- and by 2 or 3
@@ -156,7 +156,7 @@ Refusal k = (k ≡ 2) ⊎ (k ≡ 3)
 pub step-refusal : (s : List ℕ) (at k : ℕ) → stepAt s at ≡ Refused k → Refusal k
 step-refusal s at k h = go (step-reason s at k h)
   where
-    go : Unlisted (drop at s) k → Refusal k
+    go : Unreadable (drop at s) k → Refusal k
     go (R.cut n e) = inl e
     go (malformed w n e) = inr e
 

@@ -20,7 +20,7 @@ use Rattle.question.specs.declared.Step.the-variants.{Taken, End, Refuse
 use Rattle.question.specs.Credentials.{stepAt, after, listFrom, credentialsOf}
 use Rattle.question.specs.laws.Credentials.{whole, last, at-code, credential-first, none-left, taken-sure, end-sure, step-reason}
 use Rattle.question.specs.Asked.{commandsThen, commands, Formed}
-use Rattle.question.specs.Refused.{credential, end, Unlisted, malformed}
+use Rattle.question.specs.Refused.{credential, end, Unreadable, malformed}
 use Rattle.question.specs.Refused as R
 use Rattle.numbers.specs.Answer.{Answer, refused, accepted}
 
@@ -72,7 +72,7 @@ list-back C formed =
 -- what is known where an answer was found: the credentials F, and the bytes l behind their commands
 abbrev Stop : List Credential → List ℕ → Answer (List Credential) → Type 0
 Stop F l (accepted E) = (E ≡ F) × (l ≡ 6 ∷ [])
-Stop F l (refused k) = Unlisted l k
+Stop F l (refused k) = Unreadable l k
 
 -- the bytes from an index on, behind the credentials D
 pub record Rest (s : List ℕ) (at : ℕ) (D : List Credential) (x : Answer (List Credential)) : Type 0 where
@@ -111,7 +111,7 @@ module _ (s : List ℕ) (bytes : (i : ℕ) → getD s i 0 < 256) where
       let w = end-sure s at h in
       drop-cons s at 0 (omega (arith, w .0)) ∙ (λ i. w .1 i ∷ drop-of-length-le s {i = suc at} (omega (arith, w .0)) i)
 
-  refused-here : (at k : ℕ) (D : List Credential) → Unlisted (drop at s) k → Rest s at D (refused k)
+  refused-here : (at k : ℕ) (D : List Credential) → Unreadable (drop at s) k → Rest s at D (refused k)
   refused-here at k D u = record { listed = []; others = drop at s; there = refl; formed = tt; stop = u }
 
   to-commands : (n at : ℕ) (D : List Credential) → length s ≤ n + at → Rest s at D (listFrom n s at D)
@@ -138,16 +138,16 @@ module _ (s : List ℕ) (bytes : (i : ℕ) → getD s i 0 < 256) where
 
   -- Refused
 
-  one-number : {l : List ℕ} {j k : ℕ} → Unlisted l j → Unlisted l k → j ≡ k
+  one-number : {l : List ℕ} {j k : ℕ} → Unreadable l j → Unreadable l k → j ≡ k
   one-number (R.cut n e) (R.cut m q) = e ∙ sym q
   one-number (R.cut n e) (malformed w m q) = absurd (n (credential w))
   one-number (malformed w n e) (R.cut m q) = absurd (m (credential w))
   one-number (malformed w n e) (malformed v m q) = e ∙ sym q
 
-  unlisted-step : (at k : ℕ) → Unlisted (drop at s) k → stepAt s at ≡ Refused k
-  unlisted-step at k u = go (stepAt s at) refl u
+  unreadable-step : (at k : ℕ) → Unreadable (drop at s) k → stepAt s at ≡ Refused k
+  unreadable-step at k u = go (stepAt s at) refl u
     where
-      go : (x : Step) → stepAt s at ≡ x → Unlisted (drop at s) k → x ≡ Refused k
+      go : (x : Step) → stepAt s at ≡ x → Unreadable (drop at s) k → x ≡ Refused k
       go (Taken c) h (R.cut n e) = let w = taken-sure s at c h in absurd (n (credential (credential-first s at (w .1) (omega (arith, w .0)))))
       go (Taken c) h (malformed w n e) =
           let o = credential-there at c h in
@@ -158,9 +158,9 @@ module _ (s : List ℕ) (bytes : (i : ℕ) → getD s i 0 < 256) where
       go (Refused j) h v = ap Refused (one-number (step-reason s at j h) v)
 
   -- a command that cannot be read ends the list
-  pub list-stopped : (C : List Credential) (l : List ℕ) (k : ℕ) → 0 < length s → s ≡ commandsThen C l → Formed C → Unlisted l k → credentialsOf s ≡ refused k
+  pub list-stopped : (C : List Credential) (l : List ℕ) (k : ℕ) → 0 < length s → s ≡ commandsThen C l → Formed C → Unreadable l k → credentialsOf s ≡ refused k
   unfolding credentialsOf listFrom
   list-stopped C l k some h formed u =
       from-commands s l (λ D. refused k)
-      (λ n at D inside q. ap (after (listFrom n s (at + CREDENTIAL-BYTES)) D) (unlisted-step at k (subst (λ (m : List ℕ). Unlisted m k) (sym q) u)))
+      (λ n at D inside q. ap (after (listFrom n s (at + CREDENTIAL-BYTES)) D) (unreadable-step at k (subst (λ (m : List ℕ). Unreadable m k) (sym q) u)))
       (length s) 0 C [] (omega arith) formed h (omega (arith, ap length h, length-then C l))

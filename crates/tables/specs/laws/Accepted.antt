@@ -2,21 +2,16 @@
 use Prim.Native.Nat.{ℕ, zero, suc, _+_, _<_, _≤_}
 use mathlib.Core.Path.{_≡_, refl, sym, ap, _∙_, subst}
 use mathlib.Core.Logic.{⊎-elim}
-use mathlib.Core.Bool.{Bool, true, false, cond, not, _&&_, _||_}
+use mathlib.Core.Bool.{Bool, true, false, cond, not, _&&_}
 use mathlib.Core.List.{List, [], _∷_, _++_, append-assoc, append-nil, List·Memᴰ, List·Memᴰ·not-nil, List·Memᴰ·append-cases, List·Memᴰ·eq-of-singleton}
 use native.Mathlib.Omega.{arith}
-use borrow.Author.Tests.{ltb-true, ltb-false, leb-true, eqb-true, eqb-false}
+use borrow.Author.Tests.{ltb-true, ltb-false, leb-true, eqb-true}
 use lib.Dec.{ltb, leb, eqb}
 use lib.ListN.{length, getD, take, length-append}
 use lib.Seq.{take-add, take-length}
 use Rattle.numbers.specs.Sizes.{MOST-TABLES-BYTES}
-use Rattle.expression.specs.declared.Credential.{Credential}
 use Rattle.rt0.specs.Lists.{all}
 use Rattle.word.specs.laws.Bools.{false-true, and-parts}
-use Rattle.class.specs.declared.Name.{Name}
-use Rattle.class.specs.Names.{classOf}
-use Rattle.class.specs.Typing.{typeOf, suits, isUnnamed, credentialNumber}
-use Rattle.record.specs.declared.Pair.{Pair}
 use Rattle.record.specs.declared.Record.{Record}
 use Rattle.record.specs.declared.Record.the-variants.{Own, Named, IssuerStored, SubjectStored, Sensitive, Access}
 use Rattle.record.specs.declared.RecordAnswer.{RecordAnswer}
@@ -24,10 +19,12 @@ use Rattle.record.specs.declared.RecordAnswer.the-variants as a
 use Rattle.record.specs.Record.{formed, recordAt, recordBytes, sizeOf}
 use Rattle.record.specs.laws.RecordExact.{some-size, record-refusal, record-room, record-formed, record-only}
 use Rattle.tables.specs.Tables.{Tables, unread, added}
-use Rattle.tables.specs.Check.{suitsStorage, storedNumber, suitsPair, pairNumber, classNumber, none, inOrder, above, room, orderNumber, judge}
+use Rattle.tables.specs.Check.{pairNumber, classNumber, none, inOrder, above, room, judge}
 use Rattle.tables.specs.Check.{onRecord, recordsFrom, sized, readTables}
 use Rattle.tables.specs.laws.Check.{readFrom, from-past, from-refused, from-judged}
 use Rattle.tables.specs.Accepted.{rising-none, Records, Sound}
+use Rattle.tables.specs.Fit.{Fit}
+use Rattle.tables.specs.laws.Fit.{judge-reason, breaks-range, fit-exactly, fit-class}
 use Rattle.tables.specs.laws.Sorted.{rising-add}
 use Rattle.tables.specs.Bytes.{bytesOf, tablesBytes}
 use Rattle.numbers.specs.Answer.{Answer, refused, accepted, judged}
@@ -122,38 +119,15 @@ later T (SubjectStored c) h =
 later T (Sensitive p) h = and-parts (not (eqb (T .own) 0)) (none (T .access)) h .1
 later T (Access p) h = tt
 
--- a record that earns no number: it keeps the class rules, is in order, comes after those of its command, and has room
-record Judged (T : Tables) (r : Record) : Type 0 where
-  rules : classNumber T r ≡ 0
-  order : inOrder T r ≡ true
-  up : above T r ≡ true
-  fits : room T r ≡ true
-
-passed : (T : Tables) (r : Record) → judge T r ≡ 0 → Judged T r
-unfolding judge orderNumber
-passed T r h = go (eqb (classNumber T r) 0) refl h
-  where
-    tests : (o u l : Bool) → _≡_ {A = ℕ} (cond (o && u && l) 0 6) 0 → (o ≡ true) × (u ≡ true) × (l ≡ true)
-    tests true true true k = (refl, refl, refl)
-    tests true true false k = absurd (let z : _≡_ {A = ℕ} 6 0 = k in omega arith)
-    tests true false l k = absurd (let z : _≡_ {A = ℕ} 6 0 = k in omega arith)
-    tests false u l k = absurd (let z : _≡_ {A = ℕ} 6 0 = k in omega arith)
-
-    go : (b : Bool) → eqb (classNumber T r) 0 ≡ b → cond b (cond (inOrder T r && above T r && room T r) 0 6) (classNumber T r) ≡ 0 → Judged T r
-    go true e k =
-        let w = tests (inOrder T r) (above T r) (room T r) k in
-        record { rules = eqb-true (classNumber T r) 0 e; order = w .0; up = w .1; fits = w .2 }
-    go false e k = absurd (eqb-false (classNumber T r) 0 e k)
-
 -- sound tables with one record more are sound
-sound-add : (T : Tables) (r : Record) → Sound T → formed r ≡ true → Judged T r → Sound (added T r)
+sound-add : (T : Tables) (r : Record) → Sound T → formed r ≡ true → Fit T r → Sound (added T r)
 unfolding classNumber pairNumber above room
 sound-add T (Own e) k f w = absurd (omega (arith, k .own, later T (Own e) (w .order)))
 sound-add T (Named n) k f w =
     let o = later T (Named n) (w .order) in
     record {
       own = k .own;
-      names = records-add (k .names) n f refl (w .up) (w .fits);
+      names = records-add (k .names) n f refl (w .ascends) (w .size);
       issuerStored = records-none (o .0);
       subjectStored = records-none (o .1);
       sensitive = records-none (o .2);
@@ -163,7 +137,7 @@ sound-add T (IssuerStored c) k f w =
     record {
       own = k .own;
       names = k .names;
-      issuerStored = records-add (k .issuerStored) c f (w .rules) (w .up) (w .fits);
+      issuerStored = records-add (k .issuerStored) c f (fit-class T (IssuerStored c) w) (w .ascends) (w .size);
       subjectStored = k .subjectStored;
       sensitive = k .sensitive;
       access = k .access;
@@ -173,7 +147,7 @@ sound-add T (SubjectStored c) k f w =
       own = k .own;
       names = k .names;
       issuerStored = k .issuerStored;
-      subjectStored = records-add (k .subjectStored) c f (w .rules) (w .up) (w .fits);
+      subjectStored = records-add (k .subjectStored) c f (fit-class T (SubjectStored c) w) (w .ascends) (w .size);
       sensitive = k .sensitive;
       access = records-none (later T (SubjectStored c) (w .order) .1);
     }
@@ -183,7 +157,7 @@ sound-add T (Sensitive p) k f w =
       names = k .names;
       issuerStored = k .issuerStored;
       subjectStored = k .subjectStored;
-      sensitive = records-add (k .sensitive) p f (w .rules) (w .up) (w .fits);
+      sensitive = records-add (k .sensitive) p f (fit-class T (Sensitive p) w) (w .ascends) (w .size);
       access = records-none (later T (Sensitive p) (w .order));
     }
 sound-add T (Access p) k f w =
@@ -193,7 +167,7 @@ sound-add T (Access p) k f w =
       issuerStored = k .issuerStored;
       subjectStored = k .subjectStored;
       sensitive = k .sensitive;
-      access = records-add (k .access) p f (w .rules) (w .up) (w .fits);
+      access = records-add (k .access) p f (fit-class T (Access p) w) (w .ascends) (w .size);
     }
 
 -- the bytes from a command on
@@ -266,7 +240,7 @@ sound-own e f =
 
 module _ (s : List ℕ) where
   -- the first record is self
-  first : (r : Record) → 0 < length s → recordAt s 0 ≡ a.Read r → Judged unread r → SoundSoFar s (0 + sizeOf r) (added unread r)
+  first : (r : Record) → 0 < length s → recordAt s 0 ≡ a.Read r → Fit unread r → SoundSoFar s (0 + sizeOf r) (added unread r)
   unfolding inOrder tablesBytes recordBytes
   first (Own e) more h w = record { sound = sound-own e (record-formed s 0 (Own e) h); bytes = λ b. record-only s 0 (Own e) b more h }
   first (Named n) more h w = absurd (false-true (w .order))
@@ -276,7 +250,7 @@ module _ (s : List ℕ) where
   first (Access p) more h w = absurd (false-true (w .order))
 
   -- a further record
-  further : (at : ℕ) (T : Tables) (r : Record) → at < length s → SoundSoFar s at T → recordAt s at ≡ a.Read r → Judged T r
+  further : (at : ℕ) (T : Tables) (r : Record) → at < length s → SoundSoFar s at T → recordAt s at ≡ a.Read r → Fit T r
       → SoundSoFar s (at + sizeOf r) (added T r)
   further at T r more k h w =
       record {
@@ -325,7 +299,7 @@ module _ (s : List ℕ) where
             let more = ltb-true at (length s) e in
             let w = next at T more h in
             let r = w .r in
-            again r (omega (arith, some-size r)) (record-room s at r more (w .read)) (further at T r more k (w .read) (passed T r (w .good))) (w .rest)
+            again r (omega (arith, some-size r)) (record-room s at r more (w .read)) (further at T r more k (w .read) (fit-exactly T r .0 (w .good))) (w .rest)
         go false e again = end at T (omega (arith, ltb-false at (length s) e)) k h
 
 -- accepted bytes are within the sizes
@@ -351,7 +325,7 @@ all-kept s T h =
     let w = next s T 0 unread some (sized-true s T h .1) in
     let r = w .r in
     kept s T (length s) (0 + sizeOf r) (added unread r) (omega arith) (record-room s 0 r some (w .read))
-    (first s r some (w .read) (passed unread r (w .good))) (w .rest)
+    (first s r some (w .read) (fit-exactly unread r .0 (w .good))) (w .rest)
 
 -- accepted tables keep all rules
 pub accepted-sound : (s : List ℕ) (T : Tables) → readTables s ≡ accepted T → Sound T
@@ -368,40 +342,8 @@ one-arrangement s t T b c h k = accepted-bytes s T b h ∙ sym (accepted-bytes t
 
 -- Refused tables
 
-at-most : (n : ℕ) (b : Bool) (x y : ℕ) → x ≤ n → y ≤ n → cond b x y ≤ n
-at-most n true x y h k = h
-at-most n false x y h k = k
-
-credential-most : (ns : List Name) (c : Credential) → credentialNumber ns c ≤ 6
-unfolding credentialNumber
-credential-most ns c =
-    at-most 6 (eqb (classOf ns (c .head .name)) 0 || isUnnamed (typeOf ns (c .body))) 4 _ (omega arith)
-    (at-most 6 (suits (typeOf ns (c .body)) (classOf ns (c .head .name))) 0 5 (omega arith) (omega arith))
-
-stored-most : (ns : List Name) (subject : Bool) (c : Credential) → storedNumber ns subject c ≤ 6
-unfolding storedNumber
-stored-most ns subject c =
-    at-most 6 (eqb (credentialNumber ns c) 0) _ _ (at-most 6 (suitsStorage subject (classOf ns (c .head .name))) 0 5 (omega arith) (omega arith))
-    (credential-most ns c)
-
-pair-most : (access : Bool) (T : Tables) (p : Pair) → pairNumber access T p ≤ 6
-unfolding pairNumber
-pair-most access T p =
-    at-most 6 (eqb (classOf (T .names) (p .role .name)) 0 || eqb (classOf (T .names) (p .other .name)) 0) 4 _ (omega arith)
-    (at-most 6 (suitsPair access T (p .role)) 0 5 (omega arith) (omega arith))
-
-class-most : (T : Tables) (r : Record) → classNumber T r ≤ 6
-unfolding classNumber
-class-most T (Own e) = omega arith
-class-most T (Named n) = omega arith
-class-most T (IssuerStored c) = stored-most (T .names) false c
-class-most T (SubjectStored c) = stored-most (T .names) true c
-class-most T (Sensitive p) = pair-most false T p
-class-most T (Access p) = pair-most true T p
-
 judge-most : (T : Tables) (r : Record) → judge T r ≤ 6
-unfolding judge orderNumber
-judge-most T r = at-most 6 (eqb (classNumber T r) 0) _ _ (at-most 6 (inOrder T r && above T r && room T r) 0 6 (omega arith) (omega arith)) (class-most T r)
+judge-most T r = ⊎-elim (λ f. omega (arith, fit-exactly T r .1 f)) (λ b. breaks-range T r b .1) (judge-reason T r)
 
 abbrev OneToSix : ℕ → Type 0
 OneToSix k = (0 < k) × (k ≤ 6)

@@ -1,8 +1,8 @@
 -- The number that a record earns behind the tables read before it is that of the first rule which it breaks. Assumes nothing.
-use Prim.Native.Nat.{ℕ}
+use Prim.Native.Nat.{ℕ, _<_, _≤_}
 use native.Mathlib.Omega.{arith}
 use mathlib.Core.Path.{_≡_, refl, sym, ap, _∙_}
-use mathlib.Core.Logic.{_⊎_, inl, inr}
+use mathlib.Core.Logic.{_↔_, _⊎_, inl, inr, ⊎-elim}
 use mathlib.Core.Bool.{Bool, true, false, cond, _&&_, _||_}
 use mathlib.Core.List.{List, [], _∷_, map}
 use lib.Dec.{eqb}
@@ -12,6 +12,7 @@ use Rattle.expression.specs.declared.Expression.{Expression}
 use Rattle.expression.specs.declared.Expression.the-variants as E
 use Rattle.rt0.specs.From.{rolesOf}
 use Rattle.rt0.specs.Lists.{any, all}
+use Rattle.word.specs.laws.Bools.{and-parts}
 use Rattle.class.specs.declared.Name.{Name}
 use Rattle.class.specs.declared.Typing.the-variants.{Unnamed, Ill, Class}
 use Rattle.class.specs.Names.{classOf}
@@ -118,20 +119,19 @@ judge-tests T r =
 -- The number, exactly
 
 module _ (T : Tables) (r : Record) where
-  -- a record keeps all rules and earns no number, or it breaks the one whose number it earns
-  pub judge-reason : ((judge T r ≡ 0) × Fit T r) ⊎ Breaks T r (judge T r)
+  -- a record keeps all rules, or it breaks the one whose number it earns
+  pub judge-reason : Fit T r ⊎ Breaks T r (judge T r)
   judge-reason = go (lacksClass T r) (keepsRules T r) (inOrder T r && above T r && room T r) refl refl refl (judge-tests T r)
     where
       go : (u c d : Bool) → lacksClass T r ≡ u → keepsRules T r ≡ c → (inOrder T r && above T r && room T r) ≡ d → judge T r ≡ byTests u c d
-          → ((judge T r ≡ 0) × Fit T r) ⊎ Breaks T r (judge T r)
+          → Fit T r ⊎ Breaks T r (judge T r)
       go true c d p q o e = inr (unnamed p e)
       go false false d p q o e = inr (class-rule p q e)
       go false true false p q o e = inr (out-of-order p q o e)
-      go false true true p q o e = inl (e, record { classes = p; rules = q; order = o })
-
-  -- a record that keeps all rules earns no number
-  pub fit-number : Fit T r → judge T r ≡ 0
-  fit-number f = judge-tests T r ∙ (λ i. byTests (f .classes i) (f .rules i) (f .order i))
+      go false true true p q o e =
+          let w = and-parts (inOrder T r && above T r) (room T r) o in
+          let v = and-parts (inOrder T r) (above T r) (w .0) in
+          inl (record { classes = p; rules = q; order = v .0; ascends = v .1; size = w .1 })
 
   -- one that breaks a rule earns its number
   pub breaks-number : {k : ℕ} → Breaks T r k → judge T r ≡ k
@@ -139,7 +139,22 @@ module _ (T : Tables) (r : Record) where
   breaks-number (class-rule p q e) = judge-tests T r ∙ (λ i. byTests (p i) (q i) (inOrder T r && above T r && room T r)) ∙ sym e
   breaks-number (out-of-order p q o e) = judge-tests T r ∙ (λ i. byTests (p i) (q i) (o i)) ∙ sym e
 
+  -- the numbers of the rules are 4, 5 and 6
+  pub breaks-range : {k : ℕ} → Breaks T r k → (3 < k) × (k ≤ 6)
+  breaks-range (unnamed p e) = (omega arith, omega arith)
+  breaks-range (class-rule p q e) = (omega arith, omega arith)
+  breaks-range (out-of-order p q o e) = (omega arith, omega arith)
+
   pub breaks-some : {k : ℕ} → Breaks T r k → k ≡ 0 → ⊥
-  breaks-some (unnamed p e) z = omega (arith, e, z)
-  breaks-some (class-rule p q e) z = omega (arith, e, z)
-  breaks-some (out-of-order p q o e) z = omega (arith, e, z)
+  breaks-some b z = omega (arith, breaks-range b .0, z)
+
+  -- a record that keeps all rules, and no other, earns no number
+  pub fit-exactly : (judge T r ≡ 0) ↔ Fit T r
+  fit-exactly = (
+    λ h. ⊎-elim (λ f. f) (λ b. absurd (breaks-some b h)) judge-reason,
+    λ f. judge-tests T r ∙ (λ i. byTests (f .classes i) (f .rules i) (f .order i && f .ascends i && f .size i)),
+  )
+
+  -- it breaks no class rule
+  pub fit-class : Fit T r → classNumber T r ≡ 0
+  fit-class f = class-tests T r ∙ (λ i. cond (f .classes i) 4 (cond (f .rules i) 0 5))

@@ -13,13 +13,14 @@ use Rattle.record.specs.declared.Record.{Record}
 use Rattle.record.specs.declared.RecordAnswer.{RecordAnswer}
 use Rattle.record.specs.declared.RecordAnswer.the-variants as a
 use Rattle.record.specs.Record.{recordAt, sizeOf}
+use Rattle.record.specs.Unreadable.{cut, malformed}
 use Rattle.record.specs.laws.RecordExact.{some-size, record-room}
 use Rattle.record.specs.laws.Unreadable.{read-inside, stands-exactly, unreadable-exactly}
 use Rattle.tables.specs.Tables.{Tables, unread, added}
 use Rattle.tables.specs.Check.{judge, recordsFrom, sized, readTables}
 use Rattle.tables.specs.Refused.{Sized, Reads, start, next, Unfit, unreadable, breaks, CheckRefused, size, stopped}
 use Rattle.tables.specs.laws.Check.{readFrom, from-past, from-refused, from-judged}
-use Rattle.tables.specs.laws.Fit.{judge-reason, fit-number, breaks-number, breaks-some}
+use Rattle.tables.specs.laws.Fit.{judge-reason, breaks-number, breaks-range, breaks-some, fit-exactly}
 use Rattle.tables.specs.laws.Group.{judged-refused}
 use Rattle.numbers.specs.Answer.{Answer, refused, accepted}
 use Rattle.numbers.specs.Sizes.{MOST-TABLES-BYTES}
@@ -31,6 +32,13 @@ sized-exactly n = (
   λ h. let w = and-parts (ltb 0 n) (leb n MOST-TABLES-BYTES) h in record { some = ltb-true 0 n (w .0); most = leb-true n MOST-TABLES-BYTES (w .1) },
   λ w. and-both (ltb 0 n) (leb n MOST-TABLES-BYTES) (lt-ltb 0 n (w .some)) (le-leb n MOST-TABLES-BYTES (w .most)),
 )
+
+-- the numbers are 1 to 6
+pub refused-range : {s : List ℕ} {k : ℕ} → CheckRefused s k → (0 < k) × (k ≤ 6)
+refused-range (size n e) = (omega arith, omega arith)
+refused-range (stopped i w m (unreadable (cut n e))) = (omega arith, omega arith)
+refused-range (stopped i w m (unreadable (malformed v n e))) = (omega arith, omega arith)
+refused-range (stopped {T = T} i w m (breaks {r} v b)) = let o = breaks-range T r b in (omega (arith, o .0), o .1)
 
 module _ (s : List ℕ) (bytes : (i : ℕ) → getD s i 0 < 256) where
   -- what an answer says of the bytes
@@ -46,7 +54,7 @@ module _ (s : List ℕ) (bytes : (i : ℕ) → getD s i 0 < 256) where
         subst Says (sym (from-refused s at T more k h)) (stopped inside w more (unreadable (unreadable-exactly s at bytes k .0 h)))
     record-says at T more w again (a.Read r) h =
         let there = stands-exactly s at bytes r .0 h in
-        ⊎-elim (λ j. subst Says (sym (from-judged s at T more r 0 h (j .0))) (again r (record-room s at r more h) (next w there (j .1))))
+        ⊎-elim (λ f. subst Says (sym (from-judged s at T more r 0 h (fit-exactly T r .1 f))) (again r (record-room s at r more h) (next w there f)))
         (λ b. subst Says (sym (from-judged s at T more r (judge T r) h refl ∙ judged-refused (judge T r) _ (breaks-some T r b)))
         (stopped inside w more (breaks there b))) (judge-reason T r)
 
@@ -78,7 +86,7 @@ module _ (s : List ℕ) (bytes : (i : ℕ) → getD s i 0 < 256) where
   reads-from start = refl
   reads-from (next {at} {T} {r} w there f) =
       let h = stands-exactly s at bytes r .1 there in
-      reads-from w ∙ from-judged s at T (read-inside s at r h) r 0 h (fit-number T r f)
+      reads-from w ∙ from-judged s at T (read-inside s at r h) r 0 h (fit-exactly T r .1 f)
 
   sized-from : Sized (length s) → {at : ℕ} {T : Tables} → Reads s at T → readTables s ≡ readFrom s at T
   unfolding readTables readFrom
