@@ -75,7 +75,8 @@ fn page(specs: &Specs, order: &[PathBuf], traced: &HashSet<Place>, believed: &Ha
         `make reading` writes this page; the tests fail where it is not current, where one of these definitions stands among the laws,\n\
         or where `specs/` has one that no promise rests on.\n\n{read}\n\
         ## How an answer is found\n\n\
-        {settled_total} more lines in {settled_count} files say how an answer is found. The theorems in the table \"Settled\" of         [PROOFS](PROOFS.md) say exactly which\nanswer it is, with the definitions above alone: who has read those need not read these.\n\n{found}"
+        {settled_total} more lines in {settled_count} files say how an answer is found. The theorems in the table \"Settled\" of \
+        [PROOFS](PROOFS.md) say exactly which\nanswer it is, with the definitions above alone: who has read those need not read these.\n\n{found}"
     )
 }
 

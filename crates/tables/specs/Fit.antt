@@ -36,9 +36,12 @@ roleNames (SubjectStored c) = c .head .name ∷ namesIn (c .body)
 roleNames (Sensitive p) = p .role .name ∷ p .other .name ∷ []
 roleNames (Access p) = p .role .name ∷ p .other .name ∷ []
 
+abbrev pub unclassed : List Name → ℕ → Bool
+unclassed ns m = eqb (classOf ns m) 0
+
 -- "4 a name without class"
 unfoldable pub lacksClass : Tables → Record → Bool
-lacksClass T r = any (λ m. eqb (classOf (T .names) m) 0) (roleNames r)
+lacksClass T r = any (unclassed (T .names)) (roleNames r)
 
 -- "A credential whose head is class 2 or 3 needs a body of that class; class 1 takes any well-typed body. 0x12 heads have class 1 or 2, 0x13
 -- heads class 3."

@@ -232,6 +232,16 @@ module _ (S : State) (k p : ℕ) (y : Expression) (b : ℕ) where
             (kind-if k 4 m (λ e. of-monitored S x b p (j .monitored e))),
       )
 
+-- so is one between nodes that stand, over the credentials and edges before it
+pub justified-exactly : (S : State) (e : Edge)
+    → (justified (S .shown) (S .nodes) (S .edges) e ≡ true)
+    ↔ Justifies S (e .kind) (e .parent) (nodeIn (S .nodes) (e .child) .expression) (nodeIn (S .nodes) (e .child) .subject)
+justified-exactly S e =
+    let q : Node = nodeIn (S .nodes) (e .child) in
+    let same-test : justifiedFor S (e .kind) (e .parent) (q .expression) (q .subject) ≡ justified (S .shown) (S .nodes) (S .edges) e = join-justified S e refl in
+    let exact = justifies-exactly S (e .kind) (e .parent) (q .expression) (q .subject) in
+    (λ h. exact .0 (same-test ∙ h), λ j. sym same-test ∙ exact .1 j)
+
 -- The rules, one by one
 
 -- a rule with its test
@@ -353,11 +363,8 @@ module _ (S : State) where
       let exact = justifies-exactly S (n .kind) (n .parent) (n .expression) (n .subject) in
       tested (not j) (λ h. exact .0 (not-false j h)) (λ p. ap not (exact .1 p))
   justified-decided (Join e) =
-      let q : Node = nodeIn (S .nodes) (e .child) in
       let j : Bool = justified (S .shown) (S .nodes) (S .edges) e in
-      let same-test : justifiedFor S (e .kind) (e .parent) (q .expression) (q .subject) ≡ j = join-justified S e refl in
-      let exact = justifies-exactly S (e .kind) (e .parent) (q .expression) (q .subject) in
-      tested (not j) (λ h. exact .0 (same-test ∙ not-false j h)) (λ p. ap not (sym same-test ∙ exact .1 p))
+      tested (not j) (λ h. justified-exactly S e .0 (not-false j h)) (λ p. ap not (justified-exactly S e .1 p))
   justified-decided (Mark i) = nothing
   justified-decided End = nothing
 

@@ -22,7 +22,7 @@ use Rattle.record.specs.declared.Record.{Record}
 use Rattle.record.specs.declared.Record.the-variants.{Own, Named, IssuerStored, SubjectStored, Sensitive, Access}
 use Rattle.tables.specs.Tables.{Tables}
 use Rattle.tables.specs.Check.{orElse, suitsStorage, storedNumber, suitsPair, pairNumber, classNumber, inOrder, above, room, orderNumber, judge}
-use Rattle.tables.specs.Fit.{namesIn, lacksClass, keepsStored, keepsRules, Fit, Breaks, unnamed, class-rule, out-of-order}
+use Rattle.tables.specs.Fit.{unclassed, namesIn, lacksClass, keepsStored, keepsRules, Fit, Breaks, unnamed, class-rule, out-of-order}
 
 or-false : (b : Bool) → (b || false) ≡ b
 or-false true = refl
@@ -41,22 +41,19 @@ linked-test false false false false true = refl
 linked-test false false false false false = refl
 
 module _ (ns : List Name) where
-  abbrev unclassed : ℕ → Bool
-  unclassed m = eqb (classOf ns m) 0
-
-  parts-unnamed : (L : List Role) → any (λ k. eqb k 0) (map (λ (r : Role). classOf ns (r .name)) L) ≡ any unclassed (map (λ (r : Role). r .name) L)
+  parts-unnamed : (L : List Role) → any (λ k. eqb k 0) (map (λ (r : Role). classOf ns (r .name)) L) ≡ any (unclassed ns) (map (λ (r : Role). r .name) L)
   parts-unnamed [] = refl
-  parts-unnamed (r ∷ L) = ap (λ (b : Bool). unclassed (r .name) || b) (parts-unnamed L)
+  parts-unnamed (r ∷ L) = ap (λ (b : Bool). unclassed ns (r .name) || b) (parts-unnamed L)
 
-  name-unnamed : (m : ℕ) → isUnnamed (named (classOf ns m)) ≡ any unclassed (m ∷ [])
+  name-unnamed : (m : ℕ) → isUnnamed (named (classOf ns m)) ≡ any (unclassed ns) (m ∷ [])
   unfolding named
-  name-unnamed m = go (unclassed m)
+  name-unnamed m = go (unclassed ns m)
     where
       go : (b : Bool) → isUnnamed (cond b Unnamed (Class (classOf ns m))) ≡ (b || false)
       go true = refl
       go false = refl
 
-  type-unnamed : (e : Expression) → isUnnamed (typeOf ns e) ≡ any unclassed (namesIn e)
+  type-unnamed : (e : Expression) → isUnnamed (typeOf ns e) ≡ any (unclassed ns) (namesIn e)
   unfolding typeOf linked together
   type-unnamed (E.Entity b) = refl
   type-unnamed (E.Role r) = name-unnamed (r .name)
@@ -82,7 +79,7 @@ both-tests : (c d : Bool) → _≡_ {A = ℕ} (cond c (cond d 0 5) 5) (cond (c &
 both-tests true d = refl
 both-tests false d = refl
 
-stored-tests : (ns : List Name) (subject : Bool) (c : Credential)
+pub stored-tests : (ns : List Name) (subject : Bool) (c : Credential)
     → storedNumber ns subject c ≡ cond (any (unclassed ns) (c .head .name ∷ namesIn (c .body))) 4 (cond (keepsStored ns subject c) 0 5)
 unfolding storedNumber credentialNumber
 stored-tests ns subject c =
@@ -92,7 +89,7 @@ stored-tests ns subject c =
     else-tests (head || isUnnamed (typeOf ns (c .body))) fits (cond place 0 5)
     ∙ (λ i. cond (head || type-unnamed ns (c .body) i) 4 (both-tests fits place i))
 
-pair-tests : (access : Bool) (T : Tables) (p : Pair)
+pub pair-tests : (access : Bool) (T : Tables) (p : Pair)
     → pairNumber access T p ≡ cond (any (unclassed (T .names)) (p .role .name ∷ p .other .name ∷ [])) 4 (cond (suitsPair access T (p .role)) 0 5)
 unfolding pairNumber
 pair-tests access T p =
