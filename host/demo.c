@@ -71,13 +71,13 @@ static size_t put_credentials(const char *const *texts, uint8_t *to)
     for (size_t i = 0; texts[i] != NULL; i++) {
         struct cursor cursor;
         cursor_on(&cursor, texts[i], strlen(texts[i]));
-        to[length] = 0x01;
+        to[length] = LAVUTREMO_COMMAND_CREDENTIAL;
         must(read_credential(&cursor, to + length + 1) && at_end(&cursor), texts[i]);
         fputs(i > 0 ? ", " : "", stdout);
         print_credential(stdout, to + length + 1);
         length += LAVUTREMO_CREDENTIAL_BYTES;
     }
-    to[length++] = 0x06;
+    to[length++] = LAVUTREMO_COMMAND_END;
     return length;
 }
 

@@ -9,8 +9,6 @@
 #include "print.h"
 #include "text.h"
 
-#define SELF 0x10
-
 /* A text may be longer than the records that it stands for. */
 #define MOST_TEXT_BYTES (1 << 20)
 
@@ -21,8 +19,9 @@ uint16_t house_self(const struct house *house)
 
 size_t record_size(uint8_t command)
 {
-    static const size_t sizes[] = {3, 4, 23, 23, 9, 9};
-    return command >= SELF && command < SELF + 6 ? sizes[command - SELF] : 0;
+    static const size_t sizes[] = {3, 4, LAVUTREMO_CREDENTIAL_BYTES, LAVUTREMO_CREDENTIAL_BYTES, 9, 9};
+    return command >= LAVUTREMO_RECORD_SELF && command <= LAVUTREMO_RECORD_ACCESS ? sizes[command - LAVUTREMO_RECORD_SELF]
+                                                                                  : 0;
 }
 
 /* Reads a file into the buffer. Returns its length, or -1 after saying why not. */
@@ -84,7 +83,7 @@ int load_house(const char *path, struct house *house)
     long length = read_file(path, content, sizeof content);
     if (length < 0)
         return 0;
-    if (length > 0 && content[0] == SELF)
+    if (length > 0 && content[0] == LAVUTREMO_RECORD_SELF)
         return take_records(path, content, (size_t)length, house);
     return take_text(path, content, (size_t)length, house);
 }

@@ -3,9 +3,6 @@
 
 #include "layout.h"
 
-enum { CREDENTIAL = 1, OPEN, CHILD, JOIN, MARK, END };
-enum { KIND_ENTITY = 1, KIND_ROLE, KIND_LINKED, KIND_INTERSECTION, KIND_GOAL };
-
 /* The word of this number, the first having number first. */
 static const char *word_of(const char *const *words, size_t count, unsigned first, unsigned number)
 {
@@ -46,7 +43,7 @@ static const char *edge_words(unsigned kind)
 {
     static const char *const words[] = {"implication",         "linking monitor", "linking solution",
                                         "linking implication", "intersection",    "control"};
-    return WORD_OF(words, 1, kind);
+    return WORD_OF(words, LAVUTREMO_EDGE_IMPLICATION, kind);
 }
 
 static const char *processed_words(unsigned state)
@@ -82,15 +79,15 @@ static int print_wide(FILE *to, const uint8_t *expression)
 {
     const uint8_t *numbers = expression + 2;
     switch (expression[0]) {
-    case KIND_ENTITY:
+    case LAVUTREMO_KIND_ENTITY:
         return fprintf(to, "%u", number_at(numbers));
-    case KIND_ROLE:
+    case LAVUTREMO_KIND_ROLE:
         return print_role(to, numbers);
-    case KIND_LINKED:
+    case LAVUTREMO_KIND_LINKED:
         return print_role(to, numbers) + fprintf(to, ".%u", number_at(numbers + 4));
-    case KIND_INTERSECTION:
+    case LAVUTREMO_KIND_INTERSECTION:
         return print_parts(to, numbers, expression[1]);
-    case KIND_GOAL:
+    case LAVUTREMO_KIND_GOAL:
         return fprintf(to, "goal %u", number_at(numbers));
     default:
         return fprintf(to, "no expression");
@@ -111,8 +108,13 @@ void print_credential(FILE *to, const uint8_t *operands)
 
 static size_t command_size(uint8_t command)
 {
-    static const size_t sizes[] = {[CREDENTIAL] = 23, [OPEN] = 6, [CHILD] = 24, [JOIN] = 4, [MARK] = 2, [END] = 1};
-    return command <= END ? sizes[command] : 0;
+    static const size_t sizes[] = {[LAVUTREMO_COMMAND_CREDENTIAL] = LAVUTREMO_CREDENTIAL_BYTES,
+                                   [LAVUTREMO_COMMAND_OPEN] = 6,
+                                   [LAVUTREMO_COMMAND_CHILD] = 24,
+                                   [LAVUTREMO_COMMAND_EDGE] = 4,
+                                   [LAVUTREMO_COMMAND_MARK] = 2,
+                                   [LAVUTREMO_COMMAND_END] = 1};
+    return command <= LAVUTREMO_COMMAND_END ? sizes[command] : 0;
 }
 
 /* Prints one whole command and returns the number that the next new node will have. */
@@ -121,28 +123,28 @@ static unsigned print_command(FILE *to, const uint8_t *command, unsigned next_no
     const uint8_t *operands = command + 1;
     fprintf(to, "    ");
     switch (command[0]) {
-    case CREDENTIAL:
+    case LAVUTREMO_COMMAND_CREDENTIAL:
         fprintf(to, "credential ");
         print_credential(to, operands);
         break;
-    case OPEN:
+    case LAVUTREMO_COMMAND_OPEN:
         fprintf(to, "open node %u: ", next_node++);
         print_role(to, operands);
         fprintf(to, ", %s", processed_words(operands[4]));
         break;
-    case CHILD:
+    case LAVUTREMO_COMMAND_CHILD:
         fprintf(to, "edge %u <- %u, %s, new node %u: ", operands[1], next_node, edge_words(operands[0]), next_node);
         next_node++;
         print_expression(to, operands + 2);
         fprintf(to, " of %u, %s", number_at(operands + 20), processed_words(operands[22]));
         break;
-    case JOIN:
+    case LAVUTREMO_COMMAND_EDGE:
         fprintf(to, "edge %u <- %u, %s", operands[1], operands[2], edge_words(operands[0]));
         break;
-    case MARK:
+    case LAVUTREMO_COMMAND_MARK:
         fprintf(to, "mark node %u", operands[0]);
         break;
-    case END:
+    case LAVUTREMO_COMMAND_END:
         fprintf(to, "end");
         break;
     }
@@ -167,7 +169,7 @@ static void print_node(FILE *to, const uint8_t *node, unsigned number, uint64_t 
 {
     fprintf(to, "    %4u  ", number);
     int width = print_wide(to, node);
-    int is_goal = node[0] == KIND_GOAL;
+    int is_goal = node[0] == LAVUTREMO_KIND_GOAL;
     fprintf(to, "%*s  %6u  %s\n", width < 16 ? 16 - width : 0, "", number_at(node + NODE_SUBJECT_AT),
             propagated_words(lavutremo_propagated(report), is_goal));
 }
