@@ -1,13 +1,17 @@
-# make lib     builds the engine and puts it into build/lib/liblavutremo.a, for include/lavutremo.h
-# make host    builds the C programs of host/: build/tables, build/serve and build/fetch
-# make demo    builds the engine and the C program host/demo.c, and runs it
-# make stack   prints how much stack each call needs
+# make lib     puts the engine's library into build/lib/liblavutremo.a, for include/lavutremo.h
+# make host    builds the C programs of host/: build/tables, build/serve, build/fetch, build/graph and build/ask
+# make demo    builds the C program host/demo.c, and runs it
 # make test    runs all tests; its last line is 'N passed, M failed'
+# make install, make uninstall   the library, its header, the programs and their manual pages below PREFIX, /usr/local
+#              if it is not given; DESTDIR stands before it
+# make stack   prints how much stack each call needs
 # make fuzz    compares the engine with the reference on many questions, tables, negotiations, messages and replies, and
 #              on lists of calls for two runs (SEED, RANDOM_COUNT, DAMAGED_COUNT, TABLES_COUNT, NEGOTIATIONS_COUNT,
 #              TAKES_COUNT, HONEST_COUNT, ADVERSARIAL_COUNT, TWO_RUNS_COUNT)
 # make bench   times the engine beside the reference
 # make reading writes docs/READING.md, the definitions that the promises rest on
+# make picture writes docs/case-i.dot and docs/case-i.svg, the graph of marked case (i)
+# make dist    proves and builds the engine, and writes dist/
 # make clean   removes what the others made
 
 MAKEFLAGS += --no-print-directory
@@ -22,8 +26,13 @@ HONEST_COUNT = 100000
 ADVERSARIAL_COUNT = 50000
 TWO_RUNS_COUNT = 100000
 
-ENGINE = target/staticlib/libengine.a
+# PROVED is the library that is proved and built here. ENGINE is what C programs get: dist/'s library while the sources
+# are those that it was proved from, else PROVED; the tests set it to PROVED. LIB is a copy, made when ENGINE has other
+# bytes, so that programs follow the bytes and not the time of a file.
+PROVED = target/staticlib/libengine.a
+ENGINE := $(if $(shell tools/dist same && echo same),dist/liblavutremo.a,$(PROVED))
 LIB = build/lib/liblavutremo.a
+SHARED = build/lib/liblavutremo.so.1
 MEASURE = target/staticlib/libmeasure.a
 CRATES := crates.txt $(shell find crates)
 REFERENCE := $(wildcard reference/Cargo.*) $(shell find reference/src)
@@ -41,11 +50,22 @@ END_PARTS = $(HOUSE_PARTS) host/end.c
 LINK_PARTS = $(END_PARTS) host/negotiate.c host/link.c host/printout.c host/arguments.c
 HEADERS := include/lavutremo.h $(wildcard host/*.h)
 
-.PHONY: lib host demo stack test fuzz bench reading clean rt gcc g++ cargo
+# Where make install puts things.
+PREFIX = /usr/local
+DESTDIR =
+BINDIR = $(PREFIX)/bin
+LIBDIR = $(PREFIX)/lib
+INCLUDEDIR = $(PREFIX)/include
+MANDIR = $(PREFIX)/share/man
+PROGRAM_PREFIX = lavutremo-
+PROGRAMS = tables serve fetch graph ask
+VERSION := $(shell sed -n 's/.*define LAVUTREMO_VERSION "\(.*\)".*/\1/p' include/lavutremo.h)
+
+.PHONY: lib host demo stack test fuzz bench reading picture dist install uninstall clean FORCE rt gcc g++ cargo graphviz
 
 lib: $(LIB)
 
-host: build/tables build/serve build/fetch
+host: $(PROGRAMS:%=build/%)
 
 demo: build/demo
 	@build/demo
@@ -66,50 +86,86 @@ bench: build/bench
 reading: build/reading
 	@build/reading
 
+picture: build/case-i.negotiation build/graph | graphviz
+	build/graph -o dot examples/studio.txt build/case-i.negotiation >docs/case-i.dot
+	dot -Tsvg docs/case-i.dot >docs/case-i.svg
+
+dist: | rt
+	@tools/prove engine
+	tools/dist write
+
+install: $(LIB) $(SHARED) host
+	install -d $(DESTDIR)$(BINDIR) $(DESTDIR)$(LIBDIR)/pkgconfig $(DESTDIR)$(INCLUDEDIR) $(DESTDIR)$(MANDIR)/man1
+	install -m 644 include/lavutremo.h $(DESTDIR)$(INCLUDEDIR)
+	install -m 644 $(LIB) $(DESTDIR)$(LIBDIR)
+	install -m 755 $(SHARED) $(DESTDIR)$(LIBDIR)
+	ln -sf $(notdir $(SHARED)) $(DESTDIR)$(LIBDIR)/liblavutremo.so
+	sed 's|@INCLUDEDIR@|$(INCLUDEDIR)|; s|@LIBDIR@|$(LIBDIR)|; s|@VERSION@|$(VERSION)|' package/lavutremo.pc.in \
+		>$(DESTDIR)$(LIBDIR)/pkgconfig/lavutremo.pc
+	for p in $(PROGRAMS); do \
+		install -m 755 build/$$p $(DESTDIR)$(BINDIR)/$(PROGRAM_PREFIX)$$p && \
+		install -m 644 package/$$p.1 $(DESTDIR)$(MANDIR)/man1/$(PROGRAM_PREFIX)$$p.1 || exit 1; \
+	done
+
+uninstall:
+	rm -f $(DESTDIR)$(INCLUDEDIR)/lavutremo.h $(DESTDIR)$(LIBDIR)/pkgconfig/lavutremo.pc
+	rm -f $(addprefix $(DESTDIR)$(LIBDIR)/,$(notdir $(LIB) $(SHARED)) liblavutremo.so)
+	rm -f $(PROGRAMS:%=$(DESTDIR)$(BINDIR)/$(PROGRAM_PREFIX)%) $(PROGRAMS:%=$(DESTDIR)$(MANDIR)/man1/$(PROGRAM_PREFIX)%.1)
+
 clean:
 	rm -rf build target reference/target calls/target fuzz/target bench/target reading/target
 
-$(ENGINE): $(CRATES) | rt
-	rt staticlib engine
+$(PROVED) $(MEASURE): target/staticlib/lib%.a: $(CRATES) | rt
+	@tools/prove $*
 	@touch $@
 
-$(MEASURE): $(CRATES) | rt
-	rt staticlib measure
-	@touch $@
+$(LIB): $(ENGINE) FORCE
+	@cmp -s $(ENGINE) $@ || { mkdir -p build/lib && cp $(ENGINE) $@; }
 
-$(LIB): $(ENGINE)
-	@mkdir -p build/lib
-	cp $(ENGINE) $@
+# The library's code is position independent: -z text fails if it is not.
+$(SHARED): $(LIB) package/lavutremo.map | gcc
+	gcc -shared -Wl,-soname,$(notdir $@) -Wl,--version-script=package/lavutremo.map -Wl,-z,defs,-z,text,-z,relro,-z,now \
+		-Wl,--whole-archive $(LIB) -Wl,--no-whole-archive -o $@
 
 build/demo: $(END_PARTS)
-build/tables: $(HOUSE_PARTS)
+build/tables build/ask: $(HOUSE_PARTS)
 build/serve build/fetch: $(LINK_PARTS)
+build/graph: $(HOUSE_PARTS) host/dot.c
 
-build/demo build/tables build/serve build/fetch: build/%: host/%.c $(HEADERS) $(ENGINE) | gcc
+build/demo $(PROGRAMS:%=build/%): build/%: host/%.c $(HEADERS) $(LIB) | gcc
 	@mkdir -p build
-	gcc $(CFLAGS) -o $@ $(filter %.c,$^) $(ENGINE)
+	gcc $(CFLAGS) -o $@ $(filter %.c,$^) $(LIB)
 
-build/refusals: tests/refusals.c include/lavutremo.h $(ENGINE) | gcc
-	@mkdir -p build
-	gcc $(CFLAGS) -o $@ tests/refusals.c $(ENGINE)
+build/question build/two-ends: build/%: examples/%.c include/lavutremo.h $(LIB) | gcc
+	gcc $(CFLAGS) -o $@ $< $(LIB)
 
-build/replies: tests/replies.c $(HOUSE_PARTS) $(HEADERS) $(ENGINE) | gcc
-	@mkdir -p build
-	gcc $(CFLAGS) -Ihost -o $@ tests/replies.c $(HOUSE_PARTS) $(ENGINE)
+# The negotiation of marked case (i) as it ended, stored by the mediator.
+build/case-i.negotiation: build/two-ends build/tables examples/studio.txt examples/house.txt
+	build/tables records examples/studio.txt build/studio
+	build/tables records examples/house.txt build/house
+	build/two-ends build/studio build/house 3 1 $@
 
-build/stack: tests/stack.c $(END_PARTS) $(HEADERS) $(ENGINE) | gcc
+build/refusals: tests/refusals.c include/lavutremo.h $(LIB) | gcc
 	@mkdir -p build
-	gcc $(CFLAGS) -Ihost -pthread -o $@ tests/stack.c $(END_PARTS) $(ENGINE)
+	gcc $(CFLAGS) -o $@ tests/refusals.c $(LIB)
+
+build/replies: tests/replies.c $(HOUSE_PARTS) $(HEADERS) $(LIB) | gcc
+	@mkdir -p build
+	gcc $(CFLAGS) -Ihost -o $@ tests/replies.c $(HOUSE_PARTS) $(LIB)
+
+build/stack: tests/stack.c $(END_PARTS) $(HEADERS) $(LIB) | gcc
+	@mkdir -p build
+	gcc $(CFLAGS) -Ihost -pthread -o $@ tests/stack.c $(END_PARTS) $(LIB)
 
 build/hostile: tests/hostile.c host/link.c $(HEADERS) | gcc
 	@mkdir -p build
 	gcc $(CFLAGS) -Ihost -o $@ tests/hostile.c host/link.c
 
-build/fuzz: $(REFERENCE) $(CALLS) $(FUZZ) $(ENGINE) | cargo
+build/fuzz: $(REFERENCE) $(CALLS) $(FUZZ) $(PROVED) | cargo
 	cargo build --quiet --release --locked --manifest-path fuzz/Cargo.toml
 	@cp $(CARGO_TARGET_DIR)/release/fuzz $@
 
-build/bench: $(REFERENCE) $(CALLS) $(BENCH) $(ENGINE) $(MEASURE) | cargo
+build/bench: $(REFERENCE) $(CALLS) $(BENCH) $(PROVED) $(MEASURE) | cargo
 	cargo build --quiet --release --locked --manifest-path bench/Cargo.toml
 	@cp $(CARGO_TARGET_DIR)/release/bench $@
 
@@ -119,6 +175,9 @@ build/reading: $(READING) | cargo
 
 rt:
 	@command -v rt >/dev/null || { echo 'rt is missing: install the Rattle kit and put rt on the PATH' >&2; exit 1; }
+
+graphviz:
+	@tools/need graphviz command -v dot
 
 gcc g++:
 	@command -v $@ >/dev/null || { echo '$@ is missing: install it, as by apt-get install gcc g++' >&2; exit 1; }

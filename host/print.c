@@ -39,7 +39,7 @@ const char *end_words(unsigned end)
     return WORD_OF(words, LAVUTREMO_END_NONE, end);
 }
 
-static const char *edge_words(unsigned kind)
+const char *edge_words(unsigned kind)
 {
     static const char *const words[] = {"implication",         "linking monitor", "linking solution",
                                         "linking implication", "intersection",    "control"};
@@ -52,7 +52,7 @@ static const char *processed_words(unsigned state)
     return WORD_OF(words, 0, state);
 }
 
-static const char *propagated_words(unsigned propagated, int is_goal)
+const char *propagated_words(unsigned propagated, int is_goal)
 {
     static const char *const words[] = {"unknown", "satisfied", "failed"};
     static const char *const goal_words[] = {"incomplete", "complete"};

@@ -34,4 +34,8 @@ void print_graph(FILE *to, const struct house *house, const uint8_t *negotiation
 const char *refusal_words(unsigned number);
 const char *end_words(unsigned end);
 
+/* What kind an edge is, and how a node stands, in words. */
+const char *edge_words(unsigned kind);
+const char *propagated_words(unsigned propagated, int is_goal);
+
 #endif
