@@ -61,7 +61,8 @@ PROGRAM_PREFIX = lavutremo-
 PROGRAMS = tables serve fetch graph ask
 VERSION := $(shell sed -n 's/.*define LAVUTREMO_VERSION "\(.*\)".*/\1/p' include/lavutremo.h)
 
-.PHONY: lib host demo stack test fuzz bench reading picture dist install uninstall clean FORCE rt gcc g++ cargo graphviz
+.PHONY: lib host demo stack test fuzz bench reading picture dist install uninstall clean FORCE rt gcc g++ cargo \
+	graphviz pkg-config man
 
 lib: $(LIB)
 
@@ -178,6 +179,12 @@ rt:
 
 graphviz:
 	@tools/need graphviz command -v dot
+
+pkg-config:
+	@tools/need pkg-config command -v pkg-config
+
+man:
+	@tools/need man-db command -v man
 
 gcc g++:
 	@command -v $@ >/dev/null || { echo '$@ is missing: install it, as by apt-get install gcc g++' >&2; exit 1; }
