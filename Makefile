@@ -137,8 +137,10 @@ build/demo $(PROGRAMS:%=build/%): build/%: host/%.c $(HEADERS) $(LIB) | gcc
 	@mkdir -p build
 	gcc $(CFLAGS) -o $@ $(filter %.c,$^) $(LIB)
 
-build/question build/two-ends: build/%: examples/%.c include/lavutremo.h $(LIB) | gcc
-	gcc $(CFLAGS) -o $@ $< $(LIB)
+build/socket-pair: examples/negotiate.c
+
+build/question build/two-ends build/socket-pair: build/%: examples/%.c include/lavutremo.h $(LIB) | gcc
+	gcc $(CFLAGS) -o $@ $(filter %.c,$^) $(LIB)
 
 # The negotiation of marked case (i) as it ended, stored by the mediator.
 build/case-i.negotiation: build/two-ends build/tables examples/studio.txt examples/house.txt
