@@ -35,13 +35,14 @@ READING := $(wildcard reading/Cargo.* reading/src/*.rs)
 export CARGO_TARGET_DIR = $(CURDIR)/build/cargo
 export LAVUTREMO_LIB = $(CURDIR)/target/staticlib
 
-# The parts of the C programs: tables and their printing, one end of a negotiation, a connection.
+# The parts of the C programs: tables and their printing, one end of a negotiation, arguments and files, a connection.
 HOUSE_PARTS = host/print.c host/read.c host/text.c host/house.c
 END_PARTS = $(HOUSE_PARTS) host/end.c
-LINK_PARTS = $(END_PARTS) host/negotiate.c host/link.c host/printout.c host/arguments.c
+FILE_PARTS = host/arguments.c host/output.c
+LINK_PARTS = $(END_PARTS) $(FILE_PARTS) host/negotiate.c host/link.c host/printout.c host/log.c host/digest.c host/transfer.c
 HEADERS := include/lavutremo.h $(wildcard host/*.h)
 
-.PHONY: lib host demo stack test fuzz bench reading clean rt gcc g++ cargo
+.PHONY: lib host demo stack test fuzz bench reading clean rt gcc g++ cargo libmd
 
 lib: $(LIB)
 
@@ -82,12 +83,15 @@ $(LIB): $(ENGINE)
 	cp $(ENGINE) $@
 
 build/demo: $(END_PARTS)
-build/tables: $(HOUSE_PARTS)
-build/serve build/fetch: $(LINK_PARTS)
+build/tables: $(HOUSE_PARTS) $(FILE_PARTS)
+build/serve: $(LINK_PARTS) host/source.c
+build/fetch: $(LINK_PARTS)
+build/serve build/fetch: LIBRARIES = -lmd
+build/serve build/fetch: | libmd
 
 build/demo build/tables build/serve build/fetch: build/%: host/%.c $(HEADERS) $(ENGINE) | gcc
 	@mkdir -p build
-	gcc $(CFLAGS) -o $@ $(filter %.c,$^) $(ENGINE)
+	gcc $(CFLAGS) -o $@ $(filter %.c,$^) $(ENGINE) $(LIBRARIES)
 
 build/refusals: tests/refusals.c include/lavutremo.h $(ENGINE) | gcc
 	@mkdir -p build
@@ -105,6 +109,10 @@ build/hostile: tests/hostile.c host/link.c $(HEADERS) | gcc
 	@mkdir -p build
 	gcc $(CFLAGS) -Ihost -o $@ tests/hostile.c host/link.c
 
+build/forkless.so: tests/forkless.c | gcc
+	@mkdir -p build
+	gcc $(CFLAGS) -shared -fPIC -o $@ $< -ldl
+
 build/fuzz: $(REFERENCE) $(CALLS) $(FUZZ) $(ENGINE) | cargo
 	cargo build --quiet --release --locked --manifest-path fuzz/Cargo.toml
 	@cp $(CARGO_TARGET_DIR)/release/fuzz $@
@@ -119,6 +127,11 @@ build/reading: $(READING) | cargo
 
 rt:
 	@command -v rt >/dev/null || { echo 'rt is missing: install the Rattle kit and put rt on the PATH' >&2; exit 1; }
+
+# SHA-256 for the printouts: installed where that may be done.
+libmd: | gcc
+	@echo '#include <sha2.h>' | gcc -E - >/dev/null 2>&1 || apt-get install -y libmd-dev >/dev/null 2>&1 || \
+		{ echo 'libmd is missing: install it, as by apt-get install libmd-dev' >&2; exit 1; }
 
 gcc g++:
 	@command -v $@ >/dev/null || { echo '$@ is missing: install it, as by apt-get install gcc g++' >&2; exit 1; }
