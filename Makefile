@@ -44,10 +44,11 @@ READING := $(wildcard reading/Cargo.* reading/src/*.rs)
 export CARGO_TARGET_DIR = $(CURDIR)/build/cargo
 export LAVUTREMO_LIB = $(CURDIR)/target/staticlib
 
-# The parts of the C programs: tables and their printing, one end of a negotiation, a connection.
+# The parts of the C programs: tables and their printing, one end of a negotiation, arguments and files, a connection.
 HOUSE_PARTS = host/print.c host/read.c host/text.c host/house.c
 END_PARTS = $(HOUSE_PARTS) host/end.c
-LINK_PARTS = $(END_PARTS) host/negotiate.c host/link.c host/printout.c host/arguments.c
+FILE_PARTS = host/arguments.c host/output.c
+LINK_PARTS = $(END_PARTS) $(FILE_PARTS) host/negotiate.c host/link.c host/printout.c host/log.c host/digest.c host/transfer.c
 HEADERS := include/lavutremo.h $(wildcard host/*.h)
 
 # Where make install puts things.
@@ -62,7 +63,7 @@ PROGRAMS = tables serve fetch graph ask
 VERSION := $(shell sed -n 's/.*define LAVUTREMO_VERSION "\(.*\)".*/\1/p' include/lavutremo.h)
 
 .PHONY: lib host demo stack test fuzz bench reading picture dist install uninstall clean FORCE rt gcc g++ cargo \
-	graphviz pkg-config man
+	libmd graphviz pkg-config man
 
 lib: $(LIB)
 
@@ -129,13 +130,16 @@ $(SHARED): $(LIB) package/lavutremo.map | gcc
 		-Wl,--whole-archive $(LIB) -Wl,--no-whole-archive -o $@
 
 build/demo: $(END_PARTS)
-build/tables build/ask: $(HOUSE_PARTS)
-build/serve build/fetch: $(LINK_PARTS)
-build/graph: $(HOUSE_PARTS) host/dot.c
+build/tables build/ask: $(HOUSE_PARTS) $(FILE_PARTS)
+build/graph: $(HOUSE_PARTS) $(FILE_PARTS) host/dot.c
+build/serve: $(LINK_PARTS) host/source.c
+build/fetch: $(LINK_PARTS)
+build/serve build/fetch: LIBRARIES = -lmd
+build/serve build/fetch: | libmd
 
 build/demo $(PROGRAMS:%=build/%): build/%: host/%.c $(HEADERS) $(LIB) | gcc
 	@mkdir -p build
-	gcc $(CFLAGS) -o $@ $(filter %.c,$^) $(LIB)
+	gcc $(CFLAGS) -o $@ $(filter %.c,$^) $(LIB) $(LIBRARIES)
 
 build/socket-pair: examples/negotiate.c
 
@@ -164,6 +168,10 @@ build/hostile: tests/hostile.c host/link.c $(HEADERS) | gcc
 	@mkdir -p build
 	gcc $(CFLAGS) -Ihost -o $@ tests/hostile.c host/link.c
 
+build/forkless.so: tests/forkless.c | gcc
+	@mkdir -p build
+	gcc $(CFLAGS) -shared -fPIC -o $@ $< -ldl
+
 build/fuzz: $(REFERENCE) $(CALLS) $(FUZZ) $(PROVED) | cargo
 	cargo build --quiet --release --locked --manifest-path fuzz/Cargo.toml
 	@cp $(CARGO_TARGET_DIR)/release/fuzz $@
@@ -178,6 +186,10 @@ build/reading: $(READING) | cargo
 
 rt:
 	@command -v rt >/dev/null || { echo 'rt is missing: install the Rattle kit and put rt on the PATH' >&2; exit 1; }
+
+# What a command needs besides: installed where that may be done, else named.
+libmd: | gcc
+	@tools/need libmd-dev sh -c 'echo "#include <sha2.h>" | gcc -E -'
 
 graphviz:
 	@tools/need graphviz command -v dot

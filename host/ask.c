@@ -7,6 +7,7 @@
 #include <string.h>
 #include <sys/types.h>
 
+#include "arguments.h"
 #include "print.h"
 #include "read.h"
 
@@ -14,13 +15,14 @@ enum { YES, NO, WRONG };
 
 static const char help[] =
     "usage: ask CREDENTIALS F E\n"
+    "       ask -h | --version\n"
     "Does 'F from E' hold in RT0 over these credentials: is E part of F? Where E is an entity: is E a member of F?\n"
     "CREDENTIALS is a text with a credential a line, as 3.1 <- 4.3, at most 64; # begins a comment; - is the standard\n"
     "input. F and E are an entity 2, a role 4.3, a linked role 2.2.3 or an intersection '2.2 & 3.3' of two to four roles,\n"
     "which ascend by entity, then name.\n"
-    "  -h         prints this\n"
-    "  --version  prints the version\n"
-    "Prints yes or no. The status is 0 for yes, 1 for no, 2 if something is wrong or refused.\n";
+    "Prints yes or no. Exits with 0 for yes, 1 for no, 2 if something is wrong or refused.\n";
+
+static const struct program program = {.name = "ask", .help = help};
 
 /* The credentials as lavutremo_question takes them. */
 struct credentials {
@@ -111,17 +113,8 @@ static int answer_to(const char *path, const char *f_text, const char *e_text)
 
 int main(int count, char **arguments)
 {
-    if (count == 2 && strcmp(arguments[1], "--version") == 0) {
-        puts("ask " LAVUTREMO_VERSION);
-        return 0;
-    }
-    if (count == 2 && strcmp(arguments[1], "-h") == 0) {
-        fputs(help, stdout);
-        return 0;
-    }
-    if (count != 4) {
-        fputs(help, stderr);
-        return WRONG;
-    }
-    return answer_to(arguments[1], arguments[2], arguments[3]);
+    int first = read_options(&program, count, arguments);
+    if (count - first != 3)
+        wrong_count(&program);
+    return answer_to(arguments[first], arguments[first + 1], arguments[first + 2]);
 }

@@ -3,6 +3,7 @@
 
 #include <errno.h>
 #include <stdio.h>
+#include <stdlib.h>
 #include <string.h>
 
 #include "layout.h"
@@ -47,7 +48,7 @@ static long read_file(const char *path, char *to, size_t most)
 static void explain(const char *path, const struct house *house, unsigned number)
 {
     size_t at = 0, size;
-    while ((size = record_size(house->bytes[at])) != 0 && size <= house->length - at &&
+    while (at < house->length && (size = record_size(house->bytes[at])) != 0 && size <= house->length - at &&
            lavutremo_check(house->bytes, at + size) == 0)
         at += size;
     fprintf(stderr, "%s: byte %zu: refused %u: %s\n", path, at, number,
@@ -77,13 +78,26 @@ static int take_text(const char *path, const char *text, size_t length, struct h
     return 0;
 }
 
+enum status house_from_file(const char *path, struct house *house)
+{
+    char *content = malloc(MOST_TEXT_BYTES);
+    long length = -1;
+    int sound = 0;
+    if (content == NULL)
+        fprintf(stderr, "%s: no memory\n", path);
+    else
+        length = read_file(path, content, MOST_TEXT_BYTES);
+    if (length > 0 && content[0] == LAVUTREMO_RECORD_SELF)
+        sound = take_records(path, content, (size_t)length, house);
+    else if (length >= 0)
+        sound = take_text(path, content, (size_t)length, house);
+    free(content);
+    if (length < 0)
+        return STATUS_DISK;
+    return sound ? STATUS_SUCCESS : STATUS_REFUSED;
+}
+
 int load_house(const char *path, struct house *house)
 {
-    static char content[MOST_TEXT_BYTES];
-    long length = read_file(path, content, sizeof content);
-    if (length < 0)
-        return 0;
-    if (length > 0 && content[0] == LAVUTREMO_RECORD_SELF)
-        return take_records(path, content, (size_t)length, house);
-    return take_text(path, content, (size_t)length, house);
+    return house_from_file(path, house) == STATUS_SUCCESS;
 }

@@ -181,11 +181,23 @@ static int write_records(const struct records *records, struct house *house, str
     return 1;
 }
 
+/* Where the text begins: behind a byte order mark of UTF-8. One of UTF-16 is an error. */
+static int skip_mark(const char **text, size_t *length, struct text_error *error)
+{
+    if (*length >= 3 && memcmp(*text, "\xef\xbb\xbf", 3) == 0) {
+        *text += 3;
+        *length -= 3;
+    }
+    if (*length >= 2 && (memcmp(*text, "\xff\xfe", 2) == 0 || memcmp(*text, "\xfe\xff", 2) == 0))
+        return set_error(error, 1, 1, "a byte order mark of UTF-16: the text must be ASCII or UTF-8");
+    return 1;
+}
+
 int text_to_house(const char *text, size_t length, struct house *house, struct text_error *error)
 {
-    static struct records records;
+    struct records records;
     records.count = records.size = 0;
-    if (!read_lines(text, length, &records, error))
+    if (!skip_mark(&text, &length, error) || !read_lines(text, length, &records, error))
         return 0;
     qsort(records.list, records.count, sizeof records.list[0], compare);
     if (!no_repeats(&records, error))

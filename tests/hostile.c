@@ -262,19 +262,151 @@ static int hold(uint16_t port, int most)
     return found == most;
 }
 
-/* A server that plays case (i) and then gives less of the file than it says. Prints its port; serves one connection. */
+/* Appends an edge with a new child, a role of a holder: kind, parent, entity, name, holder, state. Returns the length. */
+static size_t put_child(uint8_t *to, uint8_t kind, uint8_t parent, uint8_t entity, uint8_t name, uint8_t holder,
+                        uint8_t state)
+{
+    const uint8_t child[] = {0x03, kind, parent, ROLE(entity, name), 0, holder, state};
+    memcpy(to, child, sizeof child);
+    return sizeof child;
+}
+
+/* A frame with so many control children of node 1, from this entity on, and an end. Returns its length. */
+static size_t put_controls(uint8_t *frame, uint8_t entity, int count)
+{
+    size_t length = 2;
+    for (int i = 0; i < count; i++)
+        length += put_child(frame + length, 6, 1, (uint8_t)(entity + i), 2, 3, 1);
+    frame[length++] = 0x06;
+    frame[0] = (uint8_t)((length - 2) >> 8);
+    frame[1] = (uint8_t)(length - 2);
+    return length;
+}
+
+/* Reads a message whatever it is. */
+static int any_message(int connection)
+{
+    uint8_t message[4096];
+    size_t length;
+    return link_receive(connection, message, &length, sizeof message, now_ms() + PATIENCE) == LINK_DONE;
+}
+
+/* Much to print for few bytes: 97 nodes, then one with each message, until there are 128 nodes or 64 messages. */
+static int grow(uint16_t port, int unused)
+{
+    uint8_t frame[2 + 4096];
+    (void)unused;
+    int connection = connected(port), going = any_message(connection);
+    for (int i = 0; i < 30 && going; i++) {
+        push(connection, frame, i == 0 ? put_controls(frame, 4, 97) : put_controls(frame, (uint8_t)(100 + i), 1));
+        going = any_message(connection);
+    }
+    close(connection);
+    return going || wrong("grow", "the server did not go on");
+}
+
+/* So many nodes that the mediator cannot add the one that it needs: its end is full. */
+static int fill(uint16_t port, int unused)
+{
+    uint8_t frame[2 + 4096];
+    (void)unused;
+    int connection = connected(port), going = any_message(connection);
+    push(connection, frame, put_controls(frame, 1, 126));
+    going = going && any_message(connection);
+    return going && closes("fill", connection, PATIENCE);
+}
+
+/* Plays case (i) up to the file. */
+static int proved(const char *mode, int connection, const uint8_t *behind, size_t length)
+{
+    if (!comes(mode, connection, first, sizeof first))
+        return 0;
+    push(connection, second, sizeof second);
+    if (!comes(mode, connection, third, sizeof third))
+        return 0;
+    push(connection, fourth, sizeof fourth);
+    push(connection, behind, length);
+    return 1;
+}
+
+/* A socket that takes few bytes at a time. */
+static int narrow(uint16_t port)
+{
+    struct sockaddr_in address = {.sin_family = AF_INET, .sin_port = htons(port)};
+    int small = 4096, connection = socket(AF_INET, SOCK_STREAM, 0);
+    address.sin_addr.s_addr = htonl(INADDR_LOOPBACK);
+    setsockopt(connection, SOL_SOCKET, SO_RCVBUF, &small, sizeof small);
+    if (connect(connection, (struct sockaddr *)&address, sizeof address) < 0 || link_unblock(connection) < 0) {
+        perror("hostile: connect");
+        exit(1);
+    }
+    return connection;
+}
+
+/* Reads a file of this length, 4 KiB at a time with a pause of so many milliseconds. */
+static int file_comes(const char *mode, int connection, int length, int pause)
+{
+    uint8_t head[8], buffer[4096];
+    size_t count;
+    if (link_read(connection, head, sizeof head, now_ms() + PATIENCE) != LINK_DONE)
+        return wrong(mode, "no file");
+    for (; length > 0; length -= (int)count) {
+        poll(NULL, 0, pause);
+        if (link_read_some(connection, buffer, sizeof buffer, &count, now_ms() + PATIENCE) != LINK_DONE)
+            return wrong(mode, "the file was cut short");
+    }
+    return closes(mode, connection, PATIENCE);
+}
+
+/* A reader that goes on steadily and slowly: what the system takes at a time, a megabyte, takes more than a second. */
+static int slow(uint16_t port, int length)
+{
+    int connection = narrow(port);
+    return proved("slow", connection, NULL, 0) && file_comes("slow", connection, length, 4);
+}
+
+/* Bytes behind the last message, and a reader that begins late. */
+static int behind(uint16_t port, int length)
+{
+    static uint8_t more[100000];
+    int connection = narrow(port);
+    if (!proved("behind", connection, more, sizeof more))
+        return 0;
+    poll(NULL, 0, 300);
+    return file_comes("behind", connection, length, 0);
+}
+
+/* Listens, prints the port and accepts. */
+static int served_one(int listening)
+{
+    struct pollfd ready = {.fd = listening, .events = POLLIN};
+    int connection = poll(&ready, 1, 4 * PATIENCE) > 0 ? accept(listening, NULL, NULL) : -1;
+    if (connection < 0 || link_unblock(connection) < 0) {
+        fprintf(stderr, "hostile: nobody came\n");
+        exit(1);
+    }
+    return connection;
+}
+
+static int listens(uint16_t port)
+{
+    int listening = link_listen(port, 16);
+    if (listening < 0) {
+        perror("hostile: listen");
+        exit(1);
+    }
+    printf("port %u\n", link_port(listening));
+    fflush(stdout);
+    return listening;
+}
+
+/* A server that plays case (i) and then gives less of the file than it says. Serves one connection. */
 static int cheat(uint16_t port, int unused)
 {
     static const uint8_t file[8 + 50] = {[7] = 100};
     uint8_t buffer[64];
     (void)unused;
-    int listening = link_listen(port, 1);
-    if (listening < 0)
-        return wrong("cheat", "no port");
-    printf("port %u\n", link_port(listening));
-    fflush(stdout);
-    int connection = accept(listening, NULL, NULL);
-    link_unblock(connection);
+    int connection = served_one(listens(port));
     push(connection, first, sizeof first);
     link_read(connection, buffer, sizeof second, now_ms() + PATIENCE);
     push(connection, third, sizeof third);
@@ -284,11 +416,79 @@ static int cheat(uint16_t port, int unused)
     return result == LINK_DONE || wrong("cheat", "the fourth message is missing");
 }
 
+/* A server that says nothing, until the other end closes. */
+static int mute(uint16_t port, int unused)
+{
+    (void)unused;
+    return closes("mute", served_one(listens(port)), 4 * PATIENCE);
+}
+
+/* A server whose message is refused: a mark of a node that is not there. */
+static int refuse(uint16_t port, int unused)
+{
+    static const uint8_t bad[] = {0, 9, 0x02, 0, 3, 0, 1, 2, 0x05, 9, 0x06};
+    (void)unused;
+    int connection = served_one(listens(port));
+    push(connection, bad, sizeof bad);
+    return closes("refuse", connection, PATIENCE);
+}
+
+/* A server that has nothing more to do after its first message: stalled. */
+static int rest(uint16_t port, int unused)
+{
+    (void)unused;
+    int connection = served_one(listens(port));
+    push(connection, first, sizeof first);
+    if (!comes("rest", connection, second, sizeof second))
+        return 0;
+    push(connection, idle, sizeof idle);
+    return comes("rest", connection, idle, sizeof idle) && closes("rest", connection, PATIENCE);
+}
+
+/* The credential 3.1 <- body and the edge from node 0 to the body as a new child. */
+static size_t put_implied(uint8_t *to, const uint8_t *body, uint8_t state)
+{
+    const uint8_t head[] = {0x01, 0, 3, 0, 1}, edge[] = {0x03, 1, 0}, tail[] = {0, 2, state};
+    memcpy(to, head, 5);
+    memcpy(to + 5, body, 18);
+    memcpy(to + 23, edge, 3);
+    memcpy(to + 26, body, 18);
+    memcpy(to + 44, tail, 3);
+    return 47;
+}
+
+/* A server whose graph leaves no room for the node that the requester needs: 25 intersections of four, and two roles. */
+static int crowd(uint16_t port, int unused)
+{
+    static const uint8_t open[] = {0x02, 0, 3, 0, 1, 2}, roles[2][18] = {{ROLE(4, 3)}, {ROLE(5, 3)}};
+    uint8_t frame[2 + 4096];
+    size_t length = 2 + sizeof open;
+    (void)unused;
+    memcpy(frame + 2, open, sizeof open);
+    for (uint8_t i = 0; i < 25; i++) {
+        uint8_t low = (uint8_t)(10 + i), high = (uint8_t)(100 + i), node = (uint8_t)(1 + 5 * i);
+        const uint8_t body[18] = {4, 4, 0, low, 0, 2, 0, low, 0, 3, 0, high, 0, 2, 0, high, 0, 3};
+        length += put_implied(frame + length, body, 2);
+        for (uint8_t j = 0; j < 4; j++)
+            length += put_child(frame + length, 5, node, j < 2 ? low : high, (uint8_t)(2 + j % 2), 2, 1);
+    }
+    length += put_implied(frame + length, roles[0], 1);
+    length += put_implied(frame + length, roles[1], 1);
+    frame[length++] = 0x06;
+    frame[0] = (uint8_t)((length - 2) >> 8);
+    frame[1] = (uint8_t)(length - 2);
+    int connection = served_one(listens(port));
+    push(connection, frame, length);
+    return any_message(connection) && closes("crowd", connection, PATIENCE);
+}
+
 static const struct mode {
     const char *word;
     int (*play)(uint16_t port, int argument);
-} modes[] = {{"garbage", garbage}, {"cut", cut},     {"stall", stall}, {"drip", drip}, {"large", large},
-             {"denied", denied},   {"refused", refused}, {"flood", flood}, {"hold", hold}, {"cheat", cheat}};
+} modes[] = {{"garbage", garbage}, {"cut", cut},       {"stall", stall},   {"drip", drip},   {"large", large},
+             {"denied", denied},   {"refused", refused}, {"flood", flood}, {"hold", hold},   {"cheat", cheat},
+             {"grow", grow},       {"fill", fill},     {"slow", slow},     {"behind", behind}, {"mute", mute},
+             {"refuse", refuse},   {"rest", rest},     {"crowd", crowd}};
 
 int main(int count, char **arguments)
 {
