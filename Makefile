@@ -1,4 +1,5 @@
-# make lib     builds the engine and puts it into build/lib/liblavutremo.a, for include/lavutremo.h
+# make lib     builds the engine and puts it into build/lib/liblavutremo.a, for include/lavutremo.h, and tables as text and
+#              printing into build/lib/liblavutremo_host.a, for host/lavutremo_host.h
 # make host    builds the C programs of host/: build/tables, build/serve and build/fetch
 # make demo    builds the engine and the C program host/demo.c, and runs it
 # make stack   prints how much stack each call needs
@@ -24,6 +25,7 @@ TWO_RUNS_COUNT = 100000
 
 ENGINE = target/staticlib/libengine.a
 LIB = build/lib/liblavutremo.a
+HOST_LIB = build/lib/liblavutremo_host.a
 MEASURE = target/staticlib/libmeasure.a
 CRATES := crates.txt $(shell find crates)
 REFERENCE := $(wildcard reference/Cargo.*) $(shell find reference/src)
@@ -44,7 +46,7 @@ HEADERS := include/lavutremo.h $(wildcard host/*.h)
 
 .PHONY: lib host demo stack test fuzz bench reading clean rt gcc g++ cargo libmd
 
-lib: $(LIB)
+lib: $(LIB) $(HOST_LIB)
 
 host: build/tables build/serve build/fetch
 
@@ -81,6 +83,14 @@ $(MEASURE): $(CRATES) | rt
 $(LIB): $(ENGINE)
 	@mkdir -p build/lib
 	cp $(ENGINE) $@
+
+# The host library, for host/lavutremo_host.h: one object whose own names are hidden.
+$(HOST_LIB): $(HOUSE_PARTS) host/library.c $(HEADERS) | gcc
+	@mkdir -p build/lib
+	gcc $(CFLAGS) -fPIC -r -o build/lib/host.o $(filter %.c,$^)
+	objcopy --wildcard --keep-global-symbol='lavutremo_*' build/lib/host.o
+	@rm -f $@
+	ar rcsD $@ build/lib/host.o
 
 build/demo: $(END_PARTS)
 build/tables: $(HOUSE_PARTS) $(FILE_PARTS)
