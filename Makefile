@@ -1,8 +1,9 @@
-# make lib     puts the engine's library into build/lib/liblavutremo.a, for include/lavutremo.h
+# make lib     puts the engine's library into build/lib/liblavutremo.a, for include/lavutremo.h, and tables as text and
+#              printing into build/lib/liblavutremo_host.a, for host/lavutremo_host.h
 # make host    builds the C programs of host/: build/tables, build/serve, build/fetch, build/graph and build/ask
 # make demo    builds the C program host/demo.c, and runs it
 # make test    runs all tests; its last line is 'N passed, M failed'
-# make install, make uninstall   the library, its header, the programs and their manual pages below PREFIX, /usr/local
+# make install, make uninstall   the libraries, their headers, the programs and their manual pages below PREFIX, /usr/local
 #              if it is not given; DESTDIR stands before it
 # make stack   prints how much stack each call needs
 # make fuzz    compares the engine with the reference on many questions, tables, negotiations, messages and replies, and
@@ -33,6 +34,7 @@ PROVED = target/staticlib/libengine.a
 ENGINE := $(if $(shell tools/dist same && echo same),dist/liblavutremo.a,$(PROVED))
 LIB = build/lib/liblavutremo.a
 SHARED = build/lib/liblavutremo.so.1
+HOST_LIB = build/lib/liblavutremo_host.a
 MEASURE = target/staticlib/libmeasure.a
 CRATES := crates.txt $(shell find crates)
 REFERENCE := $(wildcard reference/Cargo.*) $(shell find reference/src)
@@ -65,7 +67,7 @@ VERSION := $(shell sed -n 's/.*define LAVUTREMO_VERSION "\(.*\)".*/\1/p' include
 .PHONY: lib host demo stack test fuzz bench reading picture dist install uninstall clean FORCE rt gcc g++ cargo \
 	libmd graphviz pkg-config man
 
-lib: $(LIB)
+lib: $(LIB) $(HOST_LIB)
 
 host: $(PROGRAMS:%=build/%)
 
@@ -96,22 +98,25 @@ dist: | rt
 	@tools/prove engine
 	tools/dist write
 
-install: $(LIB) $(SHARED) host
+install: $(LIB) $(SHARED) $(HOST_LIB) host
 	install -d $(DESTDIR)$(BINDIR) $(DESTDIR)$(LIBDIR)/pkgconfig $(DESTDIR)$(INCLUDEDIR) $(DESTDIR)$(MANDIR)/man1
-	install -m 644 include/lavutremo.h $(DESTDIR)$(INCLUDEDIR)
-	install -m 644 $(LIB) $(DESTDIR)$(LIBDIR)
+	install -m 644 include/lavutremo.h host/lavutremo_host.h $(DESTDIR)$(INCLUDEDIR)
+	install -m 644 $(LIB) $(HOST_LIB) $(DESTDIR)$(LIBDIR)
 	install -m 755 $(SHARED) $(DESTDIR)$(LIBDIR)
 	ln -sf $(notdir $(SHARED)) $(DESTDIR)$(LIBDIR)/liblavutremo.so
-	sed 's|@INCLUDEDIR@|$(INCLUDEDIR)|; s|@LIBDIR@|$(LIBDIR)|; s|@VERSION@|$(VERSION)|' package/lavutremo.pc.in \
-		>$(DESTDIR)$(LIBDIR)/pkgconfig/lavutremo.pc
+	for p in lavutremo lavutremo_host; do \
+		sed 's|@INCLUDEDIR@|$(INCLUDEDIR)|; s|@LIBDIR@|$(LIBDIR)|; s|@VERSION@|$(VERSION)|' package/$$p.pc.in \
+			>$(DESTDIR)$(LIBDIR)/pkgconfig/$$p.pc || exit 1; \
+	done
 	for p in $(PROGRAMS); do \
 		install -m 755 build/$$p $(DESTDIR)$(BINDIR)/$(PROGRAM_PREFIX)$$p && \
 		install -m 644 package/$$p.1 $(DESTDIR)$(MANDIR)/man1/$(PROGRAM_PREFIX)$$p.1 || exit 1; \
 	done
 
 uninstall:
-	rm -f $(DESTDIR)$(INCLUDEDIR)/lavutremo.h $(DESTDIR)$(LIBDIR)/pkgconfig/lavutremo.pc
-	rm -f $(addprefix $(DESTDIR)$(LIBDIR)/,$(notdir $(LIB) $(SHARED)) liblavutremo.so)
+	rm -f $(addprefix $(DESTDIR)$(INCLUDEDIR)/,lavutremo.h lavutremo_host.h)
+	rm -f $(addprefix $(DESTDIR)$(LIBDIR)/pkgconfig/,lavutremo.pc lavutremo_host.pc)
+	rm -f $(addprefix $(DESTDIR)$(LIBDIR)/,$(notdir $(LIB) $(HOST_LIB) $(SHARED)) liblavutremo.so)
 	rm -f $(PROGRAMS:%=$(DESTDIR)$(BINDIR)/$(PROGRAM_PREFIX)%) $(PROGRAMS:%=$(DESTDIR)$(MANDIR)/man1/$(PROGRAM_PREFIX)%.1)
 
 clean:
@@ -128,6 +133,14 @@ $(LIB): $(ENGINE) FORCE
 $(SHARED): $(LIB) package/lavutremo.map | gcc
 	gcc -shared -Wl,-soname,$(notdir $@) -Wl,--version-script=package/lavutremo.map -Wl,-z,defs,-z,text,-z,relro,-z,now \
 		-Wl,--whole-archive $(LIB) -Wl,--no-whole-archive -o $@
+
+# The host library, for host/lavutremo_host.h: one object whose own names are hidden.
+$(HOST_LIB): $(HOUSE_PARTS) host/library.c $(HEADERS) | gcc
+	@mkdir -p build/lib
+	gcc $(CFLAGS) -fPIC -r -o build/lib/host.o $(filter %.c,$^)
+	objcopy --wildcard --keep-global-symbol='lavutremo_*' build/lib/host.o
+	@rm -f $@
+	ar rcsD $@ build/lib/host.o
 
 build/demo: $(END_PARTS)
 build/tables build/ask: $(HOUSE_PARTS) $(FILE_PARTS)

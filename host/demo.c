@@ -1,8 +1,8 @@
 /* SPDX-License-Identifier: Apache-2.0 */
 /*
  * Runs the marked cases and prints them: the questions (a) to (h) with their credentials and answers, then the
- * negotiations (i) and (j) with the tables of both ends, each message and the nodes that it changed, and the graph at the
- * end. Exits with 1 if one of them comes out otherwise than marked.
+ * negotiations (i) and (j) with the tables of both ends, each message and the nodes that it changed, and the graph at
+ * the end. Exits with 1 if one of them comes out otherwise than marked.
  */
 #include <stdio.h>
 #include <stdlib.h>
@@ -120,7 +120,8 @@ static int alike(const struct end *one, const struct end *other)
 }
 
 /* One message, given by the sender and taken by the receiver. Returns 1 if it has this length and both ends agree. */
-static int pass(struct end *sender, struct end *receiver, const char *direction, size_t length, struct printed *printed)
+static int pass(struct end *sender, struct end *receiver, const char *direction, size_t length,
+                struct lavutremo_printed *printed)
 {
     unsigned number = end_reply(sender);
     if (number != 0) {
@@ -134,7 +135,8 @@ static int pass(struct end *sender, struct end *receiver, const char *direction,
         printf("%s: take refused %u: %s\n", direction, number, refusal_words(number));
         return 0;
     }
-    print_message(stdout, receiver->house, receiver->negotiation, receiver->message, receiver->length, direction, printed);
+    print_message(stdout, receiver->house, receiver->negotiation, receiver->message, receiver->length, direction,
+                  printed);
     return sender->length == length && alike(sender, receiver) && end_now(sender) == end_now(receiver);
 }
 
@@ -157,7 +159,7 @@ static int negotiate_both(const struct run *run)
 {
     static struct house mediating, requesting;
     static struct end mediator, requester;
-    struct printed printed = {0};
+    struct lavutremo_printed printed = {0};
     printf("(%c) 3.1 is wanted of 2\n", run->letter);
     read_house("tables of the mediator", run->mediator, &mediating);
     read_house("tables of the requester", run->requester, &requesting);

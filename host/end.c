@@ -52,7 +52,7 @@ static void find_starts(const struct end *end, struct starts *starts)
     }
 }
 
-/* Whether the commands in so many bytes at the start of the message could be taken. Not those of a message without end. */
+/* Whether the commands in so many bytes at the start of the message, less than a whole one, could be taken. */
 static int could_take(const struct end *end, size_t length)
 {
     struct end trial = *end;
@@ -64,8 +64,8 @@ static int could_take(const struct end *end, size_t length)
 }
 
 /*
- * What cannot be read is refused where it stands. Otherwise the commands before the refused one are the most that can be
- * taken: at most 11 takes find out how many, since a message has at most 2,048 commands.
+ * What cannot be read is refused where it stands. Otherwise the commands before the refused one are the most that can
+ * be taken: at most 11 takes find out how many, since a message has at most 2,048 commands.
  */
 void end_refused(const struct end *end, unsigned number, unsigned *command, size_t *at)
 {

@@ -71,9 +71,8 @@ static enum status receive_bytes(int connection, struct output *file, uint64_t l
     uint64_t left = length;
     digest_begin(&digest);
     while (left > 0) {
-        size_t count;
-        enum link_result result = link_read_some(connection, buffer, left < sizeof buffer ? (size_t)left : sizeof buffer,
-                                                 &count, patience_now(&patience));
+        size_t count, most = left < sizeof buffer ? (size_t)left : sizeof buffer;
+        enum link_result result = link_read_some(connection, buffer, most, &count, patience_now(&patience));
         if (result != LINK_DONE)
             return say_not_received(to, link_words(result), link_status(result));
         if (!output_write(file, buffer, count))

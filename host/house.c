@@ -21,8 +21,8 @@ uint16_t house_self(const struct house *house)
 size_t record_size(uint8_t command)
 {
     static const size_t sizes[] = {3, 4, LAVUTREMO_CREDENTIAL_BYTES, LAVUTREMO_CREDENTIAL_BYTES, 9, 9};
-    return command >= LAVUTREMO_RECORD_SELF && command <= LAVUTREMO_RECORD_ACCESS ? sizes[command - LAVUTREMO_RECORD_SELF]
-                                                                                  : 0;
+    int known = command >= LAVUTREMO_RECORD_SELF && command <= LAVUTREMO_RECORD_ACCESS;
+    return known ? sizes[command - LAVUTREMO_RECORD_SELF] : 0;
 }
 
 /* Reads a file into the buffer. Returns its length, or -1 after saying why not. */

@@ -236,7 +236,7 @@ static unsigned propagated_of(const struct house *house, const uint8_t *negotiat
 }
 
 /* The nodes that a message can change by itself: new ones, marked ones and the parents of new edges. */
-static void find_touched(const uint8_t *negotiation, const struct printed *printed, struct marked *touched)
+static void find_touched(const uint8_t *negotiation, const struct lavutremo_printed *printed, struct marked *touched)
 {
     for (unsigned i = 0; i < node_count_of(negotiation); i++)
         touched->is[i] = i >= printed->nodes || node_of(negotiation, i)[NODE_STATE_AT] != printed->states[i];
@@ -266,7 +266,7 @@ static unsigned next_touched(unsigned count, const struct marked *touched, const
  * Finds the nodes that are new or have another propagated state, and keeps these. States are least solutions: a node's
  * changes only if the message touched it or the state of a child changed.
  */
-static void find_changed(const struct house *house, const uint8_t *negotiation, struct printed *printed,
+static void find_changed(const struct house *house, const uint8_t *negotiation, struct lavutremo_printed *printed,
                          struct marked *changed)
 {
     struct marked touched = {0}, asked = {0};
@@ -283,7 +283,7 @@ static void find_changed(const struct house *house, const uint8_t *negotiation, 
 }
 
 /* Keeps what find_touched will compare with. */
-static void keep_printed(const uint8_t *negotiation, struct printed *printed)
+static void keep_printed(const uint8_t *negotiation, struct lavutremo_printed *printed)
 {
     printed->nodes = node_count_of(negotiation);
     printed->edges = edge_count_of(negotiation);
@@ -292,7 +292,7 @@ static void keep_printed(const uint8_t *negotiation, struct printed *printed)
 }
 
 void print_message(FILE *to, const struct house *house, const uint8_t *negotiation, const uint8_t *message,
-                   size_t length, const char *direction, struct printed *printed)
+                   size_t length, const char *direction, struct lavutremo_printed *printed)
 {
     struct marked changed = {0}, none = {0};
     fprintf(to, "message %u, %s, %zu bytes\n", number_at(negotiation + MESSAGE_COUNT_AT), direction, length);

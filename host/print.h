@@ -12,6 +12,7 @@
 #include <stdio.h>
 
 #include "house.h"
+#include "lavutremo_host.h"
 
 /* The 4 bytes of a role: 4.3. Returns how many characters it printed. */
 int print_role(FILE *to, const uint8_t *role);
@@ -30,19 +31,12 @@ size_t command_size(uint8_t command);
  */
 void print_commands(FILE *to, const uint8_t *message, size_t length, unsigned node_count);
 
-/* The graph as it was printed last. Zeros before the first message. */
-struct printed {
-    unsigned nodes, edges;
-    uint8_t states[LAVUTREMO_MOST_NODES];     /* verifier-processed, opponent-processed */
-    uint8_t propagated[LAVUTREMO_MOST_NODES]; /* unknown, satisfied, failed */
-};
-
 /*
  * The last message of a negotiation with its direction, as in "message 1, 3 to 2, 56 bytes", its commands, and a line for
  * each node that is new or whose propagated state it changed. A node is asked after once at most.
  */
 void print_message(FILE *to, const struct house *house, const uint8_t *negotiation, const uint8_t *message,
-                   size_t length, const char *direction, struct printed *printed);
+                   size_t length, const char *direction, struct lavutremo_printed *printed);
 
 /* The graph: a line for each node with its number, role, holder, state and verifier; then the end. */
 void print_graph(FILE *to, const struct house *house, const uint8_t *negotiation);

@@ -76,7 +76,7 @@ static void print_wanted(FILE *to, const uint8_t *negotiation)
     fprintf(to, " of %u\n", number_at(negotiation + (mediates ? OTHER_AT : SELF_AT)));
 }
 
-static void print_steps(FILE *to, const struct end *end, const struct course *course, struct printed *printed)
+static void print_steps(FILE *to, const struct end *end, const struct course *course, struct lavutremo_printed *printed)
 {
     char direction[40];
     for (size_t i = 0; i < course->count; i++) {
@@ -88,7 +88,7 @@ static void print_steps(FILE *to, const struct end *end, const struct course *co
 }
 
 /* The commands before the refused one, and that one. The rest was not looked at. */
-static void print_refused(FILE *to, const struct end *end, const struct course *course, const struct printed *printed)
+static void print_refused(FILE *to, const struct end *end, const struct course *course, const struct lavutremo_printed *printed)
 {
     unsigned command;
     size_t at;
@@ -127,7 +127,7 @@ static void print_over(FILE *to, const struct course *course)
 
 void printout_course(struct printout *printout, const struct end *end, const struct course *course, time_t date)
 {
-    struct printed printed = {0};
+    struct lavutremo_printed printed = {0};
     FILE *to = printout->to;
     /* Of a refused reply or a message that was not sent the end has more than the other end knows. */
     const uint8_t *last = course->count > 0 ? course->steps[course->count - 1].negotiation : end->negotiation;
