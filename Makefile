@@ -142,17 +142,23 @@ $(HOST_LIB): $(HOUSE_PARTS) host/library.c $(HEADERS) | gcc
 	@rm -f $@
 	ar rcsD $@ build/lib/host.o
 
-build/demo: $(END_PARTS)
-build/tables build/ask: $(HOUSE_PARTS) $(FILE_PARTS)
-build/graph: $(HOUSE_PARTS) $(FILE_PARTS) host/dot.c
-build/serve: $(LINK_PARTS) host/source.c
-build/fetch: $(LINK_PARTS)
-build/serve build/fetch: LIBRARIES = -lmd
-build/serve build/fetch: | libmd
+# Each part is compiled once, for all programs that have it.
+objects = $(patsubst host/%.c,build/host/%.o,$(1))
 
-build/demo $(PROGRAMS:%=build/%): build/%: host/%.c $(HEADERS) $(LIB) | gcc
-	@mkdir -p build
-	gcc $(CFLAGS) -o $@ $(filter %.c,$^) $(LIB) $(LIBRARIES)
+build/demo: $(call objects,$(END_PARTS))
+build/tables build/ask: $(call objects,$(HOUSE_PARTS) $(FILE_PARTS))
+build/graph: $(call objects,$(HOUSE_PARTS) $(FILE_PARTS) host/dot.c)
+build/serve: $(call objects,$(LINK_PARTS) host/source.c)
+build/fetch: $(call objects,$(LINK_PARTS))
+build/serve build/fetch: LIBRARIES = -lmd
+$(call objects,$(filter-out $(END_PARTS) $(FILE_PARTS),$(LINK_PARTS)) host/source.c host/serve.c host/fetch.c): | libmd
+
+build/host/%.o: host/%.c $(HEADERS) | gcc
+	@mkdir -p build/host
+	gcc $(CFLAGS) -c -o $@ $<
+
+build/demo $(PROGRAMS:%=build/%): build/%: build/host/%.o $(LIB) | gcc
+	gcc $(CFLAGS) -o $@ $(filter %.o,$^) $(LIB) $(LIBRARIES)
 
 build/socket-pair: examples/negotiate.c
 
