@@ -103,6 +103,23 @@ build/demo build/tables build/serve build/fetch: build/%: host/%.c $(HEADERS) $(
 	@mkdir -p build
 	gcc $(CFLAGS) -o $@ $(filter %.c,$^) $(ENGINE) $(LIBRARIES)
 
+# The same with AddressSanitizer and UndefinedBehaviorSanitizer, for the tests.
+SANITIZE = -g -fsanitize=address,undefined -fno-sanitize-recover=all
+
+build/sanitized/tables: $(HOUSE_PARTS) $(FILE_PARTS)
+build/sanitized/serve: $(LINK_PARTS) host/source.c
+build/sanitized/fetch: $(LINK_PARTS)
+build/sanitized/serve build/sanitized/fetch: LIBRARIES = -lmd
+build/sanitized/serve build/sanitized/fetch: | libmd
+
+build/sanitized/tables build/sanitized/serve build/sanitized/fetch: build/sanitized/%: host/%.c $(HEADERS) $(ENGINE) | gcc
+	@mkdir -p build/sanitized
+	gcc $(CFLAGS) $(SANITIZE) -o $@ $(filter %.c,$^) $(ENGINE) $(LIBRARIES)
+
+build/sanitized/strange: tests/strange.c $(END_PARTS) $(HEADERS) $(ENGINE) | gcc
+	@mkdir -p build/sanitized
+	gcc $(CFLAGS) $(SANITIZE) -Ihost -o $@ $(filter %.c,$^) $(ENGINE)
+
 build/refusals: tests/refusals.c include/lavutremo.h $(ENGINE) | gcc
 	@mkdir -p build
 	gcc $(CFLAGS) -o $@ tests/refusals.c $(ENGINE)
