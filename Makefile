@@ -3,6 +3,7 @@
 # make host    builds the C programs of host/: build/tables, build/serve and build/fetch
 # make demo    builds the engine and the C program host/demo.c, and runs it
 # make stack   prints how much stack each call needs
+# make twins   counts the instructions of calls with and without what is hidden (TWINS_COUNT)
 # make test    runs all tests; its last line is 'N passed, M failed'
 # make fuzz    compares the engine with the reference on many questions, tables, negotiations, messages and replies, and
 #              on lists of calls for two runs (SEED, RANDOM_COUNT, DAMAGED_COUNT, TABLES_COUNT, NEGOTIATIONS_COUNT,
@@ -14,6 +15,7 @@
 MAKEFLAGS += --no-print-directory
 CFLAGS = -std=c11 -O2 -Wall -Wextra -pedantic -Werror -Iinclude
 SEED = 1
+TWINS_COUNT = 12
 RANDOM_COUNT = 2000000
 DAMAGED_COUNT = 2000000
 TABLES_COUNT = 1000000
@@ -44,7 +46,7 @@ FILE_PARTS = host/arguments.c host/output.c
 LINK_PARTS = $(END_PARTS) $(FILE_PARTS) host/negotiate.c host/link.c host/printout.c host/log.c host/digest.c host/transfer.c
 HEADERS := include/lavutremo.h $(wildcard host/*.h)
 
-.PHONY: lib host demo stack test fuzz bench reading clean rt gcc g++ cargo libmd
+.PHONY: lib host demo stack twins test fuzz bench reading clean rt gcc g++ cargo libmd valgrind
 
 lib: $(LIB) $(HOST_LIB)
 
@@ -55,6 +57,9 @@ demo: build/demo
 
 stack: build/stack
 	@build/stack
+
+twins: build/twins | valgrind
+	@tests/twins $(TWINS_COUNT)
 
 test:
 	@exec tests/run
@@ -136,6 +141,10 @@ build/hostile: tests/hostile.c host/link.c $(HEADERS) | gcc
 	@mkdir -p build
 	gcc $(CFLAGS) -Ihost -o $@ tests/hostile.c host/link.c
 
+build/twins: tests/twins.c $(END_PARTS) $(HEADERS) $(ENGINE) | gcc
+	@mkdir -p build
+	gcc $(CFLAGS) -g -Ihost -o $@ tests/twins.c $(END_PARTS) $(ENGINE)
+
 build/forkless.so: tests/forkless.c | gcc
 	@mkdir -p build
 	gcc $(CFLAGS) -shared -fPIC -o $@ $< -ldl
@@ -159,6 +168,10 @@ rt:
 libmd: | gcc
 	@echo '#include <sha2.h>' | gcc -E - >/dev/null 2>&1 || apt-get install -y libmd-dev >/dev/null 2>&1 || \
 		{ echo 'libmd is missing: install it, as by apt-get install libmd-dev' >&2; exit 1; }
+
+valgrind:
+	@command -v valgrind >/dev/null || apt-get install -y valgrind >/dev/null 2>&1 || \
+		{ echo 'valgrind is missing: install it, as by apt-get install valgrind' >&2; exit 1; }
 
 gcc g++:
 	@command -v $@ >/dev/null || { echo '$@ is missing: install it, as by apt-get install gcc g++' >&2; exit 1; }

@@ -556,13 +556,71 @@ static int mutant(uint16_t port, int count)
     return 1;
 }
 
+/* The grid of the tests of time, in nanoseconds, and what a clock may differ by. */
+#define GRID 20000000LL
+#define CLOCK 100000LL
+
+static int by_size(const void *one, const void *other)
+{
+    long long a = *(const long long *)one, b = *(const long long *)other;
+    return (a > b) - (a < b);
+}
+
+/*
+ * A mediator that times how long the second message takes, for peers of two kinds in turn, so many of each. No time may be
+ * less than the grid, and the medians may differ by half of what the middle half of all times lies apart.
+ */
+static int time_twins(uint16_t port, int rounds)
+{
+    static long long times[2][1000], all[2000];
+    int listening = listens(port);
+    rounds = rounds < 1000 ? rounds : 1000;
+    for (int i = 0; i < 2 * rounds; i++) {
+        int connection = served_one(listening);
+        long long start = now_ns();
+        push(connection, first, sizeof first);
+        if (!comes("time", connection, second, sizeof second))
+            return 0;
+        all[i] = times[i % 2][i / 2] = now_ns() - start;
+        close(connection);
+    }
+    qsort(times[0], (size_t)rounds, sizeof times[0][0], by_size);
+    qsort(times[1], (size_t)rounds, sizeof times[1][0], by_size);
+    qsort(all, 2 * (size_t)rounds, sizeof all[0], by_size);
+    long long one = times[0][rounds / 2], other = times[1][rounds / 2], noise = (all[3 * rounds / 2] - all[rounds / 2]) / 2;
+    fprintf(stderr, "hostile time: medians %lld and %lld us, noise %lld us, least %lld us\n", one / 1000, other / 1000,
+            noise / 1000, all[0] / 1000);
+    if (all[0] < GRID - CLOCK)
+        return wrong("time", "a message came before its time");
+    return llabs(one - other) <= noise + 10000 || wrong("time", "the twins differ");
+}
+
+/* A requester: the mediator's first message comes no earlier than the grid after the connection, and so does its next. */
+static int pace(uint16_t port, int unused)
+{
+    (void)unused;
+    long long start = now_ns();
+    int connection = connected(port);
+    if (!comes("pace", connection, first, sizeof first))
+        return 0;
+    long long opened = now_ns() - start;
+    start = now_ns();
+    push(connection, second, sizeof second);
+    if (!comes("pace", connection, third, sizeof third))
+        return 0;
+    long long replied = now_ns() - start;
+    close(connection);
+    return (opened >= GRID - CLOCK && replied >= GRID - CLOCK) || wrong("pace", "a message came before its time");
+}
+
 static const struct mode {
     const char *word;
     int (*play)(uint16_t port, int argument);
 } modes[] = {{"garbage", garbage}, {"cut", cut},       {"stall", stall},   {"drip", drip},   {"large", large},
              {"denied", denied},   {"refused", refused}, {"flood", flood}, {"hold", hold},   {"cheat", cheat},
              {"grow", grow},       {"fill", fill},     {"slow", slow},     {"behind", behind}, {"mute", mute},
-             {"refuse", refuse},   {"rest", rest},     {"crowd", crowd},   {"mutate", mutate}, {"mutant", mutant}};
+             {"refuse", refuse},   {"rest", rest},     {"crowd", crowd},   {"mutate", mutate}, {"mutant", mutant},
+             {"time", time_twins}, {"pace", pace}};
 
 int main(int count, char **arguments)
 {
