@@ -6,6 +6,7 @@
 # make install, make uninstall   the libraries, their headers, the programs and their manual pages below PREFIX, /usr/local
 #              if it is not given; DESTDIR stands before it
 # make stack   prints how much stack each call needs
+# make twins   counts the instructions of calls with and without what is hidden (TWINS_COUNT)
 # make fuzz    compares the engine with the reference on many questions, tables, negotiations, messages and replies, and
 #              on lists of calls for two runs (SEED, RANDOM_COUNT, DAMAGED_COUNT, TABLES_COUNT, NEGOTIATIONS_COUNT,
 #              TAKES_COUNT, HONEST_COUNT, ADVERSARIAL_COUNT, TWO_RUNS_COUNT)
@@ -18,6 +19,7 @@
 MAKEFLAGS += --no-print-directory
 CFLAGS = -std=c11 -O2 -Wall -Wextra -pedantic -Werror -Iinclude
 SEED = 1
+TWINS_COUNT = 12
 RANDOM_COUNT = 2000000
 DAMAGED_COUNT = 2000000
 TABLES_COUNT = 1000000
@@ -64,8 +66,8 @@ PROGRAM_PREFIX = lavutremo-
 PROGRAMS = tables serve fetch graph ask
 VERSION := $(shell sed -n 's/.*define LAVUTREMO_VERSION "\(.*\)".*/\1/p' include/lavutremo.h)
 
-.PHONY: lib host demo stack test fuzz bench reading picture dist install uninstall clean FORCE rt gcc g++ cargo \
-	libmd graphviz pkg-config man
+.PHONY: lib host demo stack twins test fuzz bench reading picture dist install uninstall clean FORCE rt gcc g++ cargo \
+	libmd valgrind graphviz pkg-config man
 
 lib: $(LIB) $(HOST_LIB)
 
@@ -76,6 +78,9 @@ demo: build/demo
 
 stack: build/stack
 	@build/stack
+
+twins: build/twins | valgrind
+	@tests/twins $(TWINS_COUNT)
 
 test:
 	@exec tests/run
@@ -160,6 +165,23 @@ build/host/%.o: host/%.c $(HEADERS) | gcc
 build/demo $(PROGRAMS:%=build/%): build/%: build/host/%.o $(LIB) | gcc
 	gcc $(CFLAGS) -o $@ $(filter %.o,$^) $(LIB) $(LIBRARIES)
 
+# The same with AddressSanitizer and UndefinedBehaviorSanitizer, for the tests.
+SANITIZE = -g -fsanitize=address,undefined -fno-sanitize-recover=all
+
+build/sanitized/tables: $(HOUSE_PARTS) $(FILE_PARTS)
+build/sanitized/serve: $(LINK_PARTS) host/source.c
+build/sanitized/fetch: $(LINK_PARTS)
+build/sanitized/serve build/sanitized/fetch: LIBRARIES = -lmd
+build/sanitized/serve build/sanitized/fetch: | libmd
+
+build/sanitized/tables build/sanitized/serve build/sanitized/fetch: build/sanitized/%: host/%.c $(HEADERS) $(LIB) | gcc
+	@mkdir -p build/sanitized
+	gcc $(CFLAGS) $(SANITIZE) -o $@ $(filter %.c,$^) $(LIB) $(LIBRARIES)
+
+build/sanitized/strange: tests/strange.c $(END_PARTS) $(HEADERS) $(LIB) | gcc
+	@mkdir -p build/sanitized
+	gcc $(CFLAGS) $(SANITIZE) -Ihost -o $@ $(filter %.c,$^) $(LIB)
+
 build/socket-pair: examples/negotiate.c
 
 build/question build/two-ends build/socket-pair: build/%: examples/%.c include/lavutremo.h $(LIB) | gcc
@@ -186,6 +208,10 @@ build/stack: tests/stack.c $(END_PARTS) $(HEADERS) $(LIB) | gcc
 build/hostile: tests/hostile.c host/link.c $(HEADERS) | gcc
 	@mkdir -p build
 	gcc $(CFLAGS) -Ihost -o $@ tests/hostile.c host/link.c
+
+build/twins: tests/twins.c $(END_PARTS) $(HEADERS) $(LIB) | gcc
+	@mkdir -p build
+	gcc $(CFLAGS) -g -Ihost -o $@ tests/twins.c $(END_PARTS) $(LIB)
 
 build/forkless.so: tests/forkless.c | gcc
 	@mkdir -p build
@@ -218,6 +244,9 @@ pkg-config:
 
 man:
 	@tools/need man-db command -v man
+
+valgrind:
+	@tools/need valgrind command -v valgrind
 
 gcc g++:
 	@command -v $@ >/dev/null || { echo '$@ is missing: install it, as by apt-get install gcc g++' >&2; exit 1; }

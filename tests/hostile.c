@@ -482,13 +482,145 @@ static int crowd(uint16_t port, int unused)
     return any_message(connection) && closes("crowd", connection, PATIENCE);
 }
 
+/* A copy of a frame with up to three changes, whose length may be told wrong then. Returns how long it is. */
+static size_t changed(const uint8_t *frame, size_t length, uint8_t *to)
+{
+    memcpy(to, frame, length);
+    for (int i = rand() % 4; i > 0; i--) {
+        size_t at = 2 + (size_t)rand() % (length - 2);
+        int kind = rand() % 4;
+        if (kind == 0)
+            to[at] = (uint8_t)rand();
+        else if (kind == 1)
+            to[at] ^= (uint8_t)(1 << rand() % 8);
+        else if (kind == 2)
+            length = at + 1;
+        else if (length + 24 < 1000) {
+            memmove(to + at + 24, to + at, length - at);
+            length += 24;
+        }
+    }
+    to[0] = (uint8_t)((length - 2) >> 8);
+    to[1] = (uint8_t)(rand() % 8 == 0 ? rand() : (int)(length - 2));
+    return length;
+}
+
+/* Whatever comes, until the other end closes. */
+static int comes_to_an_end(const char *mode, int connection)
+{
+    uint8_t buffer[65536];
+    size_t count;
+    enum link_result result;
+    long long until = now_ms() + PATIENCE;
+    do
+        result = link_read_some(connection, buffer, sizeof buffer, &count, until);
+    while (result == LINK_DONE);
+    close(connection);
+    return result == LINK_CLOSED || wrong(mode, "the connection was not closed");
+}
+
+/* Honest messages with changes: so many connections, from a fixed seed. */
+static int mutate(uint16_t port, int count)
+{
+    uint8_t frame[1000];
+    srand(11);
+    for (int i = 0; i < count; i++) {
+        int connection = connected(port);
+        any_message(connection);
+        push(connection, frame, changed(second, sizeof second, frame));
+        push(connection, frame, changed(fourth, sizeof fourth, frame));
+        shutdown(connection, SHUT_WR);
+        if (!comes_to_an_end("mutate", connection))
+            return 0;
+    }
+    return 1;
+}
+
+/* The same as a server, with a file whose length may be told wrong. */
+static int mutant(uint16_t port, int count)
+{
+    uint8_t frame[1000], file[8 + 50] = {0};
+    int listening = listens(port);
+    srand(13);
+    for (int i = 0; i < count; i++) {
+        int connection = served_one(listening);
+        file[rand() % 8] = (uint8_t)(rand() % 4 == 0 ? rand() : 0);
+        file[7] = (uint8_t)(rand() % 4 == 0 ? rand() : 50);
+        push(connection, frame, changed(first, sizeof first, frame));
+        push(connection, frame, changed(third, sizeof third, frame));
+        push(connection, file, sizeof file);
+        shutdown(connection, SHUT_WR);
+        if (!comes_to_an_end("mutant", connection))
+            return 0;
+    }
+    return 1;
+}
+
+/* The grid of the tests of time, in nanoseconds, and what a clock may differ by. */
+#define GRID 20000000LL
+#define CLOCK 100000LL
+
+static int by_size(const void *one, const void *other)
+{
+    long long a = *(const long long *)one, b = *(const long long *)other;
+    return (a > b) - (a < b);
+}
+
+/*
+ * A mediator that times how long the second message takes, for peers of two kinds in turn, so many of each. No time may be
+ * less than the grid, and the medians may differ by half of what the middle half of all times lies apart.
+ */
+static int time_twins(uint16_t port, int rounds)
+{
+    static long long times[2][1000], all[2000];
+    int listening = listens(port);
+    rounds = rounds < 1000 ? rounds : 1000;
+    for (int i = 0; i < 2 * rounds; i++) {
+        int connection = served_one(listening);
+        long long start = now_ns();
+        push(connection, first, sizeof first);
+        if (!comes("time", connection, second, sizeof second))
+            return 0;
+        all[i] = times[i % 2][i / 2] = now_ns() - start;
+        close(connection);
+    }
+    qsort(times[0], (size_t)rounds, sizeof times[0][0], by_size);
+    qsort(times[1], (size_t)rounds, sizeof times[1][0], by_size);
+    qsort(all, 2 * (size_t)rounds, sizeof all[0], by_size);
+    long long one = times[0][rounds / 2], other = times[1][rounds / 2], noise = (all[3 * rounds / 2] - all[rounds / 2]) / 2;
+    fprintf(stderr, "hostile time: medians %lld and %lld us, noise %lld us, least %lld us\n", one / 1000, other / 1000,
+            noise / 1000, all[0] / 1000);
+    if (all[0] < GRID - CLOCK)
+        return wrong("time", "a message came before its time");
+    return llabs(one - other) <= noise + 10000 || wrong("time", "the twins differ");
+}
+
+/* A requester: the mediator's first message comes no earlier than the grid after the connection, and so does its next. */
+static int pace(uint16_t port, int unused)
+{
+    (void)unused;
+    long long start = now_ns();
+    int connection = connected(port);
+    if (!comes("pace", connection, first, sizeof first))
+        return 0;
+    long long opened = now_ns() - start;
+    start = now_ns();
+    push(connection, second, sizeof second);
+    if (!comes("pace", connection, third, sizeof third))
+        return 0;
+    long long replied = now_ns() - start;
+    close(connection);
+    return (opened >= GRID - CLOCK && replied >= GRID - CLOCK) || wrong("pace", "a message came before its time");
+}
+
 static const struct mode {
     const char *word;
     int (*play)(uint16_t port, int argument);
 } modes[] = {{"garbage", garbage}, {"cut", cut},       {"stall", stall},   {"drip", drip},   {"large", large},
              {"denied", denied},   {"refused", refused}, {"flood", flood}, {"hold", hold},   {"cheat", cheat},
              {"grow", grow},       {"fill", fill},     {"slow", slow},     {"behind", behind}, {"mute", mute},
-             {"refuse", refuse},   {"rest", rest},     {"crowd", crowd}};
+             {"refuse", refuse},   {"rest", rest},     {"crowd", crowd},   {"mutate", mutate}, {"mutant", mutant},
+             {"time", time_twins}, {"pace", pace}};
 
 int main(int count, char **arguments)
 {
