@@ -168,13 +168,14 @@ build/demo $(PROGRAMS:%=build/%): build/%: build/host/%.o $(LIB) | gcc
 # The same with AddressSanitizer and UndefinedBehaviorSanitizer, for the tests.
 SANITIZE = -g -fsanitize=address,undefined -fno-sanitize-recover=all
 
-build/sanitized/tables: $(HOUSE_PARTS) $(FILE_PARTS)
+build/sanitized/tables build/sanitized/ask: $(HOUSE_PARTS) $(FILE_PARTS)
+build/sanitized/graph: $(HOUSE_PARTS) $(FILE_PARTS) host/dot.c
 build/sanitized/serve: $(LINK_PARTS) host/source.c
 build/sanitized/fetch: $(LINK_PARTS)
 build/sanitized/serve build/sanitized/fetch: LIBRARIES = -lmd
 build/sanitized/serve build/sanitized/fetch: | libmd
 
-build/sanitized/tables build/sanitized/serve build/sanitized/fetch: build/sanitized/%: host/%.c $(HEADERS) $(LIB) | gcc
+$(PROGRAMS:%=build/sanitized/%): build/sanitized/%: host/%.c $(HEADERS) $(LIB) | gcc
 	@mkdir -p build/sanitized
 	gcc $(CFLAGS) $(SANITIZE) -o $@ $(filter %.c,$^) $(LIB) $(LIBRARIES)
 
