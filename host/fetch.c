@@ -29,7 +29,7 @@ static const char help[] =
     "  -k               keeps the printout as FILE.negotiation\n"
     "The peer is taken for OTHER and its credentials for signed: a transport that checks both has to stand between.\n"
     "Exits with 0, 1 failed, 2 a wrong argument, 3 stalled, 4 full, 5 refused, 6 the connection, 7 a file cannot be read or\n"
-    "written, 8 more messages or bytes than allowed, 9 a signal.\n";
+    "written, 8 more messages or bytes than allowed, 9 a signal, 10 FILE cannot be given its name.\n";
 
 static struct errand {
     unsigned long long seconds, messages, grid, most_bytes;
@@ -98,7 +98,7 @@ static enum status receive_file(int connection, struct output *file, FILE *to)
         return say_not_received(to, "it is longer than allowed", STATUS_BOUND);
     enum status status = receive_bytes(connection, file, length, to);
     if (status == STATUS_SUCCESS && !output_finish(file))
-        status = say_not_received(to, file->wrong, STATUS_DISK);
+        status = say_not_received(to, file->wrong, file->status);
     if (status == STATUS_SUCCESS)
         fprintf(to, "%s: received\n", errand.path);
     return status;
@@ -112,11 +112,14 @@ static enum status run(int connection, const struct bounds *bounds, struct outpu
     negotiate(&errand.end, connection, bounds, &course);
     enum status status = course_status(&course);
     printout_course(printout, &errand.end, &course, date);
-    if (status == STATUS_SUCCESS)
-        status = receive_file(connection, file, printout->to);
-    else if (course.over != OVER_LINK)
+    if (course.over == OVER_LINK || status == STATUS_SUCCESS) {
+        if (status == STATUS_SUCCESS)
+            status = receive_file(connection, file, printout->to);
+        close(connection);
+    } else {
         wait_for_grid(course.last, bounds->grid);
-    close(connection);
+        link_finish(connection, (long long)errand.seconds * 1000);
+    }
     course_free(&course);
     return status;
 }
@@ -126,7 +129,7 @@ static enum status keep_printout(const struct printout *printout, struct output 
     if (output_write(to, printout->text, printout->length) && output_finish(to))
         return status;
     fprintf(stderr, "%s: %s\n", to->path, to->wrong);
-    return STATUS_DISK;
+    return to->status;
 }
 
 static enum status fetch(struct outputs *outputs)

@@ -20,8 +20,8 @@ long long now_ms(void);
 long long now_ns(void);
 
 /*
- * From now on SIGINT, SIGTERM and SIGHUP end what waits, as LINK_STOPPED, and all that waits later; SIGPIPE and SIGXFSZ
- * are errors of the write instead.
+ * From now on SIGINT, SIGTERM and SIGHUP, unless they are ignored as by nohup, end what waits, as LINK_STOPPED, and all
+ * that waits later; SIGPIPE and SIGXFSZ are errors of the write instead.
  */
 void link_catch_signals(void);
 int link_stopped(void);

@@ -1,5 +1,5 @@
 /* SPDX-License-Identifier: Apache-2.0 */
-#define _DEFAULT_SOURCE
+#define _GNU_SOURCE
 #include "log.h"
 
 #include <errno.h>
@@ -23,20 +23,20 @@ static struct shared {
     int unread;            /* the last text was dropped */
 } *shared;
 
-static FILE *lock;
+static int lock; /* a file without a name, for its lock */
 
 int log_open(void)
 {
     shared = mmap(NULL, sizeof *shared, PROT_READ | PROT_WRITE, MAP_SHARED | MAP_ANONYMOUS, -1, 0);
-    lock = tmpfile();
-    return shared != MAP_FAILED && lock != NULL;
+    lock = memfd_create("log", MFD_CLOEXEC);
+    return shared != MAP_FAILED && lock >= 0;
 }
 
 /* The lock of a process that ends is free. */
 static int set_lock(short type, long long until)
 {
     struct flock whole = {.l_type = type, .l_whence = SEEK_SET};
-    while (fcntl(fileno(lock), F_SETLK, &whole) < 0) {
+    while (fcntl(lock, F_SETLK, &whole) < 0) {
         if ((errno != EAGAIN && errno != EACCES && errno != EINTR) || now_ms() >= until)
             return 0;
         poll(NULL, 0, 2);

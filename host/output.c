@@ -58,6 +58,7 @@ int sync_folder_of(const char *path)
 
 static int say(struct output *output, const char *what, const char *why)
 {
+    output->status = STATUS_DISK;
     snprintf(output->wrong, sizeof output->wrong, "%s%s%s", what, why[0] != '\0' ? ": " : "", why);
     return 0;
 }
@@ -115,11 +116,13 @@ void output_discard(struct output *output)
 int output_finish(struct output *output)
 {
     mode_t mode;
-    int done = may_take(output, &mode);
+    int named = may_take(output, &mode), done = named;
     if (done && (fchmod(output->file, mode) < 0 || fsync(output->file) < 0))
         done = say(output, "cannot be put on disk", strerror(errno));
     if (done && rename(output->temporary, output->path) < 0)
-        done = say(output, "cannot be given its name", strerror(errno));
+        named = done = say(output, "cannot be given its name", strerror(errno));
+    if (!named)
+        output->status = STATUS_NAME;
     if (done) {
         free(output->temporary);
         output->temporary = NULL;

@@ -8,11 +8,14 @@
 
 #include <stddef.h>
 
+#include "status.h"
+
 struct output {
     const char *path;
     char *temporary;
-    int file;        /* -1 while none is open */
-    char wrong[160]; /* why the last call failed */
+    int file;           /* -1 while none is open */
+    char wrong[160];    /* why the last call failed */
+    enum status status; /* and what the program exits with then: STATUS_DISK or STATUS_NAME */
 };
 
 /* Makes the temporary file. The path stays the caller's. These return 1, or 0 with what is wrong. */

@@ -98,10 +98,10 @@ static void keep_delivery(struct delivery *delivery, unsigned long number, int p
     if (printed && record_keep(&delivery->record, service.folder, delivery->date, number, delivery->printout.text,
                                delivery->printout.length))
         return;
-    fprintf(stderr, "serve: %s: the printout of connection %lu cannot be kept: %s\n", service.folder, number,
-            strerror(errno));
-    if (delivery->release)
-        source_say(&service.source, "not sent, since the printout cannot be kept");
+    char what[160];
+    snprintf(what, sizeof what, "%sthe printout cannot be kept: %s", delivery->release ? "not sent, since " : "",
+             printed ? strerror(errno) : "no memory");
+    source_say(&service.source, what);
     delivery->release = 0;
 }
 
@@ -109,9 +109,10 @@ static void keep_delivery(struct delivery *delivery, unsigned long number, int p
 static void finish_delivery(struct delivery *delivery)
 {
     const char *words = service.source.words;
-    if (!record_close(&delivery->record, words, strlen(words)))
-        fprintf(stderr, "serve: a printout: %s\n", strerror(errno));
+    int closed = record_close(&delivery->record, words, strlen(words));
     printout_add(&delivery->printout, words);
+    if (!closed)
+        printout_add(&delivery->printout, "the printout that is kept could not be completed\n");
     log_write(delivery->printout.text, delivery->printout.length);
     printout_free(&delivery->printout);
 }
@@ -132,12 +133,12 @@ static void serve_one(int connection, unsigned long number)
     keep_delivery(&delivery, number, printed);
     if (course.over != OVER_LINK)
         wait_for_grid(course.last, bounds.grid);
-    if (delivery.release) {
+    if (delivery.release)
         source_send(&service.source, connection, pause);
-        link_finish(connection, pause);
-    } else {
+    if (course.over == OVER_LINK)
         close(connection);
-    }
+    else
+        link_finish(connection, pause);
     course_free(&course);
     finish_delivery(&delivery);
 }

@@ -13,7 +13,8 @@ enum status {
     STATUS_CONNECTION = 6, /* none, closed, broken, or the time is over */
     STATUS_DISK = 7,       /* a file cannot be read or written */
     STATUS_BOUND = 8,      /* more messages, or a longer file, than allowed */
-    STATUS_SIGNAL = 9      /* stopped by a signal */
+    STATUS_SIGNAL = 9,     /* stopped by a signal */
+    STATUS_NAME = 10       /* all of the file is there, but it cannot be given its name */
 };
 
 #endif

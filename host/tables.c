@@ -33,7 +33,8 @@ static const char help[] =
     "The lines may stand in any order. The records are written in the order above, and those of one kind ascending by\n"
     "their bytes. A line that repeats another, or gives the class, Ack role or AC role of one a second time, is an error.\n"
     "\n"
-    "Exits with 0, 2 for a wrong argument, 5 for wrong tables, 7 if a file cannot be read or written.\n";
+    "Exits with 0, 2 for a wrong argument, 5 for wrong tables, 7 if a file cannot be read or written, 10 if TO cannot be\n"
+    "given its name.\n";
 
 static const struct program program = {.name = "tables", .help = help};
 
@@ -63,23 +64,24 @@ static void hold_signals(void)
     signal(SIGXFSZ, SIG_IGN);
 }
 
-static int write_file(const char *path, const char *content, size_t length)
+static enum status write_file(const char *path, const char *content, size_t length)
 {
     struct output output;
     hold_signals();
     int written = output_open(&output, path) && output_write(&output, content, length) && output_finish(&output);
     output_discard(&output);
-    if (!written)
-        fprintf(stderr, "%s: %s\n", path, output.wrong);
-    return written;
+    if (written)
+        return STATUS_SUCCESS;
+    fprintf(stderr, "%s: %s\n", path, output.wrong);
+    return output.status;
 }
 
-static int write_output(const char *content, size_t length)
+static enum status write_output(const char *content, size_t length)
 {
-    int written = write_all(1, content, length);
-    if (!written)
-        fprintf(stderr, "standard output: %s\n", strerror(errno));
-    return written;
+    if (write_all(1, content, length))
+        return STATUS_SUCCESS;
+    fprintf(stderr, "standard output: %s\n", strerror(errno));
+    return STATUS_DISK;
 }
 
 static enum status write_house(const char *path, const struct house *house, int as_text)
@@ -90,9 +92,9 @@ static enum status write_house(const char *path, const struct house *house, int 
         fprintf(stderr, "%s: no memory\n", path);
         return STATUS_DISK;
     }
-    int written = strcmp(path, "-") == 0 ? write_output(content, length) : write_file(path, content, length);
+    enum status status = strcmp(path, "-") == 0 ? write_output(content, length) : write_file(path, content, length);
     free(content);
-    return written ? STATUS_SUCCESS : STATUS_DISK;
+    return status;
 }
 
 int main(int count, char **arguments)

@@ -416,6 +416,24 @@ static int cheat(uint16_t port, int unused)
     return result == LINK_DONE || wrong("cheat", "the fourth message is missing");
 }
 
+/* A server that plays case (i) and gives a file of so many pieces of 50 bytes, one now and then. */
+static int trickle(uint16_t port, int pieces)
+{
+    static const uint8_t piece[50];
+    uint8_t head[8] = {[6] = (uint8_t)(50 * pieces >> 8), [7] = (uint8_t)(50 * pieces)};
+    int connection = served_one(listens(port));
+    push(connection, first, sizeof first);
+    any_message(connection);
+    push(connection, third, sizeof third);
+    any_message(connection);
+    push(connection, head, sizeof head);
+    for (int i = 0; i < pieces; i++) {
+        poll(NULL, 0, 35);
+        push(connection, piece, sizeof piece);
+    }
+    return closes("trickle", connection, PATIENCE);
+}
+
 /* A server that says nothing, until the other end closes. */
 static int mute(uint16_t port, int unused)
 {
@@ -620,7 +638,7 @@ static const struct mode {
              {"denied", denied},   {"refused", refused}, {"flood", flood}, {"hold", hold},   {"cheat", cheat},
              {"grow", grow},       {"fill", fill},     {"slow", slow},     {"behind", behind}, {"mute", mute},
              {"refuse", refuse},   {"rest", rest},     {"crowd", crowd},   {"mutate", mutate}, {"mutant", mutant},
-             {"time", time_twins}, {"pace", pace}};
+             {"time", time_twins}, {"pace", pace}, {"trickle", trickle}};
 
 int main(int count, char **arguments)
 {
