@@ -30,10 +30,11 @@ ADVERSARIAL_COUNT = 50000
 TWO_RUNS_COUNT = 100000
 
 # PROVED is the library that is proved and built here. ENGINE is what C programs get: dist/'s library while the sources
-# are those that it was proved from, else PROVED; the tests set it to PROVED. LIB is a copy, made when ENGINE has other
-# bytes, so that programs follow the bytes and not the time of a file.
+# are the same as those that it was proved from, else PROVED; the tests set it to PROVED. LIB is a copy, made when ENGINE
+# has other bytes, so that programs follow the bytes and not the time of a file.
 PROVED = target/staticlib/libengine.a
-ENGINE := $(if $(shell tools/dist same && echo same),dist/liblavutremo.a,$(PROVED))
+SAME := $(shell tools/dist same && echo same)
+ENGINE = $(if $(SAME),dist/liblavutremo.a,$(PROVED))
 LIB = build/lib/liblavutremo.a
 SHARED = build/lib/liblavutremo.so.1
 HOST_LIB = build/lib/liblavutremo_host.a
@@ -231,7 +232,8 @@ build/reading: $(READING) | cargo
 	@cp $(CARGO_TARGET_DIR)/release/reading $@
 
 rt:
-	@command -v rt >/dev/null || { echo 'rt is missing: install the Rattle kit and put rt on the PATH' >&2; exit 1; }
+	@command -v rt >/dev/null || { echo 'rt is missing: install the Rattle kit and put rt on the PATH' \
+		'$(if $(SAME),,(the sources are not those of dist/ and have to be proved))' >&2; exit 1; }
 
 # What a command needs besides: installed where that may be done, else named.
 libmd: | gcc
