@@ -2,10 +2,12 @@
 #define _GNU_SOURCE
 #include "arguments.h"
 
+#include <fcntl.h>
 #include <getopt.h>
 #include <stdio.h>
 #include <stdlib.h>
 #include <string.h>
+#include <unistd.h>
 
 #include "lavutremo.h"
 #include "layout.h"
@@ -100,11 +102,23 @@ static const struct option_form *find_option(const struct program *program, int 
     return NULL;
 }
 
+/* A standard file that is closed would be the next one to be opened, and what is printed would go there. */
+static void open_standard_files(void)
+{
+    int file;
+    do
+        file = open("/dev/null", O_RDWR);
+    while (file >= 0 && file <= STDERR_FILENO);
+    if (file >= 0)
+        close(file);
+}
+
 int read_options(const struct program *program, int count, char **arguments)
 {
     static const struct option words[] = {{"help", no_argument, NULL, 'h'}, {"version", no_argument, NULL, 'V'}, {0}};
     char letters[64], wrong[3] = "-";
     int letter;
+    open_standard_files();
     list_letters(program, letters);
     opterr = 0;
     while ((letter = getopt_long(count, arguments, letters, words, NULL)) != -1) {

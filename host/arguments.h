@@ -29,7 +29,7 @@ struct program {
 
 /*
  * Reads the options and returns where the other arguments begin. -h and --version are answered, and a wrong option is
- * named: the program ends then.
+ * named: the program ends then. The first thing that a program does: it opens standard files that are closed.
  */
 int read_options(const struct program *program, int count, char **arguments);
 

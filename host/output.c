@@ -67,6 +67,9 @@ static int say(struct output *output, const char *what, const char *why)
 static int may_take(struct output *output, mode_t *mode)
 {
     struct stat status;
+    size_t length = strlen(output->path);
+    if (length == 0 || output->path[length - 1] == '/')
+        return say(output, "is no name of a file", "");
     if (lstat(output->path, &status) < 0) {
         mode_t mask = umask(0);
         umask(mask);
