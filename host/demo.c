@@ -1,8 +1,8 @@
 /* SPDX-License-Identifier: Apache-2.0 */
 /*
  * Runs the marked cases and prints them: the questions (a) to (h) with their credentials and answers, then the
- * negotiations (i) and (j) with the tables of both ends, each message and the graph after it. Exits with 1 if one of
- * them comes out otherwise than marked.
+ * negotiations (i) and (j) with the tables of both ends, each message and the nodes that it changed, and the graph at
+ * the end. Exits with 1 if one of them comes out otherwise than marked.
  */
 #include <stdio.h>
 #include <stdlib.h>
@@ -71,13 +71,13 @@ static size_t put_credentials(const char *const *texts, uint8_t *to)
     for (size_t i = 0; texts[i] != NULL; i++) {
         struct cursor cursor;
         cursor_on(&cursor, texts[i], strlen(texts[i]));
-        to[length] = 0x01;
+        to[length] = LAVUTREMO_COMMAND_CREDENTIAL;
         must(read_credential(&cursor, to + length + 1) && at_end(&cursor), texts[i]);
         fputs(i > 0 ? ", " : "", stdout);
         print_credential(stdout, to + length + 1);
         length += LAVUTREMO_CREDENTIAL_BYTES;
     }
-    to[length++] = 0x06;
+    to[length++] = LAVUTREMO_COMMAND_END;
     return length;
 }
 
@@ -120,7 +120,8 @@ static int alike(const struct end *one, const struct end *other)
 }
 
 /* One message, given by the sender and taken by the receiver. Returns 1 if it has this length and both ends agree. */
-static int pass(struct end *sender, struct end *receiver, const char *direction, size_t length)
+static int pass(struct end *sender, struct end *receiver, const char *direction, size_t length,
+                struct lavutremo_printed *printed)
 {
     unsigned number = end_reply(sender);
     if (number != 0) {
@@ -134,7 +135,8 @@ static int pass(struct end *sender, struct end *receiver, const char *direction,
         printf("%s: take refused %u: %s\n", direction, number, refusal_words(number));
         return 0;
     }
-    end_print(stdout, receiver, direction);
+    print_message(stdout, receiver->house, receiver->negotiation, receiver->message, receiver->length, direction,
+                  printed);
     return sender->length == length && alike(sender, receiver) && end_now(sender) == end_now(receiver);
 }
 
@@ -157,17 +159,20 @@ static int negotiate_both(const struct run *run)
 {
     static struct house mediating, requesting;
     static struct end mediator, requester;
+    struct lavutremo_printed printed = {0};
     printf("(%c) 3.1 is wanted of 2\n", run->letter);
     read_house("tables of the mediator", run->mediator, &mediating);
     read_house("tables of the requester", run->requester, &requesting);
     int right = end_begin(&mediator, &mediating, house_self(&requesting), 3, 1) == 0 &&
                 end_begin(&requester, &requesting, house_self(&mediating), 0, 0) == 0;
     for (int i = 0; i < 4 && right; i++) {
-        right = i % 2 == 0 ? pass(&mediator, &requester, "mediator to requester", run->lengths[i])
-                           : pass(&requester, &mediator, "requester to mediator", run->lengths[i]);
+        right = i % 2 == 0 ? pass(&mediator, &requester, "mediator to requester", run->lengths[i], &printed)
+                           : pass(&requester, &mediator, "requester to mediator", run->lengths[i], &printed);
         right = right && same_message(i, &mediator);
         right = right && end_now(&mediator) == (i < 3 ? LAVUTREMO_END_NONE : run->end);
     }
+    printf("graph\n");
+    print_graph(stdout, &mediating, mediator.negotiation);
     right = right && mediator.negotiation[NODE_COUNT_AT] == run->nodes;
     if (!right)
         printf("(%c) is marked otherwise\n", run->letter);

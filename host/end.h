@@ -3,8 +3,6 @@
 #ifndef END_H
 #define END_H
 
-#include <stdio.h>
-
 #include "house.h"
 
 struct end {
@@ -12,7 +10,6 @@ struct end {
     uint8_t negotiation[LAVUTREMO_NEGOTIATION_BYTES];
     uint8_t message[LAVUTREMO_MOST_MESSAGE_BYTES];
     size_t length;
-    unsigned nodes_before; /* how many nodes stood before the message */
     uint8_t scratch[LAVUTREMO_SCRATCH_BYTES];
 };
 
@@ -30,7 +27,10 @@ unsigned end_take(struct end *end);
 /* How the negotiation has ended, after a message. */
 unsigned end_now(const struct end *end);
 
-/* Prints the last message with its direction, as in "message 1, 3 to 2, 56 bytes", and the graph after it. */
-void end_print(FILE *to, const struct end *end, const char *direction);
+/*
+ * After end_take refused the message: the command that it was refused for, numbered from 0, and where it begins. The
+ * commands before it could be taken.
+ */
+void end_refused(const struct end *end, unsigned number, unsigned *command, size_t *at);
 
 #endif

@@ -3,13 +3,12 @@
 
 #include <errno.h>
 #include <stdio.h>
+#include <stdlib.h>
 #include <string.h>
 
 #include "layout.h"
 #include "print.h"
 #include "text.h"
-
-#define SELF 0x10
 
 /* A text may be longer than the records that it stands for. */
 #define MOST_TEXT_BYTES (1 << 20)
@@ -21,8 +20,9 @@ uint16_t house_self(const struct house *house)
 
 size_t record_size(uint8_t command)
 {
-    static const size_t sizes[] = {3, 4, 23, 23, 9, 9};
-    return command >= SELF && command < SELF + 6 ? sizes[command - SELF] : 0;
+    static const size_t sizes[] = {3, 4, LAVUTREMO_CREDENTIAL_BYTES, LAVUTREMO_CREDENTIAL_BYTES, 9, 9};
+    int known = command >= LAVUTREMO_RECORD_SELF && command <= LAVUTREMO_RECORD_ACCESS;
+    return known ? sizes[command - LAVUTREMO_RECORD_SELF] : 0;
 }
 
 /* Reads a file into the buffer. Returns its length, or -1 after saying why not. */
@@ -48,7 +48,7 @@ static long read_file(const char *path, char *to, size_t most)
 static void explain(const char *path, const struct house *house, unsigned number)
 {
     size_t at = 0, size;
-    while ((size = record_size(house->bytes[at])) != 0 && size <= house->length - at &&
+    while (at < house->length && (size = record_size(house->bytes[at])) != 0 && size <= house->length - at &&
            lavutremo_check(house->bytes, at + size) == 0)
         at += size;
     fprintf(stderr, "%s: byte %zu: refused %u: %s\n", path, at, number,
@@ -78,13 +78,26 @@ static int take_text(const char *path, const char *text, size_t length, struct h
     return 0;
 }
 
+enum status house_from_file(const char *path, struct house *house)
+{
+    char *content = malloc(MOST_TEXT_BYTES);
+    long length = -1;
+    int sound = 0;
+    if (content == NULL)
+        fprintf(stderr, "%s: no memory\n", path);
+    else
+        length = read_file(path, content, MOST_TEXT_BYTES);
+    if (length > 0 && content[0] == LAVUTREMO_RECORD_SELF)
+        sound = take_records(path, content, (size_t)length, house);
+    else if (length >= 0)
+        sound = take_text(path, content, (size_t)length, house);
+    free(content);
+    if (length < 0)
+        return STATUS_DISK;
+    return sound ? STATUS_SUCCESS : STATUS_REFUSED;
+}
+
 int load_house(const char *path, struct house *house)
 {
-    static char content[MOST_TEXT_BYTES];
-    long length = read_file(path, content, sizeof content);
-    if (length < 0)
-        return 0;
-    if (length > 0 && content[0] == SELF)
-        return take_records(path, content, (size_t)length, house);
-    return take_text(path, content, (size_t)length, house);
+    return house_from_file(path, house) == STATUS_SUCCESS;
 }

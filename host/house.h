@@ -7,6 +7,7 @@
 #include <stdint.h>
 
 #include "lavutremo.h"
+#include "status.h"
 
 struct house {
     uint8_t bytes[LAVUTREMO_MOST_TABLES_BYTES];
@@ -21,8 +22,12 @@ size_t record_size(uint8_t command);
 
 /*
  * Reads tables from a file, "-" being the standard input: records if the first byte is 0x10, else text. They are sound
- * then: lavutremo_check has been asked. Returns 1, or 0 after printing on the standard error what is wrong and where.
+ * then: lavutremo_check has been asked. Returns STATUS_SUCCESS, or after printing on the standard error what is wrong and
+ * where, STATUS_DISK if the file cannot be read, STATUS_REFUSED if it is wrong.
  */
+enum status house_from_file(const char *path, struct house *house);
+
+/* The same. Returns 1 or 0. */
 int load_house(const char *path, struct house *house);
 
 #endif

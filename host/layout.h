@@ -7,12 +7,23 @@
 
 enum {
     SIDE_AT = 1, /* 0 mediator, 1 requester */
+    SELF_AT = 2,
     OTHER_AT = 4,
+    WANTED_AT = 6, /* a role; zeros for the requester */
+    END_AT = 10,
     MESSAGE_COUNT_AT = 12,
     NODE_COUNT_AT = 14,
+    EDGE_COUNT_AT = 15,
+    SHOWN_COUNT_AT = 17,
     NODES_AT = 128, /* the header is over */
     NODE_BYTES = 22,
-    NODE_SUBJECT_AT = 18
+    NODE_SUBJECT_AT = 18,
+    NODE_VERIFIER_AT = 20, /* 0 mediator, 1 requester */
+    NODE_STATE_AT = 21,
+    EDGES_AT = 2944,
+    EDGE_BYTES = 3, /* kind, parent, child */
+    SHOWN_AT = 3712,
+    SHOWN_BYTES = 22
 };
 
 /* A number of two bytes, high byte first. */

@@ -1,31 +1,98 @@
 /* SPDX-License-Identifier: Apache-2.0 */
-#define _POSIX_C_SOURCE 200809L
+#define _GNU_SOURCE
 #include "link.h"
 
 #include <arpa/inet.h>
 #include <errno.h>
 #include <fcntl.h>
+#include <linux/sockios.h>
 #include <netinet/in.h>
-#include <poll.h>
+#include <signal.h>
 #include <string.h>
+#include <sys/ioctl.h>
 #include <sys/socket.h>
 #include <time.h>
 #include <unistd.h>
 
 #include "lavutremo.h"
 
+static const int stopping[] = {SIGINT, SIGTERM, SIGHUP};
+static volatile sig_atomic_t stopped;
+
 const char *link_words(enum link_result result)
 {
-    static const char *const words[] = {"done", "the other end closed the connection", "the time is over",
-                                        "the connection broke", "a frame of no bytes or more than a message has"};
+    static const char *const words[] = {"done",
+                                        "the other end closed the connection",
+                                        "the time is over",
+                                        "the connection broke",
+                                        "a frame of no bytes or more than a message has",
+                                        "stopped by a signal"};
     return words[result];
+}
+
+long long now_ns(void)
+{
+    struct timespec now;
+    clock_gettime(CLOCK_MONOTONIC, &now);
+    return now.tv_sec * 1000000000LL + now.tv_nsec;
 }
 
 long long now_ms(void)
 {
-    struct timespec now;
-    clock_gettime(CLOCK_MONOTONIC, &now);
-    return now.tv_sec * 1000LL + now.tv_nsec / 1000000;
+    return now_ns() / 1000000;
+}
+
+static void stop(int signal)
+{
+    stopped = signal;
+}
+
+int link_stopped(void)
+{
+    return stopped;
+}
+
+void link_catch_signals(void)
+{
+    struct sigaction action = {.sa_handler = stop, .sa_flags = SA_RESTART}, before;
+    sigemptyset(&action.sa_mask);
+    for (size_t i = 0; i < sizeof stopping / sizeof stopping[0]; i++)
+        if (sigaction(stopping[i], NULL, &before) == 0 && before.sa_handler != SIG_IGN)
+            sigaction(stopping[i], &action, NULL);
+    signal(SIGPIPE, SIG_IGN);
+    signal(SIGXFSZ, SIG_IGN);
+}
+
+/* A signal between the look at stopped and the wait would be missed: it is held back until the wait has begun. */
+static int poll_unless_stopped(struct pollfd *ready, nfds_t count, long long left)
+{
+    sigset_t held, before;
+    struct timespec time = {left / 1000, left % 1000 * 1000000};
+    sigemptyset(&held);
+    for (size_t i = 0; i < sizeof stopping / sizeof stopping[0]; i++)
+        sigaddset(&held, stopping[i]);
+    sigprocmask(SIG_BLOCK, &held, &before);
+    int found = -1;
+    errno = EINTR;
+    if (!stopped)
+        found = ppoll(ready, count, &time, &before);
+    int error = errno;
+    sigprocmask(SIG_SETMASK, &before, NULL);
+    errno = error;
+    return found;
+}
+
+enum link_result link_poll(struct pollfd *ready, nfds_t count, long long until)
+{
+    long long left = until - now_ms();
+    if (stopped)
+        return LINK_STOPPED;
+    int found = poll_unless_stopped(ready, count, left > 0 ? left : 0);
+    if (found > 0)
+        return LINK_DONE;
+    if (found < 0 && errno != EINTR)
+        return LINK_BROKEN;
+    return stopped ? LINK_STOPPED : LINK_LATE;
 }
 
 int link_unblock(int socket)
@@ -56,7 +123,8 @@ int link_listen(uint16_t port, int backlog)
     int on = 1, listening = socket(AF_INET, SOCK_STREAM, 0);
     if (listening < 0)
         return -1;
-    if (setsockopt(listening, SOL_SOCKET, SO_REUSEADDR, &on, sizeof on) < 0 ||
+    if (link_unblock(listening) < 0 ||
+        setsockopt(listening, SOL_SOCKET, SO_REUSEADDR, &on, sizeof on) < 0 ||
         bind(listening, (struct sockaddr *)&address, sizeof address) < 0 || listen(listening, backlog) < 0)
         return give_up(listening);
     return listening;
@@ -65,17 +133,14 @@ int link_listen(uint16_t port, int backlog)
 /* Waits until the socket is ready. */
 static enum link_result wait_for(int socket, short events, long long until)
 {
-    for (;;) {
-        long long left = until - now_ms();
-        if (left <= 0)
+    enum link_result result;
+    do {
+        if (now_ms() >= until)
             return LINK_LATE;
         struct pollfd ready = {.fd = socket, .events = events};
-        int count = poll(&ready, 1, left > 1000000 ? 1000000 : (int)left);
-        if (count > 0)
-            return LINK_DONE;
-        if (count < 0 && errno != EINTR)
-            return LINK_BROKEN;
-    }
+        result = link_poll(&ready, 1, until);
+    } while (result == LINK_LATE);
+    return result;
 }
 
 /* Waits for a connection that was begun. Returns 0, or -1 with errno. */
@@ -83,8 +148,9 @@ static int finish_connect(int socket, long long until)
 {
     int error = 0;
     socklen_t size = sizeof error;
-    if (wait_for(socket, POLLOUT, until) != LINK_DONE) {
-        errno = ETIMEDOUT;
+    enum link_result result = wait_for(socket, POLLOUT, until);
+    if (result != LINK_DONE) {
+        errno = result == LINK_STOPPED ? EINTR : ETIMEDOUT;
         return -1;
     }
     if (getsockopt(socket, SOL_SOCKET, SO_ERROR, &error, &size) < 0)
@@ -123,44 +189,58 @@ static enum link_result after_error(int socket, short events, long long until)
     return errno == ECONNRESET || errno == EPIPE ? LINK_CLOSED : LINK_BROKEN;
 }
 
+enum link_result link_read_some(int socket, void *to, size_t most, size_t *count, long long until)
+{
+    enum link_result result = LINK_DONE;
+    *count = 0;
+    while (result == LINK_DONE) {
+        if (stopped || now_ms() >= until)
+            return stopped ? LINK_STOPPED : LINK_LATE;
+        ssize_t done = recv(socket, to, most, 0);
+        if (done >= 0) {
+            *count = (size_t)done;
+            return done == 0 ? LINK_CLOSED : LINK_DONE;
+        }
+        result = after_error(socket, POLLIN, until);
+    }
+    return result;
+}
+
+enum link_result link_write_some(int socket, const void *from, size_t most, size_t *count, long long until)
+{
+    enum link_result result = LINK_DONE;
+    *count = 0;
+    while (result == LINK_DONE) {
+        if (stopped || now_ms() >= until)
+            return stopped ? LINK_STOPPED : LINK_LATE;
+        ssize_t done = send(socket, from, most, MSG_NOSIGNAL);
+        if (done >= 0) {
+            *count = (size_t)done;
+            return LINK_DONE;
+        }
+        result = after_error(socket, POLLOUT, until);
+    }
+    return result;
+}
+
 enum link_result link_read(int socket, void *to, size_t length, long long until)
 {
     uint8_t *at = to;
-    while (length > 0) {
-        if (now_ms() >= until)
-            return LINK_LATE;
-        ssize_t count = recv(socket, at, length, 0);
-        if (count == 0)
-            return LINK_CLOSED;
-        if (count > 0) {
-            at += count;
-            length -= (size_t)count;
-            continue;
-        }
-        enum link_result result = after_error(socket, POLLIN, until);
-        if (result != LINK_DONE)
-            return result;
-    }
-    return LINK_DONE;
+    enum link_result result = LINK_DONE;
+    size_t count;
+    for (; length > 0 && result == LINK_DONE; at += count, length -= count)
+        result = link_read_some(socket, at, length, &count, until);
+    return result;
 }
 
 enum link_result link_write(int socket, const void *from, size_t length, long long until)
 {
     const uint8_t *at = from;
-    while (length > 0) {
-        if (now_ms() >= until)
-            return LINK_LATE;
-        ssize_t count = send(socket, at, length, MSG_NOSIGNAL);
-        if (count >= 0) {
-            at += count;
-            length -= (size_t)count;
-            continue;
-        }
-        enum link_result result = after_error(socket, POLLOUT, until);
-        if (result != LINK_DONE)
-            return result;
-    }
-    return LINK_DONE;
+    enum link_result result = LINK_DONE;
+    size_t count;
+    for (; length > 0 && result == LINK_DONE; at += count, length -= count)
+        result = link_write_some(socket, at, length, &count, until);
+    return result;
 }
 
 enum link_result link_send(int socket, const uint8_t *message, size_t length, long long until)
@@ -184,4 +264,29 @@ enum link_result link_receive(int socket, uint8_t *message, size_t *length, size
     if (*length == 0 || *length > most)
         return LINK_LONG;
     return link_read(socket, message, *length, until);
+}
+
+int link_unarrived(int socket)
+{
+    int count = 0;
+    return ioctl(socket, SIOCOUTQ, &count) < 0 ? 0 : count;
+}
+
+void link_finish(int socket, long long patience)
+{
+    uint8_t buffer[4096];
+    size_t count, most = 1 << 20; /* of what is read away */
+    int left = link_unarrived(socket);
+    long long until = now_ms() + (left > 0 ? patience : 1000);
+    enum link_result result = shutdown(socket, SHUT_WR) < 0 ? LINK_BROKEN : LINK_DONE;
+    while ((result == LINK_DONE || result == LINK_LATE) && now_ms() < until && most > 0) {
+        long long tick = now_ms() + 100;
+        result = link_read_some(socket, buffer, sizeof buffer, &count, tick < until ? tick : until);
+        most -= count < most ? count : most;
+        int now = link_unarrived(socket);
+        if (now < left)
+            until = now_ms() + (now > 0 ? patience : 1000);
+        left = now;
+    }
+    close(socket);
 }

@@ -5,8 +5,6 @@
 
 #include "lavutremo.h"
 
-enum { KIND_ROLE = 2, KIND_LINKED, KIND_INTERSECTION };
-
 void cursor_on(struct cursor *cursor, const char *line, size_t length)
 {
     *cursor = (struct cursor){.at = line, .end = line + length};
@@ -126,7 +124,7 @@ static int read_parts(struct cursor *cursor, uint8_t *expression)
         count++;
     }
     if (count > 1) {
-        expression[0] = KIND_INTERSECTION;
+        expression[0] = LAVUTREMO_KIND_INTERSECTION;
         expression[1] = count;
     }
     return 1;
@@ -134,14 +132,15 @@ static int read_parts(struct cursor *cursor, uint8_t *expression)
 
 int read_expression(struct cursor *cursor, uint8_t *expression)
 {
+    static const uint8_t kind_of[] = {0, LAVUTREMO_KIND_ENTITY, LAVUTREMO_KIND_ROLE, LAVUTREMO_KIND_LINKED};
     memset(expression, 0, LAVUTREMO_EXPRESSION_BYTES);
     skip_blanks(cursor);
     const char *start = cursor->at;
     int count = read_dotted(cursor, expression + 2);
     if (count == 0)
         return 0;
-    expression[0] = (uint8_t)count;
-    if (count == KIND_ROLE)
+    expression[0] = kind_of[count];
+    if (count == 2)
         return read_parts(cursor, expression);
     skip_blanks(cursor);
     if (take(cursor, "&"))
@@ -161,7 +160,7 @@ int read_credential(struct cursor *cursor, uint8_t *operands)
     uint8_t *body = operands + 4;
     if (!read_expression(cursor, body))
         return 0;
-    if (body[0] == KIND_LINKED && memcmp(body + 2, operands, 2) != 0)
+    if (body[0] == LAVUTREMO_KIND_LINKED && memcmp(body + 2, operands, 2) != 0)
         return fail(cursor, start, "a linked body begins with the issuer");
     return 1;
 }

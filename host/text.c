@@ -8,15 +8,13 @@
 #include "print.h"
 #include "read.h"
 
-enum { SELF = 0x10, NAME, ISSUED, STORED, SENSITIVE, ACCESS };
-
 static const char *const class_words[] = {"issuer-def", "issuer-all", "subject-all"};
 
 static int read_class(struct cursor *cursor, uint8_t *class)
 {
     for (uint8_t i = 0; i < 3; i++)
         if (take_word(cursor, class_words[i])) {
-            *class = (uint8_t)(i + 1);
+            *class = (uint8_t)(LAVUTREMO_CLASS_ISSUER_DEF + i);
             return 1;
         }
     return fail(cursor, cursor->at, "a class is expected: issuer-def, issuer-all or subject-all");
@@ -48,12 +46,12 @@ static const struct kind {
     int (*read)(struct cursor *, uint8_t *operands);
     size_t key_size;
 } kinds[] = {
-    {SELF, "self", read_number, 1},
-    {NAME, "class", read_name, 3},
-    {ISSUED, "issued", read_credential, LAVUTREMO_CREDENTIAL_BYTES},
-    {STORED, "stored", read_credential, LAVUTREMO_CREDENTIAL_BYTES},
-    {SENSITIVE, "sensitive", read_sensitive, 5},
-    {ACCESS, "access", read_access, 5},
+    {LAVUTREMO_RECORD_SELF, "self", read_number, 1},
+    {LAVUTREMO_RECORD_NAME, "class", read_name, 3},
+    {LAVUTREMO_RECORD_ISSUED, "issued", read_credential, LAVUTREMO_CREDENTIAL_BYTES},
+    {LAVUTREMO_RECORD_STORED, "stored", read_credential, LAVUTREMO_CREDENTIAL_BYTES},
+    {LAVUTREMO_RECORD_SENSITIVE, "sensitive", read_sensitive, 5},
+    {LAVUTREMO_RECORD_ACCESS, "access", read_access, 5},
 };
 
 struct record {
@@ -129,7 +127,7 @@ static int compare(const void *a, const void *b)
 /* Whether these two may not stand together. */
 static int repeats(const struct record *one, const struct record *other)
 {
-    return memcmp(one->bytes, other->bytes, kinds[one->bytes[0] - SELF].key_size) == 0;
+    return memcmp(one->bytes, other->bytes, kinds[one->bytes[0] - LAVUTREMO_RECORD_SELF].key_size) == 0;
 }
 
 /* Finds repeats among the sorted records, and tells the later line. */
@@ -149,13 +147,13 @@ static int no_repeats(const struct records *records, struct text_error *error)
 
 const char *record_refusal_words(unsigned number, uint8_t command)
 {
-    if (number == LAVUTREMO_CLASS && command == ISSUED)
+    if (number == LAVUTREMO_CLASS && command == LAVUTREMO_RECORD_ISSUED)
         return "a class rule is broken: an issued credential's head is issuer-def or issuer-all, and its body fits";
-    if (number == LAVUTREMO_CLASS && command == STORED)
+    if (number == LAVUTREMO_CLASS && command == LAVUTREMO_RECORD_STORED)
         return "a class rule is broken: a stored credential's head is subject-all, and so is its body";
-    if (number == LAVUTREMO_CLASS && command == SENSITIVE)
+    if (number == LAVUTREMO_CLASS && command == LAVUTREMO_RECORD_SENSITIVE)
         return "a class rule is broken: a sensitive role is subject-all";
-    if (number == LAVUTREMO_CLASS && command == ACCESS)
+    if (number == LAVUTREMO_CLASS && command == LAVUTREMO_RECORD_ACCESS)
         return "a class rule is broken: the role must be sensitive, and stored <- self";
     if (number == LAVUTREMO_ORDER)
         return "out of order, repeated, self missing, or one too many: 64 names, 64 credentials of each storage, "
@@ -183,16 +181,28 @@ static int write_records(const struct records *records, struct house *house, str
     return 1;
 }
 
+/* Where the text begins: behind a byte order mark of UTF-8. One of UTF-16 is an error. */
+static int skip_mark(const char **text, size_t *length, struct text_error *error)
+{
+    if (*length >= 3 && memcmp(*text, "\xef\xbb\xbf", 3) == 0) {
+        *text += 3;
+        *length -= 3;
+    }
+    if (*length >= 2 && (memcmp(*text, "\xff\xfe", 2) == 0 || memcmp(*text, "\xfe\xff", 2) == 0))
+        return set_error(error, 1, 1, "a byte order mark of UTF-16: the text must be ASCII or UTF-8");
+    return 1;
+}
+
 int text_to_house(const char *text, size_t length, struct house *house, struct text_error *error)
 {
-    static struct records records;
+    struct records records;
     records.count = records.size = 0;
-    if (!read_lines(text, length, &records, error))
+    if (!skip_mark(&text, &length, error) || !read_lines(text, length, &records, error))
         return 0;
     qsort(records.list, records.count, sizeof records.list[0], compare);
     if (!no_repeats(&records, error))
         return 0;
-    if (records.count == 0 || records.list[0].bytes[0] != SELF)
+    if (records.count == 0 || records.list[0].bytes[0] != LAVUTREMO_RECORD_SELF)
         return set_error(error, 1, 1, "no line says self");
     return write_records(&records, house, error);
 }
@@ -200,21 +210,21 @@ int text_to_house(const char *text, size_t length, struct house *house, struct t
 static void print_record(FILE *to, const uint8_t *record)
 {
     const uint8_t *operands = record + 1;
-    fprintf(to, "%s ", kinds[record[0] - SELF].word);
+    fprintf(to, "%s ", kinds[record[0] - LAVUTREMO_RECORD_SELF].word);
     switch (record[0]) {
-    case SELF:
+    case LAVUTREMO_RECORD_SELF:
         fprintf(to, "%u", number_at(operands));
         break;
-    case NAME:
-        fprintf(to, "%u %s", number_at(operands), class_words[operands[2] - 1]);
+    case LAVUTREMO_RECORD_NAME:
+        fprintf(to, "%u %s", number_at(operands), class_words[operands[2] - LAVUTREMO_CLASS_ISSUER_DEF]);
         break;
-    case ISSUED:
-    case STORED:
+    case LAVUTREMO_RECORD_ISSUED:
+    case LAVUTREMO_RECORD_STORED:
         print_credential(to, operands);
         break;
     default:
         print_role(to, operands);
-        fprintf(to, record[0] == SENSITIVE ? " ack " : " ");
+        fprintf(to, record[0] == LAVUTREMO_RECORD_SENSITIVE ? " ack " : " ");
         print_role(to, operands + 4);
     }
     fprintf(to, "\n");

@@ -11,7 +11,8 @@
  *
  * A role is entity.name, a linked role entity.name.name, an intersection two to four roles with & between, ascending by
  * entity, then name. A comment runs from # to the end of its line. Lines may stand in any order: the records are
- * written in the order of their commands, ascending by bytes. A repeated record is an error.
+ * written in the order of their commands, ascending by bytes. A repeated record is an error. A byte order mark of UTF-8
+ * before the first line is skipped.
  */
 #ifndef TEXT_H
 #define TEXT_H

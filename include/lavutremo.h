@@ -40,12 +40,58 @@
  *
  * The calls allocate no memory. The stack that they need, in bytes, measured on x86-64 by painting it (make stack):
  *   check 30,000, begin 40,000, question 39,000, report 91,000, take 146,000, reply 141,000.
+ * A thread that calls them needs a stack of 256 KiB or more: 128 KiB are too small for take and reply.
  */
 #ifndef LAVUTREMO_H
 #define LAVUTREMO_H
 
 #include <stddef.h>
 #include <stdint.h>
+
+/* The version of this header and of the library that comes with it. */
+#define LAVUTREMO_VERSION "1.0.0"
+
+/* The first byte of a message's command. */
+enum {
+    LAVUTREMO_COMMAND_CREDENTIAL = 0x01,
+    LAVUTREMO_COMMAND_OPEN = 0x02,
+    LAVUTREMO_COMMAND_CHILD = 0x03, /* edge with a new child */
+    LAVUTREMO_COMMAND_EDGE = 0x04,  /* edge between old nodes */
+    LAVUTREMO_COMMAND_MARK = 0x05,
+    LAVUTREMO_COMMAND_END = 0x06
+};
+
+/* The first byte of a record of tables. */
+enum {
+    LAVUTREMO_RECORD_SELF = 0x10,
+    LAVUTREMO_RECORD_NAME = 0x11,
+    LAVUTREMO_RECORD_ISSUED = 0x12, /* issuer-stored credential */
+    LAVUTREMO_RECORD_STORED = 0x13, /* subject-stored credential */
+    LAVUTREMO_RECORD_SENSITIVE = 0x14,
+    LAVUTREMO_RECORD_ACCESS = 0x15
+};
+
+/* The kind of an expression, its first byte. */
+enum {
+    LAVUTREMO_KIND_ENTITY = 1,
+    LAVUTREMO_KIND_ROLE = 2,
+    LAVUTREMO_KIND_LINKED = 3,
+    LAVUTREMO_KIND_INTERSECTION = 4,
+    LAVUTREMO_KIND_GOAL = 5 /* in a graph only */
+};
+
+/* The class of a role name. */
+enum { LAVUTREMO_CLASS_ISSUER_DEF = 1, LAVUTREMO_CLASS_ISSUER_ALL = 2, LAVUTREMO_CLASS_SUBJECT_ALL = 3 };
+
+/* The kind of an edge. */
+enum {
+    LAVUTREMO_EDGE_IMPLICATION = 1,
+    LAVUTREMO_EDGE_LINKING_MONITOR = 2,
+    LAVUTREMO_EDGE_LINKING_SOLUTION = 3,
+    LAVUTREMO_EDGE_LINKING_IMPLICATION = 4,
+    LAVUTREMO_EDGE_INTERSECTION = 5,
+    LAVUTREMO_EDGE_CONTROL = 6
+};
 
 /* Why a call is refused. */
 #define LAVUTREMO_LENGTH 1u   /* a lent length outside the sizes */
