@@ -75,15 +75,13 @@ struct delivery {
     int release;
 };
 
-/* Prints the negotiation. The file is released only if it can be read. */
+/* Prints the negotiation. Returns 1, or 0 if there is no memory. */
 static int print_delivery(struct delivery *delivery, unsigned long number, const struct course *course)
 {
     if (!printout_open(&delivery->printout))
         return 0;
     FILE *to = delivery->printout.to;
     fprintf(to, "connection %lu\n", number);
-    if (delivery->release)
-        delivery->release = source_open(&service.source);
     source_print(&service.source, to);
     printout_course(&delivery->printout, &service.fresh, course, delivery->date);
     return printout_done(&delivery->printout);
@@ -128,7 +126,7 @@ static void serve_one(int connection, unsigned long number)
     if (link_unblock(connection) < 0)
         return;
     negotiate(&service.fresh, connection, &bounds, &course);
-    delivery.release = course_status(&course) == STATUS_SUCCESS;
+    delivery.release = course_status(&course) == STATUS_SUCCESS && source_open(&service.source);
     int printed = print_delivery(&delivery, number, &course);
     keep_delivery(&delivery, number, printed);
     if (course.over != OVER_LINK)
