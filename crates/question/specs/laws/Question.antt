@@ -86,7 +86,7 @@ pub question-asked : {c f e : List ℕ} {C : List Credential} {x y : Expression}
 question-asked {c} {f} {e} h = sym (question-read c f e _ _ _ (sized-true (h .sizes)) (h .credentials) (h .first) (h .second))
 
 -- a refusal number
-abbrev Refused : ℕ → Type 0
+abbrev pub Refused : ℕ → Type 0
 Refused n = (n ≡ 1) ⊎ Refusal n
 
 -- the question that the lent bytes ask has the answer n
