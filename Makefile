@@ -7,6 +7,7 @@
 #              on lists of calls for two runs (SEED, RANDOM_COUNT, DAMAGED_COUNT, TABLES_COUNT, NEGOTIATIONS_COUNT,
 #              TAKES_COUNT, HONEST_COUNT, ADVERSARIAL_COUNT, TWO_RUNS_COUNT)
 # make bench   times the engine beside the reference
+# make count   counts the instructions of every row of the benchmark, and the bytes that it copies
 # make reading writes docs/READING.md, the definitions that the promises rest on
 # make clean   removes what the others made
 
@@ -41,7 +42,7 @@ END_PARTS = $(HOUSE_PARTS) host/end.c
 LINK_PARTS = $(END_PARTS) host/negotiate.c host/link.c host/printout.c host/arguments.c
 HEADERS := include/lavutremo.h $(wildcard host/*.h)
 
-.PHONY: lib host demo stack test fuzz bench reading clean rt gcc g++ cargo
+.PHONY: lib host demo stack test fuzz bench count reading clean rt gcc g++ cargo valgrind
 
 lib: $(LIB)
 
@@ -62,6 +63,9 @@ fuzz: build/fuzz
 
 bench: build/bench
 	@build/bench
+
+count: build/bench build/replay build/copied
+	@build/bench count
 
 reading: build/reading
 	@build/reading
@@ -113,6 +117,15 @@ build/bench: $(REFERENCE) $(CALLS) $(BENCH) $(ENGINE) $(MEASURE) | cargo
 	cargo build --quiet --release --locked --manifest-path bench/Cargo.toml
 	@cp $(CARGO_TARGET_DIR)/release/bench $@
 
+# Bound when it starts: the search for a function at its first call would count.
+build/replay: bench/replay.c include/lavutremo.h $(ENGINE) | gcc valgrind
+	@mkdir -p build
+	gcc $(CFLAGS) -pthread -Wl,-z,now -o $@ bench/replay.c $(ENGINE)
+
+build/copied: bench/replay.c include/lavutremo.h $(ENGINE) | gcc
+	@mkdir -p build
+	gcc $(CFLAGS) -DCOPIED -pthread -Wl,--wrap=memcpy -o $@ bench/replay.c $(ENGINE)
+
 build/reading: $(READING) | cargo
 	cargo build --quiet --release --locked --manifest-path reading/Cargo.toml
 	@cp $(CARGO_TARGET_DIR)/release/reading $@
@@ -125,3 +138,6 @@ gcc g++:
 
 cargo:
 	@command -v cargo >/dev/null || { echo 'cargo is missing: install Rust, as from https://rustup.rs' >&2; exit 1; }
+
+valgrind:
+	@command -v valgrind >/dev/null || { echo 'valgrind is missing: install it, as by apt-get install valgrind' >&2; exit 1; }

@@ -3,6 +3,8 @@
 //!
 //! A reply changes what it is lent, so each call has its own copy, which is made before the clock starts.
 
+use crate::calls::{Call, Recorder};
+use crate::count::{Counted, Group, Pick};
 use reference::ends::calls::{Calls, Reference};
 use reference::message::take::SCRATCH_BYTES;
 use reference::message::MOST_MESSAGE_BYTES;
@@ -19,7 +21,7 @@ const MOST_CASE: f64 = 80.0;
 const MOST_LARGE: f64 = 1_900.0;
 const MOST_REPLY: f64 = 12_000.0;
 
-struct Engine;
+pub struct Engine;
 
 impl Calls for Engine {
     fn begin(&mut self, tables: &[u8], negotiation: &mut [u8], other: u16, wanted: Role) -> u64 {
@@ -120,6 +122,10 @@ fn negotiate(calls: &mut impl Calls, two: &Two, messages: usize, buffers: &mut B
     given
 }
 
+fn whole_name(two: &Two, messages: usize) -> String {
+    format!("{}, {messages} messages, all calls of both ends", two.name)
+}
+
 fn whole_time(calls: &mut impl Calls, two: &Two, messages: usize, buffers: &mut Buffers) -> f64 {
     let start = Instant::now();
     negotiate(calls, two, messages, buffers);
@@ -202,7 +208,7 @@ impl Row {
             exit(1);
         }
         Row {
-            set: format!("{}, {messages} messages, all calls of both ends", two.name),
+            set: whole_name(two, messages),
             sizes: sizes(&buffers[0].negotiations[0]),
             bytes: given.iter().map(Vec::len).sum(),
             engine: steady(|| whole_time(&mut Engine, two, messages, &mut buffers[0])),
@@ -296,4 +302,29 @@ pub fn repeat(words: &str, times: u32) {
     for giving in long_replies().iter().filter(|giving| giving.name.contains(words)) {
         (0..times).for_each(|_| assert!(reply_time(&mut Engine, giving) > 0.0));
     }
+}
+
+/// Whole, then each reply.
+fn counted_of(two: &Two) -> Vec<Counted> {
+    let (messages, mut recorder) = (message_count(two), Recorder::default());
+    negotiate(&mut recorder, two, messages, &mut Buffers::new());
+    let mut rows = vec![Counted { name: whole_name(two, messages), calls: recorder.calls }];
+    rows.extend(replies_of(two, messages).iter().map(counted_reply));
+    rows
+}
+
+pub fn call(tables: &[u8], negotiation: &[u8]) -> Call {
+    let Lent { negotiation, reply, scratch } = Lent::new(negotiation.to_vec());
+    Call::reply(tables, &negotiation, &reply, &scratch)
+}
+
+fn counted_reply(giving: &Giving) -> Counted {
+    Counted::of(format!("reply: {}", giving.name), call(&giving.tables, &giving.negotiation))
+}
+
+/// The same calls, to count.
+pub fn counted() -> Vec<Group> {
+    let mut rows = [counted_of(&case()), counted_of(&large())].concat();
+    rows.extend(long_replies().iter().map(counted_reply));
+    vec![Group { rows, pick: Pick::All }]
 }

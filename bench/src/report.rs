@@ -1,5 +1,7 @@
 //! Times reports on negotiations beside the reference's, in microseconds. All are sound, so that nothing is skipped.
 
+use crate::calls::Call;
+use crate::count::{Counted, Group, Pick};
 use crate::{least, time};
 use reference::negotiation::large::large;
 use reference::negotiation::report;
@@ -110,4 +112,18 @@ pub fn table() {
     large().iter().map(Row::measure).for_each(&mut add);
     let worst = rows.iter().max_by(|a, b| a.engine.total_cmp(&b.engine)).unwrap();
     println!("worst report: {:.2} ({})", worst.engine, worst.set);
+}
+
+/// The same reports, to count.
+pub fn counted() -> Vec<Group> {
+    let row = |shaped: &Shaped| {
+        let call = Call::report(&shaped.tables, &encode(&shaped.negotiation));
+        Counted::of(format!("report: {}", shaped.name), call)
+    };
+    let rows = |all: Vec<Shaped>| all.iter().map(row).collect();
+    vec![
+        Group { rows: rows(small()), pick: Pick::All },
+        Group { rows: rows(random_full(&mut Random::new(1), RANDOM)), pick: Pick::MedianAndWorst },
+        Group { rows: rows(large()), pick: Pick::All },
+    ]
 }

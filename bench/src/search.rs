@@ -1,7 +1,8 @@
 //! Looks for the credentials whose questions take the engine longest: from random sets and from the known shapes, by
 //! small changes that are kept where the time grew.
 
-use crate::{ask, ask_reference, least, one_more};
+use crate::least;
+use crate::question::{ask, ask_reference, one_more};
 use reference::random::Random;
 use reference::rules::expression::*;
 use reference::rules::question::{self, Lent, Question, MOST_CREDENTIALS};

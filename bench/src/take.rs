@@ -2,6 +2,8 @@
 //!
 //! A take changes what it is lent, so each call has its own copy, which is made before the clock starts.
 
+use crate::calls::Call;
+use crate::count::{Counted, Group, Pick};
 use reference::message::large::{all_again, long_messages, onto_full};
 use reference::message::shapes::{marked_takes, size_runs};
 use reference::message::take::{self, Lent};
@@ -115,6 +117,12 @@ fn is_full(run: &Run) -> bool {
     sizes(&run.lent.negotiation) == [MOST_NODES, MOST_EDGES, MOST_SHOWN]
 }
 
+/// Case (i), messages at the sizes, and long ones.
+fn named() -> Vec<Run> {
+    let sized = size_runs().into_iter().filter(|run| run.answer == 0).collect();
+    [marked_takes(true).0, sized, long_messages()].concat()
+}
+
 pub fn table() {
     heading();
     let mut rows: Vec<Row> = Vec::new();
@@ -122,12 +130,8 @@ pub fn table() {
         row.print();
         rows.push(row);
     };
-    let sized = size_runs().into_iter().filter(|run| run.answer == 0);
-    marked_takes(true).0.iter().map(Row::measure).for_each(&mut add);
-    sized.map(|run| Row::measure(&run)).for_each(&mut add);
-    long_messages().iter().map(Row::measure).for_each(&mut add);
-    let onto_full = onto_full();
-    let (full, large): (Vec<Run>, Vec<Run>) = onto_full.into_iter().partition(is_full);
+    named().iter().map(Row::measure).for_each(&mut add);
+    let (full, large): (Vec<Run>, Vec<Run>) = onto_full().into_iter().partition(is_full);
     slowest("short messages, 128 nodes, 256 edges and 64 credentials", &full).into_iter().for_each(&mut add);
     slowest("short messages, other large negotiations", &large).into_iter().for_each(&mut add);
     slowest("large negotiations by one message", &all_again()).into_iter().for_each(&mut add);
@@ -137,8 +141,17 @@ pub fn table() {
 
 /// Takes the messages whose name has these words again and again, for a profile.
 pub fn repeat(words: &str, times: usize) {
-    let runs = [marked_takes(true).0, size_runs(), long_messages()].concat();
-    for run in runs.iter().filter(|run| run.answer == 0 && run.name.contains(words)) {
+    for run in named().iter().filter(|run| run.name.contains(words)) {
         median(&run.lent, engine, times);
     }
+}
+
+/// The same takes, to count.
+pub fn counted() -> Vec<Group> {
+    let row = |run: &Run| Counted::of(format!("take: {}", run.name), Call::take(&run.lent));
+    let rows = |runs: Vec<Run>| runs.iter().map(row).collect();
+    let (full, large): (Vec<Run>, Vec<Run>) = onto_full().into_iter().partition(is_full);
+    let mut groups = vec![Group { rows: rows(named()), pick: Pick::All }];
+    groups.extend([full, large, all_again()].map(|runs| Group { rows: rows(runs), pick: Pick::Most(SHOWN) }));
+    groups
 }
