@@ -54,7 +54,7 @@ impl Drop for Replay {
 }
 
 /// The folder of this program.
-fn here() -> PathBuf {
+pub fn here() -> PathBuf {
     env::current_exe().unwrap().parent().unwrap().to_path_buf()
 }
 
@@ -90,6 +90,11 @@ impl Counter {
         self.replay.row(calls);
         self.rows += 1;
         totals(&self.dumped()).unwrap_or_else(|| fail("callgrind wrote no count"))
+    }
+
+    /// Removes the profile of the last row.
+    pub fn forget(&self) {
+        let _ = fs::remove_file(self.dumped());
     }
 }
 

@@ -7,17 +7,19 @@
 //! the words so many times, for a profile, and `bench reply repeat WORDS TIMES` gives such replies.
 
 mod calls;
+mod case;
+mod change;
 mod count;
 mod counter;
 mod question;
+mod question_search;
 mod reply;
 mod report;
-mod report_search;
 mod search;
 mod tables;
 mod take;
-mod take_search;
 
+use case::Kind;
 use std::env;
 use std::hint::black_box;
 use std::process::exit;
@@ -41,15 +43,37 @@ fn time(call: impl Fn() -> u64) -> f64 {
     least(&call, count.ceil() as u32, 30)
 }
 
+fn usage() -> ! {
+    println!("usage: bench [count | tables | report | take | reply | search [take | reply | report] STEPS [SEED]]");
+    exit(2);
+}
+
+fn number(text: &str) -> u32 {
+    text.parse().unwrap_or_else(|_| usage())
+}
+
+/// Questions by time, the others by instructions.
+fn search(arguments: &[&str]) {
+    let (kind, rest) = match arguments {
+        ["take", rest @ ..] => (Some(Kind::Take), rest),
+        ["reply", rest @ ..] => (Some(Kind::Reply), rest),
+        ["report", rest @ ..] => (Some(Kind::Report), rest),
+        rest => (None, rest),
+    };
+    let (steps, seed) = match rest {
+        [steps] => (number(steps), 1),
+        [steps, seed] => (number(steps), number(seed).into()),
+        _ => usage(),
+    };
+    match kind {
+        Some(kind) => search::search(kind, steps, seed),
+        None => question_search::search(steps, seed),
+    }
+}
+
 fn main() {
     let arguments: Vec<String> = env::args().skip(1).collect();
     let arguments: Vec<&str> = arguments.iter().map(String::as_str).collect();
-    let number = |text: &str| {
-        text.parse().unwrap_or_else(|_| {
-            println!("{text} is no number");
-            exit(2);
-        })
-    };
     match arguments[..] {
         [] => {
             question::table();
@@ -69,15 +93,7 @@ fn main() {
         ["take", "repeat", words, times] => take::repeat(words, number(times) as usize),
         ["reply"] => reply::table(),
         ["reply", "repeat", words, times] => reply::repeat(words, number(times)),
-        ["report", "search", steps] => report_search::search(number(steps), 1),
-        ["report", "search", steps, seed] => report_search::search(number(steps), number(seed).into()),
-        ["take", "search", steps] => take_search::search(number(steps), 1),
-        ["take", "search", steps, seed] => take_search::search(number(steps), number(seed).into()),
-        ["search", steps] => search::search(number(steps), 1),
-        ["search", steps, seed] => search::search(number(steps), number(seed).into()),
-        _ => {
-            println!("usage: bench [tables | report | take | reply | [report | take] search STEPS [SEED]]");
-            exit(2);
-        }
+        ["search", ref rest @ ..] => search(rest),
+        _ => usage(),
     }
 }

@@ -43,18 +43,18 @@ impl Calls for Engine {
 
 /// The buffers of a reply.
 #[derive(Clone, PartialEq)]
-struct Lent {
+pub struct Lent {
     negotiation: Vec<u8>,
-    reply: Vec<u8>,
+    pub reply: Vec<u8>,
     scratch: Vec<u8>,
 }
 
 impl Lent {
-    fn new(negotiation: Vec<u8>) -> Lent {
+    pub fn new(negotiation: Vec<u8>) -> Lent {
         Lent { negotiation, reply: vec![0; MOST_MESSAGE_BYTES], scratch: vec![0; SCRATCH_BYTES] }
     }
 
-    fn give(&mut self, calls: &mut impl Calls, tables: &[u8]) -> u64 {
+    pub fn give(&mut self, calls: &mut impl Calls, tables: &[u8]) -> u64 {
         calls.reply(tables, &mut self.negotiation, &mut self.reply, &mut self.scratch)
     }
 }
@@ -175,26 +175,26 @@ fn sizes(negotiation: &[u8]) -> [usize; 3] {
     [negotiation.nodes.len(), negotiation.edges.len(), negotiation.shown.len()]
 }
 
+/// Ends the program if the reply is refused or differs from the reference's. Gives the buffers after it and its length.
+pub fn must_agree(giving: &Giving) -> (Lent, usize) {
+    let [mut by_engine, mut expected] = [(); 2].map(|()| Lent::new(giving.negotiation.clone()));
+    let answer = by_engine.give(&mut Engine, &giving.tables);
+    let reference = expected.give(&mut Reference::default(), &giving.tables);
+    let same = by_engine == expected;
+    if answer % 256 != 0 || answer != reference || !same {
+        println!("{}: engine {answer}, reference {reference}, same bytes: {same}", giving.name);
+        exit(1);
+    }
+    (by_engine, (answer / 256) as usize)
+}
+
 impl Row {
-    /// Ends the program if the reply is refused or differs from the reference's.
     fn of_reply(giving: &Giving) -> Row {
-        let mut lent = [Lent::new(giving.negotiation.clone()), Lent::new(giving.negotiation.clone())];
-        let answers =
-            [lent[0].give(&mut Engine, &giving.tables), lent[1].give(&mut Reference::default(), &giving.tables)];
-        if answers[0] % 256 != 0 || answers[0] != answers[1] || lent[0] != lent[1] {
-            println!(
-                "{}: engine {}, reference {}, same bytes: {}",
-                giving.name,
-                answers[0],
-                answers[1],
-                lent[0] == lent[1]
-            );
-            exit(1);
-        }
+        let (lent, bytes) = must_agree(giving);
         Row {
             set: giving.name.clone(),
-            sizes: sizes(&lent[0].negotiation),
-            bytes: (answers[0] / 256) as usize,
+            sizes: sizes(&lent.negotiation),
+            bytes,
             engine: steady(|| reply_time(&mut Engine, giving)),
             reference: median(3, || reply_time(&mut Reference::default(), giving)),
         }

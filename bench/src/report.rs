@@ -38,7 +38,7 @@ struct Row {
     reference: f64,
 }
 
-pub fn sizes(negotiation: &Negotiation) -> [usize; 5] {
+fn sizes(negotiation: &Negotiation) -> [usize; 5] {
     let Negotiation { nodes, edges, shown, .. } = negotiation;
     let of_kind = |kind| edges.iter().filter(|edge| edge.kind == kind).count();
     [nodes.len(), edges.len(), of_kind(IMPLICATION), of_kind(LINKING_IMPLICATION), shown.len()]

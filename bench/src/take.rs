@@ -6,7 +6,7 @@ use crate::calls::Call;
 use crate::count::{Counted, Group, Pick};
 use reference::message::large::{all_again, long_messages, onto_full};
 use reference::message::shapes::{marked_takes, size_runs};
-use reference::message::take::{self, Lent};
+use reference::message::take::{self, Lent, SCRATCH_BYTES};
 use reference::message::writer::Run;
 use reference::negotiation::{decode, MOST_EDGES, MOST_NODES, MOST_SHOWN};
 use std::process::exit;
@@ -24,7 +24,7 @@ fn by_reference(lent: &mut Lent) -> u64 {
 }
 
 /// Microseconds a call: the median of so many.
-pub fn median(lent: &Lent, call: fn(&mut Lent) -> u64, count: usize) -> f64 {
+fn median(lent: &Lent, call: fn(&mut Lent) -> u64, count: usize) -> f64 {
     let mut times: Vec<f64> = Vec::new();
     let mut used = lent.clone();
     for _ in 0..count {
@@ -39,6 +39,12 @@ pub fn median(lent: &Lent, call: fn(&mut Lent) -> u64, count: usize) -> f64 {
     times[count / 2]
 }
 
+/// The take of a message that is accepted.
+pub fn run(name: String, tables: Vec<u8>, negotiation: Vec<u8>, message: Vec<u8>) -> Run {
+    let lent = Lent { tables, negotiation, message, scratch: vec![0; SCRATCH_BYTES] };
+    Run { name, lent, answer: 0 }
+}
+
 /// Ends the program if the message is refused or the bytes differ from the reference's.
 pub fn must_agree(run: &Run) {
     let [mut by_engine, mut expected] = [run.lent.clone(), run.lent.clone()];
@@ -51,13 +57,13 @@ pub fn must_agree(run: &Run) {
 }
 
 #[derive(Clone)]
-pub struct Row {
+struct Row {
     set: String,
     /// Nodes, edges and credentials before the message and after it.
     before: [usize; 3],
     after: [usize; 3],
     bytes: usize,
-    pub engine: f64,
+    engine: f64,
     reference: f64,
 }
 
@@ -67,7 +73,7 @@ fn sizes(negotiation: &[u8]) -> [usize; 3] {
 }
 
 impl Row {
-    pub fn measure(run: &Run) -> Row {
+    fn measure(run: &Run) -> Row {
         must_agree(run);
         let mut after = run.lent.clone();
         engine(&mut after);
@@ -83,7 +89,7 @@ impl Row {
         }
     }
 
-    pub fn print(&self) {
+    fn print(&self) {
         let Row { set, before, after, bytes, engine, reference } = self;
         let sizes = |[nodes, edges, shown]: [usize; 3]| format!("{nodes}, {edges}, {shown}");
         println!(
@@ -106,7 +112,7 @@ fn slowest(what: &str, runs: &[Run]) -> Vec<Row> {
     timed.iter().take(SHOWN).map(|(_, run)| Row::measure(run)).collect()
 }
 
-pub fn heading() {
+fn heading() {
     println!(
         "{:<62} {:>12} {:>12} {:>5} {:>9} {:>10} {:>7}",
         "take, microseconds; nodes, edges, credentials", "before", "after", "bytes", "engine", "reference", "ratio"
