@@ -6,22 +6,23 @@ use crate::{report, take};
 use reference::message::large::{all_again, long_messages};
 use reference::message::writer::{Run, Writer};
 use reference::message::*;
+use reference::negotiation::growth::Growth;
 use reference::negotiation::large::large;
-use reference::negotiation::sample::Extent;
+use reference::negotiation::sample::{Extent, ALL_CLASSES};
 use reference::negotiation::shapes::Shaped;
 use reference::negotiation::states::{propagated, Propagated};
 use reference::negotiation::*;
 use reference::random::Random;
 use reference::reply::large::{long_replies, Giving};
-use reference::rules::classes::Class::SubjectAll;
-use reference::rules::expression::Role;
+use reference::rules::classes::Class;
+use reference::rules::expression::{Expression, Role};
 use reference::rules::sample::World;
-use reference::tables;
 use reference::tables::records::*;
-use reference::tables::sample::{House, FULL};
+use reference::tables::sample::House;
 
-/// How many random ones are among the starts.
-const RANDOM: usize = 40;
+/// How many random ones are made, and how many of them are among the starts.
+const RANDOM: usize = 2000;
+const RANDOM_STARTS: usize = 60;
 
 #[derive(Clone, Copy, PartialEq)]
 pub enum Kind {
@@ -59,6 +60,20 @@ fn records(mut tables: &[u8]) -> Vec<Record> {
     records
 }
 
+/// The names of tables with their classes; one where there is none.
+pub fn names_of(records: &[Record]) -> Vec<(u16, Class)> {
+    let name = |record: &Record| match record {
+        Record::Name(name, class) => Some((*name, *class)),
+        _ => None,
+    };
+    let names: Vec<(u16, Class)> = records.iter().filter_map(name).collect();
+    if names.is_empty() {
+        vec![(1, Class::SubjectAll)]
+    } else {
+        names
+    }
+}
+
 fn commands(mut message: &[u8]) -> Vec<Command> {
     let mut commands = Vec::new();
     while let Some(bytes) = next_command(message) {
@@ -70,10 +85,9 @@ fn commands(mut message: &[u8]) -> Vec<Command> {
 
 impl Case {
     fn new(name: &str, tables: &[u8], negotiation: Negotiation, message: &[u8]) -> Case {
-        let tables::Tables { own, names, .. } = tables::decode(tables).unwrap();
-        let names = if names.is_empty() { vec![(1, SubjectAll)] } else { names };
-        let house = House { world: World::new(64, 4), own, names };
-        Case { name: name.into(), house, records: records(tables), negotiation, commands: commands(message) }
+        let records = records(tables);
+        let house = House { world: World::new(64, 4), own: negotiation.own, names: names_of(&records) };
+        Case { name: name.into(), house, records, negotiation, commands: commands(message) }
     }
 
     fn tables(&self) -> Vec<u8> {
@@ -172,18 +186,34 @@ fn of_giving(Giving { name, tables, negotiation }: &Giving) -> Case {
     Case::new(name, tables, decode(negotiation).unwrap(), &[])
 }
 
-/// A graph of some size, or none, with many stored credentials over the same few entities and names.
+/// Full storage over few entities and names, and a graph of some size over the same.
 fn dense(random: &mut Random) -> Case {
-    let extent = Extent { nodes: random.between(1, 100), edges: random.between(0, 150), shown: random.between(0, 32) };
-    let grown = random.grown_to(extent);
-    let house = grown.tables.house;
-    let tables = random.sample_of(house.clone(), FULL).records.concat();
-    let mut negotiation = grown.negotiation;
-    if random.percent(30) {
-        let wanted = Role { entity: house.own, name: house.names[0].0 };
-        negotiation = Negotiation::fresh(Side::Mediator, negotiation.own, negotiation.other, wanted);
+    let (most_entities, name_count) = (random.between(3, 24), random.between(3, 12));
+    let house = random.house_among(most_entities, name_count);
+    let sensitive = random.between(0, 32);
+    let tables = random.sample_of(house.clone(), [name_count, 64, 64, sensitive, 0]).records.concat();
+    let side = if random.percent(50) { Side::Mediator } else { Side::Requester };
+    let negotiation = graph(random, &house, side);
+    Case { house, ..Case::new("random, full storage", &tables, negotiation, &[]) }
+}
+
+/// A graph over the entities and names of a house.
+fn graph(random: &mut Random, house: &House, side: Side) -> Negotiation {
+    let other = (1..).map(|i| house.world.number(i)).find(|&other| other != house.own).unwrap();
+    let wanted = random.role_of(house, &ALL_CLASSES).unwrap();
+    let asked = if side == Side::Mediator { wanted } else { Role { entity: 0, name: 0 } };
+    let mut negotiation = Negotiation::fresh(side, house.own, other, asked);
+    if side == Side::Mediator && random.percent(30) {
+        return negotiation;
     }
-    Case { house, ..Case::new("random, many stored credentials", &tables, negotiation, &[]) }
+    let extent = Extent { nodes: random.between(1, 100), edges: random.between(0, 150), shown: 0 };
+    for _ in 0..random.between(0, 40) {
+        negotiation.shown.extend(random.stored(house, &ALL_CLASSES).filter(|new| !negotiation.shown.contains(new)));
+    }
+    let subject = negotiation.entity(Side::Requester);
+    let form = Form::Target(Expression::Role(wanted));
+    let primary = Node { form, subject, verifier: Side::Mediator, state: 0 };
+    Growth::new(random, house, negotiation, primary).run(extent)
 }
 
 /// The known cases and random ones.
@@ -193,10 +223,18 @@ pub fn starts(random: &mut Random, kind: Kind) -> Vec<Case> {
         Kind::Reply => long_replies().iter().map(of_giving).collect(),
         Kind::Report => large().iter().map(of_shaped).collect(),
     };
-    if kind == Kind::Reply {
-        starts.extend((0..RANDOM).map(|_| dense(random)));
-    } else if kind == Kind::Report {
-        starts.extend(report::random_full(random, RANDOM).iter().map(of_shaped));
+    match kind {
+        Kind::Take => {}
+        Kind::Reply => starts.extend(long_random(random)),
+        Kind::Report => starts.extend(report::random_full(random, RANDOM_STARTS).iter().map(of_shaped)),
     }
     starts
+}
+
+/// Those of the random replies that are longest: they make most moves.
+fn long_random(random: &mut Random) -> Vec<Case> {
+    let length = |case: &Case| case.accepted(Kind::Reply).map_or(0, |accepted| accepted.message.len());
+    let mut cases: Vec<(usize, Case)> = (0..RANDOM).map(|_| dense(random)).map(|case| (length(&case), case)).collect();
+    cases.sort_by_key(|(length, _)| std::cmp::Reverse(*length));
+    cases.into_iter().take(RANDOM_STARTS).map(|(_, case)| case).collect()
 }

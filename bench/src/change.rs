@@ -1,6 +1,6 @@
 //! Changes of tables, graph and message. Many are refused; a search keeps those that are not.
 
-use crate::case::{Case, Kind};
+use crate::case::{names_of, Case, Kind};
 use reference::message::Command;
 use reference::negotiation::faults::NEGOTIATION_FAULTS;
 use reference::negotiation::sample::ALL_CLASSES;
@@ -8,7 +8,8 @@ use reference::negotiation::*;
 use reference::random::Random;
 use reference::rules::classes::Class::{IssuerAll, IssuerDef, SubjectAll};
 use reference::rules::expression::{Credential, Expression, Role};
-use reference::tables::records::{Guard, Record};
+use reference::tables::records::{encode_record, most_records, Guard, Record};
+use std::mem;
 
 /// A part of a list in another order.
 fn reorder<T>(random: &mut Random, items: &mut [T]) {
@@ -32,7 +33,7 @@ fn head_of(record: &Record) -> Option<Role> {
     }
 }
 
-/// The head of a stored credential, of the asked storage or the other.
+/// The head of a stored credential.
 fn stored_head(random: &mut Random, records: &[Record]) -> Option<Role> {
     let heads: Vec<Role> = records.iter().filter_map(head_of).collect();
     (!heads.is_empty()).then(|| heads[random.below(heads.len())])
@@ -59,21 +60,69 @@ fn record(random: &mut Random, case: &Case) -> Option<Record> {
     Some(match random.below(8) {
         0..=3 => Record::IssuerStored(stored(random, case, true)?),
         4..=6 => Record::SubjectStored(stored(random, case, false)?),
-        _ => Record::Sensitive(Guard {
-            role: random.role_of(&case.house, &[SubjectAll])?,
-            by: random.role_of(&case.house, &ALL_CLASSES)?,
-        }),
+        _ => guard(random, case)?,
     })
+}
+
+fn guard(random: &mut Random, case: &Case) -> Option<Record> {
+    let (role, by) = (random.role_of(&case.house, &[SubjectAll])?, random.role_of(&case.house, &ALL_CLASSES)?);
+    Some(Record::Sensitive(Guard { role, by }))
+}
+
+/// The places of the records of the same command.
+fn places(records: &[Record], like: &Record) -> Vec<usize> {
+    let is_like = |place: &usize| mem::discriminant(&records[*place]) == mem::discriminant(like);
+    (0..records.len()).filter(is_like).collect()
 }
 
 fn change_tables(random: &mut Random, case: &mut Case) {
     let Some(new) = record(random, case) else { return };
-    let like = |old: &Record| std::mem::discriminant(old) == std::mem::discriminant(&new);
-    let places: Vec<usize> = (0..case.records.len()).filter(|&place| like(&case.records[place])).collect();
+    let places = places(&case.records, &new);
     match random.below(4) {
         0 if !places.is_empty() => drop(case.records.remove(places[random.below(places.len())])),
         1..=2 if !places.is_empty() => case.records[places[random.below(places.len())]] = new,
         _ => case.records.push(new),
+    }
+}
+
+/// A record that is sound beside any others, but that it may be there already.
+fn sound_record(random: &mut Random, case: &Case) -> Option<Record> {
+    Some(match random.below(4) {
+        0 => Record::IssuerStored(random.stored(&case.house, &[IssuerDef, IssuerAll])?),
+        1 => Record::SubjectStored(random.stored(&case.house, &[SubjectAll])?),
+        2 => Record::Name(10_000 + case.records.len() as u16, ALL_CLASSES[random.below(3)]),
+        _ => guard(random, case)?,
+    })
+}
+
+fn change_class(random: &mut Random, record: &mut Record) {
+    if let Record::Name(_, class) = record {
+        *class = ALL_CLASSES[random.below(3)];
+    }
+}
+
+fn role_of_guard(record: &Record) -> Option<Role> {
+    match record {
+        Record::Sensitive(guard) => Some(guard.role),
+        _ => None,
+    }
+}
+
+/// More records, up to the sizes, perhaps after a name got another class.
+fn fill_tables(random: &mut Random, case: &mut Case) {
+    let names = places(&case.records, &Record::Name(0, SubjectAll));
+    if let (Some(&place), true) = (names.get(random.below(names.len().max(1))), random.percent(30)) {
+        change_class(random, &mut case.records[place]);
+        case.house.names = names_of(&case.records);
+    }
+    for _ in 0..random.between(1, 64) {
+        let Some(new) = sound_record(random, case) else { continue };
+        let has_room = places(&case.records, &new).len() < most_records(encode_record(&new)[0]);
+        let role = role_of_guard(&new);
+        let is_new = |old: &Record| *old != new && (role.is_none() || role_of_guard(old) != role);
+        if has_room && case.records.iter().all(is_new) {
+            case.records.push(new);
+        }
     }
 }
 
@@ -130,7 +179,8 @@ pub fn changed(random: &mut Random, case: &Case, kind: Kind) -> Case {
     for _ in 0..random.between(1, 3) {
         match (kind, random.below(4)) {
             (Kind::Reply, 0..=2) => change_tables(random, &mut case),
-            (Kind::Take, 0..=2) => change_message(random, &mut case.commands),
+            (Kind::Take, 0..=1) => change_message(random, &mut case.commands),
+            (Kind::Take | Kind::Report, 2) => fill_tables(random, &mut case),
             _ => change_graph(random, &mut case),
         }
     }

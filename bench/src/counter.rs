@@ -8,7 +8,7 @@ use std::io::{BufRead, BufReader, Write};
 use std::path::{Path, PathBuf};
 use std::process::{exit, Child, ChildStdin, ChildStdout, Command, Stdio};
 
-/// Copies of blocks instruction by instruction: what the C library has for large ones else counts as one, or by the byte.
+/// Else a copy of a large block counts once for each byte.
 const TUNABLES: &str = "glibc.cpu.x86_rep_movsb_threshold=100000000:glibc.cpu.x86_rep_stosb_threshold=100000000";
 
 fn fail(why: &str) -> ! {

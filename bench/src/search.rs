@@ -16,6 +16,9 @@ struct Search {
     kind: Kind,
     random: Random,
     counter: Counter,
+    folder: &'static str,
+    /// The most instructions until now.
+    most: u64,
 }
 
 /// A case, and what was counted of it.
@@ -55,9 +58,22 @@ impl Search {
         for _ in 0..steps {
             if let Some(next) = self.next(&best).filter(|next| next.instructions > best.instructions) {
                 best = next;
+                self.keep(&best);
             }
         }
         best
+    }
+
+    /// Keeps the bytes beside the program if they are the worst until now.
+    fn keep(&mut self, found: &Found) {
+        if found.instructions <= self.most {
+            return;
+        }
+        self.most = found.instructions;
+        let Accepted { tables, negotiation, message, .. } = &found.accepted;
+        for (name, bytes) in [("tables", tables), ("negotiation", negotiation), ("message", message)] {
+            fs::write(here().join(self.folder).join(name), bytes).unwrap();
+        }
     }
 
     /// The starts with most instructions.
@@ -70,15 +86,6 @@ impl Search {
     }
 }
 
-/// Keeps the bytes of what was found beside the program.
-fn keep(folder: &str, found: &Found) {
-    let Accepted { tables, negotiation, message, .. } = &found.accepted;
-    for (name, bytes) in [("tables", tables), ("negotiation", negotiation), ("message", message)] {
-        fs::write(here().join(folder).join(name), bytes).unwrap();
-    }
-    println!("most: {} from {}, kept in build/{folder}/", found.instructions, found.case.name);
-}
-
 /// Climbs so many steps from each start, and keeps the worst.
 pub fn search(kind: Kind, steps: u32, seed: u64) {
     let folder = match kind {
@@ -86,17 +93,14 @@ pub fn search(kind: Kind, steps: u32, seed: u64) {
         Kind::Reply => "search-reply",
         Kind::Report => "search-report",
     };
-    let mut search = Search { kind, random: Random::new(seed), counter: Counter::new(folder) };
+    let mut search = Search { kind, random: Random::new(seed), counter: Counter::new(folder), folder, most: 0 };
     println!("{:<74} {:>12} {:>12}", "instructions", "start", "found");
-    let mut most = 0;
     for start in search.starts() {
         let (name, before) = (start.case.name.clone(), start.instructions);
+        search.keep(&start);
         let found = search.climb(start, steps);
         println!("{name:<74} {before:>12} {:>12}", found.instructions);
         found.accepted.must_agree(kind, &name);
-        if found.instructions > most {
-            most = found.instructions;
-            keep(folder, &found);
-        }
     }
+    println!("most: {}, kept in build/{folder}/", search.most);
 }
