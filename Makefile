@@ -30,7 +30,7 @@ CRATES := crates.txt $(shell find crates)
 REFERENCE := $(wildcard reference/Cargo.*) $(shell find reference/src)
 CALLS := $(wildcard calls/Cargo.* calls/build.rs calls/src/*.rs)
 FUZZ := $(wildcard fuzz/Cargo.* fuzz/src/*.rs)
-BENCH := $(wildcard bench/Cargo.* bench/src/*.rs)
+BENCH := $(wildcard bench/Cargo.* bench/src/*.rs bench/data/*/*)
 READING := $(wildcard reading/Cargo.* reading/src/*.rs)
 
 export CARGO_TARGET_DIR = $(CURDIR)/build/cargo

@@ -1,9 +1,9 @@
 /*
- * Makes calls that it reads from its input, so that a tool sees the engine alone: build/bench starts it under callgrind for
- * instructions, and as build/copied for the bytes that the engine's calls of memcpy copy (linked with --wrap=memcpy).
+ * Makes calls that it reads from its input, so that a tool sees the engine alone: build/bench starts it under callgrind
+ * for instructions, and as build/copied for the bytes that the engine's calls of memcpy copy (linked with --wrap=memcpy).
  *
- * A call is a byte, the enum below, and its buffers, each after its length in four bytes, the lowest first. A row of calls
- * ends with ROW_END; then callgrind writes its counts, and a line with the bytes copied says that the row is done.
+ * A call is a byte, the enum below, and its buffers, each after its length in four bytes, the lowest first. A row of
+ * calls ends with ROW_END; then callgrind writes its counts, and a line with the bytes copied says that the row is done.
  * Buffers and stack begin at fixed places of a page, since how memcpy goes about a block depends on where it is.
  */
 #define _DEFAULT_SOURCE

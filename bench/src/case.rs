@@ -1,6 +1,7 @@
 //! A take, a reply or a report in the parts that a search changes, and where searches start.
 
 use crate::calls::Call;
+use crate::found::{worst_reply, worst_report, worst_take};
 use crate::reply::{self, Lent};
 use crate::{report, take};
 use reference::message::large::{all_again, long_messages};
@@ -160,6 +161,11 @@ impl Case {
 }
 
 impl Accepted {
+    /// How many commands the message has.
+    pub fn command_count(&self) -> usize {
+        commands(&self.message).len()
+    }
+
     /// Ends the program if the reference answers otherwise.
     pub fn must_agree(&self, kind: Kind, name: &str) {
         let (name, tables, negotiation) = (name.to_string(), self.tables.clone(), self.negotiation.clone());
@@ -216,12 +222,12 @@ fn graph(random: &mut Random, house: &House, side: Side) -> Negotiation {
     Growth::new(random, house, negotiation, primary).run(extent)
 }
 
-/// The known cases and random ones.
+/// The known cases, what was found before, and random ones.
 pub fn starts(random: &mut Random, kind: Kind) -> Vec<Case> {
     let mut starts: Vec<Case> = match kind {
-        Kind::Take => [long_messages(), all_again()].concat().iter().map(of_run).collect(),
-        Kind::Reply => long_replies().iter().map(of_giving).collect(),
-        Kind::Report => large().iter().map(of_shaped).collect(),
+        Kind::Take => [long_messages(), all_again(), vec![worst_take()]].concat().iter().map(of_run).collect(),
+        Kind::Reply => long_replies().iter().chain([&worst_reply()]).map(of_giving).collect(),
+        Kind::Report => large().iter().chain([&worst_report()]).map(of_shaped).collect(),
     };
     match kind {
         Kind::Take => {}
@@ -231,9 +237,9 @@ pub fn starts(random: &mut Random, kind: Kind) -> Vec<Case> {
     starts
 }
 
-/// Those of the random replies that are longest: they make most moves.
+/// Those of the random replies that have most commands.
 fn long_random(random: &mut Random) -> Vec<Case> {
-    let length = |case: &Case| case.accepted(Kind::Reply).map_or(0, |accepted| accepted.message.len());
+    let length = |case: &Case| case.accepted(Kind::Reply).map_or(0, |accepted| accepted.command_count());
     let mut cases: Vec<(usize, Case)> = (0..RANDOM).map(|_| dense(random)).map(|case| (length(&case), case)).collect();
     cases.sort_by_key(|(length, _)| std::cmp::Reverse(*length));
     cases.into_iter().take(RANDOM_STARTS).map(|(_, case)| case).collect()

@@ -1,5 +1,5 @@
-//! Counts the instructions of calls by callgrind, and the bytes that they copy. replay.c makes the calls; what callgrind
-//! counts does not depend on what else runs.
+//! Counts the instructions of calls by callgrind, and the bytes that they copy. replay.c makes the calls; the counts do
+//! not depend on what else runs.
 
 use crate::calls::{Call, ROW_END};
 use std::env;

@@ -1,16 +1,17 @@
-//! Times the engine beside the reference, in microseconds: questions over 64 credentials, then a check of tables at their
-//! sizes, then reports on negotiations, then takes of messages, then replies; `bench tables`, `bench report`, `bench take`
-//! and `bench reply` do one of the latter alone. `bench count` counts instructions instead, and bytes copied.
+//! Times the engine beside the reference, in microseconds: questions over 64 credentials, then a check of tables at
+//! their sizes, then reports on negotiations, then takes of messages, then replies; `bench tables`, `bench report`,
+//! `bench take` and `bench reply` do one of the latter alone. `bench count` counts instructions and bytes copied.
 //!
-//! `bench search STEPS [SEED]` looks for questions that take longest, `bench search take STEPS [SEED]` for takes with most
-//! instructions, as do `search reply` and `search report`. `bench take repeat WORDS TIMES` takes the messages whose name has
-//! the words so many times, for a profile, and `bench reply repeat WORDS TIMES` gives such replies.
+//! `bench search STEPS [SEED]` looks for questions that take longest, `bench search take STEPS [SEED]` for takes with
+//! most instructions, as do `search reply` and `search report`. `bench take repeat WORDS TIMES` takes the messages
+//! whose name has the words so many times, for a profile, and `bench reply repeat WORDS TIMES` gives such replies.
 
 mod calls;
 mod case;
 mod change;
 mod count;
 mod counter;
+mod found;
 mod question;
 mod question_search;
 mod reply;

@@ -5,6 +5,7 @@
 
 use crate::calls::{Call, Recorder};
 use crate::count::{Counted, Group, Pick};
+use crate::found::worst_reply;
 use reference::ends::calls::{Calls, Reference};
 use reference::message::take::SCRATCH_BYTES;
 use reference::message::MOST_MESSAGE_BYTES;
@@ -250,6 +251,13 @@ fn large() -> Two {
     Two { name: "large success", tables: large_success(), wanted: WANTED }
 }
 
+/// Long ones, and what a search found.
+fn known() -> Vec<Giving> {
+    let mut known = long_replies();
+    known.push(worst_reply());
+    known
+}
+
 /// Whole, then each reply. Gives the time of the whole.
 fn rows_of(two: &Two, replies: &mut Vec<Row>) -> f64 {
     let messages = message_count(two);
@@ -277,7 +285,7 @@ pub fn table() {
         }
     }
     println!("largest reply of these: {:.2} ({})", slowest(&replies).engine, slowest(&replies).set);
-    for giving in long_replies() {
+    for giving in known() {
         replies.push(Row::of_reply(&giving));
         replies[replies.len() - 1].print();
     }
@@ -299,7 +307,7 @@ pub fn repeat(words: &str, times: u32) {
         let (messages, mut buffers) = (message_count(two), Buffers::new());
         (0..times).for_each(|_| drop(negotiate(&mut Engine, two, messages, &mut buffers)));
     }
-    for giving in long_replies().iter().filter(|giving| giving.name.contains(words)) {
+    for giving in known().iter().filter(|giving| giving.name.contains(words)) {
         (0..times).for_each(|_| assert!(reply_time(&mut Engine, giving) > 0.0));
     }
 }
@@ -325,6 +333,6 @@ fn counted_reply(giving: &Giving) -> Counted {
 /// The same calls, to count.
 pub fn counted() -> Vec<Group> {
     let mut rows = [counted_of(&case()), counted_of(&large())].concat();
-    rows.extend(long_replies().iter().map(counted_reply));
+    rows.extend(known().iter().map(counted_reply));
     vec![Group { rows, pick: Pick::All }]
 }

@@ -2,6 +2,7 @@
 
 use crate::calls::Call;
 use crate::count::{Counted, Group, Pick};
+use crate::found::worst_report;
 use crate::{least, time};
 use reference::negotiation::large::large;
 use reference::negotiation::report;
@@ -87,6 +88,13 @@ pub fn random_full(random: &mut Random, count: usize) -> Vec<Shaped> {
     (0..count).map(shaped).collect()
 }
 
+/// Large ones, and what a search found.
+fn known() -> Vec<Shaped> {
+    let mut known = large();
+    known.push(worst_report());
+    known
+}
+
 fn random_rows() -> Vec<Row> {
     let mut rows: Vec<Row> = random_full(&mut Random::new(1), RANDOM).iter().map(Row::measure).collect();
     rows.sort_by(|a, b| a.engine.total_cmp(&b.engine));
@@ -109,7 +117,7 @@ pub fn table() {
     };
     small().iter().map(Row::measure).for_each(&mut add);
     random_rows().into_iter().for_each(&mut add);
-    large().iter().map(Row::measure).for_each(&mut add);
+    known().iter().map(Row::measure).for_each(&mut add);
     let worst = rows.iter().max_by(|a, b| a.engine.total_cmp(&b.engine)).unwrap();
     println!("worst report: {:.2} ({})", worst.engine, worst.set);
 }
@@ -124,6 +132,6 @@ pub fn counted() -> Vec<Group> {
     vec![
         Group { rows: rows(small()), pick: Pick::All },
         Group { rows: rows(random_full(&mut Random::new(1), RANDOM)), pick: Pick::MedianAndWorst },
-        Group { rows: rows(large()), pick: Pick::All },
+        Group { rows: rows(known()), pick: Pick::All },
     ]
 }

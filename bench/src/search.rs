@@ -1,5 +1,5 @@
-//! Looks for takes, replies and reports with most instructions: from the known cases and random ones, by changes that are
-//! kept where the count grew.
+//! Looks for takes, replies and reports with most instructions: from the known cases and random ones, by changes that
+//! are kept where the count grew.
 
 use crate::case::{starts, Accepted, Case, Kind};
 use crate::change::changed;
@@ -40,12 +40,12 @@ impl Search {
         Found { case, accepted, instructions }
     }
 
-    /// A change that is accepted. A reply of less than half the bytes is passed over: it does less.
+    /// A change that is accepted. A message of less than half as many commands is passed over without a count.
     fn next(&mut self, best: &Found) -> Option<Found> {
         for _ in 0..TRIES {
             let case = changed(&mut self.random, &best.case, self.kind);
             match case.accepted(self.kind) {
-                Some(accepted) if 2 * accepted.message.len() >= best.accepted.message.len() => {
+                Some(accepted) if 2 * accepted.command_count() >= best.accepted.command_count() => {
                     return Some(self.count_accepted(case, accepted));
                 }
                 _ => {}
