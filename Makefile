@@ -11,6 +11,7 @@
 #              on lists of calls for two runs (SEED, RANDOM_COUNT, DAMAGED_COUNT, TABLES_COUNT, NEGOTIATIONS_COUNT,
 #              TAKES_COUNT, HONEST_COUNT, ADVERSARIAL_COUNT, TWO_RUNS_COUNT)
 # make bench   times the engine beside the reference
+# make count   counts the instructions of every row of the benchmark, and the bytes that it copies
 # make reading writes docs/READING.md, the definitions that the promises rest on
 # make picture writes docs/case-i.dot and docs/case-i.svg, the graph of marked case (i)
 # make dist    proves and builds the engine, and writes dist/
@@ -43,7 +44,7 @@ CRATES := crates.txt $(shell find crates)
 REFERENCE := $(wildcard reference/Cargo.*) $(shell find reference/src)
 CALLS := $(wildcard calls/Cargo.* calls/build.rs calls/src/*.rs)
 FUZZ := $(wildcard fuzz/Cargo.* fuzz/src/*.rs)
-BENCH := $(wildcard bench/Cargo.* bench/src/*.rs)
+BENCH := $(wildcard bench/Cargo.* bench/src/*.rs bench/data/*/*)
 READING := $(wildcard reading/Cargo.* reading/src/*.rs)
 
 export CARGO_TARGET_DIR = $(CURDIR)/build/cargo
@@ -67,7 +68,7 @@ PROGRAM_PREFIX = lavutremo-
 PROGRAMS = tables serve fetch graph ask
 VERSION := $(shell sed -n 's/.*define LAVUTREMO_VERSION "\(.*\)".*/\1/p' include/lavutremo.h)
 
-.PHONY: lib host demo stack twins test fuzz bench reading picture dist install uninstall clean FORCE rt gcc g++ cargo \
+.PHONY: lib host demo stack twins test fuzz bench count reading picture dist install uninstall clean FORCE rt gcc g++ cargo \
 	libmd valgrind graphviz pkg-config man
 
 lib: $(LIB) $(HOST_LIB)
@@ -92,6 +93,9 @@ fuzz: build/fuzz
 
 bench: build/bench
 	@build/bench
+
+count: build/bench build/replay build/copied
+	@build/bench count
 
 reading: build/reading
 	@build/reading
@@ -227,6 +231,15 @@ build/bench: $(REFERENCE) $(CALLS) $(BENCH) $(PROVED) $(MEASURE) | cargo
 	cargo build --quiet --release --locked --manifest-path bench/Cargo.toml
 	@cp $(CARGO_TARGET_DIR)/release/bench $@
 
+# Bound when it starts: the search for a function at its first call would count.
+build/replay: bench/replay.c include/lavutremo.h $(ENGINE) | gcc valgrind
+	@mkdir -p build
+	gcc $(CFLAGS) -pthread -Wl,-z,now -o $@ bench/replay.c $(ENGINE)
+
+build/copied: bench/replay.c include/lavutremo.h $(ENGINE) | gcc
+	@mkdir -p build
+	gcc $(CFLAGS) -DCOPIED -pthread -Wl,--wrap=memcpy -o $@ bench/replay.c $(ENGINE)
+
 build/reading: $(READING) | cargo
 	cargo build --quiet --release --locked --manifest-path reading/Cargo.toml
 	@cp $(CARGO_TARGET_DIR)/release/reading $@
@@ -256,3 +269,6 @@ gcc g++:
 
 cargo:
 	@command -v cargo >/dev/null || { echo 'cargo is missing: install Rust, as from https://rustup.rs' >&2; exit 1; }
+
+valgrind:
+	@command -v valgrind >/dev/null || { echo 'valgrind is missing: install it, as by apt-get install valgrind' >&2; exit 1; }

@@ -3,6 +3,9 @@
 //!
 //! A reply changes what it is lent, so each call has its own copy, which is made before the clock starts.
 
+use crate::calls::{Call, Recorder};
+use crate::count::{Counted, Group, Pick};
+use crate::found::worst_reply;
 use reference::ends::calls::{Calls, Reference};
 use reference::message::take::SCRATCH_BYTES;
 use reference::message::MOST_MESSAGE_BYTES;
@@ -19,7 +22,7 @@ const MOST_CASE: f64 = 80.0;
 const MOST_LARGE: f64 = 1_900.0;
 const MOST_REPLY: f64 = 12_000.0;
 
-struct Engine;
+pub struct Engine;
 
 impl Calls for Engine {
     fn begin(&mut self, tables: &[u8], negotiation: &mut [u8], other: u16, wanted: Role) -> u64 {
@@ -41,18 +44,18 @@ impl Calls for Engine {
 
 /// The buffers of a reply.
 #[derive(Clone, PartialEq)]
-struct Lent {
+pub struct Lent {
     negotiation: Vec<u8>,
-    reply: Vec<u8>,
+    pub reply: Vec<u8>,
     scratch: Vec<u8>,
 }
 
 impl Lent {
-    fn new(negotiation: Vec<u8>) -> Lent {
+    pub fn new(negotiation: Vec<u8>) -> Lent {
         Lent { negotiation, reply: vec![0; MOST_MESSAGE_BYTES], scratch: vec![0; SCRATCH_BYTES] }
     }
 
-    fn give(&mut self, calls: &mut impl Calls, tables: &[u8]) -> u64 {
+    pub fn give(&mut self, calls: &mut impl Calls, tables: &[u8]) -> u64 {
         calls.reply(tables, &mut self.negotiation, &mut self.reply, &mut self.scratch)
     }
 }
@@ -120,6 +123,10 @@ fn negotiate(calls: &mut impl Calls, two: &Two, messages: usize, buffers: &mut B
     given
 }
 
+fn whole_name(two: &Two, messages: usize) -> String {
+    format!("{}, {messages} messages, all calls of both ends", two.name)
+}
+
 fn whole_time(calls: &mut impl Calls, two: &Two, messages: usize, buffers: &mut Buffers) -> f64 {
     let start = Instant::now();
     negotiate(calls, two, messages, buffers);
@@ -169,26 +176,26 @@ fn sizes(negotiation: &[u8]) -> [usize; 3] {
     [negotiation.nodes.len(), negotiation.edges.len(), negotiation.shown.len()]
 }
 
+/// Ends the program if the reply is refused or differs from the reference's. Gives the buffers after it and its length.
+pub fn must_agree(giving: &Giving) -> (Lent, usize) {
+    let [mut by_engine, mut expected] = [(); 2].map(|()| Lent::new(giving.negotiation.clone()));
+    let answer = by_engine.give(&mut Engine, &giving.tables);
+    let reference = expected.give(&mut Reference::default(), &giving.tables);
+    let same = by_engine == expected;
+    if answer % 256 != 0 || answer != reference || !same {
+        println!("{}: engine {answer}, reference {reference}, same bytes: {same}", giving.name);
+        exit(1);
+    }
+    (by_engine, (answer / 256) as usize)
+}
+
 impl Row {
-    /// Ends the program if the reply is refused or differs from the reference's.
     fn of_reply(giving: &Giving) -> Row {
-        let mut lent = [Lent::new(giving.negotiation.clone()), Lent::new(giving.negotiation.clone())];
-        let answers =
-            [lent[0].give(&mut Engine, &giving.tables), lent[1].give(&mut Reference::default(), &giving.tables)];
-        if answers[0] % 256 != 0 || answers[0] != answers[1] || lent[0] != lent[1] {
-            println!(
-                "{}: engine {}, reference {}, same bytes: {}",
-                giving.name,
-                answers[0],
-                answers[1],
-                lent[0] == lent[1]
-            );
-            exit(1);
-        }
+        let (lent, bytes) = must_agree(giving);
         Row {
             set: giving.name.clone(),
-            sizes: sizes(&lent[0].negotiation),
-            bytes: (answers[0] / 256) as usize,
+            sizes: sizes(&lent.negotiation),
+            bytes,
             engine: steady(|| reply_time(&mut Engine, giving)),
             reference: median(3, || reply_time(&mut Reference::default(), giving)),
         }
@@ -202,7 +209,7 @@ impl Row {
             exit(1);
         }
         Row {
-            set: format!("{}, {messages} messages, all calls of both ends", two.name),
+            set: whole_name(two, messages),
             sizes: sizes(&buffers[0].negotiations[0]),
             bytes: given.iter().map(Vec::len).sum(),
             engine: steady(|| whole_time(&mut Engine, two, messages, &mut buffers[0])),
@@ -244,6 +251,13 @@ fn large() -> Two {
     Two { name: "large success", tables: large_success(), wanted: WANTED }
 }
 
+/// Long ones, and what a search found.
+fn known() -> Vec<Giving> {
+    let mut known = long_replies();
+    known.push(worst_reply());
+    known
+}
+
 /// Whole, then each reply. Gives the time of the whole.
 fn rows_of(two: &Two, replies: &mut Vec<Row>) -> f64 {
     let messages = message_count(two);
@@ -271,7 +285,7 @@ pub fn table() {
         }
     }
     println!("largest reply of these: {:.2} ({})", slowest(&replies).engine, slowest(&replies).set);
-    for giving in long_replies() {
+    for giving in known() {
         replies.push(Row::of_reply(&giving));
         replies[replies.len() - 1].print();
     }
@@ -293,7 +307,32 @@ pub fn repeat(words: &str, times: u32) {
         let (messages, mut buffers) = (message_count(two), Buffers::new());
         (0..times).for_each(|_| drop(negotiate(&mut Engine, two, messages, &mut buffers)));
     }
-    for giving in long_replies().iter().filter(|giving| giving.name.contains(words)) {
+    for giving in known().iter().filter(|giving| giving.name.contains(words)) {
         (0..times).for_each(|_| assert!(reply_time(&mut Engine, giving) > 0.0));
     }
+}
+
+/// Whole, then each reply.
+fn counted_of(two: &Two) -> Vec<Counted> {
+    let (messages, mut recorder) = (message_count(two), Recorder::default());
+    negotiate(&mut recorder, two, messages, &mut Buffers::new());
+    let mut rows = vec![Counted { name: whole_name(two, messages), calls: recorder.calls }];
+    rows.extend(replies_of(two, messages).iter().map(counted_reply));
+    rows
+}
+
+pub fn call(tables: &[u8], negotiation: &[u8]) -> Call {
+    let Lent { negotiation, reply, scratch } = Lent::new(negotiation.to_vec());
+    Call::reply(tables, &negotiation, &reply, &scratch)
+}
+
+fn counted_reply(giving: &Giving) -> Counted {
+    Counted::of(format!("reply: {}", giving.name), call(&giving.tables, &giving.negotiation))
+}
+
+/// The same calls, to count.
+pub fn counted() -> Vec<Group> {
+    let mut rows = [counted_of(&case()), counted_of(&large())].concat();
+    rows.extend(known().iter().map(counted_reply));
+    vec![Group { rows, pick: Pick::All }]
 }

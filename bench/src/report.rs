@@ -1,5 +1,8 @@
 //! Times reports on negotiations beside the reference's, in microseconds. All are sound, so that nothing is skipped.
 
+use crate::calls::Call;
+use crate::count::{Counted, Group, Pick};
+use crate::found::worst_report;
 use crate::{least, time};
 use reference::negotiation::large::large;
 use reference::negotiation::report;
@@ -36,7 +39,7 @@ struct Row {
     reference: f64,
 }
 
-pub fn sizes(negotiation: &Negotiation) -> [usize; 5] {
+fn sizes(negotiation: &Negotiation) -> [usize; 5] {
     let Negotiation { nodes, edges, shown, .. } = negotiation;
     let of_kind = |kind| edges.iter().filter(|edge| edge.kind == kind).count();
     [nodes.len(), edges.len(), of_kind(IMPLICATION), of_kind(LINKING_IMPLICATION), shown.len()]
@@ -85,6 +88,13 @@ pub fn random_full(random: &mut Random, count: usize) -> Vec<Shaped> {
     (0..count).map(shaped).collect()
 }
 
+/// Large ones, and what a search found.
+fn known() -> Vec<Shaped> {
+    let mut known = large();
+    known.push(worst_report());
+    known
+}
+
 fn random_rows() -> Vec<Row> {
     let mut rows: Vec<Row> = random_full(&mut Random::new(1), RANDOM).iter().map(Row::measure).collect();
     rows.sort_by(|a, b| a.engine.total_cmp(&b.engine));
@@ -107,7 +117,21 @@ pub fn table() {
     };
     small().iter().map(Row::measure).for_each(&mut add);
     random_rows().into_iter().for_each(&mut add);
-    large().iter().map(Row::measure).for_each(&mut add);
+    known().iter().map(Row::measure).for_each(&mut add);
     let worst = rows.iter().max_by(|a, b| a.engine.total_cmp(&b.engine)).unwrap();
     println!("worst report: {:.2} ({})", worst.engine, worst.set);
+}
+
+/// The same reports, to count.
+pub fn counted() -> Vec<Group> {
+    let row = |shaped: &Shaped| {
+        let call = Call::report(&shaped.tables, &encode(&shaped.negotiation));
+        Counted::of(format!("report: {}", shaped.name), call)
+    };
+    let rows = |all: Vec<Shaped>| all.iter().map(row).collect();
+    vec![
+        Group { rows: rows(small()), pick: Pick::All },
+        Group { rows: rows(random_full(&mut Random::new(1), RANDOM)), pick: Pick::MedianAndWorst },
+        Group { rows: rows(known()), pick: Pick::All },
+    ]
 }

@@ -1,5 +1,7 @@
 //! Times the check of tables at their sizes beside the reference's, in microseconds.
 
+use crate::calls::Call;
+use crate::count::{Counted, Group, Pick};
 use crate::time;
 use reference::random::Random;
 use reference::tables;
@@ -41,10 +43,13 @@ fn sorted(mut rows: Vec<Row>) -> Vec<Row> {
     rows
 }
 
-fn random_rows() -> Vec<Row> {
+fn random_tables() -> Vec<Vec<u8>> {
     let mut random = Random::new(1);
-    let mut rows =
-        sorted((0..RANDOM).map(|_| Row::measure("random".into(), &random.sample(FULL).records.concat())).collect());
+    (0..RANDOM).map(|_| random.sample(FULL).records.concat()).collect()
+}
+
+fn random_rows() -> Vec<Row> {
+    let mut rows = sorted(random_tables().iter().map(|tables| Row::measure("random".into(), tables)).collect());
     let mut worst = rows.pop().unwrap();
     let mut median = rows.swap_remove(RANDOM / 2);
     median.set = format!("random, median of {RANDOM}");
@@ -67,4 +72,12 @@ pub fn table() {
     for row in rows.iter().filter(|row| row.engine >= MOST) {
         println!("warning: {:.2} is not under {MOST} ({})", row.engine, row.set);
     }
+}
+
+/// The same checks, to count.
+pub fn counted() -> Vec<Group> {
+    let row = |name: &str, tables: &[u8]| Counted::of(format!("check of tables: {name}"), Call::check(tables));
+    let random = random_tables().iter().map(|tables| row("random", tables)).collect();
+    let shaped = TABLE_SHAPES.iter().map(|shape| row(shape.name, &(shape.bytes)())).collect();
+    vec![Group { rows: random, pick: Pick::MedianAndWorst }, Group { rows: shaped, pick: Pick::All }]
 }

@@ -2,9 +2,12 @@
 //!
 //! A take changes what it is lent, so each call has its own copy, which is made before the clock starts.
 
+use crate::calls::Call;
+use crate::count::{Counted, Group, Pick};
+use crate::found::worst_take;
 use reference::message::large::{all_again, long_messages, onto_full};
 use reference::message::shapes::{marked_takes, size_runs};
-use reference::message::take::{self, Lent};
+use reference::message::take::{self, Lent, SCRATCH_BYTES};
 use reference::message::writer::Run;
 use reference::negotiation::{decode, MOST_EDGES, MOST_NODES, MOST_SHOWN};
 use std::process::exit;
@@ -22,7 +25,7 @@ fn by_reference(lent: &mut Lent) -> u64 {
 }
 
 /// Microseconds a call: the median of so many.
-pub fn median(lent: &Lent, call: fn(&mut Lent) -> u64, count: usize) -> f64 {
+fn median(lent: &Lent, call: fn(&mut Lent) -> u64, count: usize) -> f64 {
     let mut times: Vec<f64> = Vec::new();
     let mut used = lent.clone();
     for _ in 0..count {
@@ -37,6 +40,12 @@ pub fn median(lent: &Lent, call: fn(&mut Lent) -> u64, count: usize) -> f64 {
     times[count / 2]
 }
 
+/// The take of a message that is accepted.
+pub fn run(name: String, tables: Vec<u8>, negotiation: Vec<u8>, message: Vec<u8>) -> Run {
+    let lent = Lent { tables, negotiation, message, scratch: vec![0; SCRATCH_BYTES] };
+    Run { name, lent, answer: 0 }
+}
+
 /// Ends the program if the message is refused or the bytes differ from the reference's.
 pub fn must_agree(run: &Run) {
     let [mut by_engine, mut expected] = [run.lent.clone(), run.lent.clone()];
@@ -49,13 +58,13 @@ pub fn must_agree(run: &Run) {
 }
 
 #[derive(Clone)]
-pub struct Row {
+struct Row {
     set: String,
     /// Nodes, edges and credentials before the message and after it.
     before: [usize; 3],
     after: [usize; 3],
     bytes: usize,
-    pub engine: f64,
+    engine: f64,
     reference: f64,
 }
 
@@ -65,7 +74,7 @@ fn sizes(negotiation: &[u8]) -> [usize; 3] {
 }
 
 impl Row {
-    pub fn measure(run: &Run) -> Row {
+    fn measure(run: &Run) -> Row {
         must_agree(run);
         let mut after = run.lent.clone();
         engine(&mut after);
@@ -81,7 +90,7 @@ impl Row {
         }
     }
 
-    pub fn print(&self) {
+    fn print(&self) {
         let Row { set, before, after, bytes, engine, reference } = self;
         let sizes = |[nodes, edges, shown]: [usize; 3]| format!("{nodes}, {edges}, {shown}");
         println!(
@@ -104,7 +113,7 @@ fn slowest(what: &str, runs: &[Run]) -> Vec<Row> {
     timed.iter().take(SHOWN).map(|(_, run)| Row::measure(run)).collect()
 }
 
-pub fn heading() {
+fn heading() {
     println!(
         "{:<62} {:>12} {:>12} {:>5} {:>9} {:>10} {:>7}",
         "take, microseconds; nodes, edges, credentials", "before", "after", "bytes", "engine", "reference", "ratio"
@@ -115,6 +124,12 @@ fn is_full(run: &Run) -> bool {
     sizes(&run.lent.negotiation) == [MOST_NODES, MOST_EDGES, MOST_SHOWN]
 }
 
+/// Case (i), messages at the sizes, long ones, and what a search found.
+fn named() -> Vec<Run> {
+    let sized = size_runs().into_iter().filter(|run| run.answer == 0).collect();
+    [marked_takes(true).0, sized, long_messages(), vec![worst_take()]].concat()
+}
+
 pub fn table() {
     heading();
     let mut rows: Vec<Row> = Vec::new();
@@ -122,12 +137,8 @@ pub fn table() {
         row.print();
         rows.push(row);
     };
-    let sized = size_runs().into_iter().filter(|run| run.answer == 0);
-    marked_takes(true).0.iter().map(Row::measure).for_each(&mut add);
-    sized.map(|run| Row::measure(&run)).for_each(&mut add);
-    long_messages().iter().map(Row::measure).for_each(&mut add);
-    let onto_full = onto_full();
-    let (full, large): (Vec<Run>, Vec<Run>) = onto_full.into_iter().partition(is_full);
+    named().iter().map(Row::measure).for_each(&mut add);
+    let (full, large): (Vec<Run>, Vec<Run>) = onto_full().into_iter().partition(is_full);
     slowest("short messages, 128 nodes, 256 edges and 64 credentials", &full).into_iter().for_each(&mut add);
     slowest("short messages, other large negotiations", &large).into_iter().for_each(&mut add);
     slowest("large negotiations by one message", &all_again()).into_iter().for_each(&mut add);
@@ -137,8 +148,17 @@ pub fn table() {
 
 /// Takes the messages whose name has these words again and again, for a profile.
 pub fn repeat(words: &str, times: usize) {
-    let runs = [marked_takes(true).0, size_runs(), long_messages()].concat();
-    for run in runs.iter().filter(|run| run.answer == 0 && run.name.contains(words)) {
+    for run in named().iter().filter(|run| run.name.contains(words)) {
         median(&run.lent, engine, times);
     }
+}
+
+/// The same takes, to count.
+pub fn counted() -> Vec<Group> {
+    let row = |run: &Run| Counted::of(format!("take: {}", run.name), Call::take(&run.lent));
+    let rows = |runs: Vec<Run>| runs.iter().map(row).collect();
+    let (full, large): (Vec<Run>, Vec<Run>) = onto_full().into_iter().partition(is_full);
+    let mut groups = vec![Group { rows: rows(named()), pick: Pick::All }];
+    groups.extend([full, large, all_again()].map(|runs| Group { rows: rows(runs), pick: Pick::Most(SHOWN) }));
+    groups
 }

@@ -1,0 +1,26 @@
+//! The worst cases that searches found by instructions; data/ has their bytes.
+
+use crate::take;
+use reference::message::writer::Run;
+use reference::negotiation::decode;
+use reference::negotiation::shapes::Shaped;
+use reference::reply::large::Giving;
+
+const NAME: &str = "the worst that a search found";
+
+pub fn worst_take() -> Run {
+    let tables = include_bytes!("../data/take/tables").to_vec();
+    let negotiation = include_bytes!("../data/take/negotiation").to_vec();
+    take::run(NAME.into(), tables, negotiation, include_bytes!("../data/take/message").to_vec())
+}
+
+pub fn worst_reply() -> Giving {
+    let tables = include_bytes!("../data/reply/tables").to_vec();
+    Giving { name: NAME.into(), tables, negotiation: include_bytes!("../data/reply/negotiation").to_vec() }
+}
+
+pub fn worst_report() -> Shaped {
+    let tables = include_bytes!("../data/report/tables").to_vec();
+    let negotiation = decode(include_bytes!("../data/report/negotiation")).unwrap();
+    Shaped { name: NAME.into(), tables, negotiation }
+}
