@@ -232,13 +232,13 @@ build/bench: $(REFERENCE) $(CALLS) $(BENCH) $(PROVED) $(MEASURE) | cargo
 	@cp $(CARGO_TARGET_DIR)/release/bench $@
 
 # Bound when it starts: the search for a function at its first call would count.
-build/replay: bench/replay.c include/lavutremo.h $(ENGINE) | gcc valgrind
+build/replay: bench/replay.c include/lavutremo.h $(LIB) | gcc valgrind
 	@mkdir -p build
-	gcc $(CFLAGS) -pthread -Wl,-z,now -o $@ bench/replay.c $(ENGINE)
+	gcc $(CFLAGS) -pthread -Wl,-z,now -o $@ bench/replay.c $(LIB)
 
-build/copied: bench/replay.c include/lavutremo.h $(ENGINE) | gcc
+build/copied: bench/replay.c include/lavutremo.h $(LIB) | gcc
 	@mkdir -p build
-	gcc $(CFLAGS) -DCOPIED -pthread -Wl,--wrap=memcpy -o $@ bench/replay.c $(ENGINE)
+	gcc $(CFLAGS) -DCOPIED -pthread -Wl,--wrap=memcpy -o $@ bench/replay.c $(LIB)
 
 build/reading: $(READING) | cargo
 	cargo build --quiet --release --locked --manifest-path reading/Cargo.toml
@@ -269,6 +269,3 @@ gcc g++:
 
 cargo:
 	@command -v cargo >/dev/null || { echo 'cargo is missing: install Rust, as from https://rustup.rs' >&2; exit 1; }
-
-valgrind:
-	@command -v valgrind >/dev/null || { echo 'valgrind is missing: install it, as by apt-get install valgrind' >&2; exit 1; }
