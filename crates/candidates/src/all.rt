@@ -22,7 +22,8 @@ use rt0::body_at;
 use rules::rules_of;
 ghost use mathlib.Core.Path.{_≡_};
 ghost use mathlib.Core.Bool.{true, cond};
-ghost use Prim.Native.Nat.{_≤_, _<_};
+ghost use Prim.Native.Nat.{ℕ, _≤_, _<_};
+ghost use mathlib.Core.List.{List};
 ghost use lib.ListN.{length, replicate};
 ghost use Rattle.rt0.specs.laws.Pool.{poolOf, credentials};
 ghost use Rattle.closure.specs.laws.Rules.{rulesOf};
@@ -54,7 +55,6 @@ fn is_from<'a>(
     heads: &'a [u16; 256],
     kinds: &'a [u8; 256],
     numbers: &'a [u16; 1024],
-    words: usize,
     head: &'a [usize; 128],
     part: &'a [usize; 512],
     first: &'a [usize; 128],
@@ -66,8 +66,8 @@ fn is_from<'a>(
     a: Role,
     x: Expression,
 ) -> bool
-    requires { ⌜ (m ≤ 128) × Ruled (poolOf m (now heads) (now kinds) (now numbers))
-        (rulesOf m words (now head) (now part) (now first) (now named) (now src))
+    requires { ⌜ (m ≤ 128) × ((words : ℕ) × Ruled (poolOf m (now heads) (now kinds) (now numbers))
+        (rulesOf m words (now head) (now part) (now first) (now named) (now src)))
         × Relation (poolOf m (now heads) (now kinds) (now numbers)) (now on) (now rows) ⌝ }
     ensures { λ r. ⌜ r ≡ isFrom (chosen (poolOf m (now (heads .entry)) (now (kinds .entry)) (now (numbers .entry))) (now (on .entry))) a x ⌝ }
 {
@@ -78,7 +78,6 @@ fn is_from<'a>(
             heads,
             kinds,
             numbers,
-            words,
             head,
             part,
             first,
@@ -103,7 +102,6 @@ fn flagged<'a>(
     heads: &'a [u16; 256],
     kinds: &'a [u8; 256],
     numbers: &'a [u16; 1024],
-    words: usize,
     head: &'a [usize; 128],
     part: &'a [usize; 512],
     first: &'a [usize; 128],
@@ -114,8 +112,8 @@ fn flagged<'a>(
     rows: &'a [u64; 260],
     a: Role,
 ) -> [u8; 128]
-    requires { ⌜ (m ≤ 128) × Ruled (poolOf m (now heads) (now kinds) (now numbers))
-        (rulesOf m words (now head) (now part) (now first) (now named) (now src))
+    requires { ⌜ (m ≤ 128) × ((words : ℕ) × Ruled (poolOf m (now heads) (now kinds) (now numbers))
+        (rulesOf m words (now head) (now part) (now first) (now named) (now src)))
         × Relation (poolOf m (now heads) (now kinds) (now numbers)) (now on) (now rows) ⌝ }
     ensures { λ r. ⌜ Told (isFrom (chosen (poolOf m (now (heads .entry)) (now (kinds .entry)) (now (numbers .entry))) (now (on .entry))) a)
         (poolOf m (now (heads .entry)) (now (kinds .entry)) (now (numbers .entry))) m r ⌝ }
@@ -123,13 +121,12 @@ fn flagged<'a>(
     let mut r = [0u8; 128];
     let mut k = 0;
     while k < m {
-        let x = body_at(m, heads, kinds, numbers, k);
+        let x = body_at(kinds, numbers, k);
         r[k] = flag_of(is_from(
             m,
             heads,
             kinds,
             numbers,
-            words,
             head,
             part,
             first,
@@ -157,7 +154,6 @@ fn members(pool: Pool, a: Role) -> [u8; 128]
     let on = [1u8; 128];
     let rows = relation(
         m,
-        &pool.heads,
         &pool.kinds,
         &pool.numbers,
         rules.words,
@@ -174,7 +170,6 @@ fn members(pool: Pool, a: Role) -> [u8; 128]
         &pool.heads,
         &pool.kinds,
         &pool.numbers,
-        rules.words,
         &rules.head,
         &rules.part,
         &rules.first,
@@ -233,10 +228,9 @@ fn with_role(
     }
 }
 
-// The best of the edges to the roles B.r of all members.
+// The best of the edges to the roles B.r of all members, whatever the heads.
 fn with_roles<'a>(
     m: usize,
-    heads: &'a [u16; 256],
     kinds: &'a [u8; 256],
     numbers: &'a [u16; 1024],
     flags: &'a [u8; 128],
@@ -247,13 +241,13 @@ fn with_roles<'a>(
     r: u16,
 ) -> Choice
     requires { ⌜ (m ≤ 128) × (nodes .count ≤ MOST-NODES) × (edges .count ≤ MOST-EDGES) ⌝ }
-    ensures { λ c. ⌜ c ≡ folded m (offerRoles (isDone (nodesOf nodes) (edgesOf edges) i)
-        (poolOf m (now (heads .entry)) (now (kinds .entry)) (now (numbers .entry))) (now (flags .entry)) n r) C.Nothing ⌝ }
+    ensures { λ c. ⌜ ((H : List ℕ) → c ≡ folded m (offerRoles (isDone (nodesOf nodes) (edgesOf edges) i)
+        (poolOf m H (now (kinds .entry)) (now (numbers .entry))) (now (flags .entry)) n r) C.Nothing) ⌝ }
 {
     let mut best = Choice::Nothing;
     let mut k = next_flagged(m, flags, 0);
     while k < m {
-        let x = body_at(m, heads, kinds, numbers, k);
+        let x = body_at(kinds, numbers, k);
         best = with_role(nodes, edges, i, n, r, best, x);
         k = next_flagged(m, flags, k + 1);
     }
@@ -319,7 +313,7 @@ fn found_from_all<'a>(
     let mut all = [0u8; 128];
     let mut k = next_flagged(m, flags, 0);
     while k < m {
-        let x = body_at(m, heads, kinds, numbers, k);
+        let x = body_at(kinds, numbers, k);
         add_found(m, heads, kinds, numbers, on, stop, &mut all, r, x);
         k = next_flagged(m, flags, k + 1);
     }
@@ -348,7 +342,6 @@ fn with_frontiers<'a>(
     let all = found_from_all(m, heads, kinds, numbers, &on, stop, flags, r);
     with_members(
         m,
-        heads,
         kinds,
         numbers,
         stop,
@@ -381,18 +374,7 @@ pub fn all_edges(
     let m = pool.count;
     let flags = members(pool, a);
     if class_of(names.count, &names.name, &names.class, r) == SUBJECT_ALL {
-        return with_roles(
-            m,
-            &pool.heads,
-            &pool.kinds,
-            &pool.numbers,
-            &flags,
-            nodes,
-            edges,
-            i,
-            n,
-            r,
-        );
+        return with_roles(m, &pool.kinds, &pool.numbers, &flags, nodes, edges, i, n, r);
     }
     with_frontiers(
         m,

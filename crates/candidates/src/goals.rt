@@ -73,12 +73,9 @@ fn with_pairs<'a>(
     best
 }
 
-// The best of what is chosen and the edge to the head of credential k, if it is on and has the name r.
+// The best of what is chosen and the edge to the head of credential k, if it is on and has the name r, whatever the bodies.
 fn with_head<'a>(
-    m: usize,
     heads: &'a [u16; 256],
-    kinds: &'a [u8; 256],
-    numbers: &'a [u16; 1024],
     on: &'a [u8; 128],
     nodes: Nodes,
     edges: Edges,
@@ -89,14 +86,14 @@ fn with_head<'a>(
     k: usize,
 ) -> Choice
     requires { ⌜ (k < 128) × (nodes .count ≤ MOST-NODES) × (edges .count ≤ MOST-EDGES) ⌝ }
-    ensures { λ c. ⌜ c ≡ offer (isDone (nodesOf nodes) (edgesOf edges) i)
-        (isNamedHead (poolOf m (now (heads .entry)) (now (kinds .entry)) (now (numbers .entry))) (now (on .entry)) r)
-        (headEdge (poolOf m (now (heads .entry)) (now (kinds .entry)) (now (numbers .entry))) n) best k ⌝ }
+    ensures { λ c. ⌜ ((m : ℕ) (K N : List ℕ) → c ≡ offer (isDone (nodesOf nodes) (edgesOf edges) i)
+        (isNamedHead (poolOf m (now (heads .entry)) K N) (now (on .entry)) r)
+        (headEdge (poolOf m (now (heads .entry)) K N) n) best k) ⌝ }
 {
     if on[k] != 1 {
         return best;
     }
-    let a = head_at(m, heads, kinds, numbers, k);
+    let a = head_at(heads, k);
     if a.name != r {
         return best;
     }
@@ -108,8 +105,6 @@ fn with_head<'a>(
 fn with_heads<'a>(
     m: usize,
     heads: &'a [u16; 256],
-    kinds: &'a [u8; 256],
-    numbers: &'a [u16; 1024],
     on: &'a [u8; 128],
     nodes: Nodes,
     edges: Edges,
@@ -119,14 +114,14 @@ fn with_heads<'a>(
     start: Choice,
 ) -> Choice
     requires { ⌜ (m ≤ 128) × (nodes .count ≤ MOST-NODES) × (edges .count ≤ MOST-EDGES) ⌝ }
-    ensures { λ c. ⌜ c ≡ folded m (offer (isDone (nodesOf nodes) (edgesOf edges) i)
-        (isNamedHead (poolOf m (now (heads .entry)) (now (kinds .entry)) (now (numbers .entry))) (now (on .entry)) r)
-        (headEdge (poolOf m (now (heads .entry)) (now (kinds .entry)) (now (numbers .entry))) n)) start ⌝ }
+    ensures { λ c. ⌜ ((K N : List ℕ) → c ≡ folded m (offer (isDone (nodesOf nodes) (edgesOf edges) i)
+        (isNamedHead (poolOf m (now (heads .entry)) K N) (now (on .entry)) r)
+        (headEdge (poolOf m (now (heads .entry)) K N) n)) start) ⌝ }
 {
     let mut best = start;
     let mut k = 0;
     while k < m {
-        best = with_head(m, heads, kinds, numbers, on, nodes, edges, i, n, r, best, k);
+        best = with_head(heads, on, nodes, edges, i, n, r, best, k);
         k += 1;
     }
     best
@@ -145,8 +140,6 @@ pub fn solutions(own: Preparation, nodes: Nodes, edges: Edges, i: u8, n: Node, r
     with_heads(
         pool.count,
         &pool.heads,
-        &pool.kinds,
-        &pool.numbers,
         &own.visible,
         nodes,
         edges,

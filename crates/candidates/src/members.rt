@@ -14,7 +14,8 @@ use moves::Choice;
 use rt0::Pool;
 use rt0::body_at;
 ghost use mathlib.Core.Path.{_≡_};
-ghost use Prim.Native.Nat.{_≤_, _<_};
+ghost use mathlib.Core.List.{List};
+ghost use Prim.Native.Nat.{ℕ, _≤_, _<_};
 ghost use Rattle.rt0.specs.laws.Pool.{poolOf};
 ghost use Rattle.graph.specs.laws.Graph.{nodesOf, edgesOf};
 ghost use Rattle.moves.specs.Candidates.{isDone};
@@ -50,10 +51,8 @@ fn admits(entities: bool, n: Node, x: Expression) -> bool
     same(x, Expression::Entity(n.subject))
 }
 
-// The best of what is chosen and the edge to the body of credential k, if it is a member.
+// The best of what is chosen and the edge to the body of credential k, if it is a member, whatever the heads.
 fn with_member<'a>(
-    m: usize,
-    heads: &'a [u16; 256],
     kinds: &'a [u8; 256],
     numbers: &'a [u16; 1024],
     stop: &'a [u8; 128],
@@ -67,14 +66,14 @@ fn with_member<'a>(
     k: usize,
 ) -> Choice
     requires { ⌜ (k < 128) × (nodes .count ≤ MOST-NODES) × (edges .count ≤ MOST-EDGES) ⌝ }
-    ensures { λ r. ⌜ r ≡ offer (isDone (nodesOf nodes) (edgesOf edges) i)
-        (isMember (poolOf m (now (heads .entry)) (now (kinds .entry)) (now (numbers .entry))) (now (stop .entry)) (now (found .entry)) entities n)
-        (memberEdge (poolOf m (now (heads .entry)) (now (kinds .entry)) (now (numbers .entry))) n) best k ⌝ }
+    ensures { λ r. ⌜ ((m : ℕ) (H : List ℕ) → r ≡ offer (isDone (nodesOf nodes) (edgesOf edges) i)
+        (isMember (poolOf m H (now (kinds .entry)) (now (numbers .entry))) (now (stop .entry)) (now (found .entry)) entities n)
+        (memberEdge (poolOf m H (now (kinds .entry)) (now (numbers .entry))) n) best k) ⌝ }
 {
     if (found[k] != 1) | (stop[k] != 1) {
         return best;
     }
-    let x = body_at(m, heads, kinds, numbers, k);
+    let x = body_at(kinds, numbers, k);
     if !admits(entities, n, x) {
         return best;
     }
@@ -110,10 +109,9 @@ fn next_stopped<'a>(m: usize, stop: &'a [u8; 128], found: &'a [u8; 128], from: u
     k
 }
 
-// The best of what is chosen and the edges to all members.
+// The best of what is chosen and the edges to all members, whatever the heads.
 pub fn with_members<'a>(
     m: usize,
-    heads: &'a [u16; 256],
     kinds: &'a [u8; 256],
     numbers: &'a [u16; 1024],
     stop: &'a [u8; 128],
@@ -126,16 +124,14 @@ pub fn with_members<'a>(
     start: Choice,
 ) -> Choice
     requires { ⌜ (m ≤ 128) × (nodes .count ≤ MOST-NODES) × (edges .count ≤ MOST-EDGES) ⌝ }
-    ensures { λ r. ⌜ r ≡ folded m (offer (isDone (nodesOf nodes) (edgesOf edges) i)
-        (isMember (poolOf m (now (heads .entry)) (now (kinds .entry)) (now (numbers .entry))) (now (stop .entry)) (now (found .entry)) entities n)
-        (memberEdge (poolOf m (now (heads .entry)) (now (kinds .entry)) (now (numbers .entry))) n)) start ⌝ }
+    ensures { λ r. ⌜ ((H : List ℕ) → r ≡ folded m (offer (isDone (nodesOf nodes) (edgesOf edges) i)
+        (isMember (poolOf m H (now (kinds .entry)) (now (numbers .entry))) (now (stop .entry)) (now (found .entry)) entities n)
+        (memberEdge (poolOf m H (now (kinds .entry)) (now (numbers .entry))) n)) start) ⌝ }
 {
     let mut best = start;
     let mut k = next_stopped(m, stop, found, 0);
     while k < m {
         best = with_member(
-            m,
-            heads,
             kinds,
             numbers,
             stop,
@@ -173,7 +169,6 @@ pub fn with_frontier<'a>(
     let found = reached(m, &pool.heads, &pool.kinds, &pool.numbers, on, stop, e);
     with_members(
         m,
-        &pool.heads,
         &pool.kinds,
         &pool.numbers,
         stop,

@@ -14,17 +14,16 @@ use moves::Choice;
 use rt0::Pool;
 use rt0::body_at;
 ghost use mathlib.Core.Path.{_≡_};
-ghost use Prim.Native.Nat.{_≤_, _<_};
+ghost use mathlib.Core.List.{List};
+ghost use Prim.Native.Nat.{ℕ, _≤_, _<_};
 ghost use Rattle.rt0.specs.laws.Pool.{poolOf};
 ghost use Rattle.graph.specs.laws.Graph.{nodesOf, edgesOf};
 ghost use Rattle.moves.specs.Candidates.{isDone};
 ghost use Rattle.candidates.specs.laws.Subject.{isSubjectAt, hasSubject, SubjectLeads};
 ghost use Rattle.numbers.specs.Sizes.{MOST-NODES, MOST-EDGES};
 
-// Whether credential k was found, and its body is a stop and the entity s.
+// Whether credential k was found, and its body is a stop and the entity s, whatever the heads.
 fn is_subject_at<'a>(
-    m: usize,
-    heads: &'a [u16; 256],
     kinds: &'a [u8; 256],
     numbers: &'a [u16; 1024],
     stop: &'a [u8; 128],
@@ -33,20 +32,19 @@ fn is_subject_at<'a>(
     k: usize,
 ) -> bool
     requires { ⌜ k < 128 ⌝ }
-    ensures { λ r. ⌜ r ≡ isSubjectAt (poolOf m (now (heads .entry)) (now (kinds .entry)) (now (numbers .entry))) (now (stop .entry))
-        (now (found .entry)) s k ⌝ }
+    ensures { λ r. ⌜ ((m : ℕ) (H : List ℕ) → r ≡ isSubjectAt (poolOf m H (now (kinds .entry)) (now (numbers .entry))) (now (stop .entry))
+        (now (found .entry)) s k) ⌝ }
 {
     if (found[k] != 1) | (stop[k] != 1) {
         return false;
     }
-    let x = body_at(m, heads, kinds, numbers, k);
+    let x = body_at(kinds, numbers, k);
     same(x, Expression::Entity(s))
 }
 
-// Whether the entity s is a member of the frontier.
+// Whether the entity s is a member of the frontier, whatever the heads.
 fn has_subject<'a>(
     m: usize,
-    heads: &'a [u16; 256],
     kinds: &'a [u8; 256],
     numbers: &'a [u16; 1024],
     stop: &'a [u8; 128],
@@ -54,11 +52,11 @@ fn has_subject<'a>(
     s: u16,
 ) -> bool
     requires { ⌜ m ≤ 128 ⌝ }
-    ensures { λ r. ⌜ r ≡ hasSubject (poolOf m (now (heads .entry)) (now (kinds .entry)) (now (numbers .entry))) (now (stop .entry)) (now (found .entry)) s ⌝ }
+    ensures { λ r. ⌜ ((H : List ℕ) → r ≡ hasSubject (poolOf m H (now (kinds .entry)) (now (numbers .entry))) (now (stop .entry)) (now (found .entry)) s) ⌝ }
 {
     let mut k = 0;
     while k < m {
-        if is_subject_at(m, heads, kinds, numbers, stop, found, s, k) {
+        if is_subject_at(kinds, numbers, stop, found, s, k) {
             return true;
         }
         k += 1;
@@ -82,21 +80,12 @@ pub fn to_subject<'a>(
 {
     let m = pool.count;
     let found = reached(m, &pool.heads, &pool.kinds, &pool.numbers, on, stop, e);
-    if has_subject(
-        m,
-        &pool.heads,
-        &pool.kinds,
-        &pool.numbers,
-        stop,
-        &found,
-        n.subject,
-    ) {
+    if has_subject(m, &pool.kinds, &pool.numbers, stop, &found, n.subject) {
         let w = child_for(IMPLICATION, n, Expression::Entity(n.subject), n.subject);
         return better(nodes, edges, i, Choice::Nothing, w);
     }
     with_members(
         m,
-        &pool.heads,
         &pool.kinds,
         &pool.numbers,
         stop,

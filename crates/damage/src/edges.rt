@@ -8,8 +8,8 @@ use negotiation::Header;
 use negotiation::entity_of;
 use word::wide;
 ghost use mathlib.Core.Path.{_≡_};
-ghost use Prim.Native.Nat.{_≤_, _<_};
-ghost use Rattle.graph.specs.laws.Graph.{nodesFrom, edgesFrom, nodesOf, edgesOf, edgeAt};
+ghost use Prim.Native.Nat.{ℕ, _≤_, _<_};
+ghost use Rattle.graph.specs.laws.Graph.{nodesFrom, edgesFrom, nodesOf, edgesOf, edgeFrom};
 ghost use Rattle.damage.specs.Edges.{brought, placed as placedOf, formed as formedOf, edgeFits, allBrought};
 
 // An edge behind which b of n nodes are brought.
@@ -19,10 +19,9 @@ fn placed(n: usize, b: usize, e: Edge) -> bool
     (wide(e.parent) < b) & (wide(e.child) <= b) & (wide(e.child) < n) & (e.parent != e.child)
 }
 
-// An edge between nodes has the form of its kind.
+// An edge between nodes has the form of its kind, however many nodes there are.
 fn formed<'a>(
     h: Header,
-    n: usize,
     kind: &'a [u8; 128],
     parts: &'a [u8; 128],
     n0: &'a [u16; 128],
@@ -38,13 +37,13 @@ fn formed<'a>(
     state: &'a [u8; 128],
     e: Edge,
 ) -> bool
-    requires { ⌜ (n ≤ 128) × (e .parent < n) × (e .child < n) ⌝ }
-    ensures { λ r. ⌜ r ≡ formedOf h (nodesOf (nodesFrom n (now (kind .entry)) (now (parts .entry)) (now (n0 .entry)) (now (n1 .entry))
+    requires { ⌜ (e .parent < 128) × (e .child < 128) ⌝ }
+    ensures { λ r. ⌜ ((n : ℕ) → e .parent < n → e .child < n → r ≡ formedOf h (nodesOf
+        (nodesFrom n (now (kind .entry)) (now (parts .entry)) (now (n0 .entry)) (now (n1 .entry))
         (now (n2 .entry)) (now (n3 .entry)) (now (n4 .entry)) (now (n5 .entry)) (now (n6 .entry)) (now (n7 .entry)) (now (subject .entry))
-        (now (verifier .entry)) (now (state .entry)))) e ⌝ }
+        (now (verifier .entry)) (now (state .entry)))) e) ⌝ }
 {
     let p = node_at(
-        n,
         kind,
         parts,
         n0,
@@ -61,7 +60,6 @@ fn formed<'a>(
         wide(e.parent),
     );
     let c = node_at(
-        n,
         kind,
         parts,
         n0,
@@ -97,26 +95,24 @@ fn edge_fits<'a>(
     subject: &'a [u16; 128],
     verifier: &'a [u8; 128],
     state: &'a [u8; 128],
-    m: usize,
     edge: &'a [u8; 256],
     parent: &'a [u8; 256],
     child: &'a [u8; 256],
     b: usize,
     j: usize,
 ) -> bool
-    requires { ⌜ (n ≤ 128) × (m ≤ 256) × (j < m) × (b ≡ brought (edgesOf (edgesFrom j (now edge) (now parent) (now child)))) × (b ≤ n) ⌝ }
+    requires { ⌜ (n ≤ 128) × (j < 256) × (b ≡ brought (edgesOf (edgesFrom j (now edge) (now parent) (now child)))) × (b ≤ n) ⌝ }
     ensures { λ r. ⌜ r ≡ edgeFits h (nodesOf (nodesFrom n (now (kind .entry)) (now (parts .entry)) (now (n0 .entry)) (now (n1 .entry))
         (now (n2 .entry)) (now (n3 .entry)) (now (n4 .entry)) (now (n5 .entry)) (now (n6 .entry)) (now (n7 .entry)) (now (subject .entry))
         (now (verifier .entry)) (now (state .entry)))) (edgesOf (edgesFrom j (now (edge .entry)) (now (parent .entry)) (now (child .entry))))
-        (edgeAt (edgesFrom m (now (edge .entry)) (now (parent .entry)) (now (child .entry))) j) ⌝ }
+        (edgeFrom (now (edge .entry)) (now (parent .entry)) (now (child .entry)) j) ⌝ }
 {
-    let e = edge_at(m, edge, parent, child, j);
+    let e = edge_at(edge, parent, child, j);
     if !placed(n, b, e) {
         return false;
     }
     if !formed(
         h,
-        n,
         kind,
         parts,
         n0,
@@ -183,7 +179,6 @@ pub fn edges_fit<'a>(
             subject,
             verifier,
             state,
-            m,
             edge,
             parent,
             child,

@@ -94,7 +94,6 @@ fn records_sound<'a>(
         return false;
     }
     let primary = node_at(
-        n,
         kind,
         parts,
         n0,

@@ -50,7 +50,6 @@ fn node_fits<'a>(
     k: usize,
     name: &'a [u16; 64],
     class: &'a [u8; 64],
-    n: usize,
     kind: &'a [u8; 128],
     parts: &'a [u8; 128],
     n0: &'a [u16; 128],
@@ -66,15 +65,14 @@ fn node_fits<'a>(
     state: &'a [u8; 128],
     i: usize,
 ) -> bool
-    requires { ⌜ (k ≤ 64) × Ascending k (now name) × (i < n) × (n ≤ 128) ⌝ }
+    requires { ⌜ (k ≤ 64) × Ascending k (now name) × (i < 128) ⌝ }
     ensures { λ b. ⌜ b ≡ nodeFits (namesOf (namesFrom k (now (name .entry)) (now (class .entry))))
         (nodesOf (nodesFrom i (now (kind .entry)) (now (parts .entry)) (now (n0 .entry)) (now (n1 .entry)) (now (n2 .entry)) (now (n3 .entry))
         (now (n4 .entry)) (now (n5 .entry)) (now (n6 .entry)) (now (n7 .entry)) (now (subject .entry)) (now (verifier .entry)) (now (state .entry))))
-        (nodeAt (nodesFrom n (now (kind .entry)) (now (parts .entry)) (now (n0 .entry)) (now (n1 .entry)) (now (n2 .entry)) (now (n3 .entry))
+        (nodeAt (nodesFrom i (now (kind .entry)) (now (parts .entry)) (now (n0 .entry)) (now (n1 .entry)) (now (n2 .entry)) (now (n3 .entry))
         (now (n4 .entry)) (now (n5 .entry)) (now (n6 .entry)) (now (n7 .entry)) (now (subject .entry)) (now (verifier .entry)) (now (state .entry))) i) ⌝ }
 {
     let x = node_at(
-        n,
         kind,
         parts,
         n0,
@@ -146,7 +144,6 @@ pub fn nodes_fit<'a>(
             k,
             name,
             class,
-            n,
             kind,
             parts,
             n0,

@@ -8,7 +8,7 @@ use rt0::is_shown;
 ghost use mathlib.Core.Path.{_≡_};
 ghost use mathlib.Core.List.{[]};
 ghost use Prim.Native.Nat.{_≤_, _<_};
-ghost use Rattle.rt0.specs.laws.Pool.{poolOf, credentialAt, credentials};
+ghost use Rattle.rt0.specs.laws.Pool.{poolOf, credentialIn, credentials};
 ghost use Rattle.class.specs.laws.Names.{namesFrom, namesOf, Ascending};
 ghost use Rattle.justification.specs.InTurn.{inTurn};
 ghost use Rattle.damage.specs.Records.{credentialSound, credentialFits};
@@ -26,20 +26,19 @@ fn credential_fits<'a>(
     k: usize,
     name: &'a [u16; 64],
     class: &'a [u8; 64],
-    n: usize,
     heads: &'a [u16; 256],
     kinds: &'a [u8; 256],
     numbers: &'a [u16; 1024],
     i: usize,
 ) -> bool
-    requires { ⌜ (k ≤ 64) × Ascending k (now name) × (i < n) × (n ≤ 128) ⌝ }
+    requires { ⌜ (k ≤ 64) × Ascending k (now name) × (i < 128) ⌝ }
     ensures { λ b. ⌜ b ≡ credentialFits (namesOf (namesFrom k (now (name .entry)) (now (class .entry))))
         (credentials (poolOf i (now (heads .entry)) (now (kinds .entry)) (now (numbers .entry))))
-        (credentialAt (poolOf n (now (heads .entry)) (now (kinds .entry)) (now (numbers .entry))) i) ⌝ }
+        (credentialIn (now (heads .entry)) (now (kinds .entry)) (now (numbers .entry)) i) ⌝ }
 {
     let c = Credential {
-        head: head_at(n, heads, kinds, numbers, i),
-        body: body_at(n, heads, kinds, numbers, i),
+        head: head_at(heads, i),
+        body: body_at(kinds, numbers, i),
     };
     if !credential_sound(k, name, class, c) {
         return false;
@@ -63,7 +62,7 @@ pub fn shown_fit<'a>(
 {
     let mut i = 0;
     while i < n {
-        if !credential_fits(k, name, class, n, heads, kinds, numbers, i) {
+        if !credential_fits(k, name, class, heads, kinds, numbers, i) {
             return false;
         }
         i += 1;

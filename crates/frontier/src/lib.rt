@@ -120,7 +120,7 @@ fn follow<'a>(
     if stop[j] == 1 {
         return tail;
     }
-    let x = body_at(n, heads, kinds, numbers, j);
+    let x = body_at(kinds, numbers, j);
     enter_body(n, heads, on, found, queue, tail, x)
 }
 

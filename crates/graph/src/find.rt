@@ -51,9 +51,8 @@ pub fn expression_at<'a>(
     })
 }
 
-// Node i.
+// Node i, however many nodes there are.
 pub fn node_at<'a>(
-    n: usize,
     kind: &'a [u8; 128],
     parts: &'a [u8; 128],
     n0: &'a [u16; 128],
@@ -69,10 +68,10 @@ pub fn node_at<'a>(
     state: &'a [u8; 128],
     i: usize,
 ) -> Node
-    requires { ⌜ (i < n) × (n ≤ 128) ⌝ }
-    ensures { λ r. ⌜ r ≡ nodeIn (nodesOf (nodesFrom n (now (kind .entry)) (now (parts .entry)) (now (n0 .entry)) (now (n1 .entry)) (now (n2 .entry))
+    requires { ⌜ i < 128 ⌝ }
+    ensures { λ r. ⌜ ((n : ℕ) → i < n → r ≡ nodeIn (nodesOf (nodesFrom n (now (kind .entry)) (now (parts .entry)) (now (n0 .entry)) (now (n1 .entry)) (now (n2 .entry))
         (now (n3 .entry)) (now (n4 .entry)) (now (n5 .entry)) (now (n6 .entry)) (now (n7 .entry)) (now (subject .entry)) (now (verifier .entry))
-        (now (state .entry)))) i ⌝ }
+        (now (state .entry)))) i) ⌝ }
 {
     Node {
         expression: expression_at(kind, parts, n0, n1, n2, n3, n4, n5, n6, n7, i),
@@ -166,16 +165,15 @@ pub fn find_node<'a>(
     MOST_NODES
 }
 
-// Edge j.
+// Edge j, however many edges there are.
 pub fn edge_at<'a>(
-    m: usize,
     kind: &'a [u8; 256],
     parent: &'a [u8; 256],
     child: &'a [u8; 256],
     j: usize,
 ) -> Edge
-    requires { ⌜ (j < m) × (m ≤ 256) ⌝ }
-    ensures { λ r. ⌜ r ≡ edgeIn (edgesOf (edgesFrom m (now (kind .entry)) (now (parent .entry)) (now (child .entry)))) j ⌝ }
+    requires { ⌜ j < 256 ⌝ }
+    ensures { λ r. ⌜ ((m : ℕ) → j < m → r ≡ edgeIn (edgesOf (edgesFrom m (now (kind .entry)) (now (parent .entry)) (now (child .entry)))) j) ⌝ }
 {
     Edge {
         kind: kind[j],
@@ -225,7 +223,6 @@ pub fn node_of(nodes: Nodes, i: u8) -> Node
     ensures { λ r. ⌜ r ≡ nodeIn (nodesOf nodes) i ⌝ }
 {
     node_at(
-        nodes.count,
         &nodes.kind,
         &nodes.parts,
         &nodes.n0,

@@ -10,6 +10,7 @@ use rules::rules_of;
 use word::wide;
 ghost use mathlib.Core.Path.{_≡_};
 ghost use Prim.Native.Nat.{ℕ, _≤_, _<_};
+ghost use mathlib.Core.List.{List};
 ghost use lib.ListN.{getD};
 ghost use Rattle.rt0.specs.Lists.{all};
 ghost use Rattle.rt0.specs.laws.Pool.{poolOf, credentials};
@@ -39,7 +40,8 @@ fn children<'a>(m: usize, edge: &'a [u8; 256], child: &'a [u8; 256]) -> [u8; 128
     r
 }
 
-// Whether edge j, if it is of kind 1 and from node c, is implied; e is the expression of c, and vals answers what is from it.
+// Whether edge j, if it is of kind 1 and from node c, is implied; e is the expression of c, and vals answers what is from it,
+// whatever credentials are on.
 fn implied_at<'a>(
     kind: &'a [u8; 128],
     parts: &'a [u8; 128],
@@ -58,7 +60,6 @@ fn implied_at<'a>(
     heads: &'a [u16; 256],
     kinds: &'a [u8; 256],
     numbers: &'a [u16; 1024],
-    on: &'a [u8; 128],
     mem: &'a [u64; 260],
     vals: &'a [u64; 260],
     e: Expression,
@@ -66,22 +67,22 @@ fn implied_at<'a>(
     j: usize,
 ) -> bool
     requires { ⌜ (j < 256) × (getD (now parent) j 0 < 128) × (q ≤ 128)
-        × Relation (poolOf q (now heads) (now kinds) (now numbers)) (now on) (now mem)
-        × Answers (poolOf q (now heads) (now kinds) (now numbers)) (now on) e 0 (now vals)
         × (e ≡ expressionFrom (now kind) (now parts) (now n0) (now n1) (now n2) (now n3) (now n4) (now n5) (now n6) (now n7) c) ⌝ }
-    ensures { λ r. ⌜ r ≡ impliedFrom (chosen (poolOf q (now (heads .entry)) (now (kinds .entry)) (now (numbers .entry))) (now (on .entry)))
+    ensures { λ r. ⌜ ((on : List ℕ) → Relation (poolOf q (now (heads .entry)) (now (kinds .entry)) (now (numbers .entry))) on (now (mem .entry))
+        → Answers (poolOf q (now (heads .entry)) (now (kinds .entry)) (now (numbers .entry))) on e 0 (now (vals .entry))
+        → r ≡ impliedFrom (chosen (poolOf q (now (heads .entry)) (now (kinds .entry)) (now (numbers .entry))) on)
         (expressionFrom (now (kind .entry)) (now (parts .entry)) (now (n0 .entry)) (now (n1 .entry)) (now (n2 .entry)) (now (n3 .entry))
         (now (n4 .entry)) (now (n5 .entry)) (now (n6 .entry)) (now (n7 .entry))) c
-        (edgeFrom (now (edge .entry)) (now (parent .entry)) (now (child .entry)) j) ⌝ }
+        (edgeFrom (now (edge .entry)) (now (parent .entry)) (now (child .entry)) j)) ⌝ }
 {
     if (edge[j] != IMPLICATION) | (wide(child[j]) != c) {
         return true;
     }
     let f = expression_at(kind, parts, n0, n1, n2, n3, n4, n5, n6, n7, wide(parent[j]));
-    in_column(q, heads, kinds, numbers, on, mem, vals, f, e)
+    in_column(q, heads, kinds, numbers, mem, vals, f, e)
 }
 
-// Whether the edges of kind 1 from node c are implied.
+// Whether the edges of kind 1 from node c are implied, likewise.
 fn implied_from<'a>(
     kind: &'a [u8; 128],
     parts: &'a [u8; 128],
@@ -101,20 +102,19 @@ fn implied_from<'a>(
     heads: &'a [u16; 256],
     kinds: &'a [u8; 256],
     numbers: &'a [u16; 1024],
-    on: &'a [u8; 128],
     mem: &'a [u64; 260],
     vals: &'a [u64; 260],
     e: Expression,
     c: usize,
 ) -> bool
     requires { ⌜ (m ≤ 256) × Inside 128 (edgesFrom m (now edge) (now parent) (now child)) × (q ≤ 128)
-        × Relation (poolOf q (now heads) (now kinds) (now numbers)) (now on) (now mem)
-        × Answers (poolOf q (now heads) (now kinds) (now numbers)) (now on) e 0 (now vals)
         × (e ≡ expressionFrom (now kind) (now parts) (now n0) (now n1) (now n2) (now n3) (now n4) (now n5) (now n6) (now n7) c) ⌝ }
-    ensures { λ r. ⌜ r ≡ allFrom (chosen (poolOf q (now (heads .entry)) (now (kinds .entry)) (now (numbers .entry))) (now (on .entry)))
+    ensures { λ r. ⌜ ((on : List ℕ) → Relation (poolOf q (now (heads .entry)) (now (kinds .entry)) (now (numbers .entry))) on (now (mem .entry))
+        → Answers (poolOf q (now (heads .entry)) (now (kinds .entry)) (now (numbers .entry))) on e 0 (now (vals .entry))
+        → r ≡ allFrom (chosen (poolOf q (now (heads .entry)) (now (kinds .entry)) (now (numbers .entry))) on)
         (expressionFrom (now (kind .entry)) (now (parts .entry)) (now (n0 .entry)) (now (n1 .entry)) (now (n2 .entry)) (now (n3 .entry))
         (now (n4 .entry)) (now (n5 .entry)) (now (n6 .entry)) (now (n7 .entry)))
-        (edgesOf (edgesFrom m (now (edge .entry)) (now (parent .entry)) (now (child .entry)))) c ⌝ }
+        (edgesOf (edgesFrom m (now (edge .entry)) (now (parent .entry)) (now (child .entry)))) c) ⌝ }
 {
     let mut j = 0;
     while j < m {
@@ -136,7 +136,6 @@ fn implied_from<'a>(
             heads,
             kinds,
             numbers,
-            on,
             mem,
             vals,
             e,
@@ -170,7 +169,6 @@ fn node_implied<'a>(
     heads: &'a [u16; 256],
     kinds: &'a [u8; 256],
     numbers: &'a [u16; 1024],
-    words: usize,
     head: &'a [usize; 128],
     part: &'a [usize; 512],
     first: &'a [usize; 128],
@@ -183,7 +181,7 @@ fn node_implied<'a>(
     c: usize,
 ) -> bool
     requires { ⌜ (c < 128) × (m ≤ 256) × Inside 128 (edgesFrom m (now edge) (now parent) (now child)) × (q ≤ 128)
-        × Ruled (poolOf q (now heads) (now kinds) (now numbers)) (rulesOf q words (now head) (now part) (now first) (now named) (now src))
+        × ((words : ℕ) × Ruled (poolOf q (now heads) (now kinds) (now numbers)) (rulesOf q words (now head) (now part) (now first) (now named) (now src)))
         × Relation (poolOf q (now heads) (now kinds) (now numbers)) (now on) (now mem)
         × Children (now edge) (now child) m (now used) ⌝ }
     ensures { λ r. ⌜ r ≡ allFrom (chosen (poolOf q (now (heads .entry)) (now (kinds .entry)) (now (numbers .entry))) (now (on .entry)))
@@ -200,7 +198,6 @@ fn node_implied<'a>(
         heads,
         kinds,
         numbers,
-        words,
         head,
         part,
         first,
@@ -230,7 +227,6 @@ fn node_implied<'a>(
         heads,
         kinds,
         numbers,
-        on,
         mem,
         &vals,
         e,
@@ -259,7 +255,6 @@ fn nodes_implied<'a>(
     heads: &'a [u16; 256],
     kinds: &'a [u8; 256],
     numbers: &'a [u16; 1024],
-    words: usize,
     head: &'a [usize; 128],
     part: &'a [usize; 512],
     first: &'a [usize; 128],
@@ -272,7 +267,7 @@ fn nodes_implied<'a>(
 ) -> bool
     requires { ⌜ (n ≤ 128) × Inside n (edgesFrom m (now edge) (now parent) (now child)) × (m ≤ 256)
         × Inside 128 (edgesFrom m (now edge) (now parent) (now child)) × (q ≤ 128)
-        × Ruled (poolOf q (now heads) (now kinds) (now numbers)) (rulesOf q words (now head) (now part) (now first) (now named) (now src))
+        × ((words : ℕ) × Ruled (poolOf q (now heads) (now kinds) (now numbers)) (rulesOf q words (now head) (now part) (now first) (now named) (now src)))
         × Relation (poolOf q (now heads) (now kinds) (now numbers)) (now on) (now mem)
         × Children (now edge) (now child) m (now used) ⌝ }
     ensures { λ r. ⌜ r ≡ allImplied (chosen (poolOf q (now (heads .entry)) (now (kinds .entry)) (now (numbers .entry))) (now (on .entry)))
@@ -301,7 +296,6 @@ fn nodes_implied<'a>(
             heads,
             kinds,
             numbers,
-            words,
             head,
             part,
             first,
@@ -354,7 +348,6 @@ pub fn edges_implied<'a>(
     let on = [1u8; 128];
     let mem = relation(
         q,
-        heads,
         kinds,
         numbers,
         x.words,
@@ -386,7 +379,6 @@ pub fn edges_implied<'a>(
         heads,
         kinds,
         numbers,
-        x.words,
         &x.head,
         &x.part,
         &x.first,

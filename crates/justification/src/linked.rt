@@ -56,7 +56,6 @@ fn is_monitored<'a>(
         (now (verifier .entry)) (now (state .entry)))) (edgesOf (edgesFrom m (now (edge .entry)) (now (parent .entry)) (now (child .entry)))) e ⌝ }
 {
     let p = node_at(
-        n,
         kind,
         parts,
         n0,
@@ -73,7 +72,6 @@ fn is_monitored<'a>(
         wide(e.parent),
     );
     let c = node_at(
-        n,
         kind,
         parts,
         n0,
@@ -217,7 +215,7 @@ fn linked_in_turn<'a>(
     let mut j = 0;
     while j < m {
         let before = j;
-        let e = edge_at(m, edge, parent, child, j);
+        let e = edge_at(edge, parent, child, j);
         if !is_monitored_if(
             n,
             kind,
@@ -318,7 +316,7 @@ pub fn links_justified<'a>(
     let mut got = [0u8; 512];
     let mut sat = [0u8; 128];
     let mut queue = [0u8; 128];
-    let t = seed(n, &x.from, &x.slot, &need, &got, &mut sat, &mut queue);
+    let t = seed(n, &need, &got, &mut sat, &mut queue);
     linked_in_turn(
         n,
         kind,

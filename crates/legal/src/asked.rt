@@ -17,7 +17,7 @@ use rt0::Pool;
 use rules::rules_of;
 ghost use mathlib.Core.Path.{_≡_};
 ghost use mathlib.Core.List.{[]};
-ghost use Prim.Native.Nat.{_≤_};
+ghost use Prim.Native.Nat.{ℕ, _≤_};
 ghost use Rattle.rt0.specs.Decide.{from? as fromOf};
 ghost use Rattle.rt0.specs.laws.Pool.{poolOf, credentials as credentialsOf};
 ghost use Rattle.closure.specs.laws.Rules.{rulesOf};
@@ -61,7 +61,6 @@ pub fn proved_by(n: Negotiation) -> Proved
     let on = [1u8; 128];
     let rows = relation(
         count,
-        &pool.heads,
         &pool.kinds,
         &pool.numbers,
         rules.words,
@@ -87,7 +86,6 @@ fn is_from<'a>(
     heads: &'a [u16; 256],
     kinds: &'a [u8; 256],
     numbers: &'a [u16; 1024],
-    words: usize,
     head: &'a [usize; 128],
     part: &'a [usize; 512],
     first: &'a [usize; 128],
@@ -98,8 +96,8 @@ fn is_from<'a>(
     f: Expression,
     e: Expression,
 ) -> bool
-    requires { ⌜ ProvedBy (poolOf n (now heads) (now kinds) (now numbers)) (rulesOf n words (now head) (now part) (now first) (now named) (now src))
-        (now rows) ⌝ }
+    requires { ⌜ ((words : ℕ) × ProvedBy (poolOf n (now heads) (now kinds) (now numbers))
+        (rulesOf n words (now head) (now part) (now first) (now named) (now src)) (now rows)) ⌝ }
     ensures { λ r. ⌜ r ≡ fromOf (credentialsOf (poolOf n (now (heads .entry)) (now (kinds .entry)) (now (numbers .entry)))) f e ⌝ }
 {
     let on = [1u8; 128];
@@ -108,7 +106,6 @@ fn is_from<'a>(
         heads,
         kinds,
         numbers,
-        words,
         head,
         part,
         first,
@@ -174,7 +171,6 @@ pub fn is_proved<'a>(
     heads: &'a [u16; 256],
     kinds: &'a [u8; 256],
     numbers: &'a [u16; 1024],
-    words: usize,
     head: &'a [usize; 128],
     part: &'a [usize; 512],
     first: &'a [usize; 128],
@@ -184,8 +180,8 @@ pub fn is_proved<'a>(
     rows: &'a [u64; 260],
     c: Command,
 ) -> bool
-    requires { ⌜ (n .nodes .count ≤ MOST-NODES) × ProvedFor c (poolOf count (now heads) (now kinds) (now numbers))
-        (rulesOf count words (now head) (now part) (now first) (now named) (now src)) (now rows) (n .shown) ⌝ }
+    requires { ⌜ (n .nodes .count ≤ MOST-NODES) × ((words : ℕ) × ProvedFor c (poolOf count (now heads) (now kinds) (now numbers))
+        (rulesOf count words (now head) (now part) (now first) (now named) (now src)) (now rows) (n .shown)) ⌝ }
     ensures { λ r. ⌜ Proves (stateOf n) c r ⌝ }
 {
     if !is_implication(c) {
@@ -200,7 +196,6 @@ pub fn is_proved<'a>(
         heads,
         kinds,
         numbers,
-        words,
         head,
         part,
         first,

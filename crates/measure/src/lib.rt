@@ -12,7 +12,7 @@ use relation::relation;
 use rt0::Pool;
 use rules::rules_of;
 ghost use mathlib.Core.Path.{_≡_};
-ghost use Prim.Native.Nat.{_*_, _≤_};
+ghost use Prim.Native.Nat.{ℕ, _*_, _≤_};
 ghost use Rattle.rt0.specs.Decide.{from? as fromOf};
 ghost use Rattle.rt0.specs.laws.Pool.{poolOf, credentials as credentialsOf};
 ghost use Rattle.closure.specs.laws.Rules.{rulesOf};
@@ -29,7 +29,6 @@ fn ask_times<'a>(
     heads: &'a [u16; 256],
     kinds: &'a [u8; 256],
     numbers: &'a [u16; 1024],
-    words: usize,
     head: &'a [usize; 128],
     part: &'a [usize; 512],
     first: &'a [usize; 128],
@@ -42,8 +41,8 @@ fn ask_times<'a>(
     e: Expression,
     times: u32,
 ) -> u64
-    requires { ⌜ (n ≤ 128) × Ruled (poolOf n (now heads) (now kinds) (now numbers))
-        (rulesOf n words (now head) (now part) (now first) (now named) (now src))
+    requires { ⌜ (n ≤ 128) × ((words : ℕ) × Ruled (poolOf n (now heads) (now kinds) (now numbers))
+        (rulesOf n words (now head) (now part) (now first) (now named) (now src)))
         × Relation (poolOf n (now heads) (now kinds) (now numbers)) (now on) (now mem) ⌝ }
     ensures { λ r. ⌜ r ≡ countOf (fromOf (chosen (poolOf n (now (heads .entry)) (now (kinds .entry)) (now (numbers .entry))) (now (on .entry))) f e) times ⌝ }
 {
@@ -55,7 +54,6 @@ fn ask_times<'a>(
             heads,
             kinds,
             numbers,
-            words,
             head,
             part,
             first,
@@ -85,7 +83,6 @@ fn from_times(pool: Pool, f: Expression, e: Expression, times: u32) -> u64
     let on = [1u8; 128];
     let mem = relation(
         n,
-        &pool.heads,
         &pool.kinds,
         &pool.numbers,
         x.words,
@@ -102,7 +99,6 @@ fn from_times(pool: Pool, f: Expression, e: Expression, times: u32) -> u64
         &pool.heads,
         &pool.kinds,
         &pool.numbers,
-        x.words,
         &x.head,
         &x.part,
         &x.first,

@@ -7,7 +7,8 @@ use rt0::body_at;
 use tables::is_sensitive;
 ghost use mathlib.Core.Path.{_≡_};
 ghost use mathlib.Core.Bool.{cond};
-ghost use Prim.Native.Nat.{_≤_};
+ghost use mathlib.Core.List.{List};
+ghost use Prim.Native.Nat.{ℕ, _≤_};
 ghost use Rattle.expression.specs.declared.Expression.the-variants as E;
 ghost use Rattle.rt0.specs.laws.Pool.{poolOf};
 ghost use Rattle.class.specs.laws.Names.{namesFrom, namesOf, Ascending};
@@ -67,7 +68,7 @@ fn is_stop<'a>(
     }
 }
 
-// Of the credentials of a pool, those at whose bodies the frontier stops.
+// Of the credentials of a pool, those at whose bodies the frontier stops, whatever the heads.
 pub fn stops<'a>(
     p: Predicate,
     n: usize,
@@ -77,18 +78,17 @@ pub fn stops<'a>(
     roles: &'a [u16; 64],
     others: &'a [u16; 64],
     m: usize,
-    heads: &'a [u16; 256],
     kinds: &'a [u8; 256],
     numbers: &'a [u16; 1024],
 ) -> [u8; 128]
     requires { ⌜ (n ≤ 64) × Ascending n (now names) × (k ≤ 32) × (m ≤ 128) ⌝ }
-    ensures { λ r. ⌜ Stops (predicateOf p (namesOf (namesFrom n (now (names .entry)) (now (classes .entry))))
-        (pairsOf (pairsFrom k (now (roles .entry)) (now (others .entry))))) (poolOf m (now (heads .entry)) (now (kinds .entry)) (now (numbers .entry))) r ⌝ }
+    ensures { λ r. ⌜ ((H : List ℕ) → Stops (predicateOf p (namesOf (namesFrom n (now (names .entry)) (now (classes .entry))))
+        (pairsOf (pairsFrom k (now (roles .entry)) (now (others .entry))))) (poolOf m H (now (kinds .entry)) (now (numbers .entry))) r) ⌝ }
 {
     let mut r = [0u8; 128];
     let mut i = 0;
     while i < m {
-        let e = body_at(m, heads, kinds, numbers, i);
+        let e = body_at(kinds, numbers, i);
         r[i] = flag_of(is_stop(p, n, names, classes, k, roles, others, e));
         i += 1;
     }

@@ -9,9 +9,9 @@ ghost use Prim.Native.Nat.{_<_, _≤_};
 ghost use lib.ListN.{length};
 ghost use Rattle.expression.specs.declared.Expression.the-variants as E;
 ghost use Rattle.expression.specs.Same.{sameRole};
-ghost use Rattle.rt0.specs.laws.Pool.{poolOf};
+ghost use Rattle.rt0.specs.laws.Pool.{poolOf, headIn};
 ghost use Rattle.needed.specs.laws.Relevant.{asks, ClosedFor};
-ghost use Rattle.needed.specs.laws.Flags.{headIn, isNamed, Raised, Marked, Work, Followed, Swept};
+ghost use Rattle.needed.specs.laws.Flags.{isNamed, Raised, Marked, Work, Followed, Swept};
 
 // 1 where credential i has the head p, else the flag that was there.
 fn flag_head<'a>(heads: &'a [u16; 256], i: usize, p: Role, was: u8) -> u8
@@ -117,7 +117,7 @@ fn follow<'a>(
         return false;
     }
     done[j] = 1;
-    let x = body_at(n, heads, kinds, numbers, j);
+    let x = body_at(kinds, numbers, j);
     flag_asked(n, heads, x, flags);
     true
 }

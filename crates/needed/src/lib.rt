@@ -147,7 +147,6 @@ pub fn needed<'a>(
     let mut on = first_on(shown);
     let mut rows = relation(
         n,
-        heads,
         kinds,
         numbers,
         x.words,

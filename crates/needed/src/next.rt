@@ -42,7 +42,6 @@ fn holds_with<'a>(
     if i < n {
         switch_on(
             n,
-            heads,
             kinds,
             numbers,
             words,
@@ -62,7 +61,6 @@ fn holds_with<'a>(
         heads,
         kinds,
         numbers,
-        words,
         head,
         part,
         first,
@@ -180,7 +178,6 @@ pub fn next_kept<'a>(
     }
     switch_on(
         n,
-        heads,
         kinds,
         numbers,
         words,

@@ -176,8 +176,8 @@ fn write_shown<'a>(
     let mut k = 0;
     while k < count {
         let c = Credential {
-            head: head_at(count, heads, kinds, numbers, k),
-            body: body_at(count, heads, kinds, numbers, k),
+            head: head_at(heads, k),
+            body: body_at(kinds, numbers, k),
         };
         write_credential(buf, SHOWN_AT + k * 22, c);
         k += 1;

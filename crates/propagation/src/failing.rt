@@ -84,9 +84,8 @@ fn fail_node<'a>(
     tail + 1
 }
 
-// Edge j, if its child has failed, is gone.
+// Edge j, if its child has failed, is gone, however many edges there are.
 fn drop_edge<'a>(
-    m: usize,
     from: &'a [u8; 256],
     slot: &'a [u16; 256],
     way: &'a [u8; 128],
@@ -97,9 +96,10 @@ fn drop_edge<'a>(
     tail: usize,
     j: usize,
 ) -> usize
-    requires { ⌜ (j < m) × (tail ≤ 128) × Failing m (graph (now from) (now slot) (now way)) (now failed) (now left) (now gone) ⌝ }
-    ensures { λ r. ⌜ (r ≤ 128) × Failing m (graph (now (from .entry)) (now (slot .entry)) (now (way .entry))) (now (failed .exit)) (now (left .exit))
-        (now (gone .exit)) ⌝ }
+    requires { ⌜ (tail ≤ 128) × ((m : ℕ) × (j < m) × Failing m (graph (now from) (now slot) (now way)) (now failed) (now left) (now gone)) ⌝ }
+    ensures { λ r. ⌜ (r ≤ 128) × ((m : ℕ) → j < m → Failing m (graph (now (from .entry)) (now (slot .entry)) (now (way .entry))) (now (failed .entry))
+        (now (left .entry)) (now (gone .entry))
+        → Failing m (graph (now (from .entry)) (now (slot .entry)) (now (way .entry))) (now (failed .exit)) (now (left .exit)) (now (gone .exit))) ⌝ }
 {
     let f = wide(from[j]);
     if !is_at(failed, f, true) {
@@ -114,9 +114,8 @@ fn drop_edge<'a>(
     fail_node(way, left, failed, queue, tail, p, true)
 }
 
-// The edges of a chain.
+// The edges of a chain, likewise.
 fn drop_chain<'a>(
-    m: usize,
     from: &'a [u8; 256],
     slot: &'a [u16; 256],
     way: &'a [u8; 128],
@@ -128,24 +127,24 @@ fn drop_chain<'a>(
     tail: usize,
     first: usize,
 ) -> usize
-    requires { ⌜ (first ≤ m) × (tail ≤ 128) × ((j : ℕ) → getD (now next) j 0 ≤ j)
-        × Failing m (graph (now from) (now slot) (now way)) (now failed) (now left) (now gone) ⌝ }
-    ensures { λ r. ⌜ (r ≤ 128) × Failing m (graph (now (from .entry)) (now (slot .entry)) (now (way .entry))) (now (failed .exit)) (now (left .exit))
-        (now (gone .exit)) ⌝ }
+    requires { ⌜ (tail ≤ 128) × ((j : ℕ) → getD (now next) j 0 ≤ j)
+        × ((m : ℕ) × (first ≤ m) × Failing m (graph (now from) (now slot) (now way)) (now failed) (now left) (now gone)) ⌝ }
+    ensures { λ r. ⌜ (r ≤ 128) × ((m : ℕ) → first ≤ m → Failing m (graph (now (from .entry)) (now (slot .entry)) (now (way .entry))) (now (failed .entry))
+        (now (left .entry)) (now (gone .entry))
+        → Failing m (graph (now (from .entry)) (now (slot .entry)) (now (way .entry))) (now (failed .exit)) (now (left .exit)) (now (gone .exit))) ⌝ }
 {
     let mut t = tail;
     let mut h = first;
     while 0 < h {
         let j = h - 1;
-        t = drop_edge(m, from, slot, way, left, gone, failed, queue, t, j);
+        t = drop_edge(from, slot, way, left, gone, failed, queue, t, j);
         h = wide16(next[j]);
     }
     t
 }
 
-// The queue of failed nodes, until it runs dry.
+// The queue of failed nodes, until it runs dry, likewise.
 fn run_queue<'a>(
-    m: usize,
     from: &'a [u8; 256],
     slot: &'a [u16; 256],
     way: &'a [u8; 128],
@@ -157,16 +156,18 @@ fn run_queue<'a>(
     queue: &'a mut [u8; 128],
     tail: usize,
 )
-    requires { ⌜ (tail ≤ 128) × Chained m (now from) (now head) (now next)
-        × Failing m (graph (now from) (now slot) (now way)) (now failed) (now left) (now gone) ⌝ }
-    ensures { λ u. ⌜ Failing m (graph (now (from .entry)) (now (slot .entry)) (now (way .entry))) (now (failed .exit)) (now (left .exit)) (now (gone .exit)) ⌝ }
+    requires { ⌜ (tail ≤ 128) × ((m : ℕ) × Chained m (now from) (now head) (now next)
+        × Failing m (graph (now from) (now slot) (now way)) (now failed) (now left) (now gone)) ⌝ }
+    ensures { λ u. ⌜ ((m : ℕ) → Chained m (now (from .entry)) (now (head .entry)) (now (next .entry))
+        → Failing m (graph (now (from .entry)) (now (slot .entry)) (now (way .entry))) (now (failed .entry)) (now (left .entry)) (now (gone .entry))
+        → Failing m (graph (now (from .entry)) (now (slot .entry)) (now (way .entry))) (now (failed .exit)) (now (left .exit)) (now (gone .exit))) ⌝ }
 {
     let mut t = tail;
     let mut q = 0;
     while q < t {
         let v = wide(queue[q]);
         let h = wide16(head[v]);
-        t = drop_chain(m, from, slot, way, next, left, gone, failed, queue, t, h);
+        t = drop_chain(from, slot, way, next, left, gone, failed, queue, t, h);
         q += 1;
     }
 }
@@ -212,7 +213,6 @@ fn fail_by_queue<'a>(
     let mut left = tally(m, from, slot);
     let t = fail_childless(n, way, &left, &mut failed, &mut queue);
     run_queue(
-        m,
         from,
         slot,
         way,

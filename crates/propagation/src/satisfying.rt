@@ -5,6 +5,7 @@ use crate::chains::wide16;
 ghost use mathlib.Core.Path.{_≡_};
 ghost use mathlib.Core.Bool.{true};
 ghost use Prim.Native.Nat.{ℕ, _+_, _≤_, _<_};
+ghost use mathlib.Core.List.{List};
 ghost use lib.ListN.{getD};
 ghost use Rattle.propagation.specs.Flags.{at};
 ghost use Rattle.propagation.specs.laws.Flags.{flag};
@@ -24,11 +25,8 @@ fn ready<'a>(need: u8, got: &'a [u8; 512], a: usize) -> bool
         & ((need < 4) | (got[a + 3] == 1))
 }
 
-// Node p, if its slots are filled, is satisfied and joins the queue.
+// Node p, if its slots are filled, is satisfied and joins the queue, whatever the edges.
 fn mark<'a>(
-    m: usize,
-    from: &'a [u8; 256],
-    slot: &'a [u16; 256],
     need: &'a [u8; 128],
     got: &'a [u8; 512],
     sat: &'a mut [u8; 128],
@@ -36,9 +34,10 @@ fn mark<'a>(
     tail: usize,
     p: usize,
 ) -> usize
-    requires { ⌜ (p < 128) × Base m (graph (now from) (now slot) (now need)) (work (now got) (now sat) (now queue) tail) ⌝ }
-    ensures { λ r. ⌜ Marked m (graph (now (from .entry)) (now (slot .entry)) (now (need .entry)))
-        (work (now (got .entry)) (now (sat .entry)) (now (queue .entry)) tail) (work (now (got .entry)) (now (sat .exit)) (now (queue .exit)) r) p ⌝ }
+    requires { ⌜ (p < 128) × ((getD (now sat) p 0 ≡ 1 → ⊥) → tail < 128) ⌝ }
+    ensures { λ r. ⌜ ((m : ℕ) (F S : List ℕ) → Base m (graph F S (now (need .entry))) (work (now (got .entry)) (now (sat .entry)) (now (queue .entry)) tail)
+        → Marked m (graph F S (now (need .entry))) (work (now (got .entry)) (now (sat .entry)) (now (queue .entry)) tail)
+        (work (now (got .entry)) (now (sat .exit)) (now (queue .exit)) r) p) ⌝ }
 {
     if sat[p] == 1 {
         return tail;
@@ -51,10 +50,8 @@ fn mark<'a>(
     tail + 1
 }
 
-// Edge j, from a satisfied node, fills its slot.
+// Edge j, from a satisfied node, fills its slot, however many edges there are, wherever they are from.
 fn bring<'a>(
-    m: usize,
-    from: &'a [u8; 256],
     slot: &'a [u16; 256],
     need: &'a [u8; 128],
     got: &'a mut [u8; 512],
@@ -63,20 +60,20 @@ fn bring<'a>(
     tail: usize,
     j: usize,
 ) -> usize
-    requires { ⌜ (j < m) × (flag (now sat) (getD (now from) j 0) ≡ true)
-        × Base m (graph (now from) (now slot) (now need)) (work (now got) (now sat) (now queue) tail)
-        × Full 128 (graph (now from) (now slot) (now need)) (work (now got) (now sat) (now queue) tail) ⌝ }
-    ensures { λ r. ⌜ Brought m (graph (now (from .entry)) (now (slot .entry)) (now (need .entry)))
-        (work (now (got .entry)) (now (sat .entry)) (now (queue .entry)) tail) (work (now (got .exit)) (now (sat .exit)) (now (queue .exit)) r) j ⌝ }
+    requires { ⌜ ((m : ℕ) × (F : List ℕ) × (j < m) × Base m (graph F (now slot) (now need)) (work (now got) (now sat) (now queue) tail)) ⌝ }
+    ensures { λ r. ⌜ ((m : ℕ) (F : List ℕ) → j < m → flag (now (sat .entry)) (getD F j 0) ≡ true
+        → Base m (graph F (now (slot .entry)) (now (need .entry))) (work (now (got .entry)) (now (sat .entry)) (now (queue .entry)) tail)
+        → Full 128 (graph F (now (slot .entry)) (now (need .entry))) (work (now (got .entry)) (now (sat .entry)) (now (queue .entry)) tail)
+        → Brought m (graph F (now (slot .entry)) (now (need .entry))) (work (now (got .entry)) (now (sat .entry)) (now (queue .entry)) tail)
+        (work (now (got .exit)) (now (sat .exit)) (now (queue .exit)) r) j) ⌝ }
 {
     let s = wide16(slot[j]);
     got[s] = 1;
-    mark(m, from, slot, need, got, sat, queue, tail, s / 4)
+    mark(need, got, sat, queue, tail, s / 4)
 }
 
-// The edges from the satisfied node v.
+// The edges from the satisfied node v, however many edges there are.
 fn visit<'a>(
-    m: usize,
     from: &'a [u8; 256],
     slot: &'a [u16; 256],
     need: &'a [u8; 128],
@@ -88,11 +85,14 @@ fn visit<'a>(
     tail: usize,
     v: u8,
 ) -> usize
-    requires { ⌜ (flag (now sat) v ≡ true) × Chained m (now from) (now head) (now next)
+    requires { ⌜ (flag (now sat) v ≡ true) × ((m : ℕ) × Chained m (now from) (now head) (now next)
         × Base m (graph (now from) (now slot) (now need)) (work (now got) (now sat) (now queue) tail)
-        × Full 128 (graph (now from) (now slot) (now need)) (work (now got) (now sat) (now queue) tail) ⌝ }
-    ensures { λ r. ⌜ Visited m (graph (now (from .entry)) (now (slot .entry)) (now (need .entry)))
-        (work (now (got .entry)) (now (sat .entry)) (now (queue .entry)) tail) (work (now (got .exit)) (now (sat .exit)) (now (queue .exit)) r) v 0 ⌝ }
+        × Full 128 (graph (now from) (now slot) (now need)) (work (now got) (now sat) (now queue) tail)) ⌝ }
+    ensures { λ r. ⌜ ((m : ℕ) → Chained m (now (from .entry)) (now (head .entry)) (now (next .entry))
+        → Base m (graph (now (from .entry)) (now (slot .entry)) (now (need .entry))) (work (now (got .entry)) (now (sat .entry)) (now (queue .entry)) tail)
+        → Full 128 (graph (now (from .entry)) (now (slot .entry)) (now (need .entry))) (work (now (got .entry)) (now (sat .entry)) (now (queue .entry)) tail)
+        → Visited m (graph (now (from .entry)) (now (slot .entry)) (now (need .entry)))
+        (work (now (got .entry)) (now (sat .entry)) (now (queue .entry)) tail) (work (now (got .exit)) (now (sat .exit)) (now (queue .exit)) r) v 0) ⌝ }
 {
     let mut t = tail;
     let f = wide(v);
@@ -102,16 +102,15 @@ fn visit<'a>(
         let n = wide16(next[j]);
         h = j;
         if from[j] == v {
-            t = bring(m, from, slot, need, got, sat, queue, t, j);
+            t = bring(slot, need, got, sat, queue, t, j);
             h = n;
         }
     }
     t
 }
 
-// The queue from number `first` on, until it runs dry.
+// The queue from number `first` on, until it runs dry, however many edges there are.
 fn settle<'a>(
-    m: usize,
     from: &'a [u8; 256],
     slot: &'a [u16; 256],
     need: &'a [u8; 128],
@@ -123,39 +122,40 @@ fn settle<'a>(
     tail: usize,
     first: usize,
 ) -> usize
-    requires { ⌜ Chained m (now from) (now head) (now next)
-        × Done m (graph (now from) (now slot) (now need)) (work (now got) (now sat) (now queue) tail) first ⌝ }
-    ensures { λ r. ⌜ Done m (graph (now (from .entry)) (now (slot .entry)) (now (need .entry)))
-        (work (now (got .exit)) (now (sat .exit)) (now (queue .exit)) r) r ⌝ }
+    requires { ⌜ ((m : ℕ) × Chained m (now from) (now head) (now next)
+        × Done m (graph (now from) (now slot) (now need)) (work (now got) (now sat) (now queue) tail) first) ⌝ }
+    ensures { λ r. ⌜ ((m : ℕ) → Chained m (now (from .entry)) (now (head .entry)) (now (next .entry))
+        → Done m (graph (now (from .entry)) (now (slot .entry)) (now (need .entry)))
+        (work (now (got .entry)) (now (sat .entry)) (now (queue .entry)) tail) first
+        → Done m (graph (now (from .entry)) (now (slot .entry)) (now (need .entry))) (work (now (got .exit)) (now (sat .exit)) (now (queue .exit)) r) r) ⌝ }
 {
     let mut t = tail;
     let mut q = first;
     while q < t {
         let v = queue[q];
-        t = visit(m, from, slot, need, head, next, got, sat, queue, t, v);
+        t = visit(from, slot, need, head, next, got, sat, queue, t, v);
         q += 1;
     }
     t
 }
 
-// Of n nodes, those that are satisfied without an edge.
+// Of n nodes, those that are satisfied without an edge, whatever the edges.
 pub fn seed<'a>(
     n: usize,
-    from: &'a [u8; 256],
-    slot: &'a [u16; 256],
     need: &'a [u8; 128],
     got: &'a [u8; 512],
     sat: &'a mut [u8; 128],
     queue: &'a mut [u8; 128],
 ) -> usize
-    requires { ⌜ (n ≤ 128) × Beyond n 5 (now need) × Base 0 (graph (now from) (now slot) (now need)) (work (now got) (now sat) (now queue) 0) ⌝ }
-    ensures { λ r. ⌜ Done 0 (graph (now (from .entry)) (now (slot .entry)) (now (need .entry)))
-        (work (now (got .entry)) (now (sat .exit)) (now (queue .exit)) r) r ⌝ }
+    requires { ⌜ (n ≤ 128) × Beyond n 5 (now need) × ((F : List ℕ) × (S : List ℕ)
+        × Base 0 (graph F S (now need)) (work (now got) (now sat) (now queue) 0)) ⌝ }
+    ensures { λ r. ⌜ ((F S : List ℕ) → Base 0 (graph F S (now (need .entry))) (work (now (got .entry)) (now (sat .entry)) (now (queue .entry)) 0)
+        → Done 0 (graph F S (now (need .entry))) (work (now (got .entry)) (now (sat .exit)) (now (queue .exit)) r) r) ⌝ }
 {
     let mut t = 0;
     let mut i = 0;
     while i < n {
-        t = mark(0, from, slot, need, got, sat, queue, t, i);
+        t = mark(need, got, sat, queue, t, i);
         i += 1;
     }
     t
@@ -184,20 +184,8 @@ pub fn insert<'a>(
     let f = wide(from[m]);
     if f < 128 {
         if sat[f] == 1 {
-            let t = bring(m + 1, from, slot, need, got, sat, queue, tail, m);
-            return settle(
-                m + 1,
-                from,
-                slot,
-                need,
-                head,
-                next,
-                got,
-                sat,
-                queue,
-                t,
-                tail,
-            );
+            let t = bring(slot, need, got, sat, queue, tail, m);
+            return settle(from, slot, need, head, next, got, sat, queue, t, tail);
         }
     }
     tail
@@ -219,7 +207,7 @@ pub fn satisfied<'a>(
     let mut got = [0u8; 512];
     let mut sat = [0u8; 128];
     let mut queue = [0u8; 128];
-    let mut t = seed(n, from, slot, need, &got, &mut sat, &mut queue);
+    let mut t = seed(n, need, &got, &mut sat, &mut queue);
     let mut j = 0;
     while j < m {
         t = insert(

@@ -8,10 +8,11 @@ use rules::fourth_of;
 use rules::row;
 use rules::third_of;
 ghost use mathlib.Core.Path.{_≡_};
-ghost use Prim.Native.Nat.{_<_, _≤_};
+ghost use Prim.Native.Nat.{ℕ, _<_, _≤_};
+ghost use mathlib.Core.List.{List};
 ghost use Rattle.rt0.specs.declared.Pool.{Pool};
-ghost use Rattle.rt0.specs.laws.Pool.{poolOf, bodyAt};
-ghost use Rattle.rules.specs.laws.Table.{rowOf, rowFor};
+ghost use Rattle.rt0.specs.laws.Pool.{poolOf, bodyIn};
+ghost use Rattle.rules.specs.laws.Table.{rowOf, rowIn, rowFor};
 ghost use Rattle.rules.specs.laws.Columns.{fourRows, PartsTo};
 ghost use Rattle.relation.specs.laws.Question.{OwnRow};
 
@@ -55,20 +56,17 @@ fn asked_rows(e: Expression, x: Expression, old: Four) -> Four
     }
 }
 
-// The rows of the rule of body i where e is asked about. Only a role that is no head has another row.
+// The rows of the rule of body i where e is asked about; old are its rows, whatever the heads. Only a role that is no head has another row.
 fn asked_body<'a>(
-    n: usize,
-    heads: &'a [u16; 256],
     kinds: &'a [u8; 256],
     numbers: &'a [u16; 1024],
     e: Expression,
     i: usize,
     old: Four,
 ) -> Four
-    requires { ⌜ (i < 128) × (old ≡ fourRows (rowOf (poolOf n (now heads) (now kinds) (now numbers)))
-        (bodyAt (poolOf n (now heads) (now kinds) (now numbers)) i)) ⌝ }
-    ensures { λ r. ⌜ r ≡ fourRows (rowFor (poolOf n (now (heads .entry)) (now (kinds .entry)) (now (numbers .entry))) e)
-        (bodyAt (poolOf n (now (heads .entry)) (now (kinds .entry)) (now (numbers .entry))) i) ⌝ }
+    requires { ⌜ i < 128 ⌝ }
+    ensures { λ r. ⌜ ((n : ℕ) (H : List ℕ) → old ≡ fourRows (rowIn n H) (bodyIn (now (kinds .entry)) (now (numbers .entry)) i)
+        → r ≡ fourRows (rowFor (poolOf n H (now (kinds .entry)) (now (numbers .entry))) e) (bodyIn (now (kinds .entry)) (now (numbers .entry)) i)) ⌝ }
 {
     if (old.a != 128) & ((old.b != 128) & ((old.c != 128) & (old.d != 128))) {
         return old;
@@ -80,22 +78,21 @@ fn asked_body<'a>(
     if kind == 3 {
         return old;
     }
-    let x = body_at(n, heads, kinds, numbers, i);
+    let x = body_at(kinds, numbers, i);
     asked_rows(e, x, old)
 }
 
-// The four rows of each rule where e is asked about.
+// The four rows of each rule where e is asked about; part are its rows, whatever the heads.
 pub fn asked_parts<'a>(
     n: usize,
-    heads: &'a [u16; 256],
     kinds: &'a [u8; 256],
     numbers: &'a [u16; 1024],
     part: &'a [usize; 512],
     e: Expression,
 ) -> [usize; 512]
-    requires { ⌜ (n ≤ 128) × PartsTo (rowOf (poolOf n (now heads) (now kinds) (now numbers))) (poolOf n (now heads) (now kinds) (now numbers)) n (now part) ⌝ }
-    ensures { λ r. ⌜ PartsTo (rowFor (poolOf n (now (heads .entry)) (now (kinds .entry)) (now (numbers .entry))) e)
-        (poolOf n (now (heads .entry)) (now (kinds .entry)) (now (numbers .entry))) n r ⌝ }
+    requires { ⌜ n ≤ 128 ⌝ }
+    ensures { λ r. ⌜ ((H : List ℕ) → PartsTo (rowIn n H) (poolOf n H (now (kinds .entry)) (now (numbers .entry))) n (now (part .entry))
+        → PartsTo (rowFor (poolOf n H (now (kinds .entry)) (now (numbers .entry))) e) (poolOf n H (now (kinds .entry)) (now (numbers .entry))) n r) ⌝ }
 {
     let mut next = [128usize; 512];
     let mut i = 0;
@@ -107,7 +104,7 @@ pub fn asked_parts<'a>(
             c: part[at + 2],
             d: part[at + 3],
         };
-        let r = asked_body(n, heads, kinds, numbers, e, i, old);
+        let r = asked_body(kinds, numbers, e, i, old);
         next[at] = r.a;
         next[at + 1] = r.b;
         next[at + 2] = r.c;
@@ -117,20 +114,14 @@ pub fn asked_parts<'a>(
     next
 }
 
-// The row of e itself.
-pub fn own_row<'a>(
-    n: usize,
-    heads: &'a [u16; 256],
-    kinds: &'a [u8; 256],
-    numbers: &'a [u16; 1024],
-    e: Expression,
-) -> usize
+// The row of e itself, whatever the bodies.
+pub fn own_row<'a>(n: usize, heads: &'a [u16; 256], e: Expression) -> usize
     requires { ⌜ n ≤ 128 ⌝ }
-    ensures { λ r. ⌜ OwnRow (poolOf n (now (heads .entry)) (now (kinds .entry)) (now (numbers .entry))) e r ⌝ }
+    ensures { λ r. ⌜ ((K N : List ℕ) → OwnRow (poolOf n (now (heads .entry)) K N) e r) ⌝ }
 {
     match e {
         Expression::Entity(_) => 129,
-        Expression::Role(q) => asked_row(e, q, row(n, heads, kinds, numbers, q)),
+        Expression::Role(q) => asked_row(e, q, row(n, heads, q)),
         Expression::Linked(_, _) => 129,
         Expression::Intersection(_) => 129,
         Expression::Goal(_) => 129,

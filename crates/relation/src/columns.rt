@@ -13,21 +13,20 @@ ghost use Rattle.closure.specs.laws.Rules.{rulesOf};
 ghost use Rattle.rules.specs.laws.Ruled.{Ruled};
 ghost use Rattle.relation.specs.laws.Relation.{Relation, Answers};
 
-// The rows of the entity b: its bit of the relation, whatever credentials are on.
+// The rows of the entity b: its bit of the relation, whatever the heads and whatever credentials are on.
 fn entity_column<'a>(
     n: usize,
-    heads: &'a [u16; 256],
     kinds: &'a [u8; 256],
     numbers: &'a [u16; 1024],
     mem: &'a [u64; 260],
     b: u16,
 ) -> [u64; 260]
     requires { ⌜ n ≤ 128 ⌝ }
-    ensures { λ r. ⌜ ((on : List ℕ) → Relation (poolOf n (now (heads .entry)) (now (kinds .entry)) (now (numbers .entry))) on (now (mem .entry))
-        → Answers (poolOf n (now (heads .entry)) (now (kinds .entry)) (now (numbers .entry))) on (Expression.Entity b) 0 r) ⌝ }
+    ensures { λ r. ⌜ ((H on : List ℕ) → Relation (poolOf n H (now (kinds .entry)) (now (numbers .entry))) on (now (mem .entry))
+        → Answers (poolOf n H (now (kinds .entry)) (now (numbers .entry))) on (Expression.Entity b) 0 r) ⌝ }
 {
     let mut rows = [0u64; 260];
-    let s = source(n, heads, kinds, numbers, b);
+    let s = source(n, kinds, numbers, b);
     if s >= 128 {
         return rows;
     }
@@ -47,7 +46,6 @@ fn rule_column<'a>(
     heads: &'a [u16; 256],
     kinds: &'a [u8; 256],
     numbers: &'a [u16; 1024],
-    words: usize,
     head: &'a [usize; 128],
     part: &'a [usize; 512],
     first: &'a [usize; 128],
@@ -58,12 +56,12 @@ fn rule_column<'a>(
     mem: &'a [u64; 260],
     e: Expression,
 ) -> [u64; 260]
-    requires { ⌜ (n ≤ 128) × Ruled (poolOf n (now heads) (now kinds) (now numbers))
-        (rulesOf n words (now head) (now part) (now first) (now named) (now src))
+    requires { ⌜ (n ≤ 128) × ((words : ℕ) × Ruled (poolOf n (now heads) (now kinds) (now numbers))
+        (rulesOf n words (now head) (now part) (now first) (now named) (now src)))
         × Relation (poolOf n (now heads) (now kinds) (now numbers)) (now on) (now mem) ⌝ }
     ensures { λ r. ⌜ Answers (poolOf n (now (heads .entry)) (now (kinds .entry)) (now (numbers .entry))) (now (on .entry)) e 0 r ⌝ }
 {
-    let aimed = asked_parts(n, heads, kinds, numbers, part, e);
+    let aimed = asked_parts(n, kinds, numbers, part, e);
     let mut vals = [0u64; 260];
     let todo = asked(
         n,
@@ -103,7 +101,6 @@ pub fn column<'a>(
     heads: &'a [u16; 256],
     kinds: &'a [u8; 256],
     numbers: &'a [u16; 1024],
-    words: usize,
     head: &'a [usize; 128],
     part: &'a [usize; 512],
     first: &'a [usize; 128],
@@ -114,20 +111,19 @@ pub fn column<'a>(
     mem: &'a [u64; 260],
     e: Expression,
 ) -> [u64; 260]
-    requires { ⌜ (n ≤ 128) × Ruled (poolOf n (now heads) (now kinds) (now numbers))
-        (rulesOf n words (now head) (now part) (now first) (now named) (now src))
+    requires { ⌜ (n ≤ 128) × ((words : ℕ) × Ruled (poolOf n (now heads) (now kinds) (now numbers))
+        (rulesOf n words (now head) (now part) (now first) (now named) (now src)))
         × Relation (poolOf n (now heads) (now kinds) (now numbers)) (now on) (now mem) ⌝ }
     ensures { λ r. ⌜ Answers (poolOf n (now (heads .entry)) (now (kinds .entry)) (now (numbers .entry))) (now (on .entry)) e 0 r ⌝ }
 {
     if let Expression::Entity(b) = e {
-        return entity_column(n, heads, kinds, numbers, mem, b);
+        return entity_column(n, kinds, numbers, mem, b);
     }
     rule_column(
         n,
         heads,
         kinds,
         numbers,
-        words,
         head,
         part,
         first,

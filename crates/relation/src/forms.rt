@@ -11,7 +11,8 @@ use rules::note_bodies;
 use rules::row;
 use rules::third_of;
 ghost use mathlib.Core.Path.{_≡_};
-ghost use Prim.Native.Nat.{_<_, _≤_};
+ghost use Prim.Native.Nat.{ℕ, _<_, _≤_};
+ghost use mathlib.Core.List.{List};
 ghost use Rattle.rt0.specs.Decide.{from? as fromOf};
 ghost use Rattle.rt0.specs.laws.Pool.{poolOf};
 ghost use Rattle.word.specs.laws.Search.{anyTo};
@@ -20,59 +21,54 @@ ghost use Rattle.rules.specs.laws.Digits.{BodiesIn};
 ghost use Rattle.relation.specs.laws.Relation.{Relation, Answers};
 ghost use Rattle.relation.specs.laws.Question.{leadsAt};
 
-// Whether the role p is from e.
+// Whether the role p is from e, whatever the bodies and whatever credentials are on.
 fn role_from<'a>(
     n: usize,
     heads: &'a [u16; 256],
-    kinds: &'a [u8; 256],
-    numbers: &'a [u16; 1024],
-    on: &'a [u8; 128],
     vals: &'a [u64; 260],
     z: usize,
     e: Expression,
     p: Role,
 ) -> bool
-    requires { ⌜ (n ≤ 128) × (z < 128) × Answers (poolOf n (now heads) (now kinds) (now numbers)) (now on) e z (now vals) ⌝ }
-    ensures { λ r. ⌜ r ≡ fromOf (chosen (poolOf n (now (heads .entry)) (now (kinds .entry)) (now (numbers .entry))) (now (on .entry))) (Expression.Role p) e ⌝ }
+    requires { ⌜ (n ≤ 128) × (z < 128) ⌝ }
+    ensures { λ r. ⌜ ((K N on : List ℕ) → Answers (poolOf n (now (heads .entry)) K N) on e z (now (vals .entry))
+        → r ≡ fromOf (chosen (poolOf n (now (heads .entry)) K N) on) (Expression.Role p) e) ⌝ }
 {
-    let r = row(n, heads, kinds, numbers, p);
+    let r = row(n, heads, p);
     if r >= 128 {
         return same(Expression::Role(p), e);
     }
     bit(vals, r, z)
 }
 
-// Whether the intersection of p is from e.
+// Whether the intersection of p is from e, likewise.
 fn meet_from<'a>(
     n: usize,
     heads: &'a [u16; 256],
-    kinds: &'a [u8; 256],
-    numbers: &'a [u16; 1024],
-    on: &'a [u8; 128],
     vals: &'a [u64; 260],
     z: usize,
     e: Expression,
     p: Parts,
 ) -> bool
-    requires { ⌜ (n ≤ 128) × (z < 128) × Answers (poolOf n (now heads) (now kinds) (now numbers)) (now on) e z (now vals) ⌝ }
-    ensures { λ r. ⌜ r ≡ fromOf (chosen (poolOf n (now (heads .entry)) (now (kinds .entry)) (now (numbers .entry))) (now (on .entry)))
-        (Expression.Intersection p) e ⌝ }
+    requires { ⌜ (n ≤ 128) × (z < 128) ⌝ }
+    ensures { λ r. ⌜ ((K N on : List ℕ) → Answers (poolOf n (now (heads .entry)) K N) on e z (now (vals .entry))
+        → r ≡ fromOf (chosen (poolOf n (now (heads .entry)) K N) on) (Expression.Intersection p) e) ⌝ }
 {
     if same(Expression::Intersection(p), e) {
         return true;
     }
-    if !role_from(n, heads, kinds, numbers, on, vals, z, e, p.first) {
+    if !role_from(n, heads, vals, z, e, p.first) {
         return false;
     }
-    if !role_from(n, heads, kinds, numbers, on, vals, z, e, p.second) {
+    if !role_from(n, heads, vals, z, e, p.second) {
         return false;
     }
     let c = third_of(p);
-    if !role_from(n, heads, kinds, numbers, on, vals, z, e, c) {
+    if !role_from(n, heads, vals, z, e, c) {
         return false;
     }
     let d = fourth_of(p);
-    role_from(n, heads, kinds, numbers, on, vals, z, e, d)
+    role_from(n, heads, vals, z, e, d)
 }
 
 // Whether head j is B.m, from e, with B in row r of the relation.
@@ -90,7 +86,8 @@ fn leads<'a>(
     j: usize,
 ) -> bool
     requires { ⌜ (n ≤ 128) × (z < 128) × (r < 130) × (j < 128) × BodiesIn (now kinds) (now numbers) n (now body) ⌝ }
-    ensures { λ b. ⌜ b ≡ leadsAt (poolOf n (now (heads .entry)) (now (kinds .entry)) (now (numbers .entry))) (now (mem .entry)) (now (vals .entry)) z r m j ⌝ }
+    ensures { λ b. ⌜ b ≡ leadsAt (poolOf n (now (heads .entry)) (now (kinds .entry)) (now (numbers .entry))) (now (mem .entry))
+        (now (vals .entry)) z r m j ⌝ }
 {
     if heads[j * 2 + 1] != m {
         return false;
@@ -98,7 +95,7 @@ fn leads<'a>(
     if !bit(vals, j, z) {
         return false;
     }
-    let s = find_source(n, heads, kinds, numbers, body, heads[j * 2]);
+    let s = find_source(n, kinds, numbers, body, heads[j * 2]);
     if s >= 128 {
         return false;
     }
@@ -133,13 +130,12 @@ fn leads_on<'a>(
     false
 }
 
-// Whether the link a.m is from e.
+// Whether the link a.m is from e, whatever credentials are on.
 fn link_from<'a>(
     n: usize,
     heads: &'a [u16; 256],
     kinds: &'a [u8; 256],
     numbers: &'a [u16; 1024],
-    on: &'a [u8; 128],
     mem: &'a [u64; 260],
     vals: &'a [u64; 260],
     z: usize,
@@ -147,49 +143,40 @@ fn link_from<'a>(
     a: Role,
     m: u16,
 ) -> bool
-    requires { ⌜ (n ≤ 128) × (z < 128) × Relation (poolOf n (now heads) (now kinds) (now numbers)) (now on) (now mem)
-        × Answers (poolOf n (now heads) (now kinds) (now numbers)) (now on) e z (now vals) ⌝ }
-    ensures { λ r. ⌜ r ≡ fromOf (chosen (poolOf n (now (heads .entry)) (now (kinds .entry)) (now (numbers .entry))) (now (on .entry)))
-        (Expression.Linked a m) e ⌝ }
+    requires { ⌜ (n ≤ 128) × (z < 128) ⌝ }
+    ensures { λ r. ⌜ ((on : List ℕ) → Relation (poolOf n (now (heads .entry)) (now (kinds .entry)) (now (numbers .entry))) on (now (mem .entry))
+        → Answers (poolOf n (now (heads .entry)) (now (kinds .entry)) (now (numbers .entry))) on e z (now (vals .entry))
+        → r ≡ fromOf (chosen (poolOf n (now (heads .entry)) (now (kinds .entry)) (now (numbers .entry))) on) (Expression.Linked a m) e) ⌝ }
 {
-    let r = row(n, heads, kinds, numbers, a);
-    if once(
-        n,
-        heads,
-        kinds,
-        numbers,
-        mem,
-        e,
-        Expression::Linked(a, m),
-        r,
-    ) {
+    let r = row(n, heads, a);
+    if once(n, kinds, numbers, mem, e, Expression::Linked(a, m), r) {
         return true;
     }
     leads_on(n, heads, kinds, numbers, mem, vals, z, r, m)
 }
 
-// Whether f is from e.
+// Whether f is from e, whatever credentials are on.
 pub fn by_form<'a>(
     n: usize,
     heads: &'a [u16; 256],
     kinds: &'a [u8; 256],
     numbers: &'a [u16; 1024],
-    on: &'a [u8; 128],
     mem: &'a [u64; 260],
     vals: &'a [u64; 260],
     z: usize,
     f: Expression,
     e: Expression,
 ) -> bool
-    requires { ⌜ (n ≤ 128) × (z < 128) × Relation (poolOf n (now heads) (now kinds) (now numbers)) (now on) (now mem)
-        × Answers (poolOf n (now heads) (now kinds) (now numbers)) (now on) e z (now vals) ⌝ }
-    ensures { λ r. ⌜ r ≡ fromOf (chosen (poolOf n (now (heads .entry)) (now (kinds .entry)) (now (numbers .entry))) (now (on .entry))) f e ⌝ }
+    requires { ⌜ (n ≤ 128) × (z < 128) ⌝ }
+    ensures { λ r. ⌜ ((on : List ℕ) → Relation (poolOf n (now (heads .entry)) (now (kinds .entry)) (now (numbers .entry))) on (now (mem .entry))
+        → Answers (poolOf n (now (heads .entry)) (now (kinds .entry)) (now (numbers .entry))) on e z (now (vals .entry))
+        → r ≡ fromOf (chosen (poolOf n (now (heads .entry)) (now (kinds .entry)) (now (numbers .entry))) on) f e) ⌝ }
 {
     match f {
         Expression::Entity(_) => same(f, e),
-        Expression::Role(p) => role_from(n, heads, kinds, numbers, on, vals, z, e, p),
-        Expression::Linked(a, m) => link_from(n, heads, kinds, numbers, on, mem, vals, z, e, a, m),
-        Expression::Intersection(p) => meet_from(n, heads, kinds, numbers, on, vals, z, e, p),
+        Expression::Role(p) => role_from(n, heads, vals, z, e, p),
+        Expression::Linked(a, m) => link_from(n, heads, kinds, numbers, mem, vals, z, e, a, m),
+        Expression::Intersection(p) => meet_from(n, heads, vals, z, e, p),
         Expression::Goal(_) => same(f, e),
     }
 }

@@ -14,11 +14,12 @@ use rules::open_table;
 use rules::rules_of;
 use rules::source;
 ghost use mathlib.Core.Path.{_≡_};
-ghost use Prim.Native.Nat.{_<_, _≤_};
+ghost use Prim.Native.Nat.{ℕ, _<_, _≤_};
+ghost use mathlib.Core.List.{List};
 ghost use lib.ListN.{length, set};
 ghost use Rattle.rt0.specs.Decide.{from? as fromOf};
 ghost use Rattle.rt0.specs.laws.Pool.{poolOf, credentials as credentialsOf};
-ghost use Rattle.closure.specs.laws.Rules.{rulesOf};
+ghost use Rattle.closure.specs.laws.Rules.{rulesOf, Fits};
 ghost use Rattle.rules.specs.laws.Table.{chosen};
 ghost use Rattle.rules.specs.laws.Ruled.{Ruled};
 ghost use Rattle.relation.specs.laws.Relation.{Relation, Answers};
@@ -30,10 +31,9 @@ mod direct;
 mod forms;
 mod start;
 
-// The relation of roles and entities over the credentials that are on.
+// The relation of roles and entities over the credentials that are on, whatever the heads with these rules.
 pub fn relation<'a>(
     n: usize,
-    heads: &'a [u16; 256],
     kinds: &'a [u8; 256],
     numbers: &'a [u16; 1024],
     words: usize,
@@ -45,11 +45,12 @@ pub fn relation<'a>(
     deps: &'a [u64; 260],
     on: &'a [u8; 128],
 ) -> [u64; 260]
-    requires { ⌜ (n ≤ 128) × Ruled (poolOf n (now heads) (now kinds) (now numbers))
-        (rulesOf n words (now head) (now part) (now first) (now named) (now src)) ⌝ }
-    ensures { λ r. ⌜ Relation (poolOf n (now (heads .entry)) (now (kinds .entry)) (now (numbers .entry))) (now (on .entry)) r ⌝ }
+    requires { ⌜ Fits (rulesOf n words (now head) (now part) (now first) (now named) (now src)) ⌝ }
+    ensures { λ r. ⌜ ((H : List ℕ) → Ruled (poolOf n H (now (kinds .entry)) (now (numbers .entry)))
+        (rulesOf n words (now (head .entry)) (now (part .entry)) (now (first .entry)) (now (named .entry)) (now (src .entry)))
+        → Relation (poolOf n H (now (kinds .entry)) (now (numbers .entry))) (now (on .entry)) r) ⌝ }
 {
-    let mut rows = seeds(n, heads, kinds, numbers, head, on);
+    let mut rows = seeds(n, kinds, numbers, head, on);
     let none = [0u64; 260];
     let todo = readers_of_rows(deps, &rows);
     close(
@@ -71,10 +72,9 @@ pub fn relation<'a>(
     rows
 }
 
-// The relation with credential i switched on.
+// The relation with credential i switched on, likewise.
 pub fn switch_on<'a>(
     n: usize,
-    heads: &'a [u16; 256],
     kinds: &'a [u8; 256],
     numbers: &'a [u16; 1024],
     words: usize,
@@ -88,16 +88,18 @@ pub fn switch_on<'a>(
     on: &'a mut [u8; 128],
     rows: &'a mut [u64; 260],
 )
-    requires { ⌜ (n ≤ 128) × (i < n) × Ruled (poolOf n (now heads) (now kinds) (now numbers))
-        (rulesOf n words (now head) (now part) (now first) (now named) (now src)) × (length (now on) ≡ 128)
-        × Relation (poolOf n (now heads) (now kinds) (now numbers)) (now on) (now rows) ⌝ }
+    requires { ⌜ (i < n) × Fits (rulesOf n words (now head) (now part) (now first) (now named) (now src)) × (length (now on) ≡ 128)
+        × (length (now rows) ≡ 260) ⌝ }
     ensures switched { λ _. ⌜ now (on .exit) ≡ set (now (on .entry)) i 1 ⌝ }
-    ensures related { λ _. ⌜ Relation (poolOf n (now (heads .entry)) (now (kinds .entry)) (now (numbers .entry))) (now (on .exit)) (now (rows .exit)) ⌝ }
+    ensures related { λ _. ⌜ ((H : List ℕ) → Ruled (poolOf n H (now (kinds .entry)) (now (numbers .entry)))
+        (rulesOf n words (now (head .entry)) (now (part .entry)) (now (first .entry)) (now (named .entry)) (now (src .entry)))
+        → Relation (poolOf n H (now (kinds .entry)) (now (numbers .entry))) (now (on .entry)) (now (rows .entry))
+        → Relation (poolOf n H (now (kinds .entry)) (now (numbers .entry))) (now (on .exit)) (now (rows .exit))) ⌝ }
 {
     let none = [0u64; 260];
     let todo = readers_of_row(deps, head[i], i);
     let open = open_table();
-    seed(n, heads, kinds, numbers, head, &open, i, rows);
+    seed(n, kinds, numbers, head, &open, i, rows);
     on[i] = 1;
     close(
         n,
@@ -117,22 +119,21 @@ pub fn switch_on<'a>(
     );
 }
 
-// Whether f is from the entity b.
+// Whether f is from the entity b, whatever credentials are on.
 fn by_entity<'a>(
     n: usize,
     heads: &'a [u16; 256],
     kinds: &'a [u8; 256],
     numbers: &'a [u16; 1024],
-    on: &'a [u8; 128],
     mem: &'a [u64; 260],
     f: Expression,
     b: u16,
 ) -> bool
-    requires { ⌜ (n ≤ 128) × Relation (poolOf n (now heads) (now kinds) (now numbers)) (now on) (now mem) ⌝ }
-    ensures { λ r. ⌜ r ≡ fromOf (chosen (poolOf n (now (heads .entry)) (now (kinds .entry)) (now (numbers .entry))) (now (on .entry))) f
-        (Expression.Entity b) ⌝ }
+    requires { ⌜ n ≤ 128 ⌝ }
+    ensures { λ r. ⌜ ((on : List ℕ) → Relation (poolOf n (now (heads .entry)) (now (kinds .entry)) (now (numbers .entry))) on (now (mem .entry))
+        → r ≡ fromOf (chosen (poolOf n (now (heads .entry)) (now (kinds .entry)) (now (numbers .entry))) on) f (Expression.Entity b)) ⌝ }
 {
-    let s = source(n, heads, kinds, numbers, b);
+    let s = source(n, kinds, numbers, b);
     if s >= 128 {
         return same(f, Expression::Entity(b));
     }
@@ -141,7 +142,6 @@ fn by_entity<'a>(
         heads,
         kinds,
         numbers,
-        on,
         mem,
         mem,
         s,
@@ -150,23 +150,23 @@ fn by_entity<'a>(
     )
 }
 
-// Whether f is from e, by the rows vals, which answer what is.
+// Whether f is from e, by the rows vals, which answer what is, whatever credentials are on.
 pub fn in_column<'a>(
     n: usize,
     heads: &'a [u16; 256],
     kinds: &'a [u8; 256],
     numbers: &'a [u16; 1024],
-    on: &'a [u8; 128],
     mem: &'a [u64; 260],
     vals: &'a [u64; 260],
     f: Expression,
     e: Expression,
 ) -> bool
-    requires { ⌜ (n ≤ 128) × Relation (poolOf n (now heads) (now kinds) (now numbers)) (now on) (now mem)
-        × Answers (poolOf n (now heads) (now kinds) (now numbers)) (now on) e 0 (now vals) ⌝ }
-    ensures { λ r. ⌜ r ≡ fromOf (chosen (poolOf n (now (heads .entry)) (now (kinds .entry)) (now (numbers .entry))) (now (on .entry))) f e ⌝ }
+    requires { ⌜ n ≤ 128 ⌝ }
+    ensures { λ r. ⌜ ((on : List ℕ) → Relation (poolOf n (now (heads .entry)) (now (kinds .entry)) (now (numbers .entry))) on (now (mem .entry))
+        → Answers (poolOf n (now (heads .entry)) (now (kinds .entry)) (now (numbers .entry))) on e 0 (now (vals .entry))
+        → r ≡ fromOf (chosen (poolOf n (now (heads .entry)) (now (kinds .entry)) (now (numbers .entry))) on) f e) ⌝ }
 {
-    by_form(n, heads, kinds, numbers, on, mem, vals, 0, f, e)
+    by_form(n, heads, kinds, numbers, mem, vals, 0, f, e)
 }
 
 // Whether f is from e over the credentials that are on, whose relation is mem.
@@ -175,7 +175,6 @@ pub fn ask<'a>(
     heads: &'a [u16; 256],
     kinds: &'a [u8; 256],
     numbers: &'a [u16; 1024],
-    words: usize,
     head: &'a [usize; 128],
     part: &'a [usize; 512],
     first: &'a [usize; 128],
@@ -187,20 +186,19 @@ pub fn ask<'a>(
     f: Expression,
     e: Expression,
 ) -> bool
-    requires { ⌜ (n ≤ 128) × Ruled (poolOf n (now heads) (now kinds) (now numbers))
-        (rulesOf n words (now head) (now part) (now first) (now named) (now src))
+    requires { ⌜ (n ≤ 128) × ((words : ℕ) × Ruled (poolOf n (now heads) (now kinds) (now numbers))
+        (rulesOf n words (now head) (now part) (now first) (now named) (now src)))
         × Relation (poolOf n (now heads) (now kinds) (now numbers)) (now on) (now mem) ⌝ }
     ensures { λ r. ⌜ r ≡ fromOf (chosen (poolOf n (now (heads .entry)) (now (kinds .entry)) (now (numbers .entry))) (now (on .entry))) f e ⌝ }
 {
     if let Expression::Entity(b) = e {
-        return by_entity(n, heads, kinds, numbers, on, mem, f, b);
+        return by_entity(n, heads, kinds, numbers, mem, f, b);
     }
     let vals = column(
         n,
         heads,
         kinds,
         numbers,
-        words,
         head,
         part,
         first,
@@ -211,7 +209,7 @@ pub fn ask<'a>(
         mem,
         e,
     );
-    in_column(n, heads, kinds, numbers, on, mem, &vals, f, e)
+    in_column(n, heads, kinds, numbers, mem, &vals, f, e)
 }
 
 // Whether f is from e over the credentials of the pool.
@@ -225,7 +223,6 @@ pub fn from(pool: Pool, f: Expression, e: Expression) -> bool
     let on = [1u8; 128];
     let mem = relation(
         n,
-        &pool.heads,
         &pool.kinds,
         &pool.numbers,
         x.words,
@@ -242,7 +239,6 @@ pub fn from(pool: Pool, f: Expression, e: Expression) -> bool
         &pool.heads,
         &pool.kinds,
         &pool.numbers,
-        x.words,
         &x.head,
         &x.part,
         &x.first,

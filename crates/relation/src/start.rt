@@ -16,17 +16,16 @@ ghost use mathlib.Core.List.{List};
 ghost use lib.ListN.{replicate};
 ghost use Rattle.expression.specs.Form.{rawOf};
 ghost use Rattle.expression.specs.Same.{same as sameOf};
-ghost use Rattle.rt0.specs.laws.Pool.{poolOf, bodyAt};
+ghost use Rattle.rt0.specs.laws.Pool.{poolOf, bodyAt, bodyIn};
 ghost use Rattle.closure.specs.laws.Rules.{el, Under};
-ghost use Rattle.rules.specs.laws.Table.{rowOf};
+ghost use Rattle.rules.specs.laws.Table.{rowIn, bitIn};
 ghost use Rattle.rules.specs.laws.Columns.{Column, headRow, bodyFirst, firstRow};
 ghost use Rattle.relation.specs.laws.Relation.{Relation, ownRole, ownLink, atOnce, Asked};
 ghost use Rattle.relation.specs.laws.Question.{ownBit, startsAt};
 
-// Whether q is B.m, with B in the role whose row is r.
+// Whether q is B.m, with B in the role whose row is r, whatever the heads.
 fn own_role<'a>(
     n: usize,
-    heads: &'a [u16; 256],
     kinds: &'a [u8; 256],
     numbers: &'a [u16; 1024],
     rows: &'a [u64; 260],
@@ -35,23 +34,22 @@ fn own_role<'a>(
     r: usize,
 ) -> bool
     requires { ⌜ (n ≤ 128) × (r < 130) ⌝ }
-    ensures { λ b. ⌜ ((a : Role) → r ≡ rowOf (poolOf n (now (heads .entry)) (now (kinds .entry)) (now (numbers .entry))) a
-        → b ≡ ownRole (poolOf n (now (heads .entry)) (now (kinds .entry)) (now (numbers .entry))) (now (rows .entry)) a m (Expression.Role q)) ⌝ }
+    ensures { λ b. ⌜ ((H : List ℕ) (a : Role) → r ≡ rowIn n H a
+        → b ≡ ownRole (poolOf n H (now (kinds .entry)) (now (numbers .entry))) (now (rows .entry)) a m (Expression.Role q)) ⌝ }
 {
     if q.name != m {
         return false;
     }
-    let s = source(n, heads, kinds, numbers, q.entity);
+    let s = source(n, kinds, numbers, q.entity);
     if s >= 128 {
         return false;
     }
     bit(rows, r, s)
 }
 
-// Whether e is B.m, with B in the role whose row is r.
+// Whether e is B.m, with B in the role whose row is r, whatever the heads.
 fn own<'a>(
     n: usize,
-    heads: &'a [u16; 256],
     kinds: &'a [u8; 256],
     numbers: &'a [u16; 1024],
     rows: &'a [u64; 260],
@@ -60,22 +58,21 @@ fn own<'a>(
     r: usize,
 ) -> bool
     requires { ⌜ (n ≤ 128) × (r < 130) ⌝ }
-    ensures { λ b. ⌜ ((a : Role) → r ≡ rowOf (poolOf n (now (heads .entry)) (now (kinds .entry)) (now (numbers .entry))) a
-        → b ≡ ownRole (poolOf n (now (heads .entry)) (now (kinds .entry)) (now (numbers .entry))) (now (rows .entry)) a m e) ⌝ }
+    ensures { λ b. ⌜ ((H : List ℕ) (a : Role) → r ≡ rowIn n H a
+        → b ≡ ownRole (poolOf n H (now (kinds .entry)) (now (numbers .entry))) (now (rows .entry)) a m e) ⌝ }
 {
     match e {
         Expression::Entity(_) => false,
-        Expression::Role(q) => own_role(n, heads, kinds, numbers, rows, m, q, r),
+        Expression::Role(q) => own_role(n, kinds, numbers, rows, m, q, r),
         Expression::Linked(_, _) => false,
         Expression::Intersection(_) => false,
         Expression::Goal(_) => false,
     }
 }
 
-// Whether x is from e at once: it is e, or a link that leads to e. The membership row of x is r.
+// Whether x is from e at once: it is e, or a link that leads to e. The membership row of x is r, whatever the heads.
 pub fn once<'a>(
     n: usize,
-    heads: &'a [u16; 256],
     kinds: &'a [u8; 256],
     numbers: &'a [u16; 1024],
     rows: &'a [u64; 260],
@@ -83,8 +80,9 @@ pub fn once<'a>(
     x: Expression,
     r: usize,
 ) -> bool
-    requires { ⌜ (n ≤ 128) × (r ≡ firstRow (poolOf n (now heads) (now kinds) (now numbers)) x) ⌝ }
-    ensures { λ r. ⌜ r ≡ atOnce (poolOf n (now (heads .entry)) (now (kinds .entry)) (now (numbers .entry))) (now (rows .entry)) e x ⌝ }
+    requires { ⌜ (n ≤ 128) × (r < 130) ⌝ }
+    ensures { λ b. ⌜ ((H : List ℕ) → r ≡ firstRow (rowIn n H) x
+        → b ≡ atOnce (poolOf n H (now (kinds .entry)) (now (numbers .entry))) (now (rows .entry)) e x) ⌝ }
 {
     if same(x, e) {
         return true;
@@ -92,26 +90,20 @@ pub fn once<'a>(
     match x {
         Expression::Entity(_) => false,
         Expression::Role(_) => false,
-        Expression::Linked(_, m) => own(n, heads, kinds, numbers, rows, m, e, r),
+        Expression::Linked(_, m) => own(n, kinds, numbers, rows, m, e, r),
         Expression::Intersection(_) => false,
         Expression::Goal(_) => false,
     }
 }
 
 // The bit of the entity of e where e is a role, or 128.
-fn own_source<'a>(
-    n: usize,
-    heads: &'a [u16; 256],
-    kinds: &'a [u8; 256],
-    numbers: &'a [u16; 1024],
-    e: Expression,
-) -> usize
+fn own_source<'a>(n: usize, kinds: &'a [u8; 256], numbers: &'a [u16; 1024], e: Expression) -> usize
     requires { ⌜ n ≤ 128 ⌝ }
-    ensures { λ r. ⌜ r ≡ ownBit (poolOf n (now (heads .entry)) (now (kinds .entry)) (now (numbers .entry))) e ⌝ }
+    ensures { λ r. ⌜ r ≡ ownBit (bitIn n (now (kinds .entry)) (now (numbers .entry))) e ⌝ }
 {
     match e {
         Expression::Entity(_) => 128,
-        Expression::Role(q) => source(n, heads, kinds, numbers, q.entity),
+        Expression::Role(q) => source(n, kinds, numbers, q.entity),
         Expression::Linked(_, _) => 128,
         Expression::Intersection(_) => 128,
         Expression::Goal(_) => 128,
@@ -131,7 +123,7 @@ fn leads_to<'a>(
     requires { ⌜ (i < 128) × Under 130 (now first) ⌝ }
     ensures { λ r. ⌜ ((n : ℕ) (H : List ℕ) (e : Expression)
         → el (now (first .entry)) i ≡ bodyFirst (poolOf n H (now (kinds .entry)) (now (numbers .entry))) i → m ≡ rawOf e .n1
-        → s ≡ ownBit (poolOf n H (now (kinds .entry)) (now (numbers .entry))) e
+        → s ≡ ownBit (bitIn n (now (kinds .entry)) (now (numbers .entry))) e
         → r ≡ ownLink (poolOf n H (now (kinds .entry)) (now (numbers .entry))) (now (rows .entry)) e
         (bodyAt (poolOf n H (now (kinds .entry)) (now (numbers .entry))) i)) ⌝ }
 {
@@ -149,8 +141,6 @@ fn leads_to<'a>(
 
 // Whether body i is e, whose numbers are those of raw.
 fn is_e<'a>(
-    n: usize,
-    heads: &'a [u16; 256],
     kinds: &'a [u8; 256],
     numbers: &'a [u16; 1024],
     e: Expression,
@@ -158,7 +148,7 @@ fn is_e<'a>(
     i: usize,
 ) -> bool
     requires { ⌜ (i < 128) × (raw ≡ rawOf e) ⌝ }
-    ensures { λ r. ⌜ r ≡ sameOf (bodyAt (poolOf n (now (heads .entry)) (now (kinds .entry)) (now (numbers .entry))) i) e ⌝ }
+    ensures { λ r. ⌜ r ≡ sameOf (bodyIn (now (kinds .entry)) (now (numbers .entry)) i) e ⌝ }
 {
     let kind = raw.kind;
     if numbers[i * 8] != raw.n0 {
@@ -172,13 +162,11 @@ fn is_e<'a>(
             return numbers[i * 8 + 1] == raw.n1;
         }
     }
-    same(body_at(n, heads, kinds, numbers, i), e)
+    same(body_at(kinds, numbers, i), e)
 }
 
-// Whether credential i is on and its body is from e at once. The bit of the entity of e is s.
+// Whether credential i is on and its body is from e at once. The bit of the entity of e is s, whatever the heads.
 fn starts<'a>(
-    n: usize,
-    heads: &'a [u16; 256],
     kinds: &'a [u8; 256],
     numbers: &'a [u16; 1024],
     first: &'a [usize; 128],
@@ -189,9 +177,10 @@ fn starts<'a>(
     s: usize,
     i: usize,
 ) -> bool
-    requires { ⌜ (n ≤ 128) × (i < n) × Column (bodyFirst (poolOf n (now heads) (now kinds) (now numbers))) 128 130 n (now first) × (raw ≡ rawOf e)
-        × (s ≡ ownBit (poolOf n (now heads) (now kinds) (now numbers)) e) ⌝ }
-    ensures { λ r. ⌜ r ≡ startsAt (poolOf n (now (heads .entry)) (now (kinds .entry)) (now (numbers .entry))) (now (on .entry)) (now (rows .entry)) e i ⌝ }
+    requires { ⌜ (i < 128) × Under 130 (now first) × (raw ≡ rawOf e) ⌝ }
+    ensures { λ r. ⌜ ((n : ℕ) (H : List ℕ) → el (now (first .entry)) i ≡ bodyFirst (poolOf n H (now (kinds .entry)) (now (numbers .entry))) i
+        → s ≡ ownBit (bitIn n (now (kinds .entry)) (now (numbers .entry))) e
+        → r ≡ startsAt (poolOf n H (now (kinds .entry)) (now (numbers .entry))) (now (on .entry)) (now (rows .entry)) e i) ⌝ }
 {
     if on[i] != 1 {
         return false;
@@ -199,7 +188,7 @@ fn starts<'a>(
     if leads_to(kinds, numbers, first, rows, raw.n1, s, i) {
         return true;
     }
-    is_e(n, heads, kinds, numbers, e, raw, i)
+    is_e(kinds, numbers, e, raw, i)
 }
 
 // The set with the rules that read row r.
@@ -233,13 +222,13 @@ pub fn asked<'a>(
         (now (rows .exit)) ⌝ }
 {
     let raw = raw_of(e);
-    let s = own_source(n, heads, kinds, numbers, e);
-    let r = own_row(n, heads, kinds, numbers, e);
+    let s = own_source(n, kinds, numbers, e);
+    let r = own_row(n, heads, e);
     mark(rows, r, 0);
     let mut todo = read_too(Dirty { lo: 0, hi: 0 }, deps, r);
     let mut i = 0;
     while i < n {
-        if starts(n, heads, kinds, numbers, first, on, mem, e, raw, s, i) {
+        if starts(kinds, numbers, first, on, mem, e, raw, s, i) {
             let h = head[i];
             mark(rows, h, 0);
             todo = read_too(todo, deps, h);

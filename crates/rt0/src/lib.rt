@@ -8,7 +8,7 @@ use expression::raw_of;
 ghost use mathlib.Core.Path.{_≡_};
 ghost use mathlib.Core.List.{[], _∷_, _++_};
 ghost use Prim.Native.Nat.{_<_, _+_};
-ghost use Rattle.rt0.specs.laws.Pool.{poolOf, headAt, rawAtColumns, bodyAt, credentials as credentialsOf};
+ghost use Rattle.rt0.specs.laws.Pool.{poolOf, headIn, rawAtColumns, bodyIn, credentials as credentialsOf};
 ghost use Rattle.rt0.specs.laws.Added.{Sized, Stored};
 pub use shown::is_shown;
 
@@ -83,15 +83,9 @@ pub fn store<'a>(
 }
 
 // The head of credential i.
-pub fn head_at<'a>(
-    n: usize,
-    heads: &'a [u16; 256],
-    kinds: &'a [u8; 256],
-    numbers: &'a [u16; 1024],
-    i: usize,
-) -> Role
+pub fn head_at<'a>(heads: &'a [u16; 256], i: usize) -> Role
     requires { ⌜ i < 128 ⌝ }
-    ensures { λ r. ⌜ r ≡ headAt (poolOf n (now (heads .entry)) (now (kinds .entry)) (now (numbers .entry))) i ⌝ }
+    ensures { λ r. ⌜ r ≡ headIn (now (heads .entry)) i ⌝ }
 {
     Role {
         entity: heads[i * 2],
@@ -119,15 +113,9 @@ fn raw_at<'a>(kinds: &'a [u8; 256], numbers: &'a [u16; 1024], i: usize) -> Raw
 }
 
 // The body of credential i.
-pub fn body_at<'a>(
-    n: usize,
-    heads: &'a [u16; 256],
-    kinds: &'a [u8; 256],
-    numbers: &'a [u16; 1024],
-    i: usize,
-) -> Expression
+pub fn body_at<'a>(kinds: &'a [u8; 256], numbers: &'a [u16; 1024], i: usize) -> Expression
     requires { ⌜ i < 128 ⌝ }
-    ensures { λ r. ⌜ r ≡ bodyAt (poolOf n (now (heads .entry)) (now (kinds .entry)) (now (numbers .entry))) i ⌝ }
+    ensures { λ r. ⌜ r ≡ bodyIn (now (kinds .entry)) (now (numbers .entry)) i ⌝ }
 {
     expression_of(raw_at(kinds, numbers, i))
 }

@@ -6,13 +6,12 @@ use expression::same;
 use expression::same_role;
 ghost use mathlib.Core.Path.{_≡_};
 ghost use Prim.Native.Nat.{_≤_, _<_};
-ghost use Rattle.rt0.specs.laws.Pool.{poolOf, credentialAt, credentials};
+ghost use Rattle.rt0.specs.laws.Pool.{poolOf, credentialIn, credentials};
 ghost use Rattle.expression.specs.Same.{sameCredential};
 ghost use Rattle.rt0.specs.Shown.{isShown};
 
 // Credential i is c.
 fn is_at<'a>(
-    n: usize,
     heads: &'a [u16; 256],
     kinds: &'a [u8; 256],
     numbers: &'a [u16; 1024],
@@ -20,14 +19,14 @@ fn is_at<'a>(
     i: usize,
 ) -> bool
     requires { ⌜ i < 128 ⌝ }
-    ensures { λ b. ⌜ b ≡ sameCredential (credentialAt (poolOf n (now (heads .entry)) (now (kinds .entry)) (now (numbers .entry))) i) c ⌝ }
+    ensures { λ b. ⌜ b ≡ sameCredential (credentialIn (now (heads .entry)) (now (kinds .entry)) (now (numbers .entry)) i) c ⌝ }
 {
     let head = c.head;
-    if !same_role(head_at(n, heads, kinds, numbers, i), head) {
+    if !same_role(head_at(heads, i), head) {
         return false;
     }
     let body = c.body;
-    same(body_at(n, heads, kinds, numbers, i), body)
+    same(body_at(kinds, numbers, i), body)
 }
 
 // Whether c is one of the first n credentials.
@@ -43,7 +42,7 @@ pub fn is_shown<'a>(
 {
     let mut i = 0;
     while i < n {
-        if is_at(n, heads, kinds, numbers, c, i) {
+        if is_at(heads, kinds, numbers, c, i) {
             return true;
         }
         i += 1;

@@ -13,8 +13,7 @@ use word::lowest;
 ghost use mathlib.Core.Path.{_≡_};
 ghost use Prim.Native.Nat.{_<_, _≤_};
 ghost use lib.ListN.{length};
-ghost use Rattle.rt0.specs.laws.Pool.{poolOf};
-ghost use Rattle.rules.specs.laws.Table.{rowOf, bitOf};
+ghost use Rattle.rules.specs.laws.Table.{rowIn, bitIn};
 ghost use Rattle.rules.specs.laws.Digits.{shared, Noted, NoneBelow, HeadsIn, BodiesIn, Open};
 
 // The table takes in that credential j has the number x.
@@ -91,14 +90,12 @@ pub fn note_bodies<'a>(
 pub fn find_row<'a>(
     n: usize,
     heads: &'a [u16; 256],
-    kinds: &'a [u8; 256],
-    numbers: &'a [u16; 1024],
     entity: &'a [u64; 260],
     name: &'a [u64; 260],
     p: Role,
 ) -> usize
     requires { ⌜ (n ≤ 128) × HeadsIn (now heads) n (now entity) (now name) ⌝ }
-    ensures { λ r. ⌜ r ≡ rowOf (poolOf n (now (heads .entry)) (now (kinds .entry)) (now (numbers .entry))) p ⌝ }
+    ensures { λ r. ⌜ r ≡ rowIn n (now (heads .entry)) p ⌝ }
 {
     let lo = alike(entity, p.entity, 0) & alike(name, p.name, 0);
     let hi = alike(entity, p.entity, 1) & alike(name, p.name, 1);
@@ -109,20 +106,19 @@ pub fn find_row<'a>(
     if is_head(heads, p, j) {
         return j;
     }
-    row(n, heads, kinds, numbers, p)
+    row(n, heads, p)
 }
 
 // The bit of the entity b, by the table of the bodies.
 pub fn find_source<'a>(
     n: usize,
-    heads: &'a [u16; 256],
     kinds: &'a [u8; 256],
     numbers: &'a [u16; 1024],
     body: &'a [u64; 260],
     b: u16,
 ) -> usize
     requires { ⌜ (n ≤ 128) × BodiesIn (now kinds) (now numbers) n (now body) ⌝ }
-    ensures { λ r. ⌜ r ≡ bitOf (poolOf n (now (heads .entry)) (now (kinds .entry)) (now (numbers .entry))) b ⌝ }
+    ensures { λ r. ⌜ r ≡ bitIn n (now (kinds .entry)) (now (numbers .entry)) b ⌝ }
 {
     let lo = alike(body, b, 0);
     let hi = alike(body, b, 1);
@@ -133,7 +129,7 @@ pub fn find_source<'a>(
     if is_body(kinds, numbers, b, s) {
         return s;
     }
-    source(n, heads, kinds, numbers, b)
+    source(n, kinds, numbers, b)
 }
 
 // A table that rules nothing out, for a few look-ups.

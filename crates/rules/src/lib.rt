@@ -16,8 +16,8 @@ use rt0::head_at;
 ghost use mathlib.Core.Path.{_≡_};
 ghost use Prim.Native.Nat.{_<_, _≤_, _*_};
 ghost use Rattle.rt0.specs.laws.Pool.{poolOf};
-ghost use Rattle.rules.specs.laws.Table.{rowOf, third, fourth};
-ghost use Rattle.rules.specs.laws.Columns.{fourRows, firstRow, isLinked, Column, headRow, bodyFirst, PartsTo};
+ghost use Rattle.rules.specs.laws.Table.{rowOf, rowIn, third, fourth};
+ghost use Rattle.rules.specs.laws.Columns.{fourRows, firstRow, isLinked, Column, headRowIn, bodyFirst, PartsTo};
 ghost use Rattle.rules.specs.laws.Digits.{HeadsIn};
 ghost use Rattle.rules.specs.laws.Ruled.{Ruled};
 pub use digits::find_source;
@@ -73,25 +73,23 @@ pub fn fourth_of(p: Parts) -> Role
 fn meet_rows<'a>(
     n: usize,
     heads: &'a [u16; 256],
-    kinds: &'a [u8; 256],
-    numbers: &'a [u16; 1024],
     entity: &'a [u64; 260],
     name: &'a [u64; 260],
     p: Parts,
 ) -> Four
     requires { ⌜ (n ≤ 128) × HeadsIn (now heads) n (now entity) (now name) ⌝ }
-    ensures { λ r. ⌜ r ≡ fourRows (rowOf (poolOf n (now (heads .entry)) (now (kinds .entry)) (now (numbers .entry)))) (Expression.Intersection p) ⌝ }
+    ensures { λ r. ⌜ r ≡ fourRows (rowIn n (now (heads .entry))) (Expression.Intersection p) ⌝ }
 {
-    let a = find_row(n, heads, kinds, numbers, entity, name, p.first);
-    let b = find_row(n, heads, kinds, numbers, entity, name, p.second);
+    let a = find_row(n, heads, entity, name, p.first);
+    let b = find_row(n, heads, entity, name, p.second);
     if p.count == 2 {
         return Four { a, b, c: a, d: a };
     }
-    let c = find_row(n, heads, kinds, numbers, entity, name, p.third);
+    let c = find_row(n, heads, entity, name, p.third);
     if p.count == 3 {
         return Four { a, b, c, d: a };
     }
-    let d = find_row(n, heads, kinds, numbers, entity, name, p.fourth);
+    let d = find_row(n, heads, entity, name, p.fourth);
     Four { a, b, c, d }
 }
 
@@ -99,14 +97,12 @@ fn meet_rows<'a>(
 pub fn rows_of<'a>(
     n: usize,
     heads: &'a [u16; 256],
-    kinds: &'a [u8; 256],
-    numbers: &'a [u16; 1024],
     entity: &'a [u64; 260],
     name: &'a [u64; 260],
     x: Expression,
 ) -> Four
     requires { ⌜ (n ≤ 128) × HeadsIn (now heads) n (now entity) (now name) ⌝ }
-    ensures { λ r. ⌜ r ≡ fourRows (rowOf (poolOf n (now (heads .entry)) (now (kinds .entry)) (now (numbers .entry)))) x ⌝ }
+    ensures { λ r. ⌜ r ≡ fourRows (rowIn n (now (heads .entry))) x ⌝ }
 {
     match x {
         Expression::Entity(_) => Four {
@@ -116,7 +112,7 @@ pub fn rows_of<'a>(
             d: 128,
         },
         Expression::Role(p) => {
-            let r = find_row(n, heads, kinds, numbers, entity, name, p);
+            let r = find_row(n, heads, entity, name, p);
             Four {
                 a: r,
                 b: r,
@@ -130,7 +126,7 @@ pub fn rows_of<'a>(
             c: 128,
             d: 128,
         },
-        Expression::Intersection(p) => meet_rows(n, heads, kinds, numbers, entity, name, p),
+        Expression::Intersection(p) => meet_rows(n, heads, entity, name, p),
         Expression::Goal(_) => Four {
             a: 128,
             b: 128,
@@ -144,19 +140,17 @@ pub fn rows_of<'a>(
 pub fn first_of<'a>(
     n: usize,
     heads: &'a [u16; 256],
-    kinds: &'a [u8; 256],
-    numbers: &'a [u16; 1024],
     entity: &'a [u64; 260],
     name: &'a [u64; 260],
     x: Expression,
 ) -> usize
     requires { ⌜ (n ≤ 128) × HeadsIn (now heads) n (now entity) (now name) ⌝ }
-    ensures { λ r. ⌜ r ≡ firstRow (poolOf n (now (heads .entry)) (now (kinds .entry)) (now (numbers .entry))) x ⌝ }
+    ensures { λ r. ⌜ r ≡ firstRow (rowIn n (now (heads .entry))) x ⌝ }
 {
     match x {
         Expression::Entity(_) => 128,
         Expression::Role(_) => 128,
-        Expression::Linked(a, _) => find_row(n, heads, kinds, numbers, entity, name, a),
+        Expression::Linked(a, _) => find_row(n, heads, entity, name, a),
         Expression::Intersection(_) => 128,
         Expression::Goal(_) => 128,
     }
@@ -179,19 +173,17 @@ pub fn is_linked(x: Expression) -> bool
 fn head_rows<'a>(
     n: usize,
     heads: &'a [u16; 256],
-    kinds: &'a [u8; 256],
-    numbers: &'a [u16; 1024],
     entity: &'a [u64; 260],
     name: &'a [u64; 260],
 ) -> [usize; 128]
     requires { ⌜ (n ≤ 128) × HeadsIn (now heads) n (now entity) (now name) ⌝ }
-    ensures { λ r. ⌜ Column (headRow (poolOf n (now (heads .entry)) (now (kinds .entry)) (now (numbers .entry)))) 128 130 n r ⌝ }
+    ensures { λ r. ⌜ Column (headRowIn n (now (heads .entry))) 128 130 n r ⌝ }
 {
     let mut head = [128usize; 128];
     let mut i = 0;
     while i < n {
-        let p = head_at(n, heads, kinds, numbers, i);
-        let r = find_row(n, heads, kinds, numbers, entity, name, p);
+        let p = head_at(heads, i);
+        let r = find_row(n, heads, entity, name, p);
         head[i] = r;
         i += 1;
     }
@@ -214,15 +206,7 @@ fn first_at<'a>(
     if !has_link(kinds, i) {
         return 128;
     }
-    first_of(
-        n,
-        heads,
-        kinds,
-        numbers,
-        entity,
-        name,
-        body_at(n, heads, kinds, numbers, i),
-    )
+    first_of(n, heads, entity, name, body_at(kinds, numbers, i))
 }
 
 // The membership rows of the rules.
@@ -263,8 +247,8 @@ fn part_rows<'a>(
     let mut part = [128usize; 512];
     let mut i = 0;
     while i < n {
-        let x = body_at(n, heads, kinds, numbers, i);
-        let r = rows_of(n, heads, kinds, numbers, entity, name, x);
+        let x = body_at(kinds, numbers, i);
+        let r = rows_of(n, heads, entity, name, x);
         let at = i * 4;
         part[at] = r.a;
         part[at + 1] = r.b;
@@ -296,7 +280,7 @@ pub fn rules_of<'a>(
     let mut entity = [0u64; 260];
     let mut name = [0u64; 260];
     note_heads(n, heads, &mut entity, &mut name);
-    let head = head_rows(n, heads, kinds, numbers, &entity, &name);
+    let head = head_rows(n, heads, &entity, &name);
     let part = part_rows(n, heads, kinds, numbers, &entity, &name);
     let first = first_rows(n, heads, kinds, numbers, &entity, &name);
     let lit = has_links(n, kinds);

@@ -56,7 +56,7 @@ fn link_source<'a>(
     if head[j] != j {
         return 128;
     }
-    find_source(n, heads, kinds, numbers, body, heads[j * 2])
+    find_source(n, kinds, numbers, body, heads[j * 2])
 }
 
 // The heads that links can go by. Without a linked expression there is no use for them.
@@ -184,7 +184,7 @@ fn name_next<'a>(
         copy_row(k, i, named);
         return;
     }
-    let x = body_at(n, heads, kinds, numbers, i);
+    let x = body_at(kinds, numbers, i);
     name_link(n, heads, able, i, x, named);
 }
 

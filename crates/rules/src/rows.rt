@@ -2,8 +2,7 @@
 use expression::Role;
 ghost use mathlib.Core.Path.{_≡_};
 ghost use Prim.Native.Nat.{_<_, _≤_};
-ghost use Rattle.rt0.specs.laws.Pool.{poolOf};
-ghost use Rattle.rules.specs.laws.Table.{isHeadIn, rowOf, isBodyIn, bitOf};
+ghost use Rattle.rules.specs.laws.Table.{isHeadIn, rowIn, isBodyIn, bitIn};
 
 // Whether credential j has p as its head.
 pub fn is_head<'a>(heads: &'a [u16; 256], p: Role, j: usize) -> bool
@@ -17,15 +16,9 @@ pub fn is_head<'a>(heads: &'a [u16; 256], p: Role, j: usize) -> bool
 }
 
 // The row of the role p.
-pub fn row<'a>(
-    n: usize,
-    heads: &'a [u16; 256],
-    kinds: &'a [u8; 256],
-    numbers: &'a [u16; 1024],
-    p: Role,
-) -> usize
+pub fn row<'a>(n: usize, heads: &'a [u16; 256], p: Role) -> usize
     requires { ⌜ n ≤ 128 ⌝ }
-    ensures { λ r. ⌜ r ≡ rowOf (poolOf n (now (heads .entry)) (now (kinds .entry)) (now (numbers .entry))) p ⌝ }
+    ensures { λ r. ⌜ r ≡ rowIn n (now (heads .entry)) p ⌝ }
 {
     let mut j = 0;
     while j < n {
@@ -49,15 +42,9 @@ pub fn is_body<'a>(kinds: &'a [u8; 256], numbers: &'a [u16; 1024], b: u16, s: us
 }
 
 // The bit of the entity b.
-pub fn source<'a>(
-    n: usize,
-    heads: &'a [u16; 256],
-    kinds: &'a [u8; 256],
-    numbers: &'a [u16; 1024],
-    b: u16,
-) -> usize
+pub fn source<'a>(n: usize, kinds: &'a [u8; 256], numbers: &'a [u16; 1024], b: u16) -> usize
     requires { ⌜ n ≤ 128 ⌝ }
-    ensures { λ r. ⌜ r ≡ bitOf (poolOf n (now (heads .entry)) (now (kinds .entry)) (now (numbers .entry))) b ⌝ }
+    ensures { λ r. ⌜ r ≡ bitIn n (now (kinds .entry)) (now (numbers .entry)) b ⌝ }
 {
     let mut s = 0;
     while s < n {

@@ -7,9 +7,9 @@ use rt0::is_shown;
 use rt0::store;
 ghost use mathlib.Core.Path.{_≡_};
 ghost use mathlib.Core.List.{_++_};
-ghost use Prim.Native.Nat.{_-_, _≤_, _<_};
+ghost use Prim.Native.Nat.{ℕ, _-_, _≤_, _<_};
 ghost use lib.Dec.{eqb};
-ghost use Rattle.rt0.specs.laws.Pool.{poolOf, credentialAt, credentials};
+ghost use Rattle.rt0.specs.laws.Pool.{poolOf, credentialIn, credentials};
 ghost use Rattle.rt0.specs.laws.Added.{Sized};
 ghost use Rattle.rules.specs.laws.Table.{chosen};
 ghost use Rattle.sending.specs.laws.Unshown.{unshownOf, isNew};
@@ -25,18 +25,17 @@ pub struct Part {
 
 // Credential i.
 pub fn credential_at<'a>(
-    n: usize,
     heads: &'a [u16; 256],
     kinds: &'a [u8; 256],
     numbers: &'a [u16; 1024],
     i: usize,
 ) -> Credential
     requires { ⌜ i < 128 ⌝ }
-    ensures { λ r. ⌜ r ≡ credentialAt (poolOf n (now (heads .entry)) (now (kinds .entry)) (now (numbers .entry))) i ⌝ }
+    ensures { λ r. ⌜ r ≡ credentialIn (now (heads .entry)) (now (kinds .entry)) (now (numbers .entry)) i ⌝ }
 {
     Credential {
-        head: head_at(n, heads, kinds, numbers, i),
-        body: body_at(n, heads, kinds, numbers, i),
+        head: head_at(heads, i),
+        body: body_at(kinds, numbers, i),
     }
 }
 
@@ -98,7 +97,7 @@ pub fn own_pool<'a>(
     let mut count = shown.count;
     let mut i = 0;
     while i < m {
-        let c = credential_at(m, heads, kinds, numbers, i);
+        let c = credential_at(heads, kinds, numbers, i);
         let new = is_new(
             shown.count,
             &shown.heads,
@@ -120,7 +119,6 @@ pub fn own_pool<'a>(
 
 // Credential i, where it is flagged, goes behind the m others; how many there are then.
 fn store_flagged<'a>(
-    n: usize,
     heads: &'a [u16; 256],
     kinds: &'a [u8; 256],
     numbers: &'a [u16; 1024],
@@ -132,20 +130,19 @@ fn store_flagged<'a>(
     m: usize,
 ) -> usize
     requires { ⌜ (i < 128) × (m < 128) × Sized (poolOf m (now h) (now k) (now u)) ⌝ }
-    ensures { λ r. ⌜ StoredIf (eqb flag 1) (credentialAt (poolOf n (now (heads .entry)) (now (kinds .entry)) (now (numbers .entry))) i)
+    ensures { λ r. ⌜ StoredIf (eqb flag 1) (credentialIn (now (heads .entry)) (now (kinds .entry)) (now (numbers .entry)) i)
         (poolOf m (now (h .entry)) (now (k .entry)) (now (u .entry))) (poolOf r (now (h .exit)) (now (k .exit)) (now (u .exit))) ⌝ }
 {
     if flag != 1 {
         return m;
     }
-    let c = credential_at(n, heads, kinds, numbers, i);
+    let c = credential_at(heads, kinds, numbers, i);
     store(h, k, u, m, c);
     m + 1
 }
 
-// The flagged ones of the credentials from a to b go behind the m others; how many there are then.
+// The flagged ones of the credentials from a to b go behind the m others, however many more there are; how many there are then.
 fn store_range<'a>(
-    n: usize,
     heads: &'a [u16; 256],
     kinds: &'a [u8; 256],
     numbers: &'a [u16; 1024],
@@ -157,14 +154,14 @@ fn store_range<'a>(
     u: &'a mut [u16; 1024],
     m: usize,
 ) -> usize
-    requires { ⌜ (n ≤ 128) × (a ≤ b) × (b ≤ n) × (m ≤ a) × Sized (poolOf m (now h) (now k) (now u)) ⌝ }
-    ensures { λ r. ⌜ Selected (poolOf n (now (heads .entry)) (now (kinds .entry)) (now (numbers .entry))) (now (flags .entry)) a (b - a)
-        (poolOf m (now (h .entry)) (now (k .entry)) (now (u .entry))) (poolOf r (now (h .exit)) (now (k .exit)) (now (u .exit))) ⌝ }
+    requires { ⌜ (a ≤ b) × (b ≤ 128) × (m ≤ a) × Sized (poolOf m (now h) (now k) (now u)) ⌝ }
+    ensures { λ r. ⌜ ((n : ℕ) → b ≤ n → Selected (poolOf n (now (heads .entry)) (now (kinds .entry)) (now (numbers .entry))) (now (flags .entry)) a (b - a)
+        (poolOf m (now (h .entry)) (now (k .entry)) (now (u .entry))) (poolOf r (now (h .exit)) (now (k .exit)) (now (u .exit)))) ⌝ }
 {
     let mut count = m;
     let mut i = a;
     while i < b {
-        count = store_flagged(n, heads, kinds, numbers, flags[i], i, h, k, u, count);
+        count = store_flagged(heads, kinds, numbers, flags[i], i, h, k, u, count);
         i += 1;
     }
     count
@@ -186,7 +183,6 @@ pub fn part_of<'a>(
     let mut k = [0u8; 256];
     let mut u = [0u16; 1024];
     let s = store_range(
-        n,
         heads,
         kinds,
         numbers,
@@ -199,7 +195,6 @@ pub fn part_of<'a>(
         0,
     );
     let count = store_range(
-        n,
         heads,
         kinds,
         numbers,

@@ -54,7 +54,7 @@ fn visible_of<'a>(
     let mut on = [0u8; 128];
     let mut i = 0;
     while i < m {
-        let c = credential_at(m, heads, kinds, numbers, i);
+        let c = credential_at(heads, kinds, numbers, i);
         on[i] = visible_flag(own, k, roles, others, c);
         i += 1;
     }
@@ -86,7 +86,6 @@ pub fn prepare(house: House) -> Preparation
         &house.sensitive.roles,
         &house.sensitive.others,
         house.issuer.count,
-        &house.issuer.heads,
         &house.issuer.kinds,
         &house.issuer.numbers,
     );
@@ -99,7 +98,6 @@ pub fn prepare(house: House) -> Preparation
         &house.sensitive.roles,
         &house.sensitive.others,
         house.subject.count,
-        &house.subject.heads,
         &house.subject.kinds,
         &house.subject.numbers,
     );
@@ -112,7 +110,6 @@ pub fn prepare(house: House) -> Preparation
         &house.sensitive.roles,
         &house.sensitive.others,
         house.subject.count,
-        &house.subject.heads,
         &house.subject.kinds,
         &house.subject.numbers,
     );

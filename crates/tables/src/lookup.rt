@@ -10,7 +10,7 @@ use rt0::body_at;
 use rt0::head_at;
 ghost use mathlib.Core.Path.{_≡_};
 ghost use Prim.Native.Nat.{_<_, _≤_};
-ghost use Rattle.rt0.specs.laws.Pool.{poolOf, credentialAt, credentials as credentialsOf};
+ghost use Rattle.rt0.specs.laws.Pool.{poolOf, credentialIn, credentials as credentialsOf};
 ghost use Rattle.tables.specs.laws.Tables.{pairsFrom, pairsOf};
 ghost use Rattle.tables.specs.Lookup.{directOf, holds as holdsOf, isSensitive, otherOf, isDirect};
 ghost use Rattle.expression.specs.Same.{sameCredential};
@@ -18,7 +18,6 @@ ghost use Rattle.expression.specs.Same.{sameCredential};
 // Whether credential i is role r from self.
 fn is_direct_at<'a>(
     own: u16,
-    n: usize,
     heads: &'a [u16; 256],
     kinds: &'a [u8; 256],
     numbers: &'a [u16; 1024],
@@ -26,15 +25,12 @@ fn is_direct_at<'a>(
     i: usize,
 ) -> bool
     requires { ⌜ i < 128 ⌝ }
-    ensures { λ b. ⌜ b ≡ sameCredential (credentialAt (poolOf n (now (heads .entry)) (now (kinds .entry)) (now (numbers .entry))) i) (directOf own r) ⌝ }
+    ensures { λ b. ⌜ b ≡ sameCredential (credentialIn (now (heads .entry)) (now (kinds .entry)) (now (numbers .entry)) i) (directOf own r) ⌝ }
 {
-    if !same_role(head_at(n, heads, kinds, numbers, i), r) {
+    if !same_role(head_at(heads, i), r) {
         return false;
     }
-    same(
-        body_at(n, heads, kinds, numbers, i),
-        Expression::Entity(own),
-    )
+    same(body_at(kinds, numbers, i), Expression::Entity(own))
 }
 
 // Whether the credentials have role r from self: whether we hold the role.
@@ -51,7 +47,7 @@ pub fn holds<'a>(
 {
     let mut i = 0;
     while i < n {
-        if is_direct_at(own, n, heads, kinds, numbers, r, i) {
+        if is_direct_at(own, heads, kinds, numbers, r, i) {
             return true;
         }
         i += 1;

@@ -110,7 +110,6 @@ pub fn take_commands(names: Names, sender: u8, start: Negotiation, message: &[u8
             &known.pool.heads,
             &known.pool.kinds,
             &known.pool.numbers,
-            known.rules.words,
             &known.rules.head,
             &known.rules.part,
             &known.rules.first,

@@ -1,3 +1,4 @@
+use native.Mathlib.Omega.{arith}
 use Rattle.damage.specs.laws.Damage.{records-nodes, records-primary, records-shown}
 use borrow.Author.Needs.{needs}
 use Rattle.damage.proofs.records_sound.Statement.{statement}
@@ -7,13 +8,13 @@ returns : tie.Need-returns
 returns c = λ es. records-nodes _ _ (c .before .nodes-fit .ensures) (c .if1 .taken)
 
 node-at-requires : tie.Need-node-at-requires
-node-at-requires c κs = ((c .before .before .pre .2), (c .before .before .pre .3))
+node-at-requires c κs = omega arith
 
 returns-2 : tie.Need-returns-2
 returns-2 c =
     let c3 = c .before .before .before in
     let c4 = c3 .before in
-    λ es. records-primary _ _ (c4 .nodes-fit .ensures) (c3 .if1 .left) (c .before .before .node-at .ensures) (c .before .primary-sound .ensures) (c .if2 .taken)
+    λ es. records-primary _ _ (c4 .nodes-fit .ensures) (c3 .if1 .left) (c .before .before .node-at .ensures _ (c4 .before .pre .2)) (c .before .primary-sound .ensures) (c .if2 .taken)
 
 shown-fit-requires : tie.Need-shown-fit-requires
 shown-fit-requires c κs =
@@ -25,7 +26,7 @@ returns-3 c =
     let c3 = c .before .before .before in
     let c4 = c3 .before in
     let c5 = c4 .before in
-    λ es. records-shown _ _ (c5 .nodes-fit .ensures) (c4 .if1 .left) (c3 .node-at .ensures) (c .before .before .primary-sound .ensures)
+    λ es. records-shown _ _ (c5 .nodes-fit .ensures) (c4 .if1 .left) (c3 .node-at .ensures _ (c5 .before .pre .2)) (c .before .before .primary-sound .ensures)
     (c .before .if2 .left) (c .shown-fit .ensures)
 
 pub records-sound-spec : {M : Type 1} → statement M

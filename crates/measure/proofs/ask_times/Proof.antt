@@ -12,11 +12,11 @@ use Rattle.measure.proofs.ask_times.Statement.{statement}
 use Rattle.measure.proofs.ask_times.Tie as tie
 
 abbrev Inv-loop : tie.InvT-loop
-Inv-loop n heads kinds numbers words head part first named src deps on mem f e times yes₀ k₀ yes' k =
+Inv-loop n heads kinds numbers head part first named src deps on mem f e times yes₀ k₀ yes' k =
     (k ≤ times) × (yes' ≡ countOf (from? (chosen (poolOf n heads kinds numbers) on) f e) k)
 
 abbrev μ-loop : tie.MeasureT-loop
-μ-loop n heads kinds numbers words head part first named src deps on mem f e times yes₀ k₀ yes' k = times - k
+μ-loop n heads kinds numbers head part first named src deps on mem f e times yes₀ k₀ yes' k = times - k
 
 abbrev answer : (c : tie.Start Inv-loop μ-loop) → Bool
 answer c = from? (chosen (poolOf (c .args .n) (c .args .heads .now) (c .args .kinds .now) (c .args .numbers .now)) (c .args .on .now)) (c .args .f) (c .args .e)

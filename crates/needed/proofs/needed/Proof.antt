@@ -1,7 +1,7 @@
 use borrow.Author.Needs.{needs}
 use Rattle.rt0.specs.declared.Pool.{Pool}
 use Rattle.rt0.specs.laws.Pool.{poolOf}
-use Rattle.rules.specs.laws.Ruled.{by-columns}
+use Rattle.rules.specs.laws.Ruled.{by-columns, ruled-fits}
 use Rattle.needed.proofs.needed.Statement.{statement}
 use Rattle.needed.proofs.needed.Tie as tie
 
@@ -12,7 +12,7 @@ relation-requires : tie.Need-relation-requires
 relation-requires c κs =
     let c14 = c .before .before .before .before .before .before .before .before .before .before .before .before .before .before in
     let c15 = c14 .before in
-    (c15 .pre .0, by-columns (pool (c15)) (c14 .rules-of .result) (c14 .rules-of .ensures))
+    ruled-fits (pool c15) (c15 .pre .0) _ (by-columns (pool c15) (c14 .rules-of .result) (c14 .rules-of .ensures))
 
 keep-requires : tie.Need-keep-requires
 keep-requires c κs =
@@ -20,7 +20,8 @@ keep-requires c κs =
     let c18 = c9 .before .before .before .before .before .before .before .before .before in
     let c24 = c18 .before .before .before .before .before .before in
     let c25 = c24 .before in
-    (c25 .pre .0, c25 .pre .1, by-columns (pool (c25)) (c24 .rules-of .result) (c24 .rules-of .ensures), c18 .first-on .ensures, c9 .relation .ensures)
+    let ruled = by-columns (pool c25) (c24 .rules-of .result) (c24 .rules-of .ensures) in
+    (c25 .pre .0, c25 .pre .1, ruled, c18 .first-on .ensures, c9 .relation .ensures _ ruled)
 
 returns : tie.Need-returns
 returns c = (c .keep .ensures .holds, (c .keep .ensures .own, c .keep .ensures .all))

@@ -18,12 +18,12 @@ use Rattle.rt0.specs.declared.Pool.{Pool}
 use Rattle.rt0.specs.From.{rolesOf}
 use Rattle.rt0.specs.laws.Lists.{any-find}
 use Rattle.word.specs.laws.Bools.{false-true, or-cases}
-use Rattle.rt0.specs.laws.Pool.{headAt, bodyAt}
+use Rattle.rt0.specs.laws.Pool.{headAt, bodyAt, headIn}
 use Rattle.rules.specs.laws.Exact.{four-all}
 use Rattle.closure.specs.laws.Rules.{el}
 use Rattle.needed.specs.laws.Column.{came, stays}
 use Rattle.needed.specs.laws.Relevant.{asks, ClosedFor}
-use Rattle.needed.specs.laws.Flags.{headIn, isNamed, Raised, Marked, Work, Followed, Swept}
+use Rattle.needed.specs.laws.Flags.{isNamed, Raised, Marked, Work, Followed, Swept}
 use Rattle.word.specs.laws.Search.{zeros}
 
 -- A flag

@@ -1,20 +1,15 @@
 -- Columns that flag the credentials asked for, and those of them that are followed. Assumes nothing.
-use Prim.Native.Nat.{ℕ, _+_, _*_, _<_}
+use Prim.Native.Nat.{ℕ, _<_}
 use mathlib.Core.Path.{_≡_}
 use mathlib.Core.Bool.{Bool, true, false}
 use mathlib.Core.List.{List}
 use lib.Dec.{eqb}
-use lib.ListN.{getD, length}
+use lib.ListN.{length}
 use Rattle.expression.specs.declared.Role.{Role}
 use Rattle.rt0.specs.declared.Pool.{Pool}
-use Rattle.rt0.specs.From.{roleOf}
-use Rattle.rt0.specs.laws.Pool.{headAt, bodyAt}
+use Rattle.rt0.specs.laws.Pool.{headAt, headIn, bodyAt}
 use Rattle.closure.specs.laws.Rules.{el}
 use Rattle.needed.specs.laws.Relevant.{asks}
-
--- the head of credential i
-abbrev pub headIn : List ℕ → ℕ → Role
-headIn H i = roleOf (getD H (i * 2) 0) (getD H (i * 2 + 1) 0)
 
 -- the role has the name m
 unfoldable pub isNamed : ℕ → Role → Bool

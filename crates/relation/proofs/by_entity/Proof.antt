@@ -9,21 +9,21 @@ abbrev pool : (c : tie.Start) → Pool
 pool c = poolOf (c .args .n) (c .args .heads .now) (c .args .kinds .now) (c .args .numbers .now)
 
 returns : tie.Need-returns
-returns c =
+returns c on m =
     let c3 = c .before .before .before in
-    alone-of (pool (c3)) (c3 .args .on .now) (c3 .pre .0) (c3 .args .mem .now) (c3 .pre .1) (c3 .args .b) (c .before .before .source .result)
+    alone-of (pool (c3)) on (c3 .pre) (c3 .args .mem .now) m (c3 .args .b) (c .before .before .source .result)
     (c3 .args .f) (c .same .result) (c .before .before .source .ensures) (c .before .if1 .taken) (c .same .ensures)
 
 by-form-requires : tie.Need-by-form-requires
-by-form-requires c κs = (
-  c .before .before .pre .0,
-  c .if1 .left,
-  c .before .before .pre .1,
-  entity-answers (pool (c .before .before)) (c .before .before .args .on .now)
-      (c .before .before .pre .0) (c .before .before .args .mem .now) (c .before .before .pre .1) (c .before .before .args .b)
-      (c .before .source .result) (c .before .source .ensures) (c .if1 .left),
-)
+by-form-requires c κs = (c .before .before .pre, c .if1 .left)
+
+returns-2 : tie.Need-returns-2
+returns-2 c on m =
+    let c3 = c .before .before .before in
+    c .by-form .ensures on m
+    (entity-answers (pool c3) on (c3 .pre) (c3 .args .mem .now) m (c3 .args .b) (c .before .before .source .result) (c .before .before .source .ensures)
+    (c .before .if1 .left))
 
 pub by-entity-spec : {M : Type 1} → statement M
 by-entity-spec =
-    tie.close (tie.spec (λ c κs. search needs) (λ c κs. search needs) returns by-form-requires (λ c. search needs))
+    tie.close (tie.spec (λ c κs. search needs) (λ c κs. search needs) returns by-form-requires returns-2)

@@ -3,32 +3,33 @@ use mathlib.Core.List.{List}
 use borrow.Author.Needs.{needs}
 use Rattle.expression.specs.declared.Credential.{Credential}
 use Rattle.rt0.specs.Decide.{from?}
-use Rattle.rules.specs.laws.Ruled.{by-columns}
+use Rattle.rules.specs.laws.Ruled.{by-columns, ruled-fits}
 use Rattle.relation.specs.laws.Reached.{all-on}
 use Rattle.relation.proofs.from.Statement.{statement}
 use Rattle.relation.proofs.from.Tie as tie
 
 relation-requires : tie.Need-relation-requires
 relation-requires c κs =
-    let c14 = c .before .before .before .before .before .before .before .before .before .before .before .before .before .before in
-    let c17 = c14 .before .before .before in
-    let c22 = c17 .before .before .before .before .before in
-    (c22 .pre, by-columns (c22 .args .t1) (c17 .rules-of .result) (c17 .rules-of .ensures))
+    let c13 = c .before .before .before .before .before .before .before .before .before .before .before .before .before in
+    let c16 = c13 .before .before .before in
+    let c21 = c16 .before .before .before .before .before in
+    ruled-fits (c21 .args .t1) (c21 .pre) _ (by-columns (c21 .args .t1) (c16 .rules-of .result) (c16 .rules-of .ensures))
 
 ask-requires : tie.Need-ask-requires
 ask-requires c κs =
     let c13 = c .before .before .before .before .before .before .before .before .before .before .before .before .before in
-    let c27 = c13 .before .before .before .before .before .before .before .before .before .before .before .before .before .before in
-    let c31 = c27 .before .before .before .before in
-    let c36 = c31 .before .before .before .before .before in
-    (c36 .pre, by-columns (c36 .args .t1) (c31 .rules-of .result) (c31 .rules-of .ensures), c13 .relation .ensures)
+    let c26 = c13 .before .before .before .before .before .before .before .before .before .before .before .before .before in
+    let c30 = c26 .before .before .before .before in
+    let c35 = c30 .before .before .before .before .before in
+    let ruled = by-columns (c35 .args .t1) (c30 .rules-of .result) (c30 .rules-of .ensures) in
+    (c35 .pre, (_, ruled), c13 .relation .ensures _ ruled)
 
 returns : tie.Need-returns
 returns c =
     let c14 = c .before .before .before .before .before .before .before .before .before .before .before .before .before .before in
-    let c28 = c14 .before .before .before .before .before .before .before .before .before .before .before .before .before .before in
-    let c37 = c28 .before .before .before .before .before .before .before .before .before in
-    c .ask .ensures ∙ ap (λ (C : List Credential). from? C (c37 .args .f) (c37 .args .e)) (all-on (c37 .args .t1) (c37 .pre))
+    let c27 = c14 .before .before .before .before .before .before .before .before .before .before .before .before .before in
+    let c36 = c27 .before .before .before .before .before .before .before .before .before in
+    c .ask .ensures ∙ ap (λ (C : List Credential). from? C (c36 .args .f) (c36 .args .e)) (all-on (c36 .args .t1) (c36 .pre))
 
 pub from-spec : {M : Type 1} → statement M
 from-spec =

@@ -15,9 +15,9 @@ use Rattle.expression.specs.Same.{same}
 use Rattle.expression.specs.laws.Same.{same-eq, eq-same}
 use Rattle.rt0.specs.declared.Pool.{Pool}
 use Rattle.rt0.specs.From.{roleOf}
-use Rattle.rt0.specs.laws.Pool.{bodyAt, rawAtColumns}
+use Rattle.rt0.specs.laws.Pool.{bodyAt, bodyIn, rawAtColumns}
 use Rattle.closure.specs.laws.Rules.{el, bits}
-use Rattle.rules.specs.laws.Table.{rowOf}
+use Rattle.rules.specs.laws.Table.{bitOf, rowOf}
 use Rattle.rules.specs.laws.Columns.{bodyFirst, firstRow}
 use Rattle.rules.specs.laws.Column.{linked-kind}
 use Rattle.rules.specs.laws.Ruled.{false-of}
@@ -84,7 +84,7 @@ kind-of r = go (eqb (r .kind) 1) (eqb (r .kind) 2) (eqb (r .kind) 3) (eqb (r .ki
 module _ (P : Pool) (i : ℕ) (e : Expression) (raw : Raw) (is : raw ≡ rawOf e) where
   -- a body of another kind is not e
   pub body-kind : raw .kind < 5 → (el (P .kinds) (i * 2) ≡ raw .kind → ⊥) → false ≡ same (bodyAt P i) e
-  unfolding bodyAt
+  unfolding bodyIn
   body-kind l n = sym (false-of _ (λ h.
       let q = same-eq (bodyAt P i) e h in
       n (kind-of (rawAtColumns (P .kinds) (P .numbers) i)
@@ -93,13 +93,13 @@ module _ (P : Pool) (i : ℕ) (e : Expression) (raw : Raw) (is : raw ≡ rawOf e
 
   -- nor is one that begins with another number
   pub body-lead : (el (P .numbers) (i * 8) ≡ raw .n0 → ⊥) → false ≡ same (bodyAt P i) e
-  unfolding bodyAt
+  unfolding bodyIn
   body-lead n =
       sym (false-of _ (λ h. n (sym (lead (rawAtColumns (P .kinds) (P .numbers) i))
       ∙ (ap (λ (x : Expression). rawOf x .n0) (same-eq (bodyAt P i) e h) ∙ sym (ap (λ (r : Raw). r .n0) is)))))
 
   body-role : el (P .kinds) (i * 2) ≡ 2 → bodyAt P i ≡ E.Role (roleOf (el (P .numbers) (i * 8)) (el (P .numbers) (i * 8 + 1)))
-  unfolding bodyAt
+  unfolding bodyIn
   body-role h = rw h
 
   -- a role is e where both numbers are
@@ -131,7 +131,7 @@ module _ (P : Pool) (K : List ℕ) (i : ℕ) (e : Expression) where
       go (E.Goal m) q = refl
 
   body-link : el (P .kinds) (i * 2) ≡ 3 → bodyAt P i ≡ E.Linked (roleOf (el (P .numbers) (i * 8)) (el (P .numbers) (i * 8 + 1))) (el (P .numbers) (i * 8 + 2))
-  unfolding bodyAt
+  unfolding bodyIn
   body-link h = rw h
 
   abbrev A : Role
@@ -149,11 +149,11 @@ module _ (P : Pool) (K : List ℕ) (i : ℕ) (e : Expression) where
       go (E.Goal m) n = refl
 
   -- none does where e is no role, or its entity has no bit
-  pub own-none : (s : ℕ) → s ≡ ownBit P e → 128 ≤ s → false ≡ ownLink P K e (bodyAt P i)
+  pub own-none : (s : ℕ) → s ≡ ownBit (bitOf P) e → 128 ≤ s → false ≡ ownLink P K e (bodyAt P i)
   unfolding bits
   own-none s q l = over (bodyAt P i)
     where
-      role : (a : Role) (m : ℕ) (e : Expression) → s ≡ ownBit P e → false ≡ ownRole P K a m e
+      role : (a : Role) (m : ℕ) (e : Expression) → s ≡ ownBit (bitOf P) e → false ≡ ownRole P K a m e
       role a m (E.Entity b) q = refl
       role a m (E.Role r) q = no-and (eqb (r .name) m) _ (rw (← q, le-ltb s 128 l))
       role a m (E.Linked p n) q = refl
@@ -168,14 +168,14 @@ module _ (P : Pool) (K : List ℕ) (i : ℕ) (e : Expression) where
       over (E.Goal m) = refl
 
   -- a link with the name of e does where the membership row has the bit
-  pub own-is : (s f : ℕ) {t : Bool} → el (P .kinds) (i * 2) ≡ 3 → el (P .numbers) (i * 8 + 2) ≡ rawOf e .n1 → s ≡ ownBit P e → s < 128
+  pub own-is : (s f : ℕ) {t : Bool} → el (P .kinds) (i * 2) ≡ 3 → el (P .numbers) (i * 8 + 2) ≡ rawOf e .n1 → s ≡ ownBit (bitOf P) e → s < 128
       → f ≡ bodyFirst P i → t ≡ bits K f s → t ≡ ownLink P K e (bodyAt P i)
   own-is s f {t} h n q l g k = rw (body-link h) (go e n q)
     where
       first : f ≡ rowOf P A
-      first = g ∙ ap (firstRow P) (body-link h)
+      first = g ∙ ap (firstRow (rowOf P)) (body-link h)
 
-      go : (e : Expression) → el (P .numbers) (i * 8 + 2) ≡ rawOf e .n1 → s ≡ ownBit P e → t ≡ ownRole P K A (el (P .numbers) (i * 8 + 2)) e
+      go : (e : Expression) → el (P .numbers) (i * 8 + 2) ≡ rawOf e .n1 → s ≡ ownBit (bitOf P) e → t ≡ ownRole P K A (el (P .numbers) (i * 8 + 2)) e
       go (E.Entity b) n q = absurd (omega arith)
       go (E.Role r) n q = rw (eq-eqb (r .name) (el (P .numbers) (i * 8 + 2)) (sym n), ← q, ← first) k
       go (E.Linked a m) n q = absurd (omega arith)

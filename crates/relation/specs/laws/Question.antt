@@ -35,13 +35,13 @@ pub record OwnRow (P : Pool) (e : Expression) (r : ℕ) : Type 0 where
   pub says : (r ≡ 129) ⊎ ((r < P .count) × (E.Role (headAt P r) ≡ e))
   pub own : (p : Role) → E.Role p ≡ e → r ≡ rowFor P e p
 
--- the bit of the entity of e where e is a role, or 128
-abbrev pub ownBit : Pool → Expression → ℕ
-ownBit P (E.Entity b) = 128
-ownBit P (E.Role q) = bitOf P (q .entity)
-ownBit P (E.Linked a m) = 128
-ownBit P (E.Intersection p) = 128
-ownBit P (E.Goal m) = 128
+-- the bit of the entity of e where e is a role, or 128, entity b having bit β b
+abbrev pub ownBit : (ℕ → ℕ) → Expression → ℕ
+ownBit β (E.Entity b) = 128
+ownBit β (E.Role q) = β (q .entity)
+ownBit β (E.Linked a m) = 128
+ownBit β (E.Intersection p) = 128
+ownBit β (E.Goal m) = 128
 
 -- credential i is on, and its body is from e at once
 unfoldable pub startsAt : Pool → List ℕ → List ℕ → Expression → ℕ → Bool

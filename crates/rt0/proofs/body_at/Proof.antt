@@ -1,12 +1,12 @@
 use mathlib.Core.Path.{_∙_, ap}
 use Rattle.expression.specs.Form.{expressionOf}
-use Rattle.rt0.specs.laws.Pool.{bodyAt}
+use Rattle.rt0.specs.laws.Pool.{bodyAt, bodyIn}
 use borrow.Author.Needs.{needs}
 use Rattle.rt0.proofs.body_at.Statement.{statement}
 use Rattle.rt0.proofs.body_at.Tie as tie
 
 returns : tie.Need-returns
-unfolding bodyAt
+unfolding bodyIn
 returns c = c .expression-of .ensures ∙ ap expressionOf (c .before .raw-at .ensures)
 
 pub body-at-spec : {M : Type 1} → statement M

@@ -14,8 +14,11 @@ use Rattle.rt0.specs.Pool.{upTo}
 abbrev pub poolOf : ℕ → List ℕ → List ℕ → List ℕ → Pool
 poolOf n H K N = record { count = n; heads = H; kinds = K; numbers = N }
 
+abbrev pub headIn : List ℕ → ℕ → Role
+headIn H i = roleOf (getD H (i * 2) 0) (getD H (i * 2 + 1) 0)
+
 abbrev pub headAt : Pool → ℕ → Role
-headAt P i = roleOf (getD (P .heads) (i * 2) 0) (getD (P .heads) (i * 2 + 1) 0)
+headAt P i = headIn (P .heads) i
 
 abbrev pub rawAtColumns : List ℕ → List ℕ → ℕ → Raw
 rawAtColumns K N i =
@@ -32,11 +35,17 @@ rawAtColumns K N i =
       n7 = getD N (i * 8 + 7) 0;
     }
 
-unfoldable pub bodyAt : Pool → ℕ → Expression
-bodyAt P i = expressionOf (rawAtColumns (P .kinds) (P .numbers) i)
+unfoldable pub bodyIn : List ℕ → List ℕ → ℕ → Expression
+bodyIn K N i = expressionOf (rawAtColumns K N i)
+
+abbrev pub bodyAt : Pool → ℕ → Expression
+bodyAt P i = bodyIn (P .kinds) (P .numbers) i
+
+abbrev pub credentialIn : List ℕ → List ℕ → List ℕ → ℕ → Credential
+credentialIn H K N i = record { head = headIn H i; body = bodyIn K N i }
 
 abbrev pub credentialAt : Pool → ℕ → Credential
-credentialAt P i = record { head = headAt P i; body = bodyAt P i }
+credentialAt P i = credentialIn (P .heads) (P .kinds) (P .numbers) i
 
 -- the credentials of a pool, in the order in which they were added
 unfoldable pub credentials : Pool → List Credential

@@ -3,6 +3,7 @@ use mathlib.Core.Path.{sym, _∙_, ap}
 use Rattle.rt0.specs.declared.Pool.{Pool}
 use Rattle.rt0.specs.laws.Pool.{poolOf}
 use borrow.Author.Tests.{not-true}
+use Rattle.rules.specs.laws.Table.{rowOf}
 use Rattle.rules.specs.laws.Columns.{firstRow}
 use Rattle.rules.specs.laws.Column.{first-none}
 use Rattle.rules.proofs.first_at.Statement.{statement}
@@ -17,7 +18,7 @@ returns c =
     (sym (c .before .has-link .ensures) ∙ not-true (c .before .has-link .result) (c .if1 .taken))
 
 returns-2 : tie.Need-returns-2
-returns-2 c = c .first-of .ensures ∙ ap (firstRow (pool (c .before .before .before .before))) (c .before .body-at .ensures)
+returns-2 c = c .first-of .ensures ∙ ap (firstRow (rowOf (pool (c .before .before .before .before)))) (c .before .body-at .ensures)
 
 pub first-at-spec : {M : Type 1} → statement M
 first-at-spec =

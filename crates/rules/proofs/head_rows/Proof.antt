@@ -1,22 +1,17 @@
 use Prim.Native.Nat.{_-_, _≤_}
 use native.Mathlib.Omega.{arith}
 use mathlib.Core.Path.{_∙_, ap}
-use Rattle.rt0.specs.declared.Pool.{Pool}
-use Rattle.rt0.specs.laws.Pool.{poolOf}
-use Rattle.rules.specs.laws.Table.{rowOf}
-use Rattle.rules.specs.laws.Columns.{Column, headRow}
+use Rattle.rules.specs.laws.Table.{rowIn}
+use Rattle.rules.specs.laws.Columns.{Column, headRowIn}
 use Rattle.rules.specs.laws.Column.{column-start, column-add, column-end, row-small}
 use Rattle.rules.proofs.head_rows.Statement.{statement}
 use Rattle.rules.proofs.head_rows.Tie as tie
 
 abbrev Inv-loop : tie.InvT-loop
-Inv-loop n heads kinds numbers entity name head₀ i₀ head i = Column (headRow (poolOf n heads kinds numbers)) 128 130 i head × (i ≤ n)
+Inv-loop n heads entity name head₀ i₀ head i = Column (headRowIn n heads) 128 130 i head × (i ≤ n)
 
 abbrev μ-loop : tie.MeasureT-loop
-μ-loop n heads kinds numbers entity name head₀ i₀ head i = n - i
-
-abbrev pool : (c : tie.Start Inv-loop μ-loop) → Pool
-pool c = poolOf (c .args .n) (c .args .heads .now) (c .args .kinds .now) (c .args .numbers .now)
+μ-loop n heads entity name head₀ i₀ head i = n - i
 
 loop-holds : tie.Need-loop-holds Inv-loop μ-loop
 loop-holds c = (column-start _ 128 130 128 (omega arith) (omega arith), omega arith)
@@ -29,10 +24,10 @@ array-write-head c = omega (arith, c .before .before .before .loop .inv .0 .size
 
 loop-again : tie.Need-loop-again Inv-loop μ-loop
 loop-again c = (
-  column-add (headRow (pool (c .before .before .before .before))) 128 130 (c .before .before .before .loop .i) (c .find-row .result)
+  column-add (headRowIn (c .before .before .before .before .args .n) (c .before .before .before .before .args .heads .now)) 128 130 (c .before .before .before .loop .i) (c .find-row .result)
       (c .before .before .before .loop .head) (omega arith)
-      (c .find-row .ensures ∙ ap (rowOf (pool (c .before .before .before .before))) (c .before .head-at .ensures))
-      (rw (c .find-row .ensures) (row-small (pool (c .before .before .before .before)) (c .before .before .before .before .pre .0)
+      (c .find-row .ensures ∙ ap (rowIn (c .before .before .before .before .args .n) (c .before .before .before .before .args .heads .now)) (c .before .head-at .ensures))
+      (rw (c .find-row .ensures) (row-small (c .before .before .before .before .args .n) (c .before .before .before .before .args .heads .now) (c .before .before .before .before .pre .0)
       (c .before .head-at .result))) (c .before .before .before .loop .inv .0),
   omega arith,
 )

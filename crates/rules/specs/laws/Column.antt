@@ -4,7 +4,7 @@ use native.Mathlib.Omega.{arith}
 use mathlib.Core.Path.{_≡_, refl, sym, _∙_, ap, subst}
 use mathlib.Core.Logic.{_⊎_, inl, inr, ⊎-elim}
 use mathlib.Core.Bool.{Bool, true, false, _&&_, cond}
-use mathlib.Core.List.{List}
+use mathlib.Core.List.{List, []}
 use native.Mathlib.Nat.{add-zero}
 use borrow.Author.Tests.{eqb-true, eqb-false, eq-eqb, ne-eqb, ltb-true}
 use lib.Dec.{eqb, ltb}
@@ -19,10 +19,10 @@ use Rattle.expression.specs.Same.{same}
 use Rattle.word.specs.laws.Bit.{bitAt, bit-zero}
 use Rattle.rt0.specs.declared.Pool.{Pool}
 use Rattle.word.specs.laws.Bools.{false-true, and-parts, and-both}
-use Rattle.rt0.specs.laws.Pool.{headAt, bodyAt}
+use Rattle.rt0.specs.laws.Pool.{poolOf, headAt, bodyAt, bodyIn}
 use Rattle.closure.specs.laws.Rules.{el, bits, Under, Marked}
 use Rattle.rules.specs.declared.Four.{Four}
-use Rattle.rules.specs.laws.Table.{rowOf, bitOf, rowFor, third, fourth}
+use Rattle.rules.specs.laws.Table.{rowOf, rowIn, bitOf, rowFor, third, fourth}
 use Rattle.rules.specs.laws.Exact.{row-cases, bit-cases}
 use Rattle.rules.specs.laws.Columns.{bodyFirst, fourRows, firstRow, isLinked, Column, fourAt, FourUnder, PartsTo, Able, NamedRow, NamedLink, NamesTo}
 use Rattle.rules.specs.laws.Columns.{isNamed, hasLink, linkSource, SameLink, copied}
@@ -73,13 +73,13 @@ column-end f len bound i n l a b c = let z : i ≡ n = omega arith in subst (λ 
 -- Rows are below 130
 
 -- a role's row
-pub row-small : (P : Pool) → P .count ≤ 128 → (p : Role) → rowOf P p < 130
-row-small P small p = ⊎-elim (λ h. omega arith) (λ h. omega arith) (row-cases P small p)
+pub row-small : (n : ℕ) (H : List ℕ) → n ≤ 128 → (p : Role) → rowIn n H p < 130
+row-small n H small p = ⊎-elim (λ h. omega arith) (λ h. omega arith) (row-cases (poolOf n H [] []) small p)
 
 -- a role's row where e is asked about
 pub row-for-small : (P : Pool) → P .count ≤ 128 → (e : Expression) (p : Role) → rowFor P e p < 130
 unfolding rowFor
-row-for-small P small e p = go (eqb (rowOf P p) 128) (same (E.Role p) e) (rowOf P p) (row-small P small p)
+row-for-small P small e p = go (eqb (rowOf P p) 128) (same (E.Role p) e) (rowOf P p) (row-small (P .count) (P .heads) small p)
   where
     go : (t u : Bool) (x : ℕ) → x < 130 → cond t (cond u 129 128) x < 130
     go true true x h = omega arith
@@ -87,10 +87,10 @@ row-for-small P small e p = go (eqb (rowOf P p) 128) (same (E.Role p) e) (rowOf 
     go false u x h = h
 
 -- a rule's membership row
-pub first-small : (P : Pool) → P .count ≤ 128 → (x : Expression) → firstRow P x < 130
+pub first-small : (P : Pool) → P .count ≤ 128 → (x : Expression) → firstRow (rowOf P) x < 130
 first-small P small (E.Entity b) = omega arith
 first-small P small (E.Role p) = omega arith
-first-small P small (E.Linked a m) = row-small P small a
+first-small P small (E.Linked a m) = row-small (P .count) (P .heads) small a
 first-small P small (E.Intersection p) = omega arith
 first-small P small (E.Goal m) = omega arith
 
@@ -109,7 +109,7 @@ abbrev pub put4 : List ℕ → ℕ → Four → List ℕ
 put4 l at r = set (set (set (set l at (r .a)) (at + 1) (r .b)) (at + 2) (r .c)) (at + 3) (r .d)
 
 module _ (l : List ℕ) (at : ℕ) (r : Four) where
-  put-length : length (put4 l at r) ≡ length l
+  pub put-length : length (put4 l at r) ≡ length l
   put-length = simp length-set
 
   put-other : (j : ℕ) → (j ≡ at → ⊥) → (j ≡ at + 1 → ⊥) → (j ≡ at + 2 → ⊥) → (j ≡ at + 3 → ⊥) → el (put4 l at r) j ≡ el l j
@@ -188,7 +188,7 @@ module _ (ρ : Role → ℕ) (P : Pool) where
 
 -- a linked body has kind 3
 pub linked-kind : (P : Pool) (i : ℕ) (a : Role) (m : ℕ) → bodyAt P i ≡ E.Linked a m → hasLink P i ≡ true
-unfolding bodyAt
+unfolding bodyIn
 linked-kind P i a m h =
     go (eqb (el (P .kinds) (i * 2)) 1) (eqb (el (P .kinds) (i * 2)) 2) (eqb (el (P .kinds) (i * 2)) 3) (eqb (el (P .kinds) (i * 2)) 4) _ _ _ _ _ _ h
   where
@@ -205,7 +205,7 @@ linked-kind P i a m h =
 pub first-none : (P : Pool) (i : ℕ) → hasLink P i ≡ false → 128 ≡ bodyFirst P i
 first-none P i h = go (bodyAt P i) refl
   where
-    go : (x : Expression) → bodyAt P i ≡ x → 128 ≡ firstRow P x
+    go : (x : Expression) → bodyAt P i ≡ x → 128 ≡ firstRow (rowOf P) x
     go (E.Entity b) q = refl
     go (E.Role p) q = refl
     go (E.Linked a m) q = absurd (false-true (sym h ∙ linked-kind P i a m q))
@@ -432,7 +432,7 @@ module _ (P : Pool) (able : List ℕ) where
 -- a body of kind 3 is a link
 linked-body : (P : Pool) (i : ℕ) → hasLink P i ≡ true
     → bodyAt P i ≡ E.Linked (record { entity = el (P .numbers) (i * 8); name = el (P .numbers) (i * 8 + 1) }) (el (P .numbers) (i * 8 + 2))
-unfolding bodyAt
+unfolding bodyIn
 linked-body P i h = rw (eqb-true (el (P .kinds) (i * 2)) 3 h)
 
 -- A row that is copied

@@ -10,10 +10,10 @@ use Rattle.expression.specs.declared.Role.{Role}
 use Rattle.expression.specs.declared.Expression.{Expression}
 use Rattle.expression.specs.declared.Expression.the-variants as E
 use Rattle.rt0.specs.declared.Pool.{Pool}
-use Rattle.rt0.specs.laws.Pool.{headAt, bodyAt}
+use Rattle.rt0.specs.laws.Pool.{headAt, headIn, bodyAt}
 use Rattle.closure.specs.laws.Rules.{el, bits, Under, Within}
 use Rattle.rules.specs.declared.Four.{Four}
-use Rattle.rules.specs.laws.Table.{rowOf, bitOf, third, fourth}
+use Rattle.rules.specs.laws.Table.{rowOf, rowIn, bitOf, third, fourth}
 
 -- the four rows of an expression's rule, role p having row ρ p
 abbrev pub fourRows : (Role → ℕ) → Expression → Four
@@ -23,13 +23,13 @@ fourRows ρ (E.Linked p m) = record { a = 128; b = 128; c = 128; d = 128 }
 fourRows ρ (E.Intersection p) = record { a = ρ (p .first); b = ρ (p .second); c = ρ (third p); d = ρ (fourth p) }
 fourRows ρ (E.Goal m) = record { a = 128; b = 128; c = 128; d = 128 }
 
--- the membership row of an expression's rule
-abbrev pub firstRow : Pool → Expression → ℕ
-firstRow P (E.Entity b) = 128
-firstRow P (E.Role p) = 128
-firstRow P (E.Linked a m) = rowOf P a
-firstRow P (E.Intersection p) = 128
-firstRow P (E.Goal m) = 128
+-- the membership row of an expression's rule, role p having row ρ p
+abbrev pub firstRow : (Role → ℕ) → Expression → ℕ
+firstRow ρ (E.Entity b) = 128
+firstRow ρ (E.Role p) = 128
+firstRow ρ (E.Linked a m) = ρ a
+firstRow ρ (E.Intersection p) = 128
+firstRow ρ (E.Goal m) = 128
 
 -- the expression is a link
 abbrev pub isLinked : Expression → Bool
@@ -46,12 +46,15 @@ pub record Column (f : ℕ → ℕ) (len bound k : ℕ) (l : List ℕ) : Type 0 
   pub under : Under bound l
 
 -- the row of head i
+abbrev pub headRowIn : ℕ → List ℕ → ℕ → ℕ
+headRowIn n H i = rowIn n H (headIn H i)
+
 abbrev pub headRow : Pool → ℕ → ℕ
-headRow P i = rowOf P (headAt P i)
+headRow P i = headRowIn (P .count) (P .heads) i
 
 -- the membership row of the rule of body i
 abbrev pub bodyFirst : Pool → ℕ → ℕ
-bodyFirst P i = firstRow P (bodyAt P i)
+bodyFirst P i = firstRow (rowOf P) (bodyAt P i)
 
 -- the four rows at rule i of a column
 abbrev pub fourAt : List ℕ → ℕ → Four

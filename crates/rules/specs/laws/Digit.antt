@@ -12,13 +12,12 @@ use lib.ListN.{length, replicate, length-replicate}
 use Rattle.expression.specs.declared.Role.{Role}
 use Rattle.expression.specs.laws.Same.{sameRole-eq}
 use Rattle.word.specs.laws.Bit.{bitAt, least, bit-and, bit-zero, none-below}
-use Rattle.rt0.specs.declared.Pool.{Pool}
 use Rattle.word.specs.laws.Bools.{false-true, and-parts, and-both}
-use Rattle.rt0.specs.laws.Pool.{headAt}
+use Rattle.rt0.specs.laws.Pool.{headIn}
 use Rattle.closure.specs.laws.Rules.{el, bits, Within, Marked}
 use Rattle.closure.specs.laws.Laws.{bit-is}
 use Rattle.word.specs.laws.Search.{anyTo, anyTo-here}
-use Rattle.rules.specs.laws.Table.{isHead, rowOf, isBody, bitOf}
+use Rattle.rules.specs.laws.Table.{isHeadIn, rowIn, isBodyIn, bitIn}
 use Rattle.rules.specs.laws.Search.{first-at, first-none}
 use Rattle.rules.specs.laws.Digits.{Held, shared, Noted, NoneBelow, HeadsIn, BodiesIn, Open}
 
@@ -139,17 +138,17 @@ none-held lo hi r i none l a b h = go (ltb i 64) refl
     go true q = let m : i < 64 = ltb-true i 64 q in let z : i / 64 ≡ 0 = omega arith in false-true (sym (none .low i h z) ∙ a z)
     go false q = let m : 64 ≤ i = ltb-false i 64 q in let z : i / 64 ≡ 1 = omega arith in false-true (sym (none .high i h z) ∙ b z)
 
-module _ (P : Pool) (small : P .count ≤ 128) where
-  module _ (p : Role) (E N : List ℕ) (lo hi r : ℕ) (tables : HeadsIn (P .heads) (P .count) E N)
+module _ (n : ℕ) (small : n ≤ 128) where
+  module _ (H : List ℕ) (p : Role) (E N : List ℕ) (lo hi r : ℕ) (tables : HeadsIn H n E N)
       (low : lo ≡ bitAnd (shared E (p .entity) 0) (shared N (p .name) 0)) (high : hi ≡ bitAnd (shared E (p .entity) 1) (shared N (p .name) 1))
       (none : NoneBelow lo hi r) where
-    no-head : (i : ℕ) → i < P .count → i < r → isHead P p i ≡ false
-    no-head i l h = go (isHead P p i) refl
+    no-head : (i : ℕ) → i < n → i < r → isHeadIn H p i ≡ false
+    no-head i l h = go (isHeadIn H p i) refl
       where
-        go : (t : Bool) → isHead P p i ≡ t → isHead P p i ≡ false
+        go : (t : Bool) → isHeadIn H p i ≡ t → isHeadIn H p i ≡ false
         go false q = q
         go true q =
-            let z : headAt P i ≡ p = sameRole-eq (headAt P i) p q in
+            let z : headIn H i ≡ p = sameRole-eq (headIn H i) p q in
             let m : i < 128 = omega arith in
             let a : Held E (p .entity) i = subst (λ (s : Role). Held E (s .entity) i) z (tables .entity i l) in
             let b : Held N (p .name) i = subst (λ (s : Role). Held N (s .name) i) z (tables .name i l) in
@@ -160,36 +159,36 @@ module _ (P : Pool) (small : P .count ≤ 128) where
             ∙ (bit-and _ _ (i % 64) ∙ and-both _ _ (held-shared E (p .entity) i 1 m e a) (held-shared N (p .name) i 1 m e b))) h)
 
     -- the tables find no credential
-    pub row-missed : P .count ≤ r → 128 ≡ rowOf P p
-    unfolding rowOf
-    row-missed g = sym (first-none (P .count) (isHead P p) (nowhere-to (P .count) (isHead P p) (λ i l. no-head i l (omega arith))))
+    pub row-missed : n ≤ r → 128 ≡ rowIn n H p
+    unfolding rowIn
+    row-missed g = sym (first-none n (isHeadIn H p) (nowhere-to n (isHeadIn H p) (λ i l. no-head i l (omega arith))))
 
     -- the tables find credential r
-    pub row-hit : {b : Bool} → r < P .count → b ≡ isHead P p r → b ≡ true → r ≡ rowOf P p
-    unfolding rowOf
-    row-hit g e t = first-at (P .count) (isHead P p) r g (nowhere-to r (isHead P p) (λ i l. no-head i (omega arith) l)) e t
+    pub row-hit : {b : Bool} → r < n → b ≡ isHeadIn H p r → b ≡ true → r ≡ rowIn n H p
+    unfolding rowIn
+    row-hit g e t = first-at n (isHeadIn H p) r g (nowhere-to r (isHeadIn H p) (λ i l. no-head i (omega arith) l)) e t
 
-  module _ (b : ℕ) (T : List ℕ) (lo hi r : ℕ) (table : BodiesIn (P .kinds) (P .numbers) (P .count) T) (low : lo ≡ shared T b 0)
+  module _ (K N : List ℕ) (b : ℕ) (T : List ℕ) (lo hi r : ℕ) (table : BodiesIn K N n T) (low : lo ≡ shared T b 0)
       (high : hi ≡ shared T b 1) (none : NoneBelow lo hi r) where
-    no-body : (i : ℕ) → i < P .count → i < r → isBody P b i ≡ false
-    no-body i l h = go (isBody P b i) refl
+    no-body : (i : ℕ) → i < n → i < r → isBodyIn K N b i ≡ false
+    no-body i l h = go (isBodyIn K N b i) refl
       where
-        go : (t : Bool) → isBody P b i ≡ t → isBody P b i ≡ false
+        go : (t : Bool) → isBodyIn K N b i ≡ t → isBodyIn K N b i ≡ false
         go false q = q
         go true q =
-            let z = and-parts (eqb (el (P .kinds) (i * 2)) 1) (eqb (el (P .numbers) (i * 8)) b) q in
+            let z = and-parts (eqb (el K (i * 2)) 1) (eqb (el N (i * 8)) b) q in
             let m : i < 128 = omega arith in
             let a : Held T b i = subst (λ (x : ℕ). Held T x i) (eqb-true _ b (z .1)) (table .body i l (eqb-true _ 1 (z .0))) in
             absurd (none-held lo hi r i none m (λ e. ap (λ (w : ℕ). bitAt w (i % 64)) low ∙ held-shared T b i 0 m e a)
             (λ e. ap (λ (w : ℕ). bitAt w (i % 64)) high ∙ held-shared T b i 1 m e a) h)
 
-    pub bit-missed : P .count ≤ r → 128 ≡ bitOf P b
-    unfolding bitOf
-    bit-missed g = sym (first-none (P .count) (isBody P b) (nowhere-to (P .count) (isBody P b) (λ i l. no-body i l (omega arith))))
+    pub bit-missed : n ≤ r → 128 ≡ bitIn n K N b
+    unfolding bitIn
+    bit-missed g = sym (first-none n (isBodyIn K N b) (nowhere-to n (isBodyIn K N b) (λ i l. no-body i l (omega arith))))
 
-    pub bit-hit : {t : Bool} → r < P .count → t ≡ isBody P b r → t ≡ true → r ≡ bitOf P b
-    unfolding bitOf
-    bit-hit g e t = first-at (P .count) (isBody P b) r g (nowhere-to r (isBody P b) (λ i l. no-body i (omega arith) l)) e t
+    pub bit-hit : {t : Bool} → r < n → t ≡ isBodyIn K N b r → t ≡ true → r ≡ bitIn n K N b
+    unfolding bitIn
+    bit-hit g e t = first-at n (isBodyIn K N b) r g (nowhere-to r (isBodyIn K N b) (λ i l. no-body i (omega arith) l)) e t
 
 -- A table that rules nothing out
 

@@ -21,11 +21,11 @@ use Rattle.rt0.specs.From.{roleOf, rolesOf, From, reflexive, transitive, creden
 use Rattle.word.specs.laws.Bools.{false-true, and-parts, and-both}
 use Rattle.rt0.specs.Decide.{from?}
 use Rattle.rt0.specs.laws.Laws.{Reach, here, step, link, each, role-ends, sound, complete}
-use Rattle.rt0.specs.laws.Pool.{headAt, bodyAt, credentialAt}
+use Rattle.rt0.specs.laws.Pool.{headAt, bodyAt, bodyIn, credentialAt}
 use Rattle.rt0.specs.Pool.{upTo}
 use Rattle.closure.specs.declared.Rules.{Rules}
 use Rattle.closure.specs.laws.Rules.{el, bits, Takes, memOf, Used, Model, Within}
-use Rattle.rules.specs.laws.Table.{isHead, rowOf, isBody, bitOf, rowFor, chosenTo, chosen, third, fourth, Unnamed, Row, entity, goal, role, linked}
+use Rattle.rules.specs.laws.Table.{isHead, rowOf, rowIn, isBody, bitOf, bitIn, rowFor, chosenTo, chosen, third, fourth, Unnamed, Row, entity, goal, role, linked}
 use Rattle.rules.specs.laws.Table.{intersection as meet, Compiled}
 use Rattle.word.specs.laws.Search.{anyTo-here}
 use Rattle.rules.specs.laws.Search.{any-cases, first-found, first-none}
@@ -75,52 +75,52 @@ module _ (P : Pool) (on : List ℕ) where
 module _ (P : Pool) (small : P .count ≤ 128) where
   -- a row below 128 is that of a head
   pub row-found : (p : Role) → rowOf P p < 128 → (rowOf P p < P .count) × (headAt P (rowOf P p) ≡ p)
-  unfolding rowOf
+  unfolding rowIn
   row-found p l = ⊎-elim
       (λ h. let r = first-found (P .count) (isHead P p) h in (r .0, sameRole-eq (headAt P (rowOf P p)) p (r .1)))
       (λ h. absurd (omega (arith, first-none (P .count) (isHead P p) h))) (any-cases (P .count) (isHead P p))
 
   -- a head has a row
   pub row-here : (p : Role) (i : ℕ) → i < P .count → headAt P i ≡ p → (rowOf P p < P .count) × (headAt P (rowOf P p) ≡ p)
-  unfolding rowOf
+  unfolding rowIn
   row-here p i l e =
       let r = first-found (P .count) (isHead P p) (anyTo-here (P .count) (isHead P p) i l (eq-sameRole (headAt P i) p e)) in
       (r .0, sameRole-eq (headAt P (rowOf P p)) p (r .1))
 
   -- a row is below 128, or 128
   pub row-cases : (p : Role) → (rowOf P p < 128) ⊎ (rowOf P p ≡ 128)
-  unfolding rowOf
+  unfolding rowIn
   row-cases p = ⊎-elim
       (λ h. let r = first-found (P .count) (isHead P p) h in let l : rowOf P p < P .count = r .0 in inl (omega arith))
       (λ h. inr (first-none (P .count) (isHead P p) h)) (any-cases (P .count) (isHead P p))
 
   body-at : (b s : ℕ) → isBody P b s ≡ true → bodyAt P s ≡ E.Entity b
-  unfolding bodyAt
+  unfolding bodyIn
   body-at b s h =
       let q = and-parts (eqb (el (P .kinds) (s * 2)) 1) (eqb (el (P .numbers) (s * 8)) b) h in
       rw (q .0) (ap E.Entity (eqb-true (el (P .numbers) (s * 8)) b (q .1)))
 
   -- a bit below 128 is that of a body
   pub bit-found : (b : ℕ) → bitOf P b < 128 → (bitOf P b < P .count) × (bodyAt P (bitOf P b) ≡ E.Entity b)
-  unfolding bitOf
+  unfolding bitIn
   bit-found b l = ⊎-elim
       (λ h. let r = first-found (P .count) (isBody P b) h in (r .0, body-at b (bitOf P b) (r .1)))
       (λ h. absurd (omega (arith, first-none (P .count) (isBody P b) h))) (any-cases (P .count) (isBody P b))
 
   -- a bit is that of a credential, or 128
   pub bit-cases : (b : ℕ) → (bitOf P b < P .count) ⊎ (bitOf P b ≡ 128)
-  unfolding bitOf
+  unfolding bitIn
   bit-cases b =
       ⊎-elim (λ h. inl (first-found (P .count) (isBody P b) h .0)) (λ h. inr (first-none (P .count) (isBody P b) h)) (any-cases (P .count) (isBody P b))
 
   -- a body of kind 1 is an entity
   pub body-one : (s : ℕ) → el (P .kinds) (s * 2) ≡ 1 → bodyAt P s ≡ E.Entity (el (P .numbers) (s * 8))
-  unfolding bodyAt
+  unfolding bodyIn
   body-one s h = rw (eq-eqb (el (P .kinds) (s * 2)) 1 h)
 
   -- a body that is an entity passes the test for it
   pub body-entity : (k b : ℕ) → bodyAt P k ≡ E.Entity b → isBody P b k ≡ true
-  unfolding bodyAt
+  unfolding bodyIn
   body-entity k b h =
       go (eqb (el (P .kinds) (k * 2)) 1) (eqb (el (P .kinds) (k * 2)) 2) (eqb (el (P .kinds) (k * 2)) 3) (eqb (el (P .kinds) (k * 2)) 4) _ _ _ _ _ _ refl h
     where
@@ -135,7 +135,7 @@ module _ (P : Pool) (small : P .count ≤ 128) where
 
   -- an entity that is a body has a bit
   pub bit-here : (b k : ℕ) → k < P .count → bodyAt P k ≡ E.Entity b → (bitOf P b < P .count) × (bodyAt P (bitOf P b) ≡ E.Entity b)
-  unfolding bitOf
+  unfolding bitIn
   bit-here b k l e =
       let r = first-found (P .count) (isBody P b) (anyTo-here (P .count) (isBody P b) k l (body-entity k b e)) in
       (r .0, body-at b (bitOf P b) (r .1))

@@ -12,7 +12,7 @@ use Rattle.expression.specs.Same.{same}
 use Rattle.rt0.specs.declared.Pool.{Pool}
 use Rattle.rt0.specs.laws.Pool.{bodyAt}
 use Rattle.closure.specs.declared.Rules.{Rules}
-use Rattle.closure.specs.laws.Rules.{el, bits, rulesOf}
+use Rattle.closure.specs.laws.Rules.{el, bits, rulesOf, Fits}
 use Rattle.rules.specs.declared.Four.{Four}
 use Rattle.word.specs.laws.Search.{anyTo, anyTo-here}
 use Rattle.rules.specs.laws.Table.{rowOf, rowFor, third, fourth, Quad, Unnamed, Names, Row, entity, goal, role, linked, intersection, Compiled}
@@ -34,14 +34,14 @@ pub record Ruled (P : Pool) (X : Rules) : Type 0 where
   pub linked : anyTo (P .count) (hasLink P) ≡ true → lit ≡ true
 
 -- a column of rows that names no row, or those of a link, is the rule of an expression
-pub row-of : (P : Pool) (e : Expression) (X : Rules) (i : ℕ) (x : Expression) → fourAt (X .part) i ≡ fourRows (rowFor P e) x → el (X .first) i ≡ firstRow P x
+pub row-of : (P : Pool) (e : Expression) (X : Rules) (i : ℕ) (x : Expression) → fourAt (X .part) i ≡ fourRows (rowFor P e) x → el (X .first) i ≡ firstRow (rowOf P) x
     → ((a : Role) (m : ℕ) → x ≡ E.Linked a m → Names P X i m) → (isLinked x ≡ false → Unnamed X i) → Row P e X i x
 row-of P e X i x four first names none = go x four first names none
   where
     quad : {r : Four} → fourAt (X .part) i ≡ r → Quad X i (r .a) (r .b) (r .c) (r .d)
     quad q = record { p0 = ap (λ (r : Four). r .a) q; p1 = ap (λ (r : Four). r .b) q; p2 = ap (λ (r : Four). r .c) q; p3 = ap (λ (r : Four). r .d) q }
 
-    go : (x : Expression) → fourAt (X .part) i ≡ fourRows (rowFor P e) x → el (X .first) i ≡ firstRow P x
+    go : (x : Expression) → fourAt (X .part) i ≡ fourRows (rowFor P e) x → el (X .first) i ≡ firstRow (rowOf P) x
         → ((a : Role) (m : ℕ) → x ≡ E.Linked a m → Names P X i m) → (isLinked x ≡ false → Unnamed X i) → Row P e X i x
     go (E.Entity b) q f n u = entity (quad q) (u refl)
     go (E.Role p) q f n u = role (quad q) (u refl)
@@ -139,3 +139,7 @@ by-columns P X r =
       names = r .names;
       linked = r .linked;
     }
+
+-- the rules of a pool fit
+pub ruled-fits : (P : Pool) → P .count ≤ 128 → (X : Rules) → Ruled P X → Fits X
+ruled-fits P small X ruled = compiled-plain P small X ruled .fits

@@ -30,8 +30,11 @@ abbrev pub isHead : Pool → Role → ℕ → Bool
 isHead P p j = isHeadIn (P .heads) p j
 
 -- the row of a role
-unfoldable pub rowOf : Pool → Role → ℕ
-rowOf P p = firstTo (P .count) (isHead P p)
+unfoldable pub rowIn : ℕ → List ℕ → Role → ℕ
+rowIn n H p = firstTo n (isHeadIn H p)
+
+abbrev pub rowOf : Pool → Role → ℕ
+rowOf P p = rowIn (P .count) (P .heads) p
 
 -- credential s has the entity b as its body
 abbrev pub isBodyIn : List ℕ → List ℕ → ℕ → ℕ → Bool
@@ -41,8 +44,11 @@ abbrev pub isBody : Pool → ℕ → ℕ → Bool
 isBody P b s = isBodyIn (P .kinds) (P .numbers) b s
 
 -- the bit of an entity
-unfoldable pub bitOf : Pool → ℕ → ℕ
-bitOf P b = firstTo (P .count) (isBody P b)
+unfoldable pub bitIn : ℕ → List ℕ → List ℕ → ℕ → ℕ
+bitIn n K N b = firstTo n (isBodyIn K N b)
+
+abbrev pub bitOf : Pool → ℕ → ℕ
+bitOf P b = bitIn (P .count) (P .kinds) (P .numbers) b
 
 -- the row of a role where e is asked about: e itself has row 129 where no credential has it as its head
 unfoldable pub rowFor : Pool → Expression → Role → ℕ

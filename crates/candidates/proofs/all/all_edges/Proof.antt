@@ -5,11 +5,11 @@ use Rattle.candidates.proofs.all.all_edges.Tie as tie
 
 returns : tie.Need-returns
 returns c =
-    let c6 = c .before .before .before .before .before .before in
-    let c7 = c6 .before in
-    let c11 = c7 .before .before .before .before in
-    let c15 = c11 .before .before .before .before in
-    all-roles (c15 .args .t1) (c15 .pre .0) _ _ _ _ (c11 .members .ensures) (c7 .class-of .ensures) (c6 .if1 .taken) (c .with-roles .ensures)
+    let c5 = c .before .before .before .before .before in
+    let c6 = c5 .before in
+    let c10 = c6 .before .before .before .before in
+    let c14 = c10 .before .before .before .before in
+    all-roles (c14 .args .t1) (c14 .pre .0) _ _ _ _ (c10 .members .ensures) (c6 .class-of .ensures) (c5 .if1 .taken) (c .with-roles .ensures _)
 
 returns-2 : tie.Need-returns-2
 returns-2 c =

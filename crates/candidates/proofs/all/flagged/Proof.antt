@@ -10,11 +10,11 @@ use Rattle.candidates.proofs.all.flagged.Statement.{statement}
 use Rattle.candidates.proofs.all.flagged.Tie as tie
 
 abbrev Inv-loop : tie.InvT-loop
-Inv-loop m heads kinds numbers words head part first named src deps on rows a r₀ k₀ r k =
+Inv-loop m heads kinds numbers head part first named src deps on rows a r₀ k₀ r k =
     Told (isFrom (chosen (poolOf m heads kinds numbers) on) a) (poolOf m heads kinds numbers) k r × (k ≤ m)
 
 abbrev μ-loop : tie.MeasureT-loop
-μ-loop m heads kinds numbers words head part first named src deps on rows a r₀ k₀ r k = m - k
+μ-loop m heads kinds numbers head part first named src deps on rows a r₀ k₀ r k = m - k
 
 loop-holds : tie.Need-loop-holds Inv-loop μ-loop
 loop-holds c = (told-start _ _ _ refl, omega arith)

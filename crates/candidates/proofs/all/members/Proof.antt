@@ -1,4 +1,4 @@
-use Rattle.rules.specs.laws.Ruled.{by-columns}
+use Rattle.rules.specs.laws.Ruled.{by-columns, ruled-fits}
 use Rattle.candidates.specs.laws.All.{told-on}
 use borrow.Author.Needs.{needs}
 use Rattle.candidates.proofs.all.members.Statement.{statement}
@@ -6,25 +6,26 @@ use Rattle.candidates.proofs.all.members.Tie as tie
 
 relation-requires : tie.Need-relation-requires
 relation-requires c κs =
-    let c14 = c .before .before .before .before .before .before .before .before .before .before .before .before .before .before in
-    let c17 = c14 .before .before .before in
-    let c22 = c17 .before .before .before .before .before in
-    (c22 .pre, by-columns (c22 .args .t1) (c17 .rules-of .result) (c17 .rules-of .ensures))
+    let c13 = c .before .before .before .before .before .before .before .before .before .before .before .before .before in
+    let c16 = c13 .before .before .before in
+    let c21 = c16 .before .before .before .before .before in
+    ruled-fits (c21 .args .t1) (c21 .pre) _ (by-columns (c21 .args .t1) (c16 .rules-of .result) (c16 .rules-of .ensures))
 
 flagged-requires : tie.Need-flagged-requires
 flagged-requires c κs =
     let c13 = c .before .before .before .before .before .before .before .before .before .before .before .before .before in
-    let c27 = c13 .before .before .before .before .before .before .before .before .before .before .before .before .before .before in
-    let c31 = c27 .before .before .before .before in
-    let c36 = c31 .before .before .before .before .before in
-    (c36 .pre, by-columns (c36 .args .t1) (c31 .rules-of .result) (c31 .rules-of .ensures), c13 .relation .ensures)
+    let c26 = c13 .before .before .before .before .before .before .before .before .before .before .before .before .before in
+    let c30 = c26 .before .before .before .before in
+    let c35 = c30 .before .before .before .before .before in
+    let ruled = by-columns (c35 .args .t1) (c30 .rules-of .result) (c30 .rules-of .ensures) in
+    (c35 .pre, (_, ruled), c13 .relation .ensures _ ruled)
 
 returns : tie.Need-returns
 returns c =
     let c14 = c .before .before .before .before .before .before .before .before .before .before .before .before .before .before in
-    let c28 = c14 .before .before .before .before .before .before .before .before .before .before .before .before .before .before in
-    let c37 = c28 .before .before .before .before .before .before .before .before .before in
-    told-on (c37 .args .t1) (c37 .args .a) (c37 .pre) (c .flagged .ensures)
+    let c27 = c14 .before .before .before .before .before .before .before .before .before .before .before .before .before in
+    let c36 = c27 .before .before .before .before .before .before .before .before .before in
+    told-on (c36 .args .t1) (c36 .args .a) (c36 .pre) (c .flagged .ensures)
 
 pub members-spec : {M : Type 1} → statement M
 members-spec =

@@ -8,17 +8,18 @@ use Rattle.rt0.specs.laws.Pool.{poolOf}
 use mathlib.Core.Bool.{true}
 use mathlib.Core.Path.{_≡_}
 use native.Mathlib.Omega.{arith}
-use Prim.Native.Nat.{_-_, _≤_, _<_}
+use Prim.Native.Nat.{ℕ, _-_, _≤_, _<_}
+use mathlib.Core.List.{List}
 use Rattle.candidates.proofs.all.with_roles.Statement.{statement}
 use Rattle.candidates.proofs.all.with_roles.Tie as tie
 
 abbrev Inv-loop : tie.InvT-loop
-Inv-loop m heads kinds numbers flags nodes edges i n r best₀ k₀ best k =
-    (best ≡ folded k (offerRoles (isDone (nodesOf nodes) (edgesOf edges) i) (poolOf m heads kinds numbers) flags n r) best₀) × (k ≤ m)
+Inv-loop m kinds numbers flags nodes edges i n r best₀ k₀ best k =
+    ((H : List ℕ) → best ≡ folded k (offerRoles (isDone (nodesOf nodes) (edgesOf edges) i) (poolOf m H kinds numbers) flags n r) best₀) × (k ≤ m)
     × (k < m → flag flags k ≡ true)
 
 abbrev μ-loop : tie.MeasureT-loop
-μ-loop m heads kinds numbers flags nodes edges i n r best₀ k₀ best k = m - k
+μ-loop m kinds numbers flags nodes edges i n r best₀ k₀ best k = m - k
 
 next-flagged-requires : tie.Need-next-flagged-requires Inv-loop μ-loop
 next-flagged-requires c κs = (c .pre .0, omega arith)
@@ -26,7 +27,7 @@ next-flagged-requires c κs = (c .pre .0, omega arith)
 loop-holds : tie.Need-loop-holds Inv-loop μ-loop
 loop-holds c =
     let s = c .next-flagged .ensures in (
-      folded-skip _ _ (folded-start _ _) (s .0 .from) (λ j l h x. roles-skip _ _ _ _ _ j (s .0 .none j l h) x),
+      λ H. folded-skip _ _ (folded-start _ _) (s .0 .from) (λ j l h x. roles-skip _ _ _ _ _ j (s .0 .none j l h) x),
       s .0 .within,
       s .1,
     )
@@ -51,15 +52,15 @@ loop-again c =
     let c3 = c .before .before .before in
     let c4 = c3 .before in
     let s = c .next-flagged2 .ensures in (
-      folded-skip _ _
-          (folded-next _ _ (c4 .loop .inv .0) (roles-taken _ _ _ _ _ _ _ (c4 .loop .inv .2 (c3 .loop-test .taken)) (c .before .before .body-at .ensures)
+      λ H. folded-skip _ _
+          (folded-next _ _ (c4 .loop .inv .0 H) (roles-taken _ _ _ _ _ _ _ (c4 .loop .inv .2 (c3 .loop-test .taken)) (c .before .before .body-at .ensures)
           (c .before .with-role .ensures))) (s .0 .from) (λ j l h x. roles-skip _ _ _ _ _ j (s .0 .none j l h) x),
       s .0 .within,
       s .1,
     )
 
 returns : tie.Need-returns Inv-loop μ-loop
-returns c = folded-all _ _ (c .before .loop .inv .0) (c .loop-test .left) (c .before .loop .inv .1)
+returns c H = folded-all _ _ (c .before .loop .inv .0 H) (c .loop-test .left) (c .before .loop .inv .1)
 
 pub with-roles-spec : {M : Type 1} → statement M
 with-roles-spec =

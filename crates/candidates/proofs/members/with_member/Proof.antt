@@ -4,15 +4,15 @@ use Rattle.candidates.proofs.members.with_member.Statement.{statement}
 use Rattle.candidates.proofs.members.with_member.Tie as tie
 
 returns : tie.Need-returns
-returns c = member-none _ _ _ _ _ _ _ _ (c .if1 .taken)
+returns c m H = member-none _ _ _ _ _ _ _ _ (c .if1 .taken)
 
 returns-2 : tie.Need-returns-2
-returns-2 c =
+returns-2 c m H =
     let c3 = c .before .before .before in
     member-other _ _ _ _ _ _ _ _ (c3 .if1 .left) (c .before .before .body-at .ensures) (c .before .admits .ensures) (c .if2 .taken)
 
 returns-3 : tie.Need-returns-3
-returns-3 c =
+returns-3 c m H =
     let c3 = c .before .before .before in
     let c4 = c3 .before in
     let c5 = c4 .before in

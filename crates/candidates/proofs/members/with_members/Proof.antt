@@ -1,4 +1,5 @@
-use Prim.Native.Nat.{_-_, _≤_}
+use Prim.Native.Nat.{ℕ, _-_, _≤_}
+use mathlib.Core.List.{List}
 use native.Mathlib.Omega.{arith}
 use mathlib.Core.Path.{_≡_}
 use Rattle.rt0.specs.laws.Pool.{poolOf}
@@ -12,19 +13,19 @@ use Rattle.candidates.proofs.members.with_members.Statement.{statement}
 use Rattle.candidates.proofs.members.with_members.Tie as tie
 
 abbrev Inv-loop : tie.InvT-loop
-Inv-loop m heads kinds numbers stop found nodes edges i n entities best₀ k₀ best k =
-    (best ≡ folded k (offer (isDone (nodesOf nodes) (edgesOf edges) i) (isMember (poolOf m heads kinds numbers) stop found entities n)
-    (memberEdge (poolOf m heads kinds numbers) n)) best₀) × (k ≤ m)
+Inv-loop m kinds numbers stop found nodes edges i n entities best₀ k₀ best k =
+    ((H : List ℕ) → best ≡ folded k (offer (isDone (nodesOf nodes) (edgesOf edges) i) (isMember (poolOf m H kinds numbers) stop found entities n)
+    (memberEdge (poolOf m H kinds numbers) n)) best₀) × (k ≤ m)
 
 abbrev μ-loop : tie.MeasureT-loop
-μ-loop m heads kinds numbers stop found nodes edges i n entities best₀ k₀ best k = m - k
+μ-loop m kinds numbers stop found nodes edges i n entities best₀ k₀ best k = m - k
 
 next-stopped-requires : tie.Need-next-stopped-requires Inv-loop μ-loop
 next-stopped-requires c κs = (c .pre .0, omega arith)
 
 loop-holds : tie.Need-loop-holds Inv-loop μ-loop
 loop-holds c =
-    let s = c .next-stopped .ensures in (folded-skip _ _ (folded-start _ _) (s .from) (λ j l h x. member-skip _ _ _ _ _ _ j (s .none j l h) x), s .within)
+    let s = c .next-stopped .ensures in (λ H. folded-skip _ _ (folded-start _ _) (s .from) (λ j l h x. member-skip _ _ _ _ _ _ j (s .none j l h) x), s .within)
 
 with-member-requires : tie.Need-with-member-requires Inv-loop μ-loop
 with-member-requires c κs =
@@ -43,13 +44,13 @@ loop-again : tie.Need-loop-again Inv-loop μ-loop
 loop-again c =
     let c3 = c .before .before .before in
     let s = c .next-stopped2 .ensures in (
-      folded-skip _ _ (folded-next _ _ (c3 .loop .inv .0) (c .before .with-member .ensures)) (s .from)
+      λ H. folded-skip _ _ (folded-next _ _ (c3 .loop .inv .0 H) (c .before .with-member .ensures _ H)) (s .from)
           (λ j l h x. member-skip _ _ _ _ _ _ j (s .none j l h) x),
       s .within,
     )
 
 returns : tie.Need-returns Inv-loop μ-loop
-returns c = folded-all _ _ (c .before .loop .inv .0) (c .loop-test .left) (c .before .loop .inv .1)
+returns c H = folded-all _ _ (c .before .loop .inv .0 H) (c .loop-test .left) (c .before .loop .inv .1)
 
 pub with-members-spec : {M : Type 1} → statement M
 with-members-spec =

@@ -1,4 +1,5 @@
-use Prim.Native.Nat.{_-_}
+use Prim.Native.Nat.{ℕ, _-_}
+use mathlib.Core.List.{List}
 use native.Mathlib.Omega.{arith}
 use Rattle.rt0.specs.laws.Pool.{poolOf}
 use Rattle.rt0.specs.laws.Find.{Missed, missed-start, missed-more, any-at, any-none}
@@ -7,27 +8,27 @@ use Rattle.candidates.proofs.subject.has_subject.Statement.{statement}
 use Rattle.candidates.proofs.subject.has_subject.Tie as tie
 
 abbrev Inv-loop : tie.InvT-loop
-Inv-loop m heads kinds numbers stop found s k₀ k = Missed (isSubjectAt (poolOf m heads kinds numbers) stop found s) (λ j. j) k
+Inv-loop m kinds numbers stop found s k₀ k = (H : List ℕ) → Missed (isSubjectAt (poolOf m H kinds numbers) stop found s) (λ j. j) k
 
 abbrev μ-loop : tie.MeasureT-loop
-μ-loop m heads kinds numbers stop found s k₀ k = m - k
+μ-loop m kinds numbers stop found s k₀ k = m - k
 
 loop-holds : tie.Need-loop-holds Inv-loop μ-loop
-loop-holds c = missed-start _ _
+loop-holds c H = missed-start _ _
 
 returns : tie.Need-returns Inv-loop μ-loop
 unfolding hasSubject
-returns c =
+returns c H =
     let c3 = c .before .before .before in
     let c4 = c3 .before in
-    any-at (c4 .args .m) (c3 .loop .inv) (c .before .before .loop-test .taken) (c .before .is-subject-at .ensures) (c .if1 .taken)
+    any-at (c4 .args .m) (c3 .loop .inv H) (c .before .before .loop-test .taken) (c .before .is-subject-at .ensures _ H) (c .if1 .taken)
 
 loop-again : tie.Need-loop-again Inv-loop μ-loop
-loop-again c = missed-more (c .before .before .before .loop .inv) (c .before .is-subject-at .ensures) (c .if1 .left)
+loop-again c H = missed-more (c .before .before .before .loop .inv H) (c .before .is-subject-at .ensures _ H) (c .if1 .left)
 
 returns-2 : tie.Need-returns-2 Inv-loop μ-loop
 unfolding hasSubject
-returns-2 c = any-none (c .before .before .args .m) (c .before .loop .inv) (c .loop-test .left)
+returns-2 c H = any-none (c .before .before .args .m) (c .before .loop .inv H) (c .loop-test .left)
 
 pub has-subject-spec : {M : Type 1} → statement M
 has-subject-spec =

@@ -4,10 +4,10 @@ use Rattle.candidates.proofs.subject.is_subject_at.Statement.{statement
 use Rattle.candidates.proofs.subject.is_subject_at.Tie as tie
 
 returns : tie.Need-returns
-returns c = subject-none _ _ _ _ _ (c .if1 .taken)
+returns c m H = subject-none _ _ _ _ _ (c .if1 .taken)
 
 returns-2 : tie.Need-returns-2
-returns-2 c = subject-same _ _ _ _ _ (c .before .before .if1 .left) (c .before .body-at .ensures) (c .same .ensures)
+returns-2 c m H = subject-same _ _ _ _ _ (c .before .before .if1 .left) (c .before .body-at .ensures) (c .same .ensures)
 
 pub is-subject-at-spec : {M : Type 1} → statement M
 is-subject-at-spec =

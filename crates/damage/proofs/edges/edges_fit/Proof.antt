@@ -19,7 +19,7 @@ loop-holds c = bringing-none _ _ _ (c .pre .0)
 
 edge-fits-requires : tie.Need-edge-fits-requires Inv-loop μ-loop
 edge-fits-requires c κs =
-    ((c .before .before .pre .1), (c .before .before .pre .2), (c .loop-test .taken), (c .before .loop .inv .brings), (c .before .loop .inv .few))
+    (c .before .before .pre .1, omega (arith, c .loop-test .taken, c .before .before .pre .2), c .before .loop .inv .brings, c .before .loop .inv .few)
 
 returns : tie.Need-returns Inv-loop μ-loop
 returns c = bringing-stop _ _ _ (c .before .before .before .loop .inv) (c .before .before .loop-test .taken) (c .before .edge-fits .ensures) (c .if1 .taken)

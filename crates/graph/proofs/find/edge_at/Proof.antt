@@ -6,9 +6,9 @@ use Rattle.graph.proofs.find.edge_at.Statement.{statement}
 use Rattle.graph.proofs.find.edge_at.Tie as tie
 
 returns : tie.Need-returns
-returns c =
+returns c m l =
     let c3 = c .before .before .before in
-    sym (edge-in (edgesFrom (c3 .args .m) (c3 .args .kind .now) (c3 .args .parent .now) (c3 .args .child .now)) (c3 .args .j) (c3 .pre .0))
+    sym (edge-in (edgesFrom m (c3 .args .kind .now) (c3 .args .parent .now) (c3 .args .child .now)) (c3 .args .j) l)
 
 pub edge-at-spec : {M : Type 1} → statement M
 edge-at-spec =

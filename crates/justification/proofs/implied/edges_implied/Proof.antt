@@ -2,7 +2,7 @@ use Rattle.graph.specs.laws.Graph.{nodesFrom}
 use Rattle.rt0.specs.declared.Pool.{Pool}
 use Rattle.rt0.specs.laws.Pool.{poolOf}
 use Rattle.relation.specs.laws.Reached.{all-on}
-use Rattle.rules.specs.laws.Ruled.{by-columns}
+use Rattle.rules.specs.laws.Ruled.{by-columns, ruled-fits}
 use Rattle.justification.specs.laws.Inside.{inside-more}
 use Rattle.justification.specs.laws.ImpliedLaws.{implied-nodes}
 use borrow.Author.Needs.{needs}
@@ -23,7 +23,7 @@ relation-requires : tie.Need-relation-requires
 relation-requires c κs =
     let c13 = c .before .before .before .before .before .before .before .before .before .before .before .before .before in
     let c15 = c13 .before .before in
-    let s = c15 in (s .pre .2, by-columns (P s) (c13 .rules-of .result) (c13 .rules-of .ensures))
+    let s = c15 in ruled-fits (P s) (s .pre .2) _ (by-columns (P s) (c13 .rules-of .result) (c13 .rules-of .ensures))
 
 nodes-implied-requires : tie.Need-nodes-implied-requires
 nodes-implied-requires c κs =
@@ -31,15 +31,15 @@ nodes-implied-requires c κs =
     let c24 = c10 .before .before .before .before .before .before .before .before .before .before .before .before .before .before in
     let c25 = c24 .before in
     let c26 = c25 .before in
-    let s = c26 in (
+    let s = c26 in
+    let ruled = by-columns (P s) (c24 .rules-of .result) (c24 .rules-of .ensures) in (
       s .pre .0,
       s .pre .3,
       s .pre .1,
       inside-more (s .pre .0) (s .pre .3),
       s .pre .2,
-      by-columns (P s) (c24 .rules-of .result)
-          (c24 .rules-of .ensures),
-      c10 .relation .ensures,
+      (_, ruled),
+      c10 .relation .ensures _ ruled,
       c25 .children .ensures,
     )
 

@@ -1,21 +1,24 @@
 use native.Mathlib.Omega.{arith}
-use Prim.Native.Nat.{_-_}
+use Prim.Native.Nat.{ℕ, _-_}
+use mathlib.Core.List.{List}
 use Rattle.rules.specs.laws.Table.{chosen}
 use Rattle.rt0.specs.laws.Pool.{poolOf}
+use Rattle.relation.specs.laws.Relation.{Relation, Answers}
 use Rattle.graph.specs.laws.Graph.{expressionFrom, edgesFrom}
 use Rattle.justification.specs.laws.ImpliedLaws.{From, from-start, from-next, from-stop, from-done}
 use Rattle.justification.proofs.implied.implied_from.Statement.{statement}
 use Rattle.justification.proofs.implied.implied_from.Tie as tie
 
 abbrev Inv-loop : tie.InvT-loop
-Inv-loop kind parts n0 n1 n2 n3 n4 n5 n6 n7 m edge parent child q heads kinds numbers on mem vals e c j₀ j =
-    From (chosen (poolOf q heads kinds numbers) on) (expressionFrom kind parts n0 n1 n2 n3 n4 n5 n6 n7) (edgesFrom m edge parent child) c j
+Inv-loop kind parts n0 n1 n2 n3 n4 n5 n6 n7 m edge parent child q heads kinds numbers mem vals e c j₀ j =
+    (on : List ℕ) → Relation (poolOf q heads kinds numbers) on mem → Answers (poolOf q heads kinds numbers) on e 0 vals
+    → From (chosen (poolOf q heads kinds numbers) on) (expressionFrom kind parts n0 n1 n2 n3 n4 n5 n6 n7) (edgesFrom m edge parent child) c j
 
 abbrev μ-loop : tie.MeasureT-loop
-μ-loop kind parts n0 n1 n2 n3 n4 n5 n6 n7 m edge parent child q heads kinds numbers on mem vals e c j₀ j = m - j
+μ-loop kind parts n0 n1 n2 n3 n4 n5 n6 n7 m edge parent child q heads kinds numbers mem vals e c j₀ j = m - j
 
 loop-holds : tie.Need-loop-holds Inv-loop μ-loop
-loop-holds c = from-start _ _ _ _
+loop-holds c on m h = from-start _ _ _ _
 
 implied-at-requires : tie.Need-implied-at-requires Inv-loop μ-loop
 implied-at-requires c κs = (
@@ -23,18 +26,17 @@ implied-at-requires c κs = (
   (c .before .before .pre .1 .parent) _ (c .loop-test .taken),
   (c .before .before .pre .2),
   (c .before .before .pre .3),
-  (c .before .before .pre .4),
-  (c .before .before .pre .5),
 )
 
 returns : tie.Need-returns Inv-loop μ-loop
-returns c = from-stop _ _ _ _ (c .before .before .before .loop .inv) (c .before .before .loop-test .taken) (c .before .implied-at .ensures) (c .if1 .taken)
+returns c on m h = from-stop _ _ _ _ (c .before .before .before .loop .inv on m h) (c .before .before .loop-test .taken) (c .before .implied-at .ensures on m h) (c .if1 .taken)
 
 loop-again : tie.Need-loop-again Inv-loop μ-loop
-loop-again c = from-next _ _ _ _ (c .before .before .before .loop .inv) (c .before .before .loop-test .taken) (c .before .implied-at .ensures) (c .if1 .left)
+loop-again c on m h =
+    from-next _ _ _ _ (c .before .before .before .loop .inv on m h) (c .before .before .loop-test .taken) (c .before .implied-at .ensures on m h) (c .if1 .left)
 
 returns-2 : tie.Need-returns-2 Inv-loop μ-loop
-returns-2 c = from-done _ _ _ _ (c .before .loop .inv) (c .loop-test .left)
+returns-2 c on m h = from-done _ _ _ _ (c .before .loop .inv on m h) (c .loop-test .left)
 
 pub implied-from-spec : {M : Type 1} → statement M
 implied-from-spec =

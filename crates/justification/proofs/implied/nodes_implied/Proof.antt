@@ -8,11 +8,11 @@ use Rattle.justification.proofs.implied.nodes_implied.Statement.{statem
 use Rattle.justification.proofs.implied.nodes_implied.Tie as tie
 
 abbrev Inv-loop : tie.InvT-loop
-Inv-loop n kind parts n0 n1 n2 n3 n4 n5 n6 n7 m edge parent child q heads kinds numbers words head part first named src deps on mem used c₀ c =
+Inv-loop n kind parts n0 n1 n2 n3 n4 n5 n6 n7 m edge parent child q heads kinds numbers head part first named src deps on mem used c₀ c =
     Below (chosen (poolOf q heads kinds numbers) on) (expressionFrom kind parts n0 n1 n2 n3 n4 n5 n6 n7) (edgesFrom m edge parent child) n c
 
 abbrev μ-loop : tie.MeasureT-loop
-μ-loop n kind parts n0 n1 n2 n3 n4 n5 n6 n7 m edge parent child q heads kinds numbers words head part first named src deps on mem used c₀ c = n - c
+μ-loop n kind parts n0 n1 n2 n3 n4 n5 n6 n7 m edge parent child q heads kinds numbers head part first named src deps on mem used c₀ c = n - c
 
 loop-holds : tie.Need-loop-holds Inv-loop μ-loop
 loop-holds c = below-none _ _ _ _

@@ -1,3 +1,4 @@
+use native.Mathlib.Omega.{arith}
 use Rattle.graph.specs.declared.Nodes.{Nodes}
 use Rattle.graph.specs.laws.Graph.{nodesFrom}
 use Rattle.justification.specs.laws.Justified.{monitored-by}
@@ -16,7 +17,7 @@ returns c =
     let c3 = c .before .before .before in
     let c4 = c3 .before in
     let s = c4 .before in
-    monitored-by _ _ _ (c4 .wide .ensures) (c3 .node-at .ensures) (c .before .before .wide2 .ensures) (c .before .node-at2 .ensures)
+    monitored-by _ _ _ (c4 .wide .ensures) (c3 .node-at .ensures _ (omega (arith, c4 .wide .ensures, s .pre .2))) (c .before .before .wide2 .ensures) (c .before .node-at2 .ensures _ (omega (arith, c .before .before .wide2 .ensures, s .pre .3)))
     (c .is-monitored-for .ensures (N s) (s .pre .4))
 
 pub is-monitored-spec : {M : Type 1} → statement M

@@ -22,9 +22,9 @@ is-monitored-if-requires : tie.Need-is-monitored-if-requires Inv-loop μ-loop
 is-monitored-if-requires c κs = (
   (c .before .before .before .before .pre .0),
   omega (arith, (c .before .before .loop-test .taken), (c .before .before .before .before .pre .1)),
-  edge-inside _ _ (c .before .before .before .before .pre .3) (c .before .before .loop-test .taken) (c .before .edge-at .ensures) .0,
+  edge-inside _ _ (c .before .before .before .before .pre .3) (c .before .before .loop-test .taken) (c .before .edge-at .ensures _ (c .before .before .loop-test .taken)) .0,
   edge-inside _
-      _ (c .before .before .before .before .pre .3) (c .before .before .loop-test .taken) (c .before .edge-at .ensures) .1,
+      _ (c .before .before .before .before .pre .3) (c .before .before .loop-test .taken) (c .before .edge-at .ensures _ (c .before .before .loop-test .taken)) .1,
   says-so-far _ _ _ _ _
       (c .before .before .before .loop .inv) (c .before .before .before .before .pre .2) (c .before .before .before .before .pre .4)
       (c .before .before .before .before .pre .5),
@@ -35,7 +35,7 @@ returns c =
     let c3 = c .before .before .before in
     let c4 = c3 .before in
     let c5 = c4 .before in
-    monitoring-stop _ _ _ _ _ (c5 .loop .inv) (c4 .loop-test .taken) (c3 .edge-at .ensures) (c .before .is-monitored-if .ensures) (c .if1 .taken)
+    monitoring-stop _ _ _ _ _ (c5 .loop .inv) (c4 .loop-test .taken) (c3 .edge-at .ensures _ (c4 .loop-test .taken)) (c .before .is-monitored-if .ensures) (c .if1 .taken)
 
 insert-requires : tie.Need-insert-requires Inv-loop μ-loop
 insert-requires c κs = (
@@ -66,7 +66,7 @@ loop-again c =
     let c9 = c7 .before .before in
     let c10 = c9 .before in
     let c11 = c10 .before in
-    monitoring-next _ _ _ _ _ (c11 .loop .inv) (c10 .loop-test .taken) (c9 .edge-at .ensures) (c7 .is-monitored-if .ensures) (c6 .if1 .left)
+    monitoring-next _ _ _ _ _ (c11 .loop .inv) (c10 .loop-test .taken) (c9 .edge-at .ensures _ (c10 .loop-test .taken)) (c7 .is-monitored-if .ensures) (c6 .if1 .left)
     (c .insert .ensures .0) (c .insert .ensures .1)
 
 returns-2 : tie.Need-returns-2 Inv-loop μ-loop

@@ -31,18 +31,29 @@ links-requires c κs = (c .before .before .before .pre .0, c .before .before .be
 
 seed-requires : tie.Need-seed-requires
 seed-requires c κs =
-    let c7 = c .before .before .before .before .before .before .before in
-    let c8 = c7 .before in
-    let c11 = c8 .before .before .before in
-    let s = c11 in (s .pre .0, needs-beyond (N s) _ (c8 .needs .ensures (N s)), start _ (c7 .links .ensures (N s) .slots))
+    let c4 = c .before .before .before .before in
+    let c5 = c4 .before in
+    let s = c5 .before .before .before in (
+      s .pre .0,
+      needs-beyond (N s) _ (c5 .needs .ensures (N s)),
+      (c4 .links .result .from, c4 .links .result .slot, start _ (c4 .links .ensures (N s) .slots)),
+    )
 
 linked-in-turn-requires : tie.Need-linked-in-turn-requires
 linked-in-turn-requires c κs =
     let c9 = c .before .before .before .before .before .before .before .before .before in
-    let c17 = c9 .before .before .before .before .before .before .before .before in
-    let c18 = c17 .before in
-    let c21 = c18 .before .before .before in
-    let s = c21 in (s .pre .0, s .pre .1, s .pre .2, s .pre .3, c17 .links .ensures (N s), c18 .needs .ensures (N s), chain-start _, c9 .seed .ensures)
+    let c14 = c9 .before .before .before .before .before in
+    let c15 = c14 .before in
+    let s = c15 .before .before .before in (
+      s .pre .0,
+      s .pre .1,
+      s .pre .2,
+      s .pre .3,
+      c14 .links .ensures (N s),
+      c15 .needs .ensures (N s),
+      chain-start _,
+      c9 .seed .ensures _ _ (start _ (c14 .links .ensures (N s) .slots)),
+    )
 
 returns-2 : tie.Need-returns-2
 returns-2 c = c .linked-in-turn .ensures

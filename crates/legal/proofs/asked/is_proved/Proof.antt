@@ -12,10 +12,10 @@ is-from-requires : tie.Need-is-from-requires
 is-from-requires c κs =
     let c3 = c .before .before .before in
     let c4 = c3 .before in
-    (c4 .pre .1 .knows) (sym (c3 .is-implication .ensures) ∙ not-false _ (c .before .before .if1 .left))
+    (_, c4 .pre .1 .1 .knows (sym (c3 .is-implication .ensures) ∙ not-false _ (c .before .before .if1 .left)))
 
 returns-2 : tie.Need-returns-2
-returns-2 c = proves-asked _ _ _ _ _ (c .before .before .before .before .before .pre .1) (c .before .implication-of .ensures) (c .is-from .ensures)
+returns-2 c = proves-asked _ _ _ _ _ (c .before .before .before .before .before .pre .1 .1) (c .before .implication-of .ensures) (c .is-from .ensures)
 
 pub is-proved-spec : {M : Type 1} → statement M
 is-proved-spec =

@@ -1,4 +1,5 @@
-use Prim.Native.Nat.{_-_}
+use Prim.Native.Nat.{ℕ, _-_}
+use mathlib.Core.List.{List}
 use native.Mathlib.Omega.{arith}
 use mathlib.Core.Path.{refl}
 use Rattle.rt0.specs.laws.Pool.{poolOf}
@@ -10,23 +11,23 @@ use Rattle.moves.proofs.predicates.stops.Statement.{statement}
 use Rattle.moves.proofs.predicates.stops.Tie as tie
 
 abbrev Inv-loop : tie.InvT-loop
-Inv-loop p n names classes k roles others m heads kinds numbers r₀ i₀ r i =
-    Told (predicateOf p (namesOf (namesFrom n names classes)) (pairsOf (pairsFrom k roles others))) (poolOf m heads kinds numbers) i r
+Inv-loop p n names classes k roles others m kinds numbers r₀ i₀ r i =
+    (H : List ℕ) → Told (predicateOf p (namesOf (namesFrom n names classes)) (pairsOf (pairsFrom k roles others))) (poolOf m H kinds numbers) i r
 
 abbrev μ-loop : tie.MeasureT-loop
-μ-loop p n names classes k roles others m heads kinds numbers r₀ i₀ r i = m - i
+μ-loop p n names classes k roles others m kinds numbers r₀ i₀ r i = m - i
 
 loop-holds : tie.Need-loop-holds Inv-loop μ-loop
-loop-holds c = told-start _ _ _ refl
+loop-holds c H = told-start _ _ _ refl
 
 loop-again : tie.Need-loop-again Inv-loop μ-loop
-loop-again c =
-    told-next _ _ (c .before .before .before .before .loop .inv)
+loop-again c H =
+    told-next _ _ (c .before .before .before .before .loop .inv H)
     (omega (arith, (c .before .before .before .loop-test .taken), (c .before .before .before .before .before .pre .3)))
     (c .before .before .body-at .ensures) (c .before .is-stop .ensures) (c .flag-of .ensures) refl
 
 returns : tie.Need-returns Inv-loop μ-loop
-returns c = told-all _ _ (c .before .loop .inv) (c .loop-test .left)
+returns c H = told-all _ _ (c .before .loop .inv H) (c .loop-test .left)
 
 pub stops-spec : {M : Type 1} → statement M
 stops-spec =

@@ -11,7 +11,7 @@ element-copy-out-left c =
     let e = c .before .before in
     let i = e .before .before .before in
     let s = i .before .before .before .before in
-    let r = drop-all _ _ _ _ _ (s .pre .2) _ _ _ (s .pre .0) (i .before .before .wide .ensures .0) (c .wide16 .ensures)
+    let r = drop-all _ _ _ _ _ (s .pre .1 .2) _ _ _ (s .pre .1 .1) (i .before .before .wide .ensures .0) (c .wide16 .ensures)
     (sym (i .is-at .ensures) ∙ not-false _ (e .before .before .if1 .left)) (e .if2 .left) in
     r .0
 
@@ -21,7 +21,7 @@ sub-left c =
     let e = c3 in
     let i = e .before .before .before in
     let s = i .before .before .before .before in
-    let r = drop-all _ _ _ _ _ (s .pre .2) _ _ _ (s .pre .0) (i .before .before .wide .ensures .0) (c .before .wide16 .ensures)
+    let r = drop-all _ _ _ _ _ (s .pre .1 .2) _ _ _ (s .pre .1 .1) (i .before .before .wide .ensures .0) (c .before .wide16 .ensures)
     (sym (i .is-at .ensures) ∙ not-false _ (e .before .before .if1 .left)) (e .if2 .left) in
     r .1
 
@@ -31,7 +31,7 @@ element-write-left c =
     let e = c3 in
     let i = e .before .before .before in
     let s = i .before .before .before .before in
-    let r = drop-all _ _ _ _ _ (s .pre .2) _ _ _ (s .pre .0) (i .before .before .wide .ensures .0) (c .before .wide16 .ensures)
+    let r = drop-all _ _ _ _ _ (s .pre .1 .2) _ _ _ (s .pre .1 .1) (i .before .before .wide .ensures .0) (c .before .wide16 .ensures)
     (sym (i .is-at .ensures) ∙ not-false _ (e .before .before .if1 .left)) (e .if2 .left) in
     r .0
 
@@ -41,7 +41,7 @@ fail-node-requires c κs =
     let e = c4 .before .before in
     let i = e .before .before .before in
     let s = i .before .before .before .before in
-    (omega (arith, c4 .wide16 .ensures, s .pre .2 .slots (s .args .j)), s .pre .1)
+    (omega (arith, c4 .wide16 .ensures, s .pre .1 .2 .slots (s .args .j)), s .pre .0)
 
 returns-3 : tie.Need-returns-3
 returns-3 c =
@@ -49,9 +49,12 @@ returns-3 c =
     let e = c5 .before .before in
     let i = e .before .before .before in
     let s = i .before .before .before .before in
-    let r = drop-all _ _ _ _ _ (s .pre .2) _ _ _ (s .pre .0) (i .before .before .wide .ensures .0) (c5 .wide16 .ensures)
-    (sym (i .is-at .ensures) ∙ not-false _ (e .before .before .if1 .left)) (e .if2 .left) in
-    (c .fail-node .ensures .0, c .fail-node .ensures .1 _ _ _ _ (λ z. r .2) (r .3))
+    let here = sym (i .is-at .ensures) ∙ not-false _ (e .before .before .if1 .left) in (
+      c .fail-node .ensures .0,
+      λ m l w.
+          let r = drop-all _ _ _ _ _ w _ _ _ l (i .before .before .wide .ensures .0) (c5 .wide16 .ensures) here (e .if2 .left) in
+          c .fail-node .ensures .1 _ _ _ _ (λ z. r .2) (r .3),
+    )
 
 pub drop-edge-spec : {M : Type 1} → statement M
 drop-edge-spec =

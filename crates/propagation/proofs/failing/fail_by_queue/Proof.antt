@@ -16,12 +16,16 @@ run-queue-requires c κs =
     let t = q .before .before .before .before in
     let s = t .before .before .before .before in (
       q .fail-childless .ensures .0,
-      t .before .chain .ensures,
-      q .fail-childless .ensures .1 _ _ _ _ (failing-start _ _ _ (s .pre .1) (s .pre .2) (t .tally .ensures _)),
+      (_, t .before .chain .ensures, q .fail-childless .ensures .1 _ _ _ _ (failing-start _ _ _ (s .pre .1) (s .pre .2) (t .tally .ensures _))),
     )
 
 returns : tie.Need-returns
-returns c = failing-sound (c .run-queue .ensures)
+returns c =
+    let q = c .before .before .before .before .before .before .before in
+    let t = q .before .before .before .before in
+    let s = t .before .before .before .before in
+    failing-sound (c .run-queue .ensures _ (t .before .chain .ensures)
+    (q .fail-childless .ensures .1 _ _ _ _ (failing-start _ _ _ (s .pre .1) (s .pre .2) (t .tally .ensures _))))
 
 pub fail-by-queue-spec : {M : Type 1} → statement M
 fail-by-queue-spec =

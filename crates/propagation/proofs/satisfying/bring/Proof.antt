@@ -1,23 +1,23 @@
 use native.Mathlib.Omega.{arith}
 use borrow.Author.Needs.{needs}
-use Rattle.propagation.specs.laws.WorkLaws.{fill-at, bring-at}
+use Rattle.propagation.specs.laws.WorkLaws.{fill-at, mark-room, bring-at}
 use Rattle.propagation.proofs.satisfying.bring.Statement.{statement}
 use Rattle.propagation.proofs.satisfying.bring.Tie as tie
 
 element-write-got : tie.Need-element-write-got
-element-write-got c = omega (arith, c .wide16 .ensures, c .before .before .pre .2 .slots (c .before .before .args .j))
+element-write-got c = omega (arith, c .wide16 .ensures, c .before .before .pre .3 .slots (c .before .before .args .j))
 
 mark-requires : tie.Need-mark-requires
 mark-requires c κs =
     let s = c .before .before .before .before .before in
     let p = c .before .before .before .wide16 in
-    (omega (arith, p .ensures, s .pre .2 .slots (s .args .j)), fill-at _ _ _ _ _ (p .ensures) (s .pre .2) (s .pre .0) (s .pre .1))
+    let l = s .pre .3 .slots (s .args .j) in
+    (omega (arith, p .ensures, l), mark-room _ _ _ _ (s .pre .3) (omega (arith, p .ensures, l)))
 
 returns : tie.Need-returns
-returns c =
+returns c m F l on base full =
     let c4 = c .before .before .before .before in
-    let c6 = c4 .before .before in
-    bring-at _ _ _ _ _ _ _ _ (c4 .wide16 .ensures) (c6 .pre .2) (c6 .pre .3) (c .mark .ensures)
+    bring-at _ _ _ _ _ _ _ _ (c4 .wide16 .ensures) base full (c .mark .ensures m F _ (fill-at _ _ _ _ _ (c4 .wide16 .ensures) base l on))
 
 pub bring-spec : {M : Type 1} → statement M
 bring-spec =

@@ -1,3 +1,4 @@
+use Prim.Native.Nat.{_+_}
 use native.Mathlib.Omega.{arith}
 use borrow.Author.Needs.{needs}
 use Rattle.propagation.specs.laws.Satisfied.{graph}
@@ -9,20 +10,28 @@ use Rattle.propagation.proofs.satisfying.insert.Tie as tie
 bring-requires : tie.Need-bring-requires
 bring-requires c κs =
     let s = c .before .before .before .before .before .before .before .before .before .before .before in
-    let g = graph (s .args .from .now) (s .args .slot .now) (s .args .need .now) in
-    let w = work (s .args .got .now) (s .args .sat .now) (s .args .queue .now) (s .args .tail) in (
-      omega arith,
-      insert-on _ g w _ (c .before .before .before .before .before .before .wide .ensures .0) (c .before .before .before .if2 .taken),
-      base-more _ _ _ (s .pre .0) (s .pre .2 .base),
-      s .pre .2 .full,
-    )
+    (s .args .m + 1, s .args .from .now, omega arith, base-more _ _ _ (s .pre .0) (s .pre .2 .base))
 
 settle-requires : tie.Need-settle-requires
 settle-requires c κs =
-    let c5 = c .before .before .before .before .before in
-    let c14 = c5 .before .before .before .before .before .before .before .before .before in
-    let c17 = c14 .before .before .before in
-    (c14 .link .ensures, done-bring _ _ _ _ (c17 .pre .2) (c5 .bring .ensures))
+    let b = c .before .before .before .before .before in
+    let s = b .before .before .before .before .before .before .before .before .before .before .before .before in
+    let g = graph (s .args .from .now) (s .args .slot .now) (s .args .need .now) in
+    let w = work (s .args .got .now) (s .args .sat .now) (s .args .queue .now) (s .args .tail) in
+    let on = insert-on _ g w _ (b .before .before .before .before .before .before .before .wide .ensures .0) (b .before .before .before .before .if2 .taken) in
+    let brought = b .bring .ensures (s .args .m + 1) (s .args .from .now) (omega arith) on (base-more _ _ _ (s .pre .0) (s .pre .2 .base)) (s .pre .2 .full) in
+    (s .args .m + 1, b .before .before .before .before .before .before .before .before .before .link .ensures, done-bring _ _ _ _ (s .pre .2) brought)
+
+returns : tie.Need-returns
+returns c =
+    let b = c .before .before .before .before .before .before in
+    let s = b .before .before .before .before .before .before .before .before .before .before .before .before in
+    let g = graph (s .args .from .now) (s .args .slot .now) (s .args .need .now) in
+    let w = work (s .args .got .now) (s .args .sat .now) (s .args .queue .now) (s .args .tail) in
+    let on = insert-on _ g w _ (b .before .before .before .before .before .before .before .wide .ensures .0) (b .before .before .before .before .if2 .taken) in
+    let brought = b .bring .ensures (s .args .m + 1) (s .args .from .now) (omega arith) on (base-more _ _ _ (s .pre .0) (s .pre .2 .base)) (s .pre .2 .full) in
+    let linked = b .before .before .before .before .before .before .before .before .before .link .ensures in
+    (linked, c .settle .ensures (s .args .m + 1) linked (done-bring _ _ _ _ (s .pre .2) brought))
 
 returns-2 : tie.Need-returns-2
 returns-2 c =
@@ -40,5 +49,5 @@ returns-3 c =
 pub insert-spec : {M : Type 1} → statement M
 insert-spec =
     tie.close
-    (tie.spec (λ c κs. search needs) (λ c. search needs) (λ c κs. search needs) (λ c. search needs) (λ c. search needs) bring-requires
-    (λ c. search needs) settle-requires (λ c. search needs) returns-2 returns-3)
+    (tie.spec (λ c κs. search needs) (λ c. search needs) (λ c κs. search needs) (λ c. search needs) bring-requires settle-requires returns returns-2
+    returns-3)

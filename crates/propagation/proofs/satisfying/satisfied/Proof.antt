@@ -15,10 +15,12 @@ abbrev μ-loop : tie.MeasureT-loop
 μ-loop n m from slot need head₀ next₀ got₀ sat₀ queue₀ t₀ j₀ head next got sat queue t j = m - j
 
 seed-requires : tie.Need-seed-requires Inv-loop μ-loop
-seed-requires c κs = (c .before .before .before .pre .0, c .before .before .before .pre .3, start _ (c .before .before .before .pre .2))
+seed-requires c κs =
+    let s = c .before .before .before in
+    (s .pre .0, s .pre .3, (s .args .from .now, s .args .slot .now, start _ (s .pre .2)))
 
 loop-holds : tie.Need-loop-holds Inv-loop μ-loop
-loop-holds c = (omega arith, chain-start _, c .seed .ensures)
+loop-holds c = (omega arith, chain-start _, c .seed .ensures _ _ (start _ (c .before .before .before .before .pre .2)))
 
 insert-requires : tie.Need-insert-requires Inv-loop μ-loop
 insert-requires c κs = (

@@ -1,3 +1,5 @@
+use Prim.Native.Nat.{ℕ}
+use mathlib.Core.List.{List}
 use borrow.Author.Needs.{needs}
 use mathlib.Core.Path.{sym, _∙_, ap}
 use Rattle.rt0.specs.declared.Pool.{Pool}
@@ -8,29 +10,29 @@ use Rattle.relation.specs.laws.QuestionLaws.{asked-heads, asked-entity, 
 use Rattle.relation.proofs.asked.asked_body.Statement.{statement}
 use Rattle.relation.proofs.asked.asked_body.Tie as tie
 
-abbrev pool : (c : tie.Start) → Pool
-pool c = poolOf (c .args .n) (c .args .heads .now) (c .args .kinds .now) (c .args .numbers .now)
+abbrev pool : (c : tie.Start) → ℕ → List ℕ → Pool
+pool c n H = poolOf n H (c .args .kinds .now) (c .args .numbers .now)
 
 returns : tie.Need-returns
-returns c =
+returns c n H q =
     let c5 = c .before .before .before .before .before in
-    asked-heads (pool (c5)) (c5 .args .e) (c5 .args .i) (c5 .args .old) (c5 .pre .1) (c .if1 .taken)
+    asked-heads (pool c5 n H) (c5 .args .e) (c5 .args .i) (c5 .args .old) q (c .if1 .taken)
 
 returns-2 : tie.Need-returns-2
-returns-2 c =
+returns-2 c n H q =
     let c7 = c .before .before .before .before .before .before .before in
-    asked-entity (pool (c7)) (c7 .args .e) (c7 .args .i) (c7 .args .old) (c7 .pre .1) (c .if2 .taken)
+    asked-entity (pool c7 n H) (c7 .args .e) (c7 .args .i) (c7 .args .old) q (c .if2 .taken)
 
 returns-3 : tie.Need-returns-3
-returns-3 c =
+returns-3 c n H q =
     let c8 = c .before .before .before .before .before .before .before .before in
-    asked-link (pool (c8)) (c8 .args .e) (c8 .args .i) (c8 .args .old) (c8 .pre .1) (c .if3 .taken)
+    asked-link (pool c8 n H) (c8 .args .e) (c8 .args .i) (c8 .args .old) q (c .if3 .taken)
 
 returns-4 : tie.Need-returns-4
-returns-4 c =
+returns-4 c n H q =
     let c10 = c .before .before .before .before .before .before .before .before .before .before in
-    c .asked-rows .ensures (pool (c10)) (c10 .pre .1 ∙ ap (fourRows (rowOf (pool (c10)))) (sym (c .before .body-at .ensures)))
-    ∙ ap (fourRows (rowFor (pool (c10)) (c10 .args .e))) (c .before .body-at .ensures)
+    c .asked-rows .ensures (pool c10 n H) (q ∙ ap (fourRows (rowOf (pool c10 n H))) (sym (c .before .body-at .ensures)))
+    ∙ ap (fourRows (rowFor (pool c10 n H) (c10 .args .e))) (c .before .body-at .ensures)
 
 pub asked-body-spec : {M : Type 1} → statement M
 asked-body-spec =

@@ -3,7 +3,7 @@ use Rattle.relation.proofs.columns.column.Statement.{statement}
 use Rattle.relation.proofs.columns.column.Tie as tie
 
 returns : tie.Need-returns
-returns c = rw (c .before .before .e .given .1) (c .entity-column .ensures _ (c .before .before .before .before .pre .2))
+returns c = rw (c .before .before .e .given .1) (c .entity-column .ensures _ _ (c .before .before .before .before .pre .2))
 
 pub column-spec : {M : Type 1} → statement M
 column-spec =

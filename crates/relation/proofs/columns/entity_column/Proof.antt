@@ -1,4 +1,5 @@
-use Prim.Native.Nat.{_-_, _≤_}
+use Prim.Native.Nat.{ℕ, _-_, _≤_}
+use mathlib.Core.List.{List}
 use native.Mathlib.Omega.{arith}
 use mathlib.Core.Logic.{⊎-elim}
 use borrow.Author.Needs.{needs}
@@ -11,17 +12,17 @@ use Rattle.relation.proofs.columns.entity_column.Statement.{statement}
 use Rattle.relation.proofs.columns.entity_column.Tie as tie
 
 abbrev Inv-loop : tie.InvT-loop
-Inv-loop n heads kinds numbers mem b rows₀ s r₀ rows r = Moved mem s r rows × (r ≤ n)
+Inv-loop n kinds numbers mem b rows₀ s r₀ rows r = Moved mem s r rows × (r ≤ n)
 
 abbrev μ-loop : tie.MeasureT-loop
-μ-loop n heads kinds numbers mem b rows₀ s r₀ rows r = n - r
+μ-loop n kinds numbers mem b rows₀ s r₀ rows r = n - r
 
-abbrev pool : (c : tie.Start Inv-loop μ-loop) → Pool
-pool c = poolOf (c .args .n) (c .args .heads .now) (c .args .kinds .now) (c .args .numbers .now)
+abbrev pool : (c : tie.Start Inv-loop μ-loop) → List ℕ → Pool
+pool c H = poolOf (c .args .n) H (c .args .kinds .now) (c .args .numbers .now)
 
 returns : tie.Need-returns Inv-loop μ-loop
 returns c =
-    λ on h. no-column (pool (c .before .before)) on (c .before .before .pre) (c .before .before .args .mem .now)
+    λ H on h. no-column (pool (c .before .before) H) on (c .before .before .pre) (c .before .before .args .mem .now)
     h (c .before .before .args .b) (c .before .source .result) (c .before .source .ensures) (c .if1 .taken)
 
 loop-holds : tie.Need-loop-holds Inv-loop μ-loop
@@ -51,7 +52,7 @@ returns-2 : tie.Need-returns-2 Inv-loop μ-loop
 returns-2 c =
     let c3 = c .before .before .before in
     let c4 = c3 .before in
-    λ on h. entity-column (pool (c4)) on (c4 .pre) (c4 .args .mem .now) h (c4 .args .b) (c3 .source .result)
+    λ H on h. entity-column (pool c4 H) on (c4 .pre) (c4 .args .mem .now) h (c4 .args .b) (c3 .source .result)
     (c3 .source .ensures) (c .before .before .if1 .left) (c .before .loop .r) (c .loop-test .left) (c .before .loop .rows) (c .before .loop .inv .0)
 
 pub entity-column-spec : {M : Type 1} → statement M

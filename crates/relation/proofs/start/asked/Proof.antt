@@ -2,7 +2,7 @@ use Prim.Native.Nat.{ℕ, _-_, _≤_}
 use native.Mathlib.Omega.{arith}
 use mathlib.Core.Path.{_∙_, ap}
 use mathlib.Core.Logic.{⊎-elim}
-use mathlib.Core.List.{List}
+use mathlib.Core.List.{List, []}
 use lib.ListN.{length, length-replicate}
 use Rattle.rt0.specs.declared.Pool.{Pool}
 use Rattle.rt0.specs.laws.Pool.{poolOf}
@@ -31,14 +31,14 @@ own-row-requires c κs = c .before .before .pre .0
 
 mark-requires : tie.Need-mark-requires Inv-loop μ-loop
 mark-requires c κs = (
-  c .before .own-row .ensures .small,
+  c .before .own-row .ensures [] [] .small,
   omega arith,
   ap (λ (l : List ℕ). length l) (c .before .before .before .before .pre .4)
       ∙ length-replicate {A = ℕ} 260 0,
 )
 
 read-too-requires : tie.Need-read-too-requires Inv-loop μ-loop
-read-too-requires c κs = c .before .before .own-row .ensures .small
+read-too-requires c κs = c .before .before .own-row .ensures [] [] .small
 
 loop-holds : tie.Need-loop-holds Inv-loop μ-loop
 loop-holds c = (
@@ -46,16 +46,15 @@ loop-holds c = (
       (c .before .before .before .before .before .before .args .mem .now) (c .before .before .before .before .before .before .pre .0)
       (c .before .before .before .before .before .before .pre .3) (c .before .before .before .before .before .before .args .e)
       (c .before .before .before .own-row .result) _ _ (c .before .before .before .before .before .before .pre .4)
-      (c .before .before .before .own-row .ensures) (c .before .mark .ensures),
+      (c .before .before .before .own-row .ensures _ _) (c .before .mark .ensures),
   omega arith,
 )
 
 starts-requires : tie.Need-starts-requires Inv-loop μ-loop
 starts-requires c κs =
-    let c6 = c .before .before .before .before .before .before in
-    let c7 = c6 .before in
+    let c7 = c .before .before .before .before .before .before .before in
     let c8 = c7 .before in
-    (c8 .pre .0, c .loop-test .taken, c8 .pre .2, c7 .raw-of .ensures, c6 .own-source .ensures)
+    (omega (arith, c .loop-test .taken, c8 .pre .0), c8 .pre .2 .under, c7 .raw-of .ensures)
 
 mark-requires-2 : tie.Need-mark-requires-2 Inv-loop μ-loop
 mark-requires-2 c κs = (
@@ -72,27 +71,20 @@ read-too-requires-2 c κs =
     c13 .pre .1 .under .under (c6 .loop .i)
 
 loop-again : tie.Need-loop-again Inv-loop μ-loop
-loop-again c = (
-  ⊎-elim
-      (λ w. rw (w .5) (asked-add (pool (c .before .before .before .before .before .before .before .before .before .before))
-      (c .before .before .before .before .before .before .before .before .before .before .args .on .now)
-      (c .before .before .before .before .before .before .before .before .before .before .args .mem .now)
-      (c .before .before .before .before .before .before .before .before .before .before .pre .0)
-      (c .before .before .before .before .before .before .before .before .before .before .pre .3)
-      (c .before .before .before .before .before .before .before .before .before .before .args .e) (c .before .before .before .loop .i) _
-      (c .before .before .before .loop .rows) _ (c .before .before .loop-test .taken) (c .before .starts .ensures) (w .0 .taken)
-      (c .before .before .before .before .before .before .before .before .before .before .pre .1 .upto (c .before .before .before .loop .i)
-      (c .before .before .loop-test .taken)) (w .3 .ensures) (c .before .before .before .loop .inv .0)))
-      (λ w. rw (w .1) (asked-skip (pool (c .before .before .before .before .before .before .before .before .before .before))
-      (c .before .before .before .before .before .before .before .before .before .before .args .on .now)
-      (c .before .before .before .before .before .before .before .before .before .before .args .mem .now)
-      (c .before .before .before .before .before .before .before .before .before .before .pre .0)
-      (c .before .before .before .before .before .before .before .before .before .before .pre .3)
-      (c .before .before .before .before .before .before .before .before .before .before .args .e) (c .before .before .before .loop .i)
-      (c .before .before .before .loop .rows) (c .before .starts .ensures) (w .0 .left) (c .before .before .before .loop .inv .0)))
-      (c .if1 .came),
-  omega arith,
-)
+loop-again c =
+    let c3 = c .before .before .before in
+    let c8 = c3 .before .before .before .before .before in
+    let c10 = c8 .before .before in
+    let here = c .before .before .loop-test .taken in
+    let starts = c .before .starts .ensures (c10 .args .n) (c10 .args .heads .now) (c10 .pre .2 .upto (c3 .loop .i) here) (c8 .own-source .ensures) in (
+      ⊎-elim
+          (λ w. rw (w .5) (asked-add (pool c10) (c10 .args .on .now) (c10 .args .mem .now) (c10 .pre .0) (c10 .pre .3) (c10 .args .e) (c3 .loop .i) _
+          (c3 .loop .rows) _ here starts (w .0 .taken) (c10 .pre .1 .upto (c3 .loop .i) here) (w .3 .ensures) (c3 .loop .inv .0)))
+          (λ w. rw (w .1) (asked-skip (pool c10) (c10 .args .on .now) (c10 .args .mem .now) (c10 .pre .0) (c10 .pre .3) (c10 .args .e) (c3 .loop .i)
+          (c3 .loop .rows) starts (w .0 .left) (c3 .loop .inv .0)))
+          (c .if1 .came),
+      omega arith,
+    )
 
 returns : tie.Need-returns Inv-loop μ-loop
 returns c =

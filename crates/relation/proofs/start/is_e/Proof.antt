@@ -1,3 +1,4 @@
+use mathlib.Core.List.{[]}
 use borrow.Author.Needs.{needs}
 use Rattle.rt0.specs.declared.Pool.{Pool}
 use Rattle.rt0.specs.laws.Pool.{poolOf}
@@ -6,7 +7,7 @@ use Rattle.relation.proofs.start.is_e.Statement.{statement}
 use Rattle.relation.proofs.start.is_e.Tie as tie
 
 abbrev pool : (c : tie.Start) → Pool
-pool c = poolOf (c .args .n) (c .args .heads .now) (c .args .kinds .now) (c .args .numbers .now)
+pool c = poolOf 0 [] (c .args .kinds .now) (c .args .numbers .now)
 
 returns : tie.Need-returns
 returns c =

@@ -1,4 +1,3 @@
-use Rattle.rt0.specs.laws.Pool.{poolOf}
 use lib.Bits.{bitAnd}
 use Rattle.rules.specs.laws.Digit.{row-missed, row-hit}
 use native.Mathlib.Omega.{arith}
@@ -12,18 +11,16 @@ returns c =
     let c4 = c3 .before in
     let c5 = c4 .before in
     let c6 = c5 .before in
-    row-missed (poolOf (c6 .args .n) (c6 .args .heads .now) (c6 .args .kinds .now) (c6 .args .numbers .now)) (c6 .pre .0) (c6 .args .p)
+    row-missed (c6 .args .n) (c6 .pre .0) (c6 .args .heads .now) (c6 .args .p)
     (c6 .args .entity .now) (c6 .args .name .now) _ _ (c .before .least-of .result) (c6 .pre .1)
     (λ i. bitAnd (c5 .alike .ensures i) (c4 .alike2 .ensures i)) (λ i. bitAnd (c3 .alike3 .ensures i) (c .before .before .alike4 .ensures i))
     (c .before .least-of .ensures) (c .if1 .taken)
 
 returns-2 : tie.Need-returns-2
 returns-2 c =
-    row-hit (poolOf (c .before .before .before .before .before .before .before .before .args .n)
-    (c .before .before .before .before .before .before .before .before .args .heads .now)
-    (c .before .before .before .before .before .before .before .before .args .kinds .now)
-    (c .before .before .before .before .before .before .before .before .args .numbers .now))
+    row-hit (c .before .before .before .before .before .before .before .before .args .n)
     (c .before .before .before .before .before .before .before .before .pre .0)
+    (c .before .before .before .before .before .before .before .before .args .heads .now)
     (c .before .before .before .before .before .before .before .before .args .p)
     (c .before .before .before .before .before .before .before .before .args .entity .now)
     (c .before .before .before .before .before .before .before .before .args .name .now) _ _ (c .before .before .before .least-of .result)

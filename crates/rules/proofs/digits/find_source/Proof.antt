@@ -1,4 +1,3 @@
-use Rattle.rt0.specs.laws.Pool.{poolOf}
 use Rattle.rules.specs.laws.Digit.{bit-missed, bit-hit}
 use native.Mathlib.Omega.{arith}
 use borrow.Author.Needs.{needs}
@@ -9,15 +8,14 @@ returns : tie.Need-returns
 returns c =
     let c3 = c .before .before .before in
     let c4 = c3 .before in
-    bit-missed (poolOf (c4 .args .n) (c4 .args .heads .now) (c4 .args .kinds .now) (c4 .args .numbers .now)) (c4 .pre .0) (c4 .args .b)
+    bit-missed (c4 .args .n) (c4 .pre .0) (c4 .args .kinds .now) (c4 .args .numbers .now) (c4 .args .b)
     (c4 .args .body .now) _ _ (c .before .least-of .result) (c4 .pre .1) (c3 .alike .ensures) (c .before .before .alike2 .ensures)
     (c .before .least-of .ensures) (c .if1 .taken)
 
 returns-2 : tie.Need-returns-2
 returns-2 c =
-    bit-hit (poolOf (c .before .before .before .before .before .before .args .n) (c .before .before .before .before .before .before .args .heads .now)
-    (c .before .before .before .before .before .before .args .kinds .now) (c .before .before .before .before .before .before .args .numbers .now))
-    (c .before .before .before .before .before .before .pre .0) (c .before .before .before .before .before .before .args .b)
+    bit-hit (c .before .before .before .before .before .before .args .n) (c .before .before .before .before .before .before .pre .0)
+    (c .before .before .before .before .before .before .args .kinds .now) (c .before .before .before .before .before .before .args .numbers .now) (c .before .before .before .before .before .before .args .b)
     (c .before .before .before .before .before .before .args .body .now) _ _ (c .before .before .before .least-of .result)
     (c .before .before .before .before .before .before .pre .1) (c .before .before .before .before .before .alike .ensures)
     (c .before .before .before .before .alike2 .ensures) (c .before .before .before .least-of .ensures) (omega arith) (c .before .is-body .ensures)

@@ -2,45 +2,40 @@ use Prim.Native.Nat.{_-_, _≤_}
 use native.Mathlib.Omega.{arith}
 use mathlib.Core.Path.{_≡_, refl}
 use mathlib.Core.Bool.{false}
-use Rattle.rt0.specs.declared.Pool.{Pool}
-use Rattle.rt0.specs.laws.Pool.{poolOf}
 use Rattle.word.specs.laws.Search.{anyTo}
-use Rattle.rules.specs.laws.Table.{isBody, bitOf}
+use Rattle.rules.specs.laws.Table.{isBodyIn, bitIn}
 use Rattle.rules.specs.laws.Search.{first-at, first-nowhere, not-at}
 use Rattle.rules.proofs.rows.source.Statement.{statement}
 use Rattle.rules.proofs.rows.source.Tie as tie
 
 abbrev Inv-loop : tie.InvT-loop
-Inv-loop n heads kinds numbers b s₀ s = (s ≤ n) × (anyTo s (isBody (poolOf n heads kinds numbers) b) ≡ false)
+Inv-loop n kinds numbers b s₀ s = (s ≤ n) × (anyTo s (isBodyIn kinds numbers b) ≡ false)
 
 abbrev μ-loop : tie.MeasureT-loop
-μ-loop n heads kinds numbers b s₀ s = n - s
-
-abbrev pool : (c : tie.Start Inv-loop μ-loop) → Pool
-pool c = poolOf (c .args .n) (c .args .heads .now) (c .args .kinds .now) (c .args .numbers .now)
+μ-loop n kinds numbers b s₀ s = n - s
 
 loop-holds : tie.Need-loop-holds Inv-loop μ-loop
 loop-holds c = (omega arith, refl)
 
 returns : tie.Need-returns Inv-loop μ-loop
-unfolding bitOf
+unfolding bitIn
 returns c =
     let c3 = c .before .before .before in
     let c4 = c3 .before in
-    first-at (c4 .args .n) (isBody (pool (c4)) (c4 .args .b)) (c3 .loop .s) (c .before .before .loop-test .taken) (c3 .loop .inv .1)
+    first-at (c4 .args .n) (isBodyIn (c4 .args .kinds .now) (c4 .args .numbers .now) (c4 .args .b)) (c3 .loop .s) (c .before .before .loop-test .taken) (c3 .loop .inv .1)
     (c .before .is-body .ensures) (c .if1 .taken)
 
 loop-again : tie.Need-loop-again Inv-loop μ-loop
 loop-again c = (
   omega arith,
-  not-at (isBody (pool (c .before .before .before .before)) (c .before .before .before .before .args .b))
+  not-at (isBodyIn (c .before .before .before .before .args .kinds .now) (c .before .before .before .before .args .numbers .now) (c .before .before .before .before .args .b))
       (c .before .before .before .loop .s) (c .before .before .before .loop .inv .1) (c .before .is-body .ensures) (c .if1 .left),
 )
 
 returns-2 : tie.Need-returns-2 Inv-loop μ-loop
-unfolding bitOf
+unfolding bitIn
 returns-2 c =
-    first-nowhere (c .before .before .args .n) (isBody (pool (c .before .before)) (c .before .before .args .b)) (c .before .loop .s)
+    first-nowhere (c .before .before .args .n) (isBodyIn (c .before .before .args .kinds .now) (c .before .before .args .numbers .now) (c .before .before .args .b)) (c .before .loop .s)
     (c .before .loop .inv .0) (c .loop-test .left) (c .before .loop .inv .1)
 
 pub source-spec : {M : Type 1} → statement M

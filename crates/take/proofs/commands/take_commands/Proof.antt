@@ -46,10 +46,13 @@ is-proved-requires c κs =
     let c16 = c14 .before .before in
     let c20 = c16 .before .before .before .before in (
       within-few _ (c20 .loop .inv .0 .sizes) .0,
-      proved-for _ _ _ _
-          (current-by (c12 .if1 .known) (c20 .loop .kept .stale) (c16 .a .given .0 .0) (c20 .loop .n .shown)
-          (λ w. current-made _ _ _ _ _ (w .1 .ensures .0) (w .1 .ensures .1) (w .2))
-          (λ w. current-left _ _ _ _ _ (c20 .loop .inv .1 .current) (c14 .is-implication .ensures) (w .0 .left) (w .1)) (c12 .if1 .came)),
+      (
+        _,
+        proved-for _ _ _ _
+            (current-by (c12 .if1 .known) (c20 .loop .kept .stale) (c16 .a .given .0 .0) (c20 .loop .n .shown)
+            (λ w. current-made _ _ _ _ _ (w .1 .ensures .0) (w .1 .ensures .1) (w .2))
+            (λ w. current-left _ _ _ _ _ (c20 .loop .inv .1 .current) (c14 .is-implication .ensures) (w .0 .left) (w .1)) (c12 .if1 .came)),
+      ),
     )
 
 judge-requires : tie.Need-judge-requires Inv-loop μ-loop
