@@ -14,14 +14,14 @@ use rules::open_table;
 use rules::rules_of;
 use rules::source;
 ghost use mathlib.Core.Path.{_≡_};
-ghost use Prim.Native.Nat.{_<_, _≤_};
+ghost use Prim.Native.Nat.{_-_, _<_, _≤_};
 ghost use lib.ListN.{length, set};
 ghost use Rattle.rt0.specs.Decide.{from? as fromOf};
 ghost use Rattle.rt0.specs.laws.Pool.{poolOf, credentials as credentialsOf};
 ghost use Rattle.closure.specs.laws.Rules.{rulesOf};
 ghost use Rattle.rules.specs.laws.Table.{chosen};
 ghost use Rattle.rules.specs.laws.Ruled.{Ruled};
-ghost use Rattle.relation.specs.laws.Relation.{Relation, Answers};
+ghost use Rattle.relation.specs.laws.Relation.{Relation, Answers, switched};
 pub use columns::column;
 
 mod asked;
@@ -71,6 +71,64 @@ pub fn relation<'a>(
     rows
 }
 
+// The relation with the credentials from low to high switched on, closed once. Membership goes by the rows themselves, so that those lent for it
+// are not looked at.
+pub fn switch_all<'a>(
+    n: usize,
+    heads: &'a [u16; 256],
+    kinds: &'a [u8; 256],
+    numbers: &'a [u16; 1024],
+    words: usize,
+    head: &'a [usize; 128],
+    part: &'a [usize; 512],
+    first: &'a [usize; 128],
+    named: &'a [u64; 260],
+    src: &'a [usize; 128],
+    deps: &'a [u64; 260],
+    low: usize,
+    high: usize,
+    on: &'a mut [u8; 128],
+    rows: &'a mut [u64; 260],
+)
+    requires { ⌜ (n ≤ 128) × (high ≤ n) × Ruled (poolOf n (now heads) (now kinds) (now numbers))
+        (rulesOf n words (now head) (now part) (now first) (now named) (now src)) × (length (now on) ≡ 128)
+        × Relation (poolOf n (now heads) (now kinds) (now numbers)) (now on) (now rows) ⌝ }
+    ensures switched { λ _. ⌜ now (on .exit) ≡ switched low (high - low) (now (on .entry)) ⌝ }
+    ensures related { λ _. ⌜ Relation (poolOf n (now (heads .entry)) (now (kinds .entry)) (now (numbers .entry))) (now (on .exit)) (now (rows .exit)) ⌝ }
+{
+    if high <= low {
+        return;
+    }
+    let open = open_table();
+    let mut lo = 0u64;
+    let mut hi = 0u64;
+    let mut i = low;
+    while i < high {
+        let todo = readers_of_row(deps, head[i], i);
+        lo = lo | todo.lo;
+        hi = hi | todo.hi;
+        seed(n, heads, kinds, numbers, head, &open, i, rows);
+        on[i] = 1;
+        i += 1;
+    }
+    close(
+        n,
+        words,
+        head,
+        part,
+        first,
+        named,
+        src,
+        on,
+        deps,
+        true,
+        deps,
+        lo,
+        hi,
+        rows,
+    );
+}
+
 // The relation with credential i switched on.
 pub fn switch_on<'a>(
     n: usize,
@@ -94,25 +152,21 @@ pub fn switch_on<'a>(
     ensures switched { λ _. ⌜ now (on .exit) ≡ set (now (on .entry)) i 1 ⌝ }
     ensures related { λ _. ⌜ Relation (poolOf n (now (heads .entry)) (now (kinds .entry)) (now (numbers .entry))) (now (on .exit)) (now (rows .exit)) ⌝ }
 {
-    let none = [0u64; 260];
-    let todo = readers_of_row(deps, head[i], i);
-    let open = open_table();
-    seed(n, heads, kinds, numbers, head, &open, i, rows);
-    on[i] = 1;
-    close(
+    switch_all(
         n,
+        heads,
+        kinds,
+        numbers,
         words,
         head,
         part,
         first,
         named,
         src,
-        on,
-        &none,
-        true,
         deps,
-        todo.lo,
-        todo.hi,
+        i,
+        i + 1,
+        on,
         rows,
     );
 }

@@ -1,5 +1,5 @@
 -- What the steps of a question promise. Assumes nothing.
-use Prim.Native.Nat.{ℕ, _<_}
+use Prim.Native.Nat.{ℕ, _-_, _≤_, _<_}
 use mathlib.Core.Path.{_≡_}
 use mathlib.Core.Logic.{_⊎_}
 use mathlib.Core.Bool.{Bool, true, _&&_}
@@ -14,7 +14,7 @@ use Rattle.rt0.specs.From.{From}
 use Rattle.rt0.specs.laws.Pool.{headAt, bodyAt}
 use Rattle.closure.specs.laws.Rules.{el, bits, Within}
 use Rattle.rules.specs.laws.Table.{rowOf, bitOf, rowFor, chosen}
-use Rattle.relation.specs.laws.Relation.{atOnce}
+use Rattle.relation.specs.laws.Relation.{Start, atOnce, switched}
 
 -- the rows K with what credential i says at once
 pub record Seeded (P : Pool) (i : ℕ) (K K′ : List ℕ) : Type 0 where
@@ -28,6 +28,13 @@ pub record StartTo (P : Pool) (on : List ℕ) (k : ℕ) (K : List ℕ) : Type 0 
   pub sized : length K ≡ 260
   pub says : (r s : ℕ) → bits K r s ≡ true → (r < P .count) × From (chosen P on) (E.Role (headAt P r)) (bodyAt P s)
   pub seeds : (i b : ℕ) → i < k → el on i ≡ 1 → bodyAt P i ≡ E.Entity b → bits K (rowOf P (headAt P i)) (bitOf P b) ≡ true
+
+-- the credentials from low to i are switched on, and the rows are a start with them
+pub record Switching (P : Pool) (low i : ℕ) (was on K : List ℕ) : Type 0 where
+  pub from : low ≤ i
+  pub sized : length on ≡ 128
+  pub column : on ≡ switched low (i - low) was
+  pub start : Start P on K
 
 -- r is the row of e itself
 pub record OwnRow (P : Pool) (e : Expression) (r : ℕ) : Type 0 where
