@@ -1,6 +1,7 @@
 pub mod Needed
 pub mod Columns
 pub mod Column
+pub mod Halves
 pub mod Keeping
 pub mod Relevant
 pub mod RelevantLaws

@@ -1,20 +1,19 @@
-// The next own credential that is kept. Own ones are switched on from the last backwards until f from e holds; the one that made it hold is kept.
+// The next own credential that is kept: the last one with which f from e holds once all own ones from it on are switched on.
 use expression::Expression;
 use relation::ask;
+use relation::switch_all;
 use relation::switch_on;
 ghost use mathlib.Core.Path.{_≡_};
-ghost use Prim.Native.Nat.{_<_, _≤_};
+ghost use Prim.Native.Nat.{_+_, _<_, _≤_};
 ghost use lib.ListN.{length, set};
-ghost use Rattle.rt0.specs.Decide.{from? as fromOf};
 ghost use Rattle.rt0.specs.laws.Pool.{poolOf};
 ghost use Rattle.closure.specs.laws.Rules.{rulesOf};
-ghost use Rattle.rules.specs.laws.Table.{chosen};
 ghost use Rattle.rules.specs.laws.Ruled.{Ruled};
 ghost use Rattle.relation.specs.laws.Relation.{Relation};
-ghost use Rattle.needed.specs.laws.Columns.{withOne, LastNeeded};
+ghost use Rattle.needed.specs.laws.Columns.{holdsFrom, LastNeeded};
 
-// Whether f from e holds with credential i switched on, where there is one.
-fn holds_with<'a>(
+// Whether f from e holds with the credentials from k on switched on.
+fn holds_from<'a>(
     n: usize,
     heads: &'a [u16; 256],
     kinds: &'a [u8; 256],
@@ -26,36 +25,35 @@ fn holds_with<'a>(
     named: &'a [u64; 260],
     src: &'a [usize; 128],
     deps: &'a [u64; 260],
-    i: usize,
-    on: &'a mut [u8; 128],
-    rows: &'a mut [u64; 260],
+    k: usize,
+    was: &'a [u8; 128],
+    held: &'a [u64; 260],
     f: Expression,
     e: Expression,
 ) -> bool
-    requires { ⌜ (n ≤ 128) × Ruled (poolOf n (now heads) (now kinds) (now numbers))
-        (rulesOf n words (now head) (now part) (now first) (now named) (now src)) × (length (now on) ≡ 128)
-        × Relation (poolOf n (now heads) (now kinds) (now numbers)) (now on) (now rows) ⌝ }
-    ensures switched { λ _. ⌜ now (on .exit) ≡ withOne n i (now (on .entry)) ⌝ }
-    ensures related { λ _. ⌜ Relation (poolOf n (now (heads .entry)) (now (kinds .entry)) (now (numbers .entry))) (now (on .exit)) (now (rows .exit)) ⌝ }
-    ensures answered { λ r. ⌜ r ≡ fromOf (chosen (poolOf n (now (heads .entry)) (now (kinds .entry)) (now (numbers .entry))) (now (on .exit))) f e ⌝ }
+    requires { ⌜ (n ≤ 128) × (k ≤ n) × Ruled (poolOf n (now heads) (now kinds) (now numbers))
+        (rulesOf n words (now head) (now part) (now first) (now named) (now src)) × (length (now was) ≡ 128)
+        × Relation (poolOf n (now heads) (now kinds) (now numbers)) (now was) (now held) ⌝ }
+    ensures { λ r. ⌜ r ≡ holdsFrom (poolOf n (now (heads .entry)) (now (kinds .entry)) (now (numbers .entry))) (now (was .entry)) f e k ⌝ }
 {
-    if i < n {
-        switch_on(
-            n,
-            kinds,
-            numbers,
-            words,
-            head,
-            part,
-            first,
-            named,
-            src,
-            deps,
-            i,
-            on,
-            rows,
-        );
-    }
+    let mut on = *was;
+    let mut rows = *held;
+    switch_all(
+        n,
+        kinds,
+        numbers,
+        words,
+        head,
+        part,
+        first,
+        named,
+        src,
+        deps,
+        k,
+        n,
+        &mut on,
+        &mut rows,
+    );
     ask(
         n,
         heads,
@@ -67,15 +65,31 @@ fn holds_with<'a>(
         named,
         src,
         deps,
-        on,
-        rows,
+        &on,
+        &rows,
         f,
         e,
     )
 }
 
+// The number tried next, from low on and before high: n first, with which none is switched on; then a and the one after it, as most credentials
+// that can matter are needed; then the middle.
+fn next_tried(n: usize, a: usize, low: usize, high: usize) -> usize
+    requires { ⌜ (n ≤ 128) × (a ≤ n) × (low < high) × (high ≤ n + 1) ⌝ }
+    ensures { λ r. ⌜ (low ≤ r) × (r < high) ⌝ }
+{
+    if high > n {
+        return n;
+    }
+    if low <= a + 1 {
+        return low;
+    }
+    low + (high - low) / 2
+}
+
 // The last number from a on with which f from e holds once all credentials from it on are switched on; n where it holds with none, 129 where
-// it does not with all.
+// it does not with all. What holds with some holds with more, so that it is found by halves: it holds with those before low, and not with those
+// from high on.
 fn last_needed<'a>(
     n: usize,
     heads: &'a [u16; 256],
@@ -99,12 +113,12 @@ fn last_needed<'a>(
         × Relation (poolOf n (now heads) (now kinds) (now numbers)) (now was) (now held) ⌝ }
     ensures { λ r. ⌜ LastNeeded (poolOf n (now (heads .entry)) (now (kinds .entry)) (now (numbers .entry))) (now (was .entry)) f e a r ⌝ }
 {
-    let mut on = *was;
-    let mut rows = *held;
-    let mut i = n + 1;
-    while i > a {
-        i -= 1;
-        if holds_with(
+    let mut last = 129;
+    let mut low = a;
+    let mut high = n + 1;
+    while low < high {
+        let k = next_tried(n, a, low, high);
+        if holds_from(
             n,
             heads,
             kinds,
@@ -116,16 +130,19 @@ fn last_needed<'a>(
             named,
             src,
             deps,
-            i,
-            &mut on,
-            &mut rows,
+            k,
+            was,
+            held,
             f,
             e,
         ) {
-            return i;
+            last = k;
+            low = k + 1;
+        } else {
+            high = k;
         }
     }
-    129
+    last
 }
 
 // The same, and where it is a credential, that one is switched on.

@@ -14,7 +14,7 @@ use rules::open_table;
 use rules::rules_of;
 use rules::source;
 ghost use mathlib.Core.Path.{_≡_};
-ghost use Prim.Native.Nat.{ℕ, _<_, _≤_};
+ghost use Prim.Native.Nat.{ℕ, _-_, _<_, _≤_};
 ghost use mathlib.Core.List.{List};
 ghost use lib.ListN.{length, set};
 ghost use Rattle.rt0.specs.Decide.{from? as fromOf};
@@ -22,7 +22,7 @@ ghost use Rattle.rt0.specs.laws.Pool.{poolOf, credentials as credentialsOf};
 ghost use Rattle.closure.specs.laws.Rules.{rulesOf, Fits};
 ghost use Rattle.rules.specs.laws.Table.{chosen};
 ghost use Rattle.rules.specs.laws.Ruled.{Ruled};
-ghost use Rattle.relation.specs.laws.Relation.{Relation, Answers};
+ghost use Rattle.relation.specs.laws.Relation.{Relation, Answers, switched};
 pub use columns::column;
 
 mod asked;
@@ -72,6 +72,65 @@ pub fn relation<'a>(
     rows
 }
 
+// The relation with the credentials from low to high switched on, closed once, whatever the heads with these rules. Membership goes by the rows themselves, so that those lent for it
+// are not looked at.
+pub fn switch_all<'a>(
+    n: usize,
+    kinds: &'a [u8; 256],
+    numbers: &'a [u16; 1024],
+    words: usize,
+    head: &'a [usize; 128],
+    part: &'a [usize; 512],
+    first: &'a [usize; 128],
+    named: &'a [u64; 260],
+    src: &'a [usize; 128],
+    deps: &'a [u64; 260],
+    low: usize,
+    high: usize,
+    on: &'a mut [u8; 128],
+    rows: &'a mut [u64; 260],
+)
+    requires { ⌜ (high ≤ n) × Fits (rulesOf n words (now head) (now part) (now first) (now named) (now src)) × (length (now on) ≡ 128)
+        × (length (now rows) ≡ 260) ⌝ }
+    ensures switched { λ _. ⌜ now (on .exit) ≡ switched low (high - low) (now (on .entry)) ⌝ }
+    ensures related { λ _. ⌜ ((H : List ℕ) → Ruled (poolOf n H (now (kinds .entry)) (now (numbers .entry)))
+        (rulesOf n words (now (head .entry)) (now (part .entry)) (now (first .entry)) (now (named .entry)) (now (src .entry)))
+        → Relation (poolOf n H (now (kinds .entry)) (now (numbers .entry))) (now (on .entry)) (now (rows .entry))
+        → Relation (poolOf n H (now (kinds .entry)) (now (numbers .entry))) (now (on .exit)) (now (rows .exit))) ⌝ }
+{
+    if high <= low {
+        return;
+    }
+    let open = open_table();
+    let mut lo = 0u64;
+    let mut hi = 0u64;
+    let mut i = low;
+    while i < high {
+        let todo = readers_of_row(deps, head[i], i);
+        lo = lo | todo.lo;
+        hi = hi | todo.hi;
+        seed(n, kinds, numbers, head, &open, i, rows);
+        on[i] = 1;
+        i += 1;
+    }
+    close(
+        n,
+        words,
+        head,
+        part,
+        first,
+        named,
+        src,
+        on,
+        deps,
+        true,
+        deps,
+        lo,
+        hi,
+        rows,
+    );
+}
+
 // The relation with credential i switched on, likewise.
 pub fn switch_on<'a>(
     n: usize,
@@ -96,25 +155,20 @@ pub fn switch_on<'a>(
         → Relation (poolOf n H (now (kinds .entry)) (now (numbers .entry))) (now (on .entry)) (now (rows .entry))
         → Relation (poolOf n H (now (kinds .entry)) (now (numbers .entry))) (now (on .exit)) (now (rows .exit))) ⌝ }
 {
-    let none = [0u64; 260];
-    let todo = readers_of_row(deps, head[i], i);
-    let open = open_table();
-    seed(n, kinds, numbers, head, &open, i, rows);
-    on[i] = 1;
-    close(
+    switch_all(
         n,
+        kinds,
+        numbers,
         words,
         head,
         part,
         first,
         named,
         src,
-        on,
-        &none,
-        true,
         deps,
-        todo.lo,
-        todo.hi,
+        i,
+        i + 1,
+        on,
         rows,
     );
 }

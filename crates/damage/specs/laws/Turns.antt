@@ -8,7 +8,7 @@ use borrow.Author.Tests.{not-true, not-false}
 use Rattle.expression.specs.declared.Credential.{Credential}
 use Rattle.rt0.specs.declared.Pool.{Pool}
 use Rattle.rt0.specs.Pool.{upTo}
-use Rattle.rt0.specs.laws.Pool.{poolOf, bodyAt, bodyIn, credentials, credentialAt}
+use Rattle.rt0.specs.laws.Pool.{poolOf, bodyIn, credentials, credentialAt}
 use Rattle.graph.specs.declared.Node.{Node}
 use Rattle.graph.specs.declared.Nodes.{Nodes}
 use Rattle.graph.specs.declared.Edge.{Edge}

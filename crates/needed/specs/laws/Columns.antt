@@ -2,10 +2,9 @@
 use Prim.Native.Nat.{ℕ, _+_, _≤_, _<_}
 use mathlib.Core.Path.{_≡_}
 use mathlib.Core.Logic.{_⊎_}
-use mathlib.Core.Bool.{Bool, true, false, cond}
+use mathlib.Core.Bool.{Bool, true, false}
 use mathlib.Core.List.{List, _++_}
-use lib.Dec.{ltb}
-use lib.ListN.{length, set}
+use lib.ListN.{length}
 use Rattle.expression.specs.declared.Expression.{Expression}
 use Rattle.rt0.specs.declared.Pool.{Pool}
 use Rattle.rt0.specs.Decide.{from?}
@@ -21,16 +20,16 @@ pub record FirstOn (s : ℕ) (on : List ℕ) : Type 0 where
   pub shown : (i : ℕ) → i < s → el on i ≡ 1
   pub others : (i : ℕ) → s ≤ i → el on i ≡ 0
 
--- the column with number i on, where it is below n
-unfoldable pub withOne : ℕ → ℕ → List ℕ → List ℕ
-withOne n i on = cond (ltb i n) (set on i 1) on
-
 -- beside what was on, the credentials from k to n are
 pub record Grown (n k : ℕ) (was on : List ℕ) : Type 0 where
   pub sized : length on ≡ 128
   pub says : (i : ℕ) → i < n → el on i ≡ 1 → (el was i ≡ 1) ⊎ (k ≤ i)
   pub old : (i : ℕ) → el was i ≡ 1 → el on i ≡ 1
   pub new : (i : ℕ) → k ≤ i → i < n → el on i ≡ 1
+
+-- f from e holds with those that are on and the credentials from k on
+abbrev pub holdsFrom : Pool → List ℕ → Expression → Expression → ℕ → Bool
+holdsFrom P on f e k = from? (chosen P on ++ restOf P k) f e
 
 -- k is the last number from a on such that the credentials from k on, beside those that are on, are enough: the count where none is needed,
 -- more where all from a on are not enough

@@ -1,12 +1,10 @@
--- Own credentials switched on from the last backwards, and those kept: each step of the loops. Assumes nothing.
-use Prim.Native.Nat.{ℕ, _+_, _-_, _≤_, _<_}
+-- Own credentials switched on from a number on, and those kept: each step of the loops. Assumes nothing.
+use Prim.Native.Nat.{ℕ, zero, suc, _+_, _-_, _≤_, _<_}
 use native.Mathlib.Omega.{arith}
 use mathlib.Core.Path.{_≡_, refl, sym, _∙_, ap, subst}
 use mathlib.Core.Logic.{_⊎_, inl, inr, ⊎-elim}
-use mathlib.Core.Bool.{Bool, true, false, cond}
+use mathlib.Core.Bool.{Bool, true, false}
 use mathlib.Core.List.{List, [], _∷_, _++_, append-nil, List·Memᴰ, List·Memᴰ·append-cases, Memᴰ·append-left, Memᴰ·append-right}
-use borrow.Author.Tests.{ltb-true, ltb-false, lt-ltb, le-ltb}
-use lib.Dec.{ltb}
 use lib.ListN.{length, length-set, length-replicate, set, replicate}
 use lib.Seq.{getD-set-other}
 use Rattle.expression.specs.declared.Credential.{Credential}
@@ -19,31 +17,30 @@ use Rattle.rt0.specs.laws.Pool.{credentialAt, credentials}
 use Rattle.closure.specs.laws.Rules.{el}
 use Rattle.rules.specs.laws.Table.{chosen}
 use Rattle.rules.specs.laws.Exact.{chosen-mem, chosen-find}
-use Rattle.relation.specs.laws.Relation.{Relation}
+use Rattle.relation.specs.laws.Relation.{switched}
 use Rattle.needed.specs.Needed.{kept, enough, needed}
 use Rattle.needed.specs.laws.Needed.{firstOf, restOf, enough-gains, kept-nil, kept-done, kept-jump, kept-all, needed-same}
-use Rattle.needed.specs.laws.Columns.{FirstOn, withOne, Grown, LastNeeded, WithRest, Keeping, Needed}
+use Rattle.needed.specs.laws.Columns.{FirstOn, Grown, holdsFrom, LastNeeded, WithRest, Keeping, Needed}
 use Rattle.needed.specs.laws.Column.{upTo-mem, upTo-find, rest-split, rest-next, rest-none, rest-mem, rest-find, first-rest, lt-or, none-on}
 use Rattle.needed.specs.laws.Column.{rest-chosen, one-chosen, set-at, stays, came}
+use Rattle.needed.specs.laws.Halves.{Halves, halves-end}
 use Rattle.word.specs.laws.Search.{zeros}
 
--- One switched on
+-- The credentials from a number on switched on
 
--- it is below n
-pub one-on : (n i : ℕ) (was now on : List ℕ) → i < n → now ≡ set was i 1 → on ≡ now → on ≡ withOne n i was
-unfolding withOne
-one-on n i was now on l q h = rw (lt-ltb i n l) (h ∙ q)
-
--- it is not
-pub none-new : (n i : ℕ) (was on : List ℕ) → n ≤ i → on ≡ was → on ≡ withOne n i was
-unfolding withOne
-none-new n i was on l h = rw (le-ltb i n l) h
-
--- equal columns have the same relation
-pub same-relation : (P : Pool) (was on K L : List ℕ) → on ≡ was → L ≡ K → Relation P was K → Relation P on L
-same-relation P was on K L q h r = subst (λ (M : List ℕ). Relation P on M) (sym h) (subst (λ (x : List ℕ). Relation P x K) (sym q) r)
-
--- Switched on from the last backwards
+grown-all : (k d : ℕ) (was : List ℕ) → k + d ≤ 128 → length was ≡ 128 → Grown (k + d) k was (switched k d was)
+unfolding switched
+grown-all k zero was l sized = record { sized = sized; says = λ i m h. inl h; old = λ i h. h; new = λ i m o. absurd (omega arith) }
+grown-all k (suc d) was l sized =
+    let g : Grown (k + d) k was (switched k d was) = grown-all k d was (omega arith) sized in
+    record {
+      sized = length-set (switched k d was) (k + d) 1 ∙ g .sized;
+      says = λ j m h. ⊎-elim (λ o. ⊎-elim (λ y. g .says j y o) (λ y. inr (omega arith)) (lt-or j (k + d))) (λ y. inr (omega arith))
+          (came (switched k d was) (k + d) j h);
+      old = λ j h. stays (switched k d was) (k + d) j (g .sized) (omega arith) (g .old j h);
+      new = λ j m o. ⊎-elim (λ y. getD-set-other (switched k d was) (k + d) j 1 0 y ∙ g .new j m (omega (arith, y))) (λ y. y)
+          (set-at (switched k d was) (k + d) j (g .sized) (omega arith));
+    }
 
 module _ (P : Pool) (was : List ℕ) (f e : Expression) where
   -- those on are those that were and the credentials from k on
@@ -66,63 +63,22 @@ module _ (P : Pool) (was : List ℕ) (f e : Expression) where
           (chosen-mem P on (P .count) (r .0) (r .2) (g .new (r .0) (r .1) (r .2))))
           (List·Memᴰ·append-cases (chosen P was) m)
 
-  pub grown-start : length was ≡ 128 → Grown (P .count) (P .count + 1) was was
-  grown-start sized = record { sized = sized; says = λ i l h. inl h; old = λ i h. h; new = λ i l m. absurd (omega arith) }
-
-  grown-one : (k i : ℕ) (on : List ℕ) → i < P .count → P .count ≤ 128 → k ≡ i + 1 → Grown (P .count) k was on → Grown (P .count) i was (set on i 1)
-  grown-one k i on l small q g =
-      record {
-        sized = length-set on i 1 ∙ g .sized;
-        says = λ j m h. ⊎-elim (λ o. ⊎-elim (λ y. inl y) (λ y. inr (omega arith)) (g .says j m o)) (λ y. inr (omega arith)) (came on i j h);
-        old = λ j h. stays on i j (g .sized) (omega arith) (g .old j h);
-        new = λ j m o. ⊎-elim (λ y. getD-set-other on i j 1 0 y ∙ g .new j (above j m y) o) (λ y. y) (set-at on i j (g .sized) (omega arith));
-      }
+  -- the answer with those from k on switched on
+  pub switched-holds : P .count ≤ 128 → length was ≡ 128 → (k : ℕ) → k ≤ P .count → (on : List ℕ) → on ≡ switched k (P .count - k) was → {b : Bool}
+      → b ≡ from? (chosen P on) f e → b ≡ holdsFrom P was f e k
+  switched-holds small sized k l on q h = h ∙ grown-enough k on (subst (λ (x : List ℕ). Grown (P .count) k was x) (sym q) g)
     where
-      above : (j : ℕ) → i ≤ j → (j ≡ i → ⊥) → k ≤ j
-      above j m y = omega (arith, y)
+      g : Grown (P .count) k was (switched k (P .count - k) was)
+      g =
+          let z : k + (P .count - k) ≡ P .count = omega arith in
+          subst (λ (m : ℕ). Grown m k was (switched k (P .count - k) was)) z (grown-all k (P .count - k) was (omega arith) sized)
 
-  pub grown-add : (k i : ℕ) (on now : List ℕ) → i ≤ P .count → P .count ≤ 128 → k ≡ i + 1 → now ≡ withOne (P .count) i on → Grown (P .count) k was on
-      → Grown (P .count) i was now
-  unfolding withOne
-  grown-add k i on now l small q z g = subst (λ (x : List ℕ). Grown (P .count) i was x) (sym z) (go (ltb i (P .count)) refl)
-    where
-      go : (b : Bool) → ltb i (P .count) ≡ b → Grown (P .count) i was (cond b (set on i 1) on)
-      go true y = grown-one k i on (ltb-true i (P .count) y) small q g
-      go false y =
-          let m : P .count ≤ i = ltb-false i (P .count) y in
-          record {
-            sized = g .sized;
-            says = λ j o h. ⊎-elim (λ x. inl x) (λ x. inr (omega arith)) (g .says j o h);
-            old = g .old;
-            new = λ j o x. absurd
-                (omega arith);
-          }
-
-  -- the edge does not hold yet
-  pub last-again : (i : ℕ) (on : List ℕ) {b : Bool} → Grown (P .count) i was on → b ≡ from? (chosen P on) f e → b ≡ false
-      → from? (chosen P was ++ restOf P i) f e ≡ false
-  last-again i on g h k = sym (grown-enough i on g) ∙ (sym h ∙ k)
-
-  -- the edge holds
-  pub last-found : (a k i : ℕ) (on : List ℕ) {b : Bool} → a ≤ i → i ≤ P .count → k ≡ i + 1 → Grown (P .count) i was on → b ≡ from? (chosen P on) f e
-      → b ≡ true → (k ≤ P .count → from? (chosen P was ++ restOf P k) f e ≡ false) → LastNeeded P was f e a i
-  last-found a k i on l m q g h y before =
-      record {
-        found = λ _. (l, sym (grown-enough i on g) ∙ (sym h ∙ y));
-        last = λ o. subst (λ (j : ℕ). from? (chosen P was ++ restOf P j) f e ≡ false) q (before (omega arith));
-        none = λ o. absurd (omega arith);
-      }
-
-  -- it never did
-  pub last-none : (a i : ℕ) → a ≤ i → i ≤ a → a ≤ P .count → P .count ≤ 128 → (i ≤ P .count → from? (chosen P was ++ restOf P i) f e ≡ false)
-      → LastNeeded P was f e a 129
-  last-none a i l m o small before =
-      let q : i ≡ a = omega arith in
-      record {
-        found = λ x. absurd (omega arith);
-        last = λ x. absurd (omega arith);
-        none = λ _. subst (λ (j : ℕ). from? (chosen P was ++ restOf P j) f e ≡ false) q (before (omega arith));
-      }
+  -- the number that a search by halves ends with
+  pub halves-needed : P .count ≤ 128 → (a : ℕ) → a ≤ P .count → (low high last : ℕ) → high ≤ low → Halves (holdsFrom P was f e) a (P .count) low high last
+      → LastNeeded P was f e a last
+  halves-needed small a l low high last m s =
+      let r = halves-end (holdsFrom P was f e) a (P .count) low high last small l m s in
+      record { found = r .0; last = r .1; none = r .2 }
 
 -- Those kept
 

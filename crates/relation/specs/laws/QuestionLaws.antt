@@ -1,5 +1,5 @@
 -- The steps of a question, one after another. Assumes nothing.
-use Prim.Native.Nat.{ℕ, _*_, _+_, _≤_, _<_}
+use Prim.Native.Nat.{ℕ, zero, suc, _*_, _+_, _-_, _≤_, _<_}
 use native.Mathlib.Omega.{arith}
 use mathlib.Core.Path.{_≡_, refl, sym, _∙_, ap, subst}
 use mathlib.Core.Logic.{_⊎_, inl, inr, ⊎-elim}
@@ -27,7 +27,7 @@ use Rattle.rules.specs.declared.Four.{Four}
 use Rattle.rules.specs.laws.Columns.{fourRows}
 use Rattle.rules.specs.laws.Exact.{body-entity, chosen-mem, chosen-find, row-found, row-here, row-cases, bit-here}
 use Rattle.rules.specs.laws.Column.{no-bits, row-for-small}
-use Rattle.relation.specs.laws.Relation.{Relation, Start, atOnce, Asked}
+use Rattle.relation.specs.laws.Relation.{Relation, Start, atOnce, Asked, switched}
 use Rattle.relation.specs.laws.Answer.{once-says, Moved}
 use Rattle.relation.specs.laws.Question.{Seeded, StartTo, OwnRow, startsAt, AskedTo}
 
@@ -197,14 +197,24 @@ module _ (P : Pool) (on : List ℕ) (small : P .count ≤ 128) where
   pub start-end : (k : ℕ) (K : List ℕ) → P .count ≤ k → StartTo P on k K → Start P on K
   start-end k K l inv = record { sized = inv .sized; says = inv .says; seeds = λ i b m p q. inv .seeds i b (omega arith) p q }
 
-  -- a credential more: the relation's rows, with what it says at once, are a start
-  pub start-more : (was K K′ : List ℕ) (i : ℕ) → i < P .count → i < length was → on ≡ set was i 1 → Relation P was K → Seeded P i K K′ → Start P on K′
+  -- the rows of a relation are a start
+  pub start-related : (K : List ℕ) → Relation P on K → Start P on K
   unfolding chosen
-  start-more was K K′ i l room q rel new =
+  start-related K rel =
+      record {
+        sized = rel .sized;
+        says = rel .says;
+        seeds = λ j b m p w. rel .all (headAt P j) b (bit-here P small b j m w .0) (rw w at (credential (chosen-mem P on (P .count) j m p)));
+      }
+
+  -- a credential more: the rows of a start, with what it says at once, are one
+  pub start-more : (was K K′ : List ℕ) (i : ℕ) → i < P .count → i < length was → on ≡ set was i 1 → Start P was K → Seeded P i K K′ → Start P on K′
+  unfolding chosen
+  start-more was K K′ i l room q old new =
       record {
         sized = new .sized;
         says =
-            λ r s z. ⊎-elim (λ y. let k = rel .says r s y in (k .0, more keep (k .1))) (λ y. seed-true i l here r s (y .0) (y .1) (y .2) (y .3))
+            λ r s z. ⊎-elim (λ y. let k = old .says r s y in (k .0, more keep (k .1))) (λ y. seed-true i l here r s (y .0) (y .1) (y .2) (y .3))
             (new .says r s z);
         seeds = λ j b m p w. go j b m p w (eqb j i) refl;
       }
@@ -228,8 +238,34 @@ module _ (P : Pool) (on : List ℕ) (small : P .count ≤ 128) where
       go j b m p w true z = let y : j ≡ i = eqb-true j i z in rw y (new .all b (rw y at w))
       go j b m p w false z =
           let o : el was j ≡ 1 = sym (getD-set-other was i j 1 0 (eqb-false j i z)) ∙ (rw q at p) in
-          let f = bit-here P small b j m w in
-          new .kept .within _ _ (rel .all (headAt P j) b (f .0) (rw w at (credential (chosen-mem P was (P .count) j m o))))
+          new .kept .within _ _ (old .seeds j b m o w)
+
+-- Credentials switched on one after another
+
+-- none
+pub switched-none : (low high : ℕ) (on : List ℕ) → high ≤ low → on ≡ switched low (high - low) on
+unfolding switched
+switched-none low high on l = let z : high - low ≡ zero = omega arith in rw z refl
+
+-- one more
+pub switched-next : (low i : ℕ) (was on now : List ℕ) → low ≤ i → on ≡ switched low (i - low) was → now ≡ set on i 1 → now ≡ switched low ((i + 1) - low) was
+unfolding switched
+switched-next low i was on now l q h =
+    let z : (i + 1) - low ≡ suc (i - low) = omega arith in
+    let y : low + (i - low) ≡ i = omega arith in
+    rw z (rw y (rw (← q) h))
+
+-- one alone
+pub switched-one : (i : ℕ) (on now : List ℕ) → now ≡ switched i ((i + 1) - i) on → now ≡ set on i 1
+unfolding switched
+switched-one i on now h =
+    let z : (i + 1) - i ≡ suc zero = omega arith in
+    let y : i + zero ≡ i = omega arith in
+    h ∙ (ap (λ (d : ℕ). switched i d on) z ∙ ap (λ (j : ℕ). set on j 1) y)
+
+-- all of them
+pub switched-end : (low i high : ℕ) (was on : List ℕ) → i ≤ high → high ≤ i → on ≡ switched low (i - low) was → on ≡ switched low (high - low) was
+switched-end low i high was on l m q = let z : i ≡ high = omega arith in subst (λ (j : ℕ). on ≡ switched low (j - low) was) z q
 
 -- The rows that a question starts from
 

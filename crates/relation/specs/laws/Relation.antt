@@ -1,11 +1,11 @@
 -- The relation of roles and entities, and what is from an expression at once. Assumes nothing.
-use Prim.Native.Nat.{ℕ, _<_}
+use Prim.Native.Nat.{ℕ, zero, suc, _+_, _<_}
 use mathlib.Core.Path.{_≡_}
 use mathlib.Core.Logic.{_⊎_}
 use mathlib.Core.Bool.{Bool, true, false, _&&_, _||_}
 use mathlib.Core.List.{List}
 use lib.Dec.{eqb}
-use lib.ListN.{length}
+use lib.ListN.{length, set}
 use Rattle.expression.specs.declared.Role.{Role}
 use Rattle.expression.specs.declared.Expression.{Expression}
 use Rattle.expression.specs.declared.Expression.the-variants as E
@@ -27,6 +27,11 @@ pub record Start (P : Pool) (on K : List ℕ) : Type 0 where
   pub sized : length K ≡ 260
   pub says : (r s : ℕ) → bits K r s ≡ true → (r < P .count) × From (chosen P on) (E.Role (headAt P r)) (bodyAt P s)
   pub seeds : (i b : ℕ) → i < P .count → el on i ≡ 1 → bodyAt P i ≡ E.Entity b → bits K (rowOf P (headAt P i)) (bitOf P b) ≡ true
+
+-- the column with d credentials from number low on switched on
+unfoldable pub switched : ℕ → ℕ → List ℕ → List ℕ
+switched low zero on = on
+switched low (suc d) on = set (switched low d on) (low + d) 1
 
 -- What is from e at once: e itself, and a.m where e is B.m and B is in a by the rows K
 

@@ -1,6 +1,6 @@
 use mathlib.Core.Path.{_∙_, ap}
 use Rattle.expression.specs.Form.{expressionOf}
-use Rattle.rt0.specs.laws.Pool.{bodyAt, bodyIn}
+use Rattle.rt0.specs.laws.Pool.{bodyIn}
 use borrow.Author.Needs.{needs}
 use Rattle.rt0.proofs.body_at.Statement.{statement}
 use Rattle.rt0.proofs.body_at.Tie as tie

@@ -12,7 +12,7 @@ use Rattle.expression.specs.declared.Credential.{Credential}
 use Rattle.expression.specs.declared.Expression.{Expression}
 use Rattle.expression.specs.Form.{rawOf, expressionOf}
 use Rattle.expression.specs.laws.Laws.{expression-raw}
-use Rattle.rt0.specs.laws.Pool.{rawAtColumns, headAt, bodyAt, bodyIn, credentialAt, credentials}
+use Rattle.rt0.specs.laws.Pool.{rawAtColumns, headAt, bodyIn, credentialAt, credentials}
 use Rattle.rt0.specs.Pool.{upTo}
 use Rattle.rt0.specs.declared.Pool.{Pool}
 
