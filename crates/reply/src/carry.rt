@@ -93,7 +93,7 @@ fn credential_of(pool: Pool, k: usize) -> Credential
     requires { ⌜ k < 128 ⌝ }
     ensures { λ r. ⌜ r ≡ credentialAt pool k ⌝ }
 {
-    credential_at(pool.count, &pool.heads, &pool.kinds, &pool.numbers, k)
+    credential_at(&pool.heads, &pool.kinds, &pool.numbers, k)
 }
 
 // Credential k of a pool is written and shown, if its flag is on.
