@@ -41,15 +41,8 @@ use Rattle.moves.specs.Rules.{End, endIn, childFor, ownersIn, childrenBy, isSat
 use Rattle.choice.specs.laws.Sensitive.{satisfiedIn}
 use Rattle.choice.specs.laws.Later.{Later, done-stays}
 use Rattle.choice.specs.laws.Elsewhere.{OnlyAt}
-use Rattle.choice.specs.laws.Next.{isNothing}
+use Rattle.choice.specs.laws.Next.{isNothing, isGoal}
 use Rattle.numbers.specs.Sizes.{MOST-NODES}
-
-abbrev pub isGoal : Expression → Bool
-isGoal (E.Entity a) = false
-isGoal (E.Role a) = false
-isGoal (E.Linked a r) = false
-isGoal (E.Intersection p) = false
-isGoal (E.Goal r) = true
 
 abbrev pub failedIn : State → ℕ → Bool
 failedIn S i = at (failedB (S .nodes) (S .edges)) i
@@ -105,8 +98,7 @@ module _ {ns : List Node} {es : List Edge} (F : EdgesFormed ns es) where
       let p : Node = nodeIn ns (e .parent) in
       let c : Node = nodeIn ns (e .child) in
       let g : form 2 (f .0) p c ≡ true = sym (ap (λ (k : ℕ). form k (f .0) p c) h)
-      ∙ (sym (ap (λ (y : Edge). form (y .kind) (f .0) (nodeIn ns (y .parent)) (nodeIn ns (y .child))) (x .2)) ∙ f .1) in
-      (
+      ∙ (sym (ap (λ (y : Edge). form (y .kind) (f .0) (nodeIn ns (y .parent)) (nodeIn ns (y .child))) (x .2)) ∙ f .1) in (
         subst (λ (y : Edge). y .child < length ns) (x .2) (F .child (x .0) (x .1)),
         monitor-goal (p .expression) (c .expression) (and-parts (isMonitor (p .expression) (c .expression)) (sameEnds p c) g .0),
       )
