@@ -107,4 +107,6 @@ move-at o m n C.Nothing = refl
 -- a move that is found is made at its node
 pub move-only : (o : Q.End) (f : Found) (S : State) (s : ℕ) → OnlyAt (f .node) S (carried s S (foundMove o f))
 unfolding foundMove
-move-only o f S s = carried-only (f .node) S s (moveFor o (f .node) (nodeIn (o .state .nodes) (f .node)) (f .choice)) (move-at o (f .node) (nodeIn (o .state .nodes) (f .node)) (f .choice))
+move-only o f S s =
+    let n : Node = nodeIn (o .state .nodes) (f .node) in
+    carried-only (f .node) S s (moveFor o (f .node) n (f .choice)) (move-at o (f .node) n (f .choice))

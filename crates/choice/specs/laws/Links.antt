@@ -191,15 +191,19 @@ module _ (T : Tables) (S R : State) (u : Later S R) (few : length (S .nodes) ≤
         → chosenIn (isDone (S .nodes) (S .edges) i) (linkRules (endIn T S) i (nodeIn (S .nodes) i) a r) ≡ C.Nothing
         → chosenIn (isDone (R .nodes) (R .edges) i) (linkRules (endIn T R) i (nodeIn (R .nodes) i) a r) ≡ C.Nothing
     unfolding chosenIn endIn
-    link-stays inside a r h = (λ t. firstNot e (markIf marks) (wanted a r (there t) (solutionsOf (endIn T R) r i))) ∙ all-nothing e (markIf marks) new every unmarked
+    link-stays inside a r h =
+        (λ t. firstNot e (markIf marks) (wanted a r (there t) (solutionsOf (endIn T R) r i))) ∙ all-nothing e (markIf marks) new every unmarked
       where
         n : Node
         n = nodeIn (S .nodes) i
 
-        there : nodeIn (R .nodes) i ≡ record { expression = nodeIn (R .nodes) i .expression; subject = n .subject; verifier = n .verifier; state = nodeIn (R .nodes) i .state }
+        o : Node
+        o = nodeIn (R .nodes) i
+
+        there : o ≡ record { expression = o .expression; subject = n .subject; verifier = n .verifier; state = o .state }
         there =
             let x = u .more .alike i inside in
-            λ t. record { expression = nodeIn (R .nodes) i .expression; subject = x .subject t; verifier = x .verifier t; state = nodeIn (R .nodes) i .state }
+            λ t. record { expression = o .expression; subject = x .subject t; verifier = x .verifier t; state = o .state }
 
         d : Candidate → Bool
         d = isDone (S .nodes) (S .edges) i

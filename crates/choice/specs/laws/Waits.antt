@@ -62,8 +62,8 @@ use Rattle.candidates.specs.laws.Least.{better, orElse}
 use Rattle.choice.specs.laws.Known.{knownAs}
 use Rattle.choice.specs.laws.Sensitive.{alone, controlFor, ownFor, satisfiedIn, policyChoice, holdingChoice, knownChoice}
 use Rattle.choice.specs.laws.RuleChoice.{verifier-as, verifier-role, opponent-as, about-us, about-other, plain-choice, at-processed, at-verifier}
-use Rattle.choice.specs.laws.RuleChoice.{at-opponent, verifier-entity, verifier-goal, verifier-parts, link-def, link-all, link-subject, opponent-entity, opponent-link}
-use Rattle.choice.specs.laws.RuleChoice.{opponent-parts, opponent-goal}
+use Rattle.choice.specs.laws.RuleChoice.{at-opponent, verifier-entity, verifier-goal, verifier-parts, link-def, link-all, link-subject}
+use Rattle.choice.specs.laws.RuleChoice.{opponent-entity, opponent-link, opponent-parts, opponent-goal}
 use Rattle.choice.specs.laws.Asked.{Asked, restAt, sensitiveAt, sensitive-at}
 use Rattle.choice.specs.laws.Later.{or-nothing, Later, done-stays, same-side, asked-back, rest-stays, carried-later}
 use Rattle.choice.specs.laws.Next.{isNothing, isGoal, NothingBefore, Resting, nothing-start}
@@ -399,9 +399,13 @@ pub record SameSolutions (K D failed earlier : List ℕ) (m : ℕ) : Type 0 wher
 pub solutions-start : {K D failed earlier : List ℕ} → SameSolutions K D failed earlier 0
 solutions-start = record { each = λ k l. absurd (omega (arith, l)) }
 
-pub solutions-next : {K D failed earlier : List ℕ} {m : ℕ} → SameSolutions K D failed earlier m → SameAt K D failed earlier m → SameSolutions K D failed earlier (m + 1)
+pub solutions-next : {K D failed earlier : List ℕ} {m : ℕ} → SameSolutions K D failed earlier m → SameAt K D failed earlier m
+    → SameSolutions K D failed earlier (m + 1)
 solutions-next {K} {D} {failed} {earlier} {m} s a =
-    record { each = λ k l. ⊎-elim (λ z. subst (SameAt K D failed earlier) (sym (eqb-true k m z)) a) (λ z. s .each k (omega (arith, l, eqb-false k m z))) (decided (eqb k m)) }
+    record {
+      each = λ k l. ⊎-elim (λ z. subst (SameAt K D failed earlier) (sym (eqb-true k m z)) a) (λ z. s .each k (omega (arith, l, eqb-false k m z)))
+          (decided (eqb k m));
+    }
 
 pub solutions-all : {K D failed earlier : List ℕ} {m n : ℕ} → SameSolutions K D failed earlier m → n ≤ m → SameSolutions K D failed earlier n
 solutions-all s l = record { each = λ k h. s .each k (omega (arith, l, h)) }
@@ -426,8 +430,10 @@ pub waits-rests : (T : Tables) (n : Negotiation) {sat last failed earlier : List
 unfolding stateOf
 waits-rests T n {sat} {last} {failed} {earlier} {q} {r} some few F z w c =
     ⊎-elim
-    (λ e. subst (Resting T (stateOf n)) (sym e) (record { stands = omega (arith, some, nodes-length (n .nodes)); none = λ g. nothing-start (endIn T (stateOf n)) }))
-    (λ e. subst (Resting T (stateOf n)) (sym (e .0)) (record { stands = w .stands; none = w .rests (λ j l. same-flag (e .1) j l) (λ x m k. same-solution (e .2) x m k) }))
+    (λ e. subst (Resting T (stateOf n)) (sym e)
+    (record { stands = omega (arith, some, nodes-length (n .nodes)); none = λ g. nothing-start (endIn T (stateOf n)) }))
+    (λ e. subst (Resting T (stateOf n)) (sym (e .0))
+    (record { stands = w .stands; none = w .rests (λ j l. same-flag (e .1) j l) (λ x m k. same-solution (e .2) x m k) }))
     (c .rests)
   where
     X : Edges

@@ -28,7 +28,9 @@ node-states-requires c κs =
     let g = going-ready (tablesOf (c3 .args .own .house)) (c .before .loop .n) (c .before .loop .inv .0 .going) in (g .1, g .2, g .3, g .4)
 
 same-length : tie.Need-same-length Inv-loop μ-loop
-same-length c = writing-length _ _ _ _ (c .before .before .before .before .before .before .loop .n) (c .before .before .before .before .before .before .loop .inv .0)
+same-length c =
+    let c6 = c .before .before .before .before .before .before in
+    writing-length _ _ _ _ (c6 .loop .n) (c6 .loop .inv .0)
 
 returns : tie.Need-returns Inv-loop μ-loop
 returns c =
