@@ -7,4 +7,6 @@ pub mod Next
 pub mod Asked
 pub mod Later
 pub mod Exhausted
+pub mod Elsewhere
+pub mod Links
 pub mod Waits

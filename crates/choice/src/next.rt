@@ -18,12 +18,17 @@ ghost use Rattle.negotiation.specs.State.{within};
 ghost use Rattle.moves.specs.Rules.{endIn};
 ghost use Rattle.moves.specs.Move.{nextMove};
 ghost use Rattle.moves.specs.laws.Own.{Prepared, foundMove};
-ghost use Rattle.choice.specs.laws.Next.{isNothing, isUnprocessed, openAt, NothingBefore, Resting};
+ghost use Rattle.choice.specs.laws.Next.{isNothing, isUnprocessed, BeginsAt, NothingBefore, Resting};
 ghost use Rattle.choice.specs.laws.Exhausted.{Exhausted};
-ghost use Rattle.candidates.specs.laws.Skipped.{Skipped};
 
-// The kind of a role.
+// The kinds of expressions but that of a goal.
+const ENTITY: u8 = 1;
+
 const ROLE: u8 = 2;
+
+const LINKED: u8 = 3;
+
+const INTERSECTION: u8 = 4;
 
 // Whether there is nothing to do.
 pub fn is_nothing(c: Choice) -> bool
@@ -46,46 +51,20 @@ fn is_unprocessed(side: u8, verifier: u8, state: u8) -> bool
     state / 2 % 2 != 1
 }
 
-// Whether our side has not processed node i, and it is no role target below `rests`.
-fn is_open<'a>(
-    kind: &'a [u8; 128],
-    verifier: &'a [u8; 128],
-    state: &'a [u8; 128],
-    side: u8,
-    rests: usize,
-    i: usize,
-) -> bool
-    requires { ⌜ i < 128 ⌝ }
-    ensures { λ r. ⌜ r ≡ openAt (now (kind .entry)) (now (verifier .entry)) (now (state .entry)) side rests i ⌝ }
+// Where the search begins: linked targets look at goals, so behind a move at a goal none is known to rest.
+fn begins_at(kind: &[u8; 128], rests: usize) -> usize
+    requires { ⌜ rests < 128 ⌝ }
+    ensures { λ r. ⌜ BeginsAt (now (kind .entry)) rests r ⌝ }
 {
-    is_unprocessed(side, verifier[i], state[i]) & !((i < rests) & (kind[i] == ROLE))
-}
-
-// The next such node from an index on, or n.
-fn next_open<'a>(
-    n: usize,
-    kind: &'a [u8; 128],
-    verifier: &'a [u8; 128],
-    state: &'a [u8; 128],
-    side: u8,
-    rests: usize,
-    from: usize,
-) -> usize
-    requires { ⌜ (n ≤ 128) × (from ≤ n) ⌝ }
-    ensures { λ r. ⌜ Skipped (openAt (now (kind .entry)) (now (verifier .entry)) (now (state .entry)) side rests) from n r ⌝ }
-{
-    let mut i = from;
-    while i < n {
-        if is_open(kind, verifier, state, side, rests, i) {
-            return i;
-        }
-        i += 1;
+    let k = kind[rests];
+    if (k != ENTITY) & (k != ROLE) & (k != LINKED) & (k != INTERSECTION) {
+        return 0;
     }
-    i
+    rests
 }
 
 // "Nodes are tried by rising number": the first at which there is something to do. The edges of rule (4) of sensitive roles are done below `passed`, and
-// there is nothing to do at role targets below `rests`.
+// there is nothing to do below `rests`, unless that is a goal.
 pub fn next_choice(
     own: Preparation,
     n: Negotiation,
@@ -104,31 +83,17 @@ pub fn next_choice(
     let h = n.header;
     let nodes = n.nodes;
     let count = nodes.count;
-    let mut i = next_open(
-        count,
-        &nodes.kind,
-        &nodes.verifier,
-        &nodes.state,
-        h.side,
-        rests,
-        0,
-    );
+    let mut i = begins_at(&nodes.kind, rests);
     while i < count {
-        let node = i as u8;
-        let x = node_of(nodes, node);
-        let choice = choice_at(own, n, states, node, x, passed);
-        if !is_nothing(choice) {
-            return Found { node, choice };
+        if is_unprocessed(h.side, nodes.verifier[i], nodes.state[i]) {
+            let node = i as u8;
+            let x = node_of(nodes, node);
+            let choice = choice_at(own, n, states, node, x, passed);
+            if !is_nothing(choice) {
+                return Found { node, choice };
+            }
         }
-        i = next_open(
-            count,
-            &nodes.kind,
-            &nodes.verifier,
-            &nodes.state,
-            h.side,
-            rests,
-            i + 1,
-        );
+        i += 1;
     }
     Found {
         node: 0,

@@ -42,7 +42,7 @@ fn larger(a: usize, b: usize) -> usize
 }
 
 // Each move is written behind the last, and the negotiation goes on by it. Below a node at which a move was made there was nothing left to do; what was
-// done by rule (4) there stays done, and role targets there rest while the satisfied nodes are the same.
+// done by rule (4) there stays done, and targets there rest while the satisfied nodes and the solutions that failed are the same.
 pub fn reply_from(own: Preparation, start: Negotiation, from: usize, s: &mut [u8]) -> Replying
     requires { ⌜ Prepared own × Going (tablesOf (own .house)) (stateOf start) × (from + 1 ≤ 4096) × (4096 ≤ length (now s)) ⌝ }
     ensures { λ r. ⌜ Gives (tablesOf (own .house)) (restFrom 4096 (tablesOf (own .house)) (stateOf start) from) from (now (s .entry)) r (now (s .exit)) ⌝ }
@@ -53,13 +53,15 @@ pub fn reply_from(own: Preparation, start: Negotiation, from: usize, s: &mut [u8
     let mut passed = 0;
     let mut waiting = 0;
     let mut last = [0u8; 128];
+    let mut earlier = [0u8; 128];
     while 0 < left {
         let states = node_states(n.nodes, n.edges);
         let sat = states.satisfied;
+        let failed = states.failed;
         if sat[0] == 1 {
             return replying(0, n, at, false);
         }
-        let rests = resting(n.nodes.count, &sat, &last, waiting);
+        let rests = resting(n.edges, &sat, &last, &failed, &earlier, waiting);
         let found = next_choice(own, n, states, passed, rests);
         let choice = found.choice;
         if is_nothing(choice) {
@@ -79,6 +81,7 @@ pub fn reply_from(own: Preparation, start: Negotiation, from: usize, s: &mut [u8
         waiting = wide(found.node);
         passed = larger(passed, waiting);
         last = sat;
+        earlier = failed;
         left -= 1;
     }
     replying(0, n, at, false)

@@ -1,23 +1,24 @@
 -- The first node, by rising number, at which there is something to do. Assumes nothing.
 use Prim.Native.Nat.{ℕ, zero, suc, _+_, _/_, _%_, _≤_, _<_}
 use native.Mathlib.Omega.{arith}
-use mathlib.Core.Path.{_≡_, refl, sym, _∙_, ap}
-use mathlib.Core.Logic.{⊎-elim}
+use mathlib.Core.Path.{_≡_, refl, sym, _∙_, ap, subst}
+use mathlib.Core.Logic.{_⊎_, inl, inr, ⊎-elim}
 use mathlib.Core.Bool.{Bool, true, false, not, cond, _&&_}
 use mathlib.Core.List.{List, [], _∷_, _++_, map}
-use borrow.Author.Tests.{eqb-true, eqb-false, eq-eqb, ne-eqb, ltb-true, ltb-false, not-true, not-false}
-use lib.Dec.{eqb, ltb}
+use borrow.Author.Tests.{eqb-true, eqb-false, eq-eqb, ne-eqb, not-true, not-false}
+use lib.Dec.{eqb}
 use lib.ListN.{length, getD}
 use Rattle.expression.specs.declared.Raw.{Raw}
-use Rattle.expression.specs.Form.{expressionOf}
-use Rattle.expression.specs.Kinds.{isRoleExpression}
-use Rattle.word.specs.laws.Bools.{false-true, and-parts}
+use Rattle.expression.specs.declared.Expression.{Expression}
+use Rattle.expression.specs.declared.Expression.the-variants as E
+use Rattle.expression.specs.Form.{pickExpression, expressionOf}
+use Rattle.word.specs.laws.Bools.{false-true}
 use Rattle.propagation.specs.laws.Flags.{decided}
 use Rattle.graph.specs.declared.Node.{Node}
 use Rattle.graph.specs.declared.Nodes.{Nodes}
-use Rattle.graph.specs.laws.Graph.{expressionFrom, nodeAt, nodesOf}
+use Rattle.graph.specs.laws.Graph.{rawFrom, expressionFrom, nodeAt}
 use Rattle.graph.specs.Graph.{nodeIn}
-use Rattle.graph.specs.laws.Columns.{node-in}
+use Rattle.graph.specs.laws.Columns.{nodes-length, node-in}
 use Rattle.tables.specs.Tables.{Tables}
 use Rattle.negotiation.specs.declared.Negotiation.{Negotiation}
 use Rattle.negotiation.specs.State.{State}
@@ -30,7 +31,6 @@ use Rattle.moves.specs.declared.Choice.the-variants as C
 use Rattle.moves.specs.Rules.{End, endIn}
 use Rattle.moves.specs.Move.{Move, credentialsFor, edgeCommand, moveFor, choiceAt, orNext, movesFrom, nextMove}
 use Rattle.moves.specs.laws.Own.{foundMove}
-use Rattle.candidates.specs.laws.Skipped.{Skipped}
 use Rattle.choice.specs.laws.RuleChoice.{at-processed}
 
 abbrev pub isNothing : Choice → Bool
@@ -142,67 +142,80 @@ pub found-nothing : (o : End) {i : ℕ} → NothingBefore o i → length (o .sta
 unfolding nextMove foundMove
 found-nothing o {i} P l = none-from o 0 (o .state .nodes) (λ t q. from-zero o (o .state .nodes) t (P .none t (omega arith)))
 
--- below q there is nothing to do at role targets
+abbrev pub isGoal : Expression → Bool
+isGoal (E.Entity a) = false
+isGoal (E.Role a) = false
+isGoal (E.Linked a r) = false
+isGoal (E.Intersection p) = false
+isGoal (E.Goal r) = true
+
+-- unless node q is a goal, there is nothing to do below it
 pub record Resting (T : Tables) (S : State) (q : ℕ) : Type 0 where
-  pub none : (i : ℕ) → i < q → isRoleExpression (nodeIn (S .nodes) i .expression) ≡ true → choiceAt (endIn T S) i (nodeIn (S .nodes) i) ≡ C.Nothing
+  pub stands : q < length (S .nodes)
+  pub none : isGoal (nodeIn (S .nodes) q .expression) ≡ false → NothingBefore (endIn T S) q
 
--- our side has not processed node i, and it is no role target below q
-unfoldable pub openAt : List ℕ → List ℕ → List ℕ → ℕ → ℕ → ℕ → Bool
-openAt K W S s q i = isUnprocessed s (getD W i 0) (getD S i 0) && not (ltb i q && eqb (getD K i 0) 2)
+-- a kind that no other expression has
+abbrev pub isGoalKind : ℕ → Bool
+isGoalKind k = not (eqb k 1) && not (eqb k 2) && not (eqb k 3) && not (eqb k 4)
 
-pub open-test : (K W S : List ℕ) (s q i : ℕ) {b : Bool} → b ≡ isUnprocessed s (getD W i 0) (getD S i 0)
-    → (b && not (ltb i q && eqb (getD K i 0) 2)) ≡ openAt K W S s q i
-unfolding openAt
-open-test K W S s q i e = ap (λ (b : Bool). b && not (ltb i q && eqb (getD K i 0) 2)) e
-
--- an expression of kind 2 is a role
-role-kind : (r : Raw) → r .kind ≡ 2 → isRoleExpression (expressionOf r) ≡ true
-role-kind r h =
-    ap (λ (k : ℕ). isRoleExpression (expressionOf (record {
-      kind = k;
+goal-kind : (r : Raw) → isGoalKind (r .kind) ≡ false → isGoal (expressionOf r) ≡ false
+goal-kind r h =
+    go (eqb (r .kind) 1) (eqb (r .kind) 2) (eqb (r .kind) 3) (eqb (r .kind) 4) (E.Entity (r .n0)) (E.Role (record { entity = r .n0; name = r .n1 }))
+    (E.Linked (record { entity = r .n0; name = r .n1 }) (r .n2))
+    (E.Intersection (record {
       count = r .count;
-      n0 = r .n0;
-      n1 = r .n1;
-      n2 = r .n2;
-      n3 = r .n3;
-      n4 = r .n4;
-      n5 = r .n5;
-      n6 = r .n6;
-      n7 = r .n7;
-    }))) h
-
--- nodes that our side has processed are passed over, and role targets at which there is nothing to do
-pub nothing-skip : (T : Tables) (n : Negotiation) {q i r : ℕ} → Resting T (stateOf n) q → NothingBefore (endIn T (stateOf n)) i
-    → Skipped (openAt (n .nodes .kind) (n .nodes .verifier) (n .nodes .state) (n .header .side) q) i (n .nodes .count) r
-    → NothingBefore (endIn T (stateOf n)) r
-unfolding endIn stateOf openAt expressionFrom
-nothing-skip T n {q} {i} {r} R P S =
-    record { none = λ j l. ⊎-elim (λ y. P .none j (ltb-true j i y)) (λ y. skipped j (ltb-false j i y) l) (decided (ltb j i)) }
+      first = record { entity = r .n0; name = r .n1 };
+      second = record { entity = r .n2; name = r .n3 };
+      third = record { entity = r .n4; name = r .n5 };
+      fourth = record { entity = r .n6; name = r .n7 };
+    })) (E.Goal (r .n0)) refl refl refl refl h
   where
-    N : Nodes
-    N = n .nodes
+    go : (a b c d : Bool) (v w x y z : Expression) → isGoal v ≡ false → isGoal w ≡ false → isGoal x ≡ false → isGoal y ≡ false
+        → (not a && not b && not c && not d) ≡ false
+        → isGoal (pickExpression a v (pickExpression b w (pickExpression c x (pickExpression d y z)))) ≡ false
+    go true b c d v w x y z p q s t h = p
+    go false true c d v w x y z p q s t h = q
+    go false false true d v w x y z p q s t h = s
+    go false false false true v w x y z p q s t h = t
+    go false false false false v w x y z p q s t h = absurd (false-true (sym h))
 
-    Idle : ℕ → Type 0
-    Idle j = choiceAt (endIn T (stateOf n)) j (nodeIn (nodesOf N) j) ≡ C.Nothing
+goal-node : (N : Nodes) (i : ℕ) → isGoalKind (getD (N .kind) i 0) ≡ false → isGoal (nodeAt N i .expression) ≡ false
+unfolding expressionFrom
+goal-node N i h = goal-kind (rawFrom (N .kind) (N .parts) (N .n0) (N .n1) (N .n2) (N .n3) (N .n4) (N .n5) (N .n6) (N .n7) i) h
 
-    processed : (j : ℕ) → nodeIn (nodesOf N) j ≡ nodeAt N j → isUnprocessed (n .header .side) (getD (N .verifier) j 0) (getD (N .state) j 0) ≡ false → Idle j
-    processed j e h =
-        let p : processedBy (n .header .side) (nodeAt N j) ≡ true = open-not (n .header .side) (nodeAt N j) h in
-        ap (choiceAt (endIn T (stateOf n)) j) e ∙ sym (at-processed T (stateOf n) j (nodeAt N j) {p = true} (sym p) refl refl)
+-- the search begins at q, or at the first node where q is a goal
+pub record BeginsAt (K : List ℕ) (q r : ℕ) : Type 0 where
+  pub begins : (r ≡ 0) ⊎ ((r ≡ q) × (isGoalKind (getD K q 0) ≡ false))
 
-    resting : (j : ℕ) → nodeIn (nodesOf N) j ≡ nodeAt N j → (ltb j q && eqb (getD (N .kind) j 0) 2) ≡ true → Idle j
-    resting j e h =
-        let p = and-parts (ltb j q) (eqb (getD (N .kind) j 0) 2) h in
-        R .none j (ltb-true j q (p .0)) (ap (λ (x : Node). isRoleExpression (x .expression)) e ∙ role-kind _ (eqb-true (getD (N .kind) j 0) 2 (p .1)))
+pub begins-first : {K : List ℕ} {q : ℕ} → BeginsAt K q 0
+begins-first = record { begins = inl refl }
 
-    by-test : (j : ℕ) → nodeIn (nodesOf N) j ≡ nodeAt N j → (a b : Bool)
-        → isUnprocessed (n .header .side) (getD (N .verifier) j 0) (getD (N .state) j 0) ≡ a → (ltb j q && eqb (getD (N .kind) j 0) 2) ≡ b
-        → (a && not b) ≡ false → Idle j
-    by-test j e false b x y h = processed j e x
-    by-test j e true true x y h = resting j e y
-    by-test j e true false x y h = absurd (false-true (sym h))
+pub begins-there : {K : List ℕ} {q : ℕ} → isGoalKind (getD K q 0) ≡ false → BeginsAt K q q
+begins-there h = record { begins = inr (refl, h) }
 
-    skipped : (j : ℕ) → i ≤ j → j < r → Idle j
-    skipped j l h =
-        let w = S .within in
-        by-test j (node-in N j (omega arith)) _ _ refl refl (S .none j l h)
+pub nothing-begins : (T : Tables) (n : Negotiation) {q r : ℕ} → Resting T (stateOf n) q → BeginsAt (n .nodes .kind) q r
+    → NothingBefore (endIn T (stateOf n)) r × (r ≤ n .nodes .count)
+unfolding endIn stateOf
+nothing-begins T n {q} {r} R b =
+    ⊎-elim
+    (λ e. (subst (NothingBefore (endIn T (stateOf n))) (sym e) (nothing-start (endIn T (stateOf n))), omega (arith, e)))
+    (λ e. (
+      subst (NothingBefore (endIn T (stateOf n))) (sym (e .0))
+          (R .none (ap (λ (x : Node). isGoal (x .expression)) (node-in (n .nodes) q inside) ∙ goal-node (n .nodes) q (e .1))),
+      omega (arith, e .0, inside),
+    ))
+    (b .begins)
+  where
+    inside : q < n .nodes .count
+    inside = omega (arith, R .stands, nodes-length (n .nodes))
+
+-- a node that our side has processed is passed over
+pub nothing-processed : (T : Tables) (n : Negotiation) {i : ℕ} → NothingBefore (endIn T (stateOf n)) i → i < n .nodes .count → {b : Bool}
+    → b ≡ isUnprocessed (n .header .side) (getD (n .nodes .verifier) i 0) (getD (n .nodes .state) i 0) → b ≡ false
+    → NothingBefore (endIn T (stateOf n)) (i + 1)
+unfolding endIn stateOf
+nothing-processed T n {i} P l e h =
+    let x : Node = nodeAt (n .nodes) i in
+    let p : processedBy (n .header .side) x ≡ true = open-not (n .header .side) x (sym e ∙ h) in
+    nothing-next (endIn T (stateOf n)) P (sym (node-in (n .nodes) i l)) {c = C.Nothing}
+    (at-processed T (stateOf n) i x {p = true} (sym p) refl refl) {b = true} refl refl

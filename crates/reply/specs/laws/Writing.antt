@@ -20,15 +20,17 @@ use Rattle.negotiation.specs.declared.Negotiation.{Negotiation}
 use Rattle.negotiation.specs.State.{State}
 use Rattle.negotiation.specs.laws.State.{stateOf}
 use Rattle.message.specs.Message.{bytesOf}
+use Rattle.moves.specs.declared.Found.{Found}
 use Rattle.moves.specs.Rules.{endIn}
 use Rattle.moves.specs.Move.{Move, nextMove}
 use Rattle.moves.specs.Carried.{carried, hasRoomFor}
+use Rattle.moves.specs.laws.Own.{foundMove}
 use Rattle.choice.specs.laws.Next.{NothingBefore, Resting}
 use Rattle.choice.specs.laws.Exhausted.{Exhausted, exhausted-both, idle-exhausted, exhausted-carried}
-use Rattle.choice.specs.laws.Waits.{Waits, Unchanged, waits-rests, waits-carried}
+use Rattle.choice.specs.laws.Waits.{Waits, Unchanged, waits-none, waits-rests, waits-carried}
 use Rattle.reply.specs.declared.Replying.{Replying}
 use Rattle.reply.specs.Reply.{Replied, stopped}
-use Rattle.legality.specs.laws.Going.{Going, going-few}
+use Rattle.legality.specs.laws.Going.{Going, going-few, going-edges}
 use Rattle.legality.specs.laws.Kept.{move-going}
 use Rattle.reply.specs.laws.Carry.{paste-length, pasted-behind}
 use Rattle.reply.specs.laws.Turns.{Next, stops, goes, byRoom, fitsBehind, behindMove, nextIn, behind, goOn, restFrom, behind-behind, bytes-behind}
@@ -179,19 +181,27 @@ exhausted-next T n n′ cs g e {p} {m} {k} {r} f l i ke re =
     subst (Exhausted T (stateOf n′)) (sym (re ∙ ap (λ (j : ℕ). cond (ltb p j) j p) ke))
     (subst (λ (U : State). Exhausted T U q) (sym e) (exhausted-carried T (stateOf n) q (going-few T (stateOf n) g) both cs))
 
--- Role targets that wait
+-- Targets that wait
 
 -- below the node of a move there was nothing left to do
-pub waits-next : (T : Tables) (n n′ : Negotiation) (cs : List Command) → Going T (stateOf n) → stateOf n′ ≡ carried (n .header .side) (stateOf n) cs
-    → {sat failed : List ℕ} → StateColumns (nodesOf (n .nodes)) (edgesOf (n .edges)) sat failed → {m k : ℕ} → m < n .nodes .count
-    → NothingBefore (endIn T (stateOf n)) m → k ≡ m → Waits T (stateOf n′) sat k
+pub waits-next : (T : Tables) (n n′ : Negotiation) (f : Found) {cs : List Command} → Going T (stateOf n) → cs ≡ foundMove (endIn T (stateOf n)) f
+    → stateOf n′ ≡ carried (n .header .side) (stateOf n) cs
+    → {sat failed : List ℕ} → StateColumns (nodesOf (n .nodes)) (edgesOf (n .edges)) sat failed → {k : ℕ} → f .node < n .nodes .count
+    → NothingBefore (endIn T (stateOf n)) (f .node) → k ≡ f .node → Waits T (stateOf n′) sat failed k
 unfolding stateOf
-waits-next T n n′ cs g e {sat} z {m} {k} l i ke =
-    subst (Waits T (stateOf n′) sat) (sym ke)
-    (subst (λ (U : State). Waits T U sat m) (sym e)
-    (waits-carried T (stateOf n) sat m (going-few T (stateOf n) g) (omega (arith, l, nodes-length (n .nodes))) i (z .is-sat) cs))
+waits-next T n n′ f g m e {sat} {failed} z l i ke =
+    subst (Waits T (stateOf n′) sat failed) (sym ke)
+    (subst (λ (U : State). Waits T U sat failed (f .node)) (sym (e ∙ ap (carried (n .header .side) (stateOf n)) m))
+    (waits-carried T (stateOf n) f (going-few T (stateOf n) g) (omega (arith, l, nodes-length (n .nodes))) (going-edges T (stateOf n) g) z i))
 
-pub waits-now : (T : Tables) (n : Negotiation) {sat failed last : List ℕ} → StateColumns (nodesOf (n .nodes)) (edgesOf (n .edges)) sat failed
-    → {q r : ℕ} → Waits T (stateOf n) last q → Unchanged sat last (n .nodes .count) q r → Resting T (stateOf n) r
+pub waits-start : (T : Tables) (n : Negotiation) (sat failed : List ℕ) → Going T (stateOf n) → Waits T (stateOf n) sat failed 0
 unfolding stateOf
-waits-now T n z w c = waits-rests T (stateOf n) (sym (nodes-length (n .nodes))) w (z .is-sat) c
+waits-start T n sat failed g = waits-none T (stateOf n) sat failed (omega (arith, g .some))
+
+pub waits-now : (T : Tables) (n : Negotiation) {sat failed last earlier : List ℕ} → Going T (stateOf n)
+    → StateColumns (nodesOf (n .nodes)) (edgesOf (n .edges)) sat failed
+    → {q r : ℕ} → Waits T (stateOf n) last earlier q → Unchanged (n .edges) sat last failed earlier q r → Resting T (stateOf n) r
+unfolding stateOf
+waits-now T n g z w c =
+    waits-rests T n (omega (arith, g .some, nodes-length (n .nodes))) (omega (arith, going-few T (stateOf n) g, nodes-length (n .nodes)))
+    (going-edges T (stateOf n) g) z w c

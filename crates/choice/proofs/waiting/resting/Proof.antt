@@ -1,40 +1,26 @@
-use Prim.Native.Nat.{_-_}
-use native.Mathlib.Omega.{arith}
-use Rattle.choice.specs.laws.Waits.{SameFlags, flags-start, flags-next, unchanged-none, unchanged-all}
+use borrow.Author.Needs.{needs}
+use borrow.Author.Tests.{not-true}
+use Rattle.choice.specs.laws.Waits.{flags-solutions, unchanged-none, unchanged-all}
 use Rattle.choice.proofs.waiting.resting.Statement.{statement}
 use Rattle.choice.proofs.waiting.resting.Tie as tie
 
-abbrev Inv-loop : tie.InvT-loop
-Inv-loop n sat last waiting j₀ j = SameFlags sat last j
-
-abbrev μ-loop : tie.MeasureT-loop
-μ-loop n sat last waiting j₀ j = n - j
-
-loop-holds : tie.Need-loop-holds Inv-loop μ-loop
-loop-holds c = flags-start _ _
-
-element-copy-out-if1 : tie.Need-element-copy-out-if1 Inv-loop μ-loop
-element-copy-out-if1 c = omega (arith, c .loop-test .taken, c .before .before .pre)
-
-element-copy-out-if1-2 : tie.Need-element-copy-out-if1-2 Inv-loop μ-loop
-element-copy-out-if1-2 c = omega (arith, c .before .loop-test .taken, c .before .before .before .pre)
-
-returns : tie.Need-returns Inv-loop μ-loop
+returns : tie.Need-returns
 returns c = unchanged-none
 
-add-j : tie.Need-add-j Inv-loop μ-loop
-add-j c = omega (arith, c .before .before .before .loop-test .taken, c .before .before .before .before .before .pre)
+returns-2 : tie.Need-returns-2
+returns-2 c =
+    unchanged-all (c .before .before .before .differ .ensures (c .before .before .if1 .left))
+    (flags-solutions (c .before .differ2 .ensures (not-true (c .before .differ2 .result) (c .if2 .taken))))
 
-loop-less : tie.Need-loop-less Inv-loop μ-loop
-loop-less c = omega (arith, c .before .before .before .loop-test .taken)
+returns-3 : tie.Need-returns-3
+returns-3 c =
+    let c7 = c .before .before .before .before .before .before .before in
+    unchanged-all (c7 .before .differ .ensures (c7 .if1 .left)) (c .before .is-settled .ensures (c .if3 .taken))
 
-loop-again : tie.Need-loop-again Inv-loop μ-loop
-loop-again c = flags-next (c .before .before .before .before .loop .inv) (c .if1 .left)
-
-returns-2 : tie.Need-returns-2 Inv-loop μ-loop
-returns-2 c = unchanged-all (c .before .loop .inv) (c .loop-test .left)
+returns-4 : tie.Need-returns-4
+returns-4 c = unchanged-none
 
 pub resting-spec : {M : Type 1} → statement M
 resting-spec =
     tie.close
-    (tie.spec Inv-loop μ-loop loop-holds element-copy-out-if1 element-copy-out-if1-2 returns add-j loop-less loop-again returns-2)
+    (tie.spec (λ c κs. search needs) returns (λ c κs. search needs) returns-2 (λ c κs. search needs) returns-3 returns-4)
