@@ -1,4 +1,3 @@
-use borrow.Author.Needs.{needs}
 use native.Mathlib.Omega.{arith}
 use Rattle.rt0.specs.declared.Pool.{Pool}
 use Rattle.rt0.specs.laws.Pool.{poolOf}
