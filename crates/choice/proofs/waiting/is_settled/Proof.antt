@@ -1,6 +1,5 @@
 use Prim.Native.Nat.{_-_}
 use native.Mathlib.Omega.{arith}
-use mathlib.Core.Path.{sym}
 use Rattle.word.specs.laws.Bools.{false-true}
 use Rattle.choice.specs.laws.Waits.{SameSolutions, solutions-start, solutions-next, solutions-all}
 use Rattle.choice.proofs.waiting.is_settled.Statement.{statement}
