@@ -8,7 +8,7 @@ use negotiation::Negotiation;
 use states::NodeStates;
 ghost use mathlib.Core.Path.{_≡_};
 ghost use mathlib.Core.Bool.{true};
-ghost use Prim.Native.Nat.{_≤_, _<_};
+ghost use Prim.Native.Nat.{_<_};
 ghost use Rattle.tables.specs.laws.Tables.{tablesOf};
 ghost use Rattle.graph.specs.laws.Graph.{nodesOf, edgesOf};
 ghost use Rattle.states.specs.laws.Brings.{NodesFormed, EdgesFormed};
