@@ -11,7 +11,7 @@ use graph::MONITOR;
 use graph::Node;
 use graph::Nodes;
 use graph::SOLUTION;
-use graph::expression_at;
+use rt0::body_at;
 use graph::is_named;
 use moves::Choice;
 use states::NodeStates;
@@ -72,17 +72,9 @@ fn expression_of(nodes: Nodes, c: usize) -> Expression
     requires { ⌜ c < 128 ⌝ }
     ensures { λ x. ⌜ x ≡ nodeAt nodes c .expression ⌝ }
 {
-    expression_at(
+    body_at(
         &nodes.kind,
-        &nodes.parts,
-        &nodes.n0,
-        &nodes.n1,
-        &nodes.n2,
-        &nodes.n3,
-        &nodes.n4,
-        &nodes.n5,
-        &nodes.n6,
-        &nodes.n7,
+        &nodes.number,
         c,
     )
 }

@@ -22,16 +22,8 @@ fn placed(n: usize, b: usize, e: Edge) -> bool
 // An edge between nodes has the form of its kind, however many nodes there are.
 fn formed<'a>(
     h: Header,
-    kind: &'a [u8; 128],
-    parts: &'a [u8; 128],
-    n0: &'a [u16; 128],
-    n1: &'a [u16; 128],
-    n2: &'a [u16; 128],
-    n3: &'a [u16; 128],
-    n4: &'a [u16; 128],
-    n5: &'a [u16; 128],
-    n6: &'a [u16; 128],
-    n7: &'a [u16; 128],
+    kind: &'a [u8; 256],
+    number: &'a [u16; 1024],
     subject: &'a [u16; 128],
     verifier: &'a [u8; 128],
     state: &'a [u8; 128],
@@ -39,21 +31,12 @@ fn formed<'a>(
 ) -> bool
     requires { ⌜ (e .parent < 128) × (e .child < 128) ⌝ }
     ensures { λ r. ⌜ ((n : ℕ) → e .parent < n → e .child < n → r ≡ formedOf h (nodesOf
-        (nodesFrom n (now (kind .entry)) (now (parts .entry)) (now (n0 .entry)) (now (n1 .entry))
-        (now (n2 .entry)) (now (n3 .entry)) (now (n4 .entry)) (now (n5 .entry)) (now (n6 .entry)) (now (n7 .entry)) (now (subject .entry))
+        (nodesFrom n (now (kind .entry)) (now (number .entry)) (now (subject .entry))
         (now (verifier .entry)) (now (state .entry)))) e) ⌝ }
 {
     let p = node_at(
         kind,
-        parts,
-        n0,
-        n1,
-        n2,
-        n3,
-        n4,
-        n5,
-        n6,
-        n7,
+        number,
         subject,
         verifier,
         state,
@@ -61,15 +44,7 @@ fn formed<'a>(
     );
     let c = node_at(
         kind,
-        parts,
-        n0,
-        n1,
-        n2,
-        n3,
-        n4,
-        n5,
-        n6,
-        n7,
+        number,
         subject,
         verifier,
         state,
@@ -82,16 +57,8 @@ fn formed<'a>(
 fn edge_fits<'a>(
     h: Header,
     n: usize,
-    kind: &'a [u8; 128],
-    parts: &'a [u8; 128],
-    n0: &'a [u16; 128],
-    n1: &'a [u16; 128],
-    n2: &'a [u16; 128],
-    n3: &'a [u16; 128],
-    n4: &'a [u16; 128],
-    n5: &'a [u16; 128],
-    n6: &'a [u16; 128],
-    n7: &'a [u16; 128],
+    kind: &'a [u8; 256],
+    number: &'a [u16; 1024],
     subject: &'a [u16; 128],
     verifier: &'a [u8; 128],
     state: &'a [u8; 128],
@@ -102,8 +69,7 @@ fn edge_fits<'a>(
     j: usize,
 ) -> bool
     requires { ⌜ (n ≤ 128) × (j < 256) × (b ≡ brought (edgesOf (edgesFrom j (now edge) (now parent) (now child)))) × (b ≤ n) ⌝ }
-    ensures { λ r. ⌜ r ≡ edgeFits h (nodesOf (nodesFrom n (now (kind .entry)) (now (parts .entry)) (now (n0 .entry)) (now (n1 .entry))
-        (now (n2 .entry)) (now (n3 .entry)) (now (n4 .entry)) (now (n5 .entry)) (now (n6 .entry)) (now (n7 .entry)) (now (subject .entry))
+    ensures { λ r. ⌜ r ≡ edgeFits h (nodesOf (nodesFrom n (now (kind .entry)) (now (number .entry)) (now (subject .entry))
         (now (verifier .entry)) (now (state .entry)))) (edgesOf (edgesFrom j (now (edge .entry)) (now (parent .entry)) (now (child .entry))))
         (edgeFrom (now (edge .entry)) (now (parent .entry)) (now (child .entry)) j) ⌝ }
 {
@@ -114,15 +80,7 @@ fn edge_fits<'a>(
     if !formed(
         h,
         kind,
-        parts,
-        n0,
-        n1,
-        n2,
-        n3,
-        n4,
-        n5,
-        n6,
-        n7,
+        number,
         subject,
         verifier,
         state,
@@ -137,16 +95,8 @@ fn edge_fits<'a>(
 pub fn edges_fit<'a>(
     h: Header,
     n: usize,
-    kind: &'a [u8; 128],
-    parts: &'a [u8; 128],
-    n0: &'a [u16; 128],
-    n1: &'a [u16; 128],
-    n2: &'a [u16; 128],
-    n3: &'a [u16; 128],
-    n4: &'a [u16; 128],
-    n5: &'a [u16; 128],
-    n6: &'a [u16; 128],
-    n7: &'a [u16; 128],
+    kind: &'a [u8; 256],
+    number: &'a [u16; 1024],
     subject: &'a [u16; 128],
     verifier: &'a [u8; 128],
     state: &'a [u8; 128],
@@ -156,8 +106,7 @@ pub fn edges_fit<'a>(
     child: &'a [u8; 256],
 ) -> bool
     requires { ⌜ (0 < n) × (n ≤ 128) × (m ≤ 256) ⌝ }
-    ensures { λ r. ⌜ r ≡ allBrought h (nodesOf (nodesFrom n (now (kind .entry)) (now (parts .entry)) (now (n0 .entry)) (now (n1 .entry))
-        (now (n2 .entry)) (now (n3 .entry)) (now (n4 .entry)) (now (n5 .entry)) (now (n6 .entry)) (now (n7 .entry)) (now (subject .entry))
+    ensures { λ r. ⌜ r ≡ allBrought h (nodesOf (nodesFrom n (now (kind .entry)) (now (number .entry)) (now (subject .entry))
         (now (verifier .entry)) (now (state .entry)))) (edgesOf (edgesFrom m (now (edge .entry)) (now (parent .entry)) (now (child .entry)))) ⌝ }
 {
     let mut b = 1;
@@ -167,15 +116,7 @@ pub fn edges_fit<'a>(
             h,
             n,
             kind,
-            parts,
-            n0,
-            n1,
-            n2,
-            n3,
-            n4,
-            n5,
-            n6,
-            n7,
+            number,
             subject,
             verifier,
             state,

@@ -48,16 +48,8 @@ fn records_sound<'a>(
     class: &'a [u8; 64],
     h: Header,
     n: usize,
-    kind: &'a [u8; 128],
-    parts: &'a [u8; 128],
-    n0: &'a [u16; 128],
-    n1: &'a [u16; 128],
-    n2: &'a [u16; 128],
-    n3: &'a [u16; 128],
-    n4: &'a [u16; 128],
-    n5: &'a [u16; 128],
-    n6: &'a [u16; 128],
-    n7: &'a [u16; 128],
+    kind: &'a [u8; 256],
+    number: &'a [u16; 1024],
     subject: &'a [u16; 128],
     verifier: &'a [u8; 128],
     state: &'a [u8; 128],
@@ -68,8 +60,7 @@ fn records_sound<'a>(
 ) -> bool
     requires { ⌜ (k ≤ 64) × Ascending k (now name) × (0 < n) × (n ≤ 128) × (q ≤ 128) ⌝ }
     ensures { λ b. ⌜ ((es : List Edge) → b ≡ recordsSound (namesOf (namesFrom k (now (name .entry)) (now (class .entry))))
-        (stateWith h (nodesOf (nodesFrom n (now (kind .entry)) (now (parts .entry)) (now (n0 .entry)) (now (n1 .entry)) (now (n2 .entry))
-        (now (n3 .entry)) (now (n4 .entry)) (now (n5 .entry)) (now (n6 .entry)) (now (n7 .entry)) (now (subject .entry)) (now (verifier .entry))
+        (stateWith h (nodesOf (nodesFrom n (now (kind .entry)) (now (number .entry)) (now (subject .entry)) (now (verifier .entry))
         (now (state .entry)))) es (credentials (poolOf q (now (heads .entry)) (now (kinds .entry)) (now (numbers .entry)))))) ⌝ }
 {
     if !nodes_fit(
@@ -78,15 +69,7 @@ fn records_sound<'a>(
         class,
         n,
         kind,
-        parts,
-        n0,
-        n1,
-        n2,
-        n3,
-        n4,
-        n5,
-        n6,
-        n7,
+        number,
         subject,
         verifier,
         state,
@@ -95,15 +78,7 @@ fn records_sound<'a>(
     }
     let primary = node_at(
         kind,
-        parts,
-        n0,
-        n1,
-        n2,
-        n3,
-        n4,
-        n5,
-        n6,
-        n7,
+        number,
         subject,
         verifier,
         state,
@@ -118,16 +93,8 @@ fn records_sound<'a>(
 // Every edge is justified, whatever the header.
 fn edges_justified<'a>(
     n: usize,
-    kind: &'a [u8; 128],
-    parts: &'a [u8; 128],
-    n0: &'a [u16; 128],
-    n1: &'a [u16; 128],
-    n2: &'a [u16; 128],
-    n3: &'a [u16; 128],
-    n4: &'a [u16; 128],
-    n5: &'a [u16; 128],
-    n6: &'a [u16; 128],
-    n7: &'a [u16; 128],
+    kind: &'a [u8; 256],
+    number: &'a [u16; 1024],
     subject: &'a [u16; 128],
     verifier: &'a [u8; 128],
     state: &'a [u8; 128],
@@ -141,26 +108,17 @@ fn edges_justified<'a>(
     numbers: &'a [u16; 1024],
 ) -> bool
     requires { ⌜ (n ≤ 128) × (m ≤ 256) × (q ≤ 128)
-        × NodesFormed (nodesOf (nodesFrom n (now kind) (now parts) (now n0) (now n1) (now n2) (now n3) (now n4) (now n5) (now n6) (now n7)
+        × NodesFormed (nodesOf (nodesFrom n (now kind) (now number)
         (now subject) (now verifier) (now state))) × Inside n (edgesFrom m (now edge) (now parent) (now child)) ⌝ }
     ensures { λ b. ⌜ ((h : Header) → b ≡ edgesJustified (stateWith h
-        (nodesOf (nodesFrom n (now (kind .entry)) (now (parts .entry)) (now (n0 .entry)) (now (n1 .entry)) (now (n2 .entry)) (now (n3 .entry))
-        (now (n4 .entry)) (now (n5 .entry)) (now (n6 .entry)) (now (n7 .entry)) (now (subject .entry)) (now (verifier .entry)) (now (state .entry))))
+        (nodesOf (nodesFrom n (now (kind .entry)) (now (number .entry)) (now (subject .entry)) (now (verifier .entry)) (now (state .entry))))
         (edgesOf (edgesFrom m (now (edge .entry)) (now (parent .entry)) (now (child .entry))))
         (credentials (poolOf q (now (heads .entry)) (now (kinds .entry)) (now (numbers .entry)))))) ⌝ }
 {
     if !edges_implied(
         n,
         kind,
-        parts,
-        n0,
-        n1,
-        n2,
-        n3,
-        n4,
-        n5,
-        n6,
-        n7,
+        number,
         m,
         edge,
         parent,
@@ -175,15 +133,7 @@ fn edges_justified<'a>(
     links_justified(
         n,
         kind,
-        parts,
-        n0,
-        n1,
-        n2,
-        n3,
-        n4,
-        n5,
-        n6,
-        n7,
+        number,
         subject,
         verifier,
         state,
@@ -210,15 +160,7 @@ fn graph_sound(names: Names, h: Header, nodes: Nodes, edges: Edges, shown: Pool)
         h,
         nodes.count,
         &nodes.kind,
-        &nodes.parts,
-        &nodes.n0,
-        &nodes.n1,
-        &nodes.n2,
-        &nodes.n3,
-        &nodes.n4,
-        &nodes.n5,
-        &nodes.n6,
-        &nodes.n7,
+        &nodes.number,
         &nodes.subject,
         &nodes.verifier,
         &nodes.state,
@@ -233,15 +175,7 @@ fn graph_sound(names: Names, h: Header, nodes: Nodes, edges: Edges, shown: Pool)
         h,
         nodes.count,
         &nodes.kind,
-        &nodes.parts,
-        &nodes.n0,
-        &nodes.n1,
-        &nodes.n2,
-        &nodes.n3,
-        &nodes.n4,
-        &nodes.n5,
-        &nodes.n6,
-        &nodes.n7,
+        &nodes.number,
         &nodes.subject,
         &nodes.verifier,
         &nodes.state,
@@ -255,15 +189,7 @@ fn graph_sound(names: Names, h: Header, nodes: Nodes, edges: Edges, shown: Pool)
     if !edges_justified(
         nodes.count,
         &nodes.kind,
-        &nodes.parts,
-        &nodes.n0,
-        &nodes.n1,
-        &nodes.n2,
-        &nodes.n3,
-        &nodes.n4,
-        &nodes.n5,
-        &nodes.n6,
-        &nodes.n7,
+        &nodes.number,
         &nodes.subject,
         &nodes.verifier,
         &nodes.state,

@@ -50,16 +50,8 @@ fn node_fits<'a>(
     k: usize,
     name: &'a [u16; 64],
     class: &'a [u8; 64],
-    kind: &'a [u8; 128],
-    parts: &'a [u8; 128],
-    n0: &'a [u16; 128],
-    n1: &'a [u16; 128],
-    n2: &'a [u16; 128],
-    n3: &'a [u16; 128],
-    n4: &'a [u16; 128],
-    n5: &'a [u16; 128],
-    n6: &'a [u16; 128],
-    n7: &'a [u16; 128],
+    kind: &'a [u8; 256],
+    number: &'a [u16; 1024],
     subject: &'a [u16; 128],
     verifier: &'a [u8; 128],
     state: &'a [u8; 128],
@@ -67,22 +59,12 @@ fn node_fits<'a>(
 ) -> bool
     requires { ⌜ (k ≤ 64) × Ascending k (now name) × (i < 128) ⌝ }
     ensures { λ b. ⌜ b ≡ nodeFits (namesOf (namesFrom k (now (name .entry)) (now (class .entry))))
-        (nodesOf (nodesFrom i (now (kind .entry)) (now (parts .entry)) (now (n0 .entry)) (now (n1 .entry)) (now (n2 .entry)) (now (n3 .entry))
-        (now (n4 .entry)) (now (n5 .entry)) (now (n6 .entry)) (now (n7 .entry)) (now (subject .entry)) (now (verifier .entry)) (now (state .entry))))
-        (nodeAt (nodesFrom i (now (kind .entry)) (now (parts .entry)) (now (n0 .entry)) (now (n1 .entry)) (now (n2 .entry)) (now (n3 .entry))
-        (now (n4 .entry)) (now (n5 .entry)) (now (n6 .entry)) (now (n7 .entry)) (now (subject .entry)) (now (verifier .entry)) (now (state .entry))) i) ⌝ }
+        (nodesOf (nodesFrom i (now (kind .entry)) (now (number .entry)) (now (subject .entry)) (now (verifier .entry)) (now (state .entry))))
+        (nodeAt (nodesFrom i (now (kind .entry)) (now (number .entry)) (now (subject .entry)) (now (verifier .entry)) (now (state .entry))) i) ⌝ }
 {
     let x = node_at(
         kind,
-        parts,
-        n0,
-        n1,
-        n2,
-        n3,
-        n4,
-        n5,
-        n6,
-        n7,
+        number,
         subject,
         verifier,
         state,
@@ -95,15 +77,7 @@ fn node_fits<'a>(
     find_node(
         i,
         kind,
-        parts,
-        n0,
-        n1,
-        n2,
-        n3,
-        n4,
-        n5,
-        n6,
-        n7,
+        number,
         subject,
         verifier,
         e,
@@ -119,24 +93,15 @@ pub fn nodes_fit<'a>(
     name: &'a [u16; 64],
     class: &'a [u8; 64],
     n: usize,
-    kind: &'a [u8; 128],
-    parts: &'a [u8; 128],
-    n0: &'a [u16; 128],
-    n1: &'a [u16; 128],
-    n2: &'a [u16; 128],
-    n3: &'a [u16; 128],
-    n4: &'a [u16; 128],
-    n5: &'a [u16; 128],
-    n6: &'a [u16; 128],
-    n7: &'a [u16; 128],
+    kind: &'a [u8; 256],
+    number: &'a [u16; 1024],
     subject: &'a [u16; 128],
     verifier: &'a [u8; 128],
     state: &'a [u8; 128],
 ) -> bool
     requires { ⌜ (k ≤ 64) × Ascending k (now name) × (n ≤ 128) ⌝ }
     ensures { λ b. ⌜ b ≡ inTurn (nodeFits (namesOf (namesFrom k (now (name .entry)) (now (class .entry))))) []
-        (nodesOf (nodesFrom n (now (kind .entry)) (now (parts .entry)) (now (n0 .entry)) (now (n1 .entry)) (now (n2 .entry)) (now (n3 .entry))
-        (now (n4 .entry)) (now (n5 .entry)) (now (n6 .entry)) (now (n7 .entry)) (now (subject .entry)) (now (verifier .entry)) (now (state .entry)))) ⌝ }
+        (nodesOf (nodesFrom n (now (kind .entry)) (now (number .entry)) (now (subject .entry)) (now (verifier .entry)) (now (state .entry)))) ⌝ }
 {
     let mut i = 0;
     while i < n {
@@ -145,15 +110,7 @@ pub fn nodes_fit<'a>(
             name,
             class,
             kind,
-            parts,
-            n0,
-            n1,
-            n2,
-            n3,
-            n4,
-            n5,
-            n6,
-            n7,
+            number,
             subject,
             verifier,
             state,

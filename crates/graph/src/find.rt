@@ -3,78 +3,37 @@ use crate::Edge;
 use crate::Node;
 use crate::Nodes;
 use expression::Expression;
-use expression::Raw;
-use expression::expression_of;
 use expression::same;
 use numbers::MOST_NODES;
+use rt0::body_at;
 use word::wide;
 ghost use mathlib.Core.Path.{_≡_};
 ghost use mathlib.Core.List.{List};
 ghost use Prim.Native.Nat.{ℕ, _≤_, _<_};
 ghost use lib.ListN.{getD};
-ghost use Rattle.graph.specs.laws.Graph.{nodesFrom, edgesFrom, expressionFrom, edgeFrom, nodesOf, edgesOf, edgeIn};
+ghost use Rattle.rt0.specs.laws.Pool.{bodyIn};
+ghost use Rattle.graph.specs.laws.Graph.{nodesFrom, edgesFrom, edgeFrom, nodesOf, edgesOf, edgeIn};
 ghost use Rattle.graph.specs.Graph.{nodeIn};
 ghost use Rattle.graph.specs.Find.{findNode, sameEdge, hasEdge};
 ghost use Rattle.graph.specs.laws.Find.{isNodeBy};
 ghost use mathlib.Core.Bool.{true};
 ghost use Rattle.numbers.specs.Sizes.{MOST-NODES};
 
-// The expression of node i.
-pub fn expression_at<'a>(
-    kind: &'a [u8; 128],
-    parts: &'a [u8; 128],
-    n0: &'a [u16; 128],
-    n1: &'a [u16; 128],
-    n2: &'a [u16; 128],
-    n3: &'a [u16; 128],
-    n4: &'a [u16; 128],
-    n5: &'a [u16; 128],
-    n6: &'a [u16; 128],
-    n7: &'a [u16; 128],
-    i: usize,
-) -> Expression
-    requires { ⌜ i < 128 ⌝ }
-    ensures { λ r. ⌜ r ≡ expressionFrom (now (kind .entry)) (now (parts .entry)) (now (n0 .entry)) (now (n1 .entry)) (now (n2 .entry))
-        (now (n3 .entry)) (now (n4 .entry)) (now (n5 .entry)) (now (n6 .entry)) (now (n7 .entry)) i ⌝ }
-{
-    expression_of(Raw {
-        kind: kind[i],
-        count: parts[i],
-        n0: n0[i],
-        n1: n1[i],
-        n2: n2[i],
-        n3: n3[i],
-        n4: n4[i],
-        n5: n5[i],
-        n6: n6[i],
-        n7: n7[i],
-    })
-}
-
 // Node i, however many nodes there are.
 pub fn node_at<'a>(
-    kind: &'a [u8; 128],
-    parts: &'a [u8; 128],
-    n0: &'a [u16; 128],
-    n1: &'a [u16; 128],
-    n2: &'a [u16; 128],
-    n3: &'a [u16; 128],
-    n4: &'a [u16; 128],
-    n5: &'a [u16; 128],
-    n6: &'a [u16; 128],
-    n7: &'a [u16; 128],
+    kind: &'a [u8; 256],
+    number: &'a [u16; 1024],
     subject: &'a [u16; 128],
     verifier: &'a [u8; 128],
     state: &'a [u8; 128],
     i: usize,
 ) -> Node
     requires { ⌜ i < 128 ⌝ }
-    ensures { λ r. ⌜ ((n : ℕ) → i < n → r ≡ nodeIn (nodesOf (nodesFrom n (now (kind .entry)) (now (parts .entry)) (now (n0 .entry)) (now (n1 .entry)) (now (n2 .entry))
-        (now (n3 .entry)) (now (n4 .entry)) (now (n5 .entry)) (now (n6 .entry)) (now (n7 .entry)) (now (subject .entry)) (now (verifier .entry))
+    ensures { λ r. ⌜ ((n : ℕ) → i < n → r ≡ nodeIn (nodesOf (nodesFrom n (now (kind .entry)) (now (number .entry)) (now (subject .entry)) (now (verifier .entry))
         (now (state .entry)))) i) ⌝ }
 {
     Node {
-        expression: expression_at(kind, parts, n0, n1, n2, n3, n4, n5, n6, n7, i),
+        expression: body_at(kind, number, i),
         subject: subject[i],
         verifier: verifier[i],
         state: state[i],
@@ -83,16 +42,8 @@ pub fn node_at<'a>(
 
 // Whether node i has expression x, verifier v and subject s.
 fn is_node<'a>(
-    kind: &'a [u8; 128],
-    parts: &'a [u8; 128],
-    n0: &'a [u16; 128],
-    n1: &'a [u16; 128],
-    n2: &'a [u16; 128],
-    n3: &'a [u16; 128],
-    n4: &'a [u16; 128],
-    n5: &'a [u16; 128],
-    n6: &'a [u16; 128],
-    n7: &'a [u16; 128],
+    kind: &'a [u8; 256],
+    number: &'a [u16; 1024],
     subject: &'a [u16; 128],
     verifier: &'a [u8; 128],
     x: Expression,
@@ -101,15 +52,14 @@ fn is_node<'a>(
     i: usize,
 ) -> bool
     requires { ⌜ i < 128 ⌝ }
-    ensures { λ r. ⌜ r ≡ isNodeBy x v s (expressionFrom (now (kind .entry)) (now (parts .entry)) (now (n0 .entry)) (now (n1 .entry)) (now (n2 .entry))
-        (now (n3 .entry)) (now (n4 .entry)) (now (n5 .entry)) (now (n6 .entry)) (now (n7 .entry)) i) (getD (now (verifier .entry)) i 0)
+    ensures { λ r. ⌜ r ≡ isNodeBy x v s (bodyIn (now (kind .entry)) (now (number .entry)) i) (getD (now (verifier .entry)) i 0)
         (getD (now (subject .entry)) i 0) ⌝ }
 {
     if (verifier[i] != v) | (subject[i] != s) {
         return false;
     }
     same(
-        expression_at(kind, parts, n0, n1, n2, n3, n4, n5, n6, n7, i),
+        body_at(kind, number, i),
         x,
     )
 }
@@ -117,16 +67,8 @@ fn is_node<'a>(
 // The first node with expression x, verifier v and subject s, or 128, whatever the states.
 pub fn find_node<'a>(
     n: usize,
-    kind: &'a [u8; 128],
-    parts: &'a [u8; 128],
-    n0: &'a [u16; 128],
-    n1: &'a [u16; 128],
-    n2: &'a [u16; 128],
-    n3: &'a [u16; 128],
-    n4: &'a [u16; 128],
-    n5: &'a [u16; 128],
-    n6: &'a [u16; 128],
-    n7: &'a [u16; 128],
+    kind: &'a [u8; 256],
+    number: &'a [u16; 1024],
     subject: &'a [u16; 128],
     verifier: &'a [u8; 128],
     x: Expression,
@@ -134,23 +76,14 @@ pub fn find_node<'a>(
     s: u16,
 ) -> usize
     requires { ⌜ n ≤ 128 ⌝ }
-    ensures { λ r. ⌜ ((state : List ℕ) → r ≡ findNode (nodesOf (nodesFrom n (now (kind .entry)) (now (parts .entry)) (now (n0 .entry)) (now (n1 .entry))
-        (now (n2 .entry)) (now (n3 .entry)) (now (n4 .entry)) (now (n5 .entry)) (now (n6 .entry)) (now (n7 .entry)) (now (subject .entry))
+    ensures { λ r. ⌜ ((state : List ℕ) → r ≡ findNode (nodesOf (nodesFrom n (now (kind .entry)) (now (number .entry)) (now (subject .entry))
         (now (verifier .entry)) state)) x v s) ⌝ }
 {
     let mut i = 0;
     while i < n {
         if is_node(
             kind,
-            parts,
-            n0,
-            n1,
-            n2,
-            n3,
-            n4,
-            n5,
-            n6,
-            n7,
+            number,
             subject,
             verifier,
             x,
@@ -196,7 +129,7 @@ fn is_edge<'a>(
     (kind[j] == x.kind) & (parent[j] == x.parent) & (child[j] == x.child)
 }
 
-// Whether x is one of the edges.
+// Whether x is one of the edges. All are looked at: the loop has no exit but its end, so that several are compared at once.
 pub fn has_edge<'a>(
     m: usize,
     kind: &'a [u8; 256],
@@ -207,14 +140,13 @@ pub fn has_edge<'a>(
     requires { ⌜ m ≤ 256 ⌝ }
     ensures { λ r. ⌜ r ≡ hasEdge (edgesOf (edgesFrom m (now (kind .entry)) (now (parent .entry)) (now (child .entry)))) x ⌝ }
 {
+    let mut found = false;
     let mut j = 0;
     while j < m {
-        if is_edge(kind, parent, child, x, j) {
-            return true;
-        }
+        found = found | is_edge(kind, parent, child, x, j);
         j += 1;
     }
-    false
+    found
 }
 
 // Node i.
@@ -224,15 +156,7 @@ pub fn node_of(nodes: Nodes, i: u8) -> Node
 {
     node_at(
         &nodes.kind,
-        &nodes.parts,
-        &nodes.n0,
-        &nodes.n1,
-        &nodes.n2,
-        &nodes.n3,
-        &nodes.n4,
-        &nodes.n5,
-        &nodes.n6,
-        &nodes.n7,
+        &nodes.number,
         &nodes.subject,
         &nodes.verifier,
         &nodes.state,

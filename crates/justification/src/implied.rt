@@ -2,7 +2,7 @@
 use closure::dependents;
 use expression::Expression;
 use graph::IMPLICATION;
-use graph::expression_at;
+use rt0::body_at;
 use relation::column;
 use relation::in_column;
 use relation::relation;
@@ -13,9 +13,9 @@ ghost use Prim.Native.Nat.{ℕ, _≤_, _<_};
 ghost use mathlib.Core.List.{List};
 ghost use lib.ListN.{getD};
 ghost use Rattle.rt0.specs.Lists.{all};
-ghost use Rattle.rt0.specs.laws.Pool.{poolOf, credentials};
+ghost use Rattle.rt0.specs.laws.Pool.{poolOf, credentials, bodyIn};
 ghost use Rattle.graph.specs.declared.Nodes.{Nodes};
-ghost use Rattle.graph.specs.laws.Graph.{expressionFrom, nodesFrom, edgesFrom, edgeFrom, nodesOf, edgesOf};
+ghost use Rattle.graph.specs.laws.Graph.{nodesFrom, edgesFrom, edgeFrom, nodesOf, edgesOf};
 ghost use Rattle.rules.specs.laws.Table.{chosen};
 ghost use Rattle.rules.specs.laws.Ruled.{Ruled};
 ghost use Rattle.closure.specs.laws.Rules.{rulesOf};
@@ -43,16 +43,8 @@ fn children<'a>(m: usize, edge: &'a [u8; 256], child: &'a [u8; 256]) -> [u8; 128
 // Whether edge j, if it is of kind 1 and from node c, is implied; e is the expression of c, and vals answers what is from it,
 // whatever credentials are on.
 fn implied_at<'a>(
-    kind: &'a [u8; 128],
-    parts: &'a [u8; 128],
-    n0: &'a [u16; 128],
-    n1: &'a [u16; 128],
-    n2: &'a [u16; 128],
-    n3: &'a [u16; 128],
-    n4: &'a [u16; 128],
-    n5: &'a [u16; 128],
-    n6: &'a [u16; 128],
-    n7: &'a [u16; 128],
+    kind: &'a [u8; 256],
+    number: &'a [u16; 1024],
     edge: &'a [u8; 256],
     parent: &'a [u8; 256],
     child: &'a [u8; 256],
@@ -67,33 +59,24 @@ fn implied_at<'a>(
     j: usize,
 ) -> bool
     requires { ⌜ (j < 256) × (getD (now parent) j 0 < 128) × (q ≤ 128)
-        × (e ≡ expressionFrom (now kind) (now parts) (now n0) (now n1) (now n2) (now n3) (now n4) (now n5) (now n6) (now n7) c) ⌝ }
+        × (e ≡ bodyIn (now kind) (now number) c) ⌝ }
     ensures { λ r. ⌜ ((on : List ℕ) → Relation (poolOf q (now (heads .entry)) (now (kinds .entry)) (now (numbers .entry))) on (now (mem .entry))
         → Answers (poolOf q (now (heads .entry)) (now (kinds .entry)) (now (numbers .entry))) on e 0 (now (vals .entry))
         → r ≡ impliedFrom (chosen (poolOf q (now (heads .entry)) (now (kinds .entry)) (now (numbers .entry))) on)
-        (expressionFrom (now (kind .entry)) (now (parts .entry)) (now (n0 .entry)) (now (n1 .entry)) (now (n2 .entry)) (now (n3 .entry))
-        (now (n4 .entry)) (now (n5 .entry)) (now (n6 .entry)) (now (n7 .entry))) c
+        (bodyIn (now (kind .entry)) (now (number .entry))) c
         (edgeFrom (now (edge .entry)) (now (parent .entry)) (now (child .entry)) j)) ⌝ }
 {
     if (edge[j] != IMPLICATION) | (wide(child[j]) != c) {
         return true;
     }
-    let f = expression_at(kind, parts, n0, n1, n2, n3, n4, n5, n6, n7, wide(parent[j]));
+    let f = body_at(kind, number, wide(parent[j]));
     in_column(q, heads, kinds, numbers, mem, vals, f, e)
 }
 
 // Whether the edges of kind 1 from node c are implied, likewise.
 fn implied_from<'a>(
-    kind: &'a [u8; 128],
-    parts: &'a [u8; 128],
-    n0: &'a [u16; 128],
-    n1: &'a [u16; 128],
-    n2: &'a [u16; 128],
-    n3: &'a [u16; 128],
-    n4: &'a [u16; 128],
-    n5: &'a [u16; 128],
-    n6: &'a [u16; 128],
-    n7: &'a [u16; 128],
+    kind: &'a [u8; 256],
+    number: &'a [u16; 1024],
     m: usize,
     edge: &'a [u8; 256],
     parent: &'a [u8; 256],
@@ -108,27 +91,18 @@ fn implied_from<'a>(
     c: usize,
 ) -> bool
     requires { ⌜ (m ≤ 256) × Inside 128 (edgesFrom m (now edge) (now parent) (now child)) × (q ≤ 128)
-        × (e ≡ expressionFrom (now kind) (now parts) (now n0) (now n1) (now n2) (now n3) (now n4) (now n5) (now n6) (now n7) c) ⌝ }
+        × (e ≡ bodyIn (now kind) (now number) c) ⌝ }
     ensures { λ r. ⌜ ((on : List ℕ) → Relation (poolOf q (now (heads .entry)) (now (kinds .entry)) (now (numbers .entry))) on (now (mem .entry))
         → Answers (poolOf q (now (heads .entry)) (now (kinds .entry)) (now (numbers .entry))) on e 0 (now (vals .entry))
         → r ≡ allFrom (chosen (poolOf q (now (heads .entry)) (now (kinds .entry)) (now (numbers .entry))) on)
-        (expressionFrom (now (kind .entry)) (now (parts .entry)) (now (n0 .entry)) (now (n1 .entry)) (now (n2 .entry)) (now (n3 .entry))
-        (now (n4 .entry)) (now (n5 .entry)) (now (n6 .entry)) (now (n7 .entry)))
+        (bodyIn (now (kind .entry)) (now (number .entry)))
         (edgesOf (edgesFrom m (now (edge .entry)) (now (parent .entry)) (now (child .entry)))) c) ⌝ }
 {
     let mut j = 0;
     while j < m {
         if !implied_at(
             kind,
-            parts,
-            n0,
-            n1,
-            n2,
-            n3,
-            n4,
-            n5,
-            n6,
-            n7,
+            number,
             edge,
             parent,
             child,
@@ -151,16 +125,8 @@ fn implied_from<'a>(
 
 // Whether the edges of kind 1 from node c are implied, the children of all being used.
 fn node_implied<'a>(
-    kind: &'a [u8; 128],
-    parts: &'a [u8; 128],
-    n0: &'a [u16; 128],
-    n1: &'a [u16; 128],
-    n2: &'a [u16; 128],
-    n3: &'a [u16; 128],
-    n4: &'a [u16; 128],
-    n5: &'a [u16; 128],
-    n6: &'a [u16; 128],
-    n7: &'a [u16; 128],
+    kind: &'a [u8; 256],
+    number: &'a [u16; 1024],
     m: usize,
     edge: &'a [u8; 256],
     parent: &'a [u8; 256],
@@ -185,14 +151,13 @@ fn node_implied<'a>(
         × Relation (poolOf q (now heads) (now kinds) (now numbers)) (now on) (now mem)
         × Children (now edge) (now child) m (now used) ⌝ }
     ensures { λ r. ⌜ r ≡ allFrom (chosen (poolOf q (now (heads .entry)) (now (kinds .entry)) (now (numbers .entry))) (now (on .entry)))
-        (expressionFrom (now (kind .entry)) (now (parts .entry)) (now (n0 .entry)) (now (n1 .entry)) (now (n2 .entry)) (now (n3 .entry))
-        (now (n4 .entry)) (now (n5 .entry)) (now (n6 .entry)) (now (n7 .entry)))
+        (bodyIn (now (kind .entry)) (now (number .entry)))
         (edgesOf (edgesFrom m (now (edge .entry)) (now (parent .entry)) (now (child .entry)))) c ⌝ }
 {
     if used[c] != 1 {
         return true;
     }
-    let e = expression_at(kind, parts, n0, n1, n2, n3, n4, n5, n6, n7, c);
+    let e = body_at(kind, number, c);
     let vals = column(
         q,
         heads,
@@ -210,15 +175,7 @@ fn node_implied<'a>(
     );
     implied_from(
         kind,
-        parts,
-        n0,
-        n1,
-        n2,
-        n3,
-        n4,
-        n5,
-        n6,
-        n7,
+        number,
         m,
         edge,
         parent,
@@ -237,16 +194,8 @@ fn node_implied<'a>(
 // Whether the edges of kind 1 from n nodes are implied.
 fn nodes_implied<'a>(
     n: usize,
-    kind: &'a [u8; 128],
-    parts: &'a [u8; 128],
-    n0: &'a [u16; 128],
-    n1: &'a [u16; 128],
-    n2: &'a [u16; 128],
-    n3: &'a [u16; 128],
-    n4: &'a [u16; 128],
-    n5: &'a [u16; 128],
-    n6: &'a [u16; 128],
-    n7: &'a [u16; 128],
+    kind: &'a [u8; 256],
+    number: &'a [u16; 1024],
     m: usize,
     edge: &'a [u8; 256],
     parent: &'a [u8; 256],
@@ -271,23 +220,14 @@ fn nodes_implied<'a>(
         × Relation (poolOf q (now heads) (now kinds) (now numbers)) (now on) (now mem)
         × Children (now edge) (now child) m (now used) ⌝ }
     ensures { λ r. ⌜ r ≡ allImplied (chosen (poolOf q (now (heads .entry)) (now (kinds .entry)) (now (numbers .entry))) (now (on .entry)))
-        (expressionFrom (now (kind .entry)) (now (parts .entry)) (now (n0 .entry)) (now (n1 .entry)) (now (n2 .entry)) (now (n3 .entry))
-        (now (n4 .entry)) (now (n5 .entry)) (now (n6 .entry)) (now (n7 .entry)))
+        (bodyIn (now (kind .entry)) (now (number .entry)))
         (edgesOf (edgesFrom m (now (edge .entry)) (now (parent .entry)) (now (child .entry)))) ⌝ }
 {
     let mut c = 0;
     while c < n {
         if !node_implied(
             kind,
-            parts,
-            n0,
-            n1,
-            n2,
-            n3,
-            n4,
-            n5,
-            n6,
-            n7,
+            number,
             m,
             edge,
             parent,
@@ -317,16 +257,8 @@ fn nodes_implied<'a>(
 // Whether every edge of kind 1 is implied by the credentials, whatever the nodes' other columns: one relation for all, and one column for each child.
 pub fn edges_implied<'a>(
     n: usize,
-    kind: &'a [u8; 128],
-    parts: &'a [u8; 128],
-    n0: &'a [u16; 128],
-    n1: &'a [u16; 128],
-    n2: &'a [u16; 128],
-    n3: &'a [u16; 128],
-    n4: &'a [u16; 128],
-    n5: &'a [u16; 128],
-    n6: &'a [u16; 128],
-    n7: &'a [u16; 128],
+    kind: &'a [u8; 256],
+    number: &'a [u16; 1024],
     m: usize,
     edge: &'a [u8; 256],
     parent: &'a [u8; 256],
@@ -338,8 +270,7 @@ pub fn edges_implied<'a>(
 ) -> bool
     requires { ⌜ (n ≤ 128) × (m ≤ 256) × (q ≤ 128) × Inside n (edgesFrom m (now edge) (now parent) (now child)) ⌝ }
     ensures { λ r. ⌜ ((o : Nodes) → r ≡ all (impliedIf (credentials (poolOf q (now (heads .entry)) (now (kinds .entry)) (now (numbers .entry))))
-        (nodesOf (nodesFrom n (now (kind .entry)) (now (parts .entry)) (now (n0 .entry)) (now (n1 .entry)) (now (n2 .entry)) (now (n3 .entry))
-        (now (n4 .entry)) (now (n5 .entry)) (now (n6 .entry)) (now (n7 .entry)) (o .subject) (o .verifier) (o .state))))
+        (nodesOf (nodesFrom n (now (kind .entry)) (now (number .entry)) (o .subject) (o .verifier) (o .state))))
         (edgesOf (edgesFrom m (now (edge .entry)) (now (parent .entry)) (now (child .entry))))) ⌝ }
 {
     let used = children(m, edge, child);
@@ -362,15 +293,7 @@ pub fn edges_implied<'a>(
     nodes_implied(
         n,
         kind,
-        parts,
-        n0,
-        n1,
-        n2,
-        n3,
-        n4,
-        n5,
-        n6,
-        n7,
+        number,
         m,
         edge,
         parent,

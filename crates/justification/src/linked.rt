@@ -28,16 +28,8 @@ ghost use Rattle.states.specs.laws.Brings.{NodesFormed, Joined, Needs};
 // Whether a linking implication edge is justified behind the first m edges, which satisfy the nodes of sat.
 fn is_monitored<'a>(
     n: usize,
-    kind: &'a [u8; 128],
-    parts: &'a [u8; 128],
-    n0: &'a [u16; 128],
-    n1: &'a [u16; 128],
-    n2: &'a [u16; 128],
-    n3: &'a [u16; 128],
-    n4: &'a [u16; 128],
-    n5: &'a [u16; 128],
-    n6: &'a [u16; 128],
-    n7: &'a [u16; 128],
+    kind: &'a [u8; 256],
+    number: &'a [u16; 1024],
     subject: &'a [u16; 128],
     verifier: &'a [u8; 128],
     state: &'a [u8; 128],
@@ -49,23 +41,14 @@ fn is_monitored<'a>(
     e: Edge,
 ) -> bool
     requires { ⌜ (n ≤ 128) × (m ≤ 256) × (e .parent < n) × (e .child < n)
-        × Says (nodesOf (nodesFrom n (now kind) (now parts) (now n0) (now n1) (now n2) (now n3) (now n4) (now n5) (now n6) (now n7) (now subject)
+        × Says (nodesOf (nodesFrom n (now kind) (now number) (now subject)
         (now verifier) (now state))) (edgesOf (edgesFrom m (now edge) (now parent) (now child))) (now sat) ⌝ }
-    ensures { λ r. ⌜ r ≡ monitored (nodesOf (nodesFrom n (now (kind .entry)) (now (parts .entry)) (now (n0 .entry)) (now (n1 .entry))
-        (now (n2 .entry)) (now (n3 .entry)) (now (n4 .entry)) (now (n5 .entry)) (now (n6 .entry)) (now (n7 .entry)) (now (subject .entry))
+    ensures { λ r. ⌜ r ≡ monitored (nodesOf (nodesFrom n (now (kind .entry)) (now (number .entry)) (now (subject .entry))
         (now (verifier .entry)) (now (state .entry)))) (edgesOf (edgesFrom m (now (edge .entry)) (now (parent .entry)) (now (child .entry)))) e ⌝ }
 {
     let p = node_at(
         kind,
-        parts,
-        n0,
-        n1,
-        n2,
-        n3,
-        n4,
-        n5,
-        n6,
-        n7,
+        number,
         subject,
         verifier,
         state,
@@ -73,15 +56,7 @@ fn is_monitored<'a>(
     );
     let c = node_at(
         kind,
-        parts,
-        n0,
-        n1,
-        n2,
-        n3,
-        n4,
-        n5,
-        n6,
-        n7,
+        number,
         subject,
         verifier,
         state,
@@ -91,15 +66,7 @@ fn is_monitored<'a>(
     is_monitored_for(
         n,
         kind,
-        parts,
-        n0,
-        n1,
-        n2,
-        n3,
-        n4,
-        n5,
-        n6,
-        n7,
+        number,
         m,
         edge,
         parent,
@@ -114,16 +81,8 @@ fn is_monitored<'a>(
 // Whether edge m, if it is a linking implication edge, is justified behind those before it.
 fn is_monitored_if<'a>(
     n: usize,
-    kind: &'a [u8; 128],
-    parts: &'a [u8; 128],
-    n0: &'a [u16; 128],
-    n1: &'a [u16; 128],
-    n2: &'a [u16; 128],
-    n3: &'a [u16; 128],
-    n4: &'a [u16; 128],
-    n5: &'a [u16; 128],
-    n6: &'a [u16; 128],
-    n7: &'a [u16; 128],
+    kind: &'a [u8; 256],
+    number: &'a [u16; 1024],
     subject: &'a [u16; 128],
     verifier: &'a [u8; 128],
     state: &'a [u8; 128],
@@ -135,10 +94,9 @@ fn is_monitored_if<'a>(
     e: Edge,
 ) -> bool
     requires { ⌜ (n ≤ 128) × (m ≤ 256) × (e .parent < n) × (e .child < n)
-        × Says (nodesOf (nodesFrom n (now kind) (now parts) (now n0) (now n1) (now n2) (now n3) (now n4) (now n5) (now n6) (now n7) (now subject)
+        × Says (nodesOf (nodesFrom n (now kind) (now number) (now subject)
         (now verifier) (now state))) (edgesOf (edgesFrom m (now edge) (now parent) (now child))) (now sat) ⌝ }
-    ensures { λ r. ⌜ r ≡ monitoredIf (nodesOf (nodesFrom n (now (kind .entry)) (now (parts .entry)) (now (n0 .entry)) (now (n1 .entry))
-        (now (n2 .entry)) (now (n3 .entry)) (now (n4 .entry)) (now (n5 .entry)) (now (n6 .entry)) (now (n7 .entry)) (now (subject .entry))
+    ensures { λ r. ⌜ r ≡ monitoredIf (nodesOf (nodesFrom n (now (kind .entry)) (now (number .entry)) (now (subject .entry))
         (now (verifier .entry)) (now (state .entry)))) (edgesOf (edgesFrom m (now (edge .entry)) (now (parent .entry)) (now (child .entry)))) e ⌝ }
 {
     if e.kind != LINKING_IMPLICATION {
@@ -147,15 +105,7 @@ fn is_monitored_if<'a>(
     is_monitored(
         n,
         kind,
-        parts,
-        n0,
-        n1,
-        n2,
-        n3,
-        n4,
-        n5,
-        n6,
-        n7,
+        number,
         subject,
         verifier,
         state,
@@ -171,16 +121,8 @@ fn is_monitored_if<'a>(
 // Whether the linking implication edges are justified by the edges before them; the satisfied nodes grow with the edges.
 fn linked_in_turn<'a>(
     n: usize,
-    kind: &'a [u8; 128],
-    parts: &'a [u8; 128],
-    n0: &'a [u16; 128],
-    n1: &'a [u16; 128],
-    n2: &'a [u16; 128],
-    n3: &'a [u16; 128],
-    n4: &'a [u16; 128],
-    n5: &'a [u16; 128],
-    n6: &'a [u16; 128],
-    n7: &'a [u16; 128],
+    kind: &'a [u8; 256],
+    number: &'a [u16; 1024],
     subject: &'a [u16; 128],
     verifier: &'a [u8; 128],
     state: &'a [u8; 128],
@@ -199,16 +141,15 @@ fn linked_in_turn<'a>(
     tail: usize,
 ) -> bool
     requires { ⌜ (n ≤ 128) × (m ≤ 256) × NodesFormed
-        (nodesOf (nodesFrom n (now kind) (now parts) (now n0) (now n1) (now n2) (now n3) (now n4) (now n5) (now n6) (now n7) (now subject)
+        (nodesOf (nodesFrom n (now kind) (now number) (now subject)
         (now verifier) (now state))) × Inside n (edgesFrom m (now edge) (now parent) (now child))
-        × Joined (nodesOf (nodesFrom n (now kind) (now parts) (now n0) (now n1) (now n2) (now n3) (now n4) (now n5) (now n6) (now n7) (now subject)
+        × Joined (nodesOf (nodesFrom n (now kind) (now number) (now subject)
         (now verifier) (now state))) (edgesOf (edgesFrom m (now edge) (now parent) (now child))) (now from) (now slot)
-        × Needs (nodesOf (nodesFrom n (now kind) (now parts) (now n0) (now n1) (now n2) (now n3) (now n4) (now n5) (now n6) (now n7) (now subject)
+        × Needs (nodesOf (nodesFrom n (now kind) (now number) (now subject)
         (now verifier) (now state))) (now need) × Chained 0 (now from) (now head) (now next)
         × Done 0 (graph (now from) (now slot) (now need)) (work (now got) (now sat) (now queue) tail) tail ⌝ }
     ensures { λ r. ⌜ r ≡ inTurn (monitoredIf (nodesOf
-        (nodesFrom n (now (kind .entry)) (now (parts .entry)) (now (n0 .entry)) (now (n1 .entry)) (now (n2 .entry)) (now (n3 .entry))
-        (now (n4 .entry)) (now (n5 .entry)) (now (n6 .entry)) (now (n7 .entry)) (now (subject .entry)) (now (verifier .entry)) (now (state .entry)))))
+        (nodesFrom n (now (kind .entry)) (now (number .entry)) (now (subject .entry)) (now (verifier .entry)) (now (state .entry)))))
         [] (edgesOf (edgesFrom m (now (edge .entry)) (now (parent .entry)) (now (child .entry)))) ⌝ }
 {
     let mut t = tail;
@@ -219,15 +160,7 @@ fn linked_in_turn<'a>(
         if !is_monitored_if(
             n,
             kind,
-            parts,
-            n0,
-            n1,
-            n2,
-            n3,
-            n4,
-            n5,
-            n6,
-            n7,
+            number,
             subject,
             verifier,
             state,
@@ -264,16 +197,8 @@ fn has_linking<'a>(m: usize, edge: &'a [u8; 256]) -> bool
 // Whether every linking implication edge is justified.
 pub fn links_justified<'a>(
     n: usize,
-    kind: &'a [u8; 128],
-    parts: &'a [u8; 128],
-    n0: &'a [u16; 128],
-    n1: &'a [u16; 128],
-    n2: &'a [u16; 128],
-    n3: &'a [u16; 128],
-    n4: &'a [u16; 128],
-    n5: &'a [u16; 128],
-    n6: &'a [u16; 128],
-    n7: &'a [u16; 128],
+    kind: &'a [u8; 256],
+    number: &'a [u16; 1024],
     subject: &'a [u16; 128],
     verifier: &'a [u8; 128],
     state: &'a [u8; 128],
@@ -283,29 +208,20 @@ pub fn links_justified<'a>(
     child: &'a [u8; 256],
 ) -> bool
     requires { ⌜ (n ≤ 128) × (m ≤ 256) × NodesFormed
-        (nodesOf (nodesFrom n (now kind) (now parts) (now n0) (now n1) (now n2) (now n3) (now n4) (now n5) (now n6) (now n7) (now subject)
+        (nodesOf (nodesFrom n (now kind) (now number) (now subject)
         (now verifier) (now state))) × Inside n (edgesFrom m (now edge) (now parent) (now child)) ⌝ }
     ensures { λ r. ⌜ r ≡ inTurn (monitoredIf (nodesOf
-        (nodesFrom n (now (kind .entry)) (now (parts .entry)) (now (n0 .entry)) (now (n1 .entry)) (now (n2 .entry)) (now (n3 .entry))
-        (now (n4 .entry)) (now (n5 .entry)) (now (n6 .entry)) (now (n7 .entry)) (now (subject .entry)) (now (verifier .entry)) (now (state .entry)))))
+        (nodesFrom n (now (kind .entry)) (now (number .entry)) (now (subject .entry)) (now (verifier .entry)) (now (state .entry)))))
         [] (edgesOf (edgesFrom m (now (edge .entry)) (now (parent .entry)) (now (child .entry)))) ⌝ }
 {
     if !has_linking(m, edge) {
         return true;
     }
-    let need = needs(n, kind, parts, state);
+    let need = needs(n, kind, state);
     let x = links(
         n,
         kind,
-        parts,
-        n0,
-        n1,
-        n2,
-        n3,
-        n4,
-        n5,
-        n6,
-        n7,
+        number,
         m,
         edge,
         parent,
@@ -320,15 +236,7 @@ pub fn links_justified<'a>(
     linked_in_turn(
         n,
         kind,
-        parts,
-        n0,
-        n1,
-        n2,
-        n3,
-        n4,
-        n5,
-        n6,
-        n7,
+        number,
         subject,
         verifier,
         state,

@@ -4,7 +4,7 @@ use expression::Role;
 use expression::same;
 use graph::MONITOR;
 use graph::SOLUTION;
-use graph::expression_at;
+use rt0::body_at;
 use word::wide;
 ghost use mathlib.Core.Path.{_≡_};
 ghost use Prim.Native.Nat.{_≤_, _<_};
@@ -32,16 +32,8 @@ fn is_solution_for(x: Expression, b: u16, y: Expression) -> bool
 // Whether edge j brings the goal g a satisfied solution for x and B, sat being the satisfied nodes, whatever the nodes' other columns.
 fn solves_at<'a>(
     n: usize,
-    kind: &'a [u8; 128],
-    parts: &'a [u8; 128],
-    n0: &'a [u16; 128],
-    n1: &'a [u16; 128],
-    n2: &'a [u16; 128],
-    n3: &'a [u16; 128],
-    n4: &'a [u16; 128],
-    n5: &'a [u16; 128],
-    n6: &'a [u16; 128],
-    n7: &'a [u16; 128],
+    kind: &'a [u8; 256],
+    number: &'a [u16; 1024],
     edge: &'a [u8; 256],
     parent: &'a [u8; 256],
     child: &'a [u8; 256],
@@ -53,10 +45,8 @@ fn solves_at<'a>(
 ) -> bool
     requires { ⌜ (n ≤ 128) × (j < 256) ⌝ }
     ensures { λ r. ⌜ ((o : Nodes) (es : List Edge) → Says
-        (nodesOf (nodesFrom n (now (kind .entry)) (now (parts .entry)) (now (n0 .entry)) (now (n1 .entry)) (now (n2 .entry))
-        (now (n3 .entry)) (now (n4 .entry)) (now (n5 .entry)) (now (n6 .entry)) (now (n7 .entry)) (o .subject) (o .verifier) (o .state))) es (now (sat .entry))
-        → r ≡ solves (nodesOf (nodesFrom n (now (kind .entry)) (now (parts .entry)) (now (n0 .entry)) (now (n1 .entry)) (now (n2 .entry))
-        (now (n3 .entry)) (now (n4 .entry)) (now (n5 .entry)) (now (n6 .entry)) (now (n7 .entry)) (o .subject) (o .verifier) (o .state)))
+        (nodesOf (nodesFrom n (now (kind .entry)) (now (number .entry)) (o .subject) (o .verifier) (o .state))) es (now (sat .entry))
+        → r ≡ solves (nodesOf (nodesFrom n (now (kind .entry)) (now (number .entry)) (o .subject) (o .verifier) (o .state)))
         es x b g (edgeFrom (now (edge .entry)) (now (parent .entry)) (now (child .entry)) j)) ⌝ }
 {
     if (edge[j] != SOLUTION) | (parent[j] != g) {
@@ -72,23 +62,15 @@ fn solves_at<'a>(
     is_solution_for(
         x,
         b,
-        expression_at(kind, parts, n0, n1, n2, n3, n4, n5, n6, n7, c),
+        body_at(kind, number, c),
     )
 }
 
 // Whether the goal g has one.
 fn is_solved<'a>(
     n: usize,
-    kind: &'a [u8; 128],
-    parts: &'a [u8; 128],
-    n0: &'a [u16; 128],
-    n1: &'a [u16; 128],
-    n2: &'a [u16; 128],
-    n3: &'a [u16; 128],
-    n4: &'a [u16; 128],
-    n5: &'a [u16; 128],
-    n6: &'a [u16; 128],
-    n7: &'a [u16; 128],
+    kind: &'a [u8; 256],
+    number: &'a [u16; 1024],
     m: usize,
     edge: &'a [u8; 256],
     parent: &'a [u8; 256],
@@ -100,11 +82,9 @@ fn is_solved<'a>(
 ) -> bool
     requires { ⌜ (n ≤ 128) × (m ≤ 256) ⌝ }
     ensures { λ r. ⌜ ((o : Nodes) → Says
-        (nodesOf (nodesFrom n (now (kind .entry)) (now (parts .entry)) (now (n0 .entry)) (now (n1 .entry)) (now (n2 .entry))
-        (now (n3 .entry)) (now (n4 .entry)) (now (n5 .entry)) (now (n6 .entry)) (now (n7 .entry)) (o .subject) (o .verifier) (o .state)))
+        (nodesOf (nodesFrom n (now (kind .entry)) (now (number .entry)) (o .subject) (o .verifier) (o .state)))
         (edgesOf (edgesFrom m (now (edge .entry)) (now (parent .entry)) (now (child .entry)))) (now (sat .entry))
-        → r ≡ solved (nodesOf (nodesFrom n (now (kind .entry)) (now (parts .entry)) (now (n0 .entry)) (now (n1 .entry)) (now (n2 .entry))
-        (now (n3 .entry)) (now (n4 .entry)) (now (n5 .entry)) (now (n6 .entry)) (now (n7 .entry)) (o .subject) (o .verifier) (o .state)))
+        → r ≡ solved (nodesOf (nodesFrom n (now (kind .entry)) (now (number .entry)) (o .subject) (o .verifier) (o .state)))
         (edgesOf (edgesFrom m (now (edge .entry)) (now (parent .entry)) (now (child .entry)))) x b g) ⌝ }
 {
     let mut j = 0;
@@ -112,15 +92,7 @@ fn is_solved<'a>(
         if solves_at(
             n,
             kind,
-            parts,
-            n0,
-            n1,
-            n2,
-            n3,
-            n4,
-            n5,
-            n6,
-            n7,
+            number,
             edge,
             parent,
             child,
@@ -140,16 +112,8 @@ fn is_solved<'a>(
 // Whether edge j brings node p a goal that has one.
 fn monitors_at<'a>(
     n: usize,
-    kind: &'a [u8; 128],
-    parts: &'a [u8; 128],
-    n0: &'a [u16; 128],
-    n1: &'a [u16; 128],
-    n2: &'a [u16; 128],
-    n3: &'a [u16; 128],
-    n4: &'a [u16; 128],
-    n5: &'a [u16; 128],
-    n6: &'a [u16; 128],
-    n7: &'a [u16; 128],
+    kind: &'a [u8; 256],
+    number: &'a [u16; 1024],
     m: usize,
     edge: &'a [u8; 256],
     parent: &'a [u8; 256],
@@ -162,11 +126,9 @@ fn monitors_at<'a>(
 ) -> bool
     requires { ⌜ (n ≤ 128) × (m ≤ 256) × (j < m) ⌝ }
     ensures { λ r. ⌜ ((o : Nodes) → Says
-        (nodesOf (nodesFrom n (now (kind .entry)) (now (parts .entry)) (now (n0 .entry)) (now (n1 .entry)) (now (n2 .entry))
-        (now (n3 .entry)) (now (n4 .entry)) (now (n5 .entry)) (now (n6 .entry)) (now (n7 .entry)) (o .subject) (o .verifier) (o .state)))
+        (nodesOf (nodesFrom n (now (kind .entry)) (now (number .entry)) (o .subject) (o .verifier) (o .state)))
         (edgesOf (edgesFrom m (now (edge .entry)) (now (parent .entry)) (now (child .entry)))) (now (sat .entry))
-        → r ≡ monitors (nodesOf (nodesFrom n (now (kind .entry)) (now (parts .entry)) (now (n0 .entry)) (now (n1 .entry)) (now (n2 .entry))
-        (now (n3 .entry)) (now (n4 .entry)) (now (n5 .entry)) (now (n6 .entry)) (now (n7 .entry)) (o .subject) (o .verifier) (o .state)))
+        → r ≡ monitors (nodesOf (nodesFrom n (now (kind .entry)) (now (number .entry)) (o .subject) (o .verifier) (o .state)))
         (edgesOf (edgesFrom m (now (edge .entry)) (now (parent .entry)) (now (child .entry)))) x b p
         (edgeFrom (now (edge .entry)) (now (parent .entry)) (now (child .entry)) j)) ⌝ }
 {
@@ -180,15 +142,7 @@ fn monitors_at<'a>(
     is_solved(
         n,
         kind,
-        parts,
-        n0,
-        n1,
-        n2,
-        n3,
-        n4,
-        n5,
-        n6,
-        n7,
+        number,
         m,
         edge,
         parent,
@@ -203,16 +157,8 @@ fn monitors_at<'a>(
 // Whether node p has a goal as child that has a satisfied solution for x and B, sat being the satisfied nodes, whatever the nodes' other columns.
 pub fn is_monitored_for<'a>(
     n: usize,
-    kind: &'a [u8; 128],
-    parts: &'a [u8; 128],
-    n0: &'a [u16; 128],
-    n1: &'a [u16; 128],
-    n2: &'a [u16; 128],
-    n3: &'a [u16; 128],
-    n4: &'a [u16; 128],
-    n5: &'a [u16; 128],
-    n6: &'a [u16; 128],
-    n7: &'a [u16; 128],
+    kind: &'a [u8; 256],
+    number: &'a [u16; 1024],
     m: usize,
     edge: &'a [u8; 256],
     parent: &'a [u8; 256],
@@ -224,11 +170,9 @@ pub fn is_monitored_for<'a>(
 ) -> bool
     requires { ⌜ (n ≤ 128) × (m ≤ 256) ⌝ }
     ensures { λ r. ⌜ ((o : Nodes) → Says
-        (nodesOf (nodesFrom n (now (kind .entry)) (now (parts .entry)) (now (n0 .entry)) (now (n1 .entry)) (now (n2 .entry))
-        (now (n3 .entry)) (now (n4 .entry)) (now (n5 .entry)) (now (n6 .entry)) (now (n7 .entry)) (o .subject) (o .verifier) (o .state)))
+        (nodesOf (nodesFrom n (now (kind .entry)) (now (number .entry)) (o .subject) (o .verifier) (o .state)))
         (edgesOf (edgesFrom m (now (edge .entry)) (now (parent .entry)) (now (child .entry)))) (now (sat .entry))
-        → r ≡ any (monitors (nodesOf (nodesFrom n (now (kind .entry)) (now (parts .entry)) (now (n0 .entry)) (now (n1 .entry)) (now (n2 .entry))
-        (now (n3 .entry)) (now (n4 .entry)) (now (n5 .entry)) (now (n6 .entry)) (now (n7 .entry)) (o .subject) (o .verifier) (o .state)))
+        → r ≡ any (monitors (nodesOf (nodesFrom n (now (kind .entry)) (now (number .entry)) (o .subject) (o .verifier) (o .state)))
         (edgesOf (edgesFrom m (now (edge .entry)) (now (parent .entry)) (now (child .entry)))) x b p)
         (edgesOf (edgesFrom m (now (edge .entry)) (now (parent .entry)) (now (child .entry))))) ⌝ }
 {
@@ -237,15 +181,7 @@ pub fn is_monitored_for<'a>(
         if monitors_at(
             n,
             kind,
-            parts,
-            n0,
-            n1,
-            n2,
-            n3,
-            n4,
-            n5,
-            n6,
-            n7,
+            number,
             m,
             edge,
             parent,

@@ -35,19 +35,11 @@ pub fn satisfied_nodes(nodes: Nodes, edges: Edges) -> [u8; 128]
     requires { ⌜ (nodes .count ≤ MOST-NODES) × (edges .count ≤ MOST-EDGES) × NodesFormed (nodesOf nodes) ⌝ }
     ensures { λ r. ⌜ Says (nodesOf nodes) (edgesOf edges) r ⌝ }
 {
-    let need = needs(nodes.count, &nodes.kind, &nodes.parts, &nodes.state);
+    let need = needs(nodes.count, &nodes.kind, &nodes.state);
     let x = links(
         nodes.count,
         &nodes.kind,
-        &nodes.parts,
-        &nodes.n0,
-        &nodes.n1,
-        &nodes.n2,
-        &nodes.n3,
-        &nodes.n4,
-        &nodes.n5,
-        &nodes.n6,
-        &nodes.n7,
+        &nodes.number,
         edges.count,
         &edges.kind,
         &edges.parent,
@@ -84,15 +76,7 @@ fn is_linked_for<'a>(n: Negotiation, sat: &'a [u8; 128], p: u8, b: u16) -> bool
     is_monitored_for(
         nodes.count,
         &nodes.kind,
-        &nodes.parts,
-        &nodes.n0,
-        &nodes.n1,
-        &nodes.n2,
-        &nodes.n3,
-        &nodes.n4,
-        &nodes.n5,
-        &nodes.n6,
-        &nodes.n7,
+        &nodes.number,
         edges.count,
         &edges.kind,
         &edges.parent,

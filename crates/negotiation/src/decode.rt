@@ -13,8 +13,12 @@ use expression::raw_at;
 use expression::role_at;
 use graph::Edges;
 use graph::Nodes;
+use graph::store_byte;
+use graph::store_subject;
 use rt0::Pool;
 use rt0::store;
+use rt0::store_kind;
+use rt0::store_numbers;
 ghost use mathlib.Core.Path.{_≡_};
 ghost use Prim.Native.Nat.{ℕ, _+_, _*_, _≤_};
 ghost use lib.ListN.{length};
@@ -60,19 +64,11 @@ fn read_nodes(s: &[u8], count: usize) -> Nodes
         let i = nodes.count;
         let at = NODES_AT + i * 22;
         let r = raw_at(s, at);
-        nodes.kind[i] = r.kind;
-        nodes.parts[i] = r.count;
-        nodes.n0[i] = r.n0;
-        nodes.n1[i] = r.n1;
-        nodes.n2[i] = r.n2;
-        nodes.n3[i] = r.n3;
-        nodes.n4[i] = r.n4;
-        nodes.n5[i] = r.n5;
-        nodes.n6[i] = r.n6;
-        nodes.n7[i] = r.n7;
-        nodes.subject[i] = number_at(s, at + 18);
-        nodes.verifier[i] = s[at + 20];
-        nodes.state[i] = s[at + 21];
+        store_kind(&mut nodes.kind, i, r);
+        store_numbers(&mut nodes.number, i, r);
+        store_subject(&mut nodes.subject, i, number_at(s, at + 18));
+        store_byte(&mut nodes.verifier, i, s[at + 20]);
+        store_byte(&mut nodes.state, i, s[at + 21]);
         nodes.count = i + 1;
     }
     nodes

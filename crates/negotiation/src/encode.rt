@@ -5,9 +5,7 @@ use crate::NODES_AT;
 use crate::Negotiation;
 use crate::SHOWN_AT;
 use expression::Credential;
-use expression::Raw;
 use expression::copy_in;
-use expression::expression_of;
 use expression::write_credential;
 use expression::write_expression;
 use graph::Edge;
@@ -92,42 +90,21 @@ fn write_edge(buf: &mut [u8], at: usize, e: Edge)
 fn write_nodes<'a>(
     buf: &'a mut [u8],
     n: usize,
-    kind: &'a [u8; 128],
-    parts: &'a [u8; 128],
-    n0: &'a [u16; 128],
-    n1: &'a [u16; 128],
-    n2: &'a [u16; 128],
-    n3: &'a [u16; 128],
-    n4: &'a [u16; 128],
-    n5: &'a [u16; 128],
-    n6: &'a [u16; 128],
-    n7: &'a [u16; 128],
+    kind: &'a [u8; 256],
+    number: &'a [u16; 1024],
     subject: &'a [u16; 128],
     verifier: &'a [u8; 128],
     state: &'a [u8; 128],
 )
     requires { ⌜ (n ≤ 128) × (2944 ≤ length (now buf)) ⌝ }
     ensures { λ _. ⌜ now (buf .exit) ≡ pasted (now (buf .entry)) 128
-        (part 2816 nodeBytes (nodesOf (nodesFrom n (now (kind .entry)) (now (parts .entry)) (now (n0 .entry)) (now (n1 .entry)) (now (n2 .entry))
-        (now (n3 .entry)) (now (n4 .entry)) (now (n5 .entry)) (now (n6 .entry)) (now (n7 .entry)) (now (subject .entry)) (now (verifier .entry))
+        (part 2816 nodeBytes (nodesOf (nodesFrom n (now (kind .entry)) (now (number .entry)) (now (subject .entry)) (now (verifier .entry))
         (now (state .entry))))) ⌝ }
 {
     let mut i = 0;
     while i < n {
-        let expression = expression_of(Raw {
-            kind: kind[i],
-            count: parts[i],
-            n0: n0[i],
-            n1: n1[i],
-            n2: n2[i],
-            n3: n3[i],
-            n4: n4[i],
-            n5: n5[i],
-            n6: n6[i],
-            n7: n7[i],
-        });
         let x = Node {
-            expression,
+            expression: body_at(kind, number, i),
             subject: subject[i],
             verifier: verifier[i],
             state: state[i],
@@ -197,15 +174,7 @@ pub fn write(n: Negotiation, buf: &mut [u8])
         buf,
         n.nodes.count,
         &n.nodes.kind,
-        &n.nodes.parts,
-        &n.nodes.n0,
-        &n.nodes.n1,
-        &n.nodes.n2,
-        &n.nodes.n3,
-        &n.nodes.n4,
-        &n.nodes.n5,
-        &n.nodes.n6,
-        &n.nodes.n7,
+        &n.nodes.number,
         &n.nodes.subject,
         &n.nodes.verifier,
         &n.nodes.state,

@@ -7,9 +7,9 @@ use expression::expression_of;
 use expression::raw_of;
 ghost use mathlib.Core.Path.{_≡_};
 ghost use mathlib.Core.List.{[], _∷_, _++_};
-ghost use Prim.Native.Nat.{_<_, _+_};
+ghost use Prim.Native.Nat.{_<_, _+_, _*_};
 ghost use Rattle.rt0.specs.laws.Pool.{poolOf, headIn, rawAtColumns, bodyIn, credentials as credentialsOf};
-ghost use Rattle.rt0.specs.laws.Added.{Sized, Stored};
+ghost use Rattle.rt0.specs.laws.Added.{pair, stored, Sized, Stored};
 pub use shown::is_shown;
 
 mod shown;
@@ -52,6 +52,40 @@ impl Pool {
     }
 }
 
+// The role p goes into a column of heads as number i.
+pub fn store_head(heads: &mut [u16; 256], i: usize, p: Role)
+    requires { ⌜ i < 128 ⌝ }
+    ensures { λ _. ⌜ now (heads .exit) ≡ pair (now (heads .entry)) (i * 2) (p .entity) (p .name) ⌝ }
+{
+    heads[i * 2] = p.entity;
+    heads[i * 2 + 1] = p.name;
+}
+
+// The kind and the part count of an expression go into their column as number i.
+pub fn store_kind(kinds: &mut [u8; 256], i: usize, r: Raw)
+    requires { ⌜ i < 128 ⌝ }
+    ensures { λ _. ⌜ now (kinds .exit) ≡ pair (now (kinds .entry)) (i * 2) (r .kind) (r .count) ⌝ }
+{
+    kinds[i * 2] = r.kind;
+    kinds[i * 2 + 1] = r.count;
+}
+
+// The eight numbers of an expression go into their column as number i.
+pub fn store_numbers(numbers: &mut [u16; 1024], i: usize, r: Raw)
+    requires { ⌜ i < 128 ⌝ }
+    ensures { λ _. ⌜ now (numbers .exit) ≡ stored (now (numbers .entry)) (i * 8) r ⌝ }
+{
+    let at = i * 8;
+    numbers[at] = r.n0;
+    numbers[at + 1] = r.n1;
+    numbers[at + 2] = r.n2;
+    numbers[at + 3] = r.n3;
+    numbers[at + 4] = r.n4;
+    numbers[at + 5] = r.n5;
+    numbers[at + 6] = r.n6;
+    numbers[at + 7] = r.n7;
+}
+
 // The credential c goes into the columns as number i.
 pub fn store<'a>(
     heads: &'a mut [u16; 256],
@@ -67,19 +101,9 @@ pub fn store<'a>(
     let head = c.head;
     let body = c.body;
     let r = raw_of(body);
-    heads[i * 2] = head.entity;
-    heads[i * 2 + 1] = head.name;
-    kinds[i * 2] = r.kind;
-    kinds[i * 2 + 1] = r.count;
-    let at = i * 8;
-    numbers[at] = r.n0;
-    numbers[at + 1] = r.n1;
-    numbers[at + 2] = r.n2;
-    numbers[at + 3] = r.n3;
-    numbers[at + 4] = r.n4;
-    numbers[at + 5] = r.n5;
-    numbers[at + 6] = r.n6;
-    numbers[at + 7] = r.n7;
+    store_head(heads, i, head);
+    store_kind(kinds, i, r);
+    store_numbers(numbers, i, r);
 }
 
 // The head of credential i.

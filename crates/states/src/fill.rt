@@ -9,7 +9,8 @@ ghost use mathlib.Core.Path.{_≡_};
 ghost use Prim.Native.Nat.{_≤_, _<_};
 ghost use Rattle.expression.specs.declared.Expression.the-variants as E;
 ghost use Rattle.graph.specs.declared.Nodes.{Nodes};
-ghost use Rattle.graph.specs.laws.Graph.{nodesFrom, edgesFrom, expressionFrom, nodesOf, edgesOf};
+ghost use Rattle.rt0.specs.laws.Pool.{bodyIn};
+ghost use Rattle.graph.specs.laws.Graph.{nodesFrom, edgesFrom, nodesOf, edgesOf};
 ghost use Rattle.states.specs.laws.Brings.{slotIn, slotAs, slotBy, Joined, Needs, Ways};
 ghost use Rattle.states.specs.laws.Fields.{needBy, wayBy};
 
@@ -55,34 +56,30 @@ fn way_of(kind: u8, state: u8) -> u8
 // What the nodes need, whatever their other columns.
 pub fn needs<'a>(
     n: usize,
-    kind: &'a [u8; 128],
-    parts: &'a [u8; 128],
+    kind: &'a [u8; 256],
     state: &'a [u8; 128],
 ) -> [u8; 128]
     requires { ⌜ n ≤ 128 ⌝ }
-    ensures { λ r. ⌜ ((o : Nodes) → Needs (nodesOf
-        (nodesFrom n (now (kind .entry)) (now (parts .entry)) (o .n0) (o .n1) (o .n2) (o .n3) (o .n4) (o .n5) (o .n6) (o .n7) (o .subject)
-        (o .verifier) (now (state .entry)))) r) ⌝ }
+    ensures { λ r. ⌜ ((o : Nodes) → Needs (nodesOf (nodesFrom n (now (kind .entry)) (o .number) (o .subject) (o .verifier) (now (state .entry)))) r) ⌝ }
 {
     let mut r = [NEVER; 128];
     let mut i = 0;
     while i < n {
-        r[i] = need_of(kind[i], parts[i], state[i]);
+        r[i] = need_of(kind[i * 2], kind[i * 2 + 1], state[i]);
         i += 1;
     }
     r
 }
 
 // How the nodes fail, whatever their other columns.
-pub fn ways<'a>(n: usize, kind: &'a [u8; 128], state: &'a [u8; 128]) -> [u8; 128]
+pub fn ways<'a>(n: usize, kind: &'a [u8; 256], state: &'a [u8; 128]) -> [u8; 128]
     requires { ⌜ n ≤ 128 ⌝ }
-    ensures { λ r. ⌜ ((o : Nodes) → Ways (nodesOf (nodesFrom n (now (kind .entry)) (o .parts) (o .n0) (o .n1) (o .n2) (o .n3) (o .n4) (o .n5) (o .n6)
-        (o .n7) (o .subject) (o .verifier) (now (state .entry)))) r) ⌝ }
+    ensures { λ r. ⌜ ((o : Nodes) → Ways (nodesOf (nodesFrom n (now (kind .entry)) (o .number) (o .subject) (o .verifier) (now (state .entry)))) r) ⌝ }
 {
     let mut r = [NO_WAY; 128];
     let mut i = 0;
     while i < n {
-        r[i] = way_of(kind[i], state[i]);
+        r[i] = way_of(kind[i * 2], state[i]);
         i += 1;
     }
     r
@@ -119,59 +116,51 @@ fn slot_in(p: Parts, a: Role) -> u16
 
 // Which of the slots of node p an edge of kind k from node c fills, or 4.
 fn slot_as<'a>(
-    kind: &'a [u8; 128],
-    parts: &'a [u8; 128],
-    n0: &'a [u16; 128],
-    n1: &'a [u16; 128],
-    n2: &'a [u16; 128],
-    n3: &'a [u16; 128],
-    n4: &'a [u16; 128],
-    n5: &'a [u16; 128],
-    n6: &'a [u16; 128],
-    n7: &'a [u16; 128],
+    kind: &'a [u8; 256],
+    number: &'a [u16; 1024],
     k: u8,
     p: usize,
     c: usize,
 ) -> u16
     requires { ⌜ (p < 128) × (c < 128) ⌝ }
-    ensures { λ r. ⌜ r ≡ slotAs k (expressionFrom (now (kind .entry)) (now (parts .entry)) (now (n0 .entry)) (now (n1 .entry)) (now (n2 .entry))
-        (now (n3 .entry)) (now (n4 .entry)) (now (n5 .entry)) (now (n6 .entry)) (now (n7 .entry)) p)
-        (expressionFrom (now (kind .entry)) (now (parts .entry)) (now (n0 .entry)) (now (n1 .entry)) (now (n2 .entry)) (now (n3 .entry))
-        (now (n4 .entry)) (now (n5 .entry)) (now (n6 .entry)) (now (n7 .entry)) c) ⌝ }
+    ensures { λ r. ⌜ r ≡ slotAs k (bodyIn (now (kind .entry)) (now (number .entry)) p)
+        (bodyIn (now (kind .entry)) (now (number .entry)) c) ⌝ }
 {
-    let t = kind[p];
+    let t = kind[p * 2];
     if (t == 2) | (t == 3) {
         if (k == 1) | (k == 4) {
             return 0;
         }
         return NO_PLACE;
     }
-    if (t != 4) | (k != 5) | (kind[c] != 2) {
+    if (t != 4) | (k != 5) | (kind[c * 2] != 2) {
         return NO_PLACE;
     }
+    let x = p * 8;
+    let y = c * 8;
     slot_in(
         Parts {
-            count: parts[p],
+            count: kind[p * 2 + 1],
             first: Role {
-                entity: n0[p],
-                name: n1[p],
+                entity: number[x],
+                name: number[x + 1],
             },
             second: Role {
-                entity: n2[p],
-                name: n3[p],
+                entity: number[x + 2],
+                name: number[x + 3],
             },
             third: Role {
-                entity: n4[p],
-                name: n5[p],
+                entity: number[x + 4],
+                name: number[x + 5],
             },
             fourth: Role {
-                entity: n6[p],
-                name: n7[p],
+                entity: number[x + 6],
+                name: number[x + 7],
             },
         },
         Role {
-            entity: n0[c],
-            name: n1[c],
+            entity: number[y],
+            name: number[y + 1],
         },
     )
 }
@@ -179,32 +168,22 @@ fn slot_as<'a>(
 // The slot that an edge of kind k from node c to node p fills, or 512 where it brings no child.
 fn slot_by<'a>(
     n: usize,
-    kind: &'a [u8; 128],
-    parts: &'a [u8; 128],
-    n0: &'a [u16; 128],
-    n1: &'a [u16; 128],
-    n2: &'a [u16; 128],
-    n3: &'a [u16; 128],
-    n4: &'a [u16; 128],
-    n5: &'a [u16; 128],
-    n6: &'a [u16; 128],
-    n7: &'a [u16; 128],
+    kind: &'a [u8; 256],
+    number: &'a [u16; 1024],
     k: u8,
     p: u8,
     c: u8,
 ) -> u16
     requires { ⌜ n ≤ 128 ⌝ }
-    ensures { λ r. ⌜ r ≡ slotBy n k p c (expressionFrom (now (kind .entry)) (now (parts .entry)) (now (n0 .entry)) (now (n1 .entry)) (now (n2 .entry))
-        (now (n3 .entry)) (now (n4 .entry)) (now (n5 .entry)) (now (n6 .entry)) (now (n7 .entry)) p)
-        (expressionFrom (now (kind .entry)) (now (parts .entry)) (now (n0 .entry)) (now (n1 .entry)) (now (n2 .entry)) (now (n3 .entry))
-        (now (n4 .entry)) (now (n5 .entry)) (now (n6 .entry)) (now (n7 .entry)) c) ⌝ }
+    ensures { λ r. ⌜ r ≡ slotBy n k p c (bodyIn (now (kind .entry)) (now (number .entry)) p)
+        (bodyIn (now (kind .entry)) (now (number .entry)) c) ⌝ }
 {
     let x = wide(p);
     let y = wide(c);
     if (n <= x) | (n <= y) {
         return NO_SLOT;
     }
-    let s = slot_as(kind, parts, n0, n1, n2, n3, n4, n5, n6, n7, k, x, y);
+    let s = slot_as(kind, number, k, x, y);
     if NO_PLACE <= s {
         return NO_SLOT;
     }
@@ -214,16 +193,8 @@ fn slot_by<'a>(
 // The edges as links, whatever the nodes' other columns.
 pub fn links<'a>(
     n: usize,
-    kind: &'a [u8; 128],
-    parts: &'a [u8; 128],
-    n0: &'a [u16; 128],
-    n1: &'a [u16; 128],
-    n2: &'a [u16; 128],
-    n3: &'a [u16; 128],
-    n4: &'a [u16; 128],
-    n5: &'a [u16; 128],
-    n6: &'a [u16; 128],
-    n7: &'a [u16; 128],
+    kind: &'a [u8; 256],
+    number: &'a [u16; 1024],
     m: usize,
     edge: &'a [u8; 256],
     parent: &'a [u8; 256],
@@ -231,8 +202,7 @@ pub fn links<'a>(
 ) -> EdgeColumns
     requires { ⌜ (n ≤ 128) × (m ≤ 256) ⌝ }
     ensures { λ r. ⌜ ((o : Nodes) → Joined (nodesOf
-        (nodesFrom n (now (kind .entry)) (now (parts .entry)) (now (n0 .entry)) (now (n1 .entry)) (now (n2 .entry)) (now (n3 .entry))
-        (now (n4 .entry)) (now (n5 .entry)) (now (n6 .entry)) (now (n7 .entry)) (o .subject) (o .verifier) (o .state)))
+        (nodesFrom n (now (kind .entry)) (now (number .entry)) (o .subject) (o .verifier) (o .state)))
         (edgesOf (edgesFrom m (now (edge .entry)) (now (parent .entry)) (now (child .entry)))) (r .from) (r .slot)) ⌝ }
 {
     let mut from = [NO_NODE; 256];
@@ -243,15 +213,7 @@ pub fn links<'a>(
         let s = slot_by(
             n,
             kind,
-            parts,
-            n0,
-            n1,
-            n2,
-            n3,
-            n4,
-            n5,
-            n6,
-            n7,
+            number,
             edge[j],
             parent[j],
             c,

@@ -91,7 +91,7 @@ fn complete_by(kind: u8, state: u8, any_open: bool) -> bool
 // Whether node i is a complete goal, whatever the nodes' other columns with which sat and failed are those of the graph.
 pub fn is_complete<'a>(
     n: usize,
-    kind: &'a [u8; 128],
+    kind: &'a [u8; 256],
     state: &'a [u8; 128],
     m: usize,
     edge: &'a [u8; 256],
@@ -102,14 +102,12 @@ pub fn is_complete<'a>(
     i: usize,
 ) -> bool
     requires { ⌜ (i < n) × (n ≤ 128) × (m ≤ 256) ⌝ }
-    ensures { λ r. ⌜ ((o : Nodes) → StateColumns (nodesOf (nodesFrom n (now (kind .entry)) (o .parts) (o .n0) (o .n1) (o .n2) (o .n3) (o .n4) (o .n5)
-        (o .n6) (o .n7) (o .subject) (o .verifier) (now (state .entry))))
+    ensures { λ r. ⌜ ((o : Nodes) → StateColumns (nodesOf (nodesFrom n (now (kind .entry)) (o .number) (o .subject) (o .verifier) (now (state .entry))))
         (edgesOf (edgesFrom m (now (edge .entry)) (now (parent .entry)) (now (child .entry)))) (now (sat .entry)) (now (failed .entry))
-        → r ≡ completeB (nodesOf (nodesFrom n (now (kind .entry)) (o .parts) (o .n0) (o .n1) (o .n2) (o .n3) (o .n4) (o .n5) (o .n6) (o .n7)
-        (o .subject) (o .verifier) (now (state .entry)))) (edgesOf (edgesFrom m (now (edge .entry)) (now (parent .entry)) (now (child .entry)))) i) ⌝ }
+        → r ≡ completeB (nodesOf (nodesFrom n (now (kind .entry)) (o .number) (o .subject) (o .verifier) (now (state .entry)))) (edgesOf (edgesFrom m (now (edge .entry)) (now (parent .entry)) (now (child .entry)))) i) ⌝ }
 {
     let any_open = has_open(n, m, edge, parent, child, sat, failed, i);
-    complete_by(kind[i], state[i], any_open)
+    complete_by(kind[i * 2], state[i], any_open)
 }
 
 // Which nodes are satisfied, and which have failed.
@@ -118,19 +116,11 @@ pub fn node_states(nodes: Nodes, edges: Edges) -> NodeStates
     ensures { λ r. ⌜ StateColumns (nodesOf nodes) (edgesOf edges) (r .satisfied) (r .failed) ⌝ }
 {
     let m = edges.count;
-    let need = needs(nodes.count, &nodes.kind, &nodes.parts, &nodes.state);
+    let need = needs(nodes.count, &nodes.kind, &nodes.state);
     let e = links(
         nodes.count,
         &nodes.kind,
-        &nodes.parts,
-        &nodes.n0,
-        &nodes.n1,
-        &nodes.n2,
-        &nodes.n3,
-        &nodes.n4,
-        &nodes.n5,
-        &nodes.n6,
-        &nodes.n7,
+        &nodes.number,
         m,
         &edges.kind,
         &edges.parent,
@@ -152,19 +142,11 @@ pub fn state_of(nodes: Nodes, edges: Edges, i: usize) -> u8
     ensures { λ r. ⌜ r ≡ propagatedState (nodesOf nodes) (edgesOf edges) i ⌝ }
 {
     let m = edges.count;
-    let need = needs(nodes.count, &nodes.kind, &nodes.parts, &nodes.state);
+    let need = needs(nodes.count, &nodes.kind, &nodes.state);
     let e = links(
         nodes.count,
         &nodes.kind,
-        &nodes.parts,
-        &nodes.n0,
-        &nodes.n1,
-        &nodes.n2,
-        &nodes.n3,
-        &nodes.n4,
-        &nodes.n5,
-        &nodes.n6,
-        &nodes.n7,
+        &nodes.number,
         m,
         &edges.kind,
         &edges.parent,

@@ -16,7 +16,8 @@ use Rattle.word.specs.laws.Bools.{false-true}
 use Rattle.propagation.specs.laws.Flags.{decided}
 use Rattle.graph.specs.declared.Node.{Node}
 use Rattle.graph.specs.declared.Nodes.{Nodes}
-use Rattle.graph.specs.laws.Graph.{rawFrom, expressionFrom, nodeAt}
+use Rattle.rt0.specs.laws.Pool.{rawAtColumns, bodyIn}
+use Rattle.graph.specs.laws.Graph.{nodeAt}
 use Rattle.graph.specs.Graph.{nodeIn}
 use Rattle.graph.specs.laws.Columns.{nodes-length, node-in}
 use Rattle.tables.specs.Tables.{Tables}
@@ -180,8 +181,8 @@ goal-kind r h =
     go false false false false v w x y z p q s t h = absurd (false-true (sym h))
 
 goal-node : (N : Nodes) (i : ℕ) → isGoalKind (getD (N .kind) i 0) ≡ false → isGoal (nodeAt N i .expression) ≡ false
-unfolding expressionFrom
-goal-node N i h = goal-kind (rawFrom (N .kind) (N .parts) (N .n0) (N .n1) (N .n2) (N .n3) (N .n4) (N .n5) (N .n6) (N .n7) i) h
+unfolding bodyIn
+goal-node N i h = goal-kind (rawAtColumns (N .kind) (N .number) i) h
 
 -- the search begins at q, or at the first node where q is a goal
 pub record BeginsAt (K : List ℕ) (q r : ℕ) : Type 0 where

@@ -30,13 +30,13 @@ module _ {A : Type 0} (t : List A → A → Bool) (f : ℕ → A) (n : ℕ) wher
 
 module _ (t : List Node → Node → Bool) (X : Nodes) {j : ℕ} (h : Judged t (nodeAt X) (X .count) j) where
   pub nodes-next : {b : Bool} → j < X .count → b ≡ t
-      (nodesOf (nodesFrom j (X .kind) (X .parts) (X .n0) (X .n1) (X .n2) (X .n3) (X .n4) (X .n5) (X .n6) (X .n7) (X .subject) (X .verifier)
+      (nodesOf (nodesFrom j (X .kind) (X .number) (X .subject) (X .verifier)
       (X .state))) (nodeAt X j) → not b ≡ false → Judged t (nodeAt X) (X .count) (j + 1)
   unfolding nodesOf
   nodes-next {b} l e p = record { few = omega arith; pass = turn-next t (nodeAt X) (h .pass) e (not-false b p) }
 
   pub nodes-stop : {b : Bool} → j < X .count → b ≡ t
-      (nodesOf (nodesFrom j (X .kind) (X .parts) (X .n0) (X .n1) (X .n2) (X .n3) (X .n4) (X .n5) (X .n6) (X .n7) (X .subject) (X .verifier)
+      (nodesOf (nodesFrom j (X .kind) (X .number) (X .subject) (X .verifier)
       (X .state))) (nodeAt X j) → not b ≡ true → false ≡ inTurn t [] (nodesOf X)
   unfolding nodesOf
   nodes-stop {b} l e p = turn-stop t (nodeAt X) (X .count) l e (not-true b p)

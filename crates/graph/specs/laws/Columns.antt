@@ -11,12 +11,13 @@ use lib.Seq.{getD-set-same, getD-set-other, getD-append-seam, ext-getD}
 use Rattle.expression.specs.declared.Raw.{Raw}
 use Rattle.expression.specs.Form.{expressionOf}
 use Rattle.rt0.specs.Pool.{upTo}
-use Rattle.rt0.specs.laws.Added.{length-upTo, snoc-upTo}
+use Rattle.rt0.specs.laws.Pool.{bodyIn}
+use Rattle.rt0.specs.laws.Added.{kindsWith, numbersWith, raw-before, raw-last, length-upTo, snoc-upTo}
 use Rattle.graph.specs.declared.Node.{Node}
 use Rattle.graph.specs.declared.Edge.{Edge}
 use Rattle.graph.specs.declared.Nodes.{Nodes}
 use Rattle.graph.specs.declared.Edges.{Edges}
-use Rattle.graph.specs.laws.Graph.{rawFrom, expressionFrom, nodeAt, edgeAt, nodesOf, edgesOf, edgeIn}
+use Rattle.graph.specs.laws.Graph.{nodesFrom, edgesFrom, nodeAt, edgeAt, nodesOf, edgesOf, edgeIn}
 use Rattle.graph.specs.Graph.{blank, nodeIn, inState}
 use Rattle.numbers.specs.Sizes.{MOST-NODES, MOST-EDGES}
 
@@ -68,16 +69,8 @@ edge-in E j l = getD-upTo (E .count) (edgeAt E) j (record { kind = 0; parent = 0
 -- Adding
 
 pub record NodesSized (N : Nodes) : Type 0 where
-  pub kind : length (N .kind) ≡ 128
-  pub parts : length (N .parts) ≡ 128
-  pub n0 : length (N .n0) ≡ 128
-  pub n1 : length (N .n1) ≡ 128
-  pub n2 : length (N .n2) ≡ 128
-  pub n3 : length (N .n3) ≡ 128
-  pub n4 : length (N .n4) ≡ 128
-  pub n5 : length (N .n5) ≡ 128
-  pub n6 : length (N .n6) ≡ 128
-  pub n7 : length (N .n7) ≡ 128
+  pub kind : length (N .kind) ≡ 256
+  pub number : length (N .number) ≡ 1024
   pub subject : length (N .subject) ≡ 128
   pub verifier : length (N .verifier) ≡ 128
   pub state : length (N .state) ≡ 128
@@ -92,16 +85,8 @@ abbrev pub addedNode : Nodes → Node → Raw → Nodes
 addedNode N x r =
     record {
       count = N .count + 1;
-      kind = set (N .kind) (N .count) (r .kind);
-      parts = set (N .parts) (N .count) (r .count);
-      n0 = set (N .n0) (N .count) (r .n0);
-      n1 = set (N .n1) (N .count) (r .n1);
-      n2 = set (N .n2) (N .count) (r .n2);
-      n3 = set (N .n3) (N .count) (r .n3);
-      n4 = set (N .n4) (N .count) (r .n4);
-      n5 = set (N .n5) (N .count) (r .n5);
-      n6 = set (N .n6) (N .count) (r .n6);
-      n7 = set (N .n7) (N .count) (r .n7);
+      kind = kindsWith (N .kind) (N .number) (N .count) r;
+      number = numbersWith (N .kind) (N .number) (N .count) r;
       subject = set (N .subject) (N .count) (x .subject);
       verifier = set (N .verifier) (N .count) (x .verifier);
       state = set (N .state) (N .count) (x .state);
@@ -125,47 +110,18 @@ last n size M x l z = getD-set-same M n x 0 (omega arith)
 
 module _ (N : Nodes) (x : Node) (r : Raw) where
   node-before : (i : ℕ) → i < N .count → nodeAt (addedNode N x r) i ≡ nodeAt N i
-  unfolding expressionFrom
+  unfolding bodyIn
   node-before i l = λ j. record {
-    expression = expressionOf (record {
-      kind = before (N .count) (N .kind) (r .kind) i l j;
-      count = before (N .count) (N .parts) (r .count) i l j;
-      n0 = before (N .count) (N .n0) (r .n0) i l j;
-      n1 = before (N .count) (N .n1) (r .n1) i l j;
-      n2 = before (N .count) (N .n2) (r .n2) i l j;
-      n3 = before (N .count) (N .n3) (r .n3) i l j;
-      n4 = before (N .count) (N .n4) (r .n4) i l j;
-      n5 = before (N .count) (N .n5) (r .n5) i l j;
-      n6 = before (N .count) (N .n6) (r .n6) i l j;
-      n7 = before (N .count) (N .n7) (r .n7) i l j;
-    });
+    expression = expressionOf (raw-before (N .kind) (N .number) (N .count) r i l j);
     subject = before (N .count) (N .subject) (x .subject) i l j;
     verifier = before (N .count) (N .verifier) (x .verifier) i l j;
     state = before (N .count) (N .state) (x .state) i l j;
   }
 
-  -- the columns with it
-  abbrev M : Nodes
-  M = addedNode N x r
-
-  raw-last : NodesSized N → N .count < MOST-NODES → rawFrom (M .kind) (M .parts) (M .n0) (M .n1) (M .n2) (M .n3) (M .n4) (M .n5) (M .n6) (M .n7) (N .count) ≡ r
-  raw-last z l = λ j. record {
-    kind = last (N .count) 128 (N .kind) (r .kind) l (z .kind) j;
-    count = last (N .count) 128 (N .parts) (r .count) l (z .parts) j;
-    n0 = last (N .count) 128 (N .n0) (r .n0) l (z .n0) j;
-    n1 = last (N .count) 128 (N .n1) (r .n1) l (z .n1) j;
-    n2 = last (N .count) 128 (N .n2) (r .n2) l (z .n2) j;
-    n3 = last (N .count) 128 (N .n3) (r .n3) l (z .n3) j;
-    n4 = last (N .count) 128 (N .n4) (r .n4) l (z .n4) j;
-    n5 = last (N .count) 128 (N .n5) (r .n5) l (z .n5) j;
-    n6 = last (N .count) 128 (N .n6) (r .n6) l (z .n6) j;
-    n7 = last (N .count) 128 (N .n7) (r .n7) l (z .n7) j;
-  }
-
   node-last : NodesSized N → N .count < MOST-NODES → expressionOf r ≡ x .expression → nodeAt (addedNode N x r) (N .count) ≡ x
-  unfolding expressionFrom
+  unfolding bodyIn
   node-last z l e = λ j. record {
-    expression = (ap expressionOf (raw-last z l) ∙ e) j;
+    expression = (ap expressionOf (raw-last (N .kind) (N .number) (N .count) r l (z .kind) (z .number)) ∙ e) j;
     subject = last (N .count) 128 (N .subject) (x .subject) l (z .subject) j;
     verifier = last (N .count) 128 (N .verifier) (x .verifier) l (z .verifier) j;
     state = last (N .count) 128 (N .state) (x .state) l (z .state) j;
@@ -180,19 +136,17 @@ module _ (N : Nodes) (x : Node) (r : Raw) where
   added-node-sized z =
       record {
         kind = simp length-set (z .kind);
-        parts = simp length-set (z .parts);
-        n0 = simp length-set (z .n0);
-        n1 = simp length-set (z .n1);
-        n2 = simp length-set (z .n2);
-        n3 = simp length-set (z .n3);
-        n4 = simp length-set (z .n4);
-        n5 = simp length-set (z .n5);
-        n6 = simp length-set (z .n6);
-        n7 = simp length-set (z .n7);
+        number = simp length-set (z .number);
         subject = simp length-set (z .subject);
         verifier = simp length-set (z .verifier);
         state = simp length-set (z .state);
       }
+
+-- columns that have become its columns
+pub node-columns : (N : Nodes) (x : Node) (r : Raw) {K M S W T : List ℕ} → K ≡ kindsWith (N .kind) (N .number) (N .count) r
+    → M ≡ numbersWith (N .kind) (N .number) (N .count) r → S ≡ set (N .subject) (N .count) (x .subject) → W ≡ set (N .verifier) (N .count) (x .verifier)
+    → T ≡ set (N .state) (N .count) (x .state) → nodesFrom (N .count + 1) K M S W T ≡ addedNode N x r
+node-columns N x r a b c d e = λ j. nodesFrom (N .count + 1) (a j) (b j) (c j) (d j) (e j)
 
 pub added-edge-sized : (E : Edges) (x : Edge) → EdgesSized E → EdgesSized (addedEdge E x)
 added-edge-sized E x z = record { kind = simp length-set (z .kind); parent = simp length-set (z .parent); child = simp length-set (z .child) }
@@ -213,26 +167,15 @@ add-edge E x z l =
       child = last (E .count) 256 (E .child) (x .child) l (z .child) j;
     })
 
+pub edge-stored : (E : Edges) (x : Edge) {K P C : List ℕ} → EdgesSized E → E .count < MOST-EDGES → K ≡ set (E .kind) (E .count) (x .kind)
+    → P ≡ set (E .parent) (E .count) (x .parent) → C ≡ set (E .child) (E .count) (x .child) → edgesOf (edgesFrom (E .count + 1) K P C) ≡ edgesOf E ++ (x ∷ [])
+edge-stored E x z l a b c = (λ j. edgesOf (edgesFrom (E .count + 1) (a j) (b j) (c j))) ∙ add-edge E x z l
+
 -- Marking
 
 abbrev pub markedNodes : Nodes → ℕ → ℕ → Nodes
 markedNodes N i s =
-    record {
-      count = N .count;
-      kind = N .kind;
-      parts = N .parts;
-      n0 = N .n0;
-      n1 = N .n1;
-      n2 = N .n2;
-      n3 = N .n3;
-      n4 = N .n4;
-      n5 = N .n5;
-      n6 = N .n6;
-      n7 = N .n7;
-      subject = N .subject;
-      verifier = N .verifier;
-      state = set (N .state) i s;
-    }
+    record { count = N .count; kind = N .kind; number = N .number; subject = N .subject; verifier = N .verifier; state = set (N .state) i s }
 
 -- of a node marked only the state changes
 pub mark-node : (N : Nodes) (i s : ℕ) → length (N .state) ≡ 128 → N .count ≤ MOST-NODES → i < N .count
@@ -252,3 +195,7 @@ mark-node N i s z few l =
       verifier = nodeAt N k .verifier;
       state = getD-set-other (N .state) i k s 0 o j;
     })
+
+pub node-marked : (N : Nodes) (i s : ℕ) {T : List ℕ} → length (N .state) ≡ 128 → N .count ≤ MOST-NODES → i < N .count → T ≡ set (N .state) i s
+    → nodesOf (nodesFrom (N .count) (N .kind) (N .number) (N .subject) (N .verifier) T) ≡ set (nodesOf N) i (inState s (nodeIn (nodesOf N) i))
+node-marked N i s z few l h = ap (λ (t : List ℕ). nodesOf (nodesFrom (N .count) (N .kind) (N .number) (N .subject) (N .verifier) t)) h ∙ mark-node N i s z few l

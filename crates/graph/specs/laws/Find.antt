@@ -1,5 +1,5 @@
 -- What a search through the columns finds. Assumes nothing.
-use Prim.Native.Nat.{ℕ, _≤_, _<_}
+use Prim.Native.Nat.{ℕ, _+_, _≤_, _<_}
 use native.Mathlib.Omega.{arith}
 use mathlib.Core.Path.{_≡_, refl, sym, _∙_, ap}
 use mathlib.Core.Bool.{Bool, true, false, not, _&&_, _||_}
@@ -8,8 +8,8 @@ use Rattle.expression.specs.declared.Expression.{Expression}
 use Rattle.expression.specs.Same.{same}
 use Rattle.word.specs.laws.Bools.{false-true}
 use Rattle.rt0.specs.Pool.{upTo}
-use Rattle.rt0.specs.Lists.{firstOr}
-use Rattle.rt0.specs.laws.Find.{Missed, missed-fewer, first-at, first-none, any-at, any-none}
+use Rattle.rt0.specs.Lists.{any, firstOr}
+use Rattle.rt0.specs.laws.Find.{Missed, missed-fewer, first-at, first-none, any-more}
 use Rattle.graph.specs.declared.Edge.{Edge}
 use Rattle.graph.specs.declared.Nodes.{Nodes}
 use Rattle.graph.specs.declared.Edges.{Edges}
@@ -65,11 +65,14 @@ module _ (N : Nodes) (x : Expression) (v s : ℕ) {j : ℕ} (h : Missed (isNode 
 
 -- Edges
 
-module _ (E : Edges) (d : Edge) {j : ℕ} (h : Missed (λ e. sameEdge e d) (edgeAt E) j) where
-  pub edge-at : {b : Bool} → j < E .count → b ≡ sameEdge (edgeAt E j) d → b ≡ true → true ≡ hasEdge (edgesOf E) d
-  unfolding hasEdge edgesOf
-  edge-at l e t = any-at (E .count) h l e t
+-- whether one of the first j edges is d
+unfoldable pub hasEdgeTo : Edges → Edge → ℕ → Bool
+hasEdgeTo E d j = any (λ e. sameEdge e d) (upTo j (edgeAt E))
 
-  pub edge-none : E .count ≤ j → false ≡ hasEdge (edgesOf E) d
-  unfolding hasEdge edgesOf
-  edge-none l = any-none (E .count) h l
+pub edge-more : (E : Edges) (d : Edge) (j : ℕ) {b c : Bool} → b ≡ hasEdgeTo E d j → c ≡ sameEdge (edgeAt E j) d → (b || c) ≡ hasEdgeTo E d (j + 1)
+unfolding hasEdgeTo
+edge-more E d j h e = any-more (λ x. sameEdge x d) (edgeAt E) j h e
+
+pub edge-all : (E : Edges) (d : Edge) (j : ℕ) {b : Bool} → b ≡ hasEdgeTo E d j → j ≡ E .count → b ≡ hasEdge (edgesOf E) d
+unfolding hasEdge edgesOf hasEdgeTo
+edge-all E d j h e = h ∙ ap (hasEdgeTo E d) e

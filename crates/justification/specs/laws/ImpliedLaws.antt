@@ -19,7 +19,8 @@ use Rattle.propagation.specs.laws.Flags.{decided, flag, flag-same, flag-grows, 
 use Rattle.graph.specs.declared.Edge.{Edge}
 use Rattle.graph.specs.declared.Nodes.{Nodes}
 use Rattle.graph.specs.declared.Edges.{Edges}
-use Rattle.graph.specs.laws.Graph.{nodesOf, edgesOf, edgeAt, expressionFrom}
+use Rattle.rt0.specs.laws.Pool.{bodyIn}
+use Rattle.graph.specs.laws.Graph.{nodesOf, edgesOf, edgeAt}
 use Rattle.graph.specs.laws.Columns.{node-in}
 use Rattle.justification.specs.InTurn.{inTurn}
 use Rattle.justification.specs.laws.InTurn.{turn-all, turn-start, turn-next, turn-stop, turn-done}
@@ -182,7 +183,7 @@ module _ (C : List Credential) (x : ℕ → Expression) where
 -- with the expressions of the nodes
 module _ (C : List Credential) (N : Nodes) (E : Edges) (i : Inside (N .count) E) where
   abbrev pub expressionsOf : ℕ → Expression
-  expressionsOf = expressionFrom (N .kind) (N .parts) (N .n0) (N .n1) (N .n2) (N .n3) (N .n4) (N .n5) (N .n6) (N .n7)
+  expressionsOf = bodyIn (N .kind) (N .number)
 
   same-test : (j : ℕ) → j < E .count → impliedBy C expressionsOf (edgeAt E j) ≡ impliedIf C (nodesOf N) (edgeAt E j)
   unfolding impliedBy impliedIf implied

@@ -2,7 +2,7 @@
 use Prim.Native.Nat.{ℕ, zero, suc, _+_, _*_, _≤_, _<_}
 use native.Mathlib.Omega.{arith}
 use native.Mathlib.Numerals.{add-one, towards-suc}
-use mathlib.Core.Path.{_≡_, refl, _∙_, ap, ap₂}
+use mathlib.Core.Path.{_≡_, refl, sym, _∙_, ap, ap₂, subst}
 use mathlib.Core.List.{List, [], _∷_, _++_}
 use lib.ListN.{getD, length, set, length-set, length-append}
 use lib.Seq.{getD-set-same, getD-set-other, sets}
@@ -12,7 +12,7 @@ use Rattle.expression.specs.declared.Credential.{Credential}
 use Rattle.expression.specs.declared.Expression.{Expression}
 use Rattle.expression.specs.Form.{rawOf, expressionOf}
 use Rattle.expression.specs.laws.Laws.{expression-raw}
-use Rattle.rt0.specs.laws.Pool.{rawAtColumns, headAt, bodyIn, credentialAt, credentials}
+use Rattle.rt0.specs.laws.Pool.{poolOf, rawAtColumns, headAt, bodyIn, credentialAt, credentials}
 use Rattle.rt0.specs.Pool.{upTo}
 use Rattle.rt0.specs.declared.Pool.{Pool}
 
@@ -74,6 +74,54 @@ pair-first M at a b l = getD-set-other (set M at a) (at + 1) at b 0 (λ e. omega
 pub pair-second : (M : List ℕ) (at a b : ℕ) → at + 1 < length M → getD (pair M at a b) (at + 1) 0 ≡ b
 pair-second M at a b l = getD-set-same (set M at a) (at + 1) b 0 (omega (arith, length-set M at a))
 
+-- An expression stored in columns of kinds and numbers, as number c
+
+module _ (K N : List ℕ) (c : ℕ) (r : Raw) where
+  -- the columns with it
+  abbrev pub kindsWith : List ℕ
+  kindsWith = pair K (c * 2) (r .kind) (r .count)
+
+  abbrev pub numbersWith : List ℕ
+  numbersWith = stored N (c * 8) r
+
+  num-before : (j k : ℕ) → j < c → k < 8 → getD numbersWith (j * 8 + k) 0 ≡ getD N (j * 8 + k) 0
+  num-before j k l m = stored-before N (c * 8) r (j * 8 + k) (omega arith)
+
+  -- those before are as they were
+  pub raw-before : (j : ℕ) → j < c → rawAtColumns kindsWith numbersWith j ≡ rawAtColumns K N j
+  raw-before j l = λ i. record {
+    kind = pair-before K (c * 2) (r .kind) (r .count) (j * 2) (omega arith) i;
+    count = pair-before K (c * 2) (r .kind) (r .count) (j * 2 + 1) (omega arith) i;
+    n0 = stored-before N (c * 8) r (j * 8) (omega arith) i;
+    n1 = num-before j 1 l (omega arith) i;
+    n2 = num-before j 2 l (omega arith) i;
+    n3 = num-before j 3 l (omega arith) i;
+    n4 = num-before j 4 l (omega arith) i;
+    n5 = num-before j 5 l (omega arith) i;
+    n6 = num-before j 6 l (omega arith) i;
+    n7 = num-before j 7 l (omega arith) i;
+  }
+
+  module _ (room : c < 128) (k : length K ≡ 256) (z : length N ≡ 1024) where
+    num-last : (m : ℕ) → m < 8 → getD numbersWith (c * 8 + m) 0 ≡ getD (values r) m 0
+    num-last m l = stored-at N (c * 8) r (c * 8 + m) m refl (omega arith) l
+
+    -- and it is number c
+    pub raw-last : rawAtColumns kindsWith numbersWith c ≡ r
+    unfolding values
+    raw-last = λ i. record {
+      kind = pair-first K (c * 2) (r .kind) (r .count) (omega arith) i;
+      count = pair-second K (c * 2) (r .kind) (r .count) (omega arith) i;
+      n0 = stored-at N (c * 8) r (c * 8) 0 (omega arith) (omega arith) (omega arith) i;
+      n1 = num-last 1 (omega arith) i;
+      n2 = num-last 2 (omega arith) i;
+      n3 = num-last 3 (omega arith) i;
+      n4 = num-last 4 (omega arith) i;
+      n5 = num-last 5 (omega arith) i;
+      n6 = num-last 6 (omega arith) i;
+      n7 = num-last 7 (omega arith) i;
+    }
+
 -- The credentials
 
 -- equal elements give equal lists
@@ -92,9 +140,6 @@ pub record Sized (P : Pool) : Type 0 where
   pub numbers : length (P .numbers) ≡ 1024
 
 module _ (P : Pool) (h : Role) (r : Raw) (room : P .count < 128) where
-  num-before : (j k : ℕ) → j < P .count → k < 8 → getD (stored (P .numbers) (P .count * 8) r) (j * 8 + k) 0 ≡ getD (P .numbers) (j * 8 + k) 0
-  num-before j k l m = stored-before (P .numbers) (P .count * 8) r (j * 8 + k) (omega arith)
-
   head-other : (j : ℕ) → j < P .count → headAt (added P h r) j ≡ headAt P j
   unfolding added
   head-other j l = λ i. record {
@@ -102,24 +147,9 @@ module _ (P : Pool) (h : Role) (r : Raw) (room : P .count < 128) where
     name = pair-before (P .heads) (P .count * 2) (h .entity) (h .name) (j * 2 + 1) (omega arith) i;
   }
 
-  raw-other : (j : ℕ) → j < P .count → rawAtColumns (added P h r .kinds) (added P h r .numbers) j ≡ rawAtColumns (P .kinds) (P .numbers) j
-  unfolding added
-  raw-other j l = λ i. record {
-    kind = pair-before (P .kinds) (P .count * 2) (r .kind) (r .count) (j * 2) (omega arith) i;
-    count = pair-before (P .kinds) (P .count * 2) (r .kind) (r .count) (j * 2 + 1) (omega arith) i;
-    n0 = stored-before (P .numbers) (P .count * 8) r (j * 8) (omega arith) i;
-    n1 = num-before j 1 l (omega arith) i;
-    n2 = num-before j 2 l (omega arith) i;
-    n3 = num-before j 3 l (omega arith) i;
-    n4 = num-before j 4 l (omega arith) i;
-    n5 = num-before j 5 l (omega arith) i;
-    n6 = num-before j 6 l (omega arith) i;
-    n7 = num-before j 7 l (omega arith) i;
-  }
-
   add-other : (j : ℕ) → j < P .count → credentialAt (added P h r) j ≡ credentialAt P j
-  unfolding bodyIn
-  add-other j l = λ i. record { head = head-other j l i; body = expressionOf (raw-other j l i) }
+  unfolding bodyIn added
+  add-other j l = λ i. record { head = head-other j l i; body = expressionOf (raw-before (P .kinds) (P .numbers) (P .count) r j l i) }
 
   head-last : Sized P → headAt (added P h r) (P .count) ≡ h
   unfolding added
@@ -128,31 +158,13 @@ module _ (P : Pool) (h : Role) (r : Raw) (room : P .count < 128) where
     name = pair-second (P .heads) (P .count * 2) (h .entity) (h .name) (omega (arith, z .heads)) i;
   }
 
-  num-last : Sized P → (k : ℕ) → k < 8 → getD (stored (P .numbers) (P .count * 8) r) (P .count * 8 + k) 0 ≡ getD (values r) k 0
-  num-last z k l = stored-at (P .numbers) (P .count * 8) r (P .count * 8 + k) k refl (omega (arith, z .numbers)) l
-
-  raw-last : Sized P → rawAtColumns (added P h r .kinds) (added P h r .numbers) (P .count) ≡ r
-  unfolding added values
-  raw-last z = λ i. record {
-    kind = pair-first (P .kinds) (P .count * 2) (r .kind) (r .count) (omega (arith, z .kinds)) i;
-    count = pair-second (P .kinds) (P .count * 2) (r .kind) (r .count) (omega (arith, z .kinds)) i;
-    n0 = stored-at (P .numbers) (P .count * 8) r (P .count * 8) 0 (omega arith) (omega (arith, z .numbers)) (omega arith) i;
-    n1 = num-last z 1 (omega arith) i;
-    n2 = num-last z 2 (omega arith) i;
-    n3 = num-last z 3 (omega arith) i;
-    n4 = num-last z 4 (omega arith) i;
-    n5 = num-last z 5 (omega arith) i;
-    n6 = num-last z 6 (omega arith) i;
-    n7 = num-last z 7 (omega arith) i;
-  }
-
 -- a credential added stands behind the others
 pub add-credential : (P : Pool) (h : Role) (b : Expression) → P .count < 128 → Sized P
     → credentials (added P h (rawOf b)) ≡ credentials P ++ (record { head = h; body = b } ∷ [])
 unfolding credentials added bodyIn
 add-credential P h b room z =
     snoc-upTo (P .count) (credentialAt (added P h (rawOf b))) (credentialAt P) (record { head = h; body = b }) (λ i l. add-other P h (rawOf b) room i l)
-    (λ i. record { head = head-last P h (rawOf b) room z i; body = (ap expressionOf (raw-last P h (rawOf b) room z) ∙ expression-raw b) i })
+    (λ i. record { head = head-last P h (rawOf b) room z i; body = (ap expressionOf (raw-last (P .kinds) (P .numbers) (P .count) (rawOf b) room (z .kinds) (z .numbers)) ∙ expression-raw b) i })
 
 -- a pool with the credential c behind the i others
 pub record Stored (i : ℕ) (c : Credential) (P Q : Pool) : Type 0 where
@@ -166,6 +178,14 @@ stored-of i c P r q l z h =
       sized = record { heads = simp length-set (z .heads); kinds = simp length-set (z .kinds); numbers = simp length-set (z .numbers) };
       all = rw h (add-credential P (c .head) (c .body) (omega arith) z);
     }
+
+-- the same for columns that have become its columns
+pub stored-in : (i : ℕ) (c : Credential) (P : Pool) (r : Raw) {H K N : List ℕ} → i ≡ P .count → i < 128 → Sized P → r ≡ rawOf (c .body)
+    → H ≡ pair (P .heads) (P .count * 2) (c .head .entity) (c .head .name) → K ≡ pair (P .kinds) (P .count * 2) (r .kind) (r .count)
+    → N ≡ stored (P .numbers) (P .count * 8) r → Stored i c P (poolOf (P .count + 1) H K N)
+unfolding added
+stored-in i c P r q l z h a b d =
+    subst (Stored i c P) (λ j. poolOf (P .count + 1) (sym a j) (sym b j) (sym d j)) (stored-of i c P r q l z h)
 
 -- a list from columns is as long as the count
 pub length-upTo : {A : Type 0} (n : ℕ) (f : ℕ → A) → length (upTo n f) ≡ n

@@ -1,7 +1,8 @@
 -- The first of a list that passes a test. Assumes nothing.
 use Prim.Native.Nat.{ℕ, zero, suc, _+_, _≤_, _<_}
 use native.Mathlib.Omega.{arith}
-use mathlib.Core.Path.{_≡_, refl, sym, _∙_, ap}
+use native.Mathlib.Numerals.{add-one}
+use mathlib.Core.Path.{_≡_, refl, sym, _∙_, ap, ap₂}
 use mathlib.Core.Bool.{Bool, true, false, cond, _||_}
 use mathlib.Core.List.{List, [], _∷_, _++_}
 use borrow.Author.Tests.{eqb-true, eqb-false}
@@ -76,3 +77,21 @@ module _ {A : Type 0} {t : A → Bool} {g : ℕ → A} where
   -- the search has come to the end
   pub any-none : (n : ℕ) {j : ℕ} → Missed t g j → n ≤ j → false ≡ any t (upTo n g)
   any-none n h l = sym (any-first t (upTo n g) ∙ first-none (λ x. true) false n (missed-fewer h l))
+
+module _ {A : Type 0} (t : A → Bool) where
+  -- whether any passes, with one more at the end
+  any-last : (xs : List A) (y : A) → any t (xs ++ (y ∷ [])) ≡ (any t xs || t y)
+  any-last [] y = go (t y)
+    where
+      go : (b : Bool) → (b || false) ≡ b
+      go true = refl
+      go false = refl
+  any-last (x ∷ xs) y = go (t x) (any-last xs y)
+    where
+      go : (b : Bool) → any t (xs ++ (y ∷ [])) ≡ (any t xs || t y) → (b || any t (xs ++ (y ∷ []))) ≡ ((b || any t xs) || t y)
+      go true h = refl
+      go false h = h
+
+  -- one element more is tested
+  pub any-more : (g : ℕ → A) (n : ℕ) {b c : Bool} → b ≡ any t (upTo n g) → c ≡ t (g n) → (b || c) ≡ any t (upTo (n + 1) g)
+  any-more g n h e = ap₂ (λ (p q : Bool). p || q) h e ∙ sym (ap (λ (m : ℕ). any t (upTo m g)) (add-one n) ∙ any-last (upTo n g) (g n))

@@ -9,11 +9,11 @@ returns c o columns =
     let c3 = c .before .before .before in
     let c4 = c3 .before in
     let s = c4 in
-    complete-read (nodesFrom (s .args .n) (s .args .kind .now) (o .parts) (o .n0) (o .n1) (o .n2) (o .n3) (o .n4) (o .n5) (o .n6) (o .n7)
+    complete-read (nodesFrom (s .args .n) (s .args .kind .now) (o .number)
     (o .subject) (o .verifier) (s .args .state .now)) (edgesFrom (s .args .m) (s .args .edge .now) (s .args .parent .now) (s .args .child .now))
     columns (s .args .i) (s .pre .0) (c .complete-by .ensures) (c3 .has-open .ensures)
 
 pub is-complete-spec : {M : Type 1} → statement M
 is-complete-spec =
     tie.close
-    (tie.spec (λ c κs. search needs) (λ c. search needs) (λ c. search needs) (λ c κs. search needs) returns)
+    (tie.spec (λ c κs. search needs) (λ c. search needs) (λ c. search needs) (λ c. search needs) (λ c κs. search needs) returns)

@@ -8,9 +8,9 @@ use Rattle.states.proofs.state_of.Tie as tie
 
 -- the columns of satisfied and failed nodes
 settled : (c : tie.After-fail) → StateColumns (nodesOf
-    (c .before .before .before .before .before .before .before .before .before .before .before .before .before .before .before .before .before .before .before .before .before .before .before .before .before .before .before .before .before .before .before .before .before .before .before .before .before .before .before .before .before .before .before .before .before .args .t1))
+    (c .before .before .before .before .before .before .before .before .before .before .before .before .before .before .before .before .before .before .before .before .before .before .before .before .before .before .before .before .before .before .before .before .before .before .before .before .args .t1))
     (edgesOf
-    (c .before .before .before .before .before .before .before .before .before .before .before .before .before .before .before .before .before .before .before .before .before .before .before .before .before .before .before .before .before .before .before .before .before .before .before .before .before .before .before .before .before .before .before .before .before .args .t2))
+    (c .before .before .before .before .before .before .before .before .before .before .before .before .before .before .before .before .before .before .before .before .before .before .before .before .before .before .before .before .before .before .before .before .before .before .before .before .args .t2))
     (c .before .before .before .before .before .before .before .before .before .before .before .before .before .before .before .before .before .before .before .satisfied .result)
     (c .before .before .before .before .before .before .before .before .before .failed .result)
 settled c =
@@ -18,87 +18,87 @@ settled c =
     let c14 = c9 .before .before .before .before .before in
     let c19 = c14 .before .before .before .before .before in
     let c24 = c19 .before .before .before .before .before in
-    let c38 = c24 .before .before .before .before .before .before .before .before .before .before .before .before .before .before in
-    let c40 = c38 .before .before in
-    let c45 = c40 .before .before .before .before .before in
-    let s = c45 in
-    settled-read (s .args .t1) (s .args .t2) _ _ (s .pre .3) (c24 .links .ensures (s .args .t1)) _ _ (s .pre .4) (c40 .needs .ensures (s .args .t1))
+    let c30 = c24 .before .before .before .before .before .before in
+    let c32 = c30 .before .before in
+    let c36 = c32 .before .before .before .before in
+    let s = c36 in
+    settled-read (s .args .t1) (s .args .t2) _ _ (s .pre .3) (c24 .links .ensures (s .args .t1)) _ _ (s .pre .4) (c32 .needs .ensures (s .args .t1))
     (c14 .ways .ensures (s .args .t1)) (c19 .satisfied .ensures) (c9 .failed .ensures)
 
 satisfied-requires : tie.Need-satisfied-requires
 satisfied-requires c κs =
     let c4 = c .before .before .before .before in
-    let c18 = c4 .before .before .before .before .before .before .before .before .before .before .before .before .before .before in
-    let c20 = c18 .before .before in
-    let c25 = c20 .before .before .before .before .before in
-    let s = c25 in (s .pre .1, s .pre .2, c4 .links .ensures (s .args .t1) .slots, needs-beyond (s .args .t1) _ (c20 .needs .ensures (s .args .t1)))
+    let c10 = c4 .before .before .before .before .before .before in
+    let c12 = c10 .before .before in
+    let c16 = c12 .before .before .before .before in
+    let s = c16 in (s .pre .1, s .pre .2, c4 .links .ensures (s .args .t1) .slots, needs-beyond (s .args .t1) _ (c12 .needs .ensures (s .args .t1)))
 
 array-read-if1 : tie.Need-array-read-if1
 array-read-if1 c =
     omega (
       arith,
-      c .before .before .before .before .before .before .before .before .before .before .before .before .before .before .before .before .before .before .before .before .before .before .before .before .before .before .pre .0,
-      c .before .before .before .before .before .before .before .before .before .before .before .before .before .before .before .before .before .before .before .before .before .before .before .before .before .before .pre .1,
+      c .before .before .before .before .before .before .before .before .before .before .before .before .before .before .before .before .before .pre .0,
+      c .before .before .before .before .before .before .before .before .before .before .before .before .before .before .before .before .before .pre .1,
     )
 
 returns : tie.Need-returns
 returns c =
     let c6 = c .before .before .before .before .before .before in
-    let c20 = c6 .before .before .before .before .before .before .before .before .before .before .before .before .before .before in
-    let c22 = c20 .before .before in
-    let c27 = c22 .before .before .before .before .before in
-    let s = c27 in
+    let c12 = c6 .before .before .before .before .before .before in
+    let c14 = c12 .before .before in
+    let c18 = c14 .before .before .before .before in
+    let s = c18 in
     state-satisfied (nodesOf (s .args .t1)) (edgesOf (s .args .t2)) (s .args .i) (c .before .satisfied .result)
     (satisfied-read (s .args .t1) (s .args .t2) _ _ (s .pre .3) (c6 .links .ensures (s .args .t1)) (c .before .satisfied .result)
-    (c22 .needs .ensures (s .args .t1)) (c .before .satisfied .ensures)) (c .if1 .taken)
+    (c14 .needs .ensures (s .args .t1)) (c .before .satisfied .ensures)) (c .if1 .taken)
 
 ways-requires : tie.Need-ways-requires
 ways-requires c κs =
-    let c14 = c .before .before .before .before .before .before .before .before .before .before .before .before .before .before in
-    let c28 = c14 .before .before .before .before .before .before .before .before .before .before .before .before .before .before in
-    let c30 = c28 .before .before in
-    c30 .pre .1
+    let c10 = c .before .before .before .before .before .before .before .before .before .before in
+    let c19 = c10 .before .before .before .before .before .before .before .before .before in
+    let c21 = c19 .before .before in
+    c21 .pre .1
 
 failed-requires : tie.Need-failed-requires
 failed-requires c κs =
     let c4 = c .before .before .before .before in
     let c14 = c4 .before .before .before .before .before .before .before .before .before .before in
-    let c28 = c14 .before .before .before .before .before .before .before .before .before .before .before .before .before .before in
-    let c35 = c28 .before .before .before .before .before .before .before in
-    let s = c35 in (s .pre .1, s .pre .2, c14 .links .ensures (s .args .t1) .slots, ways-beyond (s .args .t1) _ (c4 .ways .ensures (s .args .t1)))
+    let c20 = c14 .before .before .before .before .before .before in
+    let c26 = c20 .before .before .before .before .before .before in
+    let s = c26 in (s .pre .1, s .pre .2, c14 .links .ensures (s .args .t1) .slots, ways-beyond (s .args .t1) _ (c4 .ways .ensures (s .args .t1)))
 
 is-complete-requires : tie.Need-is-complete-requires
 is-complete-requires c κs =
     let c14 = c .before .before .before .before .before .before .before .before .before .before .before .before .before .before in
     let c28 = c14 .before .before .before .before .before .before .before .before .before .before .before .before .before .before in
-    let c42 = c28 .before .before .before .before .before .before .before .before .before .before .before .before .before .before in
-    let s = c42 .before .before .before in (s .pre .0, s .pre .1, s .pre .2)
+    let c33 = c28 .before .before .before .before .before in
+    let s = c33 .before .before .before in (s .pre .0, s .pre .1, s .pre .2)
 
 returns-2 : tie.Need-returns-2
 returns-2 c =
     let c14 = c .before .before .before .before .before .before .before .before .before .before .before .before .before .before in
-    let c28 = c14 .before .before .before .before .before .before .before .before .before .before .before .before .before .before in
-    let c42 = c28 .before .before .before .before .before .before .before .before .before .before .before .before .before .before in
-    let c47 = c42 .before .before .before .before .before in
-    state-complete (settled (c .before .before)) (c47 .args .i) (c .before .is-complete .ensures (c47 .args .t1) (settled (c .before .before)))
+    let c30 = c14 .before .before .before .before .before .before .before .before .before .before .before .before .before .before .before .before in
+    let c34 = c30 .before .before .before .before in
+    let c38 = c34 .before .before .before .before in
+    state-complete (settled (c .before .before)) (c38 .args .i) (c .before .is-complete .ensures (c38 .args .t1) (settled (c .before .before)))
     (c .if2 .taken)
 
 array-read-if3 : tie.Need-array-read-if3
 array-read-if3 c =
     let c14 = c .before .before .before .before .before .before .before .before .before .before .before .before .before .before in
-    let c28 = c14 .before .before .before .before .before .before .before .before .before .before .before .before .before .before in
-    let c42 = c28 .before .before .before .before .before .before .before .before .before .before .before .before .before .before in
-    let c47 = c42 .before .before .before .before .before in
-    omega (arith, c47 .pre .0, c47 .pre .1)
+    let c30 = c14 .before .before .before .before .before .before .before .before .before .before .before .before .before .before .before .before in
+    let c34 = c30 .before .before .before .before in
+    let c38 = c34 .before .before .before .before in
+    omega (arith, c38 .pre .0, c38 .pre .1)
 
 returns-3 : tie.Need-returns-3
 returns-3 c =
     let c3 = c .before .before .before in
     let c17 = c3 .before .before .before .before .before .before .before .before .before .before .before .before .before .before in
     let c21 = c17 .before .before .before .before in
-    let c35 = c21 .before .before .before .before .before .before .before .before .before .before .before .before .before .before in
-    let c48 = c35 .before .before .before .before .before .before .before .before .before .before .before .before .before in
-    state-failed (settled c3) (c48 .args .i) (c .before .before .is-complete .ensures (c48 .args .t1) (settled c3)) (c21 .if1 .left)
+    let c28 = c21 .before .before .before .before .before .before .before in
+    let c39 = c28 .before .before .before .before .before .before .before .before .before .before .before in
+    state-failed (settled c3) (c39 .args .i) (c .before .before .is-complete .ensures (c39 .args .t1) (settled c3)) (c21 .if1 .left)
     (c .before .if2 .left) (c .if3 .taken)
 
 returns-4 : tie.Need-returns-4
@@ -106,9 +106,9 @@ returns-4 c =
     let c3 = c .before .before .before in
     let c17 = c3 .before .before .before .before .before .before .before .before .before .before .before .before .before .before in
     let c21 = c17 .before .before .before .before in
-    let c35 = c21 .before .before .before .before .before .before .before .before .before .before .before .before .before .before in
-    let c48 = c35 .before .before .before .before .before .before .before .before .before .before .before .before .before in
-    state-none (settled c3) (c48 .args .i) (c .before .before .is-complete .ensures (c48 .args .t1) (settled c3)) (c21 .if1 .left)
+    let c28 = c21 .before .before .before .before .before .before .before in
+    let c39 = c28 .before .before .before .before .before .before .before .before .before .before .before in
+    state-none (settled c3) (c39 .args .i) (c .before .before .is-complete .ensures (c39 .args .t1) (settled c3)) (c21 .if1 .left)
     (c .before .if2 .left) (c .if3 .left)
 
 pub state-of-spec : {M : Type 1} → statement M

@@ -1,5 +1,5 @@
 -- A goal's solutions by the columns of satisfied and failed nodes, and the propagated state of a node. Assumes nothing.
-use Prim.Native.Nat.{ℕ, _≤_, _<_}
+use Prim.Native.Nat.{ℕ, _*_, _≤_, _<_}
 use native.Mathlib.Omega.{arith}
 use mathlib.Core.Path.{_≡_, refl, sym, _∙_, ap}
 use mathlib.Core.Bool.{Bool, true, false, not, cond, _&&_, _||_, or-true}
@@ -14,7 +14,8 @@ use Rattle.graph.specs.declared.Node.{Node}
 use Rattle.graph.specs.declared.Edge.{Edge}
 use Rattle.graph.specs.declared.Nodes.{Nodes}
 use Rattle.graph.specs.declared.Edges.{Edges}
-use Rattle.graph.specs.laws.Graph.{expressionFrom, nodesOf, edgesOf}
+use Rattle.rt0.specs.laws.Pool.{bodyIn}
+use Rattle.graph.specs.laws.Graph.{nodesOf, edgesOf}
 use Rattle.graph.specs.laws.Columns.{nodes-length, edges-length, node-in}
 use Rattle.graph.specs.States.{solutionKind}
 use Rattle.graph.specs.Propagated.{isChild, allChildren, satisfiedB, failedB, completeAs, completeB, propagatedState}
@@ -101,16 +102,16 @@ module _ (N : Nodes) (E : Edges) {sat failed : List ℕ} (t : StateColumns (node
       go true false false = refl
       go false a b = refl
 
-  complete-columns : completeBy (getD (N .kind) i 0) (getD (N .state) i 0) (any (isUnknown (N .count) sat failed i) (edgesOf E))
+  complete-columns : completeBy (getD (N .kind) (i * 2) 0) (getD (N .state) i 0) (any (isUnknown (N .count) sat failed i) (edgesOf E))
       ≡ completeB (nodesOf N) (edgesOf E) i
-  unfolding completeBy completeB expressionFrom
+  unfolding completeBy completeB bodyIn
   complete-columns =
-      (λ j. not (eqb (getD (N .kind) i 0) 1) && not (eqb (getD (N .kind) i 0) 2) && not (eqb (getD (N .kind) i 0) 3)
-      && not (eqb (getD (N .kind) i 0) 4) && eqb (getD (N .state) i 0) 3
+      (λ j. not (eqb (getD (N .kind) (i * 2) 0) 1) && not (eqb (getD (N .kind) (i * 2) 0) 2) && not (eqb (getD (N .kind) (i * 2) 0) 3)
+      && not (eqb (getD (N .kind) (i * 2) 0) 4) && eqb (getD (N .state) i 0) 3
       && sym (all-any (λ e. not (isChild (nodesOf N) (edgesOf E) solutionKind i e)
       || (at (satisfiedB (nodesOf N) (edgesOf E)) (e .child) || at (failedB (nodesOf N) (edgesOf E)) (e .child)))
       (isUnknown (N .count) sat failed i) settled-open (edgesOf E)) j)
-      ∙ go (eqb (getD (N .kind) i 0) 1) (eqb (getD (N .kind) i 0) 2) (eqb (getD (N .kind) i 0) 3) (eqb (getD (N .kind) i 0) 4)
+      ∙ go (eqb (getD (N .kind) (i * 2) 0) 1) (eqb (getD (N .kind) (i * 2) 0) 2) (eqb (getD (N .kind) (i * 2) 0) 3) (eqb (getD (N .kind) (i * 2) 0) 4)
       ∙ sym (λ j. completeAs (nodesOf N) (edgesOf E) i (node-in N i l j .state) (node-in N i l j .expression))
     where
       solved : Bool
@@ -125,9 +126,9 @@ module _ (N : Nodes) (E : Edges) {sat failed : List ℕ} (t : StateColumns (node
       go false false false false = refl
 
   -- a goal's completeness is read from the columns
-  pub complete-read : {b o : Bool} → b ≡ completeBy (getD (N .kind) i 0) (getD (N .state) i 0) o
+  pub complete-read : {b o : Bool} → b ≡ completeBy (getD (N .kind) (i * 2) 0) (getD (N .state) i 0) o
       → o ≡ any (isUnknown (N .count) sat failed i) (edgesOf E) → b ≡ completeB (nodesOf N) (edgesOf E) i
-  complete-read h e = h ∙ ap (completeBy (getD (N .kind) i 0) (getD (N .state) i 0)) e ∙ complete-columns
+  complete-read h e = h ∙ ap (completeBy (getD (N .kind) (i * 2) 0) (getD (N .state) i 0)) e ∙ complete-columns
 
 -- The propagated state
 

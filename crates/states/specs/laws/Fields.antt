@@ -15,14 +15,14 @@ use Rattle.word.specs.laws.Bools.{false-true, or-cases}
 use Rattle.rt0.specs.From.{roleOf}
 use Rattle.propagation.specs.laws.Flags.{decided}
 use Rattle.graph.specs.declared.Nodes.{Nodes}
-use Rattle.graph.specs.laws.Graph.{rawFrom}
+use Rattle.rt0.specs.laws.Pool.{rawAtColumns}
 use Rattle.graph.specs.States.{implicationKind}
 use Rattle.graph.specs.Form.{isStandard}
 use Rattle.states.specs.laws.Brings.{needAs, wayAs, slotIn, slotAs, slotBy}
 
 -- the numbers of node i's expression
 abbrev pub rawIn : Nodes → ℕ → Raw
-rawIn N i = rawFrom (N .kind) (N .parts) (N .n0) (N .n1) (N .n2) (N .n3) (N .n4) (N .n5) (N .n6) (N .n7) i
+rawIn N i = rawAtColumns (N .kind) (N .number) i
 
 -- by the kind, the part count and the state
 unfoldable pub needBy : ℕ → ℕ → ℕ → ℕ

@@ -8,11 +8,11 @@ use Rattle.damage.proofs.edges.edges_fit.Statement.{statement}
 use Rattle.damage.proofs.edges.edges_fit.Tie as tie
 
 abbrev Inv-loop : tie.InvT-loop
-Inv-loop h n kind parts n0 n1 n2 n3 n4 n5 n6 n7 subject verifier state m edge parent child b₀ j₀ b j =
-    Bringing h (nodesFrom n kind parts n0 n1 n2 n3 n4 n5 n6 n7 subject verifier state) (edgesFrom m edge parent child) b j
+Inv-loop h n kind number subject verifier state m edge parent child b₀ j₀ b j =
+    Bringing h (nodesFrom n kind number subject verifier state) (edgesFrom m edge parent child) b j
 
 abbrev μ-loop : tie.MeasureT-loop
-μ-loop h n kind parts n0 n1 n2 n3 n4 n5 n6 n7 subject verifier state m edge parent child b₀ j₀ b j = m - j
+μ-loop h n kind number subject verifier state m edge parent child b₀ j₀ b j = m - j
 
 loop-holds : tie.Need-loop-holds Inv-loop μ-loop
 loop-holds c = bringing-none _ _ _ (c .pre .0)

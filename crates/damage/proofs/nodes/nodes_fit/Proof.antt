@@ -9,11 +9,11 @@ use Rattle.damage.proofs.nodes.nodes_fit.Statement.{statement}
 use Rattle.damage.proofs.nodes.nodes_fit.Tie as tie
 
 abbrev Inv-loop : tie.InvT-loop
-Inv-loop k name class n kind parts n0 n1 n2 n3 n4 n5 n6 n7 subject verifier state i₀ i =
-    Judged (nodeFits (namesOf (namesFrom k name class))) (nodeAt (nodesFrom n kind parts n0 n1 n2 n3 n4 n5 n6 n7 subject verifier state)) n i
+Inv-loop k name class n kind number subject verifier state i₀ i =
+    Judged (nodeFits (namesOf (namesFrom k name class))) (nodeAt (nodesFrom n kind number subject verifier state)) n i
 
 abbrev μ-loop : tie.MeasureT-loop
-μ-loop k name class n kind parts n0 n1 n2 n3 n4 n5 n6 n7 subject verifier state i₀ i = n - i
+μ-loop k name class n kind number subject verifier state i₀ i = n - i
 
 loop-holds : tie.Need-loop-holds Inv-loop μ-loop
 loop-holds c = judged-none _ _ _

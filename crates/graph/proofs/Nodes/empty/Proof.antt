@@ -9,7 +9,13 @@ returns : tie.Need-returns
 unfolding nodesOf
 returns c =
     let z = length-replicate {A = ℕ} 128 0 in
-    (refl, record { kind = z; parts = z; n0 = z; n1 = z; n2 = z; n3 = z; n4 = z; n5 = z; n6 = z; n7 = z; subject = z; verifier = z; state = z })
+    (refl, record {
+      kind = length-replicate {A = ℕ} 256 0;
+      number = length-replicate {A = ℕ} 1024 0;
+      subject = z;
+      verifier = z;
+      state = z;
+    })
 
 pub empty-spec : {M : Type 1} → statement M
 empty-spec = tie.close (tie.spec returns)

@@ -9,11 +9,11 @@ use Rattle.graph.proofs.find.find_node.Statement.{statement}
 use Rattle.graph.proofs.find.find_node.Tie as tie
 
 abbrev Inv-loop : tie.InvT-loop
-Inv-loop n kind parts n0 n1 n2 n3 n4 n5 n6 n7 subject verifier x v s i₀ i =
-    (i ≤ n) × ((state : List ℕ) → Missed (isNode x v s) (nodeAt (nodesFrom n kind parts n0 n1 n2 n3 n4 n5 n6 n7 subject verifier state)) i)
+Inv-loop n kind number subject verifier x v s i₀ i =
+    (i ≤ n) × ((state : List ℕ) → Missed (isNode x v s) (nodeAt (nodesFrom n kind number subject verifier state)) i)
 
 abbrev μ-loop : tie.MeasureT-loop
-μ-loop n kind parts n0 n1 n2 n3 n4 n5 n6 n7 subject verifier x v s i₀ i = n - i
+μ-loop n kind number subject verifier x v s i₀ i = n - i
 
 loop-holds : tie.Need-loop-holds Inv-loop μ-loop
 loop-holds c = (omega arith, λ state. missed-start _ _)

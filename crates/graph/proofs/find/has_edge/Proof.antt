@@ -1,31 +1,28 @@
-use Prim.Native.Nat.{_-_}
+use Prim.Native.Nat.{_-_, _≤_}
+use mathlib.Core.Path.{_≡_, refl}
 use native.Mathlib.Omega.{arith}
-use Rattle.rt0.specs.laws.Find.{Missed, missed-start, missed-more}
-use Rattle.graph.specs.laws.Graph.{edgesFrom, edgeAt}
-use Rattle.graph.specs.Find.{sameEdge}
-use Rattle.graph.specs.laws.Find.{edge-at, edge-none}
+use Rattle.graph.specs.laws.Graph.{edgesFrom}
+use Rattle.graph.specs.laws.Find.{hasEdgeTo, edge-more, edge-all}
 use Rattle.graph.proofs.find.has_edge.Statement.{statement}
 use Rattle.graph.proofs.find.has_edge.Tie as tie
 
 abbrev Inv-loop : tie.InvT-loop
-Inv-loop m kind parent child x j₀ j = Missed (λ e. sameEdge e x) (edgeAt (edgesFrom m kind parent child)) j
+Inv-loop m kind parent child x found₀ j₀ found j = (j ≤ m) × (found ≡ hasEdgeTo (edgesFrom m kind parent child) x j)
 
 abbrev μ-loop : tie.MeasureT-loop
-μ-loop m kind parent child x j₀ j = m - j
+μ-loop m kind parent child x found₀ j₀ found j = m - j
 
 loop-holds : tie.Need-loop-holds Inv-loop μ-loop
-loop-holds c = missed-start _ _
-
-returns : tie.Need-returns Inv-loop μ-loop
-returns c = edge-at _ _ (c .before .before .before .loop .inv) (c .before .before .loop-test .taken) (c .before .is-edge .ensures) (c .if1 .taken)
+unfolding hasEdgeTo
+loop-holds c = (omega arith, refl)
 
 loop-again : tie.Need-loop-again Inv-loop μ-loop
-loop-again c = missed-more (c .before .before .before .loop .inv) (c .before .is-edge .ensures) (c .if1 .left)
+loop-again c = (omega arith, edge-more _ _ _ (c .before .before .loop .inv .1) (c .is-edge .ensures))
 
-returns-2 : tie.Need-returns-2 Inv-loop μ-loop
-returns-2 c = edge-none _ _ (c .before .loop .inv) (c .loop-test .left)
+returns : tie.Need-returns Inv-loop μ-loop
+returns c = edge-all _ _ (c .before .loop .j) (c .before .loop .inv .1) (omega (arith, c .before .loop .inv .0, c .loop-test .left))
 
 pub has-edge-spec : {M : Type 1} → statement M
 has-edge-spec =
     tie.close
-    (tie.spec Inv-loop μ-loop loop-holds (λ c κs. omega arith) returns (λ c. omega arith) (λ c. omega arith) loop-again returns-2)
+    (tie.spec Inv-loop μ-loop loop-holds (λ c κs. omega arith) (λ c. omega arith) (λ c. omega arith) loop-again returns)

@@ -1,5 +1,5 @@
 use lib.ListN.{getD}
-use Rattle.graph.specs.laws.Graph.{expressionFrom}
+use Rattle.rt0.specs.laws.Pool.{bodyIn}
 use Rattle.graph.specs.laws.Find.{other-ends, same-ends}
 use mathlib.Core.Path.{_∙_, ap}
 use Rattle.expression.specs.declared.Expression.{Expression}
@@ -11,8 +11,7 @@ use Rattle.graph.proofs.find.is_node.Tie as tie
 -- the expression of node i
 abbrev X : tie.Start → Expression
 X s =
-    expressionFrom (s .args .kind .now) (s .args .parts .now) (s .args .n0 .now) (s .args .n1 .now) (s .args .n2 .now) (s .args .n3 .now)
-    (s .args .n4 .now) (s .args .n5 .now) (s .args .n6 .now) (s .args .n7 .now) (s .args .i)
+    bodyIn (s .args .kind .now) (s .args .number .now) (s .args .i)
 
 returns : tie.Need-returns
 returns c =
@@ -25,7 +24,7 @@ returns-2 c =
     let s = c .before .before .before .before .before in
     same-ends (s .args .x) (s .args .v) (s .args .s) (X s) (getD (s .args .verifier .now) (s .args .i) 0)
     (getD (s .args .subject .now) (s .args .i) 0) (c .before .before .if1 .left)
-    (c .same .ensures ∙ ap (λ (e : Expression). same e (s .args .x)) (c .before .expression-at .ensures))
+    (c .same .ensures ∙ ap (λ (e : Expression). same e (s .args .x)) (c .before .body-at .ensures))
 
 pub is-node-spec : {M : Type 1} → statement M
 is-node-spec =

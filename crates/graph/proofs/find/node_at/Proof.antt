@@ -7,13 +7,8 @@ use Rattle.graph.proofs.find.node_at.Tie as tie
 
 returns : tie.Need-returns
 returns c n l =
-    rw (c .before .before .before .expression-at .ensures)
-    (sym (node-in (nodesFrom n (c .before .before .before .before .args .kind .now)
-    (c .before .before .before .before .args .parts .now) (c .before .before .before .before .args .n0 .now)
-    (c .before .before .before .before .args .n1 .now) (c .before .before .before .before .args .n2 .now)
-    (c .before .before .before .before .args .n3 .now) (c .before .before .before .before .args .n4 .now)
-    (c .before .before .before .before .args .n5 .now) (c .before .before .before .before .args .n6 .now)
-    (c .before .before .before .before .args .n7 .now) (c .before .before .before .before .args .subject .now)
+    rw (c .before .before .before .body-at .ensures)
+    (sym (node-in (nodesFrom n (c .before .before .before .before .args .kind .now) (c .before .before .before .before .args .number .now) (c .before .before .before .before .args .subject .now)
     (c .before .before .before .before .args .verifier .now) (c .before .before .before .before .args .state .now))
     (c .before .before .before .before .args .i) l))
 

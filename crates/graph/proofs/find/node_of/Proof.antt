@@ -9,10 +9,9 @@ use Rattle.graph.proofs.find.node_of.Tie as tie
 
 returns : tie.Need-returns
 returns c =
-    let c14 = c .before .before .before .before .before .before .before .before .before .before .before .before .before .before in
-    let c16 = c14 .before .before in
-    c .node-at .ensures (c16 .args .t1 .count) (omega (arith, c .before .wide .ensures, c16 .pre .0))
-    ∙ ap (λ (i : ℕ). nodeIn (nodesOf (c16 .args .t1)) i) (c .before .wide .ensures)
+    let s = c .before .before .before .before .before .before .before .before in
+    c .node-at .ensures (s .args .t1 .count) (omega (arith, c .before .wide .ensures, s .pre .0))
+    ∙ ap (λ (i : ℕ). nodeIn (nodesOf (s .args .t1)) i) (c .before .wide .ensures)
 
 pub node-of-spec : {M : Type 1} → statement M
 node-of-spec = tie.close (tie.spec (λ c κs. search needs) (λ c κs. search needs) returns)

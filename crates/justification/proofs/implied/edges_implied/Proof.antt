@@ -47,8 +47,7 @@ returns : tie.Need-returns
 returns c =
     let c14 = c .before .before .before .before .before .before .before .before .before .before .before .before .before .before in
     let c27 = c14 .before .before .before .before .before .before .before .before .before .before .before .before .before in
-    let s = c27 in λ o. implied-nodes _ (nodesFrom (s .args .n) (s .args .kind .now) (s .args .parts .now) (s .args .n0 .now) (s .args .n1 .now)
-    (s .args .n2 .now) (s .args .n3 .now) (s .args .n4 .now) (s .args .n5 .now) (s .args .n6 .now) (s .args .n7 .now) (o .subject) (o .verifier)
+    let s = c27 in λ o. implied-nodes _ (nodesFrom (s .args .n) (s .args .kind .now) (s .args .number .now) (o .subject) (o .verifier)
     (o .state)) _ (s .pre .3) (all-on (P s) (s .pre .2)) (c .nodes-implied .ensures)
 
 pub edges-implied-spec : {M : Type 1} → statement M

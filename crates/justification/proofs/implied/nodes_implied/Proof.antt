@@ -1,18 +1,18 @@
 use native.Mathlib.Omega.{arith}
 use Prim.Native.Nat.{_-_}
 use Rattle.rules.specs.laws.Table.{chosen}
-use Rattle.rt0.specs.laws.Pool.{poolOf}
-use Rattle.graph.specs.laws.Graph.{expressionFrom, edgesFrom}
+use Rattle.rt0.specs.laws.Pool.{poolOf, bodyIn}
+use Rattle.graph.specs.laws.Graph.{edgesFrom}
 use Rattle.justification.specs.laws.ImpliedLaws.{Below, below-none, below-next, below-stop, below-done}
 use Rattle.justification.proofs.implied.nodes_implied.Statement.{statement}
 use Rattle.justification.proofs.implied.nodes_implied.Tie as tie
 
 abbrev Inv-loop : tie.InvT-loop
-Inv-loop n kind parts n0 n1 n2 n3 n4 n5 n6 n7 m edge parent child q heads kinds numbers head part first named src deps on mem used c₀ c =
-    Below (chosen (poolOf q heads kinds numbers) on) (expressionFrom kind parts n0 n1 n2 n3 n4 n5 n6 n7) (edgesFrom m edge parent child) n c
+Inv-loop n kind number m edge parent child q heads kinds numbers head part first named src deps on mem used c₀ c =
+    Below (chosen (poolOf q heads kinds numbers) on) (bodyIn kind number) (edgesFrom m edge parent child) n c
 
 abbrev μ-loop : tie.MeasureT-loop
-μ-loop n kind parts n0 n1 n2 n3 n4 n5 n6 n7 m edge parent child q heads kinds numbers head part first named src deps on mem used c₀ c = n - c
+μ-loop n kind number m edge parent child q heads kinds numbers head part first named src deps on mem used c₀ c = n - c
 
 loop-holds : tie.Need-loop-holds Inv-loop μ-loop
 loop-holds c = below-none _ _ _ _

@@ -9,8 +9,7 @@ use Rattle.justification.proofs.linked.is_monitored.Tie as tie
 -- the nodes of the columns
 abbrev N : tie.Start → Nodes
 N s =
-    nodesFrom (s .args .n) (s .args .kind .now) (s .args .parts .now) (s .args .n0 .now) (s .args .n1 .now) (s .args .n2 .now) (s .args .n3 .now)
-    (s .args .n4 .now) (s .args .n5 .now) (s .args .n6 .now) (s .args .n7 .now) (s .args .subject .now) (s .args .verifier .now) (s .args .state .now)
+    nodesFrom (s .args .n) (s .args .kind .now) (s .args .number .now) (s .args .subject .now) (s .args .verifier .now) (s .args .state .now)
 
 returns : tie.Need-returns
 returns c =

@@ -7,12 +7,12 @@ use Rattle.justification.proofs.linked.linked_in_turn.Statement.{statem
 use Rattle.justification.proofs.linked.linked_in_turn.Tie as tie
 
 abbrev Inv-loop : tie.InvT-loop
-Inv-loop n kind parts n0 n1 n2 n3 n4 n5 n6 n7 subject verifier state m edge parent child from slot need head₀ next₀ got₀ sat₀ queue₀ tail t₀ j₀ head
-    next got sat queue t j = Monitoring (nodesFrom n kind parts n0 n1 n2 n3 n4 n5 n6 n7 subject verifier state) (edgesFrom m edge parent child) from
+Inv-loop n kind number subject verifier state m edge parent child from slot need head₀ next₀ got₀ sat₀ queue₀ tail t₀ j₀ head
+    next got sat queue t j = Monitoring (nodesFrom n kind number subject verifier state) (edgesFrom m edge parent child) from
     slot need head next got sat queue t j
 
 abbrev μ-loop : tie.MeasureT-loop
-μ-loop n kind parts n0 n1 n2 n3 n4 n5 n6 n7 subject verifier state m edge parent child from slot need head₀ next₀ got₀ sat₀ queue₀ tail t₀ j₀ head
+μ-loop n kind number subject verifier state m edge parent child from slot need head₀ next₀ got₀ sat₀ queue₀ tail t₀ j₀ head
     next got sat queue t j = m - j
 
 loop-holds : tie.Need-loop-holds Inv-loop μ-loop

@@ -11,8 +11,7 @@ use Rattle.justification.proofs.linked.links_justified.Tie as tie
 -- the nodes and the edges of the columns
 abbrev N : tie.Start → Nodes
 N s =
-    nodesFrom (s .args .n) (s .args .kind .now) (s .args .parts .now) (s .args .n0 .now) (s .args .n1 .now) (s .args .n2 .now) (s .args .n3 .now)
-    (s .args .n4 .now) (s .args .n5 .now) (s .args .n6 .now) (s .args .n7 .now) (s .args .subject .now) (s .args .verifier .now) (s .args .state .now)
+    nodesFrom (s .args .n) (s .args .kind .now) (s .args .number .now) (s .args .subject .now) (s .args .verifier .now) (s .args .state .now)
 
 abbrev E : tie.Start → Edges
 E s = edgesFrom (s .args .m) (s .args .edge .now) (s .args .parent .now) (s .args .child .now)

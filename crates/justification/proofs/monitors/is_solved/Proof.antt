@@ -10,14 +10,14 @@ use Rattle.justification.proofs.monitors.is_solved.Statement.{statement
 use Rattle.justification.proofs.monitors.is_solved.Tie as tie
 
 abbrev Inv-loop : tie.InvT-loop
-Inv-loop n kind parts n0 n1 n2 n3 n4 n5 n6 n7 m edge parent child sat x b g j₀ j =
-    (o : Nodes) → Says (nodesOf (nodesFrom n kind parts n0 n1 n2 n3 n4 n5 n6 n7 (o .subject) (o .verifier) (o .state)))
+Inv-loop n kind number m edge parent child sat x b g j₀ j =
+    (o : Nodes) → Says (nodesOf (nodesFrom n kind number (o .subject) (o .verifier) (o .state)))
     (edgesOf (edgesFrom m edge parent child)) sat
-    → Missed (solves (nodesOf (nodesFrom n kind parts n0 n1 n2 n3 n4 n5 n6 n7 (o .subject) (o .verifier) (o .state)))
+    → Missed (solves (nodesOf (nodesFrom n kind number (o .subject) (o .verifier) (o .state)))
     (edgesOf (edgesFrom m edge parent child)) x b g) (edgeAt (edgesFrom m edge parent child)) j
 
 abbrev μ-loop : tie.MeasureT-loop
-μ-loop n kind parts n0 n1 n2 n3 n4 n5 n6 n7 m edge parent child sat x b g j₀ j = m - j
+μ-loop n kind number m edge parent child sat x b g j₀ j = m - j
 
 loop-holds : tie.Need-loop-holds Inv-loop μ-loop
 loop-holds c o says = missed-start _ _

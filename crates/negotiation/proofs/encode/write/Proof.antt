@@ -10,40 +10,40 @@ header-bytes-requires c κs = counts (c .before .before .args .t1) (c .before .b
 
 write-nodes-requires : tie.Need-write-nodes-requires
 write-nodes-requires c κs = (
-  counts (c .before .before .before .before .before .before .before .before .before .before .before .before .before .before .before .before .before .before .before .before .before .before .before .before .before .before .before .args .t1)
-      (c .before .before .before .before .before .before .before .before .before .before .before .before .before .before .before .before .before .before .before .before .before .before .before .before .before .before .before .pre .0) .0,
+  counts (c .before .before .before .before .before .before .before .before .before .before .before .before .before .before .before .before .before .before .before .args .t1)
+      (c .before .before .before .before .before .before .before .before .before .before .before .before .before .before .before .before .before .before .before .pre .0) .0,
   omega (
     arith,
+    c .before .before .before .before .before .before .before .before .before .write-zeros .kept .0,
+    c .before .before .before .before .before .before .before .before .before .before .before .before .before .copy-in .kept .0,
+    c .before .before .before .before .before .before .before .before .before .before .before .before .before .before .before .before .before .before .before .pre .1,
+  ),
+)
+
+write-edges-requires : tie.Need-write-edges-requires
+write-edges-requires c κs = (
+  counts (c .before .before .before .before .before .before .before .before .before .before .before .before .before .before .before .before .before .before .before .before .before .before .before .before .before .before .before .args .t1)
+      (c .before .before .before .before .before .before .before .before .before .before .before .before .before .before .before .before .before .before .before .before .before .before .before .before .before .before .before .pre .0) .1,
+  omega (
+    arith,
+    c .before .before .before .before .before .before .before .write-nodes .kept .0,
     c .before .before .before .before .before .before .before .before .before .before .before .before .before .before .before .before .before .write-zeros .kept .0,
     c .before .before .before .before .before .before .before .before .before .before .before .before .before .before .before .before .before .before .before .before .before .copy-in .kept .0,
     c .before .before .before .before .before .before .before .before .before .before .before .before .before .before .before .before .before .before .before .before .before .before .before .before .before .before .before .pre .1,
   ),
 )
 
-write-edges-requires : tie.Need-write-edges-requires
-write-edges-requires c κs = (
-  counts (c .before .before .before .before .before .before .before .before .before .before .before .before .before .before .before .before .before .before .before .before .before .before .before .before .before .before .before .before .before .before .before .before .before .before .before .args .t1)
-      (c .before .before .before .before .before .before .before .before .before .before .before .before .before .before .before .before .before .before .before .before .before .before .before .before .before .before .before .before .before .before .before .before .before .before .before .pre .0) .1,
-  omega (
-    arith,
-    c .before .before .before .before .before .before .before .write-nodes .kept .0,
-    c .before .before .before .before .before .before .before .before .before .before .before .before .before .before .before .before .before .before .before .before .before .before .before .before .before .write-zeros .kept .0,
-    c .before .before .before .before .before .before .before .before .before .before .before .before .before .before .before .before .before .before .before .before .before .before .before .before .before .before .before .before .before .copy-in .kept .0,
-    c .before .before .before .before .before .before .before .before .before .before .before .before .before .before .before .before .before .before .before .before .before .before .before .before .before .before .before .before .before .before .before .before .before .before .before .pre .1,
-  ),
-)
-
 write-shown-requires : tie.Need-write-shown-requires
 write-shown-requires c κs = (
-  counts (c .before .before .before .before .before .before .before .before .before .before .before .before .before .before .before .before .before .before .before .before .before .before .before .before .before .before .before .before .before .before .before .before .before .before .before .before .before .before .before .before .before .before .before .args .t1)
-      (c .before .before .before .before .before .before .before .before .before .before .before .before .before .before .before .before .before .before .before .before .before .before .before .before .before .before .before .before .before .before .before .before .before .before .before .before .before .before .before .before .before .before .before .pre .0) .2,
+  counts (c .before .before .before .before .before .before .before .before .before .before .before .before .before .before .before .before .before .before .before .before .before .before .before .before .before .before .before .before .before .before .before .before .before .before .before .args .t1)
+      (c .before .before .before .before .before .before .before .before .before .before .before .before .before .before .before .before .before .before .before .before .before .before .before .before .before .before .before .before .before .before .before .before .before .before .before .pre .0) .2,
   omega (
     arith,
     c .before .before .before .before .before .before .before .write-edges .kept .0,
     c .before .before .before .before .before .before .before .before .before .before .before .before .before .before .before .write-nodes .kept .0,
-    c .before .before .before .before .before .before .before .before .before .before .before .before .before .before .before .before .before .before .before .before .before .before .before .before .before .before .before .before .before .before .before .before .before .write-zeros .kept .0,
-    c .before .before .before .before .before .before .before .before .before .before .before .before .before .before .before .before .before .before .before .before .before .before .before .before .before .before .before .before .before .before .before .before .before .before .before .before .before .copy-in .kept .0,
-    c .before .before .before .before .before .before .before .before .before .before .before .before .before .before .before .before .before .before .before .before .before .before .before .before .before .before .before .before .before .before .before .before .before .before .before .before .before .before .before .before .before .before .before .pre .1,
+    c .before .before .before .before .before .before .before .before .before .before .before .before .before .before .before .before .before .before .before .before .before .before .before .before .before .write-zeros .kept .0,
+    c .before .before .before .before .before .before .before .before .before .before .before .before .before .before .before .before .before .before .before .before .before .before .before .before .before .before .before .before .before .copy-in .kept .0,
+    c .before .before .before .before .before .before .before .before .before .before .before .before .before .before .before .before .before .before .before .before .before .before .before .before .before .before .before .before .before .before .before .before .before .before .before .pre .1,
   ),
 )
 
@@ -51,17 +51,17 @@ same-length : tie.Need-same-length
 same-length c =
     let c10 = c .before .before .before .before .before .before .before .before .before .before in
     let c18 = c10 .before .before .before .before .before .before .before .before in
-    let c32 = c18 .before .before .before .before .before .before .before .before .before .before .before .before .before .before in
-    let c36 = c32 .before .before .before .before in
-    let c40 = c36 .before .before .before .before in
-    c .before .before .write-shown .kept .0 ∙ c10 .write-edges .kept .0 ∙ c18 .write-nodes .kept .0 ∙ c36 .write-zeros .kept .0 ∙ c40 .copy-in .kept .0
+    let c24 = c18 .before .before .before .before .before .before in
+    let c28 = c24 .before .before .before .before in
+    let c32 = c28 .before .before .before .before in
+    c .before .before .write-shown .kept .0 ∙ c10 .write-edges .kept .0 ∙ c18 .write-nodes .kept .0 ∙ c28 .write-zeros .kept .0 ∙ c32 .copy-in .kept .0
 
 returns : tie.Need-returns
 returns c =
     let s = c .before .before in
     let e = s .before .before .before .before .before .before .before .before in
     let n = e .before .before .before .before .before .before .before .before in
-    let z = n .before .before .before .before .before .before .before .before .before .before .before .before .before .before .before .before .before .before in
+    let z = n .before .before .before .before .before .before .before .before .before .before in
     let k = z .before .before .before .before in
     let h = k .before .before .before in
     let a = h .before .before .before in

@@ -11,33 +11,32 @@ use Rattle.rt0.specs.Pool.{upTo}
 use Rattle.expression.specs.declared.Expression.{Expression}
 use Rattle.graph.specs.declared.Node.{Node}
 use Rattle.graph.specs.declared.Nodes.{Nodes}
-use Rattle.graph.specs.laws.Graph.{nodesFrom, nodeAt, nodesOf, expressionFrom}
+use Rattle.rt0.specs.laws.Pool.{bodyIn}
+use Rattle.graph.specs.laws.Graph.{nodesFrom, nodeAt, nodesOf}
 use Rattle.negotiation.specs.Layout.{nodeBytes, records, zeros}
 use Rattle.negotiation.specs.laws.Layout.{record-next, part-written, node-size}
 use Rattle.negotiation.proofs.encode.write_nodes.Statement.{statement}
 use Rattle.negotiation.proofs.encode.write_nodes.Tie as tie
 
 abbrev Inv-loop : tie.InvT-loop
-Inv-loop buf₀ n kind parts n0 n1 n2 n3 n4 n5 n6 n7 subject verifier state i₀ buf i =
+Inv-loop buf₀ n kind number subject verifier state i₀ buf i =
     (i ≤ n) × (length buf ≡ length buf₀) × (buf ≡ pasted buf₀ 128
-    (records nodeBytes (upTo i (nodeAt (nodesFrom n kind parts n0 n1 n2 n3 n4 n5 n6 n7 subject verifier state)))))
+    (records nodeBytes (upTo i (nodeAt (nodesFrom n kind number subject verifier state)))))
 
 abbrev μ-loop : tie.MeasureT-loop
-μ-loop buf₀ n kind parts n0 n1 n2 n3 n4 n5 n6 n7 subject verifier state i₀ buf i = n - i
+μ-loop buf₀ n kind number subject verifier state i₀ buf i = n - i
 
 loop-holds : tie.Need-loop-holds Inv-loop μ-loop
 loop-holds c = (omega arith, refl, paste-zero (c .before .args .buf .now) 128 [])
 
 loop-again : tie.Need-loop-again Inv-loop μ-loop
-unfolding expressionFrom
 loop-again c =
     let w = c .before .before in
     let e = w .before .before .before .before .before in
-    let t = e .before .before .before .before .before .before .before .before .before .before .before in
+    let t = e .before in
     let s = t .before in
     let a = s .before .before .args in
-    let N : Nodes = nodesFrom (a .n) (a .kind .now) (a .parts .now) (a .n0 .now) (a .n1 .now) (a .n2 .now) (a .n3 .now) (a .n4 .now) (a .n5 .now)
-    (a .n6 .now) (a .n7 .now) (a .subject .now) (a .verifier .now) (a .state .now) in
+    let N : Nodes = nodesFrom (a .n) (a .kind .now) (a .number .now) (a .subject .now) (a .verifier .now) (a .state .now) in
     let i : ℕ = s .loop .i in
     let next : i + 1 ≤ a .n = omega (arith, t .loop-test .taken) in
     let room : 128 + i * 22 + 22 ≤ length (a .buf .now) = omega (arith, next, s .before .before .pre .0, s .before .before .pre .1) in
@@ -46,7 +45,7 @@ loop-again c =
       next,
       w .write-node .kept .0 ∙ s .loop .inv .1,
       w .write-node .ensures
-          ∙ (λ t. pasted (s .loop .inv .2 t) (128 + i * 22) (nodeBytes (x (e .expression-of .ensures t))))
+          ∙ (λ t. pasted (s .loop .inv .2 t) (128 + i * 22) (nodeBytes (x (e .body-at .ensures t))))
           ∙ record-next nodeBytes 22 node-size (a .buf .now) 128 i (nodeAt N) room,
     )
 
@@ -62,8 +61,7 @@ returns c =
     let w = c .before .before in
     let s = w .before .before .before in
     let a = s .before .before .args in
-    let N : Nodes = nodesFrom (a .n) (a .kind .now) (a .parts .now) (a .n0 .now) (a .n1 .now) (a .n2 .now) (a .n3 .now) (a .n4 .now) (a .n5 .now)
-    (a .n6 .now) (a .n7 .now) (a .subject .now) (a .verifier .now) (a .state .now) in
+    let N : Nodes = nodesFrom (a .n) (a .kind .now) (a .number .now) (a .subject .now) (a .verifier .now) (a .state .now) in
     let n : ℕ = a .n in
     let all : s .loop .i ≡ n = le-antisymm (s .loop .inv .0) (w .before .before .loop-test .left) in
     w .write-zeros .ensures
@@ -74,8 +72,6 @@ returns c =
 pub write-nodes-spec : {M : Type 1} → statement M
 write-nodes-spec =
     tie.close
-    (tie.spec Inv-loop μ-loop loop-holds (λ c. search needs) (λ c. search needs) (λ c. omega arith) (λ c. search needs) (λ c. omega arith)
-    (λ c. search needs) (λ c. omega arith) (λ c. search needs) (λ c. omega arith) (λ c. search needs) (λ c. omega arith) (λ c. search needs)
-    (λ c. omega arith) (λ c. search needs) (λ c. omega arith) (λ c. search needs) (λ c. omega arith) (λ c. search needs) (λ c κs. search needs)
-    (λ c. omega arith) (λ c. search needs) (λ c. search needs) (λ c. search needs) (λ c. omega arith) (λ c. omega arith) (λ c κs. omega arith)
-    (λ c. omega arith) (λ c. omega arith) loop-again (λ c. omega arith) (λ c. omega arith) write-zeros-requires same-length returns)
+    (tie.spec Inv-loop μ-loop loop-holds (λ c κs. search needs) (λ c. search needs) (λ c. search needs) (λ c. search needs) (λ c. search needs)
+    (λ c. omega arith) (λ c. omega arith) (λ c κs. omega arith) (λ c. omega arith) (λ c. omega arith) loop-again (λ c. omega arith) (λ c. omega arith)
+    write-zeros-requires same-length returns)

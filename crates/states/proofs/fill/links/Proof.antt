@@ -9,12 +9,12 @@ use Rattle.states.proofs.fill.links.Statement.{statement}
 use Rattle.states.proofs.fill.links.Tie as tie
 
 abbrev Inv-loop : tie.InvT-loop
-Inv-loop n kind parts n0 n1 n2 n3 n4 n5 n6 n7 m edge parent child from₀ slot₀ j₀ from slot j =
-    (j ≤ m) × ((o : Nodes) → Linked (nodesFrom n kind parts n0 n1 n2 n3 n4 n5 n6 n7 (o .subject) (o .verifier) (o .state))
+Inv-loop n kind number m edge parent child from₀ slot₀ j₀ from slot j =
+    (j ≤ m) × ((o : Nodes) → Linked (nodesFrom n kind number (o .subject) (o .verifier) (o .state))
     (edgesFrom m edge parent child) j from slot)
 
 abbrev μ-loop : tie.MeasureT-loop
-μ-loop n kind parts n0 n1 n2 n3 n4 n5 n6 n7 m edge parent child from₀ slot₀ j₀ from slot j = m - j
+μ-loop n kind number m edge parent child from₀ slot₀ j₀ from slot j = m - j
 
 loop-holds : tie.Need-loop-holds Inv-loop μ-loop
 loop-holds c = (omega arith, λ o. link-start _ _)
@@ -22,8 +22,7 @@ loop-holds c = (omega arith, λ o. link-start _ _)
 loop-again : tie.Need-loop-again Inv-loop μ-loop
 loop-again c =
     let s = c .before .before .before .before .before .before .before in
-    let N : Nodes → Nodes = λ o. nodesFrom (s .args .n) (s .args .kind .now) (s .args .parts .now) (s .args .n0 .now) (s .args .n1 .now)
-    (s .args .n2 .now) (s .args .n3 .now) (s .args .n4 .now) (s .args .n5 .now) (s .args .n6 .now) (s .args .n7 .now) (o .subject) (o .verifier)
+    let N : Nodes → Nodes = λ o. nodesFrom (s .args .n) (s .args .kind .now) (s .args .number .now) (o .subject) (o .verifier)
     (o .state) in
     let E = edgesFrom (s .args .m) (s .args .edge .now) (s .args .parent .now) (s .args .child .now) in
     let l = c .before .before .before .before .before .before .loop in

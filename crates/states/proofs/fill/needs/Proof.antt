@@ -10,12 +10,11 @@ use Rattle.states.proofs.fill.needs.Statement.{statement}
 use Rattle.states.proofs.fill.needs.Tie as tie
 
 abbrev Inv-loop : tie.InvT-loop
-Inv-loop n kind parts state r₀ i₀ r i =
-    (i ≤ n) × ((o : Nodes) → NodeColumn (nodesFrom n kind parts (o .n0) (o .n1) (o .n2) (o .n3) (o .n4) (o .n5) (o .n6) (o .n7) (o .subject)
-    (o .verifier) state) needOf i r)
+Inv-loop n kind state r₀ i₀ r i =
+    (i ≤ n) × ((o : Nodes) → NodeColumn (nodesFrom n kind (o .number) (o .subject) (o .verifier) state) needOf i r)
 
 abbrev μ-loop : tie.MeasureT-loop
-μ-loop n kind parts state r₀ i₀ r i = n - i
+μ-loop n kind state r₀ i₀ r i = n - i
 
 loop-holds : tie.Need-loop-holds Inv-loop μ-loop
 loop-holds c = (omega arith, λ o. needs-start _)
@@ -29,5 +28,5 @@ returns c = λ o. needs-all _ (c .before .loop .inv .0) (c .loop-test .left) (c 
 pub needs-spec : {M : Type 1} → statement M
 needs-spec =
     tie.close
-    (tie.spec Inv-loop μ-loop loop-holds (λ c. search needs) (λ c. search needs) (λ c. search needs) (λ c κs. search needs) (λ c. search needs)
-    (λ c. omega arith) (λ c. omega arith) loop-again returns)
+    (tie.spec Inv-loop μ-loop loop-holds (λ c. search needs) (λ c. search needs) (λ c. search needs) (λ c. search needs) (λ c. search needs)
+    (λ c. search needs) (λ c κs. search needs) (λ c. search needs) (λ c. omega arith) (λ c. omega arith) loop-again returns)

@@ -1,5 +1,5 @@
 use native.Mathlib.Omega.{arith}
-use Rattle.graph.specs.laws.Graph.{expressionFrom}
+use Rattle.rt0.specs.laws.Pool.{bodyIn}
 use Rattle.states.specs.laws.Fields.{inside, slot-outside, slot-none, slot-some}
 use borrow.Author.Needs.{needs}
 use Rattle.states.proofs.fill.slot_by.Statement.{statement}
@@ -9,8 +9,7 @@ returns : tie.Need-returns
 returns c =
     let c3 = c .before .before .before in
     slot-outside (c3 .args .n) (c3 .args .k) (c3 .args .p) (c3 .args .c)
-    (expressionFrom (c3 .args .kind .now) (c3 .args .parts .now) (c3 .args .n0 .now) (c3 .args .n1 .now) (c3 .args .n2 .now) (c3 .args .n3 .now)
-    (c3 .args .n4 .now) (c3 .args .n5 .now) (c3 .args .n6 .now) (c3 .args .n7 .now)) (c .before .before .wide .ensures)
+    (bodyIn (c3 .args .kind .now) (c3 .args .number .now)) (c .before .before .wide .ensures)
     (c .before .wide2 .ensures) (c .if1 .taken)
 
 slot-as-requires : tie.Need-slot-as-requires
@@ -22,8 +21,7 @@ returns-2 c =
     let c4 = c3 .before in
     let c5 = c4 .before in
     slot-none (c5 .args .n) (c5 .args .k) (c5 .args .p) (c5 .args .c)
-    (expressionFrom (c5 .args .kind .now) (c5 .args .parts .now) (c5 .args .n0 .now) (c5 .args .n1 .now) (c5 .args .n2 .now) (c5 .args .n3 .now)
-    (c5 .args .n4 .now) (c5 .args .n5 .now) (c5 .args .n6 .now) (c5 .args .n7 .now)) (c4 .wide .ensures) (c3 .wide2 .ensures)
+    (bodyIn (c5 .args .kind .now) (c5 .args .number .now)) (c4 .wide .ensures) (c3 .wide2 .ensures)
     (c .before .slot-as .ensures) (c .if2 .taken)
 
 returns-3 : tie.Need-returns-3
@@ -32,8 +30,7 @@ returns-3 c =
     let c4 = c3 .before in
     let c5 = c4 .before in
     slot-some (c5 .args .n) (c5 .args .k) (c5 .args .p) (c5 .args .c)
-    (expressionFrom (c5 .args .kind .now) (c5 .args .parts .now) (c5 .args .n0 .now) (c5 .args .n1 .now) (c5 .args .n2 .now) (c5 .args .n3 .now)
-    (c5 .args .n4 .now) (c5 .args .n5 .now) (c5 .args .n6 .now) (c5 .args .n7 .now)) (c4 .wide .ensures) (c3 .wide2 .ensures)
+    (bodyIn (c5 .args .kind .now) (c5 .args .number .now)) (c4 .wide .ensures) (c3 .wide2 .ensures)
     (c .before .before .if1 .left) (c .before .slot-as .ensures) (c .if2 .left)
 
 pub slot-by-spec : {M : Type 1} → statement M

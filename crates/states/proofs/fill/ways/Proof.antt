@@ -11,8 +11,7 @@ use Rattle.states.proofs.fill.ways.Tie as tie
 
 abbrev Inv-loop : tie.InvT-loop
 Inv-loop n kind state r₀ i₀ r i =
-    (i ≤ n) × ((o : Nodes) → NodeColumn (nodesFrom n kind (o .parts) (o .n0) (o .n1) (o .n2) (o .n3) (o .n4) (o .n5) (o .n6) (o .n7) (o .subject)
-    (o .verifier) state) wayOf i r)
+    (i ≤ n) × ((o : Nodes) → NodeColumn (nodesFrom n kind (o .number) (o .subject) (o .verifier) state) wayOf i r)
 
 abbrev μ-loop : tie.MeasureT-loop
 μ-loop n kind state r₀ i₀ r i = n - i
@@ -29,5 +28,5 @@ returns c = λ o. ways-all _ (c .before .loop .inv .0) (c .loop-test .left) (c .
 pub ways-spec : {M : Type 1} → statement M
 ways-spec =
     tie.close
-    (tie.spec Inv-loop μ-loop loop-holds (λ c. search needs) (λ c. search needs) (λ c κs. search needs) (λ c. search needs) (λ c. omega arith)
-    (λ c. omega arith) loop-again returns)
+    (tie.spec Inv-loop μ-loop loop-holds (λ c. search needs) (λ c. search needs) (λ c. search needs) (λ c κs. search needs) (λ c. search needs)
+    (λ c. omega arith) (λ c. omega arith) loop-again returns)
