@@ -52,11 +52,11 @@ fn is_unprocessed(side: u8, verifier: u8, state: u8) -> bool
 }
 
 // Where the search begins: linked targets look at goals, so behind a move at a goal none is known to rest.
-fn begins_at(kind: &[u8; 128], rests: usize) -> usize
+fn begins_at(kind: &[u8; 256], rests: usize) -> usize
     requires { ⌜ rests < 128 ⌝ }
     ensures { λ r. ⌜ BeginsAt (now (kind .entry)) rests r ⌝ }
 {
-    let k = kind[rests];
+    let k = kind[rests * 2];
     if (k != ENTITY) & (k != ROLE) & (k != LINKED) & (k != INTERSECTION) {
         return 0;
     }

@@ -180,18 +180,18 @@ goal-kind r h =
     go false false false true v w x y z p q s t h = t
     go false false false false v w x y z p q s t h = absurd (false-true (sym h))
 
-goal-node : (N : Nodes) (i : ℕ) → isGoalKind (getD (N .kind) i 0) ≡ false → isGoal (nodeAt N i .expression) ≡ false
+goal-node : (N : Nodes) (i : ℕ) → isGoalKind (getD (N .kind) (i * 2) 0) ≡ false → isGoal (nodeAt N i .expression) ≡ false
 unfolding bodyIn
 goal-node N i h = goal-kind (rawAtColumns (N .kind) (N .number) i) h
 
 -- the search begins at q, or at the first node where q is a goal
 pub record BeginsAt (K : List ℕ) (q r : ℕ) : Type 0 where
-  pub begins : (r ≡ 0) ⊎ ((r ≡ q) × (isGoalKind (getD K q 0) ≡ false))
+  pub begins : (r ≡ 0) ⊎ ((r ≡ q) × (isGoalKind (getD K (q * 2) 0) ≡ false))
 
 pub begins-first : {K : List ℕ} {q : ℕ} → BeginsAt K q 0
 begins-first = record { begins = inl refl }
 
-pub begins-there : {K : List ℕ} {q : ℕ} → isGoalKind (getD K q 0) ≡ false → BeginsAt K q q
+pub begins-there : {K : List ℕ} {q : ℕ} → isGoalKind (getD K (q * 2) 0) ≡ false → BeginsAt K q q
 begins-there h = record { begins = inr (refl, h) }
 
 pub nothing-begins : (T : Tables) (n : Negotiation) {q r : ℕ} → Resting T (stateOf n) q → BeginsAt (n .nodes .kind) q r

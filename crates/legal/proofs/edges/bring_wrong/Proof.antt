@@ -10,12 +10,12 @@ returns c =
 
 returns-2 : tie.Need-returns-2
 returns-2 c =
-    let c14 = c .before .before .before .before .before .before .before .before .before .before .before .before .before .before in
-    let c15 = c14 .before in
-    let c16 = c15 .before in
-    let c17 = c16 .before in
-    let c20 = c17 .before .before .before in
-    bring-there _ _ _ _ (c17 .node-of .ensures) (c16 .child-of .ensures) (c15 .formed-as .ensures) (c20 .pre .1) (c14 .if1 .left) (c .find-node .ensures _)
+    let c6 = c .before .before .before .before .before .before in
+    let c7 = c6 .before in
+    let c8 = c7 .before in
+    let c9 = c8 .before in
+    let c12 = c9 .before .before .before in
+    bring-there _ _ _ _ (c9 .node-of .ensures) (c8 .child-of .ensures) (c7 .formed-as .ensures) (c12 .pre .1) (c6 .if1 .left) (c .find-node .ensures _)
 
 pub bring-wrong-spec : {M : Type 1} → statement M
 bring-wrong-spec =

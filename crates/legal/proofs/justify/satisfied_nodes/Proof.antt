@@ -7,18 +7,18 @@ use Rattle.legal.proofs.justify.satisfied_nodes.Tie as tie
 satisfied-requires : tie.Need-satisfied-requires
 satisfied-requires c κs =
     let c4 = c .before .before .before .before in
-    let c18 = c4 .before .before .before .before .before .before .before .before .before .before .before .before .before .before in
-    let c20 = c18 .before .before in
-    let c25 = c20 .before .before .before .before .before in
-    let s = c25 in (s .pre .0, s .pre .1, c4 .links .ensures (s .args .t1) .slots, needs-beyond (s .args .t1) _ (c20 .needs .ensures (s .args .t1)))
+    let c10 = c4 .before .before .before .before .before .before in
+    let c12 = c10 .before .before in
+    let c16 = c12 .before .before .before .before in
+    let s = c16 in (s .pre .0, s .pre .1, c4 .links .ensures (s .args .t1) .slots, needs-beyond (s .args .t1) _ (c12 .needs .ensures (s .args .t1)))
 
 returns : tie.Need-returns
 returns c =
     let c5 = c .before .before .before .before .before in
-    let c19 = c5 .before .before .before .before .before .before .before .before .before .before .before .before .before .before in
-    let c21 = c19 .before .before in
-    let c26 = c21 .before .before .before .before .before in
-    let s = c26 in says-is (s .args .t1) (s .args .t2) _ _ (s .pre .2) (c5 .links .ensures (s .args .t1)) _ _ (c21 .needs .ensures (s .args .t1))
+    let c11 = c5 .before .before .before .before .before .before in
+    let c13 = c11 .before .before in
+    let c17 = c13 .before .before .before .before in
+    let s = c17 in says-is (s .args .t1) (s .args .t2) _ _ (s .pre .2) (c5 .links .ensures (s .args .t1)) _ _ (c13 .needs .ensures (s .args .t1))
     (c .satisfied .ensures)
 
 pub satisfied-nodes-spec : {M : Type 1} → statement M
