@@ -34,22 +34,8 @@ fn formed<'a>(
         (nodesFrom n (now (kind .entry)) (now (number .entry)) (now (subject .entry))
         (now (verifier .entry)) (now (state .entry)))) e) ⌝ }
 {
-    let p = node_at(
-        kind,
-        number,
-        subject,
-        verifier,
-        state,
-        wide(e.parent),
-    );
-    let c = node_at(
-        kind,
-        number,
-        subject,
-        verifier,
-        state,
-        wide(e.child),
-    );
+    let p = node_at(kind, number, subject, verifier, state, wide(e.parent));
+    let c = node_at(kind, number, subject, verifier, state, wide(e.child));
     form(e.kind, entity_of(h, p.verifier), p, c)
 }
 
@@ -77,15 +63,7 @@ fn edge_fits<'a>(
     if !placed(n, b, e) {
         return false;
     }
-    if !formed(
-        h,
-        kind,
-        number,
-        subject,
-        verifier,
-        state,
-        e,
-    ) {
+    if !formed(h, kind, number, subject, verifier, state, e) {
         return false;
     }
     !has_edge(j, edge, parent, child, e)

@@ -63,27 +63,10 @@ fn records_sound<'a>(
         (stateWith h (nodesOf (nodesFrom n (now (kind .entry)) (now (number .entry)) (now (subject .entry)) (now (verifier .entry))
         (now (state .entry)))) es (credentials (poolOf q (now (heads .entry)) (now (kinds .entry)) (now (numbers .entry)))))) ⌝ }
 {
-    if !nodes_fit(
-        k,
-        name,
-        class,
-        n,
-        kind,
-        number,
-        subject,
-        verifier,
-        state,
-    ) {
+    if !nodes_fit(k, name, class, n, kind, number, subject, verifier, state) {
         return false;
     }
-    let primary = node_at(
-        kind,
-        number,
-        subject,
-        verifier,
-        state,
-        0,
-    );
+    let primary = node_at(kind, number, subject, verifier, state, 0);
     if !primary_sound(h, primary) {
         return false;
     }

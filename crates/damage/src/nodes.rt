@@ -62,29 +62,12 @@ fn node_fits<'a>(
         (nodesOf (nodesFrom i (now (kind .entry)) (now (number .entry)) (now (subject .entry)) (now (verifier .entry)) (now (state .entry))))
         (nodeAt (nodesFrom i (now (kind .entry)) (now (number .entry)) (now (subject .entry)) (now (verifier .entry)) (now (state .entry))) i) ⌝ }
 {
-    let x = node_at(
-        kind,
-        number,
-        subject,
-        verifier,
-        state,
-        i,
-    );
+    let x = node_at(kind, number, subject, verifier, state, i);
     if !node_sound(k, name, class, x) {
         return false;
     }
     let e = x.expression;
-    find_node(
-        i,
-        kind,
-        number,
-        subject,
-        verifier,
-        e,
-        x.verifier,
-        x.subject,
-    )
-        == MOST_NODES
+    find_node(i, kind, number, subject, verifier, e, x.verifier, x.subject) == MOST_NODES
 }
 
 // All nodes.
@@ -105,17 +88,7 @@ pub fn nodes_fit<'a>(
 {
     let mut i = 0;
     while i < n {
-        if !node_fits(
-            k,
-            name,
-            class,
-            kind,
-            number,
-            subject,
-            verifier,
-            state,
-            i,
-        ) {
+        if !node_fits(k, name, class, kind, number, subject, verifier, state, i) {
             return false;
         }
         i += 1;

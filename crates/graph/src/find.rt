@@ -58,10 +58,7 @@ fn is_node<'a>(
     if (verifier[i] != v) | (subject[i] != s) {
         return false;
     }
-    same(
-        body_at(kind, number, i),
-        x,
-    )
+    same(body_at(kind, number, i), x)
 }
 
 // The first node with expression x, verifier v and subject s, or 128, whatever the states.
@@ -81,16 +78,7 @@ pub fn find_node<'a>(
 {
     let mut i = 0;
     while i < n {
-        if is_node(
-            kind,
-            number,
-            subject,
-            verifier,
-            x,
-            v,
-            s,
-            i,
-        ) {
+        if is_node(kind, number, subject, verifier, x, v, s, i) {
             return i;
         }
         i += 1;

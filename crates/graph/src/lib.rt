@@ -1,11 +1,15 @@
 // The trust target graph: nodes and edges in columns.
 use expression::Expression;
+use expression::raw_of;
+use rt0::store_kind;
+use rt0::store_numbers;
 ghost use mathlib.Core.Path.{_≡_};
-ghost use mathlib.Core.List.{[]};
-ghost use Prim.Native.Nat.{_<_};
+ghost use mathlib.Core.List.{[], _∷_, _++_};
+ghost use Prim.Native.Nat.{_≤_, _<_};
 ghost use lib.ListN.{set};
 ghost use Rattle.graph.specs.laws.Columns.{NodesSized, EdgesSized};
 ghost use Rattle.graph.specs.laws.Graph.{nodesOf, edgesOf};
+ghost use Rattle.graph.specs.Graph.{nodeIn, inState};
 pub use find::edge_at;
 pub use find::find_node;
 pub use find::has_edge;
@@ -74,6 +78,31 @@ impl Nodes {
             state: [0; 128],
         }
     }
+
+    pub fn add(mut self, x: Node) -> Self
+        requires { ⌜ self .count < 128 ⌝ }
+        ensures { λ r. ⌜ nodesOf r ≡ nodesOf self ++ (x ∷ []) ⌝ }
+    {
+        let i = self.count;
+        let e = x.expression;
+        let r = raw_of(e);
+        store_kind(&mut self.kind, i, r);
+        store_numbers(&mut self.number, i, r);
+        self.subject[i] = x.subject;
+        self.verifier[i] = x.verifier;
+        self.state[i] = x.state;
+        self.count = i + 1;
+        self
+    }
+
+    // Node i goes into another state.
+    pub fn mark(mut self, i: usize, state: u8) -> Self
+        requires { ⌜ (i < self .count) × (self .count ≤ 128) ⌝ }
+        ensures { λ r. ⌜ nodesOf r ≡ set (nodesOf self) i (inState state (nodeIn (nodesOf self) i)) ⌝ }
+    {
+        self.state[i] = state;
+        self
+    }
 }
 
 impl Edges {
@@ -87,28 +116,16 @@ impl Edges {
             child: [0; 256],
         }
     }
-}
 
-// The number x goes into a column of nodes, their subjects, at i.
-pub fn store_subject(column: &mut [u16; 128], i: usize, x: u16)
-    requires { ⌜ i < 128 ⌝ }
-    ensures { λ _. ⌜ now (column .exit) ≡ set (now (column .entry)) i x ⌝ }
-{
-    column[i] = x;
-}
-
-// The byte x goes into a column of nodes, their verifiers or their states, at i.
-pub fn store_byte(column: &mut [u8; 128], i: usize, x: u8)
-    requires { ⌜ i < 128 ⌝ }
-    ensures { λ _. ⌜ now (column .exit) ≡ set (now (column .entry)) i x ⌝ }
-{
-    column[i] = x;
-}
-
-// The byte x goes into a column of edges at j.
-pub fn store_edge(column: &mut [u8; 256], j: usize, x: u8)
-    requires { ⌜ j < 256 ⌝ }
-    ensures { λ _. ⌜ now (column .exit) ≡ set (now (column .entry)) j x ⌝ }
-{
-    column[j] = x;
+    pub fn add(mut self, x: Edge) -> Self
+        requires { ⌜ self .count < 256 ⌝ }
+        ensures { λ r. ⌜ edgesOf r ≡ edgesOf self ++ (x ∷ []) ⌝ }
+    {
+        let j = self.count;
+        self.kind[j] = x.kind;
+        self.parent[j] = x.parent;
+        self.child[j] = x.child;
+        self.count = j + 1;
+        self
+    }
 }

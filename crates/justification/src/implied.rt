@@ -2,10 +2,10 @@
 use closure::dependents;
 use expression::Expression;
 use graph::IMPLICATION;
-use rt0::body_at;
 use relation::column;
 use relation::in_column;
 use relation::relation;
+use rt0::body_at;
 use rules::rules_of;
 use word::wide;
 ghost use mathlib.Core.Path.{_≡_};

@@ -46,22 +46,8 @@ fn is_monitored<'a>(
     ensures { λ r. ⌜ r ≡ monitored (nodesOf (nodesFrom n (now (kind .entry)) (now (number .entry)) (now (subject .entry))
         (now (verifier .entry)) (now (state .entry)))) (edgesOf (edgesFrom m (now (edge .entry)) (now (parent .entry)) (now (child .entry)))) e ⌝ }
 {
-    let p = node_at(
-        kind,
-        number,
-        subject,
-        verifier,
-        state,
-        wide(e.parent),
-    );
-    let c = node_at(
-        kind,
-        number,
-        subject,
-        verifier,
-        state,
-        wide(e.child),
-    );
+    let p = node_at(kind, number, subject, verifier, state, wide(e.parent));
+    let c = node_at(kind, number, subject, verifier, state, wide(e.child));
     let x = p.expression;
     is_monitored_for(
         n,
@@ -218,15 +204,7 @@ pub fn links_justified<'a>(
         return true;
     }
     let need = needs(n, kind, state);
-    let x = links(
-        n,
-        kind,
-        number,
-        m,
-        edge,
-        parent,
-        child,
-    );
+    let x = links(n, kind, number, m, edge, parent, child);
     let mut head = [0u16; 256];
     let mut next = [0u16; 256];
     let mut got = [0u8; 512];

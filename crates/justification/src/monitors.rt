@@ -59,11 +59,7 @@ fn solves_at<'a>(
     if sat[c] != 1 {
         return false;
     }
-    is_solution_for(
-        x,
-        b,
-        body_at(kind, number, c),
-    )
+    is_solution_for(x, b, body_at(kind, number, c))
 }
 
 // Whether the goal g has one.
@@ -89,19 +85,7 @@ fn is_solved<'a>(
 {
     let mut j = 0;
     while j < m {
-        if solves_at(
-            n,
-            kind,
-            number,
-            edge,
-            parent,
-            child,
-            sat,
-            x,
-            b,
-            g,
-            j,
-        ) {
+        if solves_at(n, kind, number, edge, parent, child, sat, x, b, g, j) {
             return true;
         }
         j += 1;
@@ -139,19 +123,7 @@ fn monitors_at<'a>(
     if n <= wide(c) {
         return false;
     }
-    is_solved(
-        n,
-        kind,
-        number,
-        m,
-        edge,
-        parent,
-        child,
-        sat,
-        x,
-        b,
-        c,
-    )
+    is_solved(n, kind, number, m, edge, parent, child, sat, x, b, c)
 }
 
 // Whether node p has a goal as child that has a satisfied solution for x and B, sat being the satisfied nodes, whatever the nodes' other columns.
@@ -178,20 +150,7 @@ pub fn is_monitored_for<'a>(
 {
     let mut j = 0;
     while j < m {
-        if monitors_at(
-            n,
-            kind,
-            number,
-            m,
-            edge,
-            parent,
-            child,
-            sat,
-            x,
-            b,
-            p,
-            j,
-        ) {
+        if monitors_at(n, kind, number, m, edge, parent, child, sat, x, b, p, j) {
             return true;
         }
         j += 1;

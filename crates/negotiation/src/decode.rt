@@ -13,8 +13,6 @@ use expression::raw_at;
 use expression::role_at;
 use graph::Edges;
 use graph::Nodes;
-use graph::store_byte;
-use graph::store_subject;
 use rt0::Pool;
 use rt0::store;
 use rt0::store_kind;
@@ -66,9 +64,9 @@ fn read_nodes(s: &[u8], count: usize) -> Nodes
         let r = raw_at(s, at);
         store_kind(&mut nodes.kind, i, r);
         store_numbers(&mut nodes.number, i, r);
-        store_subject(&mut nodes.subject, i, number_at(s, at + 18));
-        store_byte(&mut nodes.verifier, i, s[at + 20]);
-        store_byte(&mut nodes.state, i, s[at + 21]);
+        nodes.subject[i] = number_at(s, at + 18);
+        nodes.verifier[i] = s[at + 20];
+        nodes.state[i] = s[at + 21];
         nodes.count = i + 1;
     }
     nodes

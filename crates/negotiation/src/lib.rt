@@ -1,22 +1,15 @@
 // The state of one end of a negotiation.
 use expression::Credential;
 use expression::Role;
-use expression::raw_of;
 use graph::Edge;
 use graph::Edges;
 use graph::Node;
 use graph::Nodes;
-use graph::store_byte;
-use graph::store_edge;
-use graph::store_subject;
 use numbers::MOST_EDGES;
 use numbers::MOST_NODES;
 use numbers::MOST_SHOWN;
 use numbers::NEGOTIATION_BYTES;
 use rt0::Pool;
-use rt0::store_head;
-use rt0::store_kind;
-use rt0::store_numbers;
 ghost use mathlib.Core.Path.{_≡_};
 ghost use Prim.Native.Nat.{_≤_, _<_};
 ghost use Rattle.negotiation.specs.laws.State.{stateOf};
@@ -95,13 +88,9 @@ impl Negotiation {
         requires { ⌜ self .shown .count < MOST-SHOWN ⌝ }
         ensures { λ r. ⌜ stateOf r ≡ withShown (stateOf self) c ⌝ }
     {
-        let k = self.shown.count;
-        let body = c.body;
-        let r = raw_of(body);
-        store_head(&mut self.shown.heads, k, c.head);
-        store_kind(&mut self.shown.kinds, k, r);
-        store_numbers(&mut self.shown.numbers, k, r);
-        self.shown.count = k + 1;
+        let shown = self.shown;
+        let next = shown.add(c);
+        self.shown = next;
         self
     }
 
@@ -109,15 +98,9 @@ impl Negotiation {
         requires { ⌜ self .nodes .count < MOST-NODES ⌝ }
         ensures { λ r. ⌜ stateOf r ≡ withNode (stateOf self) x ⌝ }
     {
-        let i = self.nodes.count;
-        let e = x.expression;
-        let r = raw_of(e);
-        store_kind(&mut self.nodes.kind, i, r);
-        store_numbers(&mut self.nodes.number, i, r);
-        store_subject(&mut self.nodes.subject, i, x.subject);
-        store_byte(&mut self.nodes.verifier, i, x.verifier);
-        store_byte(&mut self.nodes.state, i, x.state);
-        self.nodes.count = i + 1;
+        let nodes = self.nodes;
+        let next = nodes.add(x);
+        self.nodes = next;
         self
     }
 
@@ -125,11 +108,9 @@ impl Negotiation {
         requires { ⌜ self .edges .count < MOST-EDGES ⌝ }
         ensures { λ r. ⌜ stateOf r ≡ withEdge (stateOf self) e ⌝ }
     {
-        let j = self.edges.count;
-        store_edge(&mut self.edges.kind, j, e.kind);
-        store_edge(&mut self.edges.parent, j, e.parent);
-        store_edge(&mut self.edges.child, j, e.child);
-        self.edges.count = j + 1;
+        let edges = self.edges;
+        let next = edges.add(e);
+        self.edges = next;
         self
     }
 
@@ -138,7 +119,9 @@ impl Negotiation {
         requires { ⌜ (i < self .nodes .count) × (self .nodes .count ≤ MOST-NODES) ⌝ }
         ensures { λ r. ⌜ stateOf r ≡ withMark (stateOf self) i state ⌝ }
     {
-        store_byte(&mut self.nodes.state, i, state);
+        let nodes = self.nodes;
+        let next = nodes.mark(i, state);
+        self.nodes = next;
         self
     }
 

@@ -54,11 +54,7 @@ fn way_of(kind: u8, state: u8) -> u8
 }
 
 // What the nodes need, whatever their other columns.
-pub fn needs<'a>(
-    n: usize,
-    kind: &'a [u8; 256],
-    state: &'a [u8; 128],
-) -> [u8; 128]
+pub fn needs<'a>(n: usize, kind: &'a [u8; 256], state: &'a [u8; 128]) -> [u8; 128]
     requires { ⌜ n ≤ 128 ⌝ }
     ensures { λ r. ⌜ ((o : Nodes) → Needs (nodesOf (nodesFrom n (now (kind .entry)) (o .number) (o .subject) (o .verifier) (now (state .entry)))) r) ⌝ }
 {
@@ -115,13 +111,7 @@ fn slot_in(p: Parts, a: Role) -> u16
 }
 
 // Which of the slots of node p an edge of kind k from node c fills, or 4.
-fn slot_as<'a>(
-    kind: &'a [u8; 256],
-    number: &'a [u16; 1024],
-    k: u8,
-    p: usize,
-    c: usize,
-) -> u16
+fn slot_as<'a>(kind: &'a [u8; 256], number: &'a [u16; 1024], k: u8, p: usize, c: usize) -> u16
     requires { ⌜ (p < 128) × (c < 128) ⌝ }
     ensures { λ r. ⌜ r ≡ slotAs k (bodyIn (now (kind .entry)) (now (number .entry)) p)
         (bodyIn (now (kind .entry)) (now (number .entry)) c) ⌝ }
@@ -166,14 +156,7 @@ fn slot_as<'a>(
 }
 
 // The slot that an edge of kind k from node c to node p fills, or 512 where it brings no child.
-fn slot_by<'a>(
-    n: usize,
-    kind: &'a [u8; 256],
-    number: &'a [u16; 1024],
-    k: u8,
-    p: u8,
-    c: u8,
-) -> u16
+fn slot_by<'a>(n: usize, kind: &'a [u8; 256], number: &'a [u16; 1024], k: u8, p: u8, c: u8) -> u16
     requires { ⌜ n ≤ 128 ⌝ }
     ensures { λ r. ⌜ r ≡ slotBy n k p c (bodyIn (now (kind .entry)) (now (number .entry)) p)
         (bodyIn (now (kind .entry)) (now (number .entry)) c) ⌝ }
@@ -210,14 +193,7 @@ pub fn links<'a>(
     let mut j = 0;
     while j < m {
         let c = child[j];
-        let s = slot_by(
-            n,
-            kind,
-            number,
-            edge[j],
-            parent[j],
-            c,
-        );
+        let s = slot_by(n, kind, number, edge[j], parent[j], c);
         if s < NO_SLOT {
             from[j] = c;
             slot[j] = s;

@@ -167,10 +167,6 @@ add-edge E x z l =
       child = last (E .count) 256 (E .child) (x .child) l (z .child) j;
     })
 
-pub edge-stored : (E : Edges) (x : Edge) {K P C : List ℕ} → EdgesSized E → E .count < MOST-EDGES → K ≡ set (E .kind) (E .count) (x .kind)
-    → P ≡ set (E .parent) (E .count) (x .parent) → C ≡ set (E .child) (E .count) (x .child) → edgesOf (edgesFrom (E .count + 1) K P C) ≡ edgesOf E ++ (x ∷ [])
-edge-stored E x z l a b c = (λ j. edgesOf (edgesFrom (E .count + 1) (a j) (b j) (c j))) ∙ add-edge E x z l
-
 -- Marking
 
 abbrev pub markedNodes : Nodes → ℕ → ℕ → Nodes
@@ -195,7 +191,3 @@ mark-node N i s z few l =
       verifier = nodeAt N k .verifier;
       state = getD-set-other (N .state) i k s 0 o j;
     })
-
-pub node-marked : (N : Nodes) (i s : ℕ) {T : List ℕ} → length (N .state) ≡ 128 → N .count ≤ MOST-NODES → i < N .count → T ≡ set (N .state) i s
-    → nodesOf (nodesFrom (N .count) (N .kind) (N .number) (N .subject) (N .verifier) T) ≡ set (nodesOf N) i (inState s (nodeIn (nodesOf N) i))
-node-marked N i s z few l h = ap (λ (t : List ℕ). nodesOf (nodesFrom (N .count) (N .kind) (N .number) (N .subject) (N .verifier) t)) h ∙ mark-node N i s z few l

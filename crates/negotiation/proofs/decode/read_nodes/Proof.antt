@@ -24,11 +24,12 @@ loop-holds c = no-nodes-read (c .before .before .args .s .now) (c .before .befor
 
 loop-again : tie.Need-loop-again Inv-loop μ-loop
 loop-again c =
-    let c9 = c .before .before .before .before .before .before .before .before .before in
-    let r = c9 .before .before .before .before in
+    let g = c .before .before in
+    let n = g .before in
+    let k = n .before .before in
+    let r = k .before .before in
     let l = r .before .before in
     let a = l .before .before .before in
-    let g = c .before .before .before .before .before .before .before in
     let at : ℕ = 128 + l .loop .nodes .count * 22 in
     let x : Node = record {
       expression = expressionOf (r .raw-at .result);
@@ -37,8 +38,7 @@ loop-again c =
       state = getD (a .args .s .now) (at + 21) 0;
     } in
     subst (NodesRead (a .args .s .now) (a .args .count))
-    (sym (node-columns (l .loop .nodes) x (r .raw-at .result) (c9 .before .before .store-kind .ensures) (c9 .store-numbers .ensures)
-    (c .before .before .before .before .before .before .store-subject .ensures) (c .before .before .before .store-byte .ensures) (c .store-byte2 .ensures)))
+    (sym (node-columns (l .loop .nodes) x (r .raw-at .result) (k .store-kind .ensures) (n .store-numbers .ensures) refl refl refl))
     (node-read (a .args .s .now) (a .args .count) (l .loop .nodes) x (r .raw-at .result) (a .pre .0) (l .loop .inv) (r .before .loop-test .taken) refl
     (λ i. record { expression = expressionOf (r .raw-at .ensures i); subject = g .number-at .ensures i; verifier = x .verifier; state = x .state }))
 
@@ -52,5 +52,5 @@ pub read-nodes-spec : {M : Type 1} → statement M
 read-nodes-spec =
     tie.close
     (tie.spec Inv-loop μ-loop (λ c κs. search needs) loop-holds (λ c. omega arith) (λ c. omega arith) (λ c κs. omega arith) (λ c κs. omega arith)
-    (λ c κs. omega arith) (λ c. omega arith) (λ c κs. omega arith) (λ c κs. omega arith) (λ c. omega arith) (λ c. omega arith) (λ c κs. omega arith)
-    (λ c. omega arith) (λ c. omega arith) (λ c κs. omega arith) (λ c. omega arith) (λ c. omega arith) loop-again returns)
+    (λ c κs. omega arith) (λ c. omega arith) (λ c κs. omega arith) (λ c. omega arith) (λ c. omega arith) (λ c. omega arith) (λ c. omega arith)
+    (λ c. omega arith) (λ c. omega arith) (λ c. omega arith) (λ c. omega arith) (λ c. omega arith) (λ c. omega arith) loop-again returns)
