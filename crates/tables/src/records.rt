@@ -99,6 +99,7 @@ fn class_number<'a>(
             roles,
             others,
             x,
+            0,
         ),
         Record::Access(x) => pair_number(
             true,
@@ -114,6 +115,7 @@ fn class_number<'a>(
             roles,
             others,
             x,
+            0,
         ),
     }
 }

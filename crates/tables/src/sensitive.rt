@@ -3,8 +3,8 @@ use crate::PairStep;
 use crate::Pairs;
 use crate::PairsRead;
 use crate::columns::store_pair;
-use crate::lookup::holds;
-use crate::lookup::is_sensitive;
+use crate::lookup::holds_from;
+use crate::lookup::is_sensitive_from;
 use crate::or_else;
 use crate::refusal_of;
 use crate::rising;
@@ -42,7 +42,8 @@ fn pairs_most(access: bool) -> usize
     if access { MOST_ACCESS } else { MOST_SENSITIVE }
 }
 
-// Whether the role r, whose name has class k, may stand: in 0x15 we hold it and it is sensitive, in 0x14 its class is subject-all.
+// Whether the role r, whose name has class k, may stand: in 0x15 we hold it and it is sensitive, in 0x14 its class is subject-all. Where start
+// records of 0x15 stand before it, as many credentials and sensitive roles are theirs, and the search begins behind them.
 fn suits_pair<'a>(
     access: bool,
     k: u8,
@@ -55,6 +56,7 @@ fn suits_pair<'a>(
     roles: &'a [u16; 64],
     others: &'a [u16; 64],
     r: Role,
+    start: usize,
 ) -> bool
     requires { ⌜ (c ≤ 128) × (p ≤ 32) ⌝ }
     ensures { λ b. ⌜ b ≡ cond access (holdsOf own (credentials (poolOf c (now (heads .entry)) (now (kinds .entry)) (now (numbers .entry)))) r
@@ -63,7 +65,8 @@ fn suits_pair<'a>(
     if !access {
         return k == SUBJECT_ALL;
     }
-    holds(own, c, heads, kinds, numbers, r) & is_sensitive(p, roles, others, r)
+    holds_from(own, c, heads, kinds, numbers, r, start)
+        & is_sensitive_from(p, roles, others, r, start)
 }
 
 // The class rules for a sensitive role and its Ack or AC role: zero where they are kept.
@@ -81,6 +84,7 @@ pub fn pair_number<'a>(
     roles: &'a [u16; 64],
     others: &'a [u16; 64],
     x: Pair,
+    start: usize,
 ) -> u64
     requires { ⌜ (n ≤ 64) × Ascending n (now name) × (c ≤ 128) × (p ≤ 32) ⌝ }
     ensures { λ r. ⌜ r ≡ pairNumber access (tablesFor own (namesOf (namesFrom n (now (name .entry)) (now (class .entry))))
@@ -106,6 +110,7 @@ pub fn pair_number<'a>(
         roles,
         others,
         role,
+        start,
     ) {
         return 0;
     }
@@ -196,6 +201,7 @@ fn next_pair<'a>(
                 roles,
                 others,
                 x,
+                count,
             );
             judged_pair(access, k, x, count, last)
         }

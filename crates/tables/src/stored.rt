@@ -8,16 +8,20 @@ use class::ISSUER_ALL;
 use class::ISSUER_DEF;
 use class::SUBJECT_ALL;
 use class::class_of;
-use class::credential_number;
+use class::number_under;
 use expression::Credential;
+use expression::CredentialAnswer;
 use expression::Expression;
 use expression::Role;
 use expression::before_credential;
+use expression::read_credential;
 use numbers::CLASS;
 use numbers::CREDENTIAL_BYTES;
 use numbers::MOST_STORED;
+use numbers::OPERAND;
 use record::Record;
 use record::RecordAnswer;
+use record::begins_stored;
 use record::read_record;
 use rt0::Pool;
 use rt0::store;
@@ -52,9 +56,10 @@ pub fn stored_number<'a>(
     requires { ⌜ (n ≤ 64) × Ascending n (now name) ⌝ }
     ensures { λ r. ⌜ r ≡ storedNumber (namesOf (namesFrom n (now (name .entry)) (now (class .entry)))) subject c ⌝ }
 {
-    let k = credential_number(n, name, class, c);
     let head = c.head;
-    if suits_storage(subject, class_of(n, name, class, head.name)) {
+    let h = class_of(n, name, class, head.name);
+    let k = number_under(n, name, class, h, c);
+    if suits_storage(subject, h) {
         return k;
     }
     or_else(k, CLASS)
@@ -109,6 +114,32 @@ fn pick_stored(subject: bool, r: Record) -> StoredStep
     }
 }
 
+// What stands at an index, where a credential of the storage may stand; its class and its order are left to test.
+fn picked_at(s: &[u8], at: usize, subject: bool) -> StoredStep
+    requires { ⌜ at < length (now s) ⌝ }
+    ensures { λ r. ⌜ storedStep r ≡ stepOf (credentialsOf subject) (λ c. 0) (recordAt (now (s .entry)) at) ⌝ }
+{
+    let a = read_record(s, at);
+    let RecordAnswer::Read(r) = a else {
+        return StoredStep::Stop(refusal_of(a));
+    };
+    pick_stored(subject, r)
+}
+
+// The same; a credential of the storage is read without the record around it.
+fn stored_at(s: &[u8], at: usize, subject: bool) -> StoredStep
+    requires { ⌜ at < length (now s) ⌝ }
+    ensures { λ r. ⌜ storedStep r ≡ stepOf (credentialsOf subject) (λ c. 0) (recordAt (now (s .entry)) at) ⌝ }
+{
+    if !begins_stored(s, at, subject) {
+        return picked_at(s, at, subject);
+    }
+    match read_credential(s, at + 1) {
+        CredentialAnswer::Read(c) => StoredStep::Taken(c),
+        CredentialAnswer::Wrong => StoredStep::Stop(OPERAND),
+    }
+}
+
 // What stands at an index, where a credential of the storage may stand.
 fn next_stored<'a>(
     s: &'a [u8],
@@ -125,13 +156,9 @@ fn next_stored<'a>(
         (numberBehind (credentialsOf subject) (storedNumber (namesOf (namesFrom n (now (name .entry)) (now (class .entry)))) subject) count last)
         (recordAt (now (s .entry)) at) ⌝ }
 {
-    let a = read_record(s, at);
-    let RecordAnswer::Read(r) = a else {
-        return StoredStep::Stop(refusal_of(a));
-    };
-    match pick_stored(subject, r) {
+    match stored_at(s, at, subject) {
         StoredStep::Taken(c) => judged_stored(n, name, class, subject, c, count, last),
-        StoredStep::Stop(_) => StoredStep::Stop(0),
+        StoredStep::Stop(k) => StoredStep::Stop(k),
     }
 }
 
