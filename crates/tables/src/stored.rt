@@ -1,5 +1,5 @@
 // The credentials of a storage.
-use crate::StoredRead;
+use crate::Reached;
 use crate::StoredStep;
 use crate::or_else;
 use crate::refusal_of;
@@ -23,11 +23,12 @@ use record::Record;
 use record::RecordAnswer;
 use record::begins_stored;
 use record::read_record;
-use rt0::Pool;
 use rt0::store;
 ghost use mathlib.Core.Path.{_≡_};
 ghost use Prim.Native.Nat.{_<_, _≤_};
 ghost use lib.ListN.{length};
+ghost use Rattle.rt0.specs.laws.Pool.{poolOf};
+ghost use Rattle.rt0.specs.laws.Added.{Sized};
 ghost use Rattle.class.specs.laws.Names.{namesFrom, namesOf, Ascending};
 ghost use Rattle.record.specs.Record.{recordAt};
 ghost use Rattle.tables.specs.Check.{suitsStorage, storedNumber};
@@ -162,7 +163,7 @@ fn next_stored<'a>(
     }
 }
 
-// The credentials of a storage from an index on.
+// The credentials of a storage from an index on go into the columns.
 pub fn read_stored<'a>(
     s: &'a [u8],
     start: usize,
@@ -170,13 +171,14 @@ pub fn read_stored<'a>(
     name: &'a [u16; 64],
     class: &'a [u8; 64],
     subject: bool,
-) -> StoredRead
-    requires { ⌜ (n ≤ 64) × Ascending n (now name) ⌝ }
-    ensures { λ r. ⌜ StoredGone (namesOf (namesFrom n (now (name .entry)) (now (class .entry)))) subject (now (s .entry)) start r ⌝ }
+    heads: &'a mut [u16; 256],
+    kinds: &'a mut [u8; 256],
+    numbers: &'a mut [u16; 1024],
+) -> Reached
+    requires { ⌜ (n ≤ 64) × Ascending n (now name) × Sized (poolOf 0 (now heads) (now kinds) (now numbers)) ⌝ }
+    ensures { λ r. ⌜ StoredGone (namesOf (namesFrom n (now (name .entry)) (now (class .entry)))) subject (now (s .entry)) start r
+        (poolOf (r .count) (now (heads .exit)) (now (kinds .exit)) (now (numbers .exit))) ⌝ }
 {
-    let mut heads = [0u16; 256];
-    let mut kinds = [0u8; 256];
-    let mut numbers = [0u16; 1024];
     let mut count = 0;
     let mut last = Credential {
         head: Role { entity: 0, name: 0 },
@@ -186,33 +188,23 @@ pub fn read_stored<'a>(
     while at < s.len() {
         match next_stored(s, at, n, name, class, subject, count, last) {
             StoredStep::Taken(c) => {
-                store(&mut heads, &mut kinds, &mut numbers, count, c);
+                store(heads, kinds, numbers, count, c);
                 count += 1;
                 last = c;
                 at += CREDENTIAL_BYTES;
             }
             StoredStep::Stop(k) => {
-                return StoredRead {
+                return Reached {
                     refusal: k,
                     at,
-                    pool: Pool {
-                        count,
-                        heads,
-                        kinds,
-                        numbers,
-                    },
+                    count,
                 };
             }
         }
     }
-    StoredRead {
+    Reached {
         refusal: 0,
         at,
-        pool: Pool {
-            count,
-            heads,
-            kinds,
-            numbers,
-        },
+        count,
     }
 }

@@ -96,7 +96,7 @@ stored-start ns subject s start P last h z =
 module _ {ns : List Name} {subject : Bool} {s : List ℕ} {start : ℕ} {P : Pool} {last : Credential} {at : ℕ}
     (r : ReadingStored ns subject s start P last at) where
   -- no byte is left
-  pub stored-past : length s ≤ at → StoredGone ns subject s start (record { refusal = 0; at = at; pool = P })
+  pub stored-past : length s ≤ at → StoredGone ns subject s start (record { refusal = 0; at = at; count = P .count }) P
   stored-past h = gone-past (r .going) h
 
   module _ (more : at < length s) {x : StoredStep}
@@ -116,7 +116,7 @@ module _ {ns : List Name} {subject : Bool} {s : List ℕ} {start : ℕ} {P : Poo
         }
 
     -- the reading of credentials stops
-    pub stored-stop : (k : ℕ) → x ≡ y.Stop k → StoredGone ns subject s start (record { refusal = k; at = at; pool = P })
+    pub stored-stop : (k : ℕ) → x ≡ y.Stop k → StoredGone ns subject s start (record { refusal = k; at = at; count = P .count }) P
     stored-stop k e = going-stop (r .going) more (credentials-lawful subject) (P .count) (count-length P) k (sym h ∙ ap storedStep e)
 
 -- a pool counts its credentials
