@@ -3,12 +3,15 @@ use expression::Credential;
 use expression::Expression;
 use expression::Parts;
 use numbers::CLASS;
+use numbers::MOST_NAMES;
 use numbers::NAME;
 ghost use mathlib.Core.Path.{_≡_};
 ghost use mathlib.Core.Bool.{cond};
 ghost use mathlib.Core.List.{[], _∷_};
-ghost use Prim.Native.Nat.{_≤_};
-ghost use Rattle.class.specs.laws.Names.{namesFrom, namesOf, Ascending};
+ghost use Prim.Native.Nat.{_<_, _+_, _-_, _≤_};
+ghost use lib.Dec.{ltb};
+ghost use lib.ListN.{getD};
+ghost use Rattle.class.specs.laws.Names.{namesFrom, namesOf, Ascending, Between, Placed};
 ghost use Rattle.class.specs.Names.{classOf};
 ghost use Rattle.class.specs.Typing.{named as namedOf, linked as linkedOf, together, typeOf, isUnnamed, suits as suitsOf, credentialNumber};
 
@@ -39,28 +42,69 @@ pub const ISSUER_ALL: u8 = 2;
 
 pub const SUBJECT_ALL: u8 = 3;
 
+// The second half of the names from low on where the first, so many, are less than m, else the first.
+fn nearer<'a>(name: &'a [u16; 64], m: u16, low: usize, half: usize) -> usize
+    requires { ⌜ (0 < half) × (low + half ≤ 64) ⌝ }
+    ensures { λ r. ⌜ r ≡ cond (ltb (getD (now (name .entry)) (low + half - 1) 0) m) (low + half) low ⌝ }
+{
+    if name[low + half - 1] < m {
+        return low + half;
+    }
+    low
+}
+
+// The only place where m may stand among the names from start on, so many.
+fn place_among<'a>(name: &'a [u16; 64], m: u16, start: usize, most: usize) -> usize
+    requires { ⌜ (0 < most) × (start + most ≤ 64) ⌝ }
+    ensures { λ r. ⌜ Placed (now (name .entry)) m start most r ⌝ }
+{
+    let mut low = start;
+    let mut size = most;
+    while 1 < size {
+        let half = size / 2;
+        low = nearer(name, m, low, half);
+        size = size - half;
+    }
+    low
+}
+
+// Where 32 names begin among which m stands if it stands among n names: at the first, or 32 before the end.
+fn half_place<'a>(n: usize, name: &'a [u16; 64], m: u16) -> usize
+    requires { ⌜ (32 ≤ n) × (n ≤ 64) × Ascending n (now name) ⌝ }
+    ensures { λ r. ⌜ Between n (now (name .entry)) m r 32 ⌝ }
+{
+    let half = MOST_NAMES / 2;
+    if name[half - 1] < m {
+        return n - half;
+    }
+    0
+}
+
+// The only place where m may stand among n names. From 32 names on the search is among 32, a fixed number: it is compiled without a loop.
+fn place<'a>(n: usize, name: &'a [u16; 64], m: u16) -> usize
+    requires { ⌜ (0 < n) × (n ≤ 64) × Ascending n (now name) ⌝ }
+    ensures { λ r. ⌜ Between n (now (name .entry)) m r 1 ⌝ }
+{
+    let half = MOST_NAMES / 2;
+    if n < half {
+        return place_among(name, m, 0, n);
+    }
+    place_among(name, m, half_place(n, name, m), half)
+}
+
 // The class of the name m, or zero where it has none.
 pub fn class_of<'a>(n: usize, name: &'a [u16; 64], class: &'a [u8; 64], m: u16) -> u8
     requires { ⌜ (n ≤ 64) × Ascending n (now name) ⌝ }
     ensures { λ r. ⌜ r ≡ classOf (namesOf (namesFrom n (now (name .entry)) (now (class .entry)))) m ⌝ }
 {
-    let mut low = 0;
-    let mut high = n;
-    while low < high {
-        let mid = low + (high - low) / 2;
-        if name[mid] < m {
-            low = mid + 1;
-        } else {
-            high = mid;
-        }
-    }
-    if low == n {
+    if n == 0 {
         return 0;
     }
-    if name[low] != m {
+    let i = place(n, name, m);
+    if name[i] != m {
         return 0;
     }
-    class[low]
+    class[i]
 }
 
 // A role or a goal, by the class of its name.
@@ -163,6 +207,24 @@ fn suits(t: Typing, k: u8) -> u64
     }
 }
 
+// The class rules for a credential whose head has class k: zero where it keeps them.
+pub fn number_under<'a>(
+    n: usize,
+    name: &'a [u16; 64],
+    class: &'a [u8; 64],
+    k: u8,
+    c: Credential,
+) -> u64
+    requires { ⌜ (n ≤ 64) × Ascending n (now name) × (k ≡ classOf (namesOf (namesFrom n (now name) (now class))) (c .head .name)) ⌝ }
+    ensures { λ r. ⌜ r ≡ credentialNumber (namesOf (namesFrom n (now (name .entry)) (now (class .entry)))) c ⌝ }
+{
+    let body = c.body;
+    if k == 0 {
+        return NAME;
+    }
+    suits(type_of(n, name, class, body), k)
+}
+
 // The class rules for a credential: zero where it keeps them.
 pub fn credential_number<'a>(
     n: usize,
@@ -174,10 +236,6 @@ pub fn credential_number<'a>(
     ensures { λ r. ⌜ r ≡ credentialNumber (namesOf (namesFrom n (now (name .entry)) (now (class .entry)))) c ⌝ }
 {
     let head = c.head;
-    let body = c.body;
     let k = class_of(n, name, class, head.name);
-    if k == 0 {
-        return NAME;
-    }
-    suits(type_of(n, name, class, body), k)
+    number_under(n, name, class, k, c)
 }

@@ -11,9 +11,11 @@ use crate::read_expression;
 use crate::well_formed;
 use crate::write_expression;
 ghost use mathlib.Core.Path.{_≡_};
+ghost use mathlib.Core.Bool.{true};
 ghost use Prim.Native.Nat.{_+_, _≤_, _<_};
 ghost use lib.ListN.{length};
 ghost use Rattle.expression.specs.Bytes.{pasted};
+ghost use Rattle.expression.specs.Form.{wellFormed};
 ghost use Rattle.expression.specs.Credential.{isBody, beginsWith, wellFormedCredential, checkedCredential, readCredential, roleAt, roleBytes};
 ghost use Rattle.expression.specs.Credential.{credentialBytes};
 
@@ -49,10 +51,14 @@ pub fn well_formed_credential(c: Credential) -> bool
     is_role(head) & well_formed(body) & is_body(body) & begins_with(head.entity, body)
 }
 
+// A credential whose body is of right form.
 fn checked(c: Credential) -> CredentialAnswer
+    requires { ⌜ wellFormed (c .body) ≡ true ⌝ }
     ensures { λ r. ⌜ r ≡ checkedCredential c ⌝ }
 {
-    if well_formed_credential(c) {
+    let head = c.head;
+    let body = c.body;
+    if is_role(head) & is_body(body) & begins_with(head.entity, body) {
         CredentialAnswer::Read(c)
     } else {
         CredentialAnswer::Wrong

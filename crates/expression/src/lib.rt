@@ -268,14 +268,27 @@ fn same_raw(a: Raw, b: Raw) -> bool
         & (a.n7 == b.n7)
 }
 
+// Whether these are the numbers of the expression that they would be: of kind 1 to 5, and zero where one is unused.
+fn is_exact(r: Raw) -> bool
+    ensures { λ b. ⌜ b ≡ sameRaw (rawOf (expressionOf r)) r ⌝ }
+{
+    let kind = r.kind;
+    match kind {
+        1 => same_raw(plain(1, r.n0, 0, 0), r),
+        2 => same_raw(plain(2, r.n0, r.n1, 0), r),
+        3 => same_raw(plain(3, r.n0, r.n1, r.n2), r),
+        4 => true,
+        5 => same_raw(plain(5, r.n0, 0, 0), r),
+        _ => false,
+    }
+}
+
 // An expression's numbers, if they are of right form.
 pub fn form(r: Raw) -> ExpressionAnswer
     ensures { λ a. ⌜ a ≡ formOf r ⌝ }
 {
-    let ExpressionAnswer::Read(e) = candidate(r) else {
-        return ExpressionAnswer::Wrong;
-    };
-    if same_raw(raw_of(e), r) & well_formed(e) {
+    let e = expression_of(r);
+    if is_exact(r) & well_formed(e) {
         ExpressionAnswer::Read(e)
     } else {
         ExpressionAnswer::Wrong

@@ -41,6 +41,11 @@ pub fn before_credential(c: Credential, d: Credential) -> bool
     let k = d.head;
     let body = c.body;
     let other = d.body;
-    let rest = before(body, other);
-    ahead(h.entity, k.entity, ahead(h.name, k.name, rest))
+    if h.entity != k.entity {
+        return h.entity < k.entity;
+    }
+    if h.name != k.name {
+        return h.name < k.name;
+    }
+    before(body, other)
 }

@@ -17,6 +17,7 @@ ghost use mathlib.Core.Path.{_≡_};
 ghost use Prim.Native.Nat.{_<_, _+_};
 ghost use lib.ListN.{length};
 ghost use Rattle.record.specs.Record.{formedName, formedPair, stored as storedIn, paired as pairedIn, ownAt, nameAt, storedAt, pairAt, recordAt};
+ghost use Rattle.record.specs.laws.Record.{storedCode, beginsStored};
 
 // A sensitive role with its Ack role, or with its AC role.
 pub struct Pair {
@@ -103,6 +104,21 @@ fn stored_at(s: &[u8], at: usize, subject: bool) -> RecordAnswer
         return RecordAnswer::Refused(OPERAND);
     };
     RecordAnswer::Read(stored(subject, c))
+}
+
+// The first byte of a stored credential.
+fn stored_code(subject: bool) -> u8
+    ensures { λ r. ⌜ r ≡ storedCode subject ⌝ }
+{
+    if subject { 19 } else { 18 }
+}
+
+// Whether a stored credential begins at an index, and no byte of it is cut off.
+pub fn begins_stored(s: &[u8], at: usize, subject: bool) -> bool
+    requires { ⌜ at < length (now s) ⌝ }
+    ensures { λ r. ⌜ r ≡ beginsStored subject (now (s .entry)) at ⌝ }
+{
+    (CREDENTIAL_BYTES <= s.len() - at) & (s[at] == stored_code(subject))
 }
 
 // Whether both roles have entities and names.

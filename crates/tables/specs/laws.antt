@@ -11,6 +11,7 @@ pub mod StoredReading
 pub mod PairsReading
 pub mod Decoding
 pub mod DecodingLaws
+pub mod DecodingParts
 pub mod Sorted
 pub mod Public
 pub mod Fit

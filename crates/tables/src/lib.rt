@@ -76,23 +76,37 @@ pub enum OwnAnswer {
     Refused(u64),
 }
 
-// The records of a command, the index behind them, and why the reading stopped there.
-pub struct NamesRead {
+// How many records of a command were read, the index behind them, and why the reading stopped there.
+pub struct Reached {
     pub refusal: u64,
     pub at: usize,
-    pub names: Names,
+    pub count: usize,
 }
 
-pub struct StoredRead {
+// How many pairs were read, where the refusal is 0.
+pub struct PairCounts {
     pub refusal: u64,
-    pub at: usize,
-    pub pool: Pool,
+    pub sensitive: usize,
+    pub access: usize,
 }
 
-pub struct PairsRead {
+// How many credentials and pairs were read, where the refusal is 0.
+pub struct StoredCounts {
     pub refusal: u64,
-    pub at: usize,
-    pub pairs: Pairs,
+    pub issuer: usize,
+    pub subject: usize,
+    pub sensitive: usize,
+    pub access: usize,
+}
+
+// How many records of each command were read, where the refusal is 0.
+pub struct Counts {
+    pub refusal: u64,
+    pub names: usize,
+    pub issuer: usize,
+    pub subject: usize,
+    pub sensitive: usize,
+    pub access: usize,
 }
 
 impl House {

@@ -11,9 +11,9 @@ use rt0::head_at;
 ghost use mathlib.Core.Path.{_≡_};
 ghost use Prim.Native.Nat.{_<_, _≤_};
 ghost use Rattle.rt0.specs.laws.Pool.{poolOf, credentialIn, credentials as credentialsOf};
-ghost use Rattle.tables.specs.laws.Tables.{pairsFrom, pairsOf};
+ghost use Rattle.tables.specs.laws.Tables.{pairsFrom, pairsOf, pairFrom};
 ghost use Rattle.tables.specs.Lookup.{directOf, holds as holdsOf, isSensitive, otherOf, isDirect};
-ghost use Rattle.expression.specs.Same.{sameCredential};
+ghost use Rattle.expression.specs.Same.{sameRole, sameCredential};
 
 // Whether credential i is role r from self.
 fn is_direct_at<'a>(
@@ -55,6 +55,29 @@ pub fn holds<'a>(
     false
 }
 
+// Whether we hold the role, where the credentials from start on are tried first.
+pub fn holds_from<'a>(
+    own: u16,
+    n: usize,
+    heads: &'a [u16; 256],
+    kinds: &'a [u8; 256],
+    numbers: &'a [u16; 1024],
+    r: Role,
+    start: usize,
+) -> bool
+    requires { ⌜ n ≤ 128 ⌝ }
+    ensures { λ b. ⌜ b ≡ holdsOf own (credentialsOf (poolOf n (now (heads .entry)) (now (kinds .entry)) (now (numbers .entry)))) r ⌝ }
+{
+    let mut i = start;
+    while i < n {
+        if is_direct_at(own, heads, kinds, numbers, r, i) {
+            return true;
+        }
+        i += 1;
+    }
+    holds(own, n, heads, kinds, numbers, r)
+}
+
 // The Ack role of a sensitive role, or its AC role, by the pairs of the one command or the other.
 pub fn other_of<'a>(n: usize, roles: &'a [u16; 64], others: &'a [u16; 64], r: Role) -> RoleAnswer
     requires { ⌜ n ≤ 32 ⌝ }
@@ -82,6 +105,37 @@ pub fn is_sensitive<'a>(n: usize, roles: &'a [u16; 64], others: &'a [u16; 64], r
         RoleAnswer::Found(_) => true,
         RoleAnswer::Absent => false,
     }
+}
+
+// Whether pair i is that of role r.
+fn is_pair_of<'a>(roles: &'a [u16; 64], others: &'a [u16; 64], r: Role, i: usize) -> bool
+    requires { ⌜ i < 32 ⌝ }
+    ensures { λ b. ⌜ b ≡ sameRole (pairFrom (now (roles .entry)) (now (others .entry)) i .role) r ⌝ }
+{
+    let p = pair_at(roles, others, i);
+    let role = p.role;
+    same_role(role, r)
+}
+
+// Whether a role stands in 0x14, where the pairs from start on are tried first.
+pub fn is_sensitive_from<'a>(
+    n: usize,
+    roles: &'a [u16; 64],
+    others: &'a [u16; 64],
+    r: Role,
+    start: usize,
+) -> bool
+    requires { ⌜ n ≤ 32 ⌝ }
+    ensures { λ b. ⌜ b ≡ isSensitive (pairsOf (pairsFrom n (now (roles .entry)) (now (others .entry)))) r ⌝ }
+{
+    let mut i = start;
+    while i < n {
+        if is_pair_of(roles, others, r, i) {
+            return true;
+        }
+        i += 1;
+    }
+    is_sensitive(n, roles, others, r)
 }
 
 // Whether a credential is the direct one of a sensitive role.

@@ -1,11 +1,10 @@
 // The names of the tables.
 use crate::NameStep;
-use crate::NamesRead;
+use crate::Reached;
 use crate::columns::store_name;
 use crate::refusal_of;
 use crate::rising;
 use class::Name;
-use class::Names;
 use numbers::MOST_NAMES;
 use numbers::NAME_BYTES;
 use record::Record;
@@ -15,6 +14,8 @@ ghost use mathlib.Core.Path.{_≡_};
 ghost use Prim.Native.Nat.{_<_};
 ghost use lib.ListN.{length};
 ghost use Rattle.record.specs.Record.{recordAt};
+ghost use Rattle.class.specs.laws.Names.{namesFrom};
+ghost use Rattle.tables.specs.laws.Columns.{NamesSized};
 ghost use Rattle.tables.specs.laws.Group.{numberBehind, judgedStep, pickedStep, stepOf};
 ghost use Rattle.tables.specs.laws.Groups.{names as namesGroup, pickName};
 ghost use Rattle.tables.specs.laws.Reading.{nameStep, noNumber, NamesGone};
@@ -56,35 +57,39 @@ fn next_name(s: &[u8], at: usize, count: usize, last: Name) -> NameStep
     name_of(r, count, last)
 }
 
-// The names from an index on.
-pub fn read_names(s: &[u8], start: usize) -> NamesRead
-    ensures { λ r. ⌜ NamesGone (now (s .entry)) start r ⌝ }
+// The names from an index on go into the columns.
+pub fn read_names<'a>(
+    s: &'a [u8],
+    start: usize,
+    name: &'a mut [u16; 64],
+    class: &'a mut [u8; 64],
+) -> Reached
+    requires { ⌜ NamesSized (namesFrom 0 (now name) (now class)) ⌝ }
+    ensures { λ r. ⌜ NamesGone (now (s .entry)) start r (namesFrom (r .count) (now (name .exit)) (now (class .exit))) ⌝ }
 {
-    let mut name = [0u16; 64];
-    let mut class = [0u8; 64];
     let mut count = 0;
     let mut last = Name { name: 0, class: 0 };
     let mut at = start;
     while at < s.len() {
         match next_name(s, at, count, last) {
             NameStep::Taken(n) => {
-                store_name(&mut name, &mut class, count, n);
+                store_name(name, class, count, n);
                 count += 1;
                 last = n;
                 at += NAME_BYTES;
             }
             NameStep::Stop(k) => {
-                return NamesRead {
+                return Reached {
                     refusal: k,
                     at,
-                    names: Names { count, name, class },
+                    count,
                 };
             }
         }
     }
-    NamesRead {
+    Reached {
         refusal: 0,
         at,
-        names: Names { count, name, class },
+        count,
     }
 }

@@ -1,7 +1,11 @@
 // The check of whole tables, and what they hold.
+use crate::Counts;
 use crate::Decoded;
 use crate::House;
 use crate::OwnAnswer;
+use crate::PairCounts;
+use crate::Pairs;
+use crate::StoredCounts;
 use crate::names::read_names;
 use crate::or_else;
 use crate::refusal_of;
@@ -27,11 +31,15 @@ ghost use Rattle.rt0.specs.laws.Pool.{poolOf, credentials};
 ghost use Rattle.class.specs.laws.Names.{namesFrom, namesOf, Ascending};
 ghost use Rattle.record.specs.Record.{recordAt};
 ghost use Rattle.tables.specs.laws.Tables.{pairsFrom, pairsOf};
+ghost use Rattle.rt0.specs.laws.Added.{Sized};
+ghost use Rattle.tables.specs.laws.Columns.{NamesSized, PairsSized};
 ghost use Rattle.tables.specs.Check.{classNumber, sized as sizedOf, readTables, checkOf};
-ghost use Rattle.tables.specs.laws.Check.{outcomeOf};
+ghost use Rattle.tables.specs.laws.Check.{outcomeOf, readFrom};
 ghost use Rattle.tables.specs.laws.Reading.{tablesFor};
 ghost use Rattle.tables.specs.laws.BehindRecords.{BehindRecords};
 ghost use Rattle.tables.specs.laws.Decoding.{firstRecord, leftNumber, withoutPairs, Housed, Decodes};
+ghost use Rattle.tables.specs.laws.Decoding.{DecodesPairs, DecodesStored, DecodesNames, Countless};
+ghost use Rattle.numbers.specs.Answer.{answerOf, noValue};
 ghost use Rattle.numbers.specs.Sizes.{MOST-NAMES};
 
 // Whether tables may have so many bytes.
@@ -99,6 +107,7 @@ fn class_number<'a>(
             roles,
             others,
             x,
+            0,
         ),
         Record::Access(x) => pair_number(
             true,
@@ -114,6 +123,7 @@ fn class_number<'a>(
             roles,
             others,
             x,
+            0,
         ),
     }
 }
@@ -166,6 +176,19 @@ fn left_over<'a>(
     )
 }
 
+// No records, and why.
+fn stopped(k: u64) -> StoredCounts
+    ensures { λ r. ⌜ (r .refusal ≡ k) × Countless r ⌝ }
+{
+    StoredCounts {
+        refusal: k,
+        issuer: 0,
+        subject: 0,
+        sensitive: 0,
+        access: 0,
+    }
+}
+
 // Refused tables.
 fn refused(k: u64) -> Decoded
     ensures { λ r. ⌜ (r .refusal ≡ k) × Housed (r .house) ⌝ }
@@ -176,97 +199,305 @@ fn refused(k: u64) -> Decoded
     }
 }
 
-// Sensitive roles and AC records behind self, names and credentials, and nothing behind these.
-fn decode_pairs(s: &[u8], at: usize, own: u16, names: Names, issuer: Pool, subject: Pool) -> Decoded
-    requires { ⌜ (names .count ≤ MOST-NAMES) × Ascending (names .count) (names .name) × (issuer .count ≤ 64) × (subject .count ≤ 64)
-        × BehindRecords 4 (now s) at (withoutPairs own (namesOf names) (credentials issuer) (credentials subject)) ⌝ }
-    ensures { λ r. ⌜ Decodes (now (s .entry)) at (withoutPairs own (namesOf names) (credentials issuer) (credentials subject)) r ⌝ }
+// Sensitive roles and AC records behind self, names and credentials go into the columns, and nothing stands behind these. The first pairs are
+// judged by no pairs: the columns given for these do not count.
+fn decode_pairs<'a>(
+    s: &'a [u8],
+    at: usize,
+    own: u16,
+    n: usize,
+    name: &'a [u16; 64],
+    class: &'a [u8; 64],
+    c: usize,
+    heads: &'a [u16; 256],
+    kinds: &'a [u8; 256],
+    numbers: &'a [u16; 1024],
+    roles: &'a mut [u16; 64],
+    others: &'a mut [u16; 64],
+    access_roles: &'a mut [u16; 64],
+    access_others: &'a mut [u16; 64],
+) -> PairCounts
+    requires { ⌜ (n ≤ MOST-NAMES) × Ascending n (now name) × (c ≤ 64) × PairsSized (pairsFrom 0 (now roles) (now others))
+        × PairsSized (pairsFrom 0 (now «access_roles») (now «access_others»)) ⌝ }
+    ensures { λ r. ⌜ DecodesPairs (now (s .entry)) at own (namesFrom n (now (name .entry)) (now (class .entry)))
+        (poolOf c (now (heads .entry)) (now (kinds .entry)) (now (numbers .entry))) r
+        (pairsFrom (r .sensitive) (now (roles .exit)) (now (others .exit)))
+        (pairsFrom (r .access) (now («access_roles» .exit)) (now («access_others» .exit))) ⌝ }
 {
-    let none = [0u16; 64];
     let a = read_pairs(
         s,
         at,
         false,
-        names.count,
-        &names.name,
-        &names.class,
+        n,
+        name,
+        class,
         own,
-        subject.count,
-        &subject.heads,
-        &subject.kinds,
-        &subject.numbers,
+        c,
+        heads,
+        kinds,
+        numbers,
         0,
-        &none,
-        &none,
+        name,
+        name,
+        roles,
+        others,
     );
-    let sensitive = a.pairs;
     if a.refusal != 0 {
-        return refused(a.refusal);
+        return PairCounts {
+            refusal: a.refusal,
+            sensitive: 0,
+            access: 0,
+        };
     }
     let b = read_pairs(
         s,
         a.at,
         true,
-        names.count,
-        &names.name,
-        &names.class,
+        n,
+        name,
+        class,
         own,
-        subject.count,
-        &subject.heads,
-        &subject.kinds,
-        &subject.numbers,
-        sensitive.count,
-        &sensitive.roles,
-        &sensitive.others,
+        c,
+        heads,
+        kinds,
+        numbers,
+        a.count,
+        roles,
+        others,
+        access_roles,
+        access_others,
     );
-    let access = b.pairs;
     if b.refusal != 0 {
-        return refused(b.refusal);
+        return PairCounts {
+            refusal: b.refusal,
+            sensitive: 0,
+            access: 0,
+        };
     }
     let refusal = left_over(
         s,
         b.at,
-        names.count,
-        &names.name,
-        &names.class,
+        n,
+        name,
+        class,
         own,
-        subject.count,
-        &subject.heads,
-        &subject.kinds,
-        &subject.numbers,
-        sensitive.count,
-        &sensitive.roles,
-        &sensitive.others,
+        c,
+        heads,
+        kinds,
+        numbers,
+        a.count,
+        roles,
+        others,
     );
-    Decoded {
+    PairCounts {
         refusal,
-        house: House {
-            own,
-            names,
-            issuer,
-            subject,
-            sensitive,
-            access,
-        },
+        sensitive: a.count,
+        access: b.count,
     }
 }
 
-// The credentials of both storages behind self and names, and what comes behind these.
-fn decode_stored(s: &[u8], at: usize, own: u16, names: Names) -> Decoded
-    requires { ⌜ (names .count ≤ MOST-NAMES) × Ascending (names .count) (names .name) × BehindRecords 2 (now s) at (withoutPairs own (namesOf names) [] []) ⌝ }
-    ensures { λ r. ⌜ Decodes (now (s .entry)) at (withoutPairs own (namesOf names) [] []) r ⌝ }
+// The credentials of both storages behind self and names, and what comes behind these, go into the columns.
+fn decode_stored<'a>(
+    s: &'a [u8],
+    at: usize,
+    own: u16,
+    n: usize,
+    name: &'a [u16; 64],
+    class: &'a [u8; 64],
+    issuer_heads: &'a mut [u16; 256],
+    issuer_kinds: &'a mut [u8; 256],
+    issuer_numbers: &'a mut [u16; 1024],
+    heads: &'a mut [u16; 256],
+    kinds: &'a mut [u8; 256],
+    numbers: &'a mut [u16; 1024],
+    roles: &'a mut [u16; 64],
+    others: &'a mut [u16; 64],
+    access_roles: &'a mut [u16; 64],
+    access_others: &'a mut [u16; 64],
+) -> StoredCounts
+    requires { ⌜ (n ≤ MOST-NAMES) × Ascending n (now name) × Sized (poolOf 0 (now «issuer_heads») (now «issuer_kinds») (now «issuer_numbers»))
+        × Sized (poolOf 0 (now heads) (now kinds) (now numbers)) × PairsSized (pairsFrom 0 (now roles) (now others))
+        × PairsSized (pairsFrom 0 (now «access_roles») (now «access_others»)) ⌝ }
+    ensures { λ r. ⌜ DecodesStored (now (s .entry)) at own (namesFrom n (now (name .entry)) (now (class .entry))) r
+        (poolOf (r .issuer) (now («issuer_heads» .exit)) (now («issuer_kinds» .exit)) (now («issuer_numbers» .exit)))
+        (poolOf (r .subject) (now (heads .exit)) (now (kinds .exit)) (now (numbers .exit)))
+        (pairsFrom (r .sensitive) (now (roles .exit)) (now (others .exit)))
+        (pairsFrom (r .access) (now («access_roles» .exit)) (now («access_others» .exit))) ⌝ }
 {
-    let a = read_stored(s, at, names.count, &names.name, &names.class, false);
-    let issuer = a.pool;
+    let a = read_stored(
+        s,
+        at,
+        n,
+        name,
+        class,
+        false,
+        issuer_heads,
+        issuer_kinds,
+        issuer_numbers,
+    );
     if a.refusal != 0 {
-        return refused(a.refusal);
+        return stopped(a.refusal);
     }
-    let b = read_stored(s, a.at, names.count, &names.name, &names.class, true);
-    let subject = b.pool;
+    let b = read_stored(s, a.at, n, name, class, true, heads, kinds, numbers);
     if b.refusal != 0 {
-        return refused(b.refusal);
+        return stopped(b.refusal);
     }
-    decode_pairs(s, b.at, own, names, issuer, subject)
+    let p = decode_pairs(
+        s,
+        b.at,
+        own,
+        n,
+        name,
+        class,
+        b.count,
+        heads,
+        kinds,
+        numbers,
+        roles,
+        others,
+        access_roles,
+        access_others,
+    );
+    StoredCounts {
+        refusal: p.refusal,
+        issuer: a.count,
+        subject: b.count,
+        sensitive: p.sensitive,
+        access: p.access,
+    }
+}
+
+// The names behind self, and what comes behind these, go into the columns.
+fn decode_names<'a>(
+    s: &'a [u8],
+    own: u16,
+    name: &'a mut [u16; 64],
+    class: &'a mut [u8; 64],
+    issuer_heads: &'a mut [u16; 256],
+    issuer_kinds: &'a mut [u8; 256],
+    issuer_numbers: &'a mut [u16; 1024],
+    heads: &'a mut [u16; 256],
+    kinds: &'a mut [u8; 256],
+    numbers: &'a mut [u16; 1024],
+    roles: &'a mut [u16; 64],
+    others: &'a mut [u16; 64],
+    access_roles: &'a mut [u16; 64],
+    access_others: &'a mut [u16; 64],
+) -> Counts
+    requires { ⌜ NamesSized (namesFrom 0 (now name) (now class)) × Sized (poolOf 0 (now «issuer_heads») (now «issuer_kinds») (now «issuer_numbers»))
+        × Sized (poolOf 0 (now heads) (now kinds) (now numbers)) × PairsSized (pairsFrom 0 (now roles) (now others))
+        × PairsSized (pairsFrom 0 (now «access_roles») (now «access_others»)) ⌝ }
+    ensures { λ r. ⌜ DecodesNames (now (s .entry)) own r (namesFrom (r .names) (now (name .exit)) (now (class .exit)))
+        (poolOf (r .issuer) (now («issuer_heads» .exit)) (now («issuer_kinds» .exit)) (now («issuer_numbers» .exit)))
+        (poolOf (r .subject) (now (heads .exit)) (now (kinds .exit)) (now (numbers .exit)))
+        (pairsFrom (r .sensitive) (now (roles .exit)) (now (others .exit)))
+        (pairsFrom (r .access) (now («access_roles» .exit)) (now («access_others» .exit))) ⌝ }
+{
+    let a = read_names(s, SELF_BYTES, name, class);
+    if a.refusal != 0 {
+        return Counts {
+            refusal: a.refusal,
+            names: 0,
+            issuer: 0,
+            subject: 0,
+            sensitive: 0,
+            access: 0,
+        };
+    }
+    let c = decode_stored(
+        s,
+        a.at,
+        own,
+        a.count,
+        name,
+        class,
+        issuer_heads,
+        issuer_kinds,
+        issuer_numbers,
+        heads,
+        kinds,
+        numbers,
+        roles,
+        others,
+        access_roles,
+        access_others,
+    );
+    Counts {
+        refusal: c.refusal,
+        names: a.count,
+        issuer: c.issuer,
+        subject: c.subject,
+        sensitive: c.sensitive,
+        access: c.access,
+    }
+}
+
+// The tables behind self.
+fn decode_own(s: &[u8], own: u16) -> Decoded
+    requires { ⌜ BehindRecords 1 (now s) 3 (withoutPairs own [] [] []) ⌝ }
+    ensures { λ r. ⌜ Decodes (now (s .entry)) 3 (withoutPairs own [] [] []) r ⌝ }
+{
+    let mut name = [0u16; 64];
+    let mut class = [0u8; 64];
+    let mut issuer_heads = [0u16; 256];
+    let mut issuer_kinds = [0u8; 256];
+    let mut issuer_numbers = [0u16; 1024];
+    let mut heads = [0u16; 256];
+    let mut kinds = [0u8; 256];
+    let mut numbers = [0u16; 1024];
+    let mut roles = [0u16; 64];
+    let mut others = [0u16; 64];
+    let mut access_roles = [0u16; 64];
+    let mut access_others = [0u16; 64];
+    let c = decode_names(
+        s,
+        own,
+        &mut name,
+        &mut class,
+        &mut issuer_heads,
+        &mut issuer_kinds,
+        &mut issuer_numbers,
+        &mut heads,
+        &mut kinds,
+        &mut numbers,
+        &mut roles,
+        &mut others,
+        &mut access_roles,
+        &mut access_others,
+    );
+    Decoded {
+        refusal: c.refusal,
+        house: House {
+            own,
+            names: Names {
+                count: c.names,
+                name,
+                class,
+            },
+            issuer: Pool {
+                count: c.issuer,
+                heads: issuer_heads,
+                kinds: issuer_kinds,
+                numbers: issuer_numbers,
+            },
+            subject: Pool {
+                count: c.subject,
+                heads,
+                kinds,
+                numbers,
+            },
+            sensitive: Pairs {
+                count: c.sensitive,
+                roles,
+                others,
+            },
+            access: Pairs {
+                count: c.access,
+                roles: access_roles,
+                others: access_others,
+            },
+        },
+    }
 }
 
 // The tables that bytes hold, or why they are refused.
@@ -278,21 +509,55 @@ pub fn decode(s: &[u8]) -> Decoded
     }
     match own_of(s) {
         OwnAnswer::Refused(k) => refused(k),
-        OwnAnswer::Read(own) => {
-            let a = read_names(s, SELF_BYTES);
-            let names = a.names;
-            if a.refusal != 0 {
-                return refused(a.refusal);
-            }
-            decode_stored(s, a.at, own, names)
-        }
+        OwnAnswer::Read(own) => decode_own(s, own),
     }
+}
+
+// The refusal number of the tables behind self, or zero.
+fn check_own(s: &[u8], own: u16) -> u64
+    requires { ⌜ BehindRecords 1 (now s) 3 (withoutPairs own [] [] []) ⌝ }
+    ensures { λ r. ⌜ r ≡ answerOf noValue (readFrom (now (s .entry)) 3 (withoutPairs own [] [] [])) ⌝ }
+{
+    let mut name = [0u16; 64];
+    let mut class = [0u8; 64];
+    let mut issuer_heads = [0u16; 256];
+    let mut issuer_kinds = [0u8; 256];
+    let mut issuer_numbers = [0u16; 1024];
+    let mut heads = [0u16; 256];
+    let mut kinds = [0u8; 256];
+    let mut numbers = [0u16; 1024];
+    let mut roles = [0u16; 64];
+    let mut others = [0u16; 64];
+    let mut access_roles = [0u16; 64];
+    let mut access_others = [0u16; 64];
+    let c = decode_names(
+        s,
+        own,
+        &mut name,
+        &mut class,
+        &mut issuer_heads,
+        &mut issuer_kinds,
+        &mut issuer_numbers,
+        &mut heads,
+        &mut kinds,
+        &mut numbers,
+        &mut roles,
+        &mut others,
+        &mut access_roles,
+        &mut access_others,
+    );
+    c.refusal
 }
 
 // Zero where tables are accepted, else the refusal number.
 pub fn check(s: &[u8]) -> u64
     ensures { λ r. ⌜ r ≡ checkOf (now (s .entry)) ⌝ }
 {
-    let d = decode(s);
-    d.refusal
+    if !sized(s.len()) {
+        return LENGTH;
+    }
+    match own_of(s) {
+        OwnAnswer::Refused(k) => k,
+        OwnAnswer::Read(own) => check_own(s, own),
+    }
 }

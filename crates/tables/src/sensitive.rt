@@ -1,10 +1,9 @@
 // Sensitive roles with their Ack roles, and AC records.
 use crate::PairStep;
-use crate::Pairs;
-use crate::PairsRead;
+use crate::Reached;
 use crate::columns::store_pair;
-use crate::lookup::holds;
-use crate::lookup::is_sensitive;
+use crate::lookup::holds_from;
+use crate::lookup::is_sensitive_from;
 use crate::or_else;
 use crate::refusal_of;
 use crate::rising;
@@ -30,6 +29,7 @@ ghost use Rattle.rt0.specs.laws.Pool.{poolOf, credentials};
 ghost use Rattle.class.specs.laws.Names.{namesFrom, namesOf, Ascending};
 ghost use Rattle.record.specs.Record.{recordAt};
 ghost use Rattle.tables.specs.laws.Tables.{pairsFrom, pairsOf};
+ghost use Rattle.tables.specs.laws.Columns.{PairsSized};
 ghost use Rattle.tables.specs.Lookup.{holds as holdsOf, isSensitive};
 ghost use Rattle.tables.specs.Check.{pairNumber};
 ghost use Rattle.tables.specs.laws.Group.{behind, numberBehind, judgedStep, pickedStep, stepOf};
@@ -42,7 +42,8 @@ fn pairs_most(access: bool) -> usize
     if access { MOST_ACCESS } else { MOST_SENSITIVE }
 }
 
-// Whether the role r, whose name has class k, may stand: in 0x15 we hold it and it is sensitive, in 0x14 its class is subject-all.
+// Whether the role r, whose name has class k, may stand: in 0x15 we hold it and it is sensitive, in 0x14 its class is subject-all. Where start
+// records of 0x15 stand before it, as many credentials and sensitive roles are theirs, and the search begins behind them.
 fn suits_pair<'a>(
     access: bool,
     k: u8,
@@ -55,6 +56,7 @@ fn suits_pair<'a>(
     roles: &'a [u16; 64],
     others: &'a [u16; 64],
     r: Role,
+    start: usize,
 ) -> bool
     requires { ⌜ (c ≤ 128) × (p ≤ 32) ⌝ }
     ensures { λ b. ⌜ b ≡ cond access (holdsOf own (credentials (poolOf c (now (heads .entry)) (now (kinds .entry)) (now (numbers .entry)))) r
@@ -63,7 +65,8 @@ fn suits_pair<'a>(
     if !access {
         return k == SUBJECT_ALL;
     }
-    holds(own, c, heads, kinds, numbers, r) & is_sensitive(p, roles, others, r)
+    holds_from(own, c, heads, kinds, numbers, r, start)
+        & is_sensitive_from(p, roles, others, r, start)
 }
 
 // The class rules for a sensitive role and its Ack or AC role: zero where they are kept.
@@ -81,6 +84,7 @@ pub fn pair_number<'a>(
     roles: &'a [u16; 64],
     others: &'a [u16; 64],
     x: Pair,
+    start: usize,
 ) -> u64
     requires { ⌜ (n ≤ 64) × Ascending n (now name) × (c ≤ 128) × (p ≤ 32) ⌝ }
     ensures { λ r. ⌜ r ≡ pairNumber access (tablesFor own (namesOf (namesFrom n (now (name .entry)) (now (class .entry))))
@@ -106,6 +110,7 @@ pub fn pair_number<'a>(
         roles,
         others,
         role,
+        start,
     ) {
         return 0;
     }
@@ -196,6 +201,7 @@ fn next_pair<'a>(
                 roles,
                 others,
                 x,
+                count,
             );
             judged_pair(access, k, x, count, last)
         }
@@ -203,7 +209,7 @@ fn next_pair<'a>(
     }
 }
 
-// The pairs of a command from an index on.
+// The pairs of a command from an index on go into the columns first and second.
 pub fn read_pairs<'a>(
     s: &'a [u8],
     start: usize,
@@ -219,14 +225,15 @@ pub fn read_pairs<'a>(
     p: usize,
     roles: &'a [u16; 64],
     others: &'a [u16; 64],
-) -> PairsRead
-    requires { ⌜ (n ≤ 64) × Ascending n (now name) × (c ≤ 128) × (p ≤ 32) ⌝ }
+    first: &'a mut [u16; 64],
+    second: &'a mut [u16; 64],
+) -> Reached
+    requires { ⌜ (n ≤ 64) × Ascending n (now name) × (c ≤ 128) × (p ≤ 32) × PairsSized (pairsFrom 0 (now first) (now second)) ⌝ }
     ensures { λ r. ⌜ PairsGone (tablesFor own (namesOf (namesFrom n (now (name .entry)) (now (class .entry))))
         (credentials (poolOf c (now (heads .entry)) (now (kinds .entry)) (now (numbers .entry))))
-        (pairsOf (pairsFrom p (now (roles .entry)) (now (others .entry))))) access (now (s .entry)) start r ⌝ }
+        (pairsOf (pairsFrom p (now (roles .entry)) (now (others .entry))))) access (now (s .entry)) start r
+        (pairsFrom (r .count) (now (first .exit)) (now (second .exit))) ⌝ }
 {
-    let mut first = [0u16; 64];
-    let mut second = [0u16; 64];
     let mut count = 0;
     let zero = Role { entity: 0, name: 0 };
     let mut last = Pair {
@@ -254,31 +261,23 @@ pub fn read_pairs<'a>(
             last,
         ) {
             PairStep::Taken(x) => {
-                store_pair(&mut first, &mut second, count, x);
+                store_pair(first, second, count, x);
                 count += 1;
                 last = x;
                 at += PAIR_BYTES;
             }
             PairStep::Stop(k) => {
-                return PairsRead {
+                return Reached {
                     refusal: k,
                     at,
-                    pairs: Pairs {
-                        count,
-                        roles: first,
-                        others: second,
-                    },
+                    count,
                 };
             }
         }
     }
-    PairsRead {
+    Reached {
         refusal: 0,
         at,
-        pairs: Pairs {
-            count,
-            roles: first,
-            others: second,
-        },
+        count,
     }
 }

@@ -1,5 +1,5 @@
 // The credentials of a storage.
-use crate::StoredRead;
+use crate::Reached;
 use crate::StoredStep;
 use crate::or_else;
 use crate::refusal_of;
@@ -8,22 +8,27 @@ use class::ISSUER_ALL;
 use class::ISSUER_DEF;
 use class::SUBJECT_ALL;
 use class::class_of;
-use class::credential_number;
+use class::number_under;
 use expression::Credential;
+use expression::CredentialAnswer;
 use expression::Expression;
 use expression::Role;
 use expression::before_credential;
+use expression::read_credential;
 use numbers::CLASS;
 use numbers::CREDENTIAL_BYTES;
 use numbers::MOST_STORED;
+use numbers::OPERAND;
 use record::Record;
 use record::RecordAnswer;
+use record::begins_stored;
 use record::read_record;
-use rt0::Pool;
 use rt0::store;
 ghost use mathlib.Core.Path.{_≡_};
 ghost use Prim.Native.Nat.{_<_, _≤_};
 ghost use lib.ListN.{length};
+ghost use Rattle.rt0.specs.laws.Pool.{poolOf};
+ghost use Rattle.rt0.specs.laws.Added.{Sized};
 ghost use Rattle.class.specs.laws.Names.{namesFrom, namesOf, Ascending};
 ghost use Rattle.record.specs.Record.{recordAt};
 ghost use Rattle.tables.specs.Check.{suitsStorage, storedNumber};
@@ -52,9 +57,10 @@ pub fn stored_number<'a>(
     requires { ⌜ (n ≤ 64) × Ascending n (now name) ⌝ }
     ensures { λ r. ⌜ r ≡ storedNumber (namesOf (namesFrom n (now (name .entry)) (now (class .entry)))) subject c ⌝ }
 {
-    let k = credential_number(n, name, class, c);
     let head = c.head;
-    if suits_storage(subject, class_of(n, name, class, head.name)) {
+    let h = class_of(n, name, class, head.name);
+    let k = number_under(n, name, class, h, c);
+    if suits_storage(subject, h) {
         return k;
     }
     or_else(k, CLASS)
@@ -109,6 +115,32 @@ fn pick_stored(subject: bool, r: Record) -> StoredStep
     }
 }
 
+// What stands at an index, where a credential of the storage may stand; its class and its order are left to test.
+fn picked_at(s: &[u8], at: usize, subject: bool) -> StoredStep
+    requires { ⌜ at < length (now s) ⌝ }
+    ensures { λ r. ⌜ storedStep r ≡ stepOf (credentialsOf subject) (λ c. 0) (recordAt (now (s .entry)) at) ⌝ }
+{
+    let a = read_record(s, at);
+    let RecordAnswer::Read(r) = a else {
+        return StoredStep::Stop(refusal_of(a));
+    };
+    pick_stored(subject, r)
+}
+
+// The same; a credential of the storage is read without the record around it.
+fn stored_at(s: &[u8], at: usize, subject: bool) -> StoredStep
+    requires { ⌜ at < length (now s) ⌝ }
+    ensures { λ r. ⌜ storedStep r ≡ stepOf (credentialsOf subject) (λ c. 0) (recordAt (now (s .entry)) at) ⌝ }
+{
+    if !begins_stored(s, at, subject) {
+        return picked_at(s, at, subject);
+    }
+    match read_credential(s, at + 1) {
+        CredentialAnswer::Read(c) => StoredStep::Taken(c),
+        CredentialAnswer::Wrong => StoredStep::Stop(OPERAND),
+    }
+}
+
 // What stands at an index, where a credential of the storage may stand.
 fn next_stored<'a>(
     s: &'a [u8],
@@ -125,17 +157,13 @@ fn next_stored<'a>(
         (numberBehind (credentialsOf subject) (storedNumber (namesOf (namesFrom n (now (name .entry)) (now (class .entry)))) subject) count last)
         (recordAt (now (s .entry)) at) ⌝ }
 {
-    let a = read_record(s, at);
-    let RecordAnswer::Read(r) = a else {
-        return StoredStep::Stop(refusal_of(a));
-    };
-    match pick_stored(subject, r) {
+    match stored_at(s, at, subject) {
         StoredStep::Taken(c) => judged_stored(n, name, class, subject, c, count, last),
-        StoredStep::Stop(_) => StoredStep::Stop(0),
+        StoredStep::Stop(k) => StoredStep::Stop(k),
     }
 }
 
-// The credentials of a storage from an index on.
+// The credentials of a storage from an index on go into the columns.
 pub fn read_stored<'a>(
     s: &'a [u8],
     start: usize,
@@ -143,13 +171,14 @@ pub fn read_stored<'a>(
     name: &'a [u16; 64],
     class: &'a [u8; 64],
     subject: bool,
-) -> StoredRead
-    requires { ⌜ (n ≤ 64) × Ascending n (now name) ⌝ }
-    ensures { λ r. ⌜ StoredGone (namesOf (namesFrom n (now (name .entry)) (now (class .entry)))) subject (now (s .entry)) start r ⌝ }
+    heads: &'a mut [u16; 256],
+    kinds: &'a mut [u8; 256],
+    numbers: &'a mut [u16; 1024],
+) -> Reached
+    requires { ⌜ (n ≤ 64) × Ascending n (now name) × Sized (poolOf 0 (now heads) (now kinds) (now numbers)) ⌝ }
+    ensures { λ r. ⌜ StoredGone (namesOf (namesFrom n (now (name .entry)) (now (class .entry)))) subject (now (s .entry)) start r
+        (poolOf (r .count) (now (heads .exit)) (now (kinds .exit)) (now (numbers .exit))) ⌝ }
 {
-    let mut heads = [0u16; 256];
-    let mut kinds = [0u8; 256];
-    let mut numbers = [0u16; 1024];
     let mut count = 0;
     let mut last = Credential {
         head: Role { entity: 0, name: 0 },
@@ -159,33 +188,23 @@ pub fn read_stored<'a>(
     while at < s.len() {
         match next_stored(s, at, n, name, class, subject, count, last) {
             StoredStep::Taken(c) => {
-                store(&mut heads, &mut kinds, &mut numbers, count, c);
+                store(heads, kinds, numbers, count, c);
                 count += 1;
                 last = c;
                 at += CREDENTIAL_BYTES;
             }
             StoredStep::Stop(k) => {
-                return StoredRead {
+                return Reached {
                     refusal: k,
                     at,
-                    pool: Pool {
-                        count,
-                        heads,
-                        kinds,
-                        numbers,
-                    },
+                    count,
                 };
             }
         }
     }
-    StoredRead {
+    Reached {
         refusal: 0,
         at,
-        pool: Pool {
-            count,
-            heads,
-            kinds,
-            numbers,
-        },
+        count,
     }
 }

@@ -39,6 +39,17 @@ body-formed c h =
     let body : Bool = isBody (c .body) in
     and-right head formed (and-left (head && formed) body (and-left (head && formed && body) (beginsWith (c .head .entity) (c .body)) h))
 
+-- where the body is of right form, the rest is left to test
+pub formed-body : (c : Credential) → wellFormed (c .body) ≡ true
+    → wellFormedCredential c ≡ isRole (c .head) && isBody (c .body) && beginsWith (c .head .entity) (c .body)
+unfolding wellFormedCredential
+formed-body c h = go (isRole (c .head))
+  where
+    go : (a : Bool) → a && wellFormed (c .body) && isBody (c .body) && beginsWith (c .head .entity) (c .body)
+        ≡ a && isBody (c .body) && beginsWith (c .head .entity) (c .body)
+    go true = rw h
+    go false = refl
+
 module _ (d : List ℕ) (at : ℕ) (c : Credential) (room : at + 22 ≤ length d) where
   head-back : roleAt (pasted d at (credentialBytes c)) at ≡ c .head
   head-back =

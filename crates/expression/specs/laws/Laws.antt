@@ -12,7 +12,8 @@ use Rattle.expression.specs.declared.ExpressionAnswer.{ExpressionAnswer}
 use Rattle.expression.specs.declared.ExpressionAnswer.the-variants.{Read, Wrong}
 use Rattle.expression.specs.Form.{rawOf, candidateOf, sameRaw, wellFormed, checked, formOf, pick, expressionOf}
 
-eqb-refl : (n : ℕ) → eqb n n ≡ true
+-- a number is itself
+pub eqb-refl : (n : ℕ) → eqb n n ≡ true
 eqb-refl n = eq-eqb n n refl
 
 -- numbers are the same as themselves
@@ -130,3 +131,30 @@ candidate-none r h =
         let t : ltb 0 k && ltb k 6 ≡ true = rw (lt-ltb 0 k (omega arith)) (lt-ltb k 6 (omega arith)) in
         let z : _≡_ {A = ℕ} 0 1 = cc in
         omega arith)
+
+-- the numbers of an expression have a kind from 1 to 5
+kind-raw : (e : Expression) → ltb 0 (rawOf e .kind) && ltb (rawOf e .kind) 6 ≡ true
+kind-raw (x.Entity n) = refl
+kind-raw (x.Role r) = refl
+kind-raw (x.Linked r n) = refl
+kind-raw (x.Intersection p) = refl
+kind-raw (x.Goal n) = refl
+
+-- numbers are of right form where they are those of the expression that they would be, and it is well formed
+pub form-exact : (r : Raw) → formOf r ≡ pick (sameRaw (rawOf (expressionOf r)) r && wellFormed (expressionOf r)) (Read (expressionOf r)) Wrong
+form-exact r = go (ltb 0 (r .kind) && ltb (r .kind) 6) refl
+  where
+    e : Expression
+    e = expressionOf r
+
+    other : ltb 0 (r .kind) && ltb (r .kind) 6 ≡ false → (b : Bool) → sameRaw (rawOf e) r ≡ b → Wrong ≡ pick (b && wellFormed e) (Read e) Wrong
+    other h false q = refl
+    other h true q =
+        let k : ltb 0 (r .kind) && ltb (r .kind) 6 ≡ true
+        = ap (λ (s : Raw). ltb 0 (s .kind) && ltb (s .kind) 6) (sym (same-raw (rawOf e) r q)) ∙ kind-raw e in
+        let z : _≡_ {A = ℕ} 0 1 = cc in
+        absurd (omega arith)
+
+    go : (b : Bool) → ltb 0 (r .kind) && ltb (r .kind) 6 ≡ b → formOf r ≡ pick (sameRaw (rawOf e) r && wellFormed e) (Read e) Wrong
+    go true h = ap (checked r) (candidate-some r h)
+    go false h = ap (checked r) (candidate-none r h) ∙ other h (sameRaw (rawOf e) r) refl

@@ -29,11 +29,17 @@ by-order {A} m n less equal more = go (ltb m n) (ltb n m) refl refl
 leads-less : (m n : ℕ) (r : Bool) → m < n → leads m n r ≡ true
 leads-less m n r h = rw (lt-ltb m n h)
 
-leads-equal : (m n : ℕ) (r : Bool) → m ≡ n → leads m n r ≡ r
+-- equal numbers leave it to the rest
+pub leads-equal : (m n : ℕ) (r : Bool) → m ≡ n → leads m n r ≡ r
 leads-equal m n r h = rw (le-ltb m n (omega arith), eq-eqb m n h)
 
 leads-more : (m n : ℕ) (r : Bool) → n < m → leads m n r ≡ false
 leads-more m n r h = rw (le-ltb m n (omega arith), ne-eqb m n (λ e. omega arith))
+
+-- numbers that differ decide
+pub leads-other : (m n : ℕ) (r : Bool) → (m ≡ n → ⊥) → leads m n r ≡ ltb m n
+leads-other m n r h =
+    by-order m n (λ l. leads-less m n r l ∙ sym (lt-ltb m n l)) (λ e. absurd (h e)) (λ l. leads-more m n r l ∙ sym (le-ltb m n (omega arith)))
 
 -- a number as two bytes, high byte first
 leads-bytes : (m n : ℕ) (r : Bool) → leads m n r ≡ leads (m / 256) (n / 256) (leads (m % 256) (n % 256) r)

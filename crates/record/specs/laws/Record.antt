@@ -1,15 +1,16 @@
 -- What a record is read as, by the tests on its bytes. Assumes nothing.
 use Prim.Native.Nat.{ℕ, _+_, _-_, _<_, _≤_}
-use mathlib.Core.Path.{_≡_, sym, ap, _∙_}
-use mathlib.Core.Bool.{Bool, cond}
+use mathlib.Core.Path.{_≡_, refl, sym, ap, _∙_}
+use mathlib.Core.Bool.{Bool, true, false, cond, _&&_}
 use mathlib.Core.List.{List}
 use native.Mathlib.Nat.{add-assoc}
-use borrow.Author.Tests.{lt-ltb, le-ltb, ne-eqb}
-use lib.Dec.{ltb}
+use borrow.Author.Tests.{lt-ltb, le-ltb, leb-true, eqb-true, ne-eqb}
+use lib.Dec.{ltb, leb, eqb}
 use lib.ListN.{length, getD}
 use Rattle.expression.specs.declared.CredentialAnswer.{CredentialAnswer}
 use Rattle.expression.specs.Bytes.{numberAt}
 use Rattle.expression.specs.Credential.{roleAt, readCredential}
+use Rattle.expression.specs.laws.Laws.{and-left, and-right}
 use Rattle.class.specs.declared.Name.{Name}
 use Rattle.record.specs.declared.Pair.{Pair}
 use Rattle.record.specs.declared.Record.the-variants.{Own, Named}
@@ -17,6 +18,15 @@ use Rattle.record.specs.declared.RecordAnswer.{RecordAnswer}
 use Rattle.record.specs.declared.RecordAnswer.the-variants.{Refused}
 use Rattle.record.specs.Record.{formedName, formedPair, paired, whole, checked, ownAt, nameOf, nameAt, storedOf, storedAt, pairOf, pairAt, byCode}
 use Rattle.record.specs.Record.{recordAt}
+use Rattle.numbers.specs.Bytes.{CREDENTIAL-BYTES}
+
+-- the first byte of a stored credential
+abbrev pub storedCode : Bool → ℕ
+storedCode subject = cond subject 19 18
+
+-- whether it stands at an index, and no byte of the record is cut off
+unfoldable pub beginsStored : Bool → List ℕ → ℕ → Bool
+beginsStored subject s at = leb CREDENTIAL-BYTES (length s - at) && eqb (getD s at 0) (storedCode subject)
 
 module _ (size : ℕ) (s : List ℕ) (at : ℕ) where
   -- too few bytes are left
@@ -83,3 +93,17 @@ module _ (s : List ℕ) (at : ℕ) where
   pub unknown : (code : ℕ) → (code ≡ 16 → ⊥) → (code ≡ 17 → ⊥) → (code ≡ 18 → ⊥) → (code ≡ 19 → ⊥) → (code ≡ 20 → ⊥) → (code ≡ 21 → ⊥)
       → Refused 2 ≡ byCode code s at
   unknown code h0 h1 h2 h3 h4 h5 = sym (simp (ne-eqb code 16 h0, ne-eqb code 17 h1, ne-eqb code 18 h2, ne-eqb code 19 h3, ne-eqb code 20 h4, ne-eqb code 21 h5))
+
+  -- where a stored credential begins, it is the record that stands there
+  pub stored-begun : (subject : Bool) → beginsStored subject s at ≡ true
+      → (23 ≤ length s - at) × (recordAt s at ≡ storedOf subject (readCredential s (at + 1)))
+  unfolding beginsStored
+  stored-begun subject h =
+      let size : 23 ≤ length s - at = leb-true 23 (length s - at) (and-left (leb 23 (length s - at)) (eqb (getD s at 0) (storedCode subject)) h) in
+      let code : getD s at 0 ≡ storedCode subject
+      = eqb-true (getD s at 0) (storedCode subject) (and-right (leb 23 (length s - at)) (eqb (getD s at 0) (storedCode subject)) h) in
+      (size, sym (at-code (storedCode subject) code) ∙ (by-code subject ∙ sym (stored-full subject (readCredential s (at + 1)) size refl)))
+    where
+      by-code : (b : Bool) → byCode (storedCode b) s at ≡ storedAt b s at
+      by-code true = refl
+      by-code false = refl

@@ -28,7 +28,7 @@ use Rattle.record.specs.declared.RecordAnswer.the-variants.{Read, Refuse
 use Rattle.record.specs.Record.{formedName, formedPair, formed, stored, paired, whole, checked, ownAt, nameOf, nameAt, storedOf, storedAt, pairOf}
 use Rattle.record.specs.Record.{pairAt, recordAt, recordBytes, sizeOf}
 use Rattle.record.specs.Unreadable.{Whole}
-use Rattle.record.specs.laws.Record.{own-full, name-full, stored-full, pair-full, at-code}
+use Rattle.record.specs.laws.Record.{storedCode, own-full, name-full, stored-full, pair-full, at-code}
 
 -- a record has this first byte, this test of its form and these operands
 record Has (code : ℕ) (good : Bool) (l : List ℕ) (r : Record) : Type 0 where
@@ -43,9 +43,6 @@ own-has n = record { bytes = refl; form = refl; size = refl }
 name-has : (n : Name) → Has 17 (formedName n) (numberBytes (n .name) ++ (n .class ∷ [])) (Named n)
 unfolding recordBytes formed
 name-has n = record { bytes = refl; form = refl; size = refl }
-
-abbrev storedCode : Bool → ℕ
-storedCode subject = cond subject 19 18
 
 stored-has : (subject : Bool) (c : Credential) → Has (storedCode subject) (wellFormedCredential c) (credentialBytes c) (stored subject c)
 unfolding recordBytes formed

@@ -7,8 +7,11 @@ use lib.Dec.{ltb}
 use lib.ListN.{length}
 use Rattle.numbers.specs.Sizes.{MOST-NAMES, MOST-STORED, MOST-SENSITIVE, MOST-ACCESS}
 use Rattle.expression.specs.declared.Credential.{Credential}
+use Rattle.rt0.specs.declared.Pool.{Pool}
+use Rattle.rt0.specs.laws.Pool.{credentials}
 use Rattle.class.specs.declared.Name.{Name}
-use Rattle.class.specs.laws.Names.{Ascending}
+use Rattle.class.specs.declared.Names.{Names}
+use Rattle.class.specs.laws.Names.{namesOf, Ascending}
 use Rattle.record.specs.declared.Record.the-variants.{Own, Named, IssuerStored, SubjectStored, Sensitive, Access}
 use Rattle.record.specs.declared.RecordAnswer.{RecordAnswer}
 use Rattle.record.specs.declared.RecordAnswer.the-variants as a
@@ -16,10 +19,15 @@ use Rattle.record.specs.Record.{recordAt}
 use Rattle.tables.specs.declared.OwnAnswer.{OwnAnswer}
 use Rattle.tables.specs.declared.OwnAnswer.the-variants as o
 use Rattle.tables.specs.declared.House.{House}
+use Rattle.tables.specs.declared.Pairs.{Pairs}
+use Rattle.tables.specs.declared.PairCounts.{PairCounts}
+use Rattle.tables.specs.declared.StoredCounts.{StoredCounts}
+use Rattle.tables.specs.declared.Counts.{Counts}
 use Rattle.tables.specs.declared.Decoded.{Decoded}
 use Rattle.tables.specs.Tables.{Tables, unread}
 use Rattle.tables.specs.Check.{orElse, classNumber, judge}
 use Rattle.tables.specs.laws.Check.{outcomeOf, readFrom}
+use Rattle.tables.specs.laws.BehindRecords.{BehindRecords}
 
 -- the first record: self, or the number of another
 abbrev pub firstRecord : RecordAnswer → OwnAnswer
@@ -57,3 +65,28 @@ pub record Housed (H : House) : Type 0 where
 pub record Decodes (s : List ℕ) (at : ℕ) (T : Tables) (d : Decoded) : Type 0 where
   pub same : outcomeOf d ≡ readFrom s at T
   pub housed : Housed (d .house)
+
+-- decoded tables, from their columns
+abbrev pub decodedOf : ℕ → ℕ → Names → Pool → Pool → Pairs → Pairs → Decoded
+decodedOf k own N I S P Q = record { refusal = k; house = record { own = own; names = N; issuer = I; subject = S; sensitive = P; access = Q } }
+
+-- the reading of pairs, with any issuer-stored credentials
+pub record DecodesPairs (s : List ℕ) (at own : ℕ) (N : Names) (S : Pool) (r : PairCounts) (P Q : Pairs) : Type 0 where
+  pub behind : (I : Pool) → I .count ≤ MOST-STORED → BehindRecords 4 s at (withoutPairs own (namesOf N) (credentials I) (credentials S))
+      → Decodes s at (withoutPairs own (namesOf N) (credentials I) (credentials S)) (decodedOf (r .refusal) own N I S P Q)
+
+-- the reading of credentials and pairs
+pub record DecodesStored (s : List ℕ) (at own : ℕ) (N : Names) (r : StoredCounts) (I S : Pool) (P Q : Pairs) : Type 0 where
+  pub behind : BehindRecords 2 s at (withoutPairs own (namesOf N) [] [])
+      → Decodes s at (withoutPairs own (namesOf N) [] []) (decodedOf (r .refusal) own N I S P Q)
+
+-- the reading of names, credentials and pairs
+pub record DecodesNames (s : List ℕ) (own : ℕ) (r : Counts) (N : Names) (I S : Pool) (P Q : Pairs) : Type 0 where
+  pub behind : BehindRecords 1 s 3 (withoutPairs own [] [] []) → Decodes s 3 (withoutPairs own [] [] []) (decodedOf (r .refusal) own N I S P Q)
+
+-- no credentials and no pairs
+pub record Countless (r : StoredCounts) : Type 0 where
+  pub issuer : r .issuer ≡ 0
+  pub subject : r .subject ≡ 0
+  pub sensitive : r .sensitive ≡ 0
+  pub access : r .access ≡ 0

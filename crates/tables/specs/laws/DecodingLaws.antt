@@ -29,6 +29,7 @@ use Rattle.tables.specs.declared.Decoded.{Decoded}
 use Rattle.tables.specs.Tables.{Tables, unread, withPairs}
 use Rattle.tables.specs.laws.Tables.{tablesOf}
 use Rattle.tables.specs.Check.{orElse, storedNumber, pairNumber, classNumber, inOrder, above, room, orderNumber, judge, readTables, recordsFrom, sized}
+use Rattle.tables.specs.Check.{checkOf}
 use Rattle.tables.specs.laws.Check.{outcomeOf, readFrom, from-past, from-refused, from-judged}
 use Rattle.tables.specs.laws.Group.{Group, Open, Gone, refusalOf, judged-refused, some-refusal}
 use Rattle.tables.specs.laws.Groups.{names, credentialsOf, pairs}
@@ -262,6 +263,21 @@ module _ (s : List ℕ) {b : Bool} (h : b ≡ sized (length s)) (n : not b ≡ f
 
   pub passed-first : {x : OwnAnswer} {own : ℕ} → x ≡ firstRecord (recordAt s 0) → x ≡ o.Read own → BehindRecords 1 s 3 (withoutPairs own [] [] [])
   passed-first {x} {own} e q = passed-own s own some-bytes (sym q ∙ e)
+
+  -- the same, for the check
+  pub check-refused : {x : OwnAnswer} {k : ℕ} → x ≡ firstRecord (recordAt s 0) → x ≡ o.Refused k → k ≡ checkOf s
+  unfolding checkOf
+  check-refused {x} {k} e q = sym (ap (answerOf noValue) (inside ∙ first-refused s k some-bytes (sym q ∙ e) .0))
+
+  pub check-behind : {x : OwnAnswer} {own k : ℕ} → x ≡ firstRecord (recordAt s 0) → x ≡ o.Read own
+      → k ≡ answerOf noValue (readFrom s 3 (withoutPairs own [] [] [])) → k ≡ checkOf s
+  unfolding checkOf
+  check-behind {x} {own} e q h = h ∙ sym (ap (answerOf noValue) (inside ∙ first-own s own some-bytes (sym q ∙ e)))
+
+pub check-outside : (s : List ℕ) {b : Bool} → b ≡ sized (length s) → not b ≡ true → 1 ≡ checkOf s
+unfolding checkOf readTables
+check-outside s {b} h n =
+    sym (ap (λ (t : Bool). answerOf noValue (cond t (recordsFrom (length s) s 0 unread) (refused LENGTH))) (sym h ∙ not-true b n))
 
 -- the number of decoded tables
 pub number-outcome : (d : Decoded) → d .refusal ≡ answerOf noValue (outcomeOf d)

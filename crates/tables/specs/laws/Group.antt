@@ -163,6 +163,30 @@ module _ {A : Type 0} (G : Group A) (num : A → ℕ) (count : ℕ) (last : A) {
       go absent u = refl
       go (some m) u = absurd (let p : _≡_ {A = ℕ} 0 1 = cc in omega arith)
 
+-- a record whose class and order were left to test
+module _ {A : Type 0} (G : Group A) (number : A → ℕ) (y : RecordAnswer) {w : Step A} (h : w ≡ stepOf G (λ v. 0) y) where
+  pub step-then : {v : A} {z : Step A} → w ≡ taken v → z ≡ judgedStep (number v) v → z ≡ stepOf G number y
+  step-then {v} {z} t d = go y (sym t ∙ h)
+    where
+      picked : (o : Option A) → taken v ≡ pickedStep (λ u. 0) o → z ≡ pickedStep number o
+      picked absent u = absurd (let p : _≡_ {A = ℕ} 0 1 = cc in omega arith)
+      picked (some m) u = let p : v ≡ m = cc in d ∙ (λ i. judgedStep (number (p i)) (p i))
+
+      go : (x : RecordAnswer) → taken v ≡ stepOf G (λ u. 0) x → z ≡ stepOf G number x
+      go (a.Refused k) u = absurd (let p : _≡_ {A = ℕ} 0 1 = cc in omega arith)
+      go (a.Read r) u = picked (G .pick r) u
+
+  pub step-stop : {k : ℕ} → w ≡ stop k → stop k ≡ stepOf G number y
+  step-stop {k} t = go y (sym t ∙ h)
+    where
+      picked : (o : Option A) → stop k ≡ pickedStep (λ u. 0) o → stop k ≡ pickedStep number o
+      picked absent u = u
+      picked (some m) u = absurd (let p : _≡_ {A = ℕ} 0 1 = cc in omega arith)
+
+      go : (x : RecordAnswer) → stop k ≡ stepOf G (λ u. 0) x → stop k ≡ stepOf G number x
+      go (a.Refused m) u = u
+      go (a.Read r) u = picked (G .pick r) u
+
 -- an empty list has no element
 none-length : {A : Type 0} (L : List A) → none L ≡ eqb (length L) 0
 none-length [] = refl

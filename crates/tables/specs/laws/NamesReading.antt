@@ -70,7 +70,7 @@ reading-start s start N last e h z =
 
 module _ {s : List ℕ} {start : ℕ} {N : Names} {last : Name} {at : ℕ} (r : ReadingNames s start N last at) where
   -- no byte is left
-  pub names-past : length s ≤ at → NamesGone s start (record { refusal = 0; at = at; names = N })
+  pub names-past : length s ≤ at → NamesGone s start (record { refusal = 0; at = at; count = N .count }) N
   names-past h = record { gone = gone-past (r .going) h; ascending = r .ascending }
 
   module _ (more : at < length s) {x : NameStep} (h : nameStep x ≡ stepOf names (numberBehind names noNumber (N .count) last) (recordAt s at)) where
@@ -94,7 +94,7 @@ module _ {s : List ℕ} {start : ℕ} {N : Names} {last : Name} {at : ℕ} (r : 
         }
 
     -- the reading of names stops
-    pub names-stop : (k : ℕ) → x ≡ y.Stop k → NamesGone s start (record { refusal = k; at = at; names = N })
+    pub names-stop : (k : ℕ) → x ≡ y.Stop k → NamesGone s start (record { refusal = k; at = at; count = N .count }) N
     names-stop k e = record {
       gone = going-stop (r .going) more names-lawful (N .count) (names-length N) k (sym h ∙ ap nameStep e);
       ascending = r .ascending;

@@ -113,7 +113,7 @@ pairs-start U access s start P last h z = record { going = going-empty; sized = 
 
 module _ {U : Tables} {access : Bool} {s : List ℕ} {start : ℕ} {P : Pairs} {last : Pair} {at : ℕ} (r : ReadingPairs U access s start P last at) where
   -- no byte is left
-  pub pairs-past : length s ≤ at → PairsGone U access s start (record { refusal = 0; at = at; pairs = P })
+  pub pairs-past : length s ≤ at → PairsGone U access s start (record { refusal = 0; at = at; count = P .count }) P
   pairs-past h = gone-past (r .going) h
 
   module _ (more : at < length s) {x : PairStep} (h : pairStep x
@@ -134,7 +134,7 @@ module _ {U : Tables} {access : Bool} {s : List ℕ} {start : ℕ} {P : Pairs} {
     }
 
     -- the reading of pairs stops
-    pub pairs-stop : (k : ℕ) → x ≡ y.Stop k → PairsGone U access s start (record { refusal = k; at = at; pairs = P })
+    pub pairs-stop : (k : ℕ) → x ≡ y.Stop k → PairsGone U access s start (record { refusal = k; at = at; count = P .count }) P
     pairs-stop k e = going-stop (r .going) more (pairs-lawful access) (P .count) (pairs-length P) k (sym h ∙ ap pairStep e)
 
 -- columns count their pairs

@@ -3,8 +3,10 @@ use Prim.Native.Nat.{ℕ}
 use mathlib.Core.Bool.{Bool}
 use mathlib.Core.List.{List, []}
 use Rattle.expression.specs.declared.Credential.{Credential}
+use Rattle.rt0.specs.declared.Pool.{Pool}
 use Rattle.rt0.specs.laws.Pool.{credentials}
 use Rattle.class.specs.declared.Name.{Name}
+use Rattle.class.specs.declared.Names.{Names}
 use Rattle.class.specs.laws.Names.{namesOf, Ascending}
 use Rattle.record.specs.declared.Pair.{Pair}
 use Rattle.tables.specs.declared.NameStep.{NameStep}
@@ -13,9 +15,8 @@ use Rattle.tables.specs.declared.StoredStep.{StoredStep}
 use Rattle.tables.specs.declared.StoredStep.the-variants as c
 use Rattle.tables.specs.declared.PairStep.{PairStep}
 use Rattle.tables.specs.declared.PairStep.the-variants as p
-use Rattle.tables.specs.declared.NamesRead.{NamesRead}
-use Rattle.tables.specs.declared.StoredRead.{StoredRead}
-use Rattle.tables.specs.declared.PairsRead.{PairsRead}
+use Rattle.tables.specs.declared.Reached.{Reached}
+use Rattle.tables.specs.declared.Pairs.{Pairs}
 use Rattle.tables.specs.Tables.{Tables}
 use Rattle.tables.specs.laws.Tables.{pairsOf}
 use Rattle.tables.specs.Check.{storedNumber, pairNumber}
@@ -44,14 +45,14 @@ abbrev pub tablesFor : ℕ → List Name → List Credential → List Pair → T
 tablesFor own ns C P = record { own = own; names = ns; issuerStored = []; subjectStored = C; sensitive = P; access = [] }
 
 -- the names from an index on
-pub record NamesGone (s : List ℕ) (start : ℕ) (r : NamesRead) : Type 0 where
-  pub gone : Gone names noNumber s start (namesOf (r .names)) (r .refusal) (r .at)
-  pub ascending : Ascending (r .names .count) (r .names .name)
+pub record NamesGone (s : List ℕ) (start : ℕ) (r : Reached) (N : Names) : Type 0 where
+  pub gone : Gone names noNumber s start (namesOf N) (r .refusal) (r .at)
+  pub ascending : Ascending (N .count) (N .name)
 
 -- the credentials of a storage
-abbrev pub StoredGone : List Name → Bool → List ℕ → ℕ → StoredRead → Type 0
-StoredGone ns subject s start r = Gone (credentialsOf subject) (storedNumber ns subject) s start (credentials (r .pool)) (r .refusal) (r .at)
+abbrev pub StoredGone : List Name → Bool → List ℕ → ℕ → Reached → Pool → Type 0
+StoredGone ns subject s start r P = Gone (credentialsOf subject) (storedNumber ns subject) s start (credentials P) (r .refusal) (r .at)
 
 -- the sensitive roles, or the AC records
-abbrev pub PairsGone : Tables → Bool → List ℕ → ℕ → PairsRead → Type 0
-PairsGone U access s start r = Gone (pairs access) (pairNumber access U) s start (pairsOf (r .pairs)) (r .refusal) (r .at)
+abbrev pub PairsGone : Tables → Bool → List ℕ → ℕ → Reached → Pairs → Type 0
+PairsGone U access s start r P = Gone (pairs access) (pairNumber access U) s start (pairsOf P) (r .refusal) (r .at)

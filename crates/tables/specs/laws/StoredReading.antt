@@ -8,7 +8,10 @@ use borrow.Author.Tests.{eqb-true}
 use lib.Dec.{eqb}
 use lib.ListN.{length}
 use Rattle.numbers.specs.Sizes.{MOST-STORED}
+use Rattle.numbers.specs.Refusals.{OPERAND}
 use Rattle.expression.specs.declared.Credential.{Credential}
+use Rattle.expression.specs.declared.CredentialAnswer.{CredentialAnswer}
+use Rattle.expression.specs.declared.CredentialAnswer.the-variants as answer
 use Rattle.expression.specs.Order.{beforeCredential}
 use Rattle.rt0.specs.declared.Pool.{Pool}
 use Rattle.rt0.specs.laws.Pool.{credentials}
@@ -19,11 +22,11 @@ use Rattle.class.specs.Typing.{credentialNumber}
 use Rattle.record.specs.declared.Record.{Record}
 use Rattle.record.specs.declared.RecordAnswer.{RecordAnswer}
 use Rattle.record.specs.declared.RecordAnswer.the-variants as a
-use Rattle.record.specs.Record.{recordAt}
+use Rattle.record.specs.Record.{recordAt, storedOf}
 use Rattle.tables.specs.declared.StoredStep.{StoredStep}
 use Rattle.tables.specs.declared.StoredStep.the-variants as y
 use Rattle.tables.specs.Check.{orElse, suitsStorage, storedNumber}
-use Rattle.tables.specs.laws.Group.{rising, behind, Step, stop, judgedStep, pickedStep, stepOf, step-some, step-none, Going, numberBehind}
+use Rattle.tables.specs.laws.Group.{rising, behind, Step, taken, stop, pickedStep, stepOf, Going, numberBehind}
 use Rattle.tables.specs.laws.Group.{going-start, going-next, going-above, going-stop, gone-past}
 use Rattle.tables.specs.laws.Groups.{credentialsOf, credentials-lawful, pickStored}
 use Rattle.tables.specs.laws.Reading.{storedStep, StoredGone}
@@ -56,17 +59,26 @@ unfolding behind credentialsOf
 stored-behind ns subject count last c h n q e = e ∙ (λ i. orElse (n i) ((q ∙ ap (λ (u : Bool). rising (eqb count 0 || u) count MOST-STORED) h) i))
 
 -- a record that was read, where a credential of the storage may stand
-module _ (ns : List Name) (subject : Bool) (count : ℕ) (last : Credential) {x t : RecordAnswer} {r : Record} (h : x ≡ t) (q : x ≡ a.Read r) where
-  pub stored-some : {w : StoredStep} {c : Credential} {z : Step Credential} → storedStep w ≡ pickedStep (λ c. 0) (pickStored subject r) → w ≡ y.Taken c
-      → z ≡ judgedStep (numberBehind (credentialsOf subject) (storedNumber ns subject) count last c) c
-      → z ≡ stepOf (credentialsOf subject) (numberBehind (credentialsOf subject) (storedNumber ns subject) count last) t
-  unfolding credentialsOf
-  stored-some e u v = step-some (credentialsOf subject) (storedNumber ns subject) count last h q e (ap storedStep u) refl v
+pub stored-picked : (subject : Bool) {x t : RecordAnswer} (r : Record) {z : Step Credential} → x ≡ t → x ≡ a.Read r
+    → z ≡ pickedStep (λ c. 0) (pickStored subject r) → z ≡ stepOf (credentialsOf subject) (λ c. 0) t
+unfolding credentialsOf
+stored-picked subject r h q e = e ∙ ap (stepOf (credentialsOf subject) (λ c. 0)) (sym q ∙ h)
 
-  pub stored-none : {w : StoredStep} {k : ℕ} → storedStep w ≡ pickedStep (λ c. 0) (pickStored subject r) → w ≡ y.Stop k
-      → stop 0 ≡ stepOf (credentialsOf subject) (numberBehind (credentialsOf subject) (storedNumber ns subject) count last) t
-  unfolding credentialsOf
-  stored-none e u = step-none (credentialsOf subject) (storedNumber ns subject) count last h q e (ap storedStep u)
+-- a credential that was read without the record around it, or not
+abbrev pub answerStep : CredentialAnswer → Step Credential
+answerStep (answer.Read c) = taken c
+answerStep answer.Wrong = stop OPERAND
+
+pub stored-read : (subject : Bool) (r : CredentialAnswer) (t : RecordAnswer) → t ≡ storedOf subject r
+    → answerStep r ≡ stepOf (credentialsOf subject) (λ c. 0) t
+unfolding credentialsOf
+stored-read subject r t h = go subject r ∙ ap (stepOf (credentialsOf subject) (λ c. 0)) (sym h)
+  where
+    go : (b : Bool) (x : CredentialAnswer) → answerStep x ≡ stepOf (credentialsOf b) (λ c. 0) (storedOf b x)
+    go true (answer.Read c) = refl
+    go false (answer.Read c) = refl
+    go true answer.Wrong = refl
+    go false answer.Wrong = refl
 
 -- the credentials between two indices stand in the pool
 pub record ReadingStored (ns : List Name) (subject : Bool) (s : List ℕ) (start : ℕ) (P : Pool) (last : Credential) (at : ℕ) : Type 0 where
@@ -84,7 +96,7 @@ stored-start ns subject s start P last h z =
 module _ {ns : List Name} {subject : Bool} {s : List ℕ} {start : ℕ} {P : Pool} {last : Credential} {at : ℕ}
     (r : ReadingStored ns subject s start P last at) where
   -- no byte is left
-  pub stored-past : length s ≤ at → StoredGone ns subject s start (record { refusal = 0; at = at; pool = P })
+  pub stored-past : length s ≤ at → StoredGone ns subject s start (record { refusal = 0; at = at; count = P .count }) P
   stored-past h = gone-past (r .going) h
 
   module _ (more : at < length s) {x : StoredStep}
@@ -104,7 +116,7 @@ module _ {ns : List Name} {subject : Bool} {s : List ℕ} {start : ℕ} {P : Poo
         }
 
     -- the reading of credentials stops
-    pub stored-stop : (k : ℕ) → x ≡ y.Stop k → StoredGone ns subject s start (record { refusal = k; at = at; pool = P })
+    pub stored-stop : (k : ℕ) → x ≡ y.Stop k → StoredGone ns subject s start (record { refusal = k; at = at; count = P .count }) P
     stored-stop k e = going-stop (r .going) more (credentials-lawful subject) (P .count) (count-length P) k (sym h ∙ ap storedStep e)
 
 -- a pool counts its credentials

@@ -1,17 +1,25 @@
+use mathlib.Core.Path.{sym, _∙_}
 use Rattle.expression.specs.Order.{beforeOf, beforeCredential}
-use Rattle.expression.specs.laws.Order.{leads-then}
+use Rattle.expression.specs.laws.Order.{leads-equal, leads-other}
 use borrow.Author.Needs.{needs}
 use Rattle.expression.proofs.order.before_credential.Statement.{statement}
 use Rattle.expression.proofs.order.before_credential.Tie as tie
 
 returns : tie.Need-returns
+unfolding beforeCredential
+returns c = sym (leads-other _ _ _ (c .before .before .if1 .taken))
+
+returns-2 : tie.Need-returns-2
+unfolding beforeCredential
+returns-2 c =
+    let d = c .before .before in
+    sym (leads-equal _ _ _ (d .before .before .before .if1 .left) ∙ leads-other _ _ _ (d .if2 .taken))
+
+returns-3 : tie.Need-returns-3
 unfolding beforeOf beforeCredential
-returns c =
-    let k = c .before .before in
-    let h = k .before .before .before .args .c .head in
-    let j = k .before .before .before .args .d .head in
-    leads-then (h .entity) (j .entity) (c .ahead2 .ensures) (leads-then (h .name) (j .name) (c .before .ahead .ensures) (k .before2 .ensures))
+returns-3 c =
+    let d = c .before in
+    c .before2 .ensures ∙ sym (leads-equal _ _ _ (d .before .before .before .if1 .left) ∙ leads-equal _ _ _ (d .if2 .left))
 
 pub before-credential-spec : {M : Type 1} → statement M
-before-credential-spec =
-    tie.close (tie.spec (λ c κs. search needs) (λ c κs. search needs) (λ c κs. search needs) returns)
+before-credential-spec = tie.close (tie.spec returns returns-2 (λ c κs. search needs) returns-3)

@@ -1,8 +1,8 @@
 use native.Mathlib.Omega.{arith}
 use borrow.Author.Needs.{needs}
 use mathlib.Core.Path.{refl}
-use Prim.Native.Nat.{ℕ, _-_}
-use lib.ListN.{length, length-replicate}
+use Prim.Native.Nat.{_-_}
+use lib.ListN.{length}
 use Rattle.class.specs.laws.Names.{namesFrom, namesOf}
 use Rattle.tables.specs.laws.NamesReading.{ReadingNames, reading-start, names-past, names-room, names-next, names-stop}
 use Rattle.tables.proofs.names.read_names.Statement.{statement}
@@ -16,7 +16,7 @@ abbrev μ-loop : tie.MeasureT-loop
 
 loop-holds : tie.Need-loop-holds Inv-loop μ-loop
 unfolding namesOf
-loop-holds c = reading-start _ _ (namesFrom 0 _ _) _ refl refl (record { name = length-replicate {A = ℕ} 64 0; class = length-replicate {A = ℕ} 64 0 })
+loop-holds c = reading-start _ _ (namesFrom 0 _ _) _ refl refl (c .before .pre)
 
 store-name-requires : tie.Need-store-name-requires Inv-loop μ-loop
 store-name-requires c κs =

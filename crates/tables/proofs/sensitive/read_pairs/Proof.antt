@@ -1,8 +1,8 @@
 use native.Mathlib.Omega.{arith}
 use borrow.Author.Needs.{needs}
 use mathlib.Core.Path.{refl}
-use Prim.Native.Nat.{ℕ, _-_}
-use lib.ListN.{length, length-replicate}
+use Prim.Native.Nat.{_-_}
+use lib.ListN.{length}
 use Rattle.rt0.specs.laws.Pool.{poolOf, credentials}
 use Rattle.class.specs.laws.Names.{namesFrom, namesOf}
 use Rattle.tables.specs.laws.Tables.{pairsFrom, pairsOf}
@@ -22,7 +22,7 @@ abbrev μ-loop : tie.MeasureT-loop
 
 loop-holds : tie.Need-loop-holds Inv-loop μ-loop
 unfolding pairsOf
-loop-holds c = pairs-start _ _ _ _ (pairsFrom 0 _ _) _ refl (record { roles = length-replicate {A = ℕ} 64 0; others = length-replicate {A = ℕ} 64 0 })
+loop-holds c = pairs-start _ _ _ _ (pairsFrom 0 _ _) _ refl (c .before .pre .4)
 
 store-pair-requires : tie.Need-store-pair-requires Inv-loop μ-loop
 store-pair-requires c κs =

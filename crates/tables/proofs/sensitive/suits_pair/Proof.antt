@@ -7,7 +7,9 @@ returns : tie.Need-returns
 returns c = suits-sensitive (c .before .args .access) _ _ (c .if1 .taken)
 
 returns-2 : tie.Need-returns-2
-returns-2 c = suits-access (c .before .before .before .args .access) _ (c .before .before .if1 .left) (c .before .holds .ensures) (c .is-sensitive .ensures)
+returns-2 c =
+    suits-access (c .before .before .before .args .access) _ (c .before .before .if1 .left) (c .before .holds-from .ensures)
+    (c .is-sensitive-from .ensures)
 
 pub suits-pair-spec : {M : Type 1} → statement M
 suits-pair-spec = tie.close (tie.spec returns (λ c κs. search needs) (λ c κs. search needs) returns-2)

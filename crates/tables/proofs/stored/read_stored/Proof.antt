@@ -1,8 +1,8 @@
 use native.Mathlib.Omega.{arith}
 use borrow.Author.Needs.{needs}
 use mathlib.Core.Path.{refl}
-use Prim.Native.Nat.{ℕ, _-_}
-use lib.ListN.{length, length-replicate}
+use Prim.Native.Nat.{_-_}
+use lib.ListN.{length}
 use Rattle.rt0.specs.laws.Pool.{poolOf, credentials}
 use Rattle.class.specs.laws.Names.{namesFrom, namesOf}
 use Rattle.tables.specs.laws.StoredReading.{ReadingStored, stored-start, stored-past, stored-room, stored-next, stored-stop}
@@ -19,13 +19,7 @@ abbrev μ-loop : tie.MeasureT-loop
 
 loop-holds : tie.Need-loop-holds Inv-loop μ-loop
 unfolding credentials
-loop-holds c =
-    stored-start _ _ _ _ (poolOf 0 _ _ _) _ refl (record {
-      heads = length-replicate {A = ℕ} 256 0;
-      kinds = length-replicate {A = ℕ} 256 0;
-      numbers =
-          length-replicate {A = ℕ} 1024 0;
-    })
+loop-holds c = stored-start _ _ _ _ (poolOf 0 _ _ _) _ refl (c .before .pre .2)
 
 next-stored-requires : tie.Need-next-stored-requires Inv-loop μ-loop
 next-stored-requires c κs = (c .loop-test .taken, c .before .before .before .pre .0, c .before .before .before .pre .1)

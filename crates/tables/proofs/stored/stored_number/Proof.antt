@@ -5,15 +5,14 @@ use Rattle.tables.proofs.stored.stored_number.Tie as tie
 
 returns : tie.Need-returns
 returns c =
-    let c4 = c .before .before .before .before in
-    stored-suits _ _ _ (c4 .credential-number .ensures) (c .before .before .class-of .ensures) (c .before .suits-storage .ensures) (c .if1 .taken)
+    let k = c .before .before in
+    stored-suits _ _ _ (k .number-under .ensures) (k .before .class-of .ensures) (c .before .suits-storage .ensures) (c .if1 .taken)
 
 returns-2 : tie.Need-returns-2
 returns-2 c =
-    let c3 = c .before .before .before in
-    let c5 = c3 .before .before in
-    stored-other _ _ _ (c5 .credential-number .ensures) (c3 .class-of .ensures) (c .before .before .suits-storage .ensures) (c .before .if1 .left)
-    (c .or-else .ensures)
+    let s = c .before .before in
+    let k = s .before in
+    stored-other _ _ _ (k .number-under .ensures) (k .before .class-of .ensures) (s .suits-storage .ensures) (c .before .if1 .left) (c .or-else .ensures)
 
 pub stored-number-spec : {M : Type 1} → statement M
 stored-number-spec =
