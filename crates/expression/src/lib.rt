@@ -7,6 +7,7 @@ ghost use Rattle.expression.specs.Form.{candidateOf, rawOf, wellFormed, 
 ghost use Rattle.expression.specs.Form.{expressionOf};
 ghost use Rattle.expression.specs.laws.Form.{plainRaw};
 ghost use Rattle.expression.specs.Same.{sameRole, same as sameExpression};
+ghost use Rattle.expression.specs.laws.Key.{KeyOf};
 pub use credentials::is_body;
 pub use credentials::read_credential;
 pub use credentials::role_at;
@@ -239,6 +240,13 @@ pub fn well_formed(e: Expression) -> bool
         Expression::Intersection(p) => parts_formed(p),
         Expression::Goal(n) => 0 < n,
     }
+}
+
+// The two numbers of a role as one, so that one test compares both.
+pub fn key_of(p: Role) -> u32
+    ensures { λ r. ⌜ KeyOf p r ⌝ }
+{
+    p.entity as u32 + p.name as u32 * 65536
 }
 
 pub fn same_role(p: Role, q: Role) -> bool

@@ -32,7 +32,7 @@ returns-3 c n H f h =
     let c5 = c3 .before .before in
     starts-same (pool c5 n H) (c5 .args .on .now) (c5 .args .rows .now) (c5 .args .e) (c5 .args .i) (c3 .if1 .left)
     (c .before .before .leads-to .ensures n H (c5 .args .e) f (ap (λ (r : Raw). r .n1) (c5 .pre .2)) h)
-    (c .before .if2 .left) (c .is-e .ensures)
+    (c .before .if2 .left) (c .same-body .ensures)
 
 pub starts-spec : {M : Type 1} → statement M
 starts-spec =
