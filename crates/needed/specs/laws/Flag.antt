@@ -3,9 +3,9 @@ use Prim.Native.Nat.{ℕ, _+_, _≤_, _<_}
 use native.Mathlib.Omega.{arith}
 use mathlib.Core.Path.{_≡_, refl, sym, _∙_, ap, subst}
 use mathlib.Core.Logic.{_⊎_, ⊎-elim}
-use mathlib.Core.Bool.{Bool, true, false, _&&_, _||_, cond}
+use mathlib.Core.Bool.{Bool, true, false, not, _||_, cond}
 use mathlib.Core.List.{List, List·Memᴰ}
-use borrow.Author.Tests.{eqb-true, eqb-false, ne-eqb}
+use borrow.Author.Tests.{eqb-true, eqb-false, ne-eqb, not-true}
 use lib.Dec.{eqb}
 use lib.ListN.{getD-replicate, length, length-set, length-replicate, set, replicate}
 use lib.Seq.{getD-set-same, getD-set-other}
@@ -14,6 +14,7 @@ use Rattle.expression.specs.declared.Parts.{Parts}
 use Rattle.expression.specs.declared.Expression.{Expression}
 use Rattle.expression.specs.declared.Expression.the-variants as E
 use Rattle.expression.specs.Same.{sameRole}
+use Rattle.expression.specs.laws.Same.{sameRole-eq, eq-sameRole}
 use Rattle.rt0.specs.declared.Pool.{Pool}
 use Rattle.rt0.specs.From.{rolesOf}
 use Rattle.rt0.specs.laws.Lists.{any-find}
@@ -34,17 +35,10 @@ raised-not was h = record { told = λ k. absurd (false-true (sym h ∙ k)); stay
 pub raised-one : {b : Bool} (was : ℕ) → Raised b was 1
 raised-one was = record { told = λ k. refl; stays = λ k. refl }
 
-pub other-entity : (p h : Role) → (h .entity ≡ p .entity → ⊥) → sameRole p h ≡ false
-unfolding sameRole
-other-entity p h n = rw (ne-eqb (p .entity) (h .entity) (λ q. n (sym q)))
-
-pub other-name : (p h : Role) → (h .name ≡ p .name → ⊥) → sameRole p h ≡ false
-unfolding sameRole
-other-name p h n = not-both (eqb (p .entity) (h .entity)) (ne-eqb (p .name) (h .name) (λ q. n (sym q)))
-  where
-    not-both : (a : Bool) {b : Bool} → b ≡ false → (a && b) ≡ false
-    not-both true k = k
-    not-both false k = refl
+-- a head that is not p leaves the flag
+pub raised-other : (p h : Role) {t : Bool} (was : ℕ) → t ≡ sameRole h p → not t ≡ true → Raised (sameRole p h) was was
+raised-other p h {t} was e k =
+    record { told = λ z. absurd (false-true (sym (not-true t k) ∙ (e ∙ eq-sameRole h p (sym (sameRole-eq p h z))))); stays = λ z. z }
 
 pub not-named : (m : ℕ) (h : Role) → (h .name ≡ m → ⊥) → isNamed m h ≡ false
 unfolding isNamed
