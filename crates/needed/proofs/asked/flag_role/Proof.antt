@@ -38,5 +38,5 @@ returns c = marked-all _ (c .loop-test .left) (c .before .loop .inv (c .before .
 pub flag-role-spec : {M : Type 1} → statement M
 flag-role-spec =
     tie.close
-    (tie.spec Inv-loop μ-loop (λ c κs. search needs) loop-holds element-copy-out-flag-head flag-head-requires element-write-flags (λ c. omega arith) (λ c. omega arith)
-    loop-again returns)
+    (tie.spec Inv-loop μ-loop (λ c κs. search needs) loop-holds element-copy-out-flag-head flag-head-requires element-write-flags (λ c. omega arith)
+    (λ c. omega arith) loop-again returns)

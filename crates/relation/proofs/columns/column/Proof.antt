@@ -22,7 +22,8 @@ rule-column-requires-2 c κs =
     let c3 = c .before .before .before in
     let ruled = c3 .pre .1 .1 in
     let same = row-same (pool c3) (c3 .args .e) (c .before .has-new-row .ensures (c .if1 .left)) in
-    (c3 .pre .0, (c3 .pre .1 .0, c3 .args .part .now, ruled), parts-same (pool c3) (c3 .args .e) same (c3 .args .n) (c3 .args .part .now) (ruled .part), c3 .pre .2)
+    let parts = parts-same (pool c3) (c3 .args .e) same (c3 .args .n) (c3 .args .part .now) (ruled .part) in
+    (c3 .pre .0, (c3 .pre .1 .0, c3 .args .part .now, ruled), parts, c3 .pre .2)
 
 pub column-spec : {M : Type 1} → statement M
 column-spec =
