@@ -72,14 +72,20 @@ fn flag_linked<'a>(n: usize, heads: &'a [u16; 256], a: Role, m: u16, flags: &'a 
     flag_names(n, heads, m, flags)
 }
 
-// Flags the credentials that an intersection asks for. The parts past its count are flagged too.
+// Flags the credentials that an intersection asks for.
 fn flag_parts<'a>(n: usize, heads: &'a [u16; 256], p: Parts, flags: &'a mut [u8; 128])
     requires { ⌜ (n ≤ 128) × (length (now flags) ≡ 128) ⌝ }
     ensures { λ _. ⌜ Marked (now (heads .entry)) (asks (E.Intersection p)) n (now (flags .entry)) (now (flags .exit)) ⌝ }
 {
     flag_role(n, heads, p.first, flags);
     flag_role(n, heads, p.second, flags);
+    if p.count == 2 {
+        return;
+    }
     flag_role(n, heads, p.third, flags);
+    if p.count == 3 {
+        return;
+    }
     flag_role(n, heads, p.fourth, flags)
 }
 
