@@ -261,7 +261,7 @@ pub fn same(x: Expression, y: Expression) -> bool
     same_raw(raw_of(x), raw_of(y))
 }
 
-fn same_raw(a: Raw, b: Raw) -> bool
+pub fn same_raw(a: Raw, b: Raw) -> bool
     ensures { λ r. ⌜ r ≡ sameRaw a b ⌝ }
 {
     (a.kind == b.kind)

@@ -138,20 +138,20 @@ fn leads_to<'a>(
     bit(rows, first[i], s)
 }
 
-// Whether credential i is on and its body is from e at once. The bit of the entity of e is s, whatever the heads.
+// Whether credential i is on and its body is from e at once, whose numbers are those of raw. The bit of the entity of e is s, whatever the heads.
 fn starts<'a>(
     kinds: &'a [u8; 256],
     numbers: &'a [u16; 1024],
     first: &'a [usize; 128],
     on: &'a [u8; 128],
     rows: &'a [u64; 260],
-    e: Expression,
     raw: Raw,
     s: usize,
     i: usize,
 ) -> bool
-    requires { ⌜ (i < 128) × Under 130 (now first) × (raw ≡ rawOf e) ⌝ }
-    ensures { λ r. ⌜ ((n : ℕ) (H : List ℕ) → el (now (first .entry)) i ≡ bodyFirst (poolOf n H (now (kinds .entry)) (now (numbers .entry))) i
+    requires { ⌜ (i < 128) × Under 130 (now first) ⌝ }
+    ensures { λ r. ⌜ ((n : ℕ) (H : List ℕ) (e : Expression) → raw ≡ rawOf e
+        → el (now (first .entry)) i ≡ bodyFirst (poolOf n H (now (kinds .entry)) (now (numbers .entry))) i
         → s ≡ ownBit (bitIn n (now (kinds .entry)) (now (numbers .entry))) e
         → r ≡ startsAt (poolOf n H (now (kinds .entry)) (now (numbers .entry))) (now (on .entry)) (now (rows .entry)) e i) ⌝ }
 {
@@ -161,7 +161,7 @@ fn starts<'a>(
     if leads_to(kinds, numbers, first, rows, raw.n1, s, i) {
         return true;
     }
-    same_body(kinds, numbers, e, raw, i)
+    same_body(kinds, numbers, raw, i)
 }
 
 // The set with the rules that read row r.
@@ -201,7 +201,7 @@ pub fn asked<'a>(
     let mut todo = read_too(Dirty { lo: 0, hi: 0 }, deps, r);
     let mut i = 0;
     while i < n {
-        if starts(kinds, numbers, first, on, mem, e, raw, s, i) {
+        if starts(kinds, numbers, first, on, mem, raw, s, i) {
             let h = head[i];
             mark(rows, h, 0);
             todo = read_too(todo, deps, h);

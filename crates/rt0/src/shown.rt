@@ -2,29 +2,23 @@
 use crate::body_at;
 use crate::has_head;
 use expression::Credential;
-use expression::Expression;
 use expression::Raw;
 use expression::key_of;
 use expression::raw_of;
-use expression::same;
+use expression::same_raw;
 ghost use mathlib.Core.Path.{_≡_};
 ghost use Prim.Native.Nat.{_≤_, _<_};
 ghost use Rattle.rt0.specs.laws.Pool.{poolOf, bodyIn, credentialIn, credentials};
+ghost use Rattle.expression.specs.declared.Expression.{Expression};
 ghost use Rattle.expression.specs.Form.{rawOf};
 ghost use Rattle.expression.specs.Same.{same as sameOf, sameCredential};
 ghost use Rattle.expression.specs.laws.Key.{KeyOf};
 ghost use Rattle.rt0.specs.Shown.{isShown};
 
-// Whether body i is x, whose numbers are those of raw.
-pub fn same_body<'a>(
-    kinds: &'a [u8; 256],
-    numbers: &'a [u16; 1024],
-    x: Expression,
-    raw: Raw,
-    i: usize,
-) -> bool
-    requires { ⌜ (i < 128) × (raw ≡ rawOf x) ⌝ }
-    ensures { λ r. ⌜ r ≡ sameOf (bodyIn (now (kinds .entry)) (now (numbers .entry)) i) x ⌝ }
+// Whether body i is the expression whose numbers are those of raw.
+pub fn same_body<'a>(kinds: &'a [u8; 256], numbers: &'a [u16; 1024], raw: Raw, i: usize) -> bool
+    requires { ⌜ i < 128 ⌝ }
+    ensures { λ r. ⌜ ((e : Expression) → raw ≡ rawOf e → r ≡ sameOf (bodyIn (now (kinds .entry)) (now (numbers .entry)) i) e) ⌝ }
 {
     let kind = raw.kind;
     if numbers[i * 8] != raw.n0 {
@@ -38,27 +32,26 @@ pub fn same_body<'a>(
             return numbers[i * 8 + 1] == raw.n1;
         }
     }
-    same(body_at(kinds, numbers, i), x)
+    same_raw(raw_of(body_at(kinds, numbers, i)), raw)
 }
 
-// Credential i has the head with this key and the body x, whose numbers are those of raw.
+// Credential i has the head with this key, and the body whose numbers are those of raw.
 fn is_at<'a>(
     heads: &'a [u16; 256],
     kinds: &'a [u8; 256],
     numbers: &'a [u16; 1024],
     key: u32,
-    x: Expression,
     raw: Raw,
     i: usize,
 ) -> bool
-    requires { ⌜ (i < 128) × (raw ≡ rawOf x) ⌝ }
-    ensures { λ b. ⌜ ((c : Credential) → KeyOf (c .head) key → x ≡ c .body
+    requires { ⌜ i < 128 ⌝ }
+    ensures { λ b. ⌜ ((c : Credential) → KeyOf (c .head) key → raw ≡ rawOf (c .body)
         → b ≡ sameCredential (credentialIn (now (heads .entry)) (now (kinds .entry)) (now (numbers .entry)) i) c) ⌝ }
 {
     if !has_head(heads, key, i) {
         return false;
     }
-    same_body(kinds, numbers, x, raw, i)
+    same_body(kinds, numbers, raw, i)
 }
 
 // Whether c is one of the first n credentials.
@@ -74,11 +67,11 @@ pub fn is_shown<'a>(
 {
     let head = c.head;
     let key = key_of(head);
-    let x = c.body;
-    let raw = raw_of(x);
+    let body = c.body;
+    let raw = raw_of(body);
     let mut i = 0;
     while i < n {
-        if is_at(heads, kinds, numbers, key, x, raw, i) {
+        if is_at(heads, kinds, numbers, key, raw, i) {
             return true;
         }
         i += 1;

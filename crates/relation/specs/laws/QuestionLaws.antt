@@ -13,7 +13,10 @@ use Rattle.expression.specs.declared.Role.{Role}
 use Rattle.expression.specs.declared.Credential.{Credential}
 use Rattle.expression.specs.declared.Expression.{Expression}
 use Rattle.expression.specs.declared.Expression.the-variants as E
+use Rattle.expression.specs.declared.Raw.{Raw}
+use Rattle.expression.specs.Form.{rawOf, expressionOf}
 use Rattle.expression.specs.Same.{same}
+use Rattle.expression.specs.laws.Laws.{expression-raw}
 use Rattle.expression.specs.laws.Same.{eq-same}
 use Rattle.expression.specs.Kinds.{isRoleExpression}
 use Rattle.rt0.specs.declared.Pool.{Pool}
@@ -30,6 +33,10 @@ use Rattle.rules.specs.laws.Column.{no-bits, row-for-small}
 use Rattle.relation.specs.laws.Relation.{Relation, Start, atOnce, Asked, switched}
 use Rattle.relation.specs.laws.Answer.{once-says, Moved}
 use Rattle.relation.specs.laws.Question.{Seeded, StartTo, OwnRow, startsAt, AskedTo}
+
+-- what holds of e holds of each expression with its numbers
+pub by-raw : (F : Expression → Type 0) (e : Expression) {raw : Raw} → raw ≡ rawOf e → F e → (x : Expression) → raw ≡ rawOf x → F x
+by-raw F e q f x k = subst F (sym (expression-raw e) ∙ (ap expressionOf (sym q ∙ k) ∙ expression-raw x)) f
 
 -- The row of a role where e is asked about
 

@@ -10,7 +10,7 @@ use lib.ListN.{getD}
 use Rattle.expression.specs.declared.Raw.{Raw}
 use Rattle.expression.specs.declared.Expression.{Expression}
 use Rattle.expression.specs.declared.Expression.the-variants as E
-use Rattle.expression.specs.Form.{rawOf, expressionOf, pickExpression}
+use Rattle.expression.specs.Form.{rawOf, expressionOf, pickExpression, sameRaw}
 use Rattle.expression.specs.Same.{same}
 use Rattle.expression.specs.laws.Same.{same-eq, eq-same}
 use Rattle.word.specs.laws.Bools.{bool-iff, false-true}
@@ -108,3 +108,8 @@ module _ (K N : List ℕ) (i : ℕ) (e : Expression) (raw : Raw) (is : raw ≡ r
       go (E.Linked a m) k n = absurd (omega arith)
       go (E.Intersection p) k n = absurd (omega arith)
       go (E.Goal m) k n = absurd (omega arith)
+
+  -- any body is e where all its numbers are
+  pub body-raw : {b : Expression} {r : Raw} {t : Bool} → b ≡ bodyIn K N i → r ≡ rawOf b → t ≡ sameRaw r raw → t ≡ same (bodyIn K N i) e
+  unfolding same
+  body-raw {b} {r} h k g = g ∙ (ap (λ (o : Raw). sameRaw o raw) (k ∙ ap rawOf h) ∙ ap (sameRaw (rawOf (bodyIn K N i))) is)
