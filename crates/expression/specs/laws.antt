@@ -5,3 +5,4 @@ pub mod Same
 pub mod Credential
 pub mod Order
 pub mod There
+pub mod Key

@@ -7,6 +7,7 @@ ghost use Rattle.expression.specs.Form.{candidateOf, rawOf, wellFormed, 
 ghost use Rattle.expression.specs.Form.{expressionOf};
 ghost use Rattle.expression.specs.laws.Form.{plainRaw};
 ghost use Rattle.expression.specs.Same.{sameRole, same as sameExpression};
+ghost use Rattle.expression.specs.laws.Key.{KeyOf};
 pub use credentials::is_body;
 pub use credentials::read_credential;
 pub use credentials::role_at;
@@ -241,6 +242,13 @@ pub fn well_formed(e: Expression) -> bool
     }
 }
 
+// The two numbers of a role as one, so that one test compares both.
+pub fn key_of(p: Role) -> u32
+    ensures { λ r. ⌜ KeyOf p r ⌝ }
+{
+    p.entity as u32 + p.name as u32 * 65536
+}
+
 pub fn same_role(p: Role, q: Role) -> bool
     ensures { λ r. ⌜ r ≡ sameRole p q ⌝ }
 {
@@ -253,7 +261,7 @@ pub fn same(x: Expression, y: Expression) -> bool
     same_raw(raw_of(x), raw_of(y))
 }
 
-fn same_raw(a: Raw, b: Raw) -> bool
+pub fn same_raw(a: Raw, b: Raw) -> bool
     ensures { λ r. ⌜ r ≡ sameRaw a b ⌝ }
 {
     (a.kind == b.kind)

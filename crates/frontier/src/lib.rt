@@ -5,48 +5,48 @@
 // through for those that follow it.
 use expression::Expression;
 use expression::Role;
+use expression::key_of;
 use rt0::body_at;
+use rt0::has_head;
 use word::wide;
 ghost use mathlib.Core.Path.{_≡_};
 ghost use mathlib.Core.List.{List};
 ghost use Prim.Native.Nat.{ℕ, _<_, _≤_};
 ghost use Rattle.expression.specs.declared.Expression.the-variants as E;
+ghost use Rattle.expression.specs.laws.Key.{KeyOf};
 ghost use Rattle.rt0.specs.laws.Pool.{poolOf};
 ghost use Rattle.frontier.specs.laws.Frontier.{Reaches};
 ghost use Rattle.frontier.specs.laws.Queue.{isNext as isNextOf, work, Queue, Joined, Entered, Followed};
 
-// Whether credential i is on and has the head p.
-fn is_next<'a>(heads: &'a [u16; 256], on: &'a [u8; 128], p: Role, i: usize) -> bool
+// Whether credential i is on and has the head with this key.
+fn is_next<'a>(heads: &'a [u16; 256], on: &'a [u8; 128], key: u32, i: usize) -> bool
     requires { ⌜ i < 128 ⌝ }
-    ensures { λ r. ⌜ r ≡ isNextOf (now (heads .entry)) (now (on .entry)) p i ⌝ }
+    ensures { λ r. ⌜ ((p : Role) → KeyOf p key → r ≡ isNextOf (now (heads .entry)) (now (on .entry)) p i) ⌝ }
 {
-    if on[i] != 1 {
+    if !has_head(heads, key, i) {
         return false;
     }
-    if heads[i * 2] != p.entity {
-        return false;
-    }
-    heads[i * 2 + 1] == p.name
+    on[i] == 1
 }
 
-// Credential i, if it is on and has the head p, is found and joins the queue, whatever the bodies.
+// Credential i, if it is on and has the head with this key, is found and joins the queue, whatever the bodies.
 fn join<'a>(
     heads: &'a [u16; 256],
     on: &'a [u8; 128],
     found: &'a mut [u8; 128],
     queue: &'a mut [u8; 128],
     tail: usize,
-    p: Role,
+    key: u32,
     i: usize,
 ) -> usize
     requires { ⌜ (i < 128) × Queue (work (now found) (now queue) tail) ⌝ }
-    ensures { λ r. ⌜ ((n : ℕ) (K N : List ℕ) → i < n → Joined (poolOf n (now (heads .entry)) K N) (now (on .entry))
+    ensures { λ r. ⌜ ((p : Role) → KeyOf p key → (n : ℕ) (K N : List ℕ) → i < n → Joined (poolOf n (now (heads .entry)) K N) (now (on .entry))
         (work (now (found .entry)) (now (queue .entry)) tail) (work (now (found .exit)) (now (queue .exit)) r) p i) ⌝ }
 {
-    if found[i] == 1 {
+    if !is_next(heads, on, key, i) {
         return tail;
     }
-    if !is_next(heads, on, p, i) {
+    if found[i] == 1 {
         return tail;
     }
     found[i] = 1;
@@ -68,10 +68,11 @@ fn enter<'a>(
     ensures { λ r. ⌜ ((K N : List ℕ) → Entered (poolOf n (now (heads .entry)) K N) (now (on .entry))
         (work (now (found .entry)) (now (queue .entry)) tail) (work (now (found .exit)) (now (queue .exit)) r) (E.Role p) n) ⌝ }
 {
+    let key = key_of(p);
     let mut t = tail;
     let mut i = 0;
     while i < n {
-        t = join(heads, on, found, queue, t, p, i);
+        t = join(heads, on, found, queue, t, key, i);
         i += 1;
     }
     t

@@ -3,25 +3,25 @@
 use expression::Expression;
 use expression::Parts;
 use expression::Role;
+use expression::key_of;
 use rt0::body_at;
+use rt0::has_head;
 ghost use mathlib.Core.Path.{_≡_};
 ghost use Prim.Native.Nat.{_<_, _≤_};
 ghost use lib.ListN.{length};
 ghost use Rattle.expression.specs.declared.Expression.the-variants as E;
 ghost use Rattle.expression.specs.Same.{sameRole};
+ghost use Rattle.expression.specs.laws.Key.{KeyOf};
 ghost use Rattle.rt0.specs.laws.Pool.{poolOf, headIn};
 ghost use Rattle.needed.specs.laws.Relevant.{asks, ClosedFor};
 ghost use Rattle.needed.specs.laws.Flags.{isNamed, Raised, Marked, Work, Followed, Swept};
 
-// 1 where credential i has the head p, else the flag that was there.
-fn flag_head<'a>(heads: &'a [u16; 256], i: usize, p: Role, was: u8) -> u8
+// 1 where credential i has the head with this key, else the flag that was there.
+fn flag_head<'a>(heads: &'a [u16; 256], i: usize, key: u32, was: u8) -> u8
     requires { ⌜ i < 128 ⌝ }
-    ensures { λ r. ⌜ Raised (sameRole p (headIn (now (heads .entry)) i)) was r ⌝ }
+    ensures { λ r. ⌜ ((p : Role) → KeyOf p key → Raised (sameRole p (headIn (now (heads .entry)) i)) was r) ⌝ }
 {
-    if heads[i * 2] != p.entity {
-        return was;
-    }
-    if heads[i * 2 + 1] != p.name {
+    if !has_head(heads, key, i) {
         return was;
     }
     1
@@ -43,9 +43,10 @@ fn flag_role<'a>(n: usize, heads: &'a [u16; 256], p: Role, flags: &'a mut [u8; 1
     requires { ⌜ (n ≤ 128) × (length (now flags) ≡ 128) ⌝ }
     ensures { λ _. ⌜ Marked (now (heads .entry)) (sameRole p) n (now (flags .entry)) (now (flags .exit)) ⌝ }
 {
+    let key = key_of(p);
     let mut i = 0;
     while i < n {
-        flags[i] = flag_head(heads, i, p, flags[i]);
+        flags[i] = flag_head(heads, i, key, flags[i]);
         i += 1;
     }
 }
@@ -71,14 +72,20 @@ fn flag_linked<'a>(n: usize, heads: &'a [u16; 256], a: Role, m: u16, flags: &'a 
     flag_names(n, heads, m, flags)
 }
 
-// Flags the credentials that an intersection asks for. The parts past its count are flagged too.
+// Flags the credentials that an intersection asks for.
 fn flag_parts<'a>(n: usize, heads: &'a [u16; 256], p: Parts, flags: &'a mut [u8; 128])
     requires { ⌜ (n ≤ 128) × (length (now flags) ≡ 128) ⌝ }
     ensures { λ _. ⌜ Marked (now (heads .entry)) (asks (E.Intersection p)) n (now (flags .entry)) (now (flags .exit)) ⌝ }
 {
     flag_role(n, heads, p.first, flags);
     flag_role(n, heads, p.second, flags);
+    if p.count == 2 {
+        return;
+    }
     flag_role(n, heads, p.third, flags);
+    if p.count == 3 {
+        return;
+    }
     flag_role(n, heads, p.fourth, flags)
 }
 

@@ -7,6 +7,7 @@ use rules::Four;
 use rules::fourth_of;
 use rules::row;
 use rules::third_of;
+ghost use mathlib.Core.Bool.{false};
 ghost use mathlib.Core.Path.{_≡_};
 ghost use Prim.Native.Nat.{ℕ, _<_, _≤_};
 ghost use mathlib.Core.List.{List};
@@ -15,6 +16,20 @@ ghost use Rattle.rt0.specs.laws.Pool.{poolOf, bodyIn};
 ghost use Rattle.rules.specs.laws.Table.{rowOf, rowIn, rowFor};
 ghost use Rattle.rules.specs.laws.Columns.{fourRows, PartsTo};
 ghost use Rattle.relation.specs.laws.Question.{OwnRow};
+
+// Whether e is a role that is no head.
+pub fn has_new_row<'a>(n: usize, heads: &'a [u16; 256], e: Expression) -> bool
+    requires { ⌜ n ≤ 128 ⌝ }
+    ensures { λ r. ⌜ (r ≡ false → (p : Role) → Expression.Role p ≡ e → rowIn n (now (heads .entry)) p ≡ 128 → ⊥) ⌝ }
+{
+    match e {
+        Expression::Entity(_) => false,
+        Expression::Role(q) => row(n, heads, q) == 128,
+        Expression::Linked(_, _) => false,
+        Expression::Intersection(_) => false,
+        Expression::Goal(_) => false,
+    }
+}
 
 // The row of p where e is asked about; old is its row, whatever the pool.
 fn asked_row(e: Expression, p: Role, old: usize) -> usize

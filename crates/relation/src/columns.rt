@@ -1,5 +1,6 @@
 // The rows that answer what is from an expression e: bit 0 of a role's row says whether the role is.
 use crate::asked::asked_parts;
+use crate::asked::has_new_row;
 use crate::start::asked;
 use closure::bit;
 use closure::close;
@@ -10,6 +11,8 @@ ghost use Prim.Native.Nat.{ℕ, _≤_};
 ghost use mathlib.Core.List.{List};
 ghost use Rattle.rt0.specs.laws.Pool.{poolOf};
 ghost use Rattle.closure.specs.laws.Rules.{rulesOf};
+ghost use Rattle.rules.specs.laws.Table.{rowFor};
+ghost use Rattle.rules.specs.laws.Columns.{PartsTo};
 ghost use Rattle.rules.specs.laws.Ruled.{Ruled};
 ghost use Rattle.relation.specs.laws.Relation.{Relation, Answers};
 
@@ -40,7 +43,7 @@ fn entity_column<'a>(
     rows
 }
 
-// The rows of e, by the rules from the rows that it starts.
+// The rows of e, by the rules from the rows that it starts. The rows of the rules where e is asked about are part.
 fn rule_column<'a>(
     n: usize,
     heads: &'a [u16; 256],
@@ -56,12 +59,12 @@ fn rule_column<'a>(
     mem: &'a [u64; 260],
     e: Expression,
 ) -> [u64; 260]
-    requires { ⌜ (n ≤ 128) × ((words : ℕ) × Ruled (poolOf n (now heads) (now kinds) (now numbers))
-        (rulesOf n words (now head) (now part) (now first) (now named) (now src)))
+    requires { ⌜ (n ≤ 128) × ((words : ℕ) × (plain : List ℕ) × Ruled (poolOf n (now heads) (now kinds) (now numbers))
+        (rulesOf n words (now head) plain (now first) (now named) (now src)))
+        × PartsTo (rowFor (poolOf n (now heads) (now kinds) (now numbers)) e) (poolOf n (now heads) (now kinds) (now numbers)) n (now part)
         × Relation (poolOf n (now heads) (now kinds) (now numbers)) (now on) (now mem) ⌝ }
     ensures { λ r. ⌜ Answers (poolOf n (now (heads .entry)) (now (kinds .entry)) (now (numbers .entry))) (now (on .entry)) e 0 r ⌝ }
 {
-    let aimed = asked_parts(n, kinds, numbers, part, e);
     let mut vals = [0u64; 260];
     let todo = asked(
         n,
@@ -80,7 +83,7 @@ fn rule_column<'a>(
         n,
         1,
         head,
-        &aimed,
+        part,
         first,
         named,
         src,
@@ -118,6 +121,24 @@ pub fn column<'a>(
 {
     if let Expression::Entity(b) = e {
         return entity_column(n, kinds, numbers, mem, b);
+    }
+    if has_new_row(n, heads, e) {
+        let aimed = asked_parts(n, kinds, numbers, part, e);
+        return rule_column(
+            n,
+            heads,
+            kinds,
+            numbers,
+            head,
+            &aimed,
+            first,
+            named,
+            src,
+            deps,
+            on,
+            mem,
+            e,
+        );
     }
     rule_column(
         n,

@@ -8,15 +8,14 @@ use expression::Raw;
 use expression::Role;
 use expression::raw_of;
 use expression::same;
-use rt0::body_at;
+use rt0::same_body;
 use rules::source;
 ghost use mathlib.Core.Path.{_≡_};
 ghost use Prim.Native.Nat.{ℕ, _<_, _≤_};
 ghost use mathlib.Core.List.{List};
 ghost use lib.ListN.{replicate};
 ghost use Rattle.expression.specs.Form.{rawOf};
-ghost use Rattle.expression.specs.Same.{same as sameOf};
-ghost use Rattle.rt0.specs.laws.Pool.{poolOf, bodyAt, bodyIn};
+ghost use Rattle.rt0.specs.laws.Pool.{poolOf, bodyAt};
 ghost use Rattle.closure.specs.laws.Rules.{el, Under};
 ghost use Rattle.rules.specs.laws.Table.{rowIn, bitIn};
 ghost use Rattle.rules.specs.laws.Columns.{Column, headRow, bodyFirst, firstRow};
@@ -139,46 +138,20 @@ fn leads_to<'a>(
     bit(rows, first[i], s)
 }
 
-// Whether body i is e, whose numbers are those of raw.
-fn is_e<'a>(
-    kinds: &'a [u8; 256],
-    numbers: &'a [u16; 1024],
-    e: Expression,
-    raw: Raw,
-    i: usize,
-) -> bool
-    requires { ⌜ (i < 128) × (raw ≡ rawOf e) ⌝ }
-    ensures { λ r. ⌜ r ≡ sameOf (bodyIn (now (kinds .entry)) (now (numbers .entry)) i) e ⌝ }
-{
-    let kind = raw.kind;
-    if numbers[i * 8] != raw.n0 {
-        return false;
-    }
-    if kind < 5 {
-        if kinds[i * 2] != kind {
-            return false;
-        }
-        if kind == 2 {
-            return numbers[i * 8 + 1] == raw.n1;
-        }
-    }
-    same(body_at(kinds, numbers, i), e)
-}
-
-// Whether credential i is on and its body is from e at once. The bit of the entity of e is s, whatever the heads.
+// Whether credential i is on and its body is from e at once, whose numbers are those of raw. The bit of the entity of e is s, whatever the heads.
 fn starts<'a>(
     kinds: &'a [u8; 256],
     numbers: &'a [u16; 1024],
     first: &'a [usize; 128],
     on: &'a [u8; 128],
     rows: &'a [u64; 260],
-    e: Expression,
     raw: Raw,
     s: usize,
     i: usize,
 ) -> bool
-    requires { ⌜ (i < 128) × Under 130 (now first) × (raw ≡ rawOf e) ⌝ }
-    ensures { λ r. ⌜ ((n : ℕ) (H : List ℕ) → el (now (first .entry)) i ≡ bodyFirst (poolOf n H (now (kinds .entry)) (now (numbers .entry))) i
+    requires { ⌜ (i < 128) × Under 130 (now first) ⌝ }
+    ensures { λ r. ⌜ ((n : ℕ) (H : List ℕ) (e : Expression) → raw ≡ rawOf e
+        → el (now (first .entry)) i ≡ bodyFirst (poolOf n H (now (kinds .entry)) (now (numbers .entry))) i
         → s ≡ ownBit (bitIn n (now (kinds .entry)) (now (numbers .entry))) e
         → r ≡ startsAt (poolOf n H (now (kinds .entry)) (now (numbers .entry))) (now (on .entry)) (now (rows .entry)) e i) ⌝ }
 {
@@ -188,7 +161,7 @@ fn starts<'a>(
     if leads_to(kinds, numbers, first, rows, raw.n1, s, i) {
         return true;
     }
-    is_e(kinds, numbers, e, raw, i)
+    same_body(kinds, numbers, raw, i)
 }
 
 // The set with the rules that read row r.
@@ -228,7 +201,7 @@ pub fn asked<'a>(
     let mut todo = read_too(Dirty { lo: 0, hi: 0 }, deps, r);
     let mut i = 0;
     while i < n {
-        if starts(kinds, numbers, first, on, mem, e, raw, s, i) {
+        if starts(kinds, numbers, first, on, mem, raw, s, i) {
             let h = head[i];
             mark(rows, h, 0);
             todo = read_too(todo, deps, h);

@@ -4,3 +4,4 @@ pub mod Pool
 pub mod Added
 pub mod Find
 pub mod Shown
+pub mod Bodies

@@ -4,13 +4,17 @@ use expression::Expression;
 use expression::Raw;
 use expression::Role;
 use expression::expression_of;
+use expression::key_of;
 use expression::raw_of;
 ghost use mathlib.Core.Path.{_≡_};
 ghost use mathlib.Core.List.{[], _∷_, _++_};
 ghost use Prim.Native.Nat.{_<_, _+_, _*_};
+ghost use Rattle.expression.specs.Same.{sameRole};
+ghost use Rattle.expression.specs.laws.Key.{KeyOf};
 ghost use Rattle.rt0.specs.laws.Pool.{poolOf, headIn, rawAtColumns, bodyIn, credentials as credentialsOf};
 ghost use Rattle.rt0.specs.laws.Added.{pair, stored, Sized, Stored};
 pub use shown::is_shown;
+pub use shown::same_body;
 
 mod shown;
 
@@ -115,6 +119,14 @@ pub fn head_at<'a>(heads: &'a [u16; 256], i: usize) -> Role
         entity: heads[i * 2],
         name: heads[i * 2 + 1],
     }
+}
+
+// Whether credential i has the head with this key.
+pub fn has_head<'a>(heads: &'a [u16; 256], key: u32, i: usize) -> bool
+    requires { ⌜ i < 128 ⌝ }
+    ensures { λ r. ⌜ ((p : Role) → KeyOf p key → r ≡ sameRole (headIn (now (heads .entry)) i) p) ⌝ }
+{
+    key_of(head_at(heads, i)) == key
 }
 
 fn raw_at<'a>(kinds: &'a [u8; 256], numbers: &'a [u16; 1024], i: usize) -> Raw

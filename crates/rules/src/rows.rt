@@ -1,5 +1,7 @@
 // The row of a role and the bit of an entity.
 use expression::Role;
+use expression::key_of;
+use rt0::has_head;
 ghost use mathlib.Core.Path.{_≡_};
 ghost use Prim.Native.Nat.{_<_, _≤_};
 ghost use Rattle.rules.specs.laws.Table.{isHeadIn, rowIn, isBodyIn, bitIn};
@@ -9,10 +11,7 @@ pub fn is_head<'a>(heads: &'a [u16; 256], p: Role, j: usize) -> bool
     requires { ⌜ j < 128 ⌝ }
     ensures { λ r. ⌜ r ≡ isHeadIn (now (heads .entry)) p j ⌝ }
 {
-    if heads[j * 2] != p.entity {
-        return false;
-    }
-    heads[j * 2 + 1] == p.name
+    has_head(heads, key_of(p), j)
 }
 
 // The row of the role p.
@@ -20,9 +19,10 @@ pub fn row<'a>(n: usize, heads: &'a [u16; 256], p: Role) -> usize
     requires { ⌜ n ≤ 128 ⌝ }
     ensures { λ r. ⌜ r ≡ rowIn n (now (heads .entry)) p ⌝ }
 {
+    let key = key_of(p);
     let mut j = 0;
     while j < n {
-        if is_head(heads, p, j) {
+        if has_head(heads, key, j) {
             return j;
         }
         j += 1;

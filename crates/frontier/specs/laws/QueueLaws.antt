@@ -3,9 +3,9 @@ use Prim.Native.Nat.{ℕ, _+_, _≤_, _<_}
 use native.Mathlib.Omega.{arith}
 use mathlib.Core.Path.{_≡_, refl, sym, _∙_, ap, subst}
 use mathlib.Core.Logic.{_⊎_, inl, inr, ⊎-elim}
-use mathlib.Core.Bool.{true, false}
+use mathlib.Core.Bool.{Bool, true, false, not}
 use mathlib.Core.List.{List}
-use borrow.Author.Tests.{eqb-true, eqb-false, eq-eqb, ne-eqb, ltb-true, ltb-false}
+use borrow.Author.Tests.{eqb-true, eqb-false, eq-eqb, ne-eqb, ltb-true, ltb-false, not-true, not-false}
 use lib.Dec.{eqb, ltb}
 use lib.ListN.{getD, length, set, length-set, replicate, length-replicate}
 use lib.Seq.{getD-set-same, getD-set-other}
@@ -16,8 +16,8 @@ use Rattle.expression.specs.declared.Expression.the-variants as E
 use Rattle.expression.specs.Same.{sameRole}
 use Rattle.expression.specs.laws.Same.{sameRole-eq, eq-sameRole}
 use Rattle.rt0.specs.declared.Pool.{Pool}
-use Rattle.rt0.specs.laws.Pool.{headAt, bodyAt}
-use Rattle.word.specs.laws.Bools.{false-true, and-parts, and-both}
+use Rattle.rt0.specs.laws.Pool.{headAt, headIn, bodyAt}
+use Rattle.word.specs.laws.Bools.{bool-iff, no-and, false-true, and-parts, and-both}
 use Rattle.closure.specs.laws.Rules.{el}
 use Rattle.propagation.specs.laws.Flags.{decided, cnt, cnt-le, cnt-one, cnt-none, cnt-room, flag, flag-same, flag-other, flag-grows, flag-cases}
 use Rattle.propagation.specs.laws.Flags.{flag-zeros, flag-past}
@@ -44,6 +44,16 @@ later-trans {U} {X} {W} a b =
     let p : U .tail ≤ X .tail = a .more in
     let q : X .tail ≤ W .tail = b .more in
     record { grows = λ i h. b .grows i (a .grows i h); kept = λ r h. b .kept r (omega arith) ∙ a .kept r h; more = omega arith }
+
+-- a credential with another head is not next
+pub next-other : (H on : List ℕ) (p : Role) (i : ℕ) {t : Bool} → t ≡ sameRole (headIn H i) p → not t ≡ true → false ≡ isNext H on p i
+unfolding isNext
+next-other H on p i {t} e k = no-and (eqb (el on i) 1) _ (sym e ∙ not-true t k)
+
+-- one with the head is next where it is on
+pub next-on : (H on : List ℕ) (p : Role) (i : ℕ) {t : Bool} → t ≡ sameRole (headIn H i) p → not t ≡ false → eqb (el on i) 1 ≡ isNext H on p i
+unfolding isNext
+next-on H on p i {t} e k = bool-iff (eqb (el on i) 1) _ (λ h. and-both _ _ h (sym e ∙ not-false t k)) (λ h. and-parts _ _ h .0)
 
 pub join-stands : (P : Pool) (on : List ℕ) (W : Work) (p : Role) (i : ℕ) → Queue W → getD (W .found) i 0 ≡ 1 → Joined P on W W p i
 join-stands P on W p i b h = record { base = b; later = later-refl W; here = λ z. eq-eqb (getD (W .found) i 0) 1 h; only = λ j t. inl t }

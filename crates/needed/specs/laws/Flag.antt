@@ -2,10 +2,10 @@
 use Prim.Native.Nat.{ℕ, _+_, _≤_, _<_}
 use native.Mathlib.Omega.{arith}
 use mathlib.Core.Path.{_≡_, refl, sym, _∙_, ap, subst}
-use mathlib.Core.Logic.{_⊎_, ⊎-elim}
-use mathlib.Core.Bool.{Bool, true, false, _&&_, _||_, cond}
-use mathlib.Core.List.{List, List·Memᴰ}
-use borrow.Author.Tests.{eqb-true, eqb-false, ne-eqb}
+use mathlib.Core.Logic.{_⊎_, inl, inr, ⊎-elim}
+use mathlib.Core.Bool.{Bool, true, false, not, _||_}
+use mathlib.Core.List.{List}
+use borrow.Author.Tests.{eqb-true, eqb-false, eq-eqb, ne-eqb, not-true}
 use lib.Dec.{eqb}
 use lib.ListN.{getD-replicate, length, length-set, length-replicate, set, replicate}
 use lib.Seq.{getD-set-same, getD-set-other}
@@ -14,11 +14,13 @@ use Rattle.expression.specs.declared.Parts.{Parts}
 use Rattle.expression.specs.declared.Expression.{Expression}
 use Rattle.expression.specs.declared.Expression.the-variants as E
 use Rattle.expression.specs.Same.{sameRole}
+use Rattle.expression.specs.laws.Same.{sameRole-eq, eq-sameRole}
 use Rattle.rt0.specs.declared.Pool.{Pool}
 use Rattle.rt0.specs.From.{rolesOf}
 use Rattle.rt0.specs.laws.Lists.{any-find}
 use Rattle.word.specs.laws.Bools.{false-true, or-cases}
 use Rattle.rt0.specs.laws.Pool.{headAt, bodyAt, headIn}
+use Rattle.rules.specs.laws.Table.{third, fourth}
 use Rattle.rules.specs.laws.Exact.{four-all}
 use Rattle.closure.specs.laws.Rules.{el}
 use Rattle.needed.specs.laws.Column.{came, stays}
@@ -34,17 +36,10 @@ raised-not was h = record { told = λ k. absurd (false-true (sym h ∙ k)); stay
 pub raised-one : {b : Bool} (was : ℕ) → Raised b was 1
 raised-one was = record { told = λ k. refl; stays = λ k. refl }
 
-pub other-entity : (p h : Role) → (h .entity ≡ p .entity → ⊥) → sameRole p h ≡ false
-unfolding sameRole
-other-entity p h n = rw (ne-eqb (p .entity) (h .entity) (λ q. n (sym q)))
-
-pub other-name : (p h : Role) → (h .name ≡ p .name → ⊥) → sameRole p h ≡ false
-unfolding sameRole
-other-name p h n = not-both (eqb (p .entity) (h .entity)) (ne-eqb (p .name) (h .name) (λ q. n (sym q)))
-  where
-    not-both : (a : Bool) {b : Bool} → b ≡ false → (a && b) ≡ false
-    not-both true k = k
-    not-both false k = refl
+-- a head that is not p leaves the flag
+pub raised-other : (p h : Role) {t : Bool} (was : ℕ) → t ≡ sameRole h p → not t ≡ true → Raised (sameRole p h) was was
+raised-other p h {t} was e k =
+    record { told = λ z. absurd (false-true (sym (not-true t k) ∙ (e ∙ eq-sameRole h p (sym (sameRole-eq p h z))))); stays = λ z. z }
 
 pub not-named : (m : ℕ) (h : Role) → (h .name ≡ m → ⊥) → isNamed m h ≡ false
 unfolding isNamed
@@ -115,34 +110,50 @@ module _ {H : List ℕ} {n : ℕ} where
     unfolding asks isNamed
     marked-linked a m h k = marked-both (λ p o. or-cases _ _ o) h k
 
-  -- the roles past the count do no harm
-  pub marked-parts : (p : Parts) {r q u v w : List ℕ} → Marked H (sameRole (p .first)) n r q → Marked H (sameRole (p .second)) n q u
-      → Marked H (sameRole (p .third)) n u v → Marked H (sameRole (p .fourth)) n v w → Marked H (asks (E.Intersection p)) n r w
+  -- what is marked stays so
+  marked-later : {s t : Role → Bool} {r q w : List ℕ} → Marked H s n r q → Marked H t n q w → Marked H s n r w
+  marked-later a b = marked-both (λ h k. inl k) a b
+
+  -- what is marked later is marked
+  marked-since : {s t : Role → Bool} {r q w : List ℕ} → Marked H s n r q → Marked H t n q w → Marked H t n r w
+  marked-since a b = marked-both (λ h k. inr k) a b
+
+  -- an intersection asks for its roles
+  marked-parts : (p : Parts) {r w : List ℕ} → Marked H (sameRole (p .first)) n r w → Marked H (sameRole (p .second)) n r w
+      → Marked H (sameRole (third p)) n r w → Marked H (sameRole (fourth p)) n r w → Marked H (asks (E.Intersection p)) n r w
   unfolding asks
   marked-parts p {w = w} a b c d =
       record {
-        sized = d .sized;
-        grows = λ i h. d .grows i (c .grows i (b .grows i (a .grows i h)));
-        all = λ i l h. let x = any-find (λ (o : Role). sameRole o (headIn H i)) (rolesOf p) h in each i l (x .0) (x .1) (x .2);
+        sized = a .sized;
+        grows = a .grows;
+        all = λ i l h.
+            let x = any-find (λ (o : Role). sameRole o (headIn H i)) (rolesOf p) h in
+            four-all p (λ (o : Role). sameRole o (headIn H i) ≡ true → el w i ≡ 1) (a .all i l) (b .all i l) (c .all i l) (d .all i l) (x .0) (x .1) (x .2);
       }
-    where
-      choose : (G : Role → Type 0) (t : Bool) {y z : Role} → G y → G z → G (cond t y z)
-      choose G true g h = g
-      choose G false g h = h
 
-      each : (i : ℕ) → i < n → (o : Role) → List·Memᴰ o (rolesOf p) → sameRole o (headIn H i) ≡ true → el w i ≡ 1
-      each i l =
-          four-all p G first (λ h. d .grows i (c .grows i (b .all i l h))) (choose G (eqb (p .count) 2) first third′)
-          (choose G (eqb (p .count) 2) first (choose G (eqb (p .count) 3) first (d .all i l)))
-        where
-          G : Role → Type 0
-          G o = sameRole o (headIn H i) ≡ true → el w i ≡ 1
+  module _ (p : Parts) {r q u : List ℕ} (a : Marked H (sameRole (p .first)) n r q) (b : Marked H (sameRole (p .second)) n q u) where
+    pub marked-two : p .count ≡ 2 → Marked H (asks (E.Intersection p)) n r u
+    marked-two z =
+        let one = marked-later a b in
+        let two : eqb (p .count) 2 ≡ true = eq-eqb (p .count) 2 z in
+        marked-parts p one (marked-since a b) (rw two one) (rw two one)
 
-          first : G (p .first)
-          first h = d .grows i (c .grows i (b .grows i (a .all i l h)))
+    module _ {v : List ℕ} (more : p .count ≡ 2 → ⊥) (c : Marked H (sameRole (p .third)) n u v) where
+      not-two : eqb (p .count) 2 ≡ false
+      not-two = ne-eqb (p .count) 2 more
 
-          third′ : G (p .third)
-          third′ h = d .grows i (c .all i l h)
+      pub marked-three : p .count ≡ 3 → Marked H (asks (E.Intersection p)) n r v
+      marked-three z =
+          let one = marked-later (marked-later a b) c in
+          let three : eqb (p .count) 3 ≡ true = eq-eqb (p .count) 3 z in
+          marked-parts p one (marked-later (marked-since a b) c) (rw not-two (marked-since (marked-later a b) c)) (rw (not-two, three) one)
+
+      pub marked-four : {w : List ℕ} → (p .count ≡ 3 → ⊥) → Marked H (sameRole (p .fourth)) n v w → Marked H (asks (E.Intersection p)) n r w
+      marked-four z d =
+          let one = marked-later (marked-later a b) c in
+          let three : eqb (p .count) 3 ≡ false = ne-eqb (p .count) 3 z in
+          marked-parts p (marked-later one d) (marked-later (marked-later (marked-since a b) c) d)
+          (rw not-two (marked-later (marked-since (marked-later a b) c) d)) (rw (not-two, three) (marked-since one d))
 
 -- A credential is followed
 

@@ -1,120 +1,26 @@
--- Tests on the body of a credential by its numbers. Assumes nothing.
+-- Whether the body of a credential is from e at once, by its numbers. Assumes nothing.
 use Prim.Native.Nat.{ℕ, _+_, _*_, _≤_, _<_}
 use native.Mathlib.Omega.{arith}
-use mathlib.Core.Path.{_≡_, refl, sym, _∙_, ap, subst}
+use mathlib.Core.Path.{_≡_, refl, sym, _∙_, ap}
 use mathlib.Core.Bool.{Bool, true, false, _||_}
 use mathlib.Core.List.{List}
 use borrow.Author.Tests.{eqb-true, eq-eqb, ne-eqb, le-ltb}
 use lib.Dec.{eqb}
 use Rattle.expression.specs.declared.Role.{Role}
-use Rattle.expression.specs.declared.Raw.{Raw}
 use Rattle.expression.specs.declared.Expression.{Expression}
 use Rattle.expression.specs.declared.Expression.the-variants as E
-use Rattle.expression.specs.Form.{rawOf, expressionOf, pickExpression}
+use Rattle.expression.specs.Form.{rawOf}
 use Rattle.expression.specs.Same.{same}
-use Rattle.expression.specs.laws.Same.{same-eq, eq-same}
 use Rattle.rt0.specs.declared.Pool.{Pool}
 use Rattle.rt0.specs.From.{roleOf}
-use Rattle.rt0.specs.laws.Pool.{bodyAt, bodyIn, rawAtColumns}
+use Rattle.rt0.specs.laws.Pool.{bodyAt, bodyIn}
 use Rattle.closure.specs.laws.Rules.{el, bits}
 use Rattle.rules.specs.laws.Table.{bitOf, rowOf}
 use Rattle.rules.specs.laws.Columns.{bodyFirst, firstRow}
 use Rattle.rules.specs.laws.Column.{linked-kind}
-use Rattle.rules.specs.laws.Ruled.{false-of}
 use Rattle.relation.specs.laws.Relation.{ownRole, ownLink, atOnce}
 use Rattle.relation.specs.laws.Question.{ownBit, startsAt}
-use Rattle.word.specs.laws.Bools.{no-and, bool-iff}
-
--- The body is e
-
-lead : (r : Raw) → rawOf (expressionOf r) .n0 ≡ r .n0
-lead r = go (eqb (r .kind) 1) (eqb (r .kind) 2) (eqb (r .kind) 3) (eqb (r .kind) 4)
-  where
-    go : (t u v w : Bool) → rawOf (pickExpression t (E.Entity (r .n0))
-        (pickExpression u (E.Role (record { entity = r .n0; name = r .n1 }))
-        (pickExpression v (E.Linked (record { entity = r .n0; name = r .n1 }) (r .n2))
-        (pickExpression w (E.Intersection (record {
-          count = r .count;
-          first = record { entity = r .n0; name = r .n1 };
-          second =
-              record { entity = r .n2; name = r .n3 };
-          third = record { entity = r .n4; name = r .n5 };
-          fourth = record { entity = r .n6; name = r .n7 };
-        }))
-        (E.Goal (r .n0)))))) .n0 ≡ r .n0
-    go true u v w = refl
-    go false true v w = refl
-    go false false true w = refl
-    go false false false true = refl
-    go false false false false = refl
-
-kind-of : (r : Raw) → rawOf (expressionOf r) .kind < 5 → r .kind ≡ rawOf (expressionOf r) .kind
-kind-of r = go (eqb (r .kind) 1) (eqb (r .kind) 2) (eqb (r .kind) 3) (eqb (r .kind) 4) refl refl refl refl
-  where
-    go : (t u v w : Bool) → eqb (r .kind) 1 ≡ t → eqb (r .kind) 2 ≡ u → eqb (r .kind) 3 ≡ v → eqb (r .kind) 4 ≡ w
-        → rawOf (pickExpression t (E.Entity (r .n0))
-        (pickExpression u (E.Role (record { entity = r .n0; name = r .n1 }))
-        (pickExpression v (E.Linked (record { entity = r .n0; name = r .n1 }) (r .n2))
-        (pickExpression w (E.Intersection (record {
-          count = r .count;
-          first = record { entity = r .n0; name = r .n1 };
-          second =
-              record { entity = r .n2; name = r .n3 };
-          third = record { entity = r .n4; name = r .n5 };
-          fourth = record { entity = r .n6; name = r .n7 };
-        }))
-        (E.Goal (r .n0)))))) .kind < 5
-        → r .kind ≡ rawOf (pickExpression t (E.Entity (r .n0))
-        (pickExpression u (E.Role (record { entity = r .n0; name = r .n1 }))
-        (pickExpression v (E.Linked (record { entity = r .n0; name = r .n1 }) (r .n2))
-        (pickExpression w (E.Intersection (record {
-          count = r .count;
-          first = record { entity = r .n0; name = r .n1 };
-          second =
-              record { entity = r .n2; name = r .n3 };
-          third = record { entity = r .n4; name = r .n5 };
-          fourth = record { entity = r .n6; name = r .n7 };
-        })) (E.Goal (r .n0)))))) .kind
-    go true u v w a b c d l = eqb-true (r .kind) 1 a
-    go false true v w a b c d l = eqb-true (r .kind) 2 b
-    go false false true w a b c d l = eqb-true (r .kind) 3 c
-    go false false false true a b c d l = eqb-true (r .kind) 4 d
-    go false false false false a b c d l = absurd (omega arith)
-
-module _ (P : Pool) (i : ℕ) (e : Expression) (raw : Raw) (is : raw ≡ rawOf e) where
-  -- a body of another kind is not e
-  pub body-kind : raw .kind < 5 → (el (P .kinds) (i * 2) ≡ raw .kind → ⊥) → false ≡ same (bodyAt P i) e
-  unfolding bodyIn
-  body-kind l n = sym (false-of _ (λ h.
-      let q = same-eq (bodyAt P i) e h in
-      n (kind-of (rawAtColumns (P .kinds) (P .numbers) i)
-      (subst (λ (x : Expression). rawOf x .kind < 5) (sym q) (subst (λ (r : Raw). r .kind < 5) is l))
-      ∙ (ap (λ (x : Expression). rawOf x .kind) q ∙ sym (ap (λ (r : Raw). r .kind) is)))))
-
-  -- nor is one that begins with another number
-  pub body-lead : (el (P .numbers) (i * 8) ≡ raw .n0 → ⊥) → false ≡ same (bodyAt P i) e
-  unfolding bodyIn
-  body-lead n =
-      sym (false-of _ (λ h. n (sym (lead (rawAtColumns (P .kinds) (P .numbers) i))
-      ∙ (ap (λ (x : Expression). rawOf x .n0) (same-eq (bodyAt P i) e h) ∙ sym (ap (λ (r : Raw). r .n0) is)))))
-
-  body-role : el (P .kinds) (i * 2) ≡ 2 → bodyAt P i ≡ E.Role (roleOf (el (P .numbers) (i * 8)) (el (P .numbers) (i * 8 + 1)))
-  unfolding bodyIn
-  body-role h = rw h
-
-  -- a role is e where both numbers are
-  pub body-two : raw .kind ≡ 2 → el (P .kinds) (i * 2) ≡ raw .kind → el (P .numbers) (i * 8) ≡ raw .n0
-      → eqb (el (P .numbers) (i * 8 + 1)) (raw .n1) ≡ same (bodyAt P i) e
-  body-two k g n = rw (body-role (g ∙ k), is) (go e (rw is at k) (rw is at n))
-    where
-      go : (e : Expression) → rawOf e .kind ≡ 2 → el (P .numbers) (i * 8) ≡ rawOf e .n0
-          → eqb (el (P .numbers) (i * 8 + 1)) (rawOf e .n1) ≡ same (E.Role (roleOf (el (P .numbers) (i * 8)) (el (P .numbers) (i * 8 + 1)))) e
-      go (E.Entity b) k n = absurd (omega arith)
-      go (E.Role q) k n = bool-iff _ _ (λ h. eq-same _ _ (λ j. E.Role (record { entity = n j; name = eqb-true (el (P .numbers) (i * 8 + 1)) (q .name) h j })))
-          (λ h. eq-eqb _ _ (ap (λ (x : Expression). rawOf x .n1) (same-eq _ _ h)))
-      go (E.Linked a m) k n = absurd (omega arith)
-      go (E.Intersection p) k n = absurd (omega arith)
-      go (E.Goal m) k n = absurd (omega arith)
+use Rattle.word.specs.laws.Bools.{no-and}
 
 -- The body is a link that leads to e
 

@@ -13,7 +13,10 @@ use Rattle.expression.specs.declared.Role.{Role}
 use Rattle.expression.specs.declared.Credential.{Credential}
 use Rattle.expression.specs.declared.Expression.{Expression}
 use Rattle.expression.specs.declared.Expression.the-variants as E
+use Rattle.expression.specs.declared.Raw.{Raw}
+use Rattle.expression.specs.Form.{rawOf, expressionOf}
 use Rattle.expression.specs.Same.{same}
+use Rattle.expression.specs.laws.Laws.{expression-raw}
 use Rattle.expression.specs.laws.Same.{eq-same}
 use Rattle.expression.specs.Kinds.{isRoleExpression}
 use Rattle.rt0.specs.declared.Pool.{Pool}
@@ -22,7 +25,7 @@ use Rattle.word.specs.laws.Bools.{false-true, and-parts, and-both}
 use Rattle.rt0.specs.laws.Laws.{more}
 use Rattle.rt0.specs.laws.Pool.{headAt, bodyAt, bodyIn}
 use Rattle.closure.specs.laws.Rules.{el, bits, Marked}
-use Rattle.rules.specs.laws.Table.{rowOf, bitOf, rowFor, chosen, third, fourth}
+use Rattle.rules.specs.laws.Table.{rowOf, rowIn, bitOf, rowFor, chosen, third, fourth}
 use Rattle.rules.specs.declared.Four.{Four}
 use Rattle.rules.specs.laws.Columns.{fourRows}
 use Rattle.rules.specs.laws.Exact.{body-entity, chosen-mem, chosen-find, row-found, row-here, row-cases, bit-here}
@@ -30,6 +33,10 @@ use Rattle.rules.specs.laws.Column.{no-bits, row-for-small}
 use Rattle.relation.specs.laws.Relation.{Relation, Start, atOnce, Asked, switched}
 use Rattle.relation.specs.laws.Answer.{once-says, Moved}
 use Rattle.relation.specs.laws.Question.{Seeded, StartTo, OwnRow, startsAt, AskedTo}
+
+-- what holds of e holds of each expression with its numbers
+pub by-raw : (F : Expression → Type 0) (e : Expression) {raw : Raw} → raw ≡ rawOf e → F e → (x : Expression) → raw ≡ rawOf x → F x
+by-raw F e q f x k = subst F (sym (expression-raw e) ∙ (ap expressionOf (sym q ∙ k) ∙ expression-raw x)) f
 
 -- The row of a role where e is asked about
 
@@ -103,9 +110,18 @@ module _ (P : Pool) (e : Expression) (i : ℕ) (old : Four) (q : old ≡ fourRow
 
 -- The row of e itself
 
+-- no role is e where e is no role
+pub no-role : (e : Expression) → isRoleExpression e ≡ false → (p : Role) → E.Role p ≡ e → ⊥
+no-role e h p q = false-true (sym h ∙ sym (ap isRoleExpression q))
+
+-- a role whose row is not 128 is a head
+pub old-row : (n : ℕ) (H : List ℕ) (e : Expression) (q : Role) (r : ℕ) → e ≡ E.Role q → r ≡ rowIn n H q → eqb r 128 ≡ false → (p : Role) → E.Role p ≡ e
+    → rowIn n H p ≡ 128 → ⊥
+old-row n H e q r k h z p g y = let o : q ≡ p = cc in false-true (sym z ∙ eq-eqb r 128 (h ∙ (ap (rowIn n H) o ∙ y)))
+
 -- where e is no role, row 129 stands for it
 pub own-none : (P : Pool) (e : Expression) → isRoleExpression e ≡ false → OwnRow P e 129
-own-none P e h = record { small = omega arith; says = inl refl; own = λ p q. absurd (false-true (sym h ∙ sym (ap isRoleExpression q))) }
+own-none P e h = record { small = omega arith; says = inl refl; own = λ p q. absurd (no-role e h p q) }
 
 -- where e is a role, its row where it is asked about stands for it
 pub own-role : (P : Pool) → P .count ≤ 128 → (e : Expression) (q : Role) (r : ℕ) → e ≡ E.Role q → r ≡ rowFor P e q → OwnRow P e r

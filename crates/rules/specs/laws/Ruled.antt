@@ -3,12 +3,14 @@ use Prim.Native.Nat.{ℕ, _*_, _≤_, _<_}
 use mathlib.Core.Path.{_≡_, refl, sym, _∙_, ap}
 use mathlib.Core.Bool.{Bool, true, false, cond}
 use mathlib.Core.List.{List}
+use native.Mathlib.Omega.{arith}
 use borrow.Author.Tests.{eqb-true}
 use lib.Dec.{eqb}
 use Rattle.expression.specs.declared.Role.{Role}
 use Rattle.expression.specs.declared.Expression.{Expression}
 use Rattle.expression.specs.declared.Expression.the-variants as E
 use Rattle.expression.specs.Same.{same}
+use Rattle.expression.specs.laws.Same.{same-eq}
 use Rattle.rt0.specs.declared.Pool.{Pool}
 use Rattle.rt0.specs.laws.Pool.{bodyAt}
 use Rattle.closure.specs.declared.Rules.{Rules}
@@ -96,14 +98,19 @@ compiled-of P small e X Y ruled qc qw qh qf qn qs parts =
           all = λ j k nm self b. rw qn (ruled .names .all i a m j l q k (ruled .links .all lit j k self b) nm);
         }
 
--- where no role is asked about, a role's row is its own
-pub row-plain : (P : Pool) (b : ℕ) (p : Role) → rowOf P p ≡ rowFor P (E.Entity b) p
-unfolding rowFor same
-row-plain P b p = go (eqb (rowOf P p) 128) refl
+-- a role's row where e is asked about is its own, where e is no role that is no head
+pub row-same : (P : Pool) (e : Expression) → ((p : Role) → E.Role p ≡ e → rowOf P p ≡ 128 → ⊥) → (p : Role) → rowOf P p ≡ rowFor P e p
+unfolding rowFor
+row-same P e h p = go (eqb (rowOf P p) 128) refl (same (E.Role p) e) refl
   where
-    go : (t : Bool) → eqb (rowOf P p) 128 ≡ t → rowOf P p ≡ cond t 128 (rowOf P p)
-    go true z = eqb-true (rowOf P p) 128 z
-    go false z = refl
+    go : (t : Bool) → eqb (rowOf P p) 128 ≡ t → (u : Bool) → same (E.Role p) e ≡ u → rowOf P p ≡ cond t (cond u 129 128) (rowOf P p)
+    go true z true k = absurd (h p (same-eq (E.Role p) e k) (eqb-true (rowOf P p) 128 z))
+    go true z false k = eqb-true (rowOf P p) 128 z
+    go false z u k = refl
+
+-- where an entity is asked about, a role's row is its own
+pub row-plain : (P : Pool) (b : ℕ) (p : Role) → rowOf P p ≡ rowFor P (E.Entity b) p
+row-plain P b = row-same P (E.Entity b) (λ p q z. let y : _≡_ {A = ℕ} 0 1 = cc in omega arith)
 
 four-map : (ρ σ : Role → ℕ) → ((p : Role) → ρ p ≡ σ p) → (x : Expression) → fourRows ρ x ≡ fourRows σ x
 four-map ρ σ h (E.Entity b) = refl
@@ -112,16 +119,17 @@ four-map ρ σ h (E.Linked a m) = refl
 four-map ρ σ h (E.Intersection p) = λ i. record { a = h (p .first) i; b = h (p .second) i; c = h (third p) i; d = h (fourth p) i }
 four-map ρ σ h (E.Goal m) = refl
 
+-- where the rows of the roles are their own, so are those of the rules
+pub parts-same : (P : Pool) (e : Expression) → ((p : Role) → rowOf P p ≡ rowFor P e p) → (k : ℕ) (l : List ℕ) → PartsTo (rowOf P) P k l
+    → PartsTo (rowFor P e) P k l
+parts-same P e h k l c =
+    record { sized = c .sized; under = c .under; four = λ i z. c .four i z ∙ four-map (rowOf P) (rowFor P e) h (bodyAt P i) }
+
 -- the rules where no role is asked about
 pub compiled-plain : (P : Pool) → P .count ≤ 128 → (X : Rules) → Ruled P X → Compiled P (E.Entity 0) X
 compiled-plain P small X ruled =
     compiled-of P small (E.Entity 0) X X ruled refl (ruled .words) refl refl refl refl
-    (record {
-      sized = ruled .part .sized;
-      under = ruled .part .under;
-      four = λ i l. ruled .part .four i l
-          ∙ four-map (rowOf P) (rowFor P (E.Entity 0)) (row-plain P 0) (bodyAt P i);
-    })
+    (parts-same P (E.Entity 0) (row-plain P 0) (P .count) (X .part) (ruled .part))
 
 -- the rules by their columns
 pub by-columns : (P : Pool) (X : Rules) → Ruled P X → Ruled P (rulesOf (P .count) (X .words) (X .head) (X .part) (X .first) (X .named) (X .src))

@@ -13,33 +13,31 @@ abbrev pool : (c : tie.Start) → Pool
 pool c = poolOf (c .args .n) (c .args .heads .now) (c .args .kinds .now) (c .args .numbers .now)
 
 abbrev rules : (c : tie.Start) → Rules
-rules c = rulesOf (c .args .n) (c .pre .1 .0) (c .args .head .now) (c .args .part .now) (c .args .first .now) (c .args .named .now) (c .args .src .now)
+rules c = rulesOf (c .args .n) (c .pre .1 .0) (c .args .head .now) (c .pre .1 .1) (c .args .first .now) (c .args .named .now) (c .args .src .now)
+
+abbrev aimed : (c : tie.Start) → Rules
+aimed c = rulesOf (c .args .n) 1 (c .args .head .now) (c .args .part .now) (c .args .first .now) (c .args .named .now) (c .args .src .now)
 
 close-requires : tie.Need-close-requires
 close-requires c κs =
-    let c4 = c .before .before .before .before in
-    let c5 = c4 .before in
-    let ruled = c5 .pre .1 .1 in (
+    let c3 = c .before .before .before in
+    let ruled = c3 .pre .1 .2 in (
       record {
-        count = c5 .pre .0;
+        count = c3 .pre .0;
         words = omega arith;
         head = ruled .head .under;
-        part = c4 .asked-parts .ensures _ (ruled .part) .under;
+        part = c3 .pre .2 .under;
         first = ruled .first .under;
         src = ruled .links .under;
       },
-      c .before .before .asked .ensures .sized,
+      c .before .asked .ensures .sized,
     )
 
 returns : tie.Need-returns
 returns c =
-    let c3 = c .before .before .before in
-    let c5 = c3 .before .before in
-    let c6 = c5 .before in
-    column-of (pool (c6)) (c6 .args .on .now) (c6 .pre .0) (c6 .args .mem .now) (c6 .pre .2) (c6 .args .e) (rules (c6))
-    (rulesOf (c6 .args .n) 1 (c6 .args .head .now) (c5 .asked-parts .result) (c6 .args .first .now) (c6 .args .named .now) (c6 .args .src .now))
-    (c6 .pre .1 .1) refl refl refl refl refl refl (c5 .asked-parts .ensures _ (c6 .pre .1 .1 .part)) _ _ (c3 .asked .ensures) (c .close .ensures)
+    let c4 = c .before .before .before .before in
+    column-of (pool c4) (c4 .args .on .now) (c4 .pre .0) (c4 .args .mem .now) (c4 .pre .3) (c4 .args .e) (rules c4) (aimed c4) (c4 .pre .1 .2)
+    refl refl refl refl refl refl (c4 .pre .2) _ _ (c .before .before .asked .ensures) (c .close .ensures)
 
 pub rule-column-spec : {M : Type 1} → statement M
-rule-column-spec =
-    tie.close (tie.spec (λ c κs. search needs) (λ c κs. search needs) close-requires returns)
+rule-column-spec = tie.close (tie.spec (λ c κs. search needs) close-requires returns)

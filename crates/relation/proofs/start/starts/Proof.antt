@@ -13,26 +13,26 @@ abbrev pool : (c : tie.Start) → ℕ → List ℕ → Pool
 pool c n H = poolOf n H (c .args .kinds .now) (c .args .numbers .now)
 
 returns : tie.Need-returns
-returns c n H f h =
-    starts-off (pool (c .before .before) n H) (c .before .before .args .on .now) (c .before .before .args .rows .now) (c .before .before .args .e)
+returns c n H e q f h =
+    starts-off (pool (c .before .before) n H) (c .before .before .args .on .now) (c .before .before .args .rows .now) e
     (c .before .before .args .i) (c .if1 .taken)
 
 leads-to-requires : tie.Need-leads-to-requires
 leads-to-requires c κs = (c .before .before .pre .0, c .before .before .pre .1)
 
 returns-2 : tie.Need-returns-2
-returns-2 c n H f h =
+returns-2 c n H e q f h =
     let c4 = c .before .before .before .before in
-    starts-link (pool c4 n H) (c4 .args .on .now) (c4 .args .rows .now) (c4 .args .e) (c4 .args .i) (c .before .before .if1 .left)
-    (c .before .leads-to .ensures n H (c4 .args .e) f (ap (λ (r : Raw). r .n1) (c4 .pre .2)) h) (c .if2 .taken)
+    starts-link (pool c4 n H) (c4 .args .on .now) (c4 .args .rows .now) e (c4 .args .i) (c .before .before .if1 .left)
+    (c .before .leads-to .ensures n H e f (ap (λ (r : Raw). r .n1) q) h) (c .if2 .taken)
 
 returns-3 : tie.Need-returns-3
-returns-3 c n H f h =
+returns-3 c n H e q f h =
     let c3 = c .before .before .before in
     let c5 = c3 .before .before in
-    starts-same (pool c5 n H) (c5 .args .on .now) (c5 .args .rows .now) (c5 .args .e) (c5 .args .i) (c3 .if1 .left)
-    (c .before .before .leads-to .ensures n H (c5 .args .e) f (ap (λ (r : Raw). r .n1) (c5 .pre .2)) h)
-    (c .before .if2 .left) (c .is-e .ensures)
+    starts-same (pool c5 n H) (c5 .args .on .now) (c5 .args .rows .now) e (c5 .args .i) (c3 .if1 .left)
+    (c .before .before .leads-to .ensures n H e f (ap (λ (r : Raw). r .n1) q) h)
+    (c .before .if2 .left) (c .same-body .ensures e q)
 
 pub starts-spec : {M : Type 1} → statement M
 starts-spec =
