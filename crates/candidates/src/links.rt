@@ -11,9 +11,9 @@ use graph::MONITOR;
 use graph::Node;
 use graph::Nodes;
 use graph::SOLUTION;
-use rt0::body_at;
 use graph::is_named;
 use moves::Choice;
+use rt0::body_at;
 use states::NodeStates;
 use states::is_complete;
 use word::wide;
@@ -72,11 +72,7 @@ fn expression_of(nodes: Nodes, c: usize) -> Expression
     requires { ⌜ c < 128 ⌝ }
     ensures { λ x. ⌜ x ≡ nodeAt nodes c .expression ⌝ }
 {
-    body_at(
-        &nodes.kind,
-        &nodes.number,
-        c,
-    )
+    body_at(&nodes.kind, &nodes.number, c)
 }
 
 // Whether edge j brings a goal that is monitored a satisfied solution.
@@ -278,7 +274,19 @@ pub fn link_rules(
     ensures { λ c. ⌜ Linked nodes edges (states .satisfied) i n a r c ⌝ }
 {
     let goal = child_for(MONITOR, n, Expression::Goal(r), n.subject);
-    if !is_done(nodes, edges, i, goal) {
+    if !is_done(
+        nodes.count,
+        &nodes.kind,
+        &nodes.number,
+        &nodes.subject,
+        &nodes.verifier,
+        edges.count,
+        &edges.kind,
+        &edges.parent,
+        &edges.child,
+        i,
+        goal,
+    ) {
         return Choice::Edge(goal);
     }
     let monitors = monitored(edges.count, &edges.kind, &edges.parent, &edges.child, i);
