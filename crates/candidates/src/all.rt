@@ -1,6 +1,6 @@
 // The edges of a linked target A.r1.r2 whose first name is issuer-traces-all: to the frontiers of the roles B.r2, for "each entity B such that
 // A.r1 ← B".
-use crate::done::better;
+use crate::done::lesser;
 use crate::members::child_for;
 use crate::members::with_members;
 use class::SUBJECT_ALL;
@@ -37,6 +37,7 @@ ghost use Rattle.moves.specs.declared.Choice.the-variants as C;
 ghost use Rattle.moves.specs.laws.Own.{Prepared};
 ghost use Rattle.moves.specs.laws.Stops.{Told};
 ghost use Rattle.moves.specs.Candidates.{isDone, firstNot};
+ghost use Rattle.candidates.specs.laws.Done.{doneIn};
 ghost use Rattle.candidates.specs.laws.Offers.{folded};
 ghost use Rattle.candidates.specs.laws.Skipped.{Skipped};
 ghost use Rattle.candidates.specs.laws.Collected.{Added, Grown, Collected};
@@ -198,24 +199,39 @@ pub fn next_flagged(m: usize, flags: &[u8; 128], from: usize) -> usize
 }
 
 // The best of what is chosen and the edge to the role B.r, if x is an entity B.
-fn with_role(
-    nodes: Nodes,
-    edges: Edges,
+fn with_role<'a>(
+    count: usize,
+    kind: &'a [u8; 256],
+    number: &'a [u16; 1024],
+    subject: &'a [u16; 128],
+    verifier: &'a [u8; 128],
+    edges: usize,
+    edge: &'a [u8; 256],
+    parent: &'a [u8; 256],
+    child: &'a [u8; 256],
     i: u8,
     n: Node,
     r: u16,
     best: Choice,
     x: Expression,
 ) -> Choice
-    requires { ⌜ (nodes .count ≤ MOST-NODES) × (edges .count ≤ MOST-EDGES) ⌝ }
-    ensures { λ c. ⌜ c ≡ offerRole (isDone (nodesOf nodes) (edgesOf edges) i) n r best x ⌝ }
+    requires { ⌜ (count ≤ MOST-NODES) × (edges ≤ MOST-EDGES) ⌝ }
+    ensures { λ c. ⌜ c ≡ offerRole (doneIn count (now (kind .entry)) (now (number .entry)) (now (subject .entry))
+        (now (verifier .entry)) edges (now (edge .entry)) (now (parent .entry)) (now (child .entry)) i) n r best x ⌝ }
 {
     match x {
         Expression::Entity(b) => {
             let e = Expression::Role(Role { entity: b, name: r });
-            better(
-                nodes,
+            lesser(
+                count,
+                kind,
+                number,
+                subject,
+                verifier,
                 edges,
+                edge,
+                parent,
+                child,
                 i,
                 best,
                 child_for(IMPLICATION, n, e, n.subject),
@@ -248,7 +264,22 @@ fn with_roles<'a>(
     let mut k = next_flagged(m, flags, 0);
     while k < m {
         let x = body_at(kinds, numbers, k);
-        best = with_role(nodes, edges, i, n, r, best, x);
+        best = with_role(
+            nodes.count,
+            &nodes.kind,
+            &nodes.number,
+            &nodes.subject,
+            &nodes.verifier,
+            edges.count,
+            &edges.kind,
+            &edges.parent,
+            &edges.child,
+            i,
+            n,
+            r,
+            best,
+            x,
+        );
         k = next_flagged(m, flags, k + 1);
     }
     best
@@ -346,8 +377,15 @@ fn with_frontiers<'a>(
         numbers,
         stop,
         &all,
-        nodes,
-        edges,
+        nodes.count,
+        &nodes.kind,
+        &nodes.number,
+        &nodes.subject,
+        &nodes.verifier,
+        edges.count,
+        &edges.kind,
+        &edges.parent,
+        &edges.child,
         i,
         n,
         true,

@@ -13,26 +13,40 @@ ghost use mathlib.Core.Path.{_≡_};
 ghost use Prim.Native.Nat.{_≤_};
 ghost use Rattle.graph.specs.laws.Graph.{nodesOf, edgesOf};
 ghost use Rattle.moves.specs.Candidates.{precedes as precedesOf, isDone};
+ghost use Rattle.candidates.specs.laws.Done.{doneIn};
 ghost use Rattle.candidates.specs.laws.Least.{improves as improvesOf, better as betterOf, orElse};
 ghost use Rattle.numbers.specs.Sizes.{MOST-NODES, MOST-EDGES};
 
-// Whether an edge into node i stands already, or would join it to itself.
-pub fn is_done(nodes: Nodes, edges: Edges, i: u8, w: Candidate) -> bool
-    requires { ⌜ (nodes .count ≤ MOST-NODES) × (edges .count ≤ MOST-EDGES) ⌝ }
-    ensures { λ r. ⌜ r ≡ isDone (nodesOf nodes) (edgesOf edges) i w ⌝ }
+// Whether an edge into node i stands already, or would join it to itself, whatever the states.
+pub fn is_done<'a>(
+    count: usize,
+    kind: &'a [u8; 256],
+    number: &'a [u16; 1024],
+    subject: &'a [u16; 128],
+    verifier: &'a [u8; 128],
+    edges: usize,
+    edge: &'a [u8; 256],
+    parent: &'a [u8; 256],
+    child: &'a [u8; 256],
+    i: u8,
+    w: Candidate,
+) -> bool
+    requires { ⌜ (count ≤ MOST-NODES) × (edges ≤ MOST-EDGES) ⌝ }
+    ensures { λ r. ⌜ r ≡ doneIn count (now (kind .entry)) (now (number .entry)) (now (subject .entry)) (now (verifier .entry))
+        edges (now (edge .entry)) (now (parent .entry)) (now (child .entry)) i w ⌝ }
 {
     let y = w.expression;
     let c = find_node(
-        nodes.count,
-        &nodes.kind,
-        &nodes.number,
-        &nodes.subject,
-        &nodes.verifier,
+        count,
+        kind,
+        number,
+        subject,
+        verifier,
         y,
         w.verifier,
         w.subject,
     );
-    if nodes.count <= c {
+    if count <= c {
         return false;
     }
     if wide(i) == c {
@@ -43,7 +57,7 @@ pub fn is_done(nodes: Nodes, edges: Edges, i: u8, w: Candidate) -> bool
         parent: i,
         child: c as u8,
     };
-    has_edge(edges.count, &edges.kind, &edges.parent, &edges.child, e)
+    has_edge(edges, edge, parent, child, e)
 }
 
 // By the child's expression, then its subject.
@@ -72,18 +86,65 @@ fn improves(best: Choice, w: Candidate) -> bool
     }
 }
 
-// The lesser of what is chosen and an edge into node i, unless that is done.
-pub fn better(nodes: Nodes, edges: Edges, i: u8, best: Choice, w: Candidate) -> Choice
-    requires { ⌜ (nodes .count ≤ MOST-NODES) × (edges .count ≤ MOST-EDGES) ⌝ }
-    ensures { λ r. ⌜ r ≡ betterOf (isDone (nodesOf nodes) (edgesOf edges) i) best w ⌝ }
+// The lesser of what is chosen and an edge into node i, unless that is done, whatever the states.
+pub fn lesser<'a>(
+    count: usize,
+    kind: &'a [u8; 256],
+    number: &'a [u16; 1024],
+    subject: &'a [u16; 128],
+    verifier: &'a [u8; 128],
+    edges: usize,
+    edge: &'a [u8; 256],
+    parent: &'a [u8; 256],
+    child: &'a [u8; 256],
+    i: u8,
+    best: Choice,
+    w: Candidate,
+) -> Choice
+    requires { ⌜ (count ≤ MOST-NODES) × (edges ≤ MOST-EDGES) ⌝ }
+    ensures { λ r. ⌜ r ≡ betterOf (doneIn count (now (kind .entry)) (now (number .entry)) (now (subject .entry))
+        (now (verifier .entry)) edges (now (edge .entry)) (now (parent .entry)) (now (child .entry)) i) best w ⌝ }
 {
     if !improves(best, w) {
         return best;
     }
-    if is_done(nodes, edges, i, w) {
+    if is_done(
+        count,
+        kind,
+        number,
+        subject,
+        verifier,
+        edges,
+        edge,
+        parent,
+        child,
+        i,
+        w,
+    ) {
         return best;
     }
     Choice::Edge(w)
+}
+
+// The same, of a whole graph.
+pub fn better(nodes: Nodes, edges: Edges, i: u8, best: Choice, w: Candidate) -> Choice
+    requires { ⌜ (nodes .count ≤ MOST-NODES) × (edges .count ≤ MOST-EDGES) ⌝ }
+    ensures { λ r. ⌜ r ≡ betterOf (isDone (nodesOf nodes) (edgesOf edges) i) best w ⌝ }
+{
+    lesser(
+        nodes.count,
+        &nodes.kind,
+        &nodes.number,
+        &nodes.subject,
+        &nodes.verifier,
+        edges.count,
+        &edges.kind,
+        &edges.parent,
+        &edges.child,
+        i,
+        best,
+        w,
+    )
 }
 
 // What is chosen, or else the rest.

@@ -39,8 +39,15 @@ pub fn issuer_edges(own: Preparation, n: Negotiation, i: u8, x: Node, a: Role) -
         pool,
         &on,
         &own.oppo,
-        nodes,
-        edges,
+        nodes.count,
+        &nodes.kind,
+        &nodes.number,
+        &nodes.subject,
+        &nodes.verifier,
+        edges.count,
+        &edges.kind,
+        &edges.parent,
+        &edges.child,
         i,
         x,
         true,
@@ -65,8 +72,15 @@ pub fn rest_edges(own: Preparation, n: Negotiation, i: u8, x: Node, a: Role) -> 
         pool,
         &own.visible,
         &own.sens,
-        nodes,
-        edges,
+        nodes.count,
+        &nodes.kind,
+        &nodes.number,
+        &nodes.subject,
+        &nodes.verifier,
+        edges.count,
+        &edges.kind,
+        &edges.parent,
+        &edges.child,
         i,
         x,
         false,
@@ -85,7 +99,23 @@ pub fn plain_edges(own: Preparation, n: Negotiation, i: u8, x: Node, a: Role) ->
     let pool = house.subject;
     let nodes = n.nodes;
     let edges = n.edges;
-    to_subject(pool, &own.visible, &own.sens, nodes, edges, i, x, a)
+    to_subject(
+        pool,
+        &own.visible,
+        &own.sens,
+        nodes.count,
+        &nodes.kind,
+        &nodes.number,
+        &nodes.subject,
+        &nodes.verifier,
+        edges.count,
+        &edges.kind,
+        &edges.parent,
+        &edges.child,
+        i,
+        x,
+        a,
+    )
 }
 
 // A role about another: its simp frontier.
@@ -98,5 +128,21 @@ pub fn other_edges(own: Preparation, n: Negotiation, i: u8, x: Node, a: Role) ->
     let pool = house.subject;
     let nodes = n.nodes;
     let edges = n.edges;
-    to_subject(pool, &own.visible, &own.simp, nodes, edges, i, x, a)
+    to_subject(
+        pool,
+        &own.visible,
+        &own.simp,
+        nodes.count,
+        &nodes.kind,
+        &nodes.number,
+        &nodes.subject,
+        &nodes.verifier,
+        edges.count,
+        &edges.kind,
+        &edges.parent,
+        &edges.child,
+        i,
+        x,
+        a,
+    )
 }

@@ -274,7 +274,19 @@ pub fn link_rules(
     ensures { λ c. ⌜ Linked nodes edges (states .satisfied) i n a r c ⌝ }
 {
     let goal = child_for(MONITOR, n, Expression::Goal(r), n.subject);
-    if !is_done(nodes, edges, i, goal) {
+    if !is_done(
+        nodes.count,
+        &nodes.kind,
+        &nodes.number,
+        &nodes.subject,
+        &nodes.verifier,
+        edges.count,
+        &edges.kind,
+        &edges.parent,
+        &edges.child,
+        i,
+        goal,
+    ) {
         return Choice::Edge(goal);
     }
     let monitors = monitored(edges.count, &edges.kind, &edges.parent, &edges.child, i);

@@ -1,14 +1,12 @@
 // The implication edges to the members of a frontier.
-use crate::done::better;
+use crate::done::lesser;
 use expression::Expression;
 use expression::Role;
 use expression::is_entity;
 use expression::same;
 use frontier::reached;
-use graph::Edges;
 use graph::IMPLICATION;
 use graph::Node;
-use graph::Nodes;
 use moves::Candidate;
 use moves::Choice;
 use rt0::Pool;
@@ -17,9 +15,8 @@ ghost use mathlib.Core.Path.{_≡_};
 ghost use mathlib.Core.List.{List};
 ghost use Prim.Native.Nat.{ℕ, _≤_, _<_};
 ghost use Rattle.rt0.specs.laws.Pool.{poolOf};
-ghost use Rattle.graph.specs.laws.Graph.{nodesOf, edgesOf};
-ghost use Rattle.moves.specs.Candidates.{isDone};
 ghost use Rattle.moves.specs.Rules.{childFor};
+ghost use Rattle.candidates.specs.laws.Done.{doneIn};
 ghost use Rattle.candidates.specs.laws.Offers.{folded, offer};
 ghost use Rattle.candidates.specs.laws.Members.{admits as admitsOf, isMember, isStopped, memberEdge, Extended};
 ghost use Rattle.candidates.specs.laws.Skipped.{Skipped};
@@ -57,16 +54,24 @@ fn with_member<'a>(
     numbers: &'a [u16; 1024],
     stop: &'a [u8; 128],
     found: &'a [u8; 128],
-    nodes: Nodes,
-    edges: Edges,
+    count: usize,
+    kind: &'a [u8; 256],
+    number: &'a [u16; 1024],
+    subject: &'a [u16; 128],
+    verifier: &'a [u8; 128],
+    edges: usize,
+    edge: &'a [u8; 256],
+    parent: &'a [u8; 256],
+    child: &'a [u8; 256],
     i: u8,
     n: Node,
     entities: bool,
     best: Choice,
     k: usize,
 ) -> Choice
-    requires { ⌜ (k < 128) × (nodes .count ≤ MOST-NODES) × (edges .count ≤ MOST-EDGES) ⌝ }
-    ensures { λ r. ⌜ ((m : ℕ) (H : List ℕ) → r ≡ offer (isDone (nodesOf nodes) (edgesOf edges) i)
+    requires { ⌜ (k < 128) × (count ≤ MOST-NODES) × (edges ≤ MOST-EDGES) ⌝ }
+    ensures { λ r. ⌜ ((m : ℕ) (H : List ℕ) → r ≡ offer (doneIn count (now (kind .entry)) (now (number .entry)) (now (subject .entry))
+        (now (verifier .entry)) edges (now (edge .entry)) (now (parent .entry)) (now (child .entry)) i)
         (isMember (poolOf m H (now (kinds .entry)) (now (numbers .entry))) (now (stop .entry)) (now (found .entry)) entities n)
         (memberEdge (poolOf m H (now (kinds .entry)) (now (numbers .entry))) n) best k) ⌝ }
 {
@@ -77,9 +82,16 @@ fn with_member<'a>(
     if !admits(entities, n, x) {
         return best;
     }
-    better(
-        nodes,
+    lesser(
+        count,
+        kind,
+        number,
+        subject,
+        verifier,
         edges,
+        edge,
+        parent,
+        child,
         i,
         best,
         child_for(IMPLICATION, n, x, n.subject),
@@ -116,15 +128,23 @@ pub fn with_members<'a>(
     numbers: &'a [u16; 1024],
     stop: &'a [u8; 128],
     found: &'a [u8; 128],
-    nodes: Nodes,
-    edges: Edges,
+    count: usize,
+    kind: &'a [u8; 256],
+    number: &'a [u16; 1024],
+    subject: &'a [u16; 128],
+    verifier: &'a [u8; 128],
+    edges: usize,
+    edge: &'a [u8; 256],
+    parent: &'a [u8; 256],
+    child: &'a [u8; 256],
     i: u8,
     n: Node,
     entities: bool,
     start: Choice,
 ) -> Choice
-    requires { ⌜ (m ≤ 128) × (nodes .count ≤ MOST-NODES) × (edges .count ≤ MOST-EDGES) ⌝ }
-    ensures { λ r. ⌜ ((H : List ℕ) → r ≡ folded m (offer (isDone (nodesOf nodes) (edgesOf edges) i)
+    requires { ⌜ (m ≤ 128) × (count ≤ MOST-NODES) × (edges ≤ MOST-EDGES) ⌝ }
+    ensures { λ r. ⌜ ((H : List ℕ) → r ≡ folded m (offer (doneIn count (now (kind .entry)) (now (number .entry)) (now (subject .entry))
+        (now (verifier .entry)) edges (now (edge .entry)) (now (parent .entry)) (now (child .entry)) i)
         (isMember (poolOf m H (now (kinds .entry)) (now (numbers .entry))) (now (stop .entry)) (now (found .entry)) entities n)
         (memberEdge (poolOf m H (now (kinds .entry)) (now (numbers .entry))) n)) start) ⌝ }
 {
@@ -136,8 +156,15 @@ pub fn with_members<'a>(
             numbers,
             stop,
             found,
-            nodes,
+            count,
+            kind,
+            number,
+            subject,
+            verifier,
             edges,
+            edge,
+            parent,
+            child,
             i,
             n,
             entities,
@@ -154,16 +181,25 @@ pub fn with_frontier<'a>(
     pool: Pool,
     on: &'a [u8; 128],
     stop: &'a [u8; 128],
-    nodes: Nodes,
-    edges: Edges,
+    count: usize,
+    kind: &'a [u8; 256],
+    number: &'a [u16; 1024],
+    subject: &'a [u16; 128],
+    verifier: &'a [u8; 128],
+    edges: usize,
+    edge: &'a [u8; 256],
+    parent: &'a [u8; 256],
+    child: &'a [u8; 256],
     i: u8,
     n: Node,
     entities: bool,
     e: Role,
     start: Choice,
 ) -> Choice
-    requires { ⌜ (pool .count ≤ 128) × (nodes .count ≤ MOST-NODES) × (edges .count ≤ MOST-EDGES) ⌝ }
-    ensures { λ r. ⌜ Extended (isDone (nodesOf nodes) (edgesOf edges) i) pool (now (on .entry)) (now (stop .entry)) entities n e start r ⌝ }
+    requires { ⌜ (pool .count ≤ 128) × (count ≤ MOST-NODES) × (edges ≤ MOST-EDGES) ⌝ }
+    ensures { λ r. ⌜ Extended (doneIn count (now (kind .entry)) (now (number .entry)) (now (subject .entry))
+        (now (verifier .entry)) edges (now (edge .entry)) (now (parent .entry)) (now (child .entry)) i)
+        pool (now (on .entry)) (now (stop .entry)) entities n e start r ⌝ }
 {
     let m = pool.count;
     let found = reached(m, &pool.heads, &pool.kinds, &pool.numbers, on, stop, e);
@@ -173,8 +209,15 @@ pub fn with_frontier<'a>(
         &pool.numbers,
         stop,
         &found,
-        nodes,
+        count,
+        kind,
+        number,
+        subject,
+        verifier,
         edges,
+        edge,
+        parent,
+        child,
         i,
         n,
         entities,

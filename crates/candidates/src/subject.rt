@@ -1,15 +1,13 @@
 // The edge to the subject where a frontier has it, else those to what is no entity.
-use crate::done::better;
+use crate::done::lesser;
 use crate::members::child_for;
 use crate::members::with_members;
 use expression::Expression;
 use expression::Role;
 use expression::same;
 use frontier::reached;
-use graph::Edges;
 use graph::IMPLICATION;
 use graph::Node;
-use graph::Nodes;
 use moves::Choice;
 use rt0::Pool;
 use rt0::body_at;
@@ -17,8 +15,7 @@ ghost use mathlib.Core.Path.{_≡_};
 ghost use mathlib.Core.List.{List};
 ghost use Prim.Native.Nat.{ℕ, _≤_, _<_};
 ghost use Rattle.rt0.specs.laws.Pool.{poolOf};
-ghost use Rattle.graph.specs.laws.Graph.{nodesOf, edgesOf};
-ghost use Rattle.moves.specs.Candidates.{isDone};
+ghost use Rattle.candidates.specs.laws.Done.{doneIn};
 ghost use Rattle.candidates.specs.laws.Subject.{isSubjectAt, hasSubject, SubjectLeads};
 ghost use Rattle.numbers.specs.Sizes.{MOST-NODES, MOST-EDGES};
 
@@ -69,20 +66,41 @@ pub fn to_subject<'a>(
     pool: Pool,
     on: &'a [u8; 128],
     stop: &'a [u8; 128],
-    nodes: Nodes,
-    edges: Edges,
+    count: usize,
+    kind: &'a [u8; 256],
+    number: &'a [u16; 1024],
+    subject: &'a [u16; 128],
+    verifier: &'a [u8; 128],
+    edges: usize,
+    edge: &'a [u8; 256],
+    parent: &'a [u8; 256],
+    child: &'a [u8; 256],
     i: u8,
     n: Node,
     e: Role,
 ) -> Choice
-    requires { ⌜ (pool .count ≤ 128) × (nodes .count ≤ MOST-NODES) × (edges .count ≤ MOST-EDGES) ⌝ }
-    ensures { λ r. ⌜ SubjectLeads (isDone (nodesOf nodes) (edgesOf edges) i) pool (now (on .entry)) (now (stop .entry)) n e r ⌝ }
+    requires { ⌜ (pool .count ≤ 128) × (count ≤ MOST-NODES) × (edges ≤ MOST-EDGES) ⌝ }
+    ensures { λ r. ⌜ SubjectLeads (doneIn count (now (kind .entry)) (now (number .entry)) (now (subject .entry))
+        (now (verifier .entry)) edges (now (edge .entry)) (now (parent .entry)) (now (child .entry)) i) pool (now (on .entry)) (now (stop .entry)) n e r ⌝ }
 {
     let m = pool.count;
     let found = reached(m, &pool.heads, &pool.kinds, &pool.numbers, on, stop, e);
     if has_subject(m, &pool.kinds, &pool.numbers, stop, &found, n.subject) {
         let w = child_for(IMPLICATION, n, Expression::Entity(n.subject), n.subject);
-        return better(nodes, edges, i, Choice::Nothing, w);
+        return lesser(
+            count,
+            kind,
+            number,
+            subject,
+            verifier,
+            edges,
+            edge,
+            parent,
+            child,
+            i,
+            Choice::Nothing,
+            w,
+        );
     }
     with_members(
         m,
@@ -90,8 +108,15 @@ pub fn to_subject<'a>(
         &pool.numbers,
         stop,
         &found,
-        nodes,
+        count,
+        kind,
+        number,
+        subject,
+        verifier,
         edges,
+        edge,
+        parent,
+        child,
         i,
         n,
         false,

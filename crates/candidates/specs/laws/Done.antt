@@ -3,20 +3,31 @@ use Prim.Native.Nat.{ℕ, _≤_, _<_}
 use native.Mathlib.Omega.{arith}
 use mathlib.Core.Path.{_≡_, sym, _∙_, ap}
 use mathlib.Core.Bool.{Bool, true, false, not, cond, _&&_, _||_}
-use mathlib.Core.List.{List}
-use borrow.Author.Tests.{le-ltb, lt-ltb, eq-eqb, ne-eqb, not-true, not-false}
+use mathlib.Core.Logic.{⊎-elim}
+use mathlib.Core.List.{List, []}
+use borrow.Author.Tests.{le-ltb, lt-ltb, ltb-true, ltb-false, eq-eqb, ne-eqb, not-true, not-false}
 use lib.Dec.{eqb, ltb}
-use lib.ListN.{length}
+use lib.ListN.{length, List·getD-eq-default}
+use Rattle.expression.specs.declared.Expression.{Expression}
 use Rattle.expression.specs.Same.{same}
 use Rattle.expression.specs.Order.{beforeOf}
 use Rattle.graph.specs.declared.Node.{Node}
 use Rattle.graph.specs.declared.Edge.{Edge}
-use Rattle.graph.specs.Find.{hasEdge}
+use Rattle.graph.specs.declared.Nodes.{Nodes}
+use Rattle.graph.specs.declared.Edges.{Edges}
+use Rattle.graph.specs.Graph.{blank, nodeIn}
+use Rattle.graph.specs.Find.{isNode, findNode, hasEdge}
+use Rattle.graph.specs.laws.Graph.{nodesFrom, edgesFrom, nodesOf, edgesOf}
+use Rattle.graph.specs.laws.Columns.{nodes-length, node-in}
+use Rattle.rt0.specs.Pool.{upTo}
+use Rattle.rt0.specs.Lists.{firstOr}
+use Rattle.propagation.specs.laws.Flags.{decided}
 use Rattle.moves.specs.declared.Candidate.{Candidate}
 use Rattle.moves.specs.declared.Choice.{Choice}
 use Rattle.moves.specs.declared.Choice.the-variants as C
-use Rattle.moves.specs.Candidates.{precedes, childNumber, isDone}
+use Rattle.moves.specs.Candidates.{precedes, childNumber, firstNot, isDone}
 use Rattle.candidates.specs.laws.Least.{improves, better, orElse}
+use Rattle.numbers.specs.Sizes.{MOST-NODES}
 
 -- The order
 
@@ -80,3 +91,48 @@ module _ (ns : List Node) (es : List Edge) (i : ℕ) (w : Candidate) {n c : ℕ}
 
     pub done-edge : {j : ℕ} {r : Bool} → j ≡ i → (j ≡ c → ⊥) → r ≡ hasEdge es (record { kind = w .kind; parent = i; child = c }) → r ≡ isDone ns es i w
     done-edge e q h = h ∙ (sym (ap (λ (b : Bool). b || hasEdge es (record { kind = w .kind; parent = i; child = c })) (ne-eqb i c (λ z. q (e ∙ z)))) ∙ stands)
+
+-- What is done, by lent columns
+
+-- an edge into node i is done, whatever the states
+unfoldable pub doneIn : ℕ → List ℕ → List ℕ → List ℕ → List ℕ → ℕ → List ℕ → List ℕ → List ℕ → ℕ → Candidate → Bool
+doneIn n K N S W m L P D i = isDone (nodesOf (nodesFrom n K N S W [])) (edgesOf (edgesFrom m L P D)) i
+
+module _ (N : Nodes) where
+  abbrev stateless : Nodes
+  stateless = nodesFrom (N .count) (N .kind) (N .number) (N .subject) (N .verifier) []
+
+  lengths : length (nodesOf stateless) ≡ length (nodesOf N)
+  lengths = nodes-length stateless ∙ sym (nodes-length N)
+
+  node-same : (x : Expression) (v s k : ℕ) → isNode x v s (nodeIn (nodesOf stateless) k) ≡ isNode x v s (nodeIn (nodesOf N) k)
+  node-same x v s k =
+      ⊎-elim
+      (λ z. let l = ltb-true k (N .count) z in ap (isNode x v s) (node-in stateless k l) ∙ sym (ap (isNode x v s) (node-in N k l)))
+      (λ z.
+      let l = ltb-false k (N .count) z in
+      ap (isNode x v s) (List·getD-eq-default (nodesOf stateless) blank (omega (arith, nodes-length stateless))
+      ∙ sym (List·getD-eq-default (nodesOf N) blank (omega (arith, nodes-length N)))))
+      (decided (ltb k (N .count)))
+
+  child-same : (w : Candidate) → childNumber (nodesOf stateless) w ≡ childNumber (nodesOf N) w
+  unfolding findNode
+  child-same w = λ j.
+      firstOr (λ k. node-same (w .expression) (w .verifier) (w .subject) k j) (λ k. k) MOST-NODES (upTo (lengths j) (λ k. k))
+
+  module _ (E : Edges) (i : ℕ) where
+    -- of a whole graph
+    abbrev pub doneOf : Candidate → Bool
+    doneOf = doneIn (N .count) (N .kind) (N .number) (N .subject) (N .verifier) (E .count) (E .kind) (E .parent) (E .child) i
+
+    pub done-same : (w : Candidate) → doneOf w ≡ isDone (nodesOf N) (edgesOf E) i w
+    unfolding doneIn isDone
+    done-same w = λ j.
+        cond (ltb (child-same w j) (lengths j))
+        (eqb i (child-same w j) || hasEdge (edgesOf E) (record { kind = w .kind; parent = i; child = child-same w j })) false
+
+    pub done-columns : doneOf ≡ isDone (nodesOf N) (edgesOf E) i
+    done-columns = λ j w. done-same w j
+
+    pub first-done : (ws : List Candidate) {r : Choice} → r ≡ firstNot doneOf C.Nothing ws → r ≡ firstNot (isDone (nodesOf N) (edgesOf E) i) C.Nothing ws
+    first-done ws h = h ∙ ap (λ (d : Candidate → Bool). firstNot d C.Nothing ws) done-columns

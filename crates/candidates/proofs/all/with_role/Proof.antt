@@ -5,7 +5,7 @@ use Rattle.candidates.proofs.all.with_role.Statement.{statement}
 use Rattle.candidates.proofs.all.with_role.Tie as tie
 
 returns : tie.Need-returns
-returns c = offer-entity _ _ _ _ (c .before .before .before .x .given .1) (c .before .child-for .ensures) (c .better .ensures)
+returns c = offer-entity _ _ _ _ (c .before .before .before .x .given .1) (c .before .child-for .ensures) (c .lesser .ensures)
 
 returns-2 : tie.Need-returns-2
 returns-2 c = offer-other _ _ _ _ (c .enum-told .given .1) refl

@@ -1,16 +1,16 @@
-use Rattle.candidates.specs.laws.Done.{better-not, better-done, better-open}
+use mathlib.Core.Path.{_∙_, ap}
+use mathlib.Core.Bool.{Bool}
+use Rattle.moves.specs.declared.Candidate.{Candidate}
+use Rattle.candidates.specs.laws.Least.{better}
+use Rattle.candidates.specs.laws.Done.{done-columns}
 use borrow.Author.Needs.{needs}
 use Rattle.candidates.proofs.done.better.Statement.{statement}
 use Rattle.candidates.proofs.done.better.Tie as tie
 
 returns : tie.Need-returns
-returns c = better-not _ _ _ (c .before .improves .ensures) (c .if1 .taken)
-
-returns-2 : tie.Need-returns-2
-returns-2 c = better-done _ _ _ (c .before .before .before .improves .ensures) (c .before .before .if1 .left) (c .before .is-done .ensures) (c .if2 .taken)
-
-returns-3 : tie.Need-returns-3
-returns-3 c = better-open _ _ _ (c .before .before .before .improves .ensures) (c .before .before .if1 .left) (c .before .is-done .ensures) (c .if2 .left)
+returns c =
+    let s = c .before .before .before .before .before .before .before .before .before .before in
+    c .lesser .ensures ∙ ap (λ (d : Candidate → Bool). better d (s .args .best) (s .args .w)) (done-columns (s .args .t1) (s .args .t2) (s .args .i))
 
 pub better-spec : {M : Type 1} → statement M
-better-spec = tie.close (tie.spec (λ c κs. search needs) returns (λ c κs. search needs) returns-2 returns-3)
+better-spec = tie.close (tie.spec (λ c κs. search needs) returns)

@@ -1,3 +1,4 @@
+use Rattle.candidates.specs.laws.Done.{first-done}
 use Rattle.candidates.specs.laws.Frontiers.{simp-first}
 use borrow.Author.Needs.{needs}
 use Rattle.candidates.proofs.frontiers.other_edges.Statement.{statement}
@@ -5,8 +6,10 @@ use Rattle.candidates.proofs.frontiers.other_edges.Tie as tie
 
 returns : tie.Need-returns
 returns c =
-    let s = c .before .before .before .before .before .before .before .before in simp-first (s .args .t1) (s .pre .0) _ (s .args .x) (s .args .a)
-    (c .to-subject .ensures)
+    let c8 = c .before .before .before .before .before .before .before .before in
+    let s = c8 .before .before .before .before .before .before .before .before .before in
+    first-done (s .args .n .nodes) (s .args .n .edges) (s .args .i) _
+    (simp-first (s .args .t1) (s .pre .0) _ (s .args .x) (s .args .a) (c .to-subject .ensures))
 
 pub other-edges-spec : {M : Type 1} → statement M
 other-edges-spec = tie.close (tie.spec (λ c κs. search needs) returns)

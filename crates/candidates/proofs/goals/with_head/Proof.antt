@@ -23,7 +23,7 @@ returns-3 c m K N =
     let c7 = c5 .before .before in
     let s = c7 in head-edge _ (poolOf m (s .args .heads .now) K N) (s .args .on .now)
     (s .args .n) (s .args .r) (s .args .best) (s .args .k) (c5 .if1 .left) (c4 .head-at .ensures) (c .before .before .if2 .left)
-    (c .before .child-for .ensures) (c .better .ensures)
+    (c .before .child-for .ensures) (c .lesser .ensures)
 
 pub with-head-spec : {M : Type 1} → statement M
 with-head-spec =

@@ -3,20 +3,19 @@ use mathlib.Core.List.{List}
 use native.Mathlib.Omega.{arith}
 use mathlib.Core.Path.{_≡_}
 use Rattle.rt0.specs.laws.Pool.{poolOf}
-use Rattle.graph.specs.laws.Graph.{nodesOf, edgesOf}
-use Rattle.moves.specs.Candidates.{isDone}
+use Rattle.candidates.specs.laws.Done.{doneIn}
 use Rattle.candidates.specs.laws.Offers.{folded, offer, folded-start, folded-next, folded-all}
 use Rattle.candidates.specs.laws.Goals.{isNamedHead, headEdge}
 use Rattle.candidates.proofs.goals.with_heads.Statement.{statement}
 use Rattle.candidates.proofs.goals.with_heads.Tie as tie
 
 abbrev Inv-loop : tie.InvT-loop
-Inv-loop m heads on nodes edges i n r best₀ k₀ best k =
-    ((K N : List ℕ) → best ≡ folded k (offer (isDone (nodesOf nodes) (edgesOf edges) i) (isNamedHead (poolOf m heads K N) on r)
+Inv-loop m heads on count kind number subject verifier edges edge parent child i n r best₀ k₀ best k =
+    ((K N : List ℕ) → best ≡ folded k (offer (doneIn count kind number subject verifier edges edge parent child i) (isNamedHead (poolOf m heads K N) on r)
     (headEdge (poolOf m heads K N) n)) best₀) × (k ≤ m)
 
 abbrev μ-loop : tie.MeasureT-loop
-μ-loop m heads on nodes edges i n r best₀ k₀ best k = m - k
+μ-loop m heads on count kind number subject verifier edges edge parent child i n r best₀ k₀ best k = m - k
 
 loop-holds : tie.Need-loop-holds Inv-loop μ-loop
 loop-holds c = (λ K N. folded-start _ _, omega arith)

@@ -15,7 +15,7 @@ returns-2 : tie.Need-returns-2
 returns-2 c q others =
     let c6 = c .before .before .before .before .before .before in
     let s = c6 in pair-edge _ (pairsFrom q (s .args .roles .now) others) (s .args .n) (s .args .r) (s .args .best)
-    (s .args .k) refl (c .before .before .if1 .left) (c .before .child-for .ensures) (c .better .ensures)
+    (s .args .k) refl (c .before .before .if1 .left) (c .before .child-for .ensures) (c .lesser .ensures)
 
 pub with-pair-spec : {M : Type 1} → statement M
 with-pair-spec =

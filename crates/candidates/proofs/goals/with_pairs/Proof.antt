@@ -3,20 +3,19 @@ use mathlib.Core.List.{List}
 use native.Mathlib.Omega.{arith}
 use mathlib.Core.Path.{_≡_}
 use Rattle.tables.specs.laws.Tables.{pairsFrom}
-use Rattle.graph.specs.laws.Graph.{nodesOf, edgesOf}
-use Rattle.moves.specs.Candidates.{isDone}
+use Rattle.candidates.specs.laws.Done.{doneIn}
 use Rattle.candidates.specs.laws.Offers.{folded, offer, folded-start, folded-next, folded-all}
 use Rattle.candidates.specs.laws.Goals.{isNamedPair, pairEdge}
 use Rattle.candidates.proofs.goals.with_pairs.Statement.{statement}
 use Rattle.candidates.proofs.goals.with_pairs.Tie as tie
 
 abbrev Inv-loop : tie.InvT-loop
-Inv-loop q roles nodes edges i n r best₀ k₀ best k =
-    ((others : List ℕ) → best ≡ folded k (offer (isDone (nodesOf nodes) (edgesOf edges) i) (isNamedPair (pairsFrom q roles others) r)
+Inv-loop q roles count kind number subject verifier edges edge parent child i n r best₀ k₀ best k =
+    ((others : List ℕ) → best ≡ folded k (offer (doneIn count kind number subject verifier edges edge parent child i) (isNamedPair (pairsFrom q roles others) r)
     (pairEdge (pairsFrom q roles others) n)) best₀) × (k ≤ q)
 
 abbrev μ-loop : tie.MeasureT-loop
-μ-loop q roles nodes edges i n r best₀ k₀ best k = q - k
+μ-loop q roles count kind number subject verifier edges edge parent child i n r best₀ k₀ best k = q - k
 
 loop-holds : tie.Need-loop-holds Inv-loop μ-loop
 loop-holds c = (λ others. folded-start _ _, omega arith)

@@ -17,7 +17,7 @@ returns-3 c m H =
     let c4 = c3 .before in
     let c5 = c4 .before in
     member-edge _ _ _ _ _ _ _ _ (c5 .if1 .left) (c4 .body-at .ensures) (c3 .admits .ensures) (c .before .before .if2 .left)
-    (c .before .child-for .ensures) (c .better .ensures)
+    (c .before .child-for .ensures) (c .lesser .ensures)
 
 pub with-member-spec : {M : Type 1} → statement M
 with-member-spec =

@@ -3,8 +3,7 @@ use mathlib.Core.List.{List}
 use native.Mathlib.Omega.{arith}
 use mathlib.Core.Path.{_≡_}
 use Rattle.rt0.specs.laws.Pool.{poolOf}
-use Rattle.graph.specs.laws.Graph.{nodesOf, edgesOf}
-use Rattle.moves.specs.Candidates.{isDone}
+use Rattle.candidates.specs.laws.Done.{doneIn}
 use Rattle.candidates.specs.laws.Offers.{folded, offer, folded-start, folded-next, folded-all}
 use Rattle.candidates.specs.laws.Skipped.{folded-skip}
 use Rattle.candidates.specs.laws.Members.{isMember, memberEdge}
@@ -13,12 +12,12 @@ use Rattle.candidates.proofs.members.with_members.Statement.{statement}
 use Rattle.candidates.proofs.members.with_members.Tie as tie
 
 abbrev Inv-loop : tie.InvT-loop
-Inv-loop m kinds numbers stop found nodes edges i n entities best₀ k₀ best k =
-    ((H : List ℕ) → best ≡ folded k (offer (isDone (nodesOf nodes) (edgesOf edges) i) (isMember (poolOf m H kinds numbers) stop found entities n)
-    (memberEdge (poolOf m H kinds numbers) n)) best₀) × (k ≤ m)
+Inv-loop m kinds numbers stop found count kind number subject verifier edges edge parent child i n entities best₀ k₀ best k =
+    ((H : List ℕ) → best ≡ folded k (offer (doneIn count kind number subject verifier edges edge parent child i)
+    (isMember (poolOf m H kinds numbers) stop found entities n) (memberEdge (poolOf m H kinds numbers) n)) best₀) × (k ≤ m)
 
 abbrev μ-loop : tie.MeasureT-loop
-μ-loop m kinds numbers stop found nodes edges i n entities best₀ k₀ best k = m - k
+μ-loop m kinds numbers stop found count kind number subject verifier edges edge parent child i n entities best₀ k₀ best k = m - k
 
 next-stopped-requires : tie.Need-next-stopped-requires Inv-loop μ-loop
 next-stopped-requires c κs = (c .pre .0, omega arith)

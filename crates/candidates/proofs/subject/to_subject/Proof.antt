@@ -7,7 +7,7 @@ returns : tie.Need-returns
 returns c =
     let c3 = c .before .before .before in
     let c8 = c3 .before .before .before .before .before in
-    subject-found _ _ (c8 .reached .ensures) (c3 .has-subject .ensures _) (c .before .before .if1 .taken) (c .before .child-for .ensures) (c .better .ensures)
+    subject-found _ _ (c8 .reached .ensures) (c3 .has-subject .ensures _) (c .before .before .if1 .taken) (c .before .child-for .ensures) (c .lesser .ensures)
 
 returns-2 : tie.Need-returns-2
 returns-2 c =
