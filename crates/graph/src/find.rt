@@ -3,14 +3,18 @@ use crate::Edge;
 use crate::Node;
 use crate::Nodes;
 use expression::Expression;
-use expression::same;
+use expression::Raw;
+use expression::raw_of;
 use numbers::MOST_NODES;
 use rt0::body_at;
+use rt0::same_body;
 use word::wide;
 ghost use mathlib.Core.Path.{_≡_};
 ghost use mathlib.Core.List.{List};
 ghost use Prim.Native.Nat.{ℕ, _≤_, _<_};
 ghost use lib.ListN.{getD};
+ghost use Rattle.expression.specs.declared.Expression.{Expression};
+ghost use Rattle.expression.specs.Form.{rawOf};
 ghost use Rattle.rt0.specs.laws.Pool.{bodyIn};
 ghost use Rattle.graph.specs.laws.Graph.{nodesFrom, edgesFrom, edgeFrom, nodesOf, edgesOf, edgeIn};
 ghost use Rattle.graph.specs.Graph.{nodeIn};
@@ -40,25 +44,25 @@ pub fn node_at<'a>(
     }
 }
 
-// Whether node i has expression x, verifier v and subject s.
+// Whether node i has the expression whose numbers are those of raw, verifier v and subject s.
 fn is_node<'a>(
     kind: &'a [u8; 256],
     number: &'a [u16; 1024],
     subject: &'a [u16; 128],
     verifier: &'a [u8; 128],
-    x: Expression,
+    raw: Raw,
     v: u8,
     s: u16,
     i: usize,
 ) -> bool
     requires { ⌜ i < 128 ⌝ }
-    ensures { λ r. ⌜ r ≡ isNodeBy x v s (bodyIn (now (kind .entry)) (now (number .entry)) i) (getD (now (verifier .entry)) i 0)
-        (getD (now (subject .entry)) i 0) ⌝ }
+    ensures { λ r. ⌜ ((x : Expression) → raw ≡ rawOf x → r ≡ isNodeBy x v s (bodyIn (now (kind .entry)) (now (number .entry)) i)
+        (getD (now (verifier .entry)) i 0) (getD (now (subject .entry)) i 0)) ⌝ }
 {
     if (verifier[i] != v) | (subject[i] != s) {
         return false;
     }
-    same(body_at(kind, number, i), x)
+    same_body(kind, number, raw, i)
 }
 
 // The first node with expression x, verifier v and subject s, or 128, whatever the states.
@@ -76,9 +80,10 @@ pub fn find_node<'a>(
     ensures { λ r. ⌜ ((state : List ℕ) → r ≡ findNode (nodesOf (nodesFrom n (now (kind .entry)) (now (number .entry)) (now (subject .entry))
         (now (verifier .entry)) state)) x v s) ⌝ }
 {
+    let raw = raw_of(x);
     let mut i = 0;
     while i < n {
-        if is_node(kind, number, subject, verifier, x, v, s, i) {
+        if is_node(kind, number, subject, verifier, raw, v, s, i) {
             return i;
         }
         i += 1;
