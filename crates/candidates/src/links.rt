@@ -1,6 +1,6 @@
 // The edges of a linked target.
-use crate::done::better;
 use crate::done::is_done;
+use crate::done::lesser;
 use crate::done::or_else;
 use crate::members::child_for;
 use expression::Expression;
@@ -18,14 +18,16 @@ use states::NodeStates;
 use states::is_complete;
 use word::wide;
 ghost use mathlib.Core.Path.{_≡_};
-ghost use Prim.Native.Nat.{_≤_, _<_};
+ghost use mathlib.Core.List.{List};
+ghost use Prim.Native.Nat.{ℕ, _≤_, _<_};
 ghost use Rattle.rt0.specs.Lists.{any};
 ghost use Rattle.rt0.specs.Pool.{upTo};
-ghost use Rattle.graph.specs.laws.Graph.{nodesOf, edgesOf, edgesFrom, nodeAt};
+ghost use Rattle.graph.specs.laws.Graph.{nodesOf, edgesOf, nodesFrom, edgesFrom};
 ghost use Rattle.states.specs.laws.Brings.{EdgesFormed};
 ghost use Rattle.states.specs.laws.Complete.{StateColumns};
 ghost use Rattle.moves.specs.declared.Choice.the-variants as C;
-ghost use Rattle.moves.specs.Candidates.{isDone, markIf};
+ghost use Rattle.moves.specs.Candidates.{markIf};
+ghost use Rattle.candidates.specs.laws.Done.{doneIn};
 ghost use Rattle.candidates.specs.laws.Offers.{folded, offer};
 ghost use Rattle.candidates.specs.laws.Skipped.{First};
 ghost use Rattle.candidates.specs.laws.Links.{Monitoring, entityIn, isNamedAt, isSolution, isSolved, solutionEdge, solvedEdge, isMonitor};
@@ -66,13 +68,6 @@ fn entity_in(x: Expression) -> u16
         Expression::Intersection(_) => 0,
         Expression::Goal(_) => 0,
     }
-}
-
-fn expression_of(nodes: Nodes, c: usize) -> Expression
-    requires { ⌜ c < 128 ⌝ }
-    ensures { λ x. ⌜ x ≡ nodeAt nodes c .expression ⌝ }
-{
-    body_at(&nodes.kind, &nodes.number, c)
 }
 
 // Whether edge j brings a goal that is monitored a satisfied solution.
@@ -124,10 +119,17 @@ fn next_solution<'a>(
     j
 }
 
-// The best of what is chosen and the linking implication for node c, if that is a role of name r.
-fn with_solution(
-    nodes: Nodes,
-    edges: Edges,
+// The best of what is chosen and the linking implication for node c, if that is a role of name r, whatever the states.
+fn with_solution<'a>(
+    count: usize,
+    kind: &'a [u8; 256],
+    number: &'a [u16; 1024],
+    subject: &'a [u16; 128],
+    verifier: &'a [u8; 128],
+    edges: usize,
+    edge: &'a [u8; 256],
+    parent: &'a [u8; 256],
+    child: &'a [u8; 256],
     i: u8,
     n: Node,
     a: Role,
@@ -135,21 +137,44 @@ fn with_solution(
     best: Choice,
     c: usize,
 ) -> Choice
-    requires { ⌜ (c < 128) × (nodes .count ≤ MOST-NODES) × (edges .count ≤ MOST-EDGES) ⌝ }
-    ensures { λ z. ⌜ z ≡ offer (isDone (nodesOf nodes) (edgesOf edges) i) (isNamedAt nodes r) (solutionEdge nodes n a) best c ⌝ }
+    requires { ⌜ (c < 128) × (count ≤ MOST-NODES) × (edges ≤ MOST-EDGES) ⌝ }
+    ensures { λ z. ⌜ ((state : List ℕ) → z ≡ offer (doneIn count (now (kind .entry)) (now (number .entry)) (now (subject .entry))
+        (now (verifier .entry)) edges (now (edge .entry)) (now (parent .entry)) (now (child .entry)) i)
+        (isNamedAt (nodesFrom count (now (kind .entry)) (now (number .entry)) (now (subject .entry)) (now (verifier .entry)) state) r)
+        (solutionEdge (nodesFrom count (now (kind .entry)) (now (number .entry)) (now (subject .entry)) (now (verifier .entry)) state) n a) best c) ⌝ }
 {
-    let x = expression_of(nodes, c);
+    let x = body_at(kind, number, c);
     if !is_named(r, x) {
         return best;
     }
     let w = child_for(LINKING_IMPLICATION, n, Expression::Role(a), entity_in(x));
-    better(nodes, edges, i, best, w)
+    lesser(
+        count,
+        kind,
+        number,
+        subject,
+        verifier,
+        edges,
+        edge,
+        parent,
+        child,
+        i,
+        best,
+        w,
+    )
 }
 
-// The best of the linking implications for satisfied solutions.
+// The best of the linking implications for satisfied solutions, whatever the states.
 fn with_solutions<'a>(
-    nodes: Nodes,
-    edges: Edges,
+    count: usize,
+    kind: &'a [u8; 256],
+    number: &'a [u16; 1024],
+    subject: &'a [u16; 128],
+    verifier: &'a [u8; 128],
+    edges: usize,
+    edge: &'a [u8; 256],
+    parent: &'a [u8; 256],
+    child: &'a [u8; 256],
     monitors: &'a [u8; 128],
     sat: &'a [u8; 128],
     i: u8,
@@ -157,33 +182,36 @@ fn with_solutions<'a>(
     a: Role,
     r: u16,
 ) -> Choice
-    requires { ⌜ (nodes .count ≤ MOST-NODES) × (edges .count ≤ MOST-EDGES) ⌝ }
-    ensures { λ c. ⌜ c ≡ folded (edges .count) (offer (isDone (nodesOf nodes) (edgesOf edges) i)
-        (isSolved nodes edges (now (monitors .entry)) (now (sat .entry)) r) (solvedEdge nodes edges n a)) C.Nothing ⌝ }
+    requires { ⌜ (count ≤ MOST-NODES) × (edges ≤ MOST-EDGES) ⌝ }
+    ensures { λ c. ⌜ ((state : List ℕ) → c ≡ folded edges (offer (doneIn count (now (kind .entry)) (now (number .entry)) (now (subject .entry))
+        (now (verifier .entry)) edges (now (edge .entry)) (now (parent .entry)) (now (child .entry)) i)
+        (isSolved (nodesFrom count (now (kind .entry)) (now (number .entry)) (now (subject .entry)) (now (verifier .entry)) state)
+        (edgesFrom edges (now (edge .entry)) (now (parent .entry)) (now (child .entry))) (now (monitors .entry)) (now (sat .entry)) r)
+        (solvedEdge (nodesFrom count (now (kind .entry)) (now (number .entry)) (now (subject .entry)) (now (verifier .entry)) state)
+        (edgesFrom edges (now (edge .entry)) (now (parent .entry)) (now (child .entry))) n a)) C.Nothing) ⌝ }
 {
     let mut best = Choice::Nothing;
-    let mut j = next_solution(
-        nodes.count,
-        edges.count,
-        &edges.kind,
-        &edges.parent,
-        &edges.child,
-        monitors,
-        sat,
-        0,
-    );
-    while j < edges.count {
-        best = with_solution(nodes, edges, i, n, a, r, best, wide(edges.child[j]));
-        j = next_solution(
-            nodes.count,
-            edges.count,
-            &edges.kind,
-            &edges.parent,
-            &edges.child,
-            monitors,
-            sat,
-            j + 1,
+    let mut j = next_solution(count, edges, edge, parent, child, monitors, sat, 0);
+    while j < edges {
+        let c = wide(child[j]);
+        best = with_solution(
+            count,
+            kind,
+            number,
+            subject,
+            verifier,
+            edges,
+            edge,
+            parent,
+            child,
+            i,
+            n,
+            a,
+            r,
+            best,
+            c,
         );
+        j = next_solution(count, edges, edge, parent, child, monitors, sat, j + 1);
     }
     best
 }
@@ -290,7 +318,23 @@ pub fn link_rules(
         return Choice::Edge(goal);
     }
     let monitors = monitored(edges.count, &edges.kind, &edges.parent, &edges.child, i);
-    let best = with_solutions(nodes, edges, &monitors, &states.satisfied, i, n, a, r);
+    let best = with_solutions(
+        nodes.count,
+        &nodes.kind,
+        &nodes.number,
+        &nodes.subject,
+        &nodes.verifier,
+        edges.count,
+        &edges.kind,
+        &edges.parent,
+        &edges.child,
+        &monitors,
+        &states.satisfied,
+        i,
+        n,
+        a,
+        r,
+    );
     let marks = any_complete(nodes, edges, &states.satisfied, &states.failed, i);
     or_else(best, mark_if(marks))
 }

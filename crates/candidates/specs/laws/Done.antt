@@ -27,6 +27,7 @@ use Rattle.moves.specs.declared.Choice.{Choice}
 use Rattle.moves.specs.declared.Choice.the-variants as C
 use Rattle.moves.specs.Candidates.{precedes, childNumber, firstNot, isDone}
 use Rattle.candidates.specs.laws.Least.{improves, better, orElse}
+use Rattle.candidates.specs.laws.Offers.{folded, offer}
 use Rattle.numbers.specs.Sizes.{MOST-NODES}
 
 -- The order
@@ -136,3 +137,7 @@ module _ (N : Nodes) where
 
     pub first-done : (ws : List Candidate) {r : Choice} → r ≡ firstNot doneOf C.Nothing ws → r ≡ firstNot (isDone (nodesOf N) (edgesOf E) i) C.Nothing ws
     first-done ws h = h ∙ ap (λ (d : Candidate → Bool). firstNot d C.Nothing ws) done-columns
+
+    pub folded-done : (m : ℕ) (is : ℕ → Bool) (edge : ℕ → Candidate) {r : Choice} → r ≡ folded m (offer doneOf is edge) C.Nothing
+        → r ≡ folded m (offer (isDone (nodesOf N) (edgesOf E) i) is edge) C.Nothing
+    folded-done m is edge h = h ∙ ap (λ (d : Candidate → Bool). folded m (offer d is edge) C.Nothing) done-columns
