@@ -20,7 +20,6 @@ ghost use Rattle.graph.specs.laws.Graph.{nodesFrom, edgesFrom, edgeFrom,
 ghost use Rattle.graph.specs.Graph.{nodeIn};
 ghost use Rattle.graph.specs.Find.{findNode, sameEdge, hasEdge};
 ghost use Rattle.graph.specs.laws.Find.{isNodeBy};
-ghost use mathlib.Core.Bool.{true};
 ghost use Rattle.numbers.specs.Sizes.{MOST-NODES};
 
 // Node i, however many nodes there are.

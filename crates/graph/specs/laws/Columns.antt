@@ -17,7 +17,7 @@ use Rattle.graph.specs.declared.Node.{Node}
 use Rattle.graph.specs.declared.Edge.{Edge}
 use Rattle.graph.specs.declared.Nodes.{Nodes}
 use Rattle.graph.specs.declared.Edges.{Edges}
-use Rattle.graph.specs.laws.Graph.{nodesFrom, edgesFrom, nodeAt, edgeAt, nodesOf, edgesOf, edgeIn}
+use Rattle.graph.specs.laws.Graph.{nodesFrom, nodeAt, edgeAt, nodesOf, edgesOf, edgeIn}
 use Rattle.graph.specs.Graph.{blank, nodeIn, inState}
 use Rattle.numbers.specs.Sizes.{MOST-NODES, MOST-EDGES}
 

@@ -10,4 +10,4 @@ returns-2 : tie.Need-returns-2
 returns-2 c = begins-there (c .if1 .left)
 
 pub begins-at-spec : {M : Type 1} → statement M
-begins-at-spec = tie.close (tie.spec (λ c. search needs) returns returns-2)
+begins-at-spec = tie.close (tie.spec (λ c. search needs) (λ c. search needs) returns returns-2)

@@ -11,7 +11,6 @@ use Rattle.rt0.specs.Pool.{upTo}
 use Rattle.expression.specs.declared.Expression.{Expression}
 use Rattle.graph.specs.declared.Node.{Node}
 use Rattle.graph.specs.declared.Nodes.{Nodes}
-use Rattle.rt0.specs.laws.Pool.{bodyIn}
 use Rattle.graph.specs.laws.Graph.{nodesFrom, nodeAt, nodesOf}
 use Rattle.negotiation.specs.Layout.{nodeBytes, records, zeros}
 use Rattle.negotiation.specs.laws.Layout.{record-next, part-written, node-size}
