@@ -18,7 +18,7 @@ use moves::Preparation;
 use relation::ask;
 use relation::relation;
 use rt0::Pool;
-use rt0::body_at;
+use rt0::expression_at;
 use rules::rules_of;
 ghost use mathlib.Core.Path.{_≡_};
 ghost use mathlib.Core.Bool.{true, cond};
@@ -122,7 +122,7 @@ fn flagged<'a>(
     let mut r = [0u8; 128];
     let mut k = 0;
     while k < m {
-        let x = body_at(kinds, numbers, k);
+        let x = expression_at(kinds, numbers, k);
         r[k] = flag_of(is_from(
             m,
             heads,
@@ -263,7 +263,7 @@ fn with_roles<'a>(
     let mut best = Choice::Nothing;
     let mut k = next_flagged(m, flags, 0);
     while k < m {
-        let x = body_at(kinds, numbers, k);
+        let x = expression_at(kinds, numbers, k);
         best = with_role(
             nodes.count,
             &nodes.kind,
@@ -344,7 +344,7 @@ fn found_from_all<'a>(
     let mut all = [0u8; 128];
     let mut k = next_flagged(m, flags, 0);
     while k < m {
-        let x = body_at(kinds, numbers, k);
+        let x = expression_at(kinds, numbers, k);
         add_found(m, heads, kinds, numbers, on, stop, &mut all, r, x);
         k = next_flagged(m, flags, k + 1);
     }

@@ -13,7 +13,7 @@ use graph::Nodes;
 use graph::SOLUTION;
 use graph::is_named;
 use moves::Choice;
-use rt0::body_at;
+use rt0::expression_at;
 use states::NodeStates;
 use states::is_complete;
 use word::wide;
@@ -143,7 +143,7 @@ fn with_solution<'a>(
         (isNamedAt (nodesFrom count (now (kind .entry)) (now (number .entry)) (now (subject .entry)) (now (verifier .entry)) state) r)
         (solutionEdge (nodesFrom count (now (kind .entry)) (now (number .entry)) (now (subject .entry)) (now (verifier .entry)) state) n a) best c) ⌝ }
 {
-    let x = body_at(kind, number, c);
+    let x = expression_at(kind, number, c);
     if !is_named(r, x) {
         return best;
     }

@@ -10,7 +10,7 @@ use graph::Node;
 use moves::Candidate;
 use moves::Choice;
 use rt0::Pool;
-use rt0::body_at;
+use rt0::expression_at;
 ghost use mathlib.Core.Path.{_≡_};
 ghost use mathlib.Core.List.{List};
 ghost use Prim.Native.Nat.{ℕ, _≤_, _<_};
@@ -78,7 +78,7 @@ fn with_member<'a>(
     if (found[k] != 1) | (stop[k] != 1) {
         return best;
     }
-    let x = body_at(kinds, numbers, k);
+    let x = expression_at(kinds, numbers, k);
     if !admits(entities, n, x) {
         return best;
     }

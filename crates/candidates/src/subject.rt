@@ -10,7 +10,7 @@ use graph::IMPLICATION;
 use graph::Node;
 use moves::Choice;
 use rt0::Pool;
-use rt0::body_at;
+use rt0::expression_at;
 ghost use mathlib.Core.Path.{_≡_};
 ghost use mathlib.Core.List.{List};
 ghost use Prim.Native.Nat.{ℕ, _≤_, _<_};
@@ -35,7 +35,7 @@ fn is_subject_at<'a>(
     if (found[k] != 1) | (stop[k] != 1) {
         return false;
     }
-    let x = body_at(kinds, numbers, k);
+    let x = expression_at(kinds, numbers, k);
     same(x, Expression::Entity(s))
 }
 

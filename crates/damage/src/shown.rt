@@ -2,7 +2,7 @@
 use class::credential_number;
 use expression::Credential;
 use expression::well_formed_credential;
-use rt0::body_at;
+use rt0::expression_at;
 use rt0::head_at;
 use rt0::is_shown;
 ghost use mathlib.Core.Path.{_≡_};
@@ -38,7 +38,7 @@ fn credential_fits<'a>(
 {
     let c = Credential {
         head: head_at(heads, i),
-        body: body_at(kinds, numbers, i),
+        body: expression_at(kinds, numbers, i),
     };
     if !credential_sound(k, name, class, c) {
         return false;

@@ -40,21 +40,25 @@ rawOf (x.Intersection p) =
     }
 rawOf (x.Goal n) = record { kind = 5; count = 0; n0 = n; n1 = 0; n2 = 0; n3 = 0; n4 = 0; n5 = 0; n6 = 0; n7 = 0 }
 
+abbrev pub pickExpression : Bool → Expression → Expression → Expression
+pickExpression true a b = a
+pickExpression false a b = b
+
 -- the only expression whose numbers may be these
-abbrev pub candidateOf : Raw → ExpressionAnswer
-candidateOf r =
-    pick (eqb (r .kind) 1) (Read (x.Entity (r .n0)))
-    (pick (eqb (r .kind) 2) (Read (x.Role (record { entity = r .n0; name = r .n1 })))
-    (pick (eqb (r .kind) 3) (Read (x.Linked (record { entity = r .n0; name = r .n1 }) (r .n2)))
-    (pick (eqb (r .kind) 4)
-    (Read (x.Intersection (record {
+abbrev pub expressionOf : Raw → Expression
+expressionOf r =
+    pickExpression (eqb (r .kind) 1) (x.Entity (r .n0))
+    (pickExpression (eqb (r .kind) 2) (x.Role (record { entity = r .n0; name = r .n1 }))
+    (pickExpression (eqb (r .kind) 3) (x.Linked (record { entity = r .n0; name = r .n1 }) (r .n2))
+    (pickExpression (eqb (r .kind) 4)
+    (x.Intersection (record {
       count = r .count;
       first = record { entity = r .n0; name = r .n1 };
       second = record { entity = r .n2; name = r .n3 };
       third = record { entity = r .n4; name = r .n5 };
       fourth = record { entity = r .n6; name = r .n7 };
-    })))
-    (pick (eqb (r .kind) 5) (Read (x.Goal (r .n0))) Wrong))))
+    }))
+    (x.Goal (r .n0)))))
 
 -- strictly ascending by entity, then name
 abbrev pub ascends : Role → Role → Bool
@@ -93,34 +97,10 @@ sameRaw a b =
     eqb (a .kind) (b .kind) && eqb (a .count) (b .count) && eqb (a .n0) (b .n0) && eqb (a .n1) (b .n1) && eqb (a .n2) (b .n2)
     && eqb (a .n3) (b .n3) && eqb (a .n4) (b .n4) && eqb (a .n5) (b .n5) && eqb (a .n6) (b .n6) && eqb (a .n7) (b .n7)
 
--- no other number stands where one is unused
-abbrev pub checked : Raw → ExpressionAnswer → ExpressionAnswer
-checked r (Read e) = pick (sameRaw (rawOf e) r && wellFormed e) (Read e) Wrong
-checked r Wrong = Wrong
-
+-- numbers of a kind from 1 to 5, zero where one is unused, of a well-formed expression
 abbrev pub formOf : Raw → ExpressionAnswer
-formOf r = checked r (candidateOf r)
+formOf r = pick (sameRaw (rawOf (expressionOf r)) r && wellFormed (expressionOf r)) (Read (expressionOf r)) Wrong
 
 -- the expression that stands at an index
 abbrev pub readOf : List ℕ → ℕ → ExpressionAnswer
 readOf s at = formOf (rawAt s at)
-
-abbrev pub pickExpression : Bool → Expression → Expression → Expression
-pickExpression true a b = a
-pickExpression false a b = b
-
--- an expression found from its numbers
-abbrev pub expressionOf : Raw → Expression
-expressionOf r =
-    pickExpression (eqb (r .kind) 1) (x.Entity (r .n0))
-    (pickExpression (eqb (r .kind) 2) (x.Role (record { entity = r .n0; name = r .n1 }))
-    (pickExpression (eqb (r .kind) 3) (x.Linked (record { entity = r .n0; name = r .n1 }) (r .n2))
-    (pickExpression (eqb (r .kind) 4)
-    (x.Intersection (record {
-      count = r .count;
-      first = record { entity = r .n0; name = r .n1 };
-      second = record { entity = r .n2; name = r .n3 };
-      third = record { entity = r .n4; name = r .n5 };
-      fourth = record { entity = r .n6; name = r .n7 };
-    }))
-    (x.Goal (r .n0)))))

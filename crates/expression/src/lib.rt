@@ -3,7 +3,7 @@ ghost use mathlib.Core.Path.{_≡_};
 ghost use Prim.Native.Nat.{_+_, _≤_, _<_};
 ghost use lib.ListN.{length};
 ghost use Rattle.expression.specs.Bytes.{numberAt, rawAt, rawBytes, pasted};
-ghost use Rattle.expression.specs.Form.{candidateOf, rawOf, wellFormed, sameRaw, formOf, readOf, ascends, isRole, isEmpty, tailFormed, partsFormed};
+ghost use Rattle.expression.specs.Form.{rawOf, wellFormed, sameRaw, formOf, readOf, ascends, isRole, isEmpty, tailFormed, partsFormed};
 ghost use Rattle.expression.specs.Form.{expressionOf};
 ghost use Rattle.expression.specs.laws.Form.{plainRaw};
 ghost use Rattle.expression.specs.Same.{sameRole, same as sameExpression};
@@ -144,7 +144,7 @@ pub fn raw_of(e: Expression) -> Raw
     }
 }
 
-// The expression that such numbers would be; its numbers are these where they are of right form.
+// The only expression whose numbers may be these.
 pub fn expression_of(r: Raw) -> Expression
     ensures { λ e. ⌜ e ≡ expressionOf r ⌝ }
 {
@@ -174,17 +174,6 @@ pub fn expression_of(r: Raw) -> Expression
             },
         }),
         _ => Expression::Goal(r.n0),
-    }
-}
-
-// The only expression whose numbers may be these.
-pub fn candidate(r: Raw) -> ExpressionAnswer
-    ensures { λ a. ⌜ a ≡ candidateOf r ⌝ }
-{
-    if (0 < r.kind) & (r.kind < 6) {
-        ExpressionAnswer::Read(expression_of(r))
-    } else {
-        ExpressionAnswer::Wrong
     }
 }
 

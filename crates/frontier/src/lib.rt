@@ -6,7 +6,7 @@
 use expression::Expression;
 use expression::Role;
 use expression::key_of;
-use rt0::body_at;
+use rt0::expression_at;
 use rt0::has_head;
 use word::wide;
 ghost use mathlib.Core.Path.{_≡_};
@@ -121,7 +121,7 @@ fn follow<'a>(
     if stop[j] == 1 {
         return tail;
     }
-    let x = body_at(kinds, numbers, j);
+    let x = expression_at(kinds, numbers, j);
     enter_body(n, heads, on, found, queue, tail, x)
 }
 

@@ -6,8 +6,8 @@ use expression::Expression;
 use expression::Raw;
 use expression::raw_of;
 use numbers::MOST_NODES;
-use rt0::body_at;
-use rt0::same_body;
+use rt0::expression_at;
+use rt0::same_expression;
 use word::wide;
 ghost use mathlib.Core.Path.{_≡_};
 ghost use mathlib.Core.List.{List};
@@ -15,7 +15,7 @@ ghost use Prim.Native.Nat.{ℕ, _≤_, _<_};
 ghost use lib.ListN.{getD};
 ghost use Rattle.expression.specs.declared.Expression.{Expression};
 ghost use Rattle.expression.specs.Form.{rawOf};
-ghost use Rattle.rt0.specs.laws.Pool.{bodyIn};
+ghost use Rattle.rt0.specs.laws.Pool.{expressionIn};
 ghost use Rattle.graph.specs.laws.Graph.{nodesFrom, edgesFrom, edgeFrom, nodesOf, edgesOf, edgeIn};
 ghost use Rattle.graph.specs.Graph.{nodeIn};
 ghost use Rattle.graph.specs.Find.{findNode, sameEdge, hasEdge};
@@ -36,7 +36,7 @@ pub fn node_at<'a>(
         (now (state .entry)))) i) ⌝ }
 {
     Node {
-        expression: body_at(kind, number, i),
+        expression: expression_at(kind, number, i),
         subject: subject[i],
         verifier: verifier[i],
         state: state[i],
@@ -55,13 +55,13 @@ fn is_node<'a>(
     i: usize,
 ) -> bool
     requires { ⌜ i < 128 ⌝ }
-    ensures { λ r. ⌜ ((x : Expression) → raw ≡ rawOf x → r ≡ isNodeBy x v s (bodyIn (now (kind .entry)) (now (number .entry)) i)
+    ensures { λ r. ⌜ ((x : Expression) → raw ≡ rawOf x → r ≡ isNodeBy x v s (expressionIn (now (kind .entry)) (now (number .entry)) i)
         (getD (now (verifier .entry)) i 0) (getD (now (subject .entry)) i 0)) ⌝ }
 {
     if (verifier[i] != v) | (subject[i] != s) {
         return false;
     }
-    same_body(kind, number, raw, i)
+    same_expression(kind, number, raw, i)
 }
 
 // The first node with expression x, verifier v and subject s, or 128, whatever the states.

@@ -5,7 +5,7 @@ use graph::IMPLICATION;
 use relation::column;
 use relation::in_column;
 use relation::relation;
-use rt0::body_at;
+use rt0::expression_at;
 use rules::rules_of;
 use word::wide;
 ghost use mathlib.Core.Path.{_≡_};
@@ -13,7 +13,7 @@ ghost use Prim.Native.Nat.{ℕ, _≤_, _<_};
 ghost use mathlib.Core.List.{List};
 ghost use lib.ListN.{getD};
 ghost use Rattle.rt0.specs.Lists.{all};
-ghost use Rattle.rt0.specs.laws.Pool.{poolOf, credentials, bodyIn};
+ghost use Rattle.rt0.specs.laws.Pool.{poolOf, credentials, expressionIn};
 ghost use Rattle.graph.specs.declared.Nodes.{Nodes};
 ghost use Rattle.graph.specs.laws.Graph.{nodesFrom, edgesFrom, edgeFrom, nodesOf, edgesOf};
 ghost use Rattle.rules.specs.laws.Table.{chosen};
@@ -59,17 +59,17 @@ fn implied_at<'a>(
     j: usize,
 ) -> bool
     requires { ⌜ (j < 256) × (getD (now parent) j 0 < 128) × (q ≤ 128)
-        × (e ≡ bodyIn (now kind) (now number) c) ⌝ }
+        × (e ≡ expressionIn (now kind) (now number) c) ⌝ }
     ensures { λ r. ⌜ ((on : List ℕ) → Relation (poolOf q (now (heads .entry)) (now (kinds .entry)) (now (numbers .entry))) on (now (mem .entry))
         → Answers (poolOf q (now (heads .entry)) (now (kinds .entry)) (now (numbers .entry))) on e 0 (now (vals .entry))
         → r ≡ impliedFrom (chosen (poolOf q (now (heads .entry)) (now (kinds .entry)) (now (numbers .entry))) on)
-        (bodyIn (now (kind .entry)) (now (number .entry))) c
+        (expressionIn (now (kind .entry)) (now (number .entry))) c
         (edgeFrom (now (edge .entry)) (now (parent .entry)) (now (child .entry)) j)) ⌝ }
 {
     if (edge[j] != IMPLICATION) | (wide(child[j]) != c) {
         return true;
     }
-    let f = body_at(kind, number, wide(parent[j]));
+    let f = expression_at(kind, number, wide(parent[j]));
     in_column(q, heads, kinds, numbers, mem, vals, f, e)
 }
 
@@ -91,11 +91,11 @@ fn implied_from<'a>(
     c: usize,
 ) -> bool
     requires { ⌜ (m ≤ 256) × Inside 128 (edgesFrom m (now edge) (now parent) (now child)) × (q ≤ 128)
-        × (e ≡ bodyIn (now kind) (now number) c) ⌝ }
+        × (e ≡ expressionIn (now kind) (now number) c) ⌝ }
     ensures { λ r. ⌜ ((on : List ℕ) → Relation (poolOf q (now (heads .entry)) (now (kinds .entry)) (now (numbers .entry))) on (now (mem .entry))
         → Answers (poolOf q (now (heads .entry)) (now (kinds .entry)) (now (numbers .entry))) on e 0 (now (vals .entry))
         → r ≡ allFrom (chosen (poolOf q (now (heads .entry)) (now (kinds .entry)) (now (numbers .entry))) on)
-        (bodyIn (now (kind .entry)) (now (number .entry)))
+        (expressionIn (now (kind .entry)) (now (number .entry)))
         (edgesOf (edgesFrom m (now (edge .entry)) (now (parent .entry)) (now (child .entry)))) c) ⌝ }
 {
     let mut j = 0;
@@ -151,13 +151,13 @@ fn node_implied<'a>(
         × Relation (poolOf q (now heads) (now kinds) (now numbers)) (now on) (now mem)
         × Children (now edge) (now child) m (now used) ⌝ }
     ensures { λ r. ⌜ r ≡ allFrom (chosen (poolOf q (now (heads .entry)) (now (kinds .entry)) (now (numbers .entry))) (now (on .entry)))
-        (bodyIn (now (kind .entry)) (now (number .entry)))
+        (expressionIn (now (kind .entry)) (now (number .entry)))
         (edgesOf (edgesFrom m (now (edge .entry)) (now (parent .entry)) (now (child .entry)))) c ⌝ }
 {
     if used[c] != 1 {
         return true;
     }
-    let e = body_at(kind, number, c);
+    let e = expression_at(kind, number, c);
     let vals = column(
         q,
         heads,
@@ -220,7 +220,7 @@ fn nodes_implied<'a>(
         × Relation (poolOf q (now heads) (now kinds) (now numbers)) (now on) (now mem)
         × Children (now edge) (now child) m (now used) ⌝ }
     ensures { λ r. ⌜ r ≡ allImplied (chosen (poolOf q (now (heads .entry)) (now (kinds .entry)) (now (numbers .entry))) (now (on .entry)))
-        (bodyIn (now (kind .entry)) (now (number .entry)))
+        (expressionIn (now (kind .entry)) (now (number .entry)))
         (edgesOf (edgesFrom m (now (edge .entry)) (now (parent .entry)) (now (child .entry)))) ⌝ }
 {
     let mut c = 0;

@@ -4,7 +4,7 @@ use expression::Role;
 use expression::same;
 use graph::MONITOR;
 use graph::SOLUTION;
-use rt0::body_at;
+use rt0::expression_at;
 use word::wide;
 ghost use mathlib.Core.Path.{_≡_};
 ghost use Prim.Native.Nat.{_≤_, _<_};
@@ -59,7 +59,7 @@ fn solves_at<'a>(
     if sat[c] != 1 {
         return false;
     }
-    is_solution_for(x, b, body_at(kind, number, c))
+    is_solution_for(x, b, expression_at(kind, number, c))
 }
 
 // Whether the goal g has one.

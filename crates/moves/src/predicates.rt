@@ -3,7 +3,7 @@ use crate::Predicate;
 use crate::initial::is_subject_all;
 use expression::Expression;
 use expression::Role;
-use rt0::body_at;
+use rt0::expression_at;
 use tables::is_sensitive;
 ghost use mathlib.Core.Path.{_≡_};
 ghost use mathlib.Core.Bool.{cond};
@@ -88,7 +88,7 @@ pub fn stops<'a>(
     let mut r = [0u8; 128];
     let mut i = 0;
     while i < m {
-        let e = body_at(kinds, numbers, i);
+        let e = expression_at(kinds, numbers, i);
         r[i] = flag_of(is_stop(p, n, names, classes, k, roles, others, e));
         i += 1;
     }

@@ -4,7 +4,7 @@ use expression::Expression;
 use expression::Parts;
 use expression::Role;
 use expression::key_of;
-use rt0::body_at;
+use rt0::expression_at;
 use rt0::has_head;
 ghost use mathlib.Core.Path.{_≡_};
 ghost use Prim.Native.Nat.{_<_, _≤_};
@@ -124,7 +124,7 @@ fn follow<'a>(
         return false;
     }
     done[j] = 1;
-    let x = body_at(kinds, numbers, j);
+    let x = expression_at(kinds, numbers, j);
     flag_asked(n, heads, x, flags);
     true
 }

@@ -1,10 +1,13 @@
 // Bytes become a negotiation, if they are the bytes of one.
+use crate::EDGE_BYTES;
 use crate::EDGES_AT;
 use crate::Header;
+use crate::NODE_BYTES;
 use crate::NODES_AT;
 use crate::Negotiation;
 use crate::Reading;
 use crate::SHOWN_AT;
+use crate::SHOWN_BYTES;
 use crate::encode::write;
 use expression::Credential;
 use expression::expression_of;
@@ -60,7 +63,7 @@ fn read_nodes(s: &[u8], count: usize) -> Nodes
     let mut nodes = Nodes::empty();
     while nodes.count < count {
         let i = nodes.count;
-        let at = NODES_AT + i * 22;
+        let at = NODES_AT + i * NODE_BYTES;
         let r = raw_at(s, at);
         store_kind(&mut nodes.kind, i, r);
         store_numbers(&mut nodes.number, i, r);
@@ -79,7 +82,7 @@ fn read_edges(s: &[u8], count: usize) -> Edges
     let mut edges = Edges::empty();
     while edges.count < count {
         let j = edges.count;
-        let at = EDGES_AT + j * 3;
+        let at = EDGES_AT + j * EDGE_BYTES;
         edges.kind[j] = s[at];
         edges.parent[j] = s[at + 1];
         edges.child[j] = s[at + 2];
@@ -97,7 +100,7 @@ fn read_shown(s: &[u8], count: usize) -> Pool
     let mut numbers = [0u16; 1024];
     let mut k = 0;
     while k < count {
-        let c = credential_from(s, SHOWN_AT + k * 22);
+        let c = credential_from(s, SHOWN_AT + k * SHOWN_BYTES);
         store(&mut heads, &mut kinds, &mut numbers, k, c);
         k += 1;
     }

@@ -1,16 +1,19 @@
 // A negotiation becomes bytes: layout number 1.
+use crate::EDGE_BYTES;
 use crate::EDGES_AT;
 use crate::Header;
+use crate::NODE_BYTES;
 use crate::NODES_AT;
 use crate::Negotiation;
 use crate::SHOWN_AT;
+use crate::SHOWN_BYTES;
 use expression::Credential;
 use expression::copy_in;
 use expression::write_credential;
 use expression::write_expression;
 use graph::Edge;
 use graph::Node;
-use rt0::body_at;
+use rt0::expression_at;
 use rt0::head_at;
 ghost use mathlib.Core.Path.{_≡_};
 ghost use mathlib.Core.Bool.{true};
@@ -104,15 +107,15 @@ fn write_nodes<'a>(
     let mut i = 0;
     while i < n {
         let x = Node {
-            expression: body_at(kind, number, i),
+            expression: expression_at(kind, number, i),
             subject: subject[i],
             verifier: verifier[i],
             state: state[i],
         };
-        write_node(buf, NODES_AT + i * 22, x);
+        write_node(buf, NODES_AT + i * NODE_BYTES, x);
         i += 1;
     }
-    write_zeros(buf, NODES_AT + n * 22, EDGES_AT);
+    write_zeros(buf, NODES_AT + n * NODE_BYTES, EDGES_AT);
 }
 
 fn write_edges<'a>(
@@ -133,10 +136,10 @@ fn write_edges<'a>(
             parent: parent[j],
             child: child[j],
         };
-        write_edge(buf, EDGES_AT + j * 3, e);
+        write_edge(buf, EDGES_AT + j * EDGE_BYTES, e);
         j += 1;
     }
-    write_zeros(buf, EDGES_AT + m * 3, SHOWN_AT);
+    write_zeros(buf, EDGES_AT + m * EDGE_BYTES, SHOWN_AT);
 }
 
 fn write_shown<'a>(
@@ -154,12 +157,12 @@ fn write_shown<'a>(
     while k < count {
         let c = Credential {
             head: head_at(heads, k),
-            body: body_at(kinds, numbers, k),
+            body: expression_at(kinds, numbers, k),
         };
-        write_credential(buf, SHOWN_AT + k * 22, c);
+        write_credential(buf, SHOWN_AT + k * SHOWN_BYTES, c);
         k += 1;
     }
-    write_zeros(buf, SHOWN_AT + count * 22, Negotiation::BYTES);
+    write_zeros(buf, SHOWN_AT + count * SHOWN_BYTES, Negotiation::BYTES);
 }
 
 // Every byte is written, so what the buffer held before does not matter.

@@ -55,6 +55,13 @@ pub const EDGES_AT: usize = 2944;
 
 pub const SHOWN_AT: usize = 3712;
 
+// How many bytes a node, an edge and a credential shown have.
+pub const NODE_BYTES: usize = 22;
+
+pub const EDGE_BYTES: usize = 3;
+
+pub const SHOWN_BYTES: usize = 22;
+
 impl Negotiation {
     pub const NODES: usize = MOST_NODES;
 

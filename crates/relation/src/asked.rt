@@ -2,7 +2,7 @@
 use expression::Expression;
 use expression::Role;
 use expression::same;
-use rt0::body_at;
+use rt0::expression_at;
 use rules::Four;
 use rules::fourth_of;
 use rules::row;
@@ -12,7 +12,7 @@ ghost use mathlib.Core.Path.{_≡_};
 ghost use Prim.Native.Nat.{ℕ, _<_, _≤_};
 ghost use mathlib.Core.List.{List};
 ghost use Rattle.rt0.specs.declared.Pool.{Pool};
-ghost use Rattle.rt0.specs.laws.Pool.{poolOf, bodyIn};
+ghost use Rattle.rt0.specs.laws.Pool.{poolOf, expressionIn};
 ghost use Rattle.rules.specs.laws.Table.{rowOf, rowIn, rowFor};
 ghost use Rattle.rules.specs.laws.Columns.{fourRows, PartsTo};
 ghost use Rattle.relation.specs.laws.Question.{OwnRow};
@@ -80,8 +80,8 @@ fn asked_body<'a>(
     old: Four,
 ) -> Four
     requires { ⌜ i < 128 ⌝ }
-    ensures { λ r. ⌜ ((n : ℕ) (H : List ℕ) → old ≡ fourRows (rowIn n H) (bodyIn (now (kinds .entry)) (now (numbers .entry)) i)
-        → r ≡ fourRows (rowFor (poolOf n H (now (kinds .entry)) (now (numbers .entry))) e) (bodyIn (now (kinds .entry)) (now (numbers .entry)) i)) ⌝ }
+    ensures { λ r. ⌜ ((n : ℕ) (H : List ℕ) → old ≡ fourRows (rowIn n H) (expressionIn (now (kinds .entry)) (now (numbers .entry)) i)
+        → r ≡ fourRows (rowFor (poolOf n H (now (kinds .entry)) (now (numbers .entry))) e) (expressionIn (now (kinds .entry)) (now (numbers .entry)) i)) ⌝ }
 {
     if (old.a != 128) & ((old.b != 128) & ((old.c != 128) & (old.d != 128))) {
         return old;
@@ -93,7 +93,7 @@ fn asked_body<'a>(
     if kind == 3 {
         return old;
     }
-    let x = body_at(kinds, numbers, i);
+    let x = expression_at(kinds, numbers, i);
     asked_rows(e, x, old)
 }
 

@@ -8,7 +8,7 @@ use expression::Raw;
 use expression::Role;
 use expression::raw_of;
 use expression::same;
-use rt0::same_body;
+use rt0::same_expression;
 use rules::source;
 ghost use mathlib.Core.Path.{_≡_};
 ghost use Prim.Native.Nat.{ℕ, _<_, _≤_};
@@ -161,7 +161,7 @@ fn starts<'a>(
     if leads_to(kinds, numbers, first, rows, raw.n1, s, i) {
         return true;
     }
-    same_body(kinds, numbers, raw, i)
+    same_expression(kinds, numbers, raw, i)
 }
 
 // The set with the rules that read row r.

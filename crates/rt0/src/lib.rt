@@ -11,10 +11,10 @@ ghost use mathlib.Core.List.{[], _∷_, _++_};
 ghost use Prim.Native.Nat.{_<_, _+_, _*_};
 ghost use Rattle.expression.specs.Same.{sameRole};
 ghost use Rattle.expression.specs.laws.Key.{KeyOf};
-ghost use Rattle.rt0.specs.laws.Pool.{poolOf, headIn, rawAtColumns, bodyIn, credentials as credentialsOf};
+ghost use Rattle.rt0.specs.laws.Pool.{poolOf, headIn, rawAtColumns, expressionIn, credentials as credentialsOf};
 ghost use Rattle.rt0.specs.laws.Added.{pair, stored, Sized, Stored};
 pub use shown::is_shown;
-pub use shown::same_body;
+pub use shown::same_expression;
 
 mod shown;
 
@@ -149,9 +149,9 @@ fn raw_at<'a>(kinds: &'a [u8; 256], numbers: &'a [u16; 1024], i: usize) -> Raw
 }
 
 // The body of credential i.
-pub fn body_at<'a>(kinds: &'a [u8; 256], numbers: &'a [u16; 1024], i: usize) -> Expression
+pub fn expression_at<'a>(kinds: &'a [u8; 256], numbers: &'a [u16; 1024], i: usize) -> Expression
     requires { ⌜ i < 128 ⌝ }
-    ensures { λ r. ⌜ r ≡ bodyIn (now (kinds .entry)) (now (numbers .entry)) i ⌝ }
+    ensures { λ r. ⌜ r ≡ expressionIn (now (kinds .entry)) (now (numbers .entry)) i ⌝ }
 {
     expression_of(raw_at(kinds, numbers, i))
 }

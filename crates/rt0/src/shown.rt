@@ -1,5 +1,5 @@
 // A credential among those of a pool.
-use crate::body_at;
+use crate::expression_at;
 use crate::has_head;
 use expression::Credential;
 use expression::Raw;
@@ -8,7 +8,7 @@ use expression::raw_of;
 use expression::same_raw;
 ghost use mathlib.Core.Path.{_≡_};
 ghost use Prim.Native.Nat.{_≤_, _<_};
-ghost use Rattle.rt0.specs.laws.Pool.{poolOf, bodyIn, credentialIn, credentials};
+ghost use Rattle.rt0.specs.laws.Pool.{poolOf, expressionIn, credentialIn, credentials};
 ghost use Rattle.expression.specs.declared.Expression.{Expression};
 ghost use Rattle.expression.specs.Form.{rawOf};
 ghost use Rattle.expression.specs.Same.{same as sameOf, sameCredential};
@@ -16,9 +16,14 @@ ghost use Rattle.expression.specs.laws.Key.{KeyOf};
 ghost use Rattle.rt0.specs.Shown.{isShown};
 
 // Whether body i is the expression whose numbers are those of raw.
-pub fn same_body<'a>(kinds: &'a [u8; 256], numbers: &'a [u16; 1024], raw: Raw, i: usize) -> bool
+pub fn same_expression<'a>(
+    kinds: &'a [u8; 256],
+    numbers: &'a [u16; 1024],
+    raw: Raw,
+    i: usize,
+) -> bool
     requires { ⌜ i < 128 ⌝ }
-    ensures { λ r. ⌜ ((e : Expression) → raw ≡ rawOf e → r ≡ sameOf (bodyIn (now (kinds .entry)) (now (numbers .entry)) i) e) ⌝ }
+    ensures { λ r. ⌜ ((e : Expression) → raw ≡ rawOf e → r ≡ sameOf (expressionIn (now (kinds .entry)) (now (numbers .entry)) i) e) ⌝ }
 {
     let kind = raw.kind;
     if numbers[i * 8] != raw.n0 {
@@ -32,7 +37,7 @@ pub fn same_body<'a>(kinds: &'a [u8; 256], numbers: &'a [u16; 1024], raw: Raw, i
             return numbers[i * 8 + 1] == raw.n1;
         }
     }
-    same_raw(raw_of(body_at(kinds, numbers, i)), raw)
+    same_raw(raw_of(expression_at(kinds, numbers, i)), raw)
 }
 
 // Credential i has the head with this key, and the body whose numbers are those of raw.
@@ -51,7 +56,7 @@ fn is_at<'a>(
     if !has_head(heads, key, i) {
         return false;
     }
-    same_body(kinds, numbers, raw, i)
+    same_expression(kinds, numbers, raw, i)
 }
 
 // Whether c is one of the first n credentials.

@@ -11,7 +11,7 @@ use expression::Role;
 use linking::has_link;
 use linking::has_links;
 use linking::names;
-use rt0::body_at;
+use rt0::expression_at;
 use rt0::head_at;
 ghost use mathlib.Core.Path.{_≡_};
 ghost use Prim.Native.Nat.{_<_, _≤_, _*_};
@@ -206,7 +206,7 @@ fn first_at<'a>(
     if !has_link(kinds, i) {
         return 128;
     }
-    first_of(n, heads, entity, name, body_at(kinds, numbers, i))
+    first_of(n, heads, entity, name, expression_at(kinds, numbers, i))
 }
 
 // The membership rows of the rules.
@@ -247,7 +247,7 @@ fn part_rows<'a>(
     let mut part = [128usize; 512];
     let mut i = 0;
     while i < n {
-        let x = body_at(kinds, numbers, i);
+        let x = expression_at(kinds, numbers, i);
         let r = rows_of(n, heads, entity, name, x);
         let at = i * 4;
         part[at] = r.a;

@@ -4,7 +4,7 @@ use crate::digits::find_source;
 use crate::digits::note_bodies;
 use closure::mark;
 use expression::Expression;
-use rt0::body_at;
+use rt0::expression_at;
 ghost use mathlib.Core.Path.{_≡_};
 ghost use mathlib.Core.Bool.{true};
 ghost use mathlib.Core.List.{List};
@@ -184,7 +184,7 @@ fn name_next<'a>(
         copy_row(k, i, named);
         return;
     }
-    let x = body_at(kinds, numbers, i);
+    let x = expression_at(kinds, numbers, i);
     name_link(n, heads, able, i, x, named);
 }
 

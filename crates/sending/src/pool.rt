@@ -1,7 +1,7 @@
 // The credentials shown and, behind them, own ones that are not; and what of such a pool can matter for an edge.
 use expression::Credential;
 use rt0::Pool;
-use rt0::body_at;
+use rt0::expression_at;
 use rt0::head_at;
 use rt0::is_shown;
 use rt0::store;
@@ -35,7 +35,7 @@ pub fn credential_at<'a>(
 {
     Credential {
         head: head_at(heads, i),
-        body: body_at(kinds, numbers, i),
+        body: expression_at(kinds, numbers, i),
     }
 }
 

@@ -9,7 +9,7 @@ ghost use mathlib.Core.Path.{_≡_};
 ghost use Prim.Native.Nat.{_≤_, _<_};
 ghost use Rattle.expression.specs.declared.Expression.the-variants as E;
 ghost use Rattle.graph.specs.declared.Nodes.{Nodes};
-ghost use Rattle.rt0.specs.laws.Pool.{bodyIn};
+ghost use Rattle.rt0.specs.laws.Pool.{expressionIn};
 ghost use Rattle.graph.specs.laws.Graph.{nodesFrom, edgesFrom, nodesOf, edgesOf};
 ghost use Rattle.states.specs.laws.Brings.{slotIn, slotAs, slotBy, Joined, Needs, Ways};
 ghost use Rattle.states.specs.laws.Fields.{needBy, wayBy};
@@ -113,8 +113,8 @@ fn slot_in(p: Parts, a: Role) -> u16
 // Which of the slots of node p an edge of kind k from node c fills, or 4.
 fn slot_as<'a>(kind: &'a [u8; 256], number: &'a [u16; 1024], k: u8, p: usize, c: usize) -> u16
     requires { ⌜ (p < 128) × (c < 128) ⌝ }
-    ensures { λ r. ⌜ r ≡ slotAs k (bodyIn (now (kind .entry)) (now (number .entry)) p)
-        (bodyIn (now (kind .entry)) (now (number .entry)) c) ⌝ }
+    ensures { λ r. ⌜ r ≡ slotAs k (expressionIn (now (kind .entry)) (now (number .entry)) p)
+        (expressionIn (now (kind .entry)) (now (number .entry)) c) ⌝ }
 {
     let t = kind[p * 2];
     if (t == 2) | (t == 3) {
@@ -158,8 +158,8 @@ fn slot_as<'a>(kind: &'a [u8; 256], number: &'a [u16; 1024], k: u8, p: usize, c:
 // The slot that an edge of kind k from node c to node p fills, or 512 where it brings no child.
 fn slot_by<'a>(n: usize, kind: &'a [u8; 256], number: &'a [u16; 1024], k: u8, p: u8, c: u8) -> u16
     requires { ⌜ n ≤ 128 ⌝ }
-    ensures { λ r. ⌜ r ≡ slotBy n k p c (bodyIn (now (kind .entry)) (now (number .entry)) p)
-        (bodyIn (now (kind .entry)) (now (number .entry)) c) ⌝ }
+    ensures { λ r. ⌜ r ≡ slotBy n k p c (expressionIn (now (kind .entry)) (now (number .entry)) p)
+        (expressionIn (now (kind .entry)) (now (number .entry)) c) ⌝ }
 {
     let x = wide(p);
     let y = wide(c);

@@ -6,7 +6,7 @@ use expression::Expression;
 use expression::Role;
 use expression::same;
 use expression::same_role;
-use rt0::body_at;
+use rt0::expression_at;
 use rt0::head_at;
 ghost use mathlib.Core.Path.{_≡_};
 ghost use Prim.Native.Nat.{_<_, _≤_};
@@ -30,7 +30,7 @@ fn is_direct_at<'a>(
     if !same_role(head_at(heads, i), r) {
         return false;
     }
-    same(body_at(kinds, numbers, i), Expression::Entity(own))
+    same(expression_at(kinds, numbers, i), Expression::Entity(own))
 }
 
 // Whether the credentials have role r from self: whether we hold the role.

@@ -16,7 +16,7 @@ use Rattle.word.specs.laws.Bools.{false-true}
 use Rattle.propagation.specs.laws.Flags.{decided}
 use Rattle.graph.specs.declared.Node.{Node}
 use Rattle.graph.specs.declared.Nodes.{Nodes}
-use Rattle.rt0.specs.laws.Pool.{rawAtColumns, bodyIn}
+use Rattle.rt0.specs.laws.Pool.{rawAtColumns, expressionIn}
 use Rattle.graph.specs.laws.Graph.{nodeAt}
 use Rattle.graph.specs.Graph.{nodeIn}
 use Rattle.graph.specs.laws.Columns.{nodes-length, node-in}
@@ -181,7 +181,7 @@ goal-kind r h =
     go false false false false v w x y z p q s t h = absurd (false-true (sym h))
 
 goal-node : (N : Nodes) (i : ℕ) → isGoalKind (getD (N .kind) (i * 2) 0) ≡ false → isGoal (nodeAt N i .expression) ≡ false
-unfolding bodyIn
+unfolding expressionIn
 goal-node N i h = goal-kind (rawAtColumns (N .kind) (N .number) i) h
 
 -- the search begins at q, or at the first node where q is a goal

@@ -8,7 +8,7 @@ use borrow.Author.Tests.{not-true, not-false}
 use Rattle.expression.specs.declared.Credential.{Credential}
 use Rattle.rt0.specs.declared.Pool.{Pool}
 use Rattle.rt0.specs.Pool.{upTo}
-use Rattle.rt0.specs.laws.Pool.{poolOf, bodyIn, credentials, credentialAt}
+use Rattle.rt0.specs.laws.Pool.{poolOf, expressionIn, credentials, credentialAt}
 use Rattle.graph.specs.declared.Node.{Node}
 use Rattle.graph.specs.declared.Nodes.{Nodes}
 use Rattle.graph.specs.declared.Edge.{Edge}
@@ -67,12 +67,12 @@ module _ (t : List Edge → Edge → Bool) (X : Edges) {j : ℕ} (h : Judged t (
 module _ (t : List Credential → Credential → Bool) (X : Pool) {j : ℕ} (h : Judged t (credentialAt X) (X .count) j) where
   pub shown-next : {b : Bool} → j < X .count → b ≡ t (credentials (poolOf j (X .heads) (X .kinds) (X .numbers))) (credentialAt X j) → not b ≡ false
       → Judged t (credentialAt X) (X .count) (j + 1)
-  unfolding credentials bodyIn
+  unfolding credentials expressionIn
   shown-next {b} l e p = record { few = omega arith; pass = turn-next t (credentialAt X) (h .pass) e (not-false b p) }
 
   pub shown-stop : {b : Bool} → j < X .count → b ≡ t (credentials (poolOf j (X .heads) (X .kinds) (X .numbers))) (credentialAt X j) → not b ≡ true
       → false ≡ inTurn t [] (credentials X)
-  unfolding credentials bodyIn
+  unfolding credentials expressionIn
   shown-stop {b} l e p = turn-stop t (credentialAt X) (X .count) l e (not-true b p)
 
   pub shown-done : X .count ≤ j → true ≡ inTurn t [] (credentials X)

@@ -1,16 +1,15 @@
 -- Reading succeeds on the bytes of a well-formed expression, and on no others.
-use Prim.Native.Nat.{ℕ, _<_}
+use Prim.Native.Nat.{ℕ}
 use mathlib.Core.Path.{_≡_, refl, sym, ap, _∙_}
 use mathlib.Core.Bool.{Bool, true, false, _&&_}
-use lib.Dec.{ltb, eqb}
+use lib.Dec.{eqb}
 use native.Mathlib.Omega.{arith}
-use borrow.Author.Tests.{ltb-true, lt-ltb, eqb-true, eqb-false, eq-eqb, ne-eqb}
+use borrow.Author.Tests.{eqb-true, eq-eqb}
 use Rattle.expression.specs.declared.Raw.{Raw}
 use Rattle.expression.specs.declared.Expression.{Expression}
 use Rattle.expression.specs.declared.Expression.the-variants as x
-use Rattle.expression.specs.declared.ExpressionAnswer.{ExpressionAnswer}
 use Rattle.expression.specs.declared.ExpressionAnswer.the-variants.{Read, Wrong}
-use Rattle.expression.specs.Form.{rawOf, candidateOf, sameRaw, wellFormed, checked, formOf, pick, expressionOf}
+use Rattle.expression.specs.Form.{rawOf, sameRaw, wellFormed, formOf, pick, expressionOf}
 
 -- a number is itself
 pub eqb-refl : (n : ℕ) → eqb n n ≡ true
@@ -20,17 +19,18 @@ eqb-refl n = eq-eqb n n refl
 pub same-refl : (r : Raw) → sameRaw r r ≡ true
 same-refl r = simp eqb-refl
 
-candidate-raw : (e : Expression) → candidateOf (rawOf e) ≡ Read e
-candidate-raw (x.Entity n) = refl
-candidate-raw (x.Role r) = refl
-candidate-raw (x.Linked r n) = refl
-candidate-raw (x.Intersection p) = refl
-candidate-raw (x.Goal n) = refl
+-- an expression is found from its numbers
+pub expression-raw : (e : Expression) → expressionOf (rawOf e) ≡ e
+expression-raw (x.Entity n) = refl
+expression-raw (x.Role r) = refl
+expression-raw (x.Linked r n) = refl
+expression-raw (x.Intersection p) = refl
+expression-raw (x.Goal n) = refl
 
 -- a well-formed expression is read back from its numbers
 pub complete : (e : Expression) → wellFormed e ≡ true → formOf (rawOf e) ≡ Read e
 complete e h =
-    ap (checked (rawOf e)) (candidate-raw e)
+    ap (λ (f : Expression). pick (sameRaw (rawOf f) (rawOf e) && wellFormed f) (Read f) Wrong) (expression-raw e)
     ∙ ap (λ (b : Bool). pick b (Read e) Wrong) (ap (λ (b : Bool). b && wellFormed e) (same-refl (rawOf e)) ∙ h)
 
 -- the first of two tests that both pass
@@ -68,93 +68,15 @@ same-raw a b h =
 
 -- what is read is well-formed, and its numbers are those that were read
 pub canonical : (r : Raw) (e : Expression) → formOf r ≡ Read e → (rawOf e ≡ r) × (wellFormed e ≡ true)
-canonical r e h = go (candidateOf r) h
+canonical r e h = at (sameRaw (rawOf f) r && wellFormed f) refl h
   where
-    go : (a : ExpressionAnswer) → checked r a ≡ Read e → (rawOf e ≡ r) × (wellFormed e ≡ true)
-    go (Read f) k = at (sameRaw (rawOf f) r && wellFormed f) refl k
-      where
-        at : (t : Bool) → sameRaw (rawOf f) r && wellFormed f ≡ t → pick t (Read f) Wrong ≡ Read e → (rawOf e ≡ r) × (wellFormed e ≡ true)
-        at true p q =
-            let same : f ≡ e = cc in (
-              ap rawOf (sym same) ∙ same-raw (rawOf f) r (and-left (sameRaw (rawOf f) r) (wellFormed f) p),
-              ap wellFormed (sym same) ∙ and-right (sameRaw (rawOf f) r) (wellFormed f) p,
-            )
-        at false p q = let z : _≡_ {A = ℕ} 0 1 = cc in absurd (omega arith)
-    go Wrong k = let z : _≡_ {A = ℕ} 0 1 = cc in absurd (omega arith)
+    f : Expression
+    f = expressionOf r
 
--- an expression is found from its numbers
-pub expression-raw : (e : Expression) → expressionOf (rawOf e) ≡ e
-expression-raw (x.Entity n) = refl
-expression-raw (x.Role r) = refl
-expression-raw (x.Linked r n) = refl
-expression-raw (x.Intersection p) = refl
-expression-raw (x.Goal n) = refl
-
--- numbers of a kind from 1 to 5 may be an expression's
-pub candidate-some : (r : Raw) → ltb 0 (r .kind) && ltb (r .kind) 6 ≡ true → candidateOf r ≡ Read (expressionOf r)
-candidate-some r h = go (eqb k 1) (eqb k 2) (eqb k 3) (eqb k 4) refl refl refl refl
-  where
-    k : ℕ
-    k = r .kind
-
-    five : eqb k 1 ≡ false → eqb k 2 ≡ false → eqb k 3 ≡ false → eqb k 4 ≡ false → eqb k 5 ≡ true
-    five a b c d =
-        let low : 0 < k = ltb-true 0 k (and-left (ltb 0 k) (ltb k 6) h) in
-        let high : k < 6 = ltb-true k 6 (and-right (ltb 0 k) (ltb k 6) h) in
-        eq-eqb k 5 (omega (arith, eqb-false k 1 a, eqb-false k 2 b, eqb-false k 3 c, eqb-false k 4 d))
-
-    go : (a b c d : Bool) → eqb k 1 ≡ a → eqb k 2 ≡ b → eqb k 3 ≡ c → eqb k 4 ≡ d → candidateOf r ≡ Read (expressionOf r)
-    go true b c d p q s t = simp p
-    go false true c d p q s t = simp (p, q)
-    go false false true d p q s t = simp (p, q, s)
-    go false false false true p q s t = simp (p, q, s, t)
-    go false false false false p q s t = simp (p, q, s, t, five p q s t)
-
--- other numbers may not
-pub candidate-none : (r : Raw) → ltb 0 (r .kind) && ltb (r .kind) 6 ≡ false → candidateOf r ≡ Wrong
-candidate-none r h =
-    simp (
-      other 1 (omega arith) (omega arith),
-      other 2 (omega arith) (omega arith),
-      other 3 (omega arith) (omega arith),
-      other 4 (omega arith)
-          (omega arith),
-      other 5 (omega arith) (omega arith),
-    )
-  where
-    k : ℕ
-    k = r .kind
-
-    other : (i : ℕ) → 0 < i → i < 6 → eqb k i ≡ false
-    other i low high =
-        ne-eqb k i (λ e.
-        let t : ltb 0 k && ltb k 6 ≡ true = rw (lt-ltb 0 k (omega arith)) (lt-ltb k 6 (omega arith)) in
-        let z : _≡_ {A = ℕ} 0 1 = cc in
-        omega arith)
-
--- the numbers of an expression have a kind from 1 to 5
-kind-raw : (e : Expression) → ltb 0 (rawOf e .kind) && ltb (rawOf e .kind) 6 ≡ true
-kind-raw (x.Entity n) = refl
-kind-raw (x.Role r) = refl
-kind-raw (x.Linked r n) = refl
-kind-raw (x.Intersection p) = refl
-kind-raw (x.Goal n) = refl
-
--- numbers are of right form where they are those of the expression that they would be, and it is well formed
-pub form-exact : (r : Raw) → formOf r ≡ pick (sameRaw (rawOf (expressionOf r)) r && wellFormed (expressionOf r)) (Read (expressionOf r)) Wrong
-form-exact r = go (ltb 0 (r .kind) && ltb (r .kind) 6) refl
-  where
-    e : Expression
-    e = expressionOf r
-
-    other : ltb 0 (r .kind) && ltb (r .kind) 6 ≡ false → (b : Bool) → sameRaw (rawOf e) r ≡ b → Wrong ≡ pick (b && wellFormed e) (Read e) Wrong
-    other h false q = refl
-    other h true q =
-        let k : ltb 0 (r .kind) && ltb (r .kind) 6 ≡ true
-        = ap (λ (s : Raw). ltb 0 (s .kind) && ltb (s .kind) 6) (sym (same-raw (rawOf e) r q)) ∙ kind-raw e in
-        let z : _≡_ {A = ℕ} 0 1 = cc in
-        absurd (omega arith)
-
-    go : (b : Bool) → ltb 0 (r .kind) && ltb (r .kind) 6 ≡ b → formOf r ≡ pick (sameRaw (rawOf e) r && wellFormed e) (Read e) Wrong
-    go true h = ap (checked r) (candidate-some r h)
-    go false h = ap (checked r) (candidate-none r h) ∙ other h (sameRaw (rawOf e) r) refl
+    at : (t : Bool) → sameRaw (rawOf f) r && wellFormed f ≡ t → pick t (Read f) Wrong ≡ Read e → (rawOf e ≡ r) × (wellFormed e ≡ true)
+    at true p q =
+        let same : f ≡ e = cc in (
+          ap rawOf (sym same) ∙ same-raw (rawOf f) r (and-left (sameRaw (rawOf f) r) (wellFormed f) p),
+          ap wellFormed (sym same) ∙ and-right (sameRaw (rawOf f) r) (wellFormed f) p,
+        )
+    at false p q = let z : _≡_ {A = ℕ} 0 1 = cc in absurd (omega arith)

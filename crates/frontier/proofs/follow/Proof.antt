@@ -7,7 +7,7 @@ returns : tie.Need-returns
 returns c = follow-stop _ _ _ _ _ (c .before .before .pre .2) (c .if1 .taken)
 
 returns-2 : tie.Need-returns-2
-returns-2 c = follow-on _ (c .before .before .before .before .if1 .left) (c .before .before .before .body-at .ensures) (c .enter-body .ensures _ _)
+returns-2 c = follow-on _ (c .before .before .before .before .if1 .left) (c .before .before .before .expression-at .ensures) (c .enter-body .ensures _ _)
 
 pub follow-spec : {M : Type 1} → statement M
 follow-spec =

@@ -11,7 +11,7 @@ use lib.Seq.{getD-set-same, getD-set-other, getD-append-seam, ext-getD}
 use Rattle.expression.specs.declared.Raw.{Raw}
 use Rattle.expression.specs.Form.{expressionOf}
 use Rattle.rt0.specs.Pool.{upTo}
-use Rattle.rt0.specs.laws.Pool.{bodyIn}
+use Rattle.rt0.specs.laws.Pool.{expressionIn}
 use Rattle.rt0.specs.laws.Added.{kindsWith, numbersWith, raw-before, raw-last, length-upTo, snoc-upTo}
 use Rattle.graph.specs.declared.Node.{Node}
 use Rattle.graph.specs.declared.Edge.{Edge}
@@ -110,7 +110,7 @@ last n size M x l z = getD-set-same M n x 0 (omega arith)
 
 module _ (N : Nodes) (x : Node) (r : Raw) where
   node-before : (i : ℕ) → i < N .count → nodeAt (addedNode N x r) i ≡ nodeAt N i
-  unfolding bodyIn
+  unfolding expressionIn
   node-before i l = λ j. record {
     expression = expressionOf (raw-before (N .kind) (N .number) (N .count) r i l j);
     subject = before (N .count) (N .subject) (x .subject) i l j;
@@ -119,7 +119,7 @@ module _ (N : Nodes) (x : Node) (r : Raw) where
   }
 
   node-last : NodesSized N → N .count < MOST-NODES → expressionOf r ≡ x .expression → nodeAt (addedNode N x r) (N .count) ≡ x
-  unfolding bodyIn
+  unfolding expressionIn
   node-last z l e = λ j. record {
     expression = (ap expressionOf (raw-last (N .kind) (N .number) (N .count) r l (z .kind) (z .number)) ∙ e) j;
     subject = last (N .count) 128 (N .subject) (x .subject) l (z .subject) j;

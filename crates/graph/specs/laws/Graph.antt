@@ -3,7 +3,7 @@ use Prim.Native.Nat.{ℕ}
 use mathlib.Core.List.{List}
 use lib.ListN.{getD}
 use Rattle.rt0.specs.Pool.{upTo}
-use Rattle.rt0.specs.laws.Pool.{bodyIn}
+use Rattle.rt0.specs.laws.Pool.{expressionIn}
 use Rattle.graph.specs.declared.Node.{Node}
 use Rattle.graph.specs.declared.Edge.{Edge}
 use Rattle.graph.specs.declared.Nodes.{Nodes}
@@ -19,7 +19,7 @@ edgesFrom m K P C = record { count = m; kind = K; parent = P; child = C }
 abbrev pub nodeAt : Nodes → ℕ → Node
 nodeAt N i =
     record {
-      expression = bodyIn (N .kind) (N .number) i;
+      expression = expressionIn (N .kind) (N .number) i;
       subject = getD (N .subject) i 0;
       verifier = getD (N .verifier) i 0;
       state = getD (N .state) i 0;

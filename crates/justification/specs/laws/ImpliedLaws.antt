@@ -19,7 +19,7 @@ use Rattle.propagation.specs.laws.Flags.{decided, flag, flag-same, flag-grows, 
 use Rattle.graph.specs.declared.Edge.{Edge}
 use Rattle.graph.specs.declared.Nodes.{Nodes}
 use Rattle.graph.specs.declared.Edges.{Edges}
-use Rattle.rt0.specs.laws.Pool.{bodyIn}
+use Rattle.rt0.specs.laws.Pool.{expressionIn}
 use Rattle.graph.specs.laws.Graph.{nodesOf, edgesOf, edgeAt}
 use Rattle.graph.specs.laws.Columns.{node-in}
 use Rattle.justification.specs.InTurn.{inTurn}
@@ -183,7 +183,7 @@ module _ (C : List Credential) (x : ℕ → Expression) where
 -- with the expressions of the nodes
 module _ (C : List Credential) (N : Nodes) (E : Edges) (i : Inside (N .count) E) where
   abbrev pub expressionsOf : ℕ → Expression
-  expressionsOf = bodyIn (N .kind) (N .number)
+  expressionsOf = expressionIn (N .kind) (N .number)
 
   same-test : (j : ℕ) → j < E .count → impliedBy C expressionsOf (edgeAt E j) ≡ impliedIf C (nodesOf N) (edgeAt E j)
   unfolding impliedBy impliedIf implied

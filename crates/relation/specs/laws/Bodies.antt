@@ -13,7 +13,7 @@ use Rattle.expression.specs.Form.{rawOf}
 use Rattle.expression.specs.Same.{same}
 use Rattle.rt0.specs.declared.Pool.{Pool}
 use Rattle.rt0.specs.From.{roleOf}
-use Rattle.rt0.specs.laws.Pool.{bodyAt, bodyIn}
+use Rattle.rt0.specs.laws.Pool.{bodyAt, expressionIn}
 use Rattle.closure.specs.laws.Rules.{el, bits}
 use Rattle.rules.specs.laws.Table.{bitOf, rowOf}
 use Rattle.rules.specs.laws.Columns.{bodyFirst, firstRow}
@@ -37,7 +37,7 @@ module _ (P : Pool) (K : List ℕ) (i : ℕ) (e : Expression) where
       go (E.Goal m) q = refl
 
   body-link : el (P .kinds) (i * 2) ≡ 3 → bodyAt P i ≡ E.Linked (roleOf (el (P .numbers) (i * 8)) (el (P .numbers) (i * 8 + 1))) (el (P .numbers) (i * 8 + 2))
-  unfolding bodyIn
+  unfolding expressionIn
   body-link h = rw h
 
   abbrev A : Role

@@ -23,7 +23,7 @@ use Rattle.rt0.specs.declared.Pool.{Pool}
 use Rattle.rt0.specs.From.{From, reflexive, transitive, credential}
 use Rattle.word.specs.laws.Bools.{false-true, and-parts, and-both}
 use Rattle.rt0.specs.laws.Laws.{more}
-use Rattle.rt0.specs.laws.Pool.{headAt, bodyAt, bodyIn}
+use Rattle.rt0.specs.laws.Pool.{headAt, bodyAt, expressionIn}
 use Rattle.closure.specs.laws.Rules.{el, bits, Marked}
 use Rattle.rules.specs.laws.Table.{rowOf, rowIn, bitOf, rowFor, chosen, third, fourth}
 use Rattle.rules.specs.declared.Four.{Four}
@@ -100,12 +100,12 @@ module _ (P : Pool) (e : Expression) (i : ℕ) (old : Four) (q : old ≡ fourRow
 
   -- the rule of an entity has no rows
   pub asked-entity : el (P .kinds) (i * 2) ≡ 1 → old ≡ fourRows (rowFor P e) (bodyAt P i)
-  unfolding bodyIn
+  unfolding expressionIn
   asked-entity h = q ∙ rw h
 
   -- nor has that of a link
   pub asked-link : el (P .kinds) (i * 2) ≡ 3 → old ≡ fourRows (rowFor P e) (bodyAt P i)
-  unfolding bodyIn
+  unfolding expressionIn
   asked-link h = q ∙ rw h
 
 -- The row of e itself

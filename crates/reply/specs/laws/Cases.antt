@@ -13,7 +13,7 @@ use Rattle.tables.specs.Lookup.{holds, isSensitive, otherOf, isDirect}
 use Rattle.tables.specs.Public.{lessDirect, heldOf, publicOf, hiddenOf}
 use Rattle.propagation.specs.laws.Flags.{cnt}
 use Rattle.propagation.specs.Least.{rounds, least}
-use Rattle.rt0.specs.laws.Pool.{bodyIn}
+use Rattle.rt0.specs.laws.Pool.{expressionIn}
 use Rattle.graph.specs.laws.Graph.{nodesOf, edgesOf}
 use Rattle.graph.specs.Find.{findNode, hasEdge}
 use Rattle.graph.specs.Form.{hasRole, form, legalState}
@@ -49,7 +49,7 @@ pub marked-cases : map outcome table
     ∷ turns (turn firstMessage 0 2 ∷ turn secondMessage 0 3 ∷ turn thirdMessage 0 4 ∷ turn (5 ∷ 1 ∷ 6 ∷ []) 2 4 ∷ []) ∷ []
 unfolding roleFrom reaches pass close closure from? sameRole same beforeOf beforeCredential wellFormedCredential readCredential namesOf classOf
     namedType linkedType together typeOf credentialNumber holds isSensitive otherOf isDirect lessDirect heldOf publicOf hiddenOf cnt rounds least
-    bodyIn nodesOf edgesOf findNode hasEdge hasRole form legalState satisfiedB failedB completeB propagated solves solved monitors monitored
+    expressionIn nodesOf edgesOf findNode hasEdge hasRole form legalState satisfiedB failedB completeB propagated solves solved monitors monitored
     implied impliedIf monitoredIf justified commandBytes freshState withNode withEdge withShown withMark withHeader within wantedSound headerSound
     requester entityOf emptySound countSound endSound nodeSound nodeFits primarySound credentialSound isShown credentialFits kept needed firstOf
     restOf processedBy markedState primaryOf verifierOf childOf stepped hasRoom refuse first isFresh isAbsent formedAs showNumber openNumber

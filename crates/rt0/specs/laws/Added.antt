@@ -12,7 +12,7 @@ use Rattle.expression.specs.declared.Credential.{Credential}
 use Rattle.expression.specs.declared.Expression.{Expression}
 use Rattle.expression.specs.Form.{rawOf, expressionOf}
 use Rattle.expression.specs.laws.Laws.{expression-raw}
-use Rattle.rt0.specs.laws.Pool.{poolOf, rawAtColumns, headAt, bodyIn, credentialAt, credentials}
+use Rattle.rt0.specs.laws.Pool.{poolOf, rawAtColumns, headAt, expressionIn, credentialAt, credentials}
 use Rattle.rt0.specs.Pool.{upTo}
 use Rattle.rt0.specs.declared.Pool.{Pool}
 
@@ -148,7 +148,7 @@ module _ (P : Pool) (h : Role) (r : Raw) (room : P .count < 128) where
   }
 
   add-other : (j : ℕ) → j < P .count → credentialAt (added P h r) j ≡ credentialAt P j
-  unfolding bodyIn added
+  unfolding expressionIn added
   add-other j l = λ i. record { head = head-other j l i; body = expressionOf (raw-before (P .kinds) (P .numbers) (P .count) r j l i) }
 
   head-last : Sized P → headAt (added P h r) (P .count) ≡ h
@@ -161,7 +161,7 @@ module _ (P : Pool) (h : Role) (r : Raw) (room : P .count < 128) where
 -- a credential added stands behind the others
 pub add-credential : (P : Pool) (h : Role) (b : Expression) → P .count < 128 → Sized P
     → credentials (added P h (rawOf b)) ≡ credentials P ++ (record { head = h; body = b } ∷ [])
-unfolding credentials added bodyIn
+unfolding credentials added expressionIn
 add-credential P h b room z =
     snoc-upTo (P .count) (credentialAt (added P h (rawOf b))) (credentialAt P) (record { head = h; body = b }) (λ i l. add-other P h (rawOf b) room i l)
     (λ i. record { head = head-last P h (rawOf b) room z i; body = (ap expressionOf (raw-last (P .kinds) (P .numbers) (P .count) (rawOf b) room (z .kinds) (z .numbers)) ∙ expression-raw b) i })

@@ -15,7 +15,7 @@ use Rattle.expression.specs.Same.{same}
 use Rattle.expression.specs.laws.Same.{same-eq, eq-same}
 use Rattle.word.specs.laws.Bools.{bool-iff, false-true}
 use Rattle.rt0.specs.From.{roleOf}
-use Rattle.rt0.specs.laws.Pool.{bodyIn, rawAtColumns}
+use Rattle.rt0.specs.laws.Pool.{expressionIn, rawAtColumns}
 
 lead : (r : Raw) → rawOf (expressionOf r) .n0 ≡ r .n0
 lead r = go (eqb (r .kind) 1) (eqb (r .kind) 2) (eqb (r .kind) 3) (eqb (r .kind) 4)
@@ -72,32 +72,32 @@ kind-of r = go (eqb (r .kind) 1) (eqb (r .kind) 2) (eqb (r .kind) 3) (eqb (r .ki
     go false false false false a b c d l = absurd (omega arith)
 
 module _ (K N : List ℕ) (i : ℕ) (e : Expression) (raw : Raw) (is : raw ≡ rawOf e) where
-  other : (same (bodyIn K N i) e ≡ true → ⊥) → false ≡ same (bodyIn K N i) e
+  other : (same (expressionIn K N i) e ≡ true → ⊥) → false ≡ same (expressionIn K N i) e
   other n = bool-iff false _ (λ z. absurd (false-true z)) (λ h. absurd (n h))
 
   -- a body of another kind is not e
-  pub body-kind : raw .kind < 5 → (getD K (i * 2) 0 ≡ raw .kind → ⊥) → false ≡ same (bodyIn K N i) e
-  unfolding bodyIn
+  pub body-kind : raw .kind < 5 → (getD K (i * 2) 0 ≡ raw .kind → ⊥) → false ≡ same (expressionIn K N i) e
+  unfolding expressionIn
   body-kind l n =
       other (λ h.
-      let q = same-eq (bodyIn K N i) e h in
+      let q = same-eq (expressionIn K N i) e h in
       n (kind-of (rawAtColumns K N i) (subst (λ (x : Expression). rawOf x .kind < 5) (sym q) (subst (λ (r : Raw). r .kind < 5) is l))
       ∙ (ap (λ (x : Expression). rawOf x .kind) q ∙ sym (ap (λ (r : Raw). r .kind) is))))
 
   -- nor is one that begins with another number
-  pub body-lead : (getD N (i * 8) 0 ≡ raw .n0 → ⊥) → false ≡ same (bodyIn K N i) e
-  unfolding bodyIn
+  pub body-lead : (getD N (i * 8) 0 ≡ raw .n0 → ⊥) → false ≡ same (expressionIn K N i) e
+  unfolding expressionIn
   body-lead n =
       other (λ h. n (sym (lead (rawAtColumns K N i))
-      ∙ (ap (λ (x : Expression). rawOf x .n0) (same-eq (bodyIn K N i) e h) ∙ sym (ap (λ (r : Raw). r .n0) is))))
+      ∙ (ap (λ (x : Expression). rawOf x .n0) (same-eq (expressionIn K N i) e h) ∙ sym (ap (λ (r : Raw). r .n0) is))))
 
-  body-role : getD K (i * 2) 0 ≡ 2 → bodyIn K N i ≡ E.Role (roleOf (getD N (i * 8) 0) (getD N (i * 8 + 1) 0))
-  unfolding bodyIn
+  body-role : getD K (i * 2) 0 ≡ 2 → expressionIn K N i ≡ E.Role (roleOf (getD N (i * 8) 0) (getD N (i * 8 + 1) 0))
+  unfolding expressionIn
   body-role h = rw h
 
   -- a role is e where both numbers are
   pub body-two : raw .kind ≡ 2 → getD K (i * 2) 0 ≡ raw .kind → getD N (i * 8) 0 ≡ raw .n0
-      → eqb (getD N (i * 8 + 1) 0) (raw .n1) ≡ same (bodyIn K N i) e
+      → eqb (getD N (i * 8 + 1) 0) (raw .n1) ≡ same (expressionIn K N i) e
   body-two k g n = rw (body-role (g ∙ k), is) (go e (rw is at k) (rw is at n))
     where
       go : (e : Expression) → rawOf e .kind ≡ 2 → getD N (i * 8) 0 ≡ rawOf e .n0
@@ -110,6 +110,6 @@ module _ (K N : List ℕ) (i : ℕ) (e : Expression) (raw : Raw) (is : raw ≡ r
       go (E.Goal m) k n = absurd (omega arith)
 
   -- any body is e where all its numbers are
-  pub body-raw : {b : Expression} {r : Raw} {t : Bool} → b ≡ bodyIn K N i → r ≡ rawOf b → t ≡ sameRaw r raw → t ≡ same (bodyIn K N i) e
+  pub body-raw : {b : Expression} {r : Raw} {t : Bool} → b ≡ expressionIn K N i → r ≡ rawOf b → t ≡ sameRaw r raw → t ≡ same (expressionIn K N i) e
   unfolding same
-  body-raw {b} {r} h k g = g ∙ (ap (λ (o : Raw). sameRaw o raw) (k ∙ ap rawOf h) ∙ ap (sameRaw (rawOf (bodyIn K N i))) is)
+  body-raw {b} {r} h k g = g ∙ (ap (λ (o : Raw). sameRaw o raw) (k ∙ ap rawOf h) ∙ ap (sameRaw (rawOf (expressionIn K N i))) is)

@@ -35,14 +35,14 @@ rawAtColumns K N i =
       n7 = getD N (i * 8 + 7) 0;
     }
 
-unfoldable pub bodyIn : List ℕ → List ℕ → ℕ → Expression
-bodyIn K N i = expressionOf (rawAtColumns K N i)
+unfoldable pub expressionIn : List ℕ → List ℕ → ℕ → Expression
+expressionIn K N i = expressionOf (rawAtColumns K N i)
 
 abbrev pub bodyAt : Pool → ℕ → Expression
-bodyAt P i = bodyIn (P .kinds) (P .numbers) i
+bodyAt P i = expressionIn (P .kinds) (P .numbers) i
 
 abbrev pub credentialIn : List ℕ → List ℕ → List ℕ → ℕ → Credential
-credentialIn H K N i = record { head = headIn H i; body = bodyIn K N i }
+credentialIn H K N i = record { head = headIn H i; body = expressionIn K N i }
 
 abbrev pub credentialAt : Pool → ℕ → Credential
 credentialAt P i = credentialIn (P .heads) (P .kinds) (P .numbers) i

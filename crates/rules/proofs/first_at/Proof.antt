@@ -18,7 +18,7 @@ returns c =
     (sym (c .before .has-link .ensures) ∙ not-true (c .before .has-link .result) (c .if1 .taken))
 
 returns-2 : tie.Need-returns-2
-returns-2 c = c .first-of .ensures ∙ ap (firstRow (rowOf (pool (c .before .before .before .before)))) (c .before .body-at .ensures)
+returns-2 c = c .first-of .ensures ∙ ap (firstRow (rowOf (pool (c .before .before .before .before)))) (c .before .expression-at .ensures)
 
 pub first-at-spec : {M : Type 1} → statement M
 first-at-spec =

@@ -32,7 +32,7 @@ loop-again c = (
   parts-add (rowOf (pool (c .before .before .before .before))) (pool (c .before .before .before .before))
       (row-small (c .before .before .before .before .args .n) (c .before .before .before .before .args .heads .now) (c .before .before .before .before .pre .0)) (c .before .before .before .loop .i)
       (c .before .before .before .loop .part) (c .rows-of .result) (omega arith)
-      (c .rows-of .ensures ∙ ap (fourRows (rowOf (pool (c .before .before .before .before)))) (c .before .body-at .ensures))
+      (c .rows-of .ensures ∙ ap (fourRows (rowOf (pool (c .before .before .before .before)))) (c .before .expression-at .ensures))
       (c .before .before .before .loop .inv .0),
   omega arith,
 )

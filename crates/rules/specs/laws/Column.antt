@@ -19,7 +19,7 @@ use Rattle.expression.specs.Same.{same}
 use Rattle.word.specs.laws.Bit.{bitAt, bit-zero}
 use Rattle.rt0.specs.declared.Pool.{Pool}
 use Rattle.word.specs.laws.Bools.{false-true, and-parts, and-both}
-use Rattle.rt0.specs.laws.Pool.{poolOf, headAt, bodyAt, bodyIn}
+use Rattle.rt0.specs.laws.Pool.{poolOf, headAt, bodyAt, expressionIn}
 use Rattle.closure.specs.laws.Rules.{el, bits, Under, Marked}
 use Rattle.rules.specs.declared.Four.{Four}
 use Rattle.rules.specs.laws.Table.{rowOf, rowIn, bitOf, rowFor, third, fourth}
@@ -188,7 +188,7 @@ module _ (ρ : Role → ℕ) (P : Pool) where
 
 -- a linked body has kind 3
 pub linked-kind : (P : Pool) (i : ℕ) (a : Role) (m : ℕ) → bodyAt P i ≡ E.Linked a m → hasLink P i ≡ true
-unfolding bodyIn
+unfolding expressionIn
 linked-kind P i a m h =
     go (eqb (el (P .kinds) (i * 2)) 1) (eqb (el (P .kinds) (i * 2)) 2) (eqb (el (P .kinds) (i * 2)) 3) (eqb (el (P .kinds) (i * 2)) 4) _ _ _ _ _ _ h
   where
@@ -432,7 +432,7 @@ module _ (P : Pool) (able : List ℕ) where
 -- a body of kind 3 is a link
 linked-body : (P : Pool) (i : ℕ) → hasLink P i ≡ true
     → bodyAt P i ≡ E.Linked (record { entity = el (P .numbers) (i * 8); name = el (P .numbers) (i * 8 + 1) }) (el (P .numbers) (i * 8 + 2))
-unfolding bodyIn
+unfolding expressionIn
 linked-body P i h = rw (eqb-true (el (P .kinds) (i * 2)) 3 h)
 
 -- A row that is copied

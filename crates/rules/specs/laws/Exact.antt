@@ -21,7 +21,7 @@ use Rattle.rt0.specs.From.{roleOf, rolesOf, From, reflexive, transitive, creden
 use Rattle.word.specs.laws.Bools.{false-true, and-parts, and-both}
 use Rattle.rt0.specs.Decide.{from?}
 use Rattle.rt0.specs.laws.Laws.{Reach, here, step, link, each, role-ends, sound, complete}
-use Rattle.rt0.specs.laws.Pool.{headAt, bodyAt, bodyIn, credentialAt}
+use Rattle.rt0.specs.laws.Pool.{headAt, bodyAt, expressionIn, credentialAt}
 use Rattle.rt0.specs.Pool.{upTo}
 use Rattle.closure.specs.declared.Rules.{Rules}
 use Rattle.closure.specs.laws.Rules.{el, bits, Takes, memOf, Used, Model, Within}
@@ -95,7 +95,7 @@ module _ (P : Pool) (small : P .count ≤ 128) where
       (λ h. inr (first-none (P .count) (isHead P p) h)) (any-cases (P .count) (isHead P p))
 
   body-at : (b s : ℕ) → isBody P b s ≡ true → bodyAt P s ≡ E.Entity b
-  unfolding bodyIn
+  unfolding expressionIn
   body-at b s h =
       let q = and-parts (eqb (el (P .kinds) (s * 2)) 1) (eqb (el (P .numbers) (s * 8)) b) h in
       rw (q .0) (ap E.Entity (eqb-true (el (P .numbers) (s * 8)) b (q .1)))
@@ -115,12 +115,12 @@ module _ (P : Pool) (small : P .count ≤ 128) where
 
   -- a body of kind 1 is an entity
   pub body-one : (s : ℕ) → el (P .kinds) (s * 2) ≡ 1 → bodyAt P s ≡ E.Entity (el (P .numbers) (s * 8))
-  unfolding bodyIn
+  unfolding expressionIn
   body-one s h = rw (eq-eqb (el (P .kinds) (s * 2)) 1 h)
 
   -- a body that is an entity passes the test for it
   pub body-entity : (k b : ℕ) → bodyAt P k ≡ E.Entity b → isBody P b k ≡ true
-  unfolding bodyIn
+  unfolding expressionIn
   body-entity k b h =
       go (eqb (el (P .kinds) (k * 2)) 1) (eqb (el (P .kinds) (k * 2)) 2) (eqb (el (P .kinds) (k * 2)) 3) (eqb (el (P .kinds) (k * 2)) 4) _ _ _ _ _ _ refl h
     where

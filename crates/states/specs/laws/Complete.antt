@@ -14,7 +14,7 @@ use Rattle.graph.specs.declared.Node.{Node}
 use Rattle.graph.specs.declared.Edge.{Edge}
 use Rattle.graph.specs.declared.Nodes.{Nodes}
 use Rattle.graph.specs.declared.Edges.{Edges}
-use Rattle.rt0.specs.laws.Pool.{bodyIn}
+use Rattle.rt0.specs.laws.Pool.{expressionIn}
 use Rattle.graph.specs.laws.Graph.{nodesOf, edgesOf}
 use Rattle.graph.specs.laws.Columns.{nodes-length, edges-length, node-in}
 use Rattle.graph.specs.States.{solutionKind}
@@ -104,7 +104,7 @@ module _ (N : Nodes) (E : Edges) {sat failed : List ℕ} (t : StateColumns (node
 
   complete-columns : completeBy (getD (N .kind) (i * 2) 0) (getD (N .state) i 0) (any (isUnknown (N .count) sat failed i) (edgesOf E))
       ≡ completeB (nodesOf N) (edgesOf E) i
-  unfolding completeBy completeB bodyIn
+  unfolding completeBy completeB expressionIn
   complete-columns =
       (λ j. not (eqb (getD (N .kind) (i * 2) 0) 1) && not (eqb (getD (N .kind) (i * 2) 0) 2) && not (eqb (getD (N .kind) (i * 2) 0) 3)
       && not (eqb (getD (N .kind) (i * 2) 0) 4) && eqb (getD (N .state) i 0) 3

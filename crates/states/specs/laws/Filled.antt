@@ -14,7 +14,7 @@ use Rattle.graph.specs.declared.Node.{Node}
 use Rattle.graph.specs.declared.Edge.{Edge}
 use Rattle.graph.specs.declared.Nodes.{Nodes}
 use Rattle.graph.specs.declared.Edges.{Edges}
-use Rattle.rt0.specs.laws.Pool.{bodyIn}
+use Rattle.rt0.specs.laws.Pool.{expressionIn}
 use Rattle.graph.specs.laws.Graph.{nodeAt, edgeAt, nodesOf, edgesOf}
 use Rattle.graph.specs.Graph.{blank, nodeIn}
 use Rattle.graph.specs.laws.Columns.{nodes-length, edges-length, node-in, edge-in}
@@ -82,7 +82,7 @@ needs-start N = record { filled = fill-start 128 (λ k. needOf (nodeAt N k)) 5 }
 
 pub needs-add : (N : Nodes) {i x : ℕ} {r r′ : List ℕ} → i < 128 → r′ ≡ set r i x
     → x ≡ needBy (getD (N .kind) (i * 2) 0) (getD (N .kind) (i * 2 + 1) 0) (getD (N .state) i 0) → NodeColumn N needOf i r → NodeColumn N needOf (i + 1) r′
-unfolding needOf bodyIn
+unfolding needOf expressionIn
 needs-add N {i} {x} {r} {r′} l e h z = column-add N needOf r′ x l e (h ∙ need-raw (getD (N .state) i 0) (rawIn N i)) z
 
 pub needs-all : (N : Nodes) {i : ℕ} {r : List ℕ} → i ≤ N .count → N .count ≤ i → NodeColumn N needOf i r → Needs (nodesOf N) r
@@ -94,7 +94,7 @@ ways-start N = record { filled = fill-start 128 (λ k. wayOf (nodeAt N k)) 0 }
 
 pub ways-add : (N : Nodes) {i x : ℕ} {r r′ : List ℕ} → i < 128 → r′ ≡ set r i x → x ≡ wayBy (getD (N .kind) (i * 2) 0) (getD (N .state) i 0)
     → NodeColumn N wayOf i r → NodeColumn N wayOf (i + 1) r′
-unfolding wayOf bodyIn
+unfolding wayOf expressionIn
 ways-add N {i} {x} {r} {r′} l e h z = column-add N wayOf r′ x l e (h ∙ way-raw (getD (N .state) i 0) (rawIn N i)) z
 
 pub ways-all : (N : Nodes) {i : ℕ} {r : List ℕ} → i ≤ N .count → N .count ≤ i → NodeColumn N wayOf i r → Ways (nodesOf N) r
@@ -117,7 +117,7 @@ module _ (N : Nodes) where
 
 module _ (N : Nodes) (E : Edges) where
   abbrev X : ℕ → Expression
-  X i = bodyIn (N .kind) (N .number) i
+  X i = expressionIn (N .kind) (N .number) i
 
   -- the first j edges stand in the columns
   pub record Linked (j : ℕ) (F S : List ℕ) : Type 0 where

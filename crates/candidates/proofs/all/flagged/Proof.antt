@@ -23,7 +23,7 @@ loop-again : tie.Need-loop-again Inv-loop μ-loop
 loop-again c = (
   told-next _ _ (c .before .before .before .before .loop .inv .0)
       (omega (arith, (c .before .before .before .loop-test .taken), (c .before .before .before .before .before .pre .0)))
-      (c .before .before .body-at .ensures) (c .before .is-from .ensures) (c .flag-of .ensures) refl,
+      (c .before .before .expression-at .ensures) (c .before .is-from .ensures) (c .flag-of .ensures) refl,
   omega (arith, c .before .before .before .loop-test .taken),
 )
 

@@ -21,8 +21,8 @@ next-flagged-requires c κs = (c .pre, omega arith)
 loop-holds : tie.Need-loop-holds Inv-loop μ-loop
 loop-holds c = let s = c .next-flagged .ensures in (collected-skip _ _ _ _ _ (collected-start _ _ _ _ _) (s .0), s .0 .within, s .1)
 
-body-at-requires : tie.Need-body-at-requires Inv-loop μ-loop
-body-at-requires c κs = omega (arith, c .before .before .before .pre, c .loop-test .taken)
+expression-at-requires : tie.Need-expression-at-requires Inv-loop μ-loop
+expression-at-requires c κs = omega (arith, c .before .before .before .pre, c .loop-test .taken)
 
 add-found-requires : tie.Need-add-found-requires Inv-loop μ-loop
 add-found-requires c κs = (c .before .before .before .before .before .pre, c .before .before .before .loop .inv .0 .sized)
@@ -43,7 +43,7 @@ loop-again c =
     let c5 = c4 .before in
     let s = c .next-flagged2 .ensures in (
       collected-skip _ _ _ _ _
-          (collected-next _ _ _ _ _ (c5 .loop .inv .0) (c5 .loop .inv .2 (c4 .loop-test .taken)) (c3 .body-at .ensures) (c .before .add-found .ensures))
+          (collected-next _ _ _ _ _ (c5 .loop .inv .0) (c5 .loop .inv .2 (c4 .loop-test .taken)) (c3 .expression-at .ensures) (c .before .add-found .ensures))
           (s .0),
       s .0 .within,
       s .1,
@@ -55,5 +55,5 @@ returns c = collected-count _ _ _ _ _ (c .before .loop .inv .0) (c .loop-test .l
 pub found-from-all-spec : {M : Type 1} → statement M
 found-from-all-spec =
     tie.close
-    (tie.spec Inv-loop μ-loop next-flagged-requires loop-holds body-at-requires add-found-requires add-next-flagged next-flagged-requires-2 loop-less
+    (tie.spec Inv-loop μ-loop next-flagged-requires loop-holds expression-at-requires add-found-requires add-next-flagged next-flagged-requires-2 loop-less
     loop-again returns)

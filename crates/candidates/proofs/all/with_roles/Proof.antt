@@ -33,8 +33,8 @@ loop-holds c =
       s .1,
     )
 
-body-at-requires : tie.Need-body-at-requires Inv-loop μ-loop
-body-at-requires c κs = omega (arith, c .before .before .before .pre .0, c .loop-test .taken)
+expression-at-requires : tie.Need-expression-at-requires Inv-loop μ-loop
+expression-at-requires c κs = omega (arith, c .before .before .before .pre .0, c .loop-test .taken)
 
 with-role-requires : tie.Need-with-role-requires Inv-loop μ-loop
 with-role-requires c κs =
@@ -63,7 +63,7 @@ loop-again c =
     let c13 = c12 .before in
     let s = c .next-flagged2 .ensures in (
       λ H. folded-skip _ _
-          (folded-next _ _ (c13 .loop .inv .0 H) (roles-taken _ _ _ _ _ _ _ (c13 .loop .inv .2 (c12 .loop-test .taken)) (c11 .body-at .ensures)
+          (folded-next _ _ (c13 .loop .inv .0 H) (roles-taken _ _ _ _ _ _ _ (c13 .loop .inv .2 (c12 .loop-test .taken)) (c11 .expression-at .ensures)
           (c .before .with-role .ensures))) (s .0 .from) (λ j l h x. roles-skip _ _ _ _ _ j (s .0 .none j l h) x),
       s .0 .within,
       s .1,
@@ -79,5 +79,5 @@ returns c H =
 pub with-roles-spec : {M : Type 1} → statement M
 with-roles-spec =
     tie.close
-    (tie.spec Inv-loop μ-loop next-flagged-requires loop-holds body-at-requires with-role-requires add-next-flagged next-flagged-requires-2 loop-less
+    (tie.spec Inv-loop μ-loop next-flagged-requires loop-holds expression-at-requires with-role-requires add-next-flagged next-flagged-requires-2 loop-less
     loop-again returns)

@@ -9,14 +9,14 @@ returns c m H = member-none _ _ _ _ _ _ _ _ (c .if1 .taken)
 returns-2 : tie.Need-returns-2
 returns-2 c m H =
     let c3 = c .before .before .before in
-    member-other _ _ _ _ _ _ _ _ (c3 .if1 .left) (c .before .before .body-at .ensures) (c .before .admits .ensures) (c .if2 .taken)
+    member-other _ _ _ _ _ _ _ _ (c3 .if1 .left) (c .before .before .expression-at .ensures) (c .before .admits .ensures) (c .if2 .taken)
 
 returns-3 : tie.Need-returns-3
 returns-3 c m H =
     let c3 = c .before .before .before in
     let c4 = c3 .before in
     let c5 = c4 .before in
-    member-edge _ _ _ _ _ _ _ _ (c5 .if1 .left) (c4 .body-at .ensures) (c3 .admits .ensures) (c .before .before .if2 .left)
+    member-edge _ _ _ _ _ _ _ _ (c5 .if1 .left) (c4 .expression-at .ensures) (c3 .admits .ensures) (c .before .before .if2 .left)
     (c .before .child-for .ensures) (c .lesser .ensures)
 
 pub with-member-spec : {M : Type 1} → statement M

@@ -7,7 +7,7 @@ returns : tie.Need-returns
 returns c m H = subject-none _ _ _ _ _ (c .if1 .taken)
 
 returns-2 : tie.Need-returns-2
-returns-2 c m H = subject-same _ _ _ _ _ (c .before .before .if1 .left) (c .before .body-at .ensures) (c .same .ensures)
+returns-2 c m H = subject-same _ _ _ _ _ (c .before .before .if1 .left) (c .before .expression-at .ensures) (c .same .ensures)
 
 pub is-subject-at-spec : {M : Type 1} → statement M
 is-subject-at-spec =

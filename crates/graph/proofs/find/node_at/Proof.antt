@@ -7,7 +7,7 @@ use Rattle.graph.proofs.find.node_at.Tie as tie
 
 returns : tie.Need-returns
 returns c n l =
-    rw (c .before .before .before .body-at .ensures)
+    rw (c .before .before .before .expression-at .ensures)
     (sym (node-in (nodesFrom n (c .before .before .before .before .args .kind .now) (c .before .before .before .before .args .number .now) (c .before .before .before .before .args .subject .now)
     (c .before .before .before .before .args .verifier .now) (c .before .before .before .before .args .state .now))
     (c .before .before .before .before .args .i) l))

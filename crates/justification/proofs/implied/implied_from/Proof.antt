@@ -2,7 +2,7 @@ use native.Mathlib.Omega.{arith}
 use Prim.Native.Nat.{ℕ, _-_}
 use mathlib.Core.List.{List}
 use Rattle.rules.specs.laws.Table.{chosen}
-use Rattle.rt0.specs.laws.Pool.{poolOf, bodyIn}
+use Rattle.rt0.specs.laws.Pool.{poolOf, expressionIn}
 use Rattle.relation.specs.laws.Relation.{Relation, Answers}
 use Rattle.graph.specs.laws.Graph.{edgesFrom}
 use Rattle.justification.specs.laws.ImpliedLaws.{From, from-start, from-next, from-stop, from-done}
@@ -12,7 +12,7 @@ use Rattle.justification.proofs.implied.implied_from.Tie as tie
 abbrev Inv-loop : tie.InvT-loop
 Inv-loop kind number m edge parent child q heads kinds numbers mem vals e c j₀ j =
     (on : List ℕ) → Relation (poolOf q heads kinds numbers) on mem → Answers (poolOf q heads kinds numbers) on e 0 vals
-    → From (chosen (poolOf q heads kinds numbers) on) (bodyIn kind number) (edgesFrom m edge parent child) c j
+    → From (chosen (poolOf q heads kinds numbers) on) (expressionIn kind number) (edgesFrom m edge parent child) c j
 
 abbrev μ-loop : tie.MeasureT-loop
 μ-loop kind number m edge parent child q heads kinds numbers mem vals e c j₀ j = m - j

@@ -1,7 +1,7 @@
 use native.Mathlib.Omega.{arith}
 use Prim.Native.Nat.{_-_}
 use Rattle.rules.specs.laws.Table.{chosen}
-use Rattle.rt0.specs.laws.Pool.{poolOf, bodyIn}
+use Rattle.rt0.specs.laws.Pool.{poolOf, expressionIn}
 use Rattle.graph.specs.laws.Graph.{edgesFrom}
 use Rattle.justification.specs.laws.ImpliedLaws.{Below, below-none, below-next, below-stop, below-done}
 use Rattle.justification.proofs.implied.nodes_implied.Statement.{statement}
@@ -9,7 +9,7 @@ use Rattle.justification.proofs.implied.nodes_implied.Tie as tie
 
 abbrev Inv-loop : tie.InvT-loop
 Inv-loop n kind number m edge parent child q heads kinds numbers head part first named src deps on mem used c₀ c =
-    Below (chosen (poolOf q heads kinds numbers) on) (bodyIn kind number) (edgesFrom m edge parent child) n c
+    Below (chosen (poolOf q heads kinds numbers) on) (expressionIn kind number) (edgesFrom m edge parent child) n c
 
 abbrev μ-loop : tie.MeasureT-loop
 μ-loop n kind number m edge parent child q heads kinds numbers head part first named src deps on mem used c₀ c = n - c

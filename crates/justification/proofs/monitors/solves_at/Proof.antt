@@ -24,7 +24,7 @@ returns-4 c o es says =
     let c7 = c5 .before .before in
     let c10 = c7 .before .before .before in
     solves-is _ _ _ _ _ _ (c7 .if1 .left) (c5 .wide .ensures) (c4 .if2 .left) says (c .before .before .if3 .left)
-    (c .is-solution-for .ensures ∙ ap (λ (y : Expression). isSolutionFor (c10 .args .x) (c10 .args .b) y) (c .before .body-at .ensures))
+    (c .is-solution-for .ensures ∙ ap (λ (y : Expression). isSolutionFor (c10 .args .x) (c10 .args .b) y) (c .before .expression-at .ensures))
 
 pub solves-at-spec : {M : Type 1} → statement M
 solves-at-spec =

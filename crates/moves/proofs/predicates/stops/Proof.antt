@@ -24,7 +24,7 @@ loop-again : tie.Need-loop-again Inv-loop μ-loop
 loop-again c H =
     told-next _ _ (c .before .before .before .before .loop .inv H)
     (omega (arith, (c .before .before .before .loop-test .taken), (c .before .before .before .before .before .pre .3)))
-    (c .before .before .body-at .ensures) (c .before .is-stop .ensures) (c .flag-of .ensures) refl
+    (c .before .before .expression-at .ensures) (c .before .is-stop .ensures) (c .flag-of .ensures) refl
 
 returns : tie.Need-returns Inv-loop μ-loop
 returns c H = told-all _ _ (c .before .loop .inv H) (c .loop-test .left)

@@ -17,7 +17,7 @@ returns-3 c =
       arith,
       c .before .before .before .before .before .before .before .pre .0,
       c .before .before .before .before .before .before .before .pre .1,
-    )) (c .before .before .body-at .ensures) (c .flag-asked .ensures)
+    )) (c .before .before .expression-at .ensures) (c .flag-asked .ensures)
 
 pub follow-spec : {M : Type 1} → statement M
 follow-spec =

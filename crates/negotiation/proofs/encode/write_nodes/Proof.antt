@@ -44,7 +44,7 @@ loop-again c =
       next,
       w .write-node .kept .0 ∙ s .loop .inv .1,
       w .write-node .ensures
-          ∙ (λ t. pasted (s .loop .inv .2 t) (128 + i * 22) (nodeBytes (x (e .body-at .ensures t))))
+          ∙ (λ t. pasted (s .loop .inv .2 t) (128 + i * 22) (nodeBytes (x (e .expression-at .ensures t))))
           ∙ record-next nodeBytes 22 node-size (a .buf .now) 128 i (nodeAt N) room,
     )
 

@@ -37,7 +37,7 @@ loop-again c =
       omega arith,
       w .write-credential .kept .0 ∙ s .loop .inv .1,
       w .write-credential .ensures
-          ∙ (λ t. pasted (s .loop .inv .2 t) (3712 + k * 22) (credentialBytes (record { head = h .head-at .ensures t; body = b .body-at .ensures t })))
+          ∙ (λ t. pasted (s .loop .inv .2 t) (3712 + k * 22) (credentialBytes (record { head = h .head-at .ensures t; body = b .expression-at .ensures t })))
           ∙ record-next credentialBytes 22 credential-size (a .buf .now) 3712 k (credentialAt P) (omega arith),
     )
 

@@ -31,8 +31,8 @@ returns-3 c n H q =
 returns-4 : tie.Need-returns-4
 returns-4 c n H q =
     let c10 = c .before .before .before .before .before .before .before .before .before .before in
-    c .asked-rows .ensures (pool c10 n H) (q ∙ ap (fourRows (rowOf (pool c10 n H))) (sym (c .before .body-at .ensures)))
-    ∙ ap (fourRows (rowFor (pool c10 n H) (c10 .args .e))) (c .before .body-at .ensures)
+    c .asked-rows .ensures (pool c10 n H) (q ∙ ap (fourRows (rowOf (pool c10 n H))) (sym (c .before .expression-at .ensures)))
+    ∙ ap (fourRows (rowFor (pool c10 n H) (c10 .args .e))) (c .before .expression-at .ensures)
 
 pub asked-body-spec : {M : Type 1} → statement M
 asked-body-spec =

@@ -32,7 +32,7 @@ returns-3 c n H e q f h =
     let c5 = c3 .before .before in
     starts-same (pool c5 n H) (c5 .args .on .now) (c5 .args .rows .now) e (c5 .args .i) (c3 .if1 .left)
     (c .before .before .leads-to .ensures n H e f (ap (λ (r : Raw). r .n1) q) h)
-    (c .before .if2 .left) (c .same-body .ensures e q)
+    (c .before .if2 .left) (c .same-expression .ensures e q)
 
 pub starts-spec : {M : Type 1} → statement M
 starts-spec =

@@ -18,7 +18,7 @@ returns-2 : tie.Need-returns-2
 returns-2 c =
     let c5 = c .before .before .before .before .before in
     names-add (poolOf (c5 .args .n) (c5 .args .heads .now) (c5 .args .kinds .now) (c5 .args .numbers .now)) (c5 .args .able .now) (c5 .args .i)
-    (c .before .before .body-at .result) (c5 .args .named .now) _ (c .before .before .body-at .ensures) (c5 .pre .4) (c .name-link .ensures _ _)
+    (c .before .before .expression-at .result) (c5 .args .named .now) _ (c .before .before .expression-at .ensures) (c5 .pre .4) (c .name-link .ensures _ _)
 
 pub name-next-spec : {M : Type 1} → statement M
 name-next-spec =

@@ -19,7 +19,7 @@ returns-2 c =
     let c4 = c3 .before in
     let c5 = c4 .before in
     second-decides (c3 .same-role .ensures ∙ ap (λ (p : Role). sameRole p (c5 .args .r)) (c4 .head-at .ensures)) (c .before .before .if1 .left)
-    (c .same .ensures ∙ ap (λ (x : Expression). same x (E.Entity (c5 .args .own))) (c .before .body-at .ensures))
+    (c .same .ensures ∙ ap (λ (x : Expression). same x (E.Entity (c5 .args .own))) (c .before .expression-at .ensures))
 
 pub is-direct-at-spec : {M : Type 1} → statement M
 is-direct-at-spec =

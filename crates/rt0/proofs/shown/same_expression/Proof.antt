@@ -1,7 +1,7 @@
 use borrow.Author.Needs.{needs}
 use Rattle.rt0.specs.laws.Bodies.{body-kind, body-lead, body-two, body-raw}
-use Rattle.rt0.proofs.shown.same_body.Statement.{statement}
-use Rattle.rt0.proofs.shown.same_body.Tie as tie
+use Rattle.rt0.proofs.shown.same_expression.Statement.{statement}
+use Rattle.rt0.proofs.shown.same_expression.Tie as tie
 
 returns : tie.Need-returns
 returns c =
@@ -23,10 +23,10 @@ returns-3 c =
     (c3 .if3 .left) (c6 .if1 .left)
 
 returns-4 : tie.Need-returns-4
-returns-4 c = λ e q. body-raw _ _ _ e _ q (c .before .before .body-at .ensures) (c .before .raw-of .ensures) (c .same-raw .ensures)
+returns-4 c = λ e q. body-raw _ _ _ e _ q (c .before .before .expression-at .ensures) (c .before .raw-of .ensures) (c .same-raw .ensures)
 
-pub same-body-spec : {M : Type 1} → statement M
-same-body-spec =
+pub same-expression-spec : {M : Type 1} → statement M
+same-expression-spec =
     tie.close
     (tie.spec (λ c. search needs) (λ c. search needs) (λ c. search needs) returns (λ c. search needs) (λ c. search needs) returns-2
     (λ c. search needs) (λ c. search needs) (λ c. search needs) (λ c. search needs) returns-3 (λ c κs. search needs) (λ c κs. search needs)
