@@ -11,3 +11,4 @@ pub mod Links
 pub mod Collected
 pub mod Frontiers
 pub mod All
+pub mod Reach

@@ -24,7 +24,7 @@ ghost use mathlib.Core.Path.{_≡_};
 ghost use mathlib.Core.Bool.{true, cond};
 ghost use Prim.Native.Nat.{ℕ, _≤_, _<_};
 ghost use mathlib.Core.List.{List};
-ghost use lib.ListN.{length, replicate};
+ghost use lib.ListN.{length};
 ghost use Rattle.rt0.specs.laws.Pool.{poolOf, credentials};
 ghost use Rattle.closure.specs.laws.Rules.{rulesOf};
 ghost use Rattle.rules.specs.laws.Table.{chosen};
@@ -41,7 +41,8 @@ ghost use Rattle.candidates.specs.laws.Done.{doneIn};
 ghost use Rattle.candidates.specs.laws.Offers.{folded};
 ghost use Rattle.candidates.specs.laws.Skipped.{Skipped};
 ghost use Rattle.candidates.specs.laws.Collected.{Added, Grown, Collected};
-ghost use Rattle.candidates.specs.laws.All.{isFrom, offerRole, offerRoles, Together, allEdges};
+ghost use Rattle.candidates.specs.laws.All.{isFrom, offerRole, offerRoles, allEdges};
+ghost use Rattle.candidates.specs.laws.Reach.{LinkFound};
 ghost use Rattle.numbers.specs.Sizes.{MOST-NODES, MOST-EDGES};
 
 fn flag_of(b: bool) -> u8
@@ -145,7 +146,7 @@ fn flagged<'a>(
 }
 
 // "each entity B such that A.r1 ← B", by the credentials of which B is the body.
-fn members(pool: Pool, a: Role) -> [u8; 128]
+pub fn members(pool: Pool, a: Role) -> [u8; 128]
     requires { ⌜ pool .count ≤ 128 ⌝ }
     ensures { λ r. ⌜ Told (isFrom (credentials pool) a) pool (pool .count) r ⌝ }
 {
@@ -327,7 +328,7 @@ fn add_found<'a>(
 }
 
 // The credentials that are found from the role B.r of any member.
-fn found_from_all<'a>(
+pub fn found_from_all<'a>(
     m: usize,
     heads: &'a [u16; 256],
     kinds: &'a [u8; 256],
@@ -351,32 +352,33 @@ fn found_from_all<'a>(
     all
 }
 
-// The best of the edges to the frontiers of the roles B.r of all members.
-fn with_frontiers<'a>(
-    m: usize,
-    heads: &'a [u16; 256],
-    kinds: &'a [u8; 256],
-    numbers: &'a [u16; 1024],
-    stop: &'a [u8; 128],
-    flags: &'a [u8; 128],
+// The first edge in order that is not done, by what is found for the linked target.
+pub fn all_edges(
+    own: Preparation,
+    found: &[u8; 128],
     nodes: Nodes,
     edges: Edges,
     i: u8,
     n: Node,
     r: u16,
 ) -> Choice
-    requires { ⌜ (m ≤ 128) × (nodes .count ≤ MOST-NODES) × (edges .count ≤ MOST-EDGES) ⌝ }
-    ensures { λ c. ⌜ Together (isDone (nodesOf nodes) (edgesOf edges) i) (poolOf m (now (heads .entry)) (now (kinds .entry)) (now (numbers .entry)))
-        (replicate 128 1) (now (stop .entry)) (now (flags .entry)) n r c ⌝ }
+    requires { ⌜ Prepared own × (nodes .count ≤ MOST-NODES) × (edges .count ≤ MOST-EDGES) ⌝ }
+    ensures { λ c. ⌜ ((a : Role) → LinkFound own a r (now (found .entry))
+        → c ≡ firstNot (isDone (nodesOf nodes) (edgesOf edges) i) C.Nothing (allEdges (tablesOf (own .house)) n a r)) ⌝ }
 {
-    let on = [1u8; 128];
-    let all = found_from_all(m, heads, kinds, numbers, &on, stop, flags, r);
+    let house = own.house;
+    let names = house.names;
+    let pool = house.issuer;
+    let m = pool.count;
+    if class_of(names.count, &names.name, &names.class, r) == SUBJECT_ALL {
+        return with_roles(m, &pool.kinds, &pool.numbers, found, nodes, edges, i, n, r);
+    }
     with_members(
         m,
-        kinds,
-        numbers,
-        stop,
-        &all,
+        &pool.kinds,
+        &pool.numbers,
+        &own.oppo,
+        found,
         nodes.count,
         &nodes.kind,
         &nodes.number,
@@ -390,41 +392,5 @@ fn with_frontiers<'a>(
         n,
         true,
         Choice::Nothing,
-    )
-}
-
-// The first edge in order that is not done.
-pub fn all_edges(
-    own: Preparation,
-    nodes: Nodes,
-    edges: Edges,
-    i: u8,
-    n: Node,
-    a: Role,
-    r: u16,
-) -> Choice
-    requires { ⌜ Prepared own × (nodes .count ≤ MOST-NODES) × (edges .count ≤ MOST-EDGES) ⌝ }
-    ensures { λ c. ⌜ c ≡ firstNot (isDone (nodesOf nodes) (edgesOf edges) i) C.Nothing (allEdges (tablesOf (own .house)) n a r) ⌝ }
-{
-    let house = own.house;
-    let names = house.names;
-    let pool = house.issuer;
-    let m = pool.count;
-    let flags = members(pool, a);
-    if class_of(names.count, &names.name, &names.class, r) == SUBJECT_ALL {
-        return with_roles(m, &pool.kinds, &pool.numbers, &flags, nodes, edges, i, n, r);
-    }
-    with_frontiers(
-        m,
-        &pool.heads,
-        &pool.kinds,
-        &pool.numbers,
-        &own.oppo,
-        &flags,
-        nodes,
-        edges,
-        i,
-        n,
-        r,
     )
 }

@@ -1,4 +1,6 @@
 // Which move comes next. What it is stands in moves/specs.
+use candidates::LinkReach;
+use moves::Found;
 pub use next::is_nothing;
 pub use next::next_choice;
 pub use waiting::resting;
@@ -8,3 +10,9 @@ mod next;
 mod processing;
 mod sensitive;
 mod waiting;
+
+// A move, and what was found for the linked target visited last.
+pub struct Turn {
+    pub found: Found,
+    pub reach: LinkReach,
+}

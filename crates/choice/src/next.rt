@@ -1,5 +1,8 @@
 // The search for the next move: nodes by rising number.
+use crate::Turn;
 use crate::processing::choice_at;
+use candidates::LinkReach;
+use candidates::reach_at;
 use graph::node_of;
 use moves::Choice;
 use moves::Found;
@@ -18,6 +21,7 @@ ghost use Rattle.negotiation.specs.State.{within};
 ghost use Rattle.moves.specs.Rules.{endIn};
 ghost use Rattle.moves.specs.Move.{nextMove};
 ghost use Rattle.moves.specs.laws.Own.{Prepared, foundMove};
+ghost use Rattle.candidates.specs.laws.Reach.{Recalls};
 ghost use Rattle.choice.specs.laws.Next.{isNothing, isUnprocessed, BeginsAt, NothingBefore, Resting};
 ghost use Rattle.choice.specs.laws.Exhausted.{Exhausted};
 
@@ -64,39 +68,50 @@ fn begins_at(kind: &[u8; 256], rests: usize) -> usize
 }
 
 // "Nodes are tried by rising number": the first at which there is something to do. The edges of rule (4) of sensitive roles are done below `passed`, and
-// there is nothing to do below `rests`, unless that is a goal.
+// there is nothing to do below `rests`, unless that is a goal. What was found for the linked target visited last is in `last`.
 pub fn next_choice(
     own: Preparation,
     n: Negotiation,
     states: NodeStates,
     passed: usize,
     rests: usize,
-) -> Found
+    last: LinkReach,
+) -> Turn
     requires { ⌜ Prepared own × (within (stateOf n) ≡ true) × (0 < n .nodes .count) × NodesFormed (nodesOf (n .nodes))
         × EdgesFormed (nodesOf (n .nodes)) (edgesOf (n .edges))
         × StateColumns (nodesOf (n .nodes)) (edgesOf (n .edges)) (states .satisfied) (states .failed)
-        × Exhausted (tablesOf (own .house)) (stateOf n) passed × Resting (tablesOf (own .house)) (stateOf n) rests ⌝ }
-    ensures found { λ r. ⌜ nextMove (endIn (tablesOf (own .house)) (stateOf n)) ≡ foundMove (endIn (tablesOf (own .house)) (stateOf n)) r ⌝ }
-    ensures standing { λ r. ⌜ r .node < n .nodes .count ⌝ }
-    ensures idle { λ r. ⌜ NothingBefore (endIn (tablesOf (own .house)) (stateOf n)) (r .node) ⌝ }
+        × Exhausted (tablesOf (own .house)) (stateOf n) passed × Resting (tablesOf (own .house)) (stateOf n) rests × Recalls own last ⌝ }
+    ensures found { λ r. ⌜ nextMove (endIn (tablesOf (own .house)) (stateOf n)) ≡ foundMove (endIn (tablesOf (own .house)) (stateOf n)) (r .found) ⌝ }
+    ensures standing { λ r. ⌜ r .found .node < n .nodes .count ⌝ }
+    ensures idle { λ r. ⌜ NothingBefore (endIn (tablesOf (own .house)) (stateOf n)) (r .found .node) ⌝ }
+    ensures recalls { λ r. ⌜ Recalls own (r .reach) ⌝ }
 {
     let h = n.header;
     let nodes = n.nodes;
     let count = nodes.count;
+    let mut reach = last;
     let mut i = begins_at(&nodes.kind, rests);
     while i < count {
         if is_unprocessed(h.side, nodes.verifier[i], nodes.state[i]) {
             let node = i as u8;
             let x = node_of(nodes, node);
-            let choice = choice_at(own, n, states, node, x, passed);
+            let visit = reach_at(own, h.side, x, reach);
+            reach = visit;
+            let choice = choice_at(own, n, states, &reach.found, node, x, passed);
             if !is_nothing(choice) {
-                return Found { node, choice };
+                return Turn {
+                    found: Found { node, choice },
+                    reach,
+                };
             }
         }
         i += 1;
     }
-    Found {
-        node: 0,
-        choice: Choice::Nothing,
+    Turn {
+        found: Found {
+            node: 0,
+            choice: Choice::Nothing,
+        },
+        reach,
     }
 }

@@ -39,6 +39,7 @@ ghost use Rattle.moves.specs.Candidates.{firstNot, chosenIn, isDone};
 ghost use Rattle.moves.specs.Rules.{endIn, linkRules, verifierRules, ownRules, opponentRules};
 ghost use Rattle.moves.specs.Move.{choiceAt};
 ghost use Rattle.moves.specs.laws.Own.{Prepared};
+ghost use Rattle.candidates.specs.laws.Reach.{LinkedBy};
 ghost use Rattle.choice.specs.laws.Ready.{Ready};
 ghost use Rattle.choice.specs.laws.Asked.{restEdges, Asked};
 ghost use Rattle.choice.specs.laws.Exhausted.{Exhausted};
@@ -60,12 +61,13 @@ fn verifier_link(
     own: Preparation,
     n: Negotiation,
     states: NodeStates,
+    found: &[u8; 128],
     i: u8,
     x: Node,
     a: Role,
     r: u16,
 ) -> Choice
-    requires { ⌜ Ready own n states ⌝ }
+    requires { ⌜ Ready own n states × LinkedBy own (E.Linked a r) (now found) ⌝ }
     ensures { λ c. ⌜ c ≡ chosenIn (isDone (nodesOf (n .nodes)) (edgesOf (n .edges)) i)
         (verifierRules (endIn (tablesOf (own .house)) (stateOf n)) i x (E.Linked a r)) ⌝ }
 {
@@ -80,7 +82,7 @@ fn verifier_link(
     }
     let nodes = n.nodes;
     let edges = n.edges;
-    or_else(all_edges(own, nodes, edges, i, x, a, r), Choice::Mark)
+    or_else(all_edges(own, found, nodes, edges, i, x, r), Choice::Mark)
 }
 
 // 5.3, Verifier-Side Processing.
@@ -88,11 +90,12 @@ fn verifier_rules(
     own: Preparation,
     n: Negotiation,
     states: NodeStates,
+    found: &[u8; 128],
     i: u8,
     x: Node,
     e: Expression,
 ) -> Choice
-    requires { ⌜ Ready own n states ⌝ }
+    requires { ⌜ Ready own n states × LinkedBy own e (now found) ⌝ }
     ensures { λ c. ⌜ c ≡ chosenIn (isDone (nodesOf (n .nodes)) (edgesOf (n .edges)) i) (verifierRules (endIn (tablesOf (own .house)) (stateOf n)) i x e) ⌝ }
 {
     let nodes = n.nodes;
@@ -100,7 +103,7 @@ fn verifier_rules(
     match e {
         Expression::Entity(_) => Choice::Mark,
         Expression::Role(a) => or_else(issuer_edges(own, n, i, x, a), Choice::Mark),
-        Expression::Linked(a, r) => verifier_link(own, n, states, i, x, a, r),
+        Expression::Linked(a, r) => verifier_link(own, n, states, found, i, x, a, r),
         Expression::Intersection(p) => or_else(part_edges(nodes, edges, i, x, p), Choice::Mark),
         Expression::Goal(_) => Choice::Mark,
     }
@@ -195,16 +198,19 @@ fn opponent_rules(
     }
 }
 
-// What is to be done at node i: nothing where our side has processed it. The edges of rule (4) of sensitive roles are done below `passed`.
+// What is to be done at node i: nothing where our side has processed it. The edges of rule (4) of sensitive roles are done below `passed`. What
+// is found is for node i, if that is a linked target that we verify.
 pub fn choice_at(
     own: Preparation,
     n: Negotiation,
     states: NodeStates,
+    found: &[u8; 128],
     i: u8,
     x: Node,
     passed: usize,
 ) -> Choice
-    requires { ⌜ Ready own n states × (i < n .nodes .count) × Exhausted (tablesOf (own .house)) (stateOf n) passed × (x ≡ nodeIn (nodesOf (n .nodes)) i) ⌝ }
+    requires { ⌜ Ready own n states × (i < n .nodes .count) × Exhausted (tablesOf (own .house)) (stateOf n) passed × (x ≡ nodeIn (nodesOf (n .nodes)) i)
+        × (x .verifier ≡ n .header .side → LinkedBy own (x .expression) (now found)) ⌝ }
     ensures { λ c. ⌜ c ≡ choiceAt (endIn (tablesOf (own .house)) (stateOf n)) i x ⌝ }
 {
     let h = n.header;
@@ -213,7 +219,7 @@ pub fn choice_at(
     }
     let e = x.expression;
     if x.verifier == h.side {
-        return verifier_rules(own, n, states, i, x, e);
+        return verifier_rules(own, n, states, found, i, x, e);
     }
     opponent_rules(own, n, states, i, x, e, passed)
 }

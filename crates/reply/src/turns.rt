@@ -3,6 +3,7 @@ use crate::Replying;
 use crate::carry::carry;
 use crate::carry::room_for;
 use crate::carry::size_of_outgoing;
+use candidates::no_reach;
 use choice::is_nothing;
 use choice::next_choice;
 use choice::resting;
@@ -54,6 +55,7 @@ pub fn reply_from(own: Preparation, start: Negotiation, from: usize, s: &mut [u8
     let mut waiting = 0;
     let mut last = [0u8; 128];
     let mut earlier = [0u8; 128];
+    let mut reach = no_reach();
     while 0 < left {
         let states = node_states(n.nodes, n.edges);
         let sat = states.satisfied;
@@ -62,7 +64,8 @@ pub fn reply_from(own: Preparation, start: Negotiation, from: usize, s: &mut [u8
             return replying(0, n, at, false);
         }
         let rests = resting(n.edges, &sat, &last, &failed, &earlier, waiting);
-        let found = next_choice(own, n, states, passed, rests);
+        let turn = next_choice(own, n, states, passed, rests, reach);
+        let found = turn.found;
         let choice = found.choice;
         if is_nothing(choice) {
             return replying(0, n, at, false);
@@ -82,6 +85,7 @@ pub fn reply_from(own: Preparation, start: Negotiation, from: usize, s: &mut [u8
         passed = larger(passed, waiting);
         last = sat;
         earlier = failed;
+        reach = turn.reach;
         left -= 1;
     }
     replying(0, n, at, false)

@@ -13,6 +13,10 @@ returns c =
     let s = c3 in at-processed (tablesOf (s .args .own .house)) (stateOf (s .args .n)) (s .args .i) (s .args .x) (c .before .is-processed .ensures)
     (c .if1 .taken) refl
 
+verifier-rules-requires : tie.Need-verifier-rules-requires
+verifier-rules-requires c κs =
+    let s = c .before .before .before .before .before .before in (s .pre .0, s .pre .4 (c .if2 .taken))
+
 returns-2 : tie.Need-returns-2
 unfolding stateOf
 returns-2 c =
@@ -47,4 +51,4 @@ returns-3 c =
 pub choice-at-spec : {M : Type 1} → statement M
 choice-at-spec =
     tie.close
-    (tie.spec (λ c κs. search needs) returns (λ c κs. search needs) returns-2 opponent-rules-requires returns-3)
+    (tie.spec (λ c κs. search needs) returns verifier-rules-requires returns-2 opponent-rules-requires returns-3)

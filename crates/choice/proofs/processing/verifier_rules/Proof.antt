@@ -1,6 +1,7 @@
 use mathlib.Core.Path.{refl}
 use Rattle.tables.specs.laws.Tables.{tablesOf}
 use Rattle.negotiation.specs.laws.State.{stateOf}
+use Rattle.candidates.specs.laws.Reach.{linked-same}
 use Rattle.choice.specs.laws.RuleChoice.{verifier-as, verifier-entity, verifier-role, verifier-parts, verifier-goal}
 use borrow.Author.Needs.{needs}
 use Rattle.choice.proofs.processing.verifier_rules.Statement.{statement}
@@ -18,6 +19,10 @@ returns-2 c =
     let c7 = c3 .before .before .before .before in
     let s = c7 in verifier-as (tablesOf (s .args .own .house)) (stateOf (s .args .n)) _ (s .args .i) (s .args .x) (c3 .e .given .1)
     (verifier-role _ _ _ _ _ _ (c .before .issuer-edges .ensures) (c .or-else .ensures))
+
+verifier-link-requires : tie.Need-verifier-link-requires
+verifier-link-requires c κs =
+    let s = c .before .before .before .before .before in (s .pre .0, linked-same (s .args .own) (s .pre .1) (c .before .e2 .given .1))
 
 returns-3 : tie.Need-returns-3
 returns-3 c =
@@ -41,5 +46,5 @@ returns-5 c =
 pub verifier-rules-spec : {M : Type 1} → statement M
 verifier-rules-spec =
     tie.close
-    (tie.spec (λ c. search needs) (λ c. search needs) (λ c κs. search needs) (λ c κs. search needs) (λ c. search needs) (λ c κs. search needs)
+    (tie.spec (λ c. search needs) (λ c. search needs) (λ c κs. search needs) (λ c κs. search needs) (λ c. search needs) verifier-link-requires
     (λ c. search needs) (λ c κs. search needs) (λ c κs. search needs) (λ c. search needs) returns returns-2 returns-3 returns-4 returns-5)
