@@ -9,3 +9,4 @@ pub mod Cases
 pub mod ReplyLength
 pub mod ReplyLegal
 pub mod Call
+pub mod Fresh

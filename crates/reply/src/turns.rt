@@ -56,6 +56,9 @@ pub fn reply_from(own: Preparation, start: Negotiation, from: usize, s: &mut [u8
     let mut last = [0u8; 128];
     let mut earlier = [0u8; 128];
     let mut reach = no_reach();
+    let mut seen = [0; 2];
+    let mut issuer = [1u8; 128];
+    let mut subject = [1u8; 128];
     while 0 < left {
         let states = node_states(n.nodes, n.edges);
         let sat = states.satisfied;
@@ -70,7 +73,7 @@ pub fn reply_from(own: Preparation, start: Negotiation, from: usize, s: &mut [u8
         if is_nothing(choice) {
             return replying(0, n, at, false);
         }
-        let out = outgoing(own, n, found);
+        let out = outgoing(own, n, &mut seen, &mut issuer, &mut subject, found);
         if !room_for(n, out) {
             return replying(0, n, at, true);
         }

@@ -13,6 +13,7 @@ ghost use Rattle.expression.specs.Same.{sameRole};
 ghost use Rattle.expression.specs.laws.Key.{KeyOf};
 ghost use Rattle.rt0.specs.laws.Pool.{poolOf, headIn, rawAtColumns, expressionIn, credentials as credentialsOf};
 ghost use Rattle.rt0.specs.laws.Added.{pair, stored, Sized, Stored};
+pub use shown::is_at;
 pub use shown::is_shown;
 pub use shown::same_expression;
 

@@ -41,7 +41,7 @@ pub fn same_expression<'a>(
 }
 
 // Credential i has the head with this key, and the body whose numbers are those of raw.
-fn is_at<'a>(
+pub fn is_at<'a>(
     heads: &'a [u16; 256],
     kinds: &'a [u8; 256],
     numbers: &'a [u16; 1024],

@@ -5,3 +5,4 @@ pub mod Sent
 pub mod SentLaws
 pub mod Edge
 pub mod Relevant
+pub mod Fresh

@@ -1,6 +1,7 @@
 // The credentials that go before a command.
 use crate::pool::own_pool;
 use crate::pool::part_of;
+use crate::unshown::refresh;
 use expression::Credential;
 use expression::Expression;
 use graph::Node;
@@ -20,6 +21,7 @@ ghost use Rattle.needed.specs.Needed.{needed as neededOf};
 ghost use Rattle.tables.specs.laws.Tables.{tablesOf};
 ghost use Rattle.tables.specs.Public.{publicOf};
 ghost use Rattle.moves.specs.laws.Own.{Prepared};
+ghost use Rattle.sending.specs.laws.Fresh.{UnshownIn, Fresh};
 ghost use Rattle.sending.specs.laws.Unshown.{unshownOf};
 ghost use Rattle.sending.specs.laws.Sent.{Sends, directIn, sideSetOf};
 ghost use Rattle.numbers.specs.Sizes.{MOST-SHOWN};
@@ -78,14 +80,23 @@ fn needed_of(
     shown: Pool,
     set: Pool,
     on: [u8; 128],
+    unshown: &[u8; 128],
     f: Expression,
     e: Expression,
     command: Command,
 ) -> Outgoing
-    requires { ⌜ (shown .count ≤ MOST-SHOWN) × (set .count ≤ 64) ⌝ }
+    requires { ⌜ (shown .count ≤ MOST-SHOWN) × (set .count ≤ 64) × UnshownIn (credentials shown) set (now unshown) ⌝ }
     ensures { λ r. ⌜ Sends (neededOf (credentials shown) f e (unshownOf (credentials shown) (chosen set on))) command r ⌝ }
 {
-    let pool = own_pool(shown, set.count, &set.heads, &set.kinds, &set.numbers, &on);
+    let pool = own_pool(
+        shown,
+        set.count,
+        &set.heads,
+        &set.kinds,
+        &set.numbers,
+        &on,
+        unshown,
+    );
     let flags = relevant(pool.count, &pool.heads, &pool.kinds, &pool.numbers, f);
     let part = part_of(
         pool.count,
@@ -123,23 +134,52 @@ fn needed_of(
 }
 
 // Those needed for node x from e, of our set for our side of it: 0x12 where we verify it, else 0x13 less direct credentials of sensitive
-// roles.
-pub fn needed_for(
+// roles. The flags of the set's credentials that are not shown are made current.
+pub fn needed_for<'a>(
     own: Preparation,
     side: u8,
     shown: Pool,
+    seen: &'a mut [usize; 2],
+    issuer: &'a mut [u8; 128],
+    subject: &'a mut [u8; 128],
     x: Node,
     e: Expression,
     command: Command,
 ) -> Outgoing
-    requires { ⌜ Prepared own × (shown .count ≤ MOST-SHOWN) ⌝ }
-    ensures { λ r. ⌜ Sends (neededOf (credentials shown) (x .expression) e
+    requires { ⌜ Prepared own × (shown .count ≤ MOST-SHOWN) × Fresh (credentials shown) own (now seen) (now issuer) (now subject) ⌝ }
+    ensures sent { λ r. ⌜ Sends (neededOf (credentials shown) (x .expression) e
         (unshownOf (credentials shown) (sideSetOf (publicOf (tablesOf (own .house))) side x))) command r ⌝ }
+    ensures fresh { λ _. ⌜ Fresh (credentials shown) own (now (seen .exit)) (now (issuer .exit)) (now (subject .exit)) ⌝ }
 {
     let f = x.expression;
-    if x.verifier == side {
-        return needed_of(shown, own.house.issuer, [1u8; 128], f, e, command);
-    }
+    let all = [1u8; 128];
     let visible = own.visible;
-    needed_of(shown, own.house.subject, visible, f, e, command)
+    if x.verifier == side {
+        seen[0] = refresh(
+            own.house.issuer.count,
+            &own.house.issuer.heads,
+            &own.house.issuer.kinds,
+            &own.house.issuer.numbers,
+            seen[0],
+            shown.count,
+            &shown.heads,
+            &shown.kinds,
+            &shown.numbers,
+            issuer,
+        );
+        return needed_of(shown, own.house.issuer, all, issuer, f, e, command);
+    }
+    seen[1] = refresh(
+        own.house.subject.count,
+        &own.house.subject.heads,
+        &own.house.subject.kinds,
+        &own.house.subject.numbers,
+        seen[1],
+        shown.count,
+        &shown.heads,
+        &shown.kinds,
+        &shown.numbers,
+        subject,
+    );
+    needed_of(shown, own.house.subject, visible, subject, f, e, command)
 }

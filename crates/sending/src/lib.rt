@@ -8,3 +8,4 @@ mod credentials;
 mod pool;
 mod prepared;
 mod send;
+mod unshown;

@@ -3,7 +3,6 @@ use expression::Credential;
 use rt0::Pool;
 use rt0::expression_at;
 use rt0::head_at;
-use rt0::is_shown;
 use rt0::store;
 ghost use mathlib.Core.Path.{_≡_};
 ghost use mathlib.Core.List.{_++_};
@@ -12,7 +11,8 @@ ghost use lib.Dec.{eqb};
 ghost use Rattle.rt0.specs.laws.Pool.{poolOf, credentialIn, credentials};
 ghost use Rattle.rt0.specs.laws.Added.{Sized};
 ghost use Rattle.rules.specs.laws.Table.{chosen};
-ghost use Rattle.sending.specs.laws.Unshown.{unshownOf, isNew};
+ghost use Rattle.sending.specs.laws.Unshown.{unshownOf};
+ghost use Rattle.sending.specs.laws.Fresh.{UnshownIn};
 ghost use Rattle.sending.specs.laws.Behind.{StoredIf};
 ghost use Rattle.sending.specs.laws.Relevant.{Selected, PartOf};
 ghost use Rattle.numbers.specs.Sizes.{MOST-SHOWN};
@@ -39,24 +39,6 @@ pub fn credential_at<'a>(
     }
 }
 
-// Whether a credential is on and not shown.
-fn is_new<'a>(
-    n: usize,
-    heads: &'a [u16; 256],
-    kinds: &'a [u8; 256],
-    numbers: &'a [u16; 1024],
-    on: u8,
-    c: Credential,
-) -> bool
-    requires { ⌜ n ≤ 128 ⌝ }
-    ensures { λ b. ⌜ b ≡ isNew (credentials (poolOf n (now (heads .entry)) (now (kinds .entry)) (now (numbers .entry)))) on c ⌝ }
-{
-    if on != 1 {
-        return false;
-    }
-    !is_shown(n, heads, kinds, numbers, c)
-}
-
 // The credential goes behind the k others where it is new; how many there are then.
 fn store_if<'a>(
     new: bool,
@@ -77,7 +59,7 @@ fn store_if<'a>(
     k + 1
 }
 
-// The credentials shown and, behind them, those of m own ones that are on and not shown.
+// The credentials shown and, behind them, those of m own ones that are on and not shown, by the flags of these.
 pub fn own_pool<'a>(
     shown: Pool,
     m: usize,
@@ -85,8 +67,10 @@ pub fn own_pool<'a>(
     kinds: &'a [u8; 256],
     numbers: &'a [u16; 1024],
     on: &'a [u8; 128],
+    unshown: &'a [u8; 128],
 ) -> Pool
-    requires { ⌜ (shown .count ≤ MOST-SHOWN) × (m ≤ 64) ⌝ }
+    requires { ⌜ (shown .count ≤ MOST-SHOWN) × (m ≤ 64)
+        × UnshownIn (credentials shown) (poolOf m (now heads) (now kinds) (now numbers)) (now unshown) ⌝ }
     ensures few { λ r. ⌜ r .count ≤ 128 ⌝ }
     ensures all { λ r. ⌜ credentials r ≡ credentials shown ++ unshownOf (credentials shown)
         (chosen (poolOf m (now (heads .entry)) (now (kinds .entry)) (now (numbers .entry))) (now (on .entry))) ⌝ }
@@ -98,14 +82,7 @@ pub fn own_pool<'a>(
     let mut i = 0;
     while i < m {
         let c = credential_at(heads, kinds, numbers, i);
-        let new = is_new(
-            shown.count,
-            &shown.heads,
-            &shown.kinds,
-            &shown.numbers,
-            on[i],
-            c,
-        );
+        let new = (on[i] == 1) & (unshown[i] == 1);
         count = store_if(new, &mut h, &mut k, &mut u, count, c);
         i += 1;
     }

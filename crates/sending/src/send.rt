@@ -21,12 +21,24 @@ ghost use Rattle.negotiation.specs.State.{within};
 ghost use Rattle.moves.specs.declared.Choice.the-variants as K;
 ghost use Rattle.moves.specs.laws.Own.{Prepared, foundMove, commandsOf};
 ghost use Rattle.moves.specs.Rules.{endIn};
+ghost use Rattle.rt0.specs.laws.Pool.{credentials};
+ghost use Rattle.sending.specs.laws.Fresh.{Fresh};
 ghost use Rattle.sending.specs.laws.Edge.{EdgeSent};
 
 // An edge into node i behind the credentials it needs.
-fn edge(own: Preparation, n: Negotiation, i: u8, w: Candidate) -> Outgoing
-    requires { ⌜ Prepared own × (within (stateOf n) ≡ true) × (i < n .nodes .count) ⌝ }
-    ensures { λ r. ⌜ EdgeSent (endIn (tablesOf (own .house)) (stateOf n)) i w r ⌝ }
+fn edge<'a>(
+    own: Preparation,
+    n: Negotiation,
+    seen: &'a mut [usize; 2],
+    issuer: &'a mut [u8; 128],
+    subject: &'a mut [u8; 128],
+    i: u8,
+    w: Candidate,
+) -> Outgoing
+    requires { ⌜ Prepared own × (within (stateOf n) ≡ true) × (i < n .nodes .count)
+        × Fresh (credentials (n .shown)) own (now seen) (now issuer) (now subject) ⌝ }
+    ensures sent { λ r. ⌜ EdgeSent (endIn (tablesOf (own .house)) (stateOf n)) i w r ⌝ }
+    ensures fresh { λ _. ⌜ Fresh (credentials (n .shown)) own (now (seen .exit)) (now (issuer .exit)) (now (subject .exit)) ⌝ }
 {
     let house = own.house;
     let header = n.header;
@@ -43,18 +55,37 @@ fn edge(own: Preparation, n: Negotiation, i: u8, w: Candidate) -> Outgoing
         return direct_for(house.own, shown, f, command);
     }
     let e = w.expression;
-    needed_for(own, header.side, shown, x, e, command)
+    needed_for(
+        own,
+        header.side,
+        shown,
+        seen,
+        issuer,
+        subject,
+        x,
+        e,
+        command,
+    )
 }
 
-// The move that is found.
-pub fn outgoing(own: Preparation, n: Negotiation, found: Found) -> Outgoing
-    requires { ⌜ Prepared own × (within (stateOf n) ≡ true) × (found .node < n .nodes .count) × ((found .choice ≡ K.Nothing) → ⊥) ⌝ }
+// The move that is found. Flags of own credentials that are not shown, and of how many of those shown they speak, are kept beside.
+pub fn outgoing<'a>(
+    own: Preparation,
+    n: Negotiation,
+    seen: &'a mut [usize; 2],
+    issuer: &'a mut [u8; 128],
+    subject: &'a mut [u8; 128],
+    found: Found,
+) -> Outgoing
+    requires { ⌜ Prepared own × (within (stateOf n) ≡ true) × (found .node < n .nodes .count) × ((found .choice ≡ K.Nothing) → ⊥)
+        × Fresh (credentials (n .shown)) own (now seen) (now issuer) (now subject) ⌝ }
     ensures sent { λ r. ⌜ commandsOf r ≡ foundMove (endIn (tablesOf (own .house)) (stateOf n)) found ⌝ }
     ensures few { λ r. ⌜ r .pool .count ≤ 128 ⌝ }
+    ensures fresh { λ _. ⌜ Fresh (credentials (n .shown)) own (now (seen .exit)) (now (issuer .exit)) (now (subject .exit)) ⌝ }
 {
     let choice = found.choice;
     match choice {
-        Choice::Edge(w) => edge(own, n, found.node, w),
+        Choice::Edge(w) => edge(own, n, seen, issuer, subject, found.node, w),
         Choice::Mark => alone(Command::Mark(found.node)),
         Choice::Nothing => alone(Command::End),
     }

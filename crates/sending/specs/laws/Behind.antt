@@ -73,7 +73,7 @@ module _ (f : Credential → Bool) (S P : Pool) (on : List ℕ) where
   unfolding chosen
   behind-all {i} {Q} h l = let z : i ≡ P .count = omega (arith, h .within) in h .all ∙ ap (λ (k : ℕ). credentials S ++ keep f (chosenTo P on k)) z
 
-append-parts : {A : Type 0} (a c b d : List A) → length a ≡ length c → a ++ b ≡ c ++ d → (a ≡ c) × (b ≡ d)
+pub append-parts : {A : Type 0} (a c b d : List A) → length a ≡ length c → a ++ b ≡ c ++ d → (a ≡ c) × (b ≡ d)
 append-parts [] [] b d l h = (refl, h)
 append-parts [] (y ∷ c) b d l h = absurd (omega arith)
 append-parts (x ∷ a) [] b d l h = absurd (omega arith)

@@ -3,9 +3,12 @@ use borrow.Author.Needs.{needs}
 use Rattle.tables.specs.laws.Tables.{tablesOf}
 use Rattle.negotiation.specs.laws.State.{stateOf}
 use Rattle.moves.specs.laws.Own.{commandsOf}
+use Rattle.rt0.specs.laws.Pool.{credentials}
 use Rattle.candidates.specs.laws.Reach.{Recalls, recalls-none}
+use Rattle.sending.specs.laws.Fresh.{Fresh, fresh-start}
 use Rattle.choice.specs.laws.Exhausted.{Exhausted, exhausted-none}
 use Rattle.choice.specs.laws.Waits.{Waits}
+use Rattle.reply.specs.laws.Fresh.{fresh-next}
 use Rattle.reply.specs.laws.Turn.{going-ready, something, next-satisfied, next-none, next-full, next-long, next-goes}
 use Rattle.reply.specs.laws.Writing.{Writing, writing-start, writing-length, writing-past, writing-stops, writing-room, writing-next, exhausted-next}
 use Rattle.reply.specs.laws.Writing.{waits-start, waits-next, waits-now}
@@ -13,12 +16,13 @@ use Rattle.reply.proofs.turns.reply_from.Statement.{statement}
 use Rattle.reply.proofs.turns.reply_from.Tie as tie
 
 abbrev Inv-loop : tie.InvT-loop
-Inv-loop own from s₀ n₀ at₀ left₀ passed₀ waiting₀ last₀ earlier₀ reach₀ s n at left passed waiting last earlier reach =
+Inv-loop own from s₀ n₀ at₀ left₀ passed₀ waiting₀ last₀ earlier₀ reach₀ seen₀ issuer₀ subject₀ s n at left passed waiting last earlier reach seen issuer subject =
     Writing (tablesOf (own .house)) (stateOf n₀) at₀ s₀ (stateOf n) at left s × Exhausted (tablesOf (own .house)) (stateOf n) passed
     × Waits (tablesOf (own .house)) (stateOf n) last earlier waiting × Recalls own reach
+    × Fresh (credentials (n .shown)) own seen issuer subject
 
 abbrev μ-loop : tie.MeasureT-loop
-μ-loop own from s₀ n₀ at₀ left₀ passed₀ waiting₀ last₀ earlier₀ reach₀ s n at left passed waiting last earlier reach = left
+μ-loop own from s₀ n₀ at₀ left₀ passed₀ waiting₀ last₀ earlier₀ reach₀ seen₀ issuer₀ subject₀ s n at left passed waiting last earlier reach seen issuer subject = left
 
 loop-holds : tie.Need-loop-holds Inv-loop μ-loop
 loop-holds c =
@@ -27,6 +31,7 @@ loop-holds c =
       exhausted-none _ _,
       waits-start _ _ _ _ (start .pre .1),
       recalls-none _ _ (c .no-reach .ensures),
+      fresh-start _ _ (start .pre .0),
     )
 
 node-states-requires : tie.Need-node-states-requires Inv-loop μ-loop
@@ -94,7 +99,8 @@ returns-2 c =
 
 outgoing-requires : tie.Need-outgoing-requires Inv-loop μ-loop
 outgoing-requires c κs =
-    let nothing = c .before in
+    let some = c .before .before .before in
+    let nothing = some .before in
     let next = nothing .before .before in
     let loop = next .before .before .before .before .before .before .before .before .before .before .before in
     let start = loop .before .before .before in
@@ -102,24 +108,25 @@ outgoing-requires c κs =
       start .pre .0,
       loop .loop .inv .0 .going .sizes,
       next .next-choice .ensures .1 .0,
-      something (found .choice) (nothing .is-nothing .ensures) (c .if2 .left),
+      something (found .choice) (nothing .is-nothing .ensures) (some .if2 .left),
+      loop .loop .inv .4,
     )
 
 room-for-requires : tie.Need-room-for-requires Inv-loop μ-loop
 room-for-requires c κs =
-    let loop = c .before .before .before .before .before .before .before .before .before .before .before .before .before .before .before in
-    (loop .loop .inv .0 .going .sizes, c .outgoing .ensures .1)
+    let loop = c .before .before .before .before .before .before .before .before .before .before .before .before .before .before .before .before .before .before in
+    (loop .loop .inv .0 .going .sizes, c .outgoing .ensures .1 .0)
 
 same-length-3 : tie.Need-same-length-3 Inv-loop μ-loop
 same-length-3 c =
-    let loop = c .before .before .before .before .before .before .before .before .before .before .before .before .before .before .before .before .before .before in
+    let loop = c .before .before .before .before .before .before .before .before .before .before .before .before .before .before .before .before .before .before .before .before .before in
     writing-length _ _ _ _ (loop .loop .n) (loop .loop .inv .0)
 
 returns-3 : tie.Need-returns-3 Inv-loop μ-loop
 returns-3 c =
     let room = c .before .before in
     let out = room .before in
-    let next = out .before .before .before .before in
+    let next = out .before .before .before .before .before .before .before in
     let unmet = next .before .before .before .before .before .before in
     let told = unmet .before .before .before in
     let inside = told .before in
@@ -134,21 +141,21 @@ returns-3 c =
 size-of-outgoing-requires : tie.Need-size-of-outgoing-requires Inv-loop μ-loop
 size-of-outgoing-requires c κs =
     let out = c .before .before in
-    out .outgoing .ensures .1
+    out .outgoing .ensures .1 .0
 
 add-if4 : tie.Need-add-if4 Inv-loop μ-loop
 add-if4 c =
-    let loop = c .before .before .before .before .before .before .before .before .before .before .before .before .before .before .before .before .before .before in
+    let loop = c .before .before .before .before .before .before .before .before .before .before .before .before .before .before .before .before .before .before .before .before .before in
     omega (arith, c .size-of-outgoing .ensures .1, loop .loop .inv .0 .most)
 
 add-if4-2 : tie.Need-add-if4-2 Inv-loop μ-loop
 add-if4-2 c =
-    let loop = c .before .before .before .before .before .before .before .before .before .before .before .before .before .before .before .before .before .before in
+    let loop = c .before .before .before .before .before .before .before .before .before .before .before .before .before .before .before .before .before .before .before .before .before in
     omega (arith, c .size-of-outgoing .ensures .1, loop .loop .inv .0 .most)
 
 same-length-4 : tie.Need-same-length-4 Inv-loop μ-loop
 same-length-4 c =
-    let loop = c .before .before .before .before .before .before .before .before .before .before .before .before .before .before .before .before .before .before .before .before in
+    let loop = c .before .before .before .before .before .before .before .before .before .before .before .before .before .before .before .before .before .before .before .before .before .before .before in
     writing-length _ _ _ _ (loop .loop .n) (loop .loop .inv .0)
 
 returns-4 : tie.Need-returns-4 Inv-loop μ-loop
@@ -157,7 +164,7 @@ returns-4 c =
     let fits = size .before in
     let room = fits .before in
     let out = room .before in
-    let next = out .before .before .before .before in
+    let next = out .before .before .before .before .before .before .before in
     let unmet = next .before .before .before .before .before .before in
     let told = unmet .before .before .before in
     let inside = told .before in
@@ -176,7 +183,7 @@ carry-requires c κs =
     let fits = size .before in
     let room = fits .before in
     let out = room .before in
-    let next = out .before .before .before .before in
+    let next = out .before .before .before .before .before .before .before in
     let unmet = next .before .before .before .before .before .before in
     let told = unmet .before .before .before in
     let inside = told .before in
@@ -186,22 +193,22 @@ carry-requires c κs =
     (next-goes (tablesOf (start .args .own .house)) (loop .loop .n) (loop .loop .at) (told .node-states .ensures) (loop .loop .inv .0 .going)
     (unmet .if1 .left) (next .next-choice .result .found) (next .next-choice .ensures .0) (out .outgoing .result) (out .outgoing .ensures .0)
     (room .room-for .ensures) (fits .if3 .left) (size .size-of-outgoing .ensures .0) (short .if4 .left)) in
-    (loop .loop .inv .0 .going .sizes, out .outgoing .ensures .1, w .0, w .1, w .2)
+    (loop .loop .inv .0 .going .sizes, out .outgoing .ensures .1 .0, w .0, w .1, w .2)
 
 add-at : tie.Need-add-at Inv-loop μ-loop
 add-at c =
     let size = c .before .before .before .before .before in
-    let loop = size .before .before .before .before .before .before .before .before .before .before .before .before .before .before .before .before .before .before in
+    let loop = size .before .before .before .before .before .before .before .before .before .before .before .before .before .before .before .before .before .before .before .before .before in
     omega (arith, size .size-of-outgoing .ensures .1, loop .loop .inv .0 .most)
 
 sub-left : tie.Need-sub-left Inv-loop μ-loop
 sub-left c =
-    let inside = c .before .before .before .before .before .before .before .before .before .before .before .before .before .before .before .before .before .before .before .before .before .before .before .before .before in
+    let inside = c .before .before .before .before .before .before .before .before .before .before .before .before .before .before .before .before .before .before .before .before .before .before .before .before .before .before .before .before in
     omega (arith, inside .loop-test .taken)
 
 loop-less : tie.Need-loop-less Inv-loop μ-loop
 loop-less c =
-    let inside = c .before .before .before .before .before .before .before .before .before .before .before .before .before .before .before .before .before .before .before .before .before .before .before .before .before in
+    let inside = c .before .before .before .before .before .before .before .before .before .before .before .before .before .before .before .before .before .before .before .before .before .before .before .before .before .before .before .before in
     omega (arith, inside .loop-test .taken)
 
 loop-again : tie.Need-loop-again Inv-loop μ-loop
@@ -214,7 +221,7 @@ loop-again c =
     let fits = size .before in
     let room = fits .before in
     let out = room .before in
-    let next = out .before .before .before .before in
+    let next = out .before .before .before .before .before .before .before in
     let unmet = next .before .before .before .before .before .before in
     let told = unmet .before .before .before in
     let inside = told .before in
@@ -232,6 +239,7 @@ loop-again c =
           (carried .carry .ensures .0) (told .node-states .ensures) (next .next-choice .ensures .1 .0) (next .next-choice .ensures .1 .1 .0)
           (wide .wide .ensures),
       next .next-choice .ensures .1 .1 .1,
+      fresh-next (loop .loop .n) (carried .carry .result) _ (commandsOf (out .outgoing .result)) (carried .carry .ensures .0) (out .outgoing .ensures .1 .1),
     )
 
 same-length-5 : tie.Need-same-length-5 Inv-loop μ-loop

@@ -15,36 +15,47 @@ edge-command-requires c κs =
 
 returns : tie.Need-returns
 unfolding endIn publicOf tablesOf stateOf
-returns c = edge-other _ _ _ (c .before .before .before .edge-command .ensures) (c .before .if1 .taken) (c .alone .ensures)
+returns c =
+    let command = c .before .before .before in
+    let start = command .before .before .before .before .before .before in
+    (edge-other _ _ _ (command .edge-command .ensures) (c .before .if1 .taken) (c .alone .ensures), start .pre .3)
 
 node-of-requires : tie.Need-node-of-requires
 node-of-requires c κs =
-    let c8 = c .before .before .before .before .before .before .before .before in
-    (c8 .pre .2, within-few (c8 .args .n) (c8 .pre .1) .0)
+    let start = c .before .before .before .before .before .before .before .before in
+    (start .pre .2, within-few (start .args .n) (start .pre .1) .0)
 
 direct-for-requires : tie.Need-direct-for-requires
 direct-for-requires c κs =
-    let c10 = c .before .before .before .before .before .before .before .before .before .before in
-    within-few (c10 .args .n) (c10 .pre .1) .2
+    let start = c .before .before .before .before .before .before .before .before .before .before in
+    within-few (start .args .n) (start .pre .1) .2
 
 returns-2 : tie.Need-returns-2
 unfolding endIn publicOf tablesOf stateOf
 returns-2 c =
-    let c3 = c .before .before .before in
-    let c5 = c3 .before .before in
-    edge-direct _ _ _ (c5 .edge-command .ensures) (c .before .before .node-of .ensures) (c3 .if1 .left) (c .before .if2 .taken) (c .direct-for .ensures)
+    let node = c .before .before in
+    let other = node .before in
+    let command = other .before .before in
+    let start = command .before .before .before .before .before .before in
+    let sent = edge-direct _ _ _ (command .edge-command .ensures) (node .node-of .ensures) (other .if1 .left) (c .before .if2 .taken)
+    (c .direct-for .ensures) in
+    (sent, start .pre .3)
 
 needed-for-requires : tie.Need-needed-for-requires
 needed-for-requires c κs =
-    let c10 = c .before .before .before .before .before .before .before .before .before .before in
-    (c10 .pre .0, within-few (c10 .args .n) (c10 .pre .1) .2)
+    let start = c .before .before .before .before .before .before .before .before .before .before .before .before .before in
+    (start .pre .0, within-few (start .args .n) (start .pre .1) .2, start .pre .3)
 
 returns-3 : tie.Need-returns-3
 unfolding endIn publicOf tablesOf stateOf
 returns-3 c =
-    let c3 = c .before .before .before in
-    let c5 = c3 .before .before in
-    edge-needed _ _ _ (c5 .edge-command .ensures) (c .before .before .node-of .ensures) (c3 .if1 .left) (c .before .if2 .left) (c .needed-for .ensures)
+    let needs = c .before .before .before .before in
+    let node = needs .before in
+    let other = node .before in
+    let command = other .before .before in
+    let sent = edge-needed _ _ _ (command .edge-command .ensures) (node .node-of .ensures) (other .if1 .left) (needs .if2 .left)
+    (c .needed-for .ensures .0) in
+    (sent, c .needed-for .ensures .1)
 
 pub edge-spec : {M : Type 1} → statement M
 edge-spec =
