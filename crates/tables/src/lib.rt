@@ -19,6 +19,8 @@ pub use records::check;
 pub use records::decode;
 
 mod columns;
+mod groups;
+mod left;
 mod lookup;
 mod names;
 mod records;

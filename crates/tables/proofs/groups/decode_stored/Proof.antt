@@ -2,8 +2,8 @@ use borrow.Author.Needs.{needs}
 use Rattle.tables.specs.laws.Groups.{credentialsOf}
 use Rattle.tables.specs.laws.StoredReading.{stored-few}
 use Rattle.tables.specs.laws.DecodingParts.{issuer-refused, subject-refused, stored-read-on}
-use Rattle.tables.proofs.records.decode_stored.Statement.{statement}
-use Rattle.tables.proofs.records.decode_stored.Tie as tie
+use Rattle.tables.proofs.groups.decode_stored.Statement.{statement}
+use Rattle.tables.proofs.groups.decode_stored.Tie as tie
 
 returns : tie.Need-returns
 returns c =

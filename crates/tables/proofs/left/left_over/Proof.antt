@@ -1,7 +1,7 @@
 use borrow.Author.Needs.{needs}
 use Rattle.tables.specs.laws.DecodingLaws.{left-none, left-unread, left-number}
-use Rattle.tables.proofs.records.left_over.Statement.{statement}
-use Rattle.tables.proofs.records.left_over.Tie as tie
+use Rattle.tables.proofs.left.left_over.Statement.{statement}
+use Rattle.tables.proofs.left.left_over.Tie as tie
 
 returns : tie.Need-returns
 returns c = left-none _ _ _ (c .if1 .taken)

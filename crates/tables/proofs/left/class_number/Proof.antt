@@ -1,7 +1,7 @@
 use borrow.Author.Needs.{needs}
 use Rattle.tables.specs.Check.{classNumber}
-use Rattle.tables.proofs.records.class_number.Statement.{statement}
-use Rattle.tables.proofs.records.class_number.Tie as tie
+use Rattle.tables.proofs.left.class_number.Statement.{statement}
+use Rattle.tables.proofs.left.class_number.Tie as tie
 
 returns : tie.Need-returns
 unfolding classNumber

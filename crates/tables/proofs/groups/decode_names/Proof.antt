@@ -2,8 +2,8 @@ use borrow.Author.Needs.{needs}
 use Rattle.tables.specs.laws.Groups.{names}
 use Rattle.tables.specs.laws.NamesReading.{names-few}
 use Rattle.tables.specs.laws.DecodingParts.{names-refused, names-read-on}
-use Rattle.tables.proofs.records.decode_names.Statement.{statement}
-use Rattle.tables.proofs.records.decode_names.Tie as tie
+use Rattle.tables.proofs.groups.decode_names.Statement.{statement}
+use Rattle.tables.proofs.groups.decode_names.Tie as tie
 
 returns : tie.Need-returns
 returns c =

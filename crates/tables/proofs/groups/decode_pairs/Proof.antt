@@ -3,8 +3,8 @@ use borrow.Author.Needs.{needs}
 use Rattle.tables.specs.laws.Groups.{pairs}
 use Rattle.tables.specs.laws.PairsReading.{pairs-few}
 use Rattle.tables.specs.laws.DecodingParts.{sensitive-refused, access-refused, pairs-read}
-use Rattle.tables.proofs.records.decode_pairs.Statement.{statement}
-use Rattle.tables.proofs.records.decode_pairs.Tie as tie
+use Rattle.tables.proofs.groups.decode_pairs.Statement.{statement}
+use Rattle.tables.proofs.groups.decode_pairs.Tie as tie
 
 returns : tie.Need-returns
 returns c =
