@@ -32,8 +32,8 @@ pub fn node_at<'a>(
     i: usize,
 ) -> Node
     requires { ⌜ i < 128 ⌝ }
-    ensures { λ r. ⌜ ((n : ℕ) → i < n → r ≡ nodeIn (nodesOf (nodesFrom n (now (kind .entry)) (now (number .entry)) (now (subject .entry)) (now (verifier .entry))
-        (now (state .entry)))) i) ⌝ }
+    ensures { λ r. ⌜ ((n : ℕ) → i < n → r ≡ nodeIn (nodesOf
+        (nodesFrom n (now (kind .entry)) (now (number .entry)) (now (subject .entry)) (now (verifier .entry)) (now (state .entry)))) i) ⌝ }
 {
     Node {
         expression: expression_at(kind, number, i),

@@ -72,8 +72,8 @@ pub fn relation<'a>(
     rows
 }
 
-// The relation with the credentials from low to high switched on, closed once, whatever the heads with these rules. Membership goes by the rows themselves, so that those lent for it
-// are not looked at.
+// The relation with the credentials from low to high switched on, closed once, whatever the heads with these rules. Membership goes by the rows
+// themselves, so that those lent for it are not looked at.
 pub fn switch_all<'a>(
     n: usize,
     kinds: &'a [u8; 256],

@@ -104,7 +104,8 @@ pub fn is_complete<'a>(
     requires { ⌜ (i < n) × (n ≤ 128) × (m ≤ 256) ⌝ }
     ensures { λ r. ⌜ ((o : Nodes) → StateColumns (nodesOf (nodesFrom n (now (kind .entry)) (o .number) (o .subject) (o .verifier) (now (state .entry))))
         (edgesOf (edgesFrom m (now (edge .entry)) (now (parent .entry)) (now (child .entry)))) (now (sat .entry)) (now (failed .entry))
-        → r ≡ completeB (nodesOf (nodesFrom n (now (kind .entry)) (o .number) (o .subject) (o .verifier) (now (state .entry)))) (edgesOf (edgesFrom m (now (edge .entry)) (now (parent .entry)) (now (child .entry)))) i) ⌝ }
+        → r ≡ completeB (nodesOf (nodesFrom n (now (kind .entry)) (o .number) (o .subject) (o .verifier) (now (state .entry))))
+        (edgesOf (edgesFrom m (now (edge .entry)) (now (parent .entry)) (now (child .entry)))) i) ⌝ }
 {
     let any_open = has_open(n, m, edge, parent, child, sat, failed, i);
     complete_by(kind[i * 2], state[i], any_open)

@@ -12,9 +12,10 @@ node-at-requires c κs = omega arith
 
 returns-2 : tie.Need-returns-2
 returns-2 c =
-    let c3 = c .before .before .before in
-    let c4 = c3 .before in
-    λ es. records-primary _ _ (c4 .nodes-fit .ensures) (c3 .if1 .left) (c .before .before .node-at .ensures _ (c4 .before .pre .2)) (c .before .primary-sound .ensures) (c .if2 .taken)
+    let primary = c .before .before in
+    let nodes = primary .before .before in
+    λ es. records-primary _ _ (nodes .nodes-fit .ensures) (primary .before .if1 .left) (primary .node-at .ensures _ (nodes .before .pre .2))
+    (c .before .primary-sound .ensures) (c .if2 .taken)
 
 shown-fit-requires : tie.Need-shown-fit-requires
 shown-fit-requires c κs =
@@ -23,11 +24,10 @@ shown-fit-requires c κs =
 
 returns-3 : tie.Need-returns-3
 returns-3 c =
-    let c3 = c .before .before .before in
-    let c4 = c3 .before in
-    let c5 = c4 .before in
-    λ es. records-shown _ _ (c5 .nodes-fit .ensures) (c4 .if1 .left) (c3 .node-at .ensures _ (c5 .before .pre .2)) (c .before .before .primary-sound .ensures)
-    (c .before .if2 .left) (c .shown-fit .ensures)
+    let primary = c .before .before .before in
+    let nodes = primary .before .before in
+    λ es. records-shown _ _ (nodes .nodes-fit .ensures) (primary .before .if1 .left) (primary .node-at .ensures _ (nodes .before .pre .2))
+    (c .before .before .primary-sound .ensures) (c .before .if2 .left) (c .shown-fit .ensures)
 
 pub records-sound-spec : {M : Type 1} → statement M
 records-sound-spec =

@@ -238,7 +238,8 @@ pub justified-exactly : (S : State) (e : Edge)
     ↔ Justifies S (e .kind) (e .parent) (nodeIn (S .nodes) (e .child) .expression) (nodeIn (S .nodes) (e .child) .subject)
 justified-exactly S e =
     let q : Node = nodeIn (S .nodes) (e .child) in
-    let same-test : justifiedFor S (e .kind) (e .parent) (q .expression) (q .subject) ≡ justified (S .shown) (S .nodes) (S .edges) e = join-justified S e refl in
+    let same-test : justifiedFor S (e .kind) (e .parent) (q .expression) (q .subject) ≡ justified (S .shown) (S .nodes) (S .edges) e =
+    join-justified S e refl in
     let exact = justifies-exactly S (e .kind) (e .parent) (q .expression) (q .subject) in
     (λ h. exact .0 (same-test ∙ h), λ j. sym same-test ∙ exact .1 j)
 

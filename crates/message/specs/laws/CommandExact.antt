@@ -222,7 +222,8 @@ module _ (s : List ℕ) (at : ℕ) where
     where
       go : (x : CredentialAnswer) → readCredential s (at + 1) ≡ x → 23 ≤ length s - at → Sure s at (shown x)
       go (a.Read c) p h =
-          sure-read 1 (credentialBytes c) (Show c) (show-has c true (read-formed s (at + 1) c p)) q h (λ b. credential-only s (at + 1) c b (omega arith) p .0) never
+          sure-read 1 (credentialBytes c) (Show c) (show-has c true (read-formed s (at + 1) c p)) q h
+          (λ b. credential-only s (at + 1) c b (omega arith) p .0) never
       go a.Wrong p h = inr (refl, whole-by s at 1 (credentialBytes some) _ (Show some) (show-has some _ refl) q h never)
 
   sure-open : getD s at 0 ≡ 2 → Sure s at (openAt s at)
@@ -236,7 +237,9 @@ module _ (s : List ℕ) (at : ℕ) where
       go : (x : ExpressionAnswer) → readOf s (at + 3) ≡ x → 24 ≤ length s - at → Sure s at (brought s at x)
       go (e.Read child) p h =
           sure-checked 3 _ _ _ (bring-has (newOf s at child) (canonical (rawAt s (at + 3)) child p .1)) q h (λ b. bring-only s at b child (omega arith) p) never
-      go e.Wrong p h = let n : NewEdge = newOf s at (E.Entity 1) in inr (refl, whole-by s at 3 (newBytes n) (formedNew n) (Bring n) (bring-has n refl) q h never)
+      go e.Wrong p h =
+          let n : NewEdge = newOf s at (E.Entity 1) in
+          inr (refl, whole-by s at 3 (newBytes n) (formedNew n) (Bring n) (bring-has n refl) q h never)
 
   sure-join : getD s at 0 ≡ 4 → Sure s at (joinAt s at)
   unfolding joinAt

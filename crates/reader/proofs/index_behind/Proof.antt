@@ -12,11 +12,15 @@ returns-2 c = behind-beyond _ _ (c .before .before .before .read .given .1) (c .
 
 returns-3 : tie.Need-returns-3
 returns-3 c =
-    behind-beyond _ _ (c .before .before .before .before .read .given .1) (c .before .before .size-of .ensures) (omega (arith, c .before .if1 .left, c .if2 .taken))
+    let size = c .before .before in
+    let read = size .before .before in
+    behind-beyond _ _ (read .read .given .1) (size .size-of .ensures) (omega (arith, c .before .if1 .left, c .if2 .taken))
 
 returns-4 : tie.Need-returns-4
 returns-4 c =
-    behind-inside _ _ (c .before .before .before .before .read .given .1) (c .before .before .size-of .ensures) (omega (arith, c .before .if1 .left, c .if2 .left))
+    let size = c .before .before in
+    let read = size .before .before in
+    behind-inside _ _ (read .read .given .1) (size .size-of .ensures) (omega (arith, c .before .if1 .left, c .if2 .left))
 
 pub index-behind-spec : {M : Type 1} → statement M
 index-behind-spec =

@@ -23,14 +23,14 @@ array-write-head : tie.Need-array-write-head Inv-loop μ-loop
 array-write-head c = omega (arith, c .before .before .before .loop .inv .0 .sized)
 
 loop-again : tie.Need-loop-again Inv-loop μ-loop
-loop-again c = (
-  column-add (headRowIn (c .before .before .before .before .args .n) (c .before .before .before .before .args .heads .now)) 128 130 (c .before .before .before .loop .i) (c .find-row .result)
-      (c .before .before .before .loop .head) (omega arith)
-      (c .find-row .ensures ∙ ap (rowIn (c .before .before .before .before .args .n) (c .before .before .before .before .args .heads .now)) (c .before .head-at .ensures))
-      (rw (c .find-row .ensures) (row-small (c .before .before .before .before .args .n) (c .before .before .before .before .args .heads .now) (c .before .before .before .before .pre .0)
-      (c .before .head-at .result))) (c .before .before .before .loop .inv .0),
-  omega arith,
-)
+loop-again c =
+    let l = c .before .before .before in
+    let s = l .before in (
+      column-add (headRowIn (s .args .n) (s .args .heads .now)) 128 130 (l .loop .i) (c .find-row .result) (l .loop .head) (omega arith)
+          (c .find-row .ensures ∙ ap (rowIn (s .args .n) (s .args .heads .now)) (c .before .head-at .ensures))
+          (rw (c .find-row .ensures) (row-small (s .args .n) (s .args .heads .now) (s .pre .0) (c .before .head-at .result))) (l .loop .inv .0),
+      omega arith,
+    )
 
 returns : tie.Need-returns Inv-loop μ-loop
 returns c =

@@ -28,14 +28,13 @@ array-write-part : tie.Need-array-write-part Inv-loop μ-loop
 array-write-part c = omega (arith, c .before .before .before .loop .inv .0 .sized)
 
 loop-again : tie.Need-loop-again Inv-loop μ-loop
-loop-again c = (
-  parts-add (rowOf (pool (c .before .before .before .before))) (pool (c .before .before .before .before))
-      (row-small (c .before .before .before .before .args .n) (c .before .before .before .before .args .heads .now) (c .before .before .before .before .pre .0)) (c .before .before .before .loop .i)
-      (c .before .before .before .loop .part) (c .rows-of .result) (omega arith)
-      (c .rows-of .ensures ∙ ap (fourRows (rowOf (pool (c .before .before .before .before)))) (c .before .expression-at .ensures))
-      (c .before .before .before .loop .inv .0),
-  omega arith,
-)
+loop-again c =
+    let l = c .before .before .before in
+    let s = l .before in (
+      parts-add (rowOf (pool s)) (pool s) (row-small (s .args .n) (s .args .heads .now) (s .pre .0)) (l .loop .i) (l .loop .part) (c .rows-of .result)
+          (omega arith) (c .rows-of .ensures ∙ ap (fourRows (rowOf (pool s))) (c .before .expression-at .ensures)) (l .loop .inv .0),
+      omega arith,
+    )
 
 returns : tie.Need-returns Inv-loop μ-loop
 returns c =

@@ -25,8 +25,8 @@ use Rattle.rt0.specs.laws.Pool.{headAt, bodyAt, expressionIn, credentialAt}
 use Rattle.rt0.specs.Pool.{upTo}
 use Rattle.closure.specs.declared.Rules.{Rules}
 use Rattle.closure.specs.laws.Rules.{el, bits, Takes, memOf, Used, Model, Within}
-use Rattle.rules.specs.laws.Table.{isHead, rowOf, rowIn, isBody, bitOf, bitIn, rowFor, chosenTo, chosen, third, fourth, Unnamed, Row, entity, goal, role, linked}
-use Rattle.rules.specs.laws.Table.{intersection as meet, Compiled}
+use Rattle.rules.specs.laws.Table.{isHead, rowOf, rowIn, isBody, bitOf, bitIn, rowFor, chosenTo, chosen, third, fourth}
+use Rattle.rules.specs.laws.Table.{Unnamed, Row, entity, goal, role, linked, intersection as meet, Compiled}
 use Rattle.word.specs.laws.Search.{anyTo-here}
 use Rattle.rules.specs.laws.Search.{any-cases, first-found, first-none}
 

@@ -36,7 +36,8 @@ pub record Ruled (P : Pool) (X : Rules) : Type 0 where
   pub linked : anyTo (P .count) (hasLink P) ≡ true → lit ≡ true
 
 -- a column of rows that names no row, or those of a link, is the rule of an expression
-pub row-of : (P : Pool) (e : Expression) (X : Rules) (i : ℕ) (x : Expression) → fourAt (X .part) i ≡ fourRows (rowFor P e) x → el (X .first) i ≡ firstRow (rowOf P) x
+pub row-of : (P : Pool) (e : Expression) (X : Rules) (i : ℕ) (x : Expression) → fourAt (X .part) i ≡ fourRows (rowFor P e) x
+    → el (X .first) i ≡ firstRow (rowOf P) x
     → ((a : Role) (m : ℕ) → x ≡ E.Linked a m → Names P X i m) → (isLinked x ≡ false → Unnamed X i) → Row P e X i x
 row-of P e X i x four first names none = go x four first names none
   where

@@ -6,24 +6,32 @@ use borrow.Author.Needs.{needs}
 use Rattle.states.proofs.state_of.Statement.{statement}
 use Rattle.states.proofs.state_of.Tie as tie
 
+-- the places behind the calls of failed, ways, satisfied, links and needs, and the start
+abbrev failing : tie.After-fail → tie.After-failed
+failing c = c .before .before .before .before .before .before .before .before .before
+
+abbrev waysOf : tie.After-fail → tie.After-ways
+waysOf c = failing c .before .before .before .before .before
+
+abbrev satisfying : tie.After-fail → tie.After-satisfied
+satisfying c = waysOf c .before .before .before .before .before
+
+abbrev linksOf : tie.After-fail → tie.After-links
+linksOf c = satisfying c .before .before .before .before .before
+
+abbrev needsOf : tie.After-fail → tie.After-needs
+needsOf c = linksOf c .before .before .before .before .before .before .before .before
+
+abbrev start : tie.After-fail → tie.Start
+start c = needsOf c .before .before .before .before
+
 -- the columns of satisfied and failed nodes
-settled : (c : tie.After-fail) → StateColumns (nodesOf
-    (c .before .before .before .before .before .before .before .before .before .before .before .before .before .before .before .before .before .before .before .before .before .before .before .before .before .before .before .before .before .before .before .before .before .before .before .before .args .t1))
-    (edgesOf
-    (c .before .before .before .before .before .before .before .before .before .before .before .before .before .before .before .before .before .before .before .before .before .before .before .before .before .before .before .before .before .before .before .before .before .before .before .before .args .t2))
-    (c .before .before .before .before .before .before .before .before .before .before .before .before .before .before .before .before .before .before .before .satisfied .result)
-    (c .before .before .before .before .before .before .before .before .before .failed .result)
+settled : (c : tie.After-fail)
+    → StateColumns (nodesOf (start c .args .t1)) (edgesOf (start c .args .t2)) (satisfying c .satisfied .result) (failing c .failed .result)
 settled c =
-    let c9 = c .before .before .before .before .before .before .before .before .before in
-    let c14 = c9 .before .before .before .before .before in
-    let c19 = c14 .before .before .before .before .before in
-    let c24 = c19 .before .before .before .before .before in
-    let c30 = c24 .before .before .before .before .before .before in
-    let c32 = c30 .before .before in
-    let c36 = c32 .before .before .before .before in
-    let s = c36 in
-    settled-read (s .args .t1) (s .args .t2) _ _ (s .pre .3) (c24 .links .ensures (s .args .t1)) _ _ (s .pre .4) (c32 .needs .ensures (s .args .t1))
-    (c14 .ways .ensures (s .args .t1)) (c19 .satisfied .ensures) (c9 .failed .ensures)
+    let s = start c in
+    settled-read (s .args .t1) (s .args .t2) _ _ (s .pre .3) (linksOf c .links .ensures (s .args .t1)) _ _ (s .pre .4)
+    (needsOf c .needs .ensures (s .args .t1)) (waysOf c .ways .ensures (s .args .t1)) (satisfying c .satisfied .ensures) (failing c .failed .ensures)
 
 satisfied-requires : tie.Need-satisfied-requires
 satisfied-requires c κs =
@@ -35,11 +43,8 @@ satisfied-requires c κs =
 
 array-read-if1 : tie.Need-array-read-if1
 array-read-if1 c =
-    omega (
-      arith,
-      c .before .before .before .before .before .before .before .before .before .before .before .before .before .before .before .before .before .pre .0,
-      c .before .before .before .before .before .before .before .before .before .before .before .before .before .before .before .before .before .pre .1,
-    )
+    let start = c .before .before .before .before .before .before .before .before .before .before .before .before .before .before .before .before .before in
+    omega (arith, start .pre .0, start .pre .1)
 
 returns : tie.Need-returns
 returns c =

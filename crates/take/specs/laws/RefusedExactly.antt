@@ -55,7 +55,8 @@ module _ (ns : List Name) (s : ℕ) (m : List ℕ) (bytes : (i : ℕ) → getD m
       ap (C.onCommand (λ size T w. C.commandsFrom f ns s m (at + size) T w) ns s S v) (unreadable-exactly m at bytes k .1 u)
   refused-here (suc f) at S v k l (illegal c e r) =
       let x : Answer (State × Bool) = cond (isEnd c) (accepted (S, v)) (C.commandsFrom f ns s m (at + sizeOf c) (stepped S s c) (v || isMove c)) in
-      ap (C.onCommand (λ size T w. C.commandsFrom f ns s m (at + size) T w) ns s S v) e ∙ ap (λ (n : ℕ). judged n x) (illegal-exactly ns s S c k .1 r .0) ∙ judged-refused k x (illegal-exactly ns s S c k .1 r .1)
+      ap (C.onCommand (λ size T w. C.commandsFrom f ns s m (at + size) T w) ns s S v) e
+      ∙ ap (λ (n : ℕ). judged n x) (illegal-exactly ns s S c k .1 r .0) ∙ judged-refused k x (illegal-exactly ns s S c k .1 r .1)
 
   -- and those before it
   refused-behind : {S T : State} {cs : List Command} → Updates ns s S cs T → (f at : ℕ) (v : Bool) (rest : List ℕ) (k : ℕ)
@@ -133,7 +134,9 @@ module _ (ns : List Name) (s : ℕ) (m : List ℕ) (bytes : (i : ℕ) → getD m
       rest-number : (c : Command) → commandAt m at ≡ Read c → (j : ℕ) → legalNumber ns s S c ≡ j
           → judged j (cond (isEnd c) (accepted (S, v)) (C.commandsFrom f ns s m (at + sizeOf c) (stepped S s c) (v || isMove c))) ≡ refused k → Rest at S
       rest-number c e zero l q = rest-command c e (legal-exactly ns s S c .0 l) (isEnd c) refl q
-      rest-number c e (suc j) l q = let z : suc j ≡ k = ap numberOf q in rest-here at S (illegal c e (illegal-exactly ns s S c k .0 (l ∙ z, λ y. omega (arith, y, z))))
+      rest-number c e (suc j) l q =
+          let z : suc j ≡ k = ap numberOf q in
+          rest-here at S (illegal c e (illegal-exactly ns s S c k .0 (l ∙ z, λ y. omega (arith, y, z))))
 
       rest-answer : (a : CommandAnswer) → commandAt m at ≡ a
           → C.onCommand (λ size U x. C.commandsFrom f ns s m (at + size) U x) ns s S v a ≡ refused k → Rest at S

@@ -218,7 +218,8 @@ module _ (tables negotiation message scratch : List ℕ) (A : State) where
       → behindStanding message x ≡ accepted A → Ready
   unfolding takenIn
   ready-standing h (refused k) e q = absurd (false-true (ap isAccepted q))
-  ready-standing h (accepted (T, S)) e q = ready-end T S (record { sized = h; held = restored-exactly tables negotiation T S .0 e }) (eqb (S .header .end) 0) refl q
+  ready-standing h (accepted (T, S)) e q =
+      ready-end T S (record { sized = h; held = restored-exactly tables negotiation T S .0 e }) (eqb (S .header .end) 0) refl q
 
   ready-size : (b : Bool) → messageSize (length message) (length scratch) ≡ b
       → cond b (behindStanding message (R.restoreOf tables negotiation)) (refused LENGTH) ≡ accepted A → Ready

@@ -39,59 +39,45 @@ element-copy-out-r c = omega (arith, c .before .before .before .before .before .
 
 mul-touched : tie.Need-mul-touched Inv-loop μ-loop
 mul-touched c =
-    omega (
-      arith,
-      c .before .before .before .before .before .before .before .before .before .before .before .before .before .before .before .before .pre .0 .head .under
-          (c .before .before .before .before .before .before .before .before .least .result),
-    )
+    let rule = c .before .before .before .before .before .before .before .before in
+    let start = rule .before .before .before .before .before .before .before .before in
+    omega (arith, start .pre .0 .head .under (rule .least .result))
 
 mul-touched-2 : tie.Need-mul-touched-2 Inv-loop μ-loop
 mul-touched-2 c =
-    omega (
-      arith,
-      c .before .before .before .before .before .before .before .before .before .before .before .before .before .before .before .before .pre .0 .head .under
-          (c .before .before .before .before .before .before .before .before .least .result),
-    )
+    let rule = c .before .before .before .before .before .before .before .before in
+    let start = rule .before .before .before .before .before .before .before .before in
+    omega (arith, start .pre .0 .head .under (rule .least .result))
 
 element-copy-out-touched : tie.Need-element-copy-out-touched Inv-loop μ-loop
 element-copy-out-touched c =
-    omega (
-      arith,
-      c .before .before .before .before .before .before .before .before .before .before .before .before .before .before .before .before .pre .0 .head .under
-          (c .before .before .before .before .before .before .before .before .least .result),
-    )
+    let rule = c .before .before .before .before .before .before .before .before in
+    let start = rule .before .before .before .before .before .before .before .before in
+    omega (arith, start .pre .0 .head .under (rule .least .result))
 
 mul-touched-3 : tie.Need-mul-touched-3 Inv-loop μ-loop
 mul-touched-3 c =
-    omega (
-      arith,
-      c .before .before .before .before .before .before .before .before .before .before .before .before .before .before .before .before .before .pre .0 .head .under
-          (c .before .before .before .before .before .before .before .before .before .least .result),
-    )
+    let rule = c .before .before .before .before .before .before .before .before .before in
+    let start = rule .before .before .before .before .before .before .before .before in
+    omega (arith, start .pre .0 .head .under (rule .least .result))
 
 add-touched : tie.Need-add-touched Inv-loop μ-loop
 add-touched c =
-    omega (
-      arith,
-      c .before .before .before .before .before .before .before .before .before .before .before .before .before .before .before .before .before .pre .0 .head .under
-          (c .before .before .before .before .before .before .before .before .before .least .result),
-    )
+    let rule = c .before .before .before .before .before .before .before .before .before in
+    let start = rule .before .before .before .before .before .before .before .before in
+    omega (arith, start .pre .0 .head .under (rule .least .result))
 
 mul-touched-4 : tie.Need-mul-touched-4 Inv-loop μ-loop
 mul-touched-4 c =
-    omega (
-      arith,
-      c .before .before .before .before .before .before .before .before .before .before .before .before .before .before .before .before .before .pre .0 .head .under
-          (c .before .before .before .before .before .before .before .before .before .least .result),
-    )
+    let rule = c .before .before .before .before .before .before .before .before .before in
+    let start = rule .before .before .before .before .before .before .before .before in
+    omega (arith, start .pre .0 .head .under (rule .least .result))
 
 element-copy-out-touched-2 : tie.Need-element-copy-out-touched-2 Inv-loop μ-loop
 element-copy-out-touched-2 c =
-    omega (
-      arith,
-      c .before .before .before .before .before .before .before .before .before .before .before .before .before .before .before .before .before .pre .0 .head .under
-          (c .before .before .before .before .before .before .before .before .before .least .result),
-    )
+    let rule = c .before .before .before .before .before .before .before .before .before in
+    let start = rule .before .before .before .before .before .before .before .before in
+    omega (arith, start .pre .0 .head .under (rule .least .result))
 
 loop-again : tie.Need-loop-again Inv-loop μ-loop
 loop-again c =

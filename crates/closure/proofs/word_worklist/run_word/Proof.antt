@@ -52,27 +52,21 @@ element-copy-out-r c = omega (arith, c .before .before .before .before .before .
 
 mul-touched : tie.Need-mul-touched Inv-loop μ-loop
 mul-touched c =
-    omega (
-      arith,
-      c .before .before .before .before .before .before .before .before .before .before .before .before .before .before .before .before .before .before .before .before .pre .2 .head .under
-          (c .before .before .before .before .before .before .before .before .next .result),
-    )
+    let rule = c .before .before .before .before .before .before .before .before in
+    let start = rule .before .before .before .before .before .before .before .before .before .before .before .before in
+    omega (arith, start .pre .2 .head .under (rule .next .result))
 
 mul-touched-2 : tie.Need-mul-touched-2 Inv-loop μ-loop
 mul-touched-2 c =
-    omega (
-      arith,
-      c .before .before .before .before .before .before .before .before .before .before .before .before .before .before .before .before .before .before .before .before .pre .2 .head .under
-          (c .before .before .before .before .before .before .before .before .next .result),
-    )
+    let rule = c .before .before .before .before .before .before .before .before in
+    let start = rule .before .before .before .before .before .before .before .before .before .before .before .before in
+    omega (arith, start .pre .2 .head .under (rule .next .result))
 
 element-copy-out-touched : tie.Need-element-copy-out-touched Inv-loop μ-loop
 element-copy-out-touched c =
-    omega (
-      arith,
-      c .before .before .before .before .before .before .before .before .before .before .before .before .before .before .before .before .before .before .before .before .pre .2 .head .under
-          (c .before .before .before .before .before .before .before .before .next .result),
-    )
+    let rule = c .before .before .before .before .before .before .before .before in
+    let start = rule .before .before .before .before .before .before .before .before .before .before .before .before in
+    omega (arith, start .pre .2 .head .under (rule .next .result))
 
 touched-requires : tie.Need-touched-requires Inv-loop μ-loop
 touched-requires c κs = c .before .before .before .before .before .before .before .before .before .next .ensures

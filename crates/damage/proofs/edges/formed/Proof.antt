@@ -6,10 +6,11 @@ use Rattle.damage.proofs.edges.formed.Tie as tie
 
 returns : tie.Need-returns
 returns c n p q =
-    let c3 = c .before .before .before in
-    let c4 = c3 .before in
-    let c5 = c4 .before in
-    formed-is _ _ _ (c5 .wide .ensures) (c4 .node-at .ensures n (omega (arith, c5 .wide .ensures, p))) (c3 .wide2 .ensures) (c .before .before .node-at2 .ensures n (omega (arith, c3 .wide2 .ensures, q)))
+    let child = c .before .before in
+    let parent = child .before .before in
+    formed-is _ _ _
+    (parent .before .wide .ensures) (parent .node-at .ensures n (omega (arith, parent .before .wide .ensures, p)))
+    (child .before .wide2 .ensures) (child .node-at2 .ensures n (omega (arith, child .before .wide2 .ensures, q)))
     (c .before .entity-of .ensures) (c .form .ensures)
 
 pub formed-spec : {M : Type 1} → statement M

@@ -10,15 +10,16 @@ pool c = poolOf (c .args .i) (c .args .heads .now) (c .args .kinds .now) (c .arg
 
 returns : tie.Need-returns
 returns c =
-    let c3 = c .before .before .before in
-    credential-unsound _ _ (pool (c3 .before)) _ (c3 .head-at .ensures) (c .before .before .expression-at .ensures) (c .before .credential-sound .ensures) (c .if1 .taken)
+    let head = c .before .before .before in
+    credential-unsound _ _ (pool (head .before)) _ (head .head-at .ensures) (c .before .before .expression-at .ensures)
+    (c .before .credential-sound .ensures) (c .if1 .taken)
 
 returns-2 : tie.Need-returns-2
 returns-2 c =
-    let c3 = c .before .before .before in
-    let c4 = c3 .before in
-    credential-new _ _ (pool (c4 .before)) _ (c4 .head-at .ensures) (c3 .expression-at .ensures) (c .before .before .credential-sound .ensures) (c .before .if1 .left)
-    (c .is-shown .ensures)
+    let body = c .before .before .before in
+    let head = body .before in
+    credential-new _ _ (pool (head .before)) _ (head .head-at .ensures) (body .expression-at .ensures)
+    (c .before .before .credential-sound .ensures) (c .before .if1 .left) (c .is-shown .ensures)
 
 pub credential-fits-spec : {M : Type 1} → statement M
 credential-fits-spec =

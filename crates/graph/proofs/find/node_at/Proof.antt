@@ -7,10 +7,12 @@ use Rattle.graph.proofs.find.node_at.Tie as tie
 
 returns : tie.Need-returns
 returns c n l =
-    rw (c .before .before .before .expression-at .ensures)
-    (sym (node-in (nodesFrom n (c .before .before .before .before .args .kind .now) (c .before .before .before .before .args .number .now) (c .before .before .before .before .args .subject .now)
-    (c .before .before .before .before .args .verifier .now) (c .before .before .before .before .args .state .now))
-    (c .before .before .before .before .args .i) l))
+    let read = c .before .before .before in
+    let s = read .before in
+    rw (read .expression-at .ensures)
+    (sym (node-in
+    (nodesFrom n (s .args .kind .now) (s .args .number .now) (s .args .subject .now) (s .args .verifier .now) (s .args .state .now))
+    (s .args .i) l))
 
 pub node-at-spec : {M : Type 1} → statement M
 node-at-spec =

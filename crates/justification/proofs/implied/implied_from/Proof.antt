@@ -29,11 +29,14 @@ implied-at-requires c κs = (
 )
 
 returns : tie.Need-returns Inv-loop μ-loop
-returns c on m h = from-stop _ _ _ _ (c .before .before .before .loop .inv on m h) (c .before .before .loop-test .taken) (c .before .implied-at .ensures on m h) (c .if1 .taken)
+returns c on m h =
+    let test = c .before .before in
+    from-stop _ _ _ _ (test .before .loop .inv on m h) (test .loop-test .taken) (c .before .implied-at .ensures on m h) (c .if1 .taken)
 
 loop-again : tie.Need-loop-again Inv-loop μ-loop
 loop-again c on m h =
-    from-next _ _ _ _ (c .before .before .before .loop .inv on m h) (c .before .before .loop-test .taken) (c .before .implied-at .ensures on m h) (c .if1 .left)
+    let test = c .before .before in
+    from-next _ _ _ _ (test .before .loop .inv on m h) (test .loop-test .taken) (c .before .implied-at .ensures on m h) (c .if1 .left)
 
 returns-2 : tie.Need-returns-2 Inv-loop μ-loop
 returns-2 c on m h = from-done _ _ _ _ (c .before .loop .inv on m h) (c .loop-test .left)

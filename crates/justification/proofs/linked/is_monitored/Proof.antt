@@ -13,10 +13,12 @@ N s =
 
 returns : tie.Need-returns
 returns c =
-    let c3 = c .before .before .before in
-    let c4 = c3 .before in
-    let s = c4 .before in
-    monitored-by _ _ _ (c4 .wide .ensures) (c3 .node-at .ensures _ (omega (arith, c4 .wide .ensures, s .pre .2))) (c .before .before .wide2 .ensures) (c .before .node-at2 .ensures _ (omega (arith, c .before .before .wide2 .ensures, s .pre .3)))
+    let child = c .before in
+    let parent = child .before .before in
+    let s = parent .before .before in
+    monitored-by _ _ _
+    (parent .before .wide .ensures) (parent .node-at .ensures _ (omega (arith, parent .before .wide .ensures, s .pre .2)))
+    (child .before .wide2 .ensures) (child .node-at2 .ensures _ (omega (arith, child .before .wide2 .ensures, s .pre .3)))
     (c .is-monitored-for .ensures (N s) (s .pre .4))
 
 pub is-monitored-spec : {M : Type 1} → statement M

@@ -19,55 +19,49 @@ loop-holds : tie.Need-loop-holds Inv-loop μ-loop
 loop-holds c = monitoring-start _ _ _ _ _ (c .pre .6) (c .pre .7)
 
 is-monitored-if-requires : tie.Need-is-monitored-if-requires Inv-loop μ-loop
-is-monitored-if-requires c κs = (
-  (c .before .before .before .before .pre .0),
-  omega (arith, (c .before .before .loop-test .taken), (c .before .before .before .before .pre .1)),
-  edge-inside _ _ (c .before .before .before .before .pre .3) (c .before .before .loop-test .taken) (c .before .edge-at .ensures _ (c .before .before .loop-test .taken)) .0,
-  edge-inside _
-      _ (c .before .before .before .before .pre .3) (c .before .before .loop-test .taken) (c .before .edge-at .ensures _ (c .before .before .loop-test .taken)) .1,
-  says-so-far _ _ _ _ _
-      (c .before .before .before .loop .inv) (c .before .before .before .before .pre .2) (c .before .before .before .before .pre .4)
-      (c .before .before .before .before .pre .5),
-)
+is-monitored-if-requires c κs =
+    let edge = c .before in
+    let test = edge .before in
+    let l = test .before in
+    let s = l .before in
+    let inside = edge-inside _ _ (s .pre .3) (test .loop-test .taken) (edge .edge-at .ensures _ (test .loop-test .taken)) in (
+      s .pre .0,
+      omega (arith, test .loop-test .taken, s .pre .1),
+      inside .0,
+      inside .1,
+      says-so-far _ _ _ _ _ (l .loop .inv) (s .pre .2) (s .pre .4) (s .pre .5),
+    )
 
 returns : tie.Need-returns Inv-loop μ-loop
 returns c =
-    let c3 = c .before .before .before in
-    let c4 = c3 .before in
-    let c5 = c4 .before in
-    monitoring-stop _ _ _ _ _ (c5 .loop .inv) (c4 .loop-test .taken) (c3 .edge-at .ensures _ (c4 .loop-test .taken)) (c .before .is-monitored-if .ensures) (c .if1 .taken)
+    let edge = c .before .before .before in
+    let test = edge .before in
+    monitoring-stop _ _ _ _ _ (test .before .loop .inv) (test .loop-test .taken) (edge .edge-at .ensures _ (test .loop-test .taken))
+    (c .before .is-monitored-if .ensures) (c .if1 .taken)
 
 insert-requires : tie.Need-insert-requires Inv-loop μ-loop
-insert-requires c κs = (
-  omega (
-    arith,
-    (c .before .before .before .before .before .before .before .before .before .loop-test .taken),
-    (c .before .before .before .before .before .before .before .before .before .before .before .pre .1),
-  ),
-  (c .before .before .before .before .before .before .before .before .before .before .loop .inv .chained),
-  (c .before .before .before .before .before .before .before .before .before .before .loop .inv .done),
-)
+insert-requires c κs =
+    let test = c .before .before .before .before .before .before .before .before .before in
+    let l = test .before in
+    let s = l .before in
+    (omega (arith, test .loop-test .taken, s .pre .1), l .loop .inv .chained, l .loop .inv .done)
 
 add-j : tie.Need-add-j Inv-loop μ-loop
 add-j c =
-    omega (
-      arith,
-      (c .before .before .before .before .before .before .before .before .before .before .loop-test .taken),
-      (c .before .before .before .before .before .before .before .before .before .before .before .before .pre .1),
-    )
+    let test = c .before .before .before .before .before .before .before .before .before .before in
+    let s = test .before .before in
+    omega (arith, test .loop-test .taken, s .pre .1)
 
 loop-less : tie.Need-loop-less Inv-loop μ-loop
 loop-less c = omega (arith, (c .before .before .before .before .before .before .before .before .before .before .loop-test .taken))
 
 loop-again : tie.Need-loop-again Inv-loop μ-loop
 loop-again c =
-    let c6 = c .before .before .before .before .before .before in
-    let c7 = c6 .before in
-    let c9 = c7 .before .before in
-    let c10 = c9 .before in
-    let c11 = c10 .before in
-    monitoring-next _ _ _ _ _ (c11 .loop .inv) (c10 .loop-test .taken) (c9 .edge-at .ensures _ (c10 .loop-test .taken)) (c7 .is-monitored-if .ensures) (c6 .if1 .left)
-    (c .insert .ensures .0) (c .insert .ensures .1)
+    let left = c .before .before .before .before .before .before in
+    let edge = left .before .before .before in
+    let test = edge .before in
+    monitoring-next _ _ _ _ _ (test .before .loop .inv) (test .loop-test .taken) (edge .edge-at .ensures _ (test .loop-test .taken))
+    (left .before .is-monitored-if .ensures) (left .if1 .left) (c .insert .ensures .0) (c .insert .ensures .1)
 
 returns-2 : tie.Need-returns-2 Inv-loop μ-loop
 returns-2 c = monitoring-done _ _ _ _ _ (c .before .loop .inv) (c .loop-test .left)

@@ -25,146 +25,106 @@ returns-2 c =
 returns-3 : tie.Need-returns-3
 unfolding bringNumber stateOf
 returns-3 c =
-    first-passes _ _ _ ((c .before .before .before .before .before .before .before .type-number .ensures)
-    ∙ ap typeNumber (c .before .before .before .before .before .before .before .before .type-of .ensures))
-    (c .before .before .before .before .before .before .if1 .left)
-    (passes _ _ _ (fresh-no (c .before .before .before .before .before .before .before .before .before .before .before .before .args .n)
-    (c .before .before .before .if2 .left)) (stops _ _ _
-    (absent-yes (c .before .before .before .before .before .before .before .before .before .before .before .before .args .n) _
-    (omega (arith, (c .before .before .wide .ensures), (c .if3 .taken))))))
+    let opened = c .before .before .before in
+    let typed = opened .before .before .before in
+    let start = typed .before .before .before .before .before .before in
+    first-passes _ _ _ (typed .before .type-number .ensures ∙ ap typeNumber (typed .before .before .type-of .ensures)) (typed .if1 .left)
+    (passes _ _ _ (fresh-no (start .args .n) (opened .if2 .left))
+    (stops _ _ _ (absent-yes (start .args .n) _ (omega (arith, c .before .before .wide .ensures, c .if3 .taken)))))
 
 bring-wrong-requires : tie.Need-bring-wrong-requires
-bring-wrong-requires c κs = (
-  omega (arith, (c .before .before .wide .ensures), (c .if3 .left)),
-  (c .before .before .before .before .before .before .before .before .before .before .before .before .pre .2),
-)
+bring-wrong-requires c κs =
+    let start = c .before .before .before .before .before .before .before .before .before .before .before .before in
+    (omega (arith, c .before .before .wide .ensures, c .if3 .left), start .pre .2)
 
 returns-4 : tie.Need-returns-4
 unfolding bringNumber stateOf
 returns-4 c =
-    first-passes _ _ _ ((c .before .before .before .before .before .before .before .before .before .type-number .ensures)
-    ∙ ap typeNumber (c .before .before .before .before .before .before .before .before .before .before .type-of .ensures))
-    (c .before .before .before .before .before .before .before .before .if1 .left)
-    (passes _ _ _
-    (fresh-no (c .before .before .before .before .before .before .before .before .before .before .before .before .before .before .args .n)
-    (c .before .before .before .before .before .if2 .left))
-    (passes _ _ _
-    (absent-no (c .before .before .before .before .before .before .before .before .before .before .before .before .before .before .args .n) _
-    (omega (arith, (c .before .before .before .before .wide .ensures), (c .before .before .if3 .left))))
-    (stops _ _ _ (sym (c .before .bring-wrong .ensures) ∙ (c .if4 .taken)))))
+    let there = c .before .before in
+    let opened = there .before .before .before in
+    let typed = opened .before .before .before in
+    let start = typed .before .before .before .before .before .before in
+    first-passes _ _ _ (typed .before .type-number .ensures ∙ ap typeNumber (typed .before .before .type-of .ensures)) (typed .if1 .left)
+    (passes _ _ _ (fresh-no (start .args .n) (opened .if2 .left))
+    (passes _ _ _ (absent-no (start .args .n) _ (omega (arith, there .before .before .wide .ensures, there .if3 .left)))
+    (stops _ _ _ (sym (c .before .bring-wrong .ensures) ∙ c .if4 .taken))))
 
 returns-5 : tie.Need-returns-5
 unfolding bringNumber stateOf
 returns-5 c =
-    first-passes _ _ _ ((c .before .before .before .before .before .before .before .before .before .before .type-number .ensures)
-    ∙ ap typeNumber (c .before .before .before .before .before .before .before .before .before .before .before .type-of .ensures))
-    (c .before .before .before .before .before .before .before .before .before .if1 .left)
-    (passes _ _ _
-    (fresh-no (c .before .before .before .before .before .before .before .before .before .before .before .before .before .before .before .args .n)
-    (c .before .before .before .before .before .before .if2 .left))
-    (passes _ _ _
-    (absent-no (c .before .before .before .before .before .before .before .before .before .before .before .before .before .before .before .args .n) _
-    (omega (arith, (c .before .before .before .before .before .wide .ensures), (c .before .before .before .if3 .left))))
-    (passes _ _ _ (sym (c .before .before .bring-wrong .ensures) ∙ (c .before .if4 .left)) (stops _ _ _ (c .if5 .taken)))))
+    let fitting = c .before in
+    let there = fitting .before .before in
+    let opened = there .before .before .before in
+    let typed = opened .before .before .before in
+    let start = typed .before .before .before .before .before .before in
+    first-passes _ _ _ (typed .before .type-number .ensures ∙ ap typeNumber (typed .before .before .type-of .ensures)) (typed .if1 .left)
+    (passes _ _ _ (fresh-no (start .args .n) (opened .if2 .left))
+    (passes _ _ _ (absent-no (start .args .n) _ (omega (arith, there .before .before .wide .ensures, there .if3 .left)))
+    (passes _ _ _ (sym (fitting .before .bring-wrong .ensures) ∙ fitting .if4 .left)
+    (stops _ _ _ (c .if5 .taken)))))
 
 node-of-requires : tie.Need-node-of-requires
-node-of-requires c κs = (
-  omega (arith, (c .before .before .before .before .before .wide .ensures), (c .before .before .before .if3 .left)),
-  (c .before .before .before .before .before .before .before .before .before .before .before .before .before .before .before .pre .2),
-)
+node-of-requires c κs =
+    let there = c .before .before .before in
+    let start = there .before .before .before .before .before .before .before .before .before .before .before .before in
+    (omega (arith, there .before .before .wide .ensures, there .if3 .left), start .pre .2)
 
 returns-6 : tie.Need-returns-6
 unfolding bringNumber stateOf
 returns-6 c =
-    first-passes _ _ _
-    ((c .before .before .before .before .before .before .before .before .before .before .before .before .before .type-number .ensures)
-    ∙ ap typeNumber
-    (c .before .before .before .before .before .before .before .before .before .before .before .before .before .before .type-of .ensures))
-    (c .before .before .before .before .before .before .before .before .before .before .before .before .if1 .left)
-    (passes _ _ _
-    (fresh-no
-    (c .before .before .before .before .before .before .before .before .before .before .before .before .before .before .before .before .before .before .args .n)
-    (c .before .before .before .before .before .before .before .before .before .if2 .left))
-    (passes _ _ _
-    (absent-no
-    (c .before .before .before .before .before .before .before .before .before .before .before .before .before .before .before .before .before .before .args .n)
-    _ (omega (
-      arith,
-      (c .before .before .before .before .before .before .before .before .wide .ensures),
-      (c .before .before .before .before .before .before .if3 .left),
-    )))
-    (passes _ _ _ (sym (c .before .before .before .before .before .bring-wrong .ensures) ∙ (c .before .before .before .before .if4 .left))
-    (passes _ _ _ (c .before .before .before .if5 .left)
+    let granted = c .before .before .before in
+    let fitting = granted .before in
+    let there = fitting .before .before in
+    let opened = there .before .before .before in
+    let typed = opened .before .before .before in
+    let start = typed .before .before .before .before .before .before in
+    first-passes _ _ _ (typed .before .type-number .ensures ∙ ap typeNumber (typed .before .before .type-of .ensures)) (typed .if1 .left)
+    (passes _ _ _ (fresh-no (start .args .n) (opened .if2 .left))
+    (passes _ _ _ (absent-no (start .args .n) _ (omega (arith, there .before .before .wide .ensures, there .if3 .left)))
+    (passes _ _ _ (sym (fitting .before .bring-wrong .ensures) ∙ fitting .if4 .left)
+    (passes _ _ _ (granted .if5 .left)
     (stops _ _ _
-    (ap (processedBy
-    (c .before .before .before .before .before .before .before .before .before .before .before .before .before .before .before .before .before .before .args .side))
-    (sym (c .before .before .node-of .ensures)) ∙ sym (c .before .is-processed .ensures) ∙ (c .if6 .taken)))))))
+    (ap (processedBy (start .args .side)) (sym (c .before .before .node-of .ensures)) ∙ sym (c .before .is-processed .ensures) ∙ c .if6 .taken))))))
 
 returns-7 : tie.Need-returns-7
 unfolding bringNumber stateOf
 returns-7 c =
-    first-passes _ _ _
-    ((c .before .before .before .before .before .before .before .before .before .before .before .before .before .before .before .before .before .type-number .ensures)
-    ∙ ap typeNumber
-    (c .before .before .before .before .before .before .before .before .before .before .before .before .before .before .before .before .before .before .type-of .ensures))
-    (c .before .before .before .before .before .before .before .before .before .before .before .before .before .before .before .before .if1 .left)
+    let unprocessed = c .before .before .before .before in
+    let granted = unprocessed .before .before .before in
+    let fitting = granted .before in
+    let there = fitting .before .before in
+    let opened = there .before .before .before in
+    let typed = opened .before .before .before in
+    let start = typed .before .before .before .before .before .before in
+    first-passes _ _ _ (typed .before .type-number .ensures ∙ ap typeNumber (typed .before .before .type-of .ensures)) (typed .if1 .left)
+    (passes _ _ _ (fresh-no (start .args .n) (opened .if2 .left))
+    (passes _ _ _ (absent-no (start .args .n) _ (omega (arith, there .before .before .wide .ensures, there .if3 .left)))
+    (passes _ _ _ (sym (fitting .before .bring-wrong .ensures) ∙ fitting .if4 .left)
+    (passes _ _ _ (granted .if5 .left)
     (passes _ _ _
-    (fresh-no
-    (c .before .before .before .before .before .before .before .before .before .before .before .before .before .before .before .before .before .before .before .before .before .before .args .n)
-    (c .before .before .before .before .before .before .before .before .before .before .before .before .before .if2 .left))
-    (passes _ _ _
-    (absent-no
-    (c .before .before .before .before .before .before .before .before .before .before .before .before .before .before .before .before .before .before .before .before .before .before .args .n)
-    _ (omega (
-      arith,
-      (c .before .before .before .before .before .before .before .before .before .before .before .before .wide .ensures),
-      (c .before .before .before .before .before .before .before .before .before .before .if3 .left),
-    )))
-    (passes _ _ _ (sym (c .before .before .before .before .before .before .before .before .before .bring-wrong .ensures)
-    ∙ (c .before .before .before .before .before .before .before .before .if4 .left))
-    (passes _ _ _ (c .before .before .before .before .before .before .before .if5 .left)
-    (passes _ _ _
-    (ap (processedBy
-    (c .before .before .before .before .before .before .before .before .before .before .before .before .before .before .before .before .before .before .before .before .before .before .args .side))
-    (sym (c .before .before .before .before .before .before .node-of .ensures))
-    ∙ sym (c .before .before .before .before .before .is-processed .ensures) ∙ (c .before .before .before .before .if6 .left))
-    (stops _ _ _
-    (sym (sizes-same
-    (c .before .before .before .before .before .before .before .before .before .before .before .before .before .before .before .before .before .before .before .before .before .before .args .n))
-    ∙ (c .if7 .taken))))))))
+    (ap (processedBy (start .args .side)) (sym (unprocessed .before .before .node-of .ensures)) ∙ sym (unprocessed .before .is-processed .ensures)
+    ∙ unprocessed .if6 .left)
+    (stops _ _ _ (sym (sizes-same (start .args .n)) ∙ c .if7 .taken)))))))
 
 returns-8 : tie.Need-returns-8
 unfolding bringNumber stateOf
 returns-8 c =
-    first-passes _ _ _
-    ((c .before .before .before .before .before .before .before .before .before .before .before .before .before .before .before .before .before .type-number .ensures)
-    ∙ ap typeNumber
-    (c .before .before .before .before .before .before .before .before .before .before .before .before .before .before .before .before .before .before .type-of .ensures))
-    (c .before .before .before .before .before .before .before .before .before .before .before .before .before .before .before .before .if1 .left)
+    let unprocessed = c .before .before .before .before in
+    let granted = unprocessed .before .before .before in
+    let fitting = granted .before in
+    let there = fitting .before .before in
+    let opened = there .before .before .before in
+    let typed = opened .before .before .before in
+    let start = typed .before .before .before .before .before .before in
+    first-passes _ _ _ (typed .before .type-number .ensures ∙ ap typeNumber (typed .before .before .type-of .ensures)) (typed .if1 .left)
+    (passes _ _ _ (fresh-no (start .args .n) (opened .if2 .left))
+    (passes _ _ _ (absent-no (start .args .n) _ (omega (arith, there .before .before .wide .ensures, there .if3 .left)))
+    (passes _ _ _ (sym (fitting .before .bring-wrong .ensures) ∙ fitting .if4 .left)
+    (passes _ _ _ (granted .if5 .left)
     (passes _ _ _
-    (fresh-no
-    (c .before .before .before .before .before .before .before .before .before .before .before .before .before .before .before .before .before .before .before .before .before .before .args .n)
-    (c .before .before .before .before .before .before .before .before .before .before .before .before .before .if2 .left))
-    (passes _ _ _
-    (absent-no
-    (c .before .before .before .before .before .before .before .before .before .before .before .before .before .before .before .before .before .before .before .before .before .before .args .n)
-    _ (omega (
-      arith,
-      (c .before .before .before .before .before .before .before .before .before .before .before .before .wide .ensures),
-      (c .before .before .before .before .before .before .before .before .before .before .if3 .left),
-    )))
-    (passes _ _ _ (sym (c .before .before .before .before .before .before .before .before .before .bring-wrong .ensures)
-    ∙ (c .before .before .before .before .before .before .before .before .if4 .left))
-    (passes _ _ _ (c .before .before .before .before .before .before .before .if5 .left)
-    (passes _ _ _
-    (ap (processedBy
-    (c .before .before .before .before .before .before .before .before .before .before .before .before .before .before .before .before .before .before .before .before .before .before .args .side))
-    (sym (c .before .before .before .before .before .before .node-of .ensures))
-    ∙ sym (c .before .before .before .before .before .is-processed .ensures) ∙ (c .before .before .before .before .if6 .left))
-    (passes _ _ _
-    (sym (sizes-same
-    (c .before .before .before .before .before .before .before .before .before .before .before .before .before .before .before .before .before .before .before .before .before .before .args .n))
-    ∙ (c .if7 .left)) refl))))))
+    (ap (processedBy (start .args .side)) (sym (unprocessed .before .before .node-of .ensures)) ∙ sym (unprocessed .before .is-processed .ensures)
+    ∙ unprocessed .if6 .left)
+    (passes _ _ _ (sym (sizes-same (start .args .n)) ∙ c .if7 .left) refl))))))
 
 pub bring-number-spec : {M : Type 1} → statement M
 bring-number-spec =

@@ -15,153 +15,124 @@ returns c = stops _ _ _ (fresh-yes (c .before .before .before .args .n) (c .if1 
 returns-2 : tie.Need-returns-2
 unfolding joinNumber stateOf
 returns-2 c =
-    (passes _ _ _ (fresh-no (c .before .before .before .before .before .before .args .n) (c .before .before .before .if1 .left))
-    (stops _ _ _ (parent-absent (c .before .before .before .before .before .before .args .n) _ _
-    (omega (arith, (c .before .before .wide .ensures), (c .if2 .taken))))))
+    let opened = c .before .before .before in
+    let start = opened .before .before .before in
+    passes _ _ _ (fresh-no (start .args .n) (opened .if1 .left))
+    (stops _ _ _ (parent-absent (start .args .n) _ _ (omega (arith, c .before .before .wide .ensures, c .if2 .taken))))
 
 returns-3 : tie.Need-returns-3
 unfolding joinNumber stateOf
 returns-3 c =
-    (passes _ _ _ (fresh-no (c .before .before .before .before .before .before .before .before .before .args .n)
-    (c .before .before .before .before .before .before .if1 .left))
-    (stops _ _ _ (child-absent (c .before .before .before .before .before .before .before .before .before .args .n) _ _
-    (omega (arith, (c .before .before .before .before .before .wide .ensures), (c .before .before .before .if2 .left)))
-    (omega (arith, (c .before .before .wide2 .ensures), (c .if3 .taken))))))
+    let parent = c .before .before .before in
+    let opened = parent .before .before .before in
+    let start = opened .before .before .before in
+    passes _ _ _ (fresh-no (start .args .n) (opened .if1 .left))
+    (stops _ _ _ (child-absent (start .args .n) _ _
+    (omega (arith, parent .before .before .wide .ensures, parent .if2 .left)) (omega (arith, c .before .before .wide2 .ensures, c .if3 .taken))))
 
 join-wrong-requires : tie.Need-join-wrong-requires
-join-wrong-requires c κs = (
-  (omega (arith, (c .before .before .before .before .before .wide .ensures), (c .before .before .before .if2 .left))),
-  (omega (arith, (c .before .before .wide2 .ensures), (c .if3 .left))),
-  (c .before .before .before .before .before .before .before .before .before .pre .0),
-  (c .before .before .before .before .before .before .before .before .before .pre .1),
-)
+join-wrong-requires c κs =
+    let parent = c .before .before .before in
+    let start = parent .before .before .before .before .before .before in (
+      omega (arith, parent .before .before .wide .ensures, parent .if2 .left),
+      omega (arith, c .before .before .wide2 .ensures, c .if3 .left),
+      start .pre .0,
+      start .pre .1,
+    )
 
 returns-4 : tie.Need-returns-4
 unfolding joinNumber stateOf
 returns-4 c =
-    (passes _ _ _ (fresh-no (c .before .before .before .before .before .before .before .before .before .before .before .args .n)
-    (c .before .before .before .before .before .before .before .before .if1 .left))
-    (passes _ _ _ (both-present (c .before .before .before .before .before .before .before .before .before .before .before .args .n) _ _
-    (omega (
-      arith,
-      (c .before .before .before .before .before .before .before .wide .ensures),
-      (c .before .before .before .before .before .if2 .left),
-    ))
-    (omega (arith, (c .before .before .before .before .wide2 .ensures), (c .before .before .if3 .left))))
-    (stops _ _ _ (sym (c .before .join-wrong .ensures) ∙ (c .if4 .taken)))))
+    let child = c .before .before in
+    let parent = child .before .before .before in
+    let opened = parent .before .before .before in
+    let start = opened .before .before .before in
+    passes _ _ _ (fresh-no (start .args .n) (opened .if1 .left))
+    (passes _ _ _ (both-present (start .args .n) _ _
+    (omega (arith, parent .before .before .wide .ensures, parent .if2 .left))
+    (omega (arith, child .before .before .wide2 .ensures, child .if3 .left)))
+    (stops _ _ _ (sym (c .before .join-wrong .ensures) ∙ c .if4 .taken)))
 
 returns-5 : tie.Need-returns-5
 unfolding joinNumber stateOf
 returns-5 c =
-    (passes _ _ _ (fresh-no (c .before .before .before .before .before .before .before .before .before .before .before .before .args .n)
-    (c .before .before .before .before .before .before .before .before .before .if1 .left))
-    (passes _ _ _ (both-present (c .before .before .before .before .before .before .before .before .before .before .before .before .args .n) _ _
-    (omega (
-      arith,
-      (c .before .before .before .before .before .before .before .before .wide .ensures),
-      (c .before .before .before .before .before .before .if2 .left),
-    ))
-    (omega (arith, (c .before .before .before .before .before .wide2 .ensures), (c .before .before .before .if3 .left))))
-    (passes _ _ _ (sym (c .before .before .join-wrong .ensures) ∙ (c .before .if4 .left)) (stops _ _ _ (c .if5 .taken)))))
+    let fitting = c .before in
+    let child = fitting .before .before in
+    let parent = child .before .before .before in
+    let opened = parent .before .before .before in
+    let start = opened .before .before .before in
+    passes _ _ _ (fresh-no (start .args .n) (opened .if1 .left))
+    (passes _ _ _ (both-present (start .args .n) _ _
+    (omega (arith, parent .before .before .wide .ensures, parent .if2 .left))
+    (omega (arith, child .before .before .wide2 .ensures, child .if3 .left)))
+    (passes _ _ _ (sym (fitting .before .join-wrong .ensures) ∙ fitting .if4 .left)
+    (stops _ _ _ (c .if5 .taken))))
 
 node-of-requires : tie.Need-node-of-requires
-node-of-requires c κs = (
-  (omega (
-    arith,
-    (c .before .before .before .before .before .before .before .before .wide .ensures),
-    (c .before .before .before .before .before .before .if2 .left),
-  )),
-  (c .before .before .before .before .before .before .before .before .before .before .before .before .pre .0),
-)
+node-of-requires c κs =
+    let parent = c .before .before .before .before .before .before in
+    let start = parent .before .before .before .before .before .before in
+    (omega (arith, parent .before .before .wide .ensures, parent .if2 .left), start .pre .0)
 
 returns-6 : tie.Need-returns-6
 unfolding joinNumber stateOf
 returns-6 c =
-    (passes _ _ _
-    (fresh-no (c .before .before .before .before .before .before .before .before .before .before .before .before .before .before .before .args .n)
-    (c .before .before .before .before .before .before .before .before .before .before .before .before .if1 .left))
-    (passes _ _ _
-    (both-present (c .before .before .before .before .before .before .before .before .before .before .before .before .before .before .before .args .n)
-    _ _ (omega (
-      arith,
-      (c .before .before .before .before .before .before .before .before .before .before .before .wide .ensures),
-      (c .before .before .before .before .before .before .before .before .before .if2 .left),
-    ))
-    (omega (
-      arith,
-      (c .before .before .before .before .before .before .before .before .wide2 .ensures),
-      (c .before .before .before .before .before .before .if3 .left),
-    )))
-    (passes _ _ _ (sym (c .before .before .before .before .before .join-wrong .ensures) ∙ (c .before .before .before .before .if4 .left))
-    (passes _ _ _ (c .before .before .before .if5 .left)
+    let granted = c .before .before .before in
+    let fitting = granted .before in
+    let child = fitting .before .before in
+    let parent = child .before .before .before in
+    let opened = parent .before .before .before in
+    let start = opened .before .before .before in
+    passes _ _ _ (fresh-no (start .args .n) (opened .if1 .left))
+    (passes _ _ _ (both-present (start .args .n) _ _
+    (omega (arith, parent .before .before .wide .ensures, parent .if2 .left))
+    (omega (arith, child .before .before .wide2 .ensures, child .if3 .left)))
+    (passes _ _ _ (sym (fitting .before .join-wrong .ensures) ∙ fitting .if4 .left)
+    (passes _ _ _ (granted .if5 .left)
     (stops _ _ _
-    (ap (processedBy
-    (c .before .before .before .before .before .before .before .before .before .before .before .before .before .before .before .args .side))
-    (sym (c .before .before .node-of .ensures)) ∙ sym (c .before .is-processed .ensures) ∙ (c .if6 .taken)))))))
+    (ap (processedBy (start .args .side)) (sym (c .before .before .node-of .ensures)) ∙ sym (c .before .is-processed .ensures) ∙ c .if6 .taken)))))
 
 returns-7 : tie.Need-returns-7
 unfolding joinNumber stateOf
 returns-7 c =
+    let unprocessed = c .before .before .before in
+    let granted = unprocessed .before .before .before in
+    let fitting = granted .before in
+    let child = fitting .before .before in
+    let parent = child .before .before .before in
+    let opened = parent .before .before .before in
+    let start = opened .before .before .before in
+    passes _ _ _ (fresh-no (start .args .n) (opened .if1 .left))
+    (passes _ _ _ (both-present (start .args .n) _ _
+    (omega (arith, parent .before .before .wide .ensures, parent .if2 .left))
+    (omega (arith, child .before .before .wide2 .ensures, child .if3 .left)))
+    (passes _ _ _ (sym (fitting .before .join-wrong .ensures) ∙ fitting .if4 .left)
+    (passes _ _ _ (granted .if5 .left)
     (passes _ _ _
-    (fresh-no
-    (c .before .before .before .before .before .before .before .before .before .before .before .before .before .before .before .before .before .before .args .n)
-    (c .before .before .before .before .before .before .before .before .before .before .before .before .before .before .before .if1 .left))
-    (passes _ _ _
-    (both-present
-    (c .before .before .before .before .before .before .before .before .before .before .before .before .before .before .before .before .before .before .args .n)
-    _ _ (omega (
-      arith,
-      (c .before .before .before .before .before .before .before .before .before .before .before .before .before .before .wide .ensures),
-      (c .before .before .before .before .before .before .before .before .before .before .before .before .if2 .left),
-    ))
-    (omega (
-      arith,
-      (c .before .before .before .before .before .before .before .before .before .before .before .wide2 .ensures),
-      (c .before .before .before .before .before .before .before .before .before .if3 .left),
-    )))
-    (passes _ _ _ (sym (c .before .before .before .before .before .before .before .before .join-wrong .ensures)
-    ∙ (c .before .before .before .before .before .before .before .if4 .left))
-    (passes _ _ _ (c .before .before .before .before .before .before .if5 .left)
-    (passes _ _ _
-    (ap (processedBy
-    (c .before .before .before .before .before .before .before .before .before .before .before .before .before .before .before .before .before .before .args .side))
-    (sym (c .before .before .before .before .before .node-of .ensures)) ∙ sym (c .before .before .before .before .is-processed .ensures)
-    ∙ (c .before .before .before .if6 .left)) (stops _ _ _
-    (edges-full
-    (c .before .before .before .before .before .before .before .before .before .before .before .before .before .before .before .before .before .before .args .n)
-    (c .if7 .taken))))))))
+    (ap (processedBy (start .args .side)) (sym (unprocessed .before .before .node-of .ensures)) ∙ sym (unprocessed .before .is-processed .ensures)
+    ∙ unprocessed .if6 .left)
+    (stops _ _ _ (edges-full (start .args .n) (c .if7 .taken)))))))
 
 returns-8 : tie.Need-returns-8
 unfolding joinNumber stateOf
 returns-8 c =
+    let unprocessed = c .before .before .before in
+    let granted = unprocessed .before .before .before in
+    let fitting = granted .before in
+    let child = fitting .before .before in
+    let parent = child .before .before .before in
+    let opened = parent .before .before .before in
+    let start = opened .before .before .before in
+    passes _ _ _ (fresh-no (start .args .n) (opened .if1 .left))
+    (passes _ _ _ (both-present (start .args .n) _ _
+    (omega (arith, parent .before .before .wide .ensures, parent .if2 .left))
+    (omega (arith, child .before .before .wide2 .ensures, child .if3 .left)))
+    (passes _ _ _ (sym (fitting .before .join-wrong .ensures) ∙ fitting .if4 .left)
+    (passes _ _ _ (granted .if5 .left)
     (passes _ _ _
-    (fresh-no
-    (c .before .before .before .before .before .before .before .before .before .before .before .before .before .before .before .before .before .before .args .n)
-    (c .before .before .before .before .before .before .before .before .before .before .before .before .before .before .before .if1 .left))
-    (passes _ _ _
-    (both-present
-    (c .before .before .before .before .before .before .before .before .before .before .before .before .before .before .before .before .before .before .args .n)
-    _ _ (omega (
-      arith,
-      (c .before .before .before .before .before .before .before .before .before .before .before .before .before .before .wide .ensures),
-      (c .before .before .before .before .before .before .before .before .before .before .before .before .if2 .left),
-    ))
-    (omega (
-      arith,
-      (c .before .before .before .before .before .before .before .before .before .before .before .wide2 .ensures),
-      (c .before .before .before .before .before .before .before .before .before .if3 .left),
-    )))
-    (passes _ _ _ (sym (c .before .before .before .before .before .before .before .before .join-wrong .ensures)
-    ∙ (c .before .before .before .before .before .before .before .if4 .left))
-    (passes _ _ _ (c .before .before .before .before .before .before .if5 .left)
-    (passes _ _ _
-    (ap (processedBy
-    (c .before .before .before .before .before .before .before .before .before .before .before .before .before .before .before .before .before .before .args .side))
-    (sym (c .before .before .before .before .before .node-of .ensures)) ∙ sym (c .before .before .before .before .is-processed .ensures)
-    ∙ (c .before .before .before .if6 .left)) (passes _ _ _
-    (edges-room
-    (c .before .before .before .before .before .before .before .before .before .before .before .before .before .before .before .before .before .before .args .n)
-    (c .if7 .left)) refl))))))
+    (ap (processedBy (start .args .side)) (sym (unprocessed .before .before .node-of .ensures)) ∙ sym (unprocessed .before .is-processed .ensures)
+    ∙ unprocessed .if6 .left)
+    (passes _ _ _ (edges-room (start .args .n) (c .if7 .left)) refl)))))
 
 pub join-number-spec : {M : Type 1} → statement M
 join-number-spec =

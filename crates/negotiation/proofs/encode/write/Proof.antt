@@ -9,52 +9,50 @@ header-bytes-requires : tie.Need-header-bytes-requires
 header-bytes-requires c κs = counts (c .before .before .args .t1) (c .before .before .pre .0)
 
 write-nodes-requires : tie.Need-write-nodes-requires
-write-nodes-requires c κs = (
-  counts (c .before .before .before .before .before .before .before .before .before .before .before .before .before .before .before .before .before .before .before .args .t1)
-      (c .before .before .before .before .before .before .before .before .before .before .before .before .before .before .before .before .before .before .before .pre .0) .0,
-  omega (
-    arith,
-    c .before .before .before .before .before .before .before .before .before .write-zeros .kept .0,
-    c .before .before .before .before .before .before .before .before .before .before .before .before .before .copy-in .kept .0,
-    c .before .before .before .before .before .before .before .before .before .before .before .before .before .before .before .before .before .before .before .pre .1,
-  ),
-)
+write-nodes-requires c κs =
+    let zeros = c .before .before .before .before .before .before .before .before .before in
+    let header = zeros .before .before .before .before in
+    let start = header .before .before .before .before .before .before in (
+      counts (start .args .t1) (start .pre .0) .0,
+      omega (arith, zeros .write-zeros .kept .0, header .copy-in .kept .0, start .pre .1),
+    )
 
 write-edges-requires : tie.Need-write-edges-requires
-write-edges-requires c κs = (
-  counts (c .before .before .before .before .before .before .before .before .before .before .before .before .before .before .before .before .before .before .before .before .before .before .before .before .before .before .before .args .t1)
-      (c .before .before .before .before .before .before .before .before .before .before .before .before .before .before .before .before .before .before .before .before .before .before .before .before .before .before .before .pre .0) .1,
-  omega (
-    arith,
-    c .before .before .before .before .before .before .before .write-nodes .kept .0,
-    c .before .before .before .before .before .before .before .before .before .before .before .before .before .before .before .before .before .write-zeros .kept .0,
-    c .before .before .before .before .before .before .before .before .before .before .before .before .before .before .before .before .before .before .before .before .before .copy-in .kept .0,
-    c .before .before .before .before .before .before .before .before .before .before .before .before .before .before .before .before .before .before .before .before .before .before .before .before .before .before .before .pre .1,
-  ),
-)
+write-edges-requires c κs =
+    let nodes = c .before .before .before .before .before .before .before in
+    let zeros = nodes .before .before .before .before .before .before .before .before .before .before in
+    let header = zeros .before .before .before .before in
+    let start = header .before .before .before .before .before .before in (
+      counts (start .args .t1) (start .pre .0) .1,
+      omega (arith, nodes .write-nodes .kept .0, zeros .write-zeros .kept .0, header .copy-in .kept .0, start .pre .1),
+    )
 
 write-shown-requires : tie.Need-write-shown-requires
-write-shown-requires c κs = (
-  counts (c .before .before .before .before .before .before .before .before .before .before .before .before .before .before .before .before .before .before .before .before .before .before .before .before .before .before .before .before .before .before .before .before .before .before .before .args .t1)
-      (c .before .before .before .before .before .before .before .before .before .before .before .before .before .before .before .before .before .before .before .before .before .before .before .before .before .before .before .before .before .before .before .before .before .before .before .pre .0) .2,
-  omega (
-    arith,
-    c .before .before .before .before .before .before .before .write-edges .kept .0,
-    c .before .before .before .before .before .before .before .before .before .before .before .before .before .before .before .write-nodes .kept .0,
-    c .before .before .before .before .before .before .before .before .before .before .before .before .before .before .before .before .before .before .before .before .before .before .before .before .before .write-zeros .kept .0,
-    c .before .before .before .before .before .before .before .before .before .before .before .before .before .before .before .before .before .before .before .before .before .before .before .before .before .before .before .before .before .copy-in .kept .0,
-    c .before .before .before .before .before .before .before .before .before .before .before .before .before .before .before .before .before .before .before .before .before .before .before .before .before .before .before .before .before .before .before .before .before .before .before .pre .1,
-  ),
-)
+write-shown-requires c κs =
+    let edges = c .before .before .before .before .before .before .before in
+    let nodes = edges .before .before .before .before .before .before .before .before in
+    let zeros = nodes .before .before .before .before .before .before .before .before .before .before in
+    let header = zeros .before .before .before .before in
+    let start = header .before .before .before .before .before .before in (
+      counts (start .args .t1) (start .pre .0) .2,
+      omega (
+        arith,
+        edges .write-edges .kept .0,
+        nodes .write-nodes .kept .0,
+        zeros .write-zeros .kept .0,
+        header .copy-in .kept .0,
+        start .pre .1,
+      ),
+    )
 
 same-length : tie.Need-same-length
 same-length c =
-    let c10 = c .before .before .before .before .before .before .before .before .before .before in
-    let c18 = c10 .before .before .before .before .before .before .before .before in
-    let c24 = c18 .before .before .before .before .before .before in
-    let c28 = c24 .before .before .before .before in
-    let c32 = c28 .before .before .before .before in
-    c .before .before .write-shown .kept .0 ∙ c10 .write-edges .kept .0 ∙ c18 .write-nodes .kept .0 ∙ c28 .write-zeros .kept .0 ∙ c32 .copy-in .kept .0
+    let edges = c .before .before .before .before .before .before .before .before .before .before in
+    let nodes = edges .before .before .before .before .before .before .before .before in
+    let zeros = nodes .before .before .before .before .before .before .before .before .before .before in
+    let header = zeros .before .before .before .before in
+    c .before .before .write-shown .kept .0 ∙ edges .write-edges .kept .0 ∙ nodes .write-nodes .kept .0 ∙ zeros .write-zeros .kept .0
+    ∙ header .copy-in .kept .0
 
 returns : tie.Need-returns
 returns c =

@@ -25,25 +25,28 @@ wide16-requires c κs = tt
 
 drop-chain-requires : tie.Need-drop-chain-requires Inv-loop μ-loop
 drop-chain-requires c κs =
-    let l = c .before .before .before .before .before .before .before .before .before in
+    let head = c .before .before .before .before in
+    let node = head .before .before in
+    let l = node .before .before .before in
     let s = l .before in
     let chained = s .pre .1 .1 in (
       l .loop .inv .0,
       chained .next-low,
       (
         s .pre .1 .0,
-        omega (arith, c .before .before .before .before .wide16 .ensures, chained .head-low (c .before .before .before .before .before .before .wide .result)),
+        omega (arith, head .wide16 .ensures, chained .head-low (node .wide .result)),
         l .loop .inv .1 _ chained (s .pre .1 .2),
       ),
     )
 
 loop-again : tie.Need-loop-again Inv-loop μ-loop
 loop-again c =
-    let l = c .before .before .before .before .before .before .before .before .before .before in (
+    let head = c .before .before .before .before .before in
+    let node = head .before .before in
+    let l = node .before .before .before in (
       c .drop-chain .ensures .0,
       λ m chained w.
-          c .drop-chain .ensures .1 m (omega (arith, c .before .before .before .before .before .wide16 .ensures, chained .head-low (c .before .before .before .before .before .before .before .wide .result)))
-          (l .loop .inv .1 m chained w),
+          c .drop-chain .ensures .1 m (omega (arith, head .wide16 .ensures, chained .head-low (node .wide .result))) (l .loop .inv .1 m chained w),
     )
 
 returns : tie.Need-returns Inv-loop μ-loop

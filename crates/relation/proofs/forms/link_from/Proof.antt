@@ -10,7 +10,9 @@ abbrev pool : (c : tie.Start) → Pool
 pool c = poolOf (c .args .n) (c .args .heads .now) (c .args .kinds .now) (c .args .numbers .now)
 
 once-requires : tie.Need-once-requires
-once-requires c κs = (c .before .pre .0, rw (c .row .ensures) (row-small (c .before .args .n) (c .before .args .heads .now) (c .before .pre .0) (c .before .args .a)))
+once-requires c κs =
+    let s = c .before in
+    (s .pre .0, rw (c .row .ensures) (row-small (s .args .n) (s .args .heads .now) (s .pre .0) (s .args .a)))
 
 returns : tie.Need-returns
 returns c on m h =
@@ -19,12 +21,10 @@ returns c on m h =
     m (c3 .args .a) (c3 .args .m) (c .before .once .ensures _ (c .before .before .row .ensures)) (c .if1 .taken)
 
 leads-on-requires : tie.Need-leads-on-requires
-leads-on-requires c κs = (
-  c .before .before .before .pre .0,
-  c .before .before .before .pre .1,
-  rw (c .before .before .row .ensures)
-      (row-small (c .before .before .before .args .n) (c .before .before .before .args .heads .now) (c .before .before .before .pre .0) (c .before .before .before .args .a)),
-)
+leads-on-requires c κs =
+    let row = c .before .before in
+    let s = row .before in
+    (s .pre .0, s .pre .1, rw (row .row .ensures) (row-small (s .args .n) (s .args .heads .now) (s .pre .0) (s .args .a)))
 
 returns-2 : tie.Need-returns-2
 returns-2 c on m h =

@@ -14,12 +14,12 @@ returns c =
 
 returns-2 : tie.Need-returns-2
 returns-2 c =
-    bit-hit (c .before .before .before .before .before .before .args .n) (c .before .before .before .before .before .before .pre .0)
-    (c .before .before .before .before .before .before .args .kinds .now) (c .before .before .before .before .before .before .args .numbers .now) (c .before .before .before .before .before .before .args .b)
-    (c .before .before .before .before .before .before .args .body .now) _ _ (c .before .before .before .least-of .result)
-    (c .before .before .before .before .before .before .pre .1) (c .before .before .before .before .before .alike .ensures)
-    (c .before .before .before .before .alike2 .ensures) (c .before .before .before .least-of .ensures) (omega arith) (c .before .is-body .ensures)
-    (c .if2 .taken)
+    let bit = c .before .before .before in
+    let first = bit .before .before in
+    let s = first .before in
+    bit-hit (s .args .n) (s .pre .0) (s .args .kinds .now) (s .args .numbers .now) (s .args .b)
+    (s .args .body .now) _ _ (bit .least-of .result) (s .pre .1) (first .alike .ensures) (bit .before .alike2 .ensures)
+    (bit .least-of .ensures) (omega arith) (c .before .is-body .ensures) (c .if2 .taken)
 
 pub find-source-spec : {M : Type 1} → statement M
 find-source-spec =

@@ -20,23 +20,26 @@ loop-holds c = (omega arith, refl)
 returns : tie.Need-returns Inv-loop μ-loop
 unfolding bitIn
 returns c =
-    let c3 = c .before .before .before in
-    let c4 = c3 .before in
-    first-at (c4 .args .n) (isBodyIn (c4 .args .kinds .now) (c4 .args .numbers .now) (c4 .args .b)) (c3 .loop .s) (c .before .before .loop-test .taken) (c3 .loop .inv .1)
-    (c .before .is-body .ensures) (c .if1 .taken)
+    let l = c .before .before .before in
+    let s = l .before in
+    first-at (s .args .n) (isBodyIn (s .args .kinds .now) (s .args .numbers .now) (s .args .b)) (l .loop .s) (c .before .before .loop-test .taken)
+    (l .loop .inv .1) (c .before .is-body .ensures) (c .if1 .taken)
 
 loop-again : tie.Need-loop-again Inv-loop μ-loop
-loop-again c = (
-  omega arith,
-  not-at (isBodyIn (c .before .before .before .before .args .kinds .now) (c .before .before .before .before .args .numbers .now) (c .before .before .before .before .args .b))
-      (c .before .before .before .loop .s) (c .before .before .before .loop .inv .1) (c .before .is-body .ensures) (c .if1 .left),
-)
+loop-again c =
+    let l = c .before .before .before in
+    let s = l .before in (
+      omega arith,
+      not-at (isBodyIn (s .args .kinds .now) (s .args .numbers .now) (s .args .b)) (l .loop .s) (l .loop .inv .1) (c .before .is-body .ensures) (c .if1 .left),
+    )
 
 returns-2 : tie.Need-returns-2 Inv-loop μ-loop
 unfolding bitIn
 returns-2 c =
-    first-nowhere (c .before .before .args .n) (isBodyIn (c .before .before .args .kinds .now) (c .before .before .args .numbers .now) (c .before .before .args .b)) (c .before .loop .s)
-    (c .before .loop .inv .0) (c .loop-test .left) (c .before .loop .inv .1)
+    let l = c .before in
+    let s = l .before in
+    first-nowhere (s .args .n) (isBodyIn (s .args .kinds .now) (s .args .numbers .now) (s .args .b)) (l .loop .s)
+    (l .loop .inv .0) (c .loop-test .left) (l .loop .inv .1)
 
 pub source-spec : {M : Type 1} → statement M
 source-spec =

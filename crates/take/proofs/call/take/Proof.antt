@@ -44,19 +44,16 @@ write-requires c κs =
     ((c3 .taken-in .ensures .1 .sizes) (c .before .if3 .left), restored-length _ _ _ (c6 .restore .ensures .0) (c4 .if2 .left))
 
 write-zeros-requires : tie.Need-write-zeros-requires
-write-zeros-requires c κs = (
-  omega arith,
-  omega (
-    arith,
-    size-parts
-        (c .before .before .before .before .before .before .before .before .before .before .before .before .before .before .before .before .before .before .args .tables .now)
-        (c .before .before .before .before .before .before .before .before .before .before .before .before .before .before .before .before .before .before .args .negotiation .now)
-        (c .before .before .before .before .before .before .before .before .before .before .before .before .before .before .before .before .before .before .args .message .now)
-        (c .before .before .before .before .before .before .before .before .before .before .before .before .before .before .before .before .before .before .args .scratch .now)
-        (c .before .before .before .before .before .before .before .before .before .before .before .before .before .fits2 .ensures)
-        (c .before .before .before .before .before .before .before .before .before .before .before .before .if1 .left) .2,
-  ),
-)
+write-zeros-requires c κs =
+    let sized = c .before .before .before .before .before .before .before .before .before .before .before .before in
+    let start = sized .before .before .before .before .before .before in (
+      omega arith,
+      omega (
+        arith,
+        size-parts (start .args .tables .now) (start .args .negotiation .now) (start .args .message .now) (start .args .scratch .now)
+            (sized .before .fits2 .ensures) (sized .if1 .left) .2,
+      ),
+    )
 
 returns-4 : tie.Need-returns-4
 returns-4 c =
