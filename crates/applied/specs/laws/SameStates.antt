@@ -224,6 +224,13 @@ module _ (ns : List Node) (es : List Edge) (i s : ℕ) (l : i < length ns) where
   pub inside-mark : Inside ns es → Inside marked es
   inside-mark h = record { parent = λ d m. omega (arith, h .parent d m, wide) }
 
+  -- children are those before
+  child-marked : {t : ℕ → Bool} {j c : ℕ} → Child ns es t j c → Child marked es t j c
+  child-marked k = record { kind = k .kind; passes = k .passes; edge = k .edge; inside = omega (arith, k .inside, wide) }
+
+  child-unmarked : {t : ℕ → Bool} {j c : ℕ} → Child marked es t j c → Child ns es t j c
+  child-unmarked k = record { kind = k .kind; passes = k .passes; edge = k .edge; inside = omega (arith, k .inside, wide) }
+
   module _ (whole : isParts (nodeIn ns i .expression) ≡ false) where
     -- an intersection's state is as before
     same-state : (j : ℕ) {p : Parts} → nodeIn ns j .expression ≡ E.Intersection p → nodeIn marked j ≡ nodeIn ns j
@@ -232,41 +239,19 @@ module _ (ns : List Node) (es : List Edge) (i s : ℕ) (l : i < length ns) where
     mark-onward : {j : ℕ} → Satisfied ns es j → Satisfied marked es j
     mark-onward (trivial {i = j} e) = trivial (same-expression j ∙ e)
     mark-onward (standard {i = j} t k h) =
-        standard (ap isStandard (same-expression j) ∙ t)
-        (record { kind = k .kind; passes = k .passes; edge = k .edge; inside = omega (arith, k .inside, wide) }) (mark-onward h)
+        standard (ap isStandard (same-expression j) ∙ t) (child-marked k) (mark-onward h)
     mark-onward (intersection {i = j} e z f w h) =
         intersection (same-expression j ∙ e) (ap (λ (n : Node). n .state) (same-state j e) ∙ z) f
-        (λ a m. record {
-          child =
-              record {
-                kind = w a m .child .kind;
-                passes = w a m .child .passes;
-                edge = w a m .child .edge;
-                inside = omega
-                    (arith, w a m .child .inside, wide);
-              };
-          role = same-expression (f a m) ∙ w a m .role;
-        })
+        (λ a m. record { child = child-marked (w a m .child); role = same-expression (f a m) ∙ w a m .role })
         (λ a m. mark-onward (h a m))
 
     mark-back : {j : ℕ} → Satisfied marked es j → Satisfied ns es j
     mark-back (trivial {i = j} e) = trivial (sym (same-expression j) ∙ e)
     mark-back (standard {i = j} t k h) =
-        standard (sym (ap isStandard (same-expression j)) ∙ t)
-        (record { kind = k .kind; passes = k .passes; edge = k .edge; inside = omega (arith, k .inside, wide) }) (mark-back h)
+        standard (sym (ap isStandard (same-expression j)) ∙ t) (child-unmarked k) (mark-back h)
     mark-back (intersection {i = j} e z f w h) =
         intersection (sym (same-expression j) ∙ e) (sym (ap (λ (n : Node). n .state) (same-state j (sym (same-expression j) ∙ e))) ∙ z) f
-        (λ a m. record {
-          child =
-              record {
-                kind = w a m .child .kind;
-                passes = w a m .child .passes;
-                edge = w a m .child .edge;
-                inside = omega
-                    (arith, w a m .child .inside, wide);
-              };
-          role = sym (same-expression (f a m)) ∙ w a m .role;
-        })
+        (λ a m. record { child = child-unmarked (w a m .child); role = sym (same-expression (f a m)) ∙ w a m .role })
         (λ a m. mark-back (h a m))
 
     pub still-mark : Still ns es marked es

@@ -13,9 +13,9 @@ use Rattle.expression.specs.declared.Credential.{Credential}
 use Rattle.expression.specs.declared.Expression.{Expression}
 use Rattle.rt0.specs.Decide.{from? as fromOf}
 use Rattle.rt0.specs.Lists.{all}
-use Rattle.word.specs.laws.Bools.{false-true, or-cases, or-left, or-right, bool-iff}
+use Rattle.word.specs.laws.Bools.{false-true, or-cases, or-left, or-right, bool-iff, not-of}
 use Rattle.rt0.specs.Pool.{upTo}
-use Rattle.propagation.specs.laws.Flags.{decided, flag, flag-same, flag-grows, not-of}
+use Rattle.propagation.specs.laws.Flags.{decided, flag, flag-same, flag-grows}
 use Rattle.graph.specs.declared.Edge.{Edge}
 use Rattle.graph.specs.declared.Nodes.{Nodes}
 use Rattle.graph.specs.declared.Edges.{Edges}

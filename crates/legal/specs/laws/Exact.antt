@@ -17,7 +17,7 @@ use Rattle.expression.specs.Same.{same, sameCredential}
 use Rattle.expression.specs.laws.Same.{same-eq, eq-same, sameCredential-refl, sameCredential-eq}
 use Rattle.rt0.specs.Lists.{any}
 use Rattle.rt0.specs.laws.Lists.{any-find, any-here}
-use Rattle.word.specs.laws.Bools.{false-true, and-parts, and-both, or-cases, or-left, or-right, or-neither}
+use Rattle.word.specs.laws.Bools.{false-true, and-parts, and-both, or-cases, or-left, or-right, or-neither, not-of}
 use Rattle.rt0.specs.From.{roleOf}
 use Rattle.rt0.specs.Decide.{from? as fromOf}
 use Rattle.rt0.specs.laws.Laws.{from-exact}
@@ -63,11 +63,7 @@ module _ {A : Type 0} (f : A → Bool) (l : List A) where
   any-not h m e = false-true (sym h ∙ any-here f m e)
 
   not-any : ((x : A) → List·Memᴰ x l → f x ≡ true → ⊥) → any f l ≡ false
-  not-any h = go (any f l) refl
-    where
-      go : (b : Bool) → any f l ≡ b → any f l ≡ false
-      go true e = let r = any-find f l e in absurd (h (r .0) (r .1) (r .2))
-      go false e = e
+  not-any h = not-of (any f l) (λ e. let r = any-find f l e in h (r .0) (r .1) (r .2))
 
 -- a test that is asked of one kind only
 module _ (k j : ℕ) (b : Bool) where

@@ -11,12 +11,11 @@ use lib.Seq.{getD-append-seam}
 use Rattle.expression.specs.Form.{wellFormed}
 use Rattle.rt0.specs.Lists.{any}
 use Rattle.rt0.specs.laws.Lists.{any-find}
-use Rattle.word.specs.laws.Bools.{and-parts, and-both, or-neither}
+use Rattle.word.specs.laws.Bools.{and-parts, and-both, or-neither, not-of}
 use Rattle.class.specs.declared.Name.{Name}
 use Rattle.class.specs.declared.Typing.{Typing}
 use Rattle.class.specs.declared.Typing.the-variants.{Unnamed, Ill, Any, Class}
 use Rattle.class.specs.Typing.{typeOf}
-use Rattle.propagation.specs.laws.Flags.{not-of}
 use Rattle.graph.specs.declared.Node.{Node}
 use Rattle.graph.specs.declared.Edge.{Edge}
 use Rattle.graph.specs.Graph.{nodeIn, blank}

@@ -13,7 +13,7 @@ use Rattle.rt0.specs.laws.Pool.{credentialAt}
 use mathlib.Core.Path.{_≡_, refl, sym, _∙_, ap, subst}
 use mathlib.Core.Logic.{⊎-elim}
 use Rattle.rt0.specs.laws.Laws.{more, sound, complete}
-use Rattle.word.specs.laws.Bools.{false-true, bool-iff}
+use Rattle.word.specs.laws.Bools.{false-true, bool-iff, not-of}
 use Rattle.needed.specs.Needed.{kept, enough, needed, Each, last, next}
 
 -- the first s credentials of a pool
@@ -48,10 +48,6 @@ pub sub-mem : {A : Type 0} {xs ys : List A} → Sublist xs ys → (d : A) → Li
 sub-mem nothing d m = m
 sub-mem (dropped h) d m = List·Memᴰ·tail (sub-mem h d m)
 sub-mem (taken h) d m = ⊎-elim (λ q. List·Memᴰ·head q) (λ k. List·Memᴰ·tail (sub-mem h d k)) (List·Memᴰ·cases-cons m)
-
-not-so : (b : Bool) → (b ≡ true → ⊥) → b ≡ false
-not-so true h = absurd (h refl)
-not-so false h = refl
 
 module _ {A : Type 0} (g : List A → Bool) where
   -- one that can be missed is dropped
@@ -103,7 +99,7 @@ module _ {A : Type 0} (g : List A → Bool) where
     pub kept-all : (ks cs : List A) → g (ks ++ cs) ≡ false → kept g ks cs ≡ ks ++ cs
     kept-all ks [] h = kept-nil ks ∙ sym (append-nil ks)
     kept-all ks (c ∷ cs) h =
-        kept-keep ks c cs (not-so (g (ks ++ cs)) (λ k. false-true (sym h ∙ more .gains fewer k)))
+        kept-keep ks c cs (not-of (g (ks ++ cs)) (λ k. false-true (sym h ∙ more .gains fewer k)))
         ∙ (kept-all (ks ++ (c ∷ [])) cs (ap g (append-assoc ks (c ∷ []) cs) ∙ h) ∙ append-assoc ks (c ∷ []) cs)
       where
         fewer : (d : A) → List·Memᴰ d (ks ++ cs) → List·Memᴰ d (ks ++ (c ∷ cs))
@@ -127,7 +123,7 @@ module _ {A : Type 0} (g : List A → Bool) where
           keep .1 ∙ append-assoc ks (c ∷ []) (keep .0),
           taken (keep .2),
           next
-              (not-so (g (ks ++ keep .0)) (λ k. false-true (sym q ∙ more .gains (fewer (keep .2)) k))) (keep .3),
+              (not-of (g (ks ++ keep .0)) (λ k. false-true (sym q ∙ more .gains (fewer (keep .2)) k))) (keep .3),
         )
 
 -- The needed credentials

@@ -9,8 +9,8 @@ use mathlib.Core.List.{List}
 use borrow.Author.Tests.{eqb-true, eqb-false, eq-eqb, ne-eqb, ltb-true, ltb-false, lt-ltb, le-ltb, not-true}
 use lib.Dec.{eqb, ltb}
 use lib.ListN.{getD, length, set, length-set, replicate, length-replicate}
-use Rattle.word.specs.laws.Bools.{false-true, or-cases, or-left, or-right, and-parts, and-both, bool-iff}
-use Rattle.propagation.specs.laws.Flags.{not-of, decided, anyTo-find, cnt, cnt-le, cnt-one, flag, flag-same, flag-other, flag-grows, flag-cases}
+use Rattle.word.specs.laws.Bools.{false-true, or-cases, or-left, or-right, and-parts, and-both, bool-iff, not-of}
+use Rattle.propagation.specs.laws.Flags.{decided, anyTo-find, cnt, cnt-le, cnt-one, flag, flag-same, flag-other, flag-grows, flag-cases}
 use Rattle.propagation.specs.laws.Flags.{flag-zeros}
 use Rattle.propagation.specs.Flags.{at}
 use Rattle.propagation.specs.laws.Least.{Monotone, least-closed, least-below}

@@ -9,8 +9,8 @@ use borrow.Author.Tests.{eqb-true, eqb-false, eq-eqb, ne-eqb, ltb-true, lt-ltb, 
 use lib.Dec.{eqb, ltb}
 use lib.ListN.{getD, length, set, length-set, replicate, length-replicate}
 use lib.Seq.{getD-set-same, getD-set-other}
-use Rattle.word.specs.laws.Bools.{false-true, and-parts, and-both}
-use Rattle.propagation.specs.laws.Flags.{not-of, decided, one, cnt, cnt-le, cnt-one, cnt-some, cnt-next, flag, flag-same, flag-other, flag-cases}
+use Rattle.word.specs.laws.Bools.{false-true, and-parts, and-both, not-of}
+use Rattle.propagation.specs.laws.Flags.{decided, one, cnt, cnt-le, cnt-one, cnt-some, cnt-next, flag, flag-same, flag-other, flag-cases}
 use Rattle.propagation.specs.laws.Flags.{flag-zeros}
 use Rattle.word.specs.laws.Search.{zeros}
 use Rattle.propagation.specs.Flags.{at}

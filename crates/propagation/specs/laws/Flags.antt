@@ -13,14 +13,11 @@ use Rattle.word.specs.laws.Bools.{false-true, or-cases, and-parts, and-both}
 use native.Mathlib.Numerals.{add-one}
 use Rattle.propagation.specs.Flags.{at, tab}
 use Rattle.word.specs.laws.Search.{zeros, anyTo}
+pub use Rattle.word.specs.laws.Bools.{not-of}
 
 pub flag-is : (b : Bool) → eqb (cond b 1 0) 1 ≡ b
 flag-is true = refl
 flag-is false = refl
-
-pub not-of : (a : Bool) → (a ≡ true → ⊥) → a ≡ false
-not-of true h = absurd (h refl)
-not-of false h = refl
 
 pub decided : (a : Bool) → (a ≡ true) ⊎ (a ≡ false)
 decided true = inl refl

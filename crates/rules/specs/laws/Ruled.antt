@@ -16,6 +16,7 @@ use Rattle.rt0.specs.laws.Pool.{bodyAt}
 use Rattle.closure.specs.declared.Rules.{Rules}
 use Rattle.closure.specs.laws.Rules.{el, bits, rulesOf, Fits}
 use Rattle.rules.specs.declared.Four.{Four}
+use Rattle.word.specs.laws.Bools.{not-of}
 use Rattle.word.specs.laws.Search.{anyTo, anyTo-here}
 use Rattle.rules.specs.laws.Table.{rowOf, rowFor, third, fourth, Quad, Unnamed, Names, Row, entity, goal, role, linked, intersection, Compiled}
 use Rattle.rules.specs.laws.Columns.{fourRows, firstRow, isLinked, Column, headRow, bodyFirst, fourAt, PartsTo, Able, NamesTo, hasLink}
@@ -52,11 +53,6 @@ row-of P e X i x four first names none = go x four first names none
     go (E.Intersection p) q f n u = intersection (quad q) (u refl)
     go (E.Goal m) q f n u = goal (quad q) (u refl)
 
--- what is not true is false
-pub false-of : (b : Bool) → (b ≡ true → ⊥) → b ≡ false
-false-of true h = absurd (h refl)
-false-of false h = refl
-
 -- equal links have equal names
 pub linked-name : {a b : Role} {m n : ℕ} → E.Linked a m ≡ E.Linked b n → m ≡ n
 linked-name e = cc
@@ -84,7 +80,7 @@ compiled-of P small e X Y ruled qc qw qh qf qn qs parts =
     unnamed : (i : ℕ) → isLinked (bodyAt P i) ≡ false → Unnamed Y i
     unnamed i n =
         record {
-          none = λ j. false-of (bits (Y .named) i j)
+          none = λ j. not-of (bits (Y .named) i j)
               (λ h. let r = ruled .names .says i j (rw qn at h) in not-linked (bodyAt P i) n (r .0) (r .1) (r .3));
         }
 

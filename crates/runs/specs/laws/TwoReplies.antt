@@ -8,11 +8,10 @@ use mathlib.Core.List.{List, [], _∷_, _++_}
 use lib.Dec.{eqb, leb}
 use lib.ListN.{length}
 use Rattle.expression.specs.declared.Expression.the-variants as E
-use Rattle.word.specs.laws.Bools.{false-true}
+use Rattle.word.specs.laws.Bools.{false-true, not-of}
 use Rattle.class.specs.declared.Name.{Name}
 use Rattle.tables.specs.Tables.{Tables}
 use Rattle.tables.specs.Public.{Public, publicOf}
-use Rattle.propagation.specs.laws.Flags.{not-of}
 use Rattle.graph.specs.Propagated.{propagatedState as propagated}
 use Rattle.message.specs.declared.Command.{Command}
 use Rattle.message.specs.declared.Command.the-variants.{Open}

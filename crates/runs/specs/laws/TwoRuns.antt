@@ -10,8 +10,7 @@ use Rattle.expression.specs.declared.Role.{Role}
 use Rattle.expression.specs.Same.{sameRole}
 use Rattle.expression.specs.laws.Same.{eq-sameRole}
 use Rattle.rt0.specs.laws.Lists.{any-here}
-use Rattle.word.specs.laws.Bools.{false-true}
-use Rattle.propagation.specs.laws.Flags.{not-of}
+use Rattle.word.specs.laws.Bools.{false-true, not-of}
 use Rattle.record.specs.declared.Pair.{Pair}
 use Rattle.tables.specs.Tables.{Tables}
 use Rattle.tables.specs.Check.{readTables}

@@ -16,7 +16,7 @@ use Rattle.expression.specs.Form.{wellFormed}
 use Rattle.expression.specs.Same.{same}
 use Rattle.expression.specs.laws.Same.{same-eq}
 use Rattle.rt0.specs.laws.Lists.{any-find}
-use Rattle.word.specs.laws.Bools.{false-true, and-parts, bool-iff}
+use Rattle.word.specs.laws.Bools.{false-true, and-parts, bool-iff, not-of}
 use Rattle.rt0.specs.From.{rolesOf}
 use Rattle.graph.specs.declared.Node.{Node}
 use Rattle.graph.specs.declared.Edge.{Edge}
@@ -27,7 +27,7 @@ use Rattle.graph.specs.laws.States.{processed-inside, failed-inside}
 use Rattle.graph.specs.Propagated.{failedB}
 use Rattle.graph.specs.laws.Propagated.{failed-exact}
 use Rattle.propagation.specs.Flags.{at}
-use Rattle.propagation.specs.laws.Flags.{decided, not-of}
+use Rattle.propagation.specs.laws.Flags.{decided}
 use Rattle.propagation.specs.laws.Least.{least-into}
 use Rattle.propagation.specs.laws.Satisfied.{Graph, graph, nodeAt}
 use Rattle.propagation.specs.laws.Failed.{childOf, failsBy, failedRule, failedOf}

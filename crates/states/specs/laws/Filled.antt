@@ -18,8 +18,8 @@ use Rattle.rt0.specs.laws.Pool.{expressionIn}
 use Rattle.graph.specs.laws.Graph.{nodeAt, edgeAt, nodesOf, edgesOf}
 use Rattle.graph.specs.Graph.{blank, nodeIn}
 use Rattle.graph.specs.laws.Columns.{nodes-length, edges-length, node-in, edge-in}
-use Rattle.word.specs.laws.Bools.{and-parts, and-both, bool-iff}
-use Rattle.propagation.specs.laws.Flags.{decided, not-of}
+use Rattle.word.specs.laws.Bools.{and-parts, and-both, bool-iff, not-of}
+use Rattle.propagation.specs.laws.Flags.{decided}
 use Rattle.propagation.specs.laws.Work.{Beyond}
 use Rattle.states.specs.laws.Brings.{needOf, wayOf, slotAs, bringsBy, slotBy, slotFor, brings, fromOf, slotOf, Joined, Needs, Ways}
 use Rattle.states.specs.laws.BringsLaws.{brings-parts, brings-of, from-child, into-slot, from-none, into-none, slot-few}

@@ -17,9 +17,8 @@ use Rattle.expression.specs.Same.{sameRole}
 use Rattle.expression.specs.laws.Same.{sameRole-eq, eq-sameRole}
 use Rattle.rt0.specs.Lists.{all}
 use Rattle.rt0.specs.laws.Lists.{all-each}
-use Rattle.word.specs.laws.Bools.{false-true, or-cases, or-left, or-right, and-parts, and-both}
+use Rattle.word.specs.laws.Bools.{false-true, or-cases, or-left, or-right, and-parts, and-both, not-of}
 use Rattle.rt0.specs.From.{roleOf, rolesOf}
-use Rattle.propagation.specs.laws.Flags.{not-of}
 use Rattle.states.specs.laws.Brings.{placeIn, slotIn}
 
 module _ {A : Type 0} (d : A) where

@@ -2,16 +2,17 @@
 use Prim.Native.Nat.{ℕ, zero, suc, _+_, _≤_, _<_}
 use mathlib.Core.Path.{_≡_, refl, sym, _∙_, ap}
 use mathlib.Core.Bool.{Bool, true, false, cond, not, _&&_, _||_}
-use mathlib.Core.List.{List, [], _∷_, _++_}
+use mathlib.Core.List.{List, [], _∷_}
 use native.Mathlib.Omega.{arith}
 use borrow.Author.Tests.{eqb-true, eqb-false}
+use native.Mathlib.Numerals.{add-one}
 use lib.Dec.{eqb}
 use Rattle.expression.specs.declared.Role.{Role}
 use Rattle.expression.specs.Same.{sameRole}
-use Rattle.word.specs.laws.Bools.{false-true}
+use Rattle.word.specs.laws.Bools.{false-true, or-left, or-right}
 use Rattle.rt0.specs.Lists.{any, firstOr}
 use Rattle.rt0.specs.Pool.{upTo}
-use Rattle.rt0.specs.laws.Find.{Missed, missed-more, missed-fewer, first-at, first-none, any-first}
+use Rattle.rt0.specs.laws.Find.{Missed, missed-more, missed-fewer, first-at, first-none, any-first, any-more}
 use Rattle.record.specs.declared.Pair.{Pair}
 use Rattle.tables.specs.declared.Pairs.{Pairs}
 use Rattle.tables.specs.declared.RoleAnswer.{RoleAnswer}
@@ -45,32 +46,15 @@ module _ {A B C : Type 0} where
       go false h = h
 
 module _ {A : Type 0} (t : A → Bool) where
-  any-last : (L : List A) (x : A) → any t (L ++ (x ∷ [])) ≡ (any t L || t x)
-  any-last [] x = go (t x)
-    where
-      go : (b : Bool) → (b || false) ≡ b
-      go true = refl
-      go false = refl
-  any-last (y ∷ L) x = ap (λ (b : Bool). t y || b) (any-last L x) ∙ go (t y)
-    where
-      go : (b : Bool) → (b || (any t L || t x)) ≡ ((b || any t L) || t x)
-      go true = refl
-      go false = refl
-
   -- an element that passes, whichever it is
   pub any-some : (g : ℕ → A) (n : ℕ) {j : ℕ} {b : Bool} → j < n → b ≡ t (g j) → b ≡ true → true ≡ any t (upTo n g)
   any-some g zero l e p = absurd (omega arith)
-  any-some g (suc n) {j} {b} l e p = go (eqb j n) refl (λ k. any-some g n k e p)
+  any-some g (suc n) {j} l e p =
+      sym (go (eqb j n) refl (λ k. any-some g n k e p)) ∙ (any-more t g n refl refl ∙ ap (λ (m : ℕ). any t (upTo m g)) (add-one n))
     where
-      or-true : (a : Bool) → true ≡ (a || true)
-      or-true true = refl
-      or-true false = refl
-
-      go : (s : Bool) → eqb j n ≡ s → (j < n → true ≡ any t (upTo n g)) → true ≡ any t (upTo (suc n) g)
-      go true q ih =
-          or-true (any t (upTo n g))
-          ∙ sym (any-last (upTo n g) (g n) ∙ ap (λ (s : Bool). any t (upTo n g) || s) (sym (ap (λ (k : ℕ). t (g k)) (eqb-true j n q)) ∙ sym e ∙ p))
-      go false q ih = sym (any-last (upTo n g) (g n) ∙ ap (λ (s : Bool). s || t (g n)) (sym (ih (omega (arith, eqb-false j n q)))))
+      go : (s : Bool) → eqb j n ≡ s → (j < n → true ≡ any t (upTo n g)) → (any t (upTo n g) || t (g n)) ≡ true
+      go true q ih = or-right (any t (upTo n g)) (t (g n)) (sym (ap (λ (k : ℕ). t (g k)) (eqb-true j n q)) ∙ sym e ∙ p)
+      go false q ih = or-left (any t (upTo n g)) (t (g n)) (sym (ih (omega (arith, eqb-false j n q))))
 
 -- Pairs by their role
 

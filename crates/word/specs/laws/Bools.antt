@@ -8,6 +8,11 @@ bool-iff true b f g = sym (f refl)
 bool-iff false true f g = g refl
 bool-iff false false f g = refl
 
+-- what is not true is false
+pub not-of : (a : Bool) → (a ≡ true → ⊥) → a ≡ false
+not-of true h = absurd (h refl)
+not-of false h = refl
+
 pub no-and : (a b : Bool) → b ≡ false → false ≡ (a && b)
 no-and true b h = sym h
 no-and false b h = refl
