@@ -1,8 +1,15 @@
 use native.Mathlib.Omega.{arith}
-use mathlib.Core.Path.{refl, sym, _∙_, ap}
+use Prim.Native.Nat.{ℕ}
+use mathlib.Core.Path.{_≡_, refl, sym, _∙_, ap}
+use mathlib.Core.Bool.{_||_}
+use lib.Dec.{leb}
+use lib.ListN.{length}
 use Rattle.negotiation.specs.laws.State.{stateOf}
 use Rattle.graph.specs.Processed.{processedBy}
-use Rattle.legal.specs.Number.{typeNumber, bringNumber}
+use Rattle.numbers.specs.Sizes.{MOST-NODES, MOST-EDGES}
+use Rattle.numbers.specs.Refusals.{FULL}
+use Rattle.class.specs.laws.Names.{namesOf}
+use Rattle.legal.specs.Number.{refuse, typeNumber, bringNumber}
 use Rattle.legal.specs.laws.Number.{first-stops, first-passes, stops, passes, fresh-yes, fresh-no, absent-yes, absent-no, sizes-same}
 use borrow.Author.Needs.{needs}
 use Rattle.legal.proofs.edges.bring_number.Statement.{statement}
@@ -86,45 +93,41 @@ returns-6 c =
     (stops _ _ _
     (ap (processedBy (start .args .side)) (sym (c .before .before .node-of .ensures)) ∙ sym (c .before .is-processed .ensures) ∙ c .if6 .taken))))))
 
-returns-7 : tie.Need-returns-7
+abbrev start : tie.Else6 → tie.Start
+start c = c .before .before .before .before .before .before .before .before .before .before .before .before .before .before .before .before .before .before
+
+-- no rule but the last refuses the edge
+unrefused : (c : tie.Else6) {r : ℕ}
+    → r ≡ refuse (leb MOST-NODES (length (stateOf (start c .args .n) .nodes)) || leb MOST-EDGES (length (stateOf (start c .args .n) .edges))) FULL 0
+    → r ≡ bringNumber (namesOf (start c .args .t1)) (start c .args .side) (stateOf (start c .args .n)) (start c .args .b) (start c .args .justified)
 unfolding bringNumber stateOf
+unrefused c last =
+    let granted = c .before .before .before in
+    let fitting = granted .before in
+    let there = fitting .before .before in
+    let opened = there .before .before .before in
+    let typed = opened .before .before .before in
+    let s = start c in
+    first-passes _ _ _ (typed .before .type-number .ensures ∙ ap typeNumber (typed .before .before .type-of .ensures)) (typed .if1 .left)
+    (passes _ _ _ (fresh-no (s .args .n) (opened .if2 .left))
+    (passes _ _ _ (absent-no (s .args .n) _ (omega (arith, there .before .before .wide .ensures, there .if3 .left)))
+    (passes _ _ _ (sym (fitting .before .bring-wrong .ensures) ∙ fitting .if4 .left)
+    (passes _ _ _ (granted .if5 .left)
+    (passes _ _ _
+    (ap (processedBy (s .args .side)) (sym (c .before .before .node-of .ensures)) ∙ sym (c .before .is-processed .ensures) ∙ c .if6 .left)
+    last)))))
+
+returns-7 : tie.Need-returns-7
+unfolding stateOf
 returns-7 c =
     let unprocessed = c .before .before .before .before in
-    let granted = unprocessed .before .before .before in
-    let fitting = granted .before in
-    let there = fitting .before .before in
-    let opened = there .before .before .before in
-    let typed = opened .before .before .before in
-    let start = typed .before .before .before .before .before .before in
-    first-passes _ _ _ (typed .before .type-number .ensures ∙ ap typeNumber (typed .before .before .type-of .ensures)) (typed .if1 .left)
-    (passes _ _ _ (fresh-no (start .args .n) (opened .if2 .left))
-    (passes _ _ _ (absent-no (start .args .n) _ (omega (arith, there .before .before .wide .ensures, there .if3 .left)))
-    (passes _ _ _ (sym (fitting .before .bring-wrong .ensures) ∙ fitting .if4 .left)
-    (passes _ _ _ (granted .if5 .left)
-    (passes _ _ _
-    (ap (processedBy (start .args .side)) (sym (unprocessed .before .before .node-of .ensures)) ∙ sym (unprocessed .before .is-processed .ensures)
-    ∙ unprocessed .if6 .left)
-    (stops _ _ _ (sym (sizes-same (start .args .n)) ∙ c .if7 .taken)))))))
+    unrefused unprocessed (stops _ _ _ (sym (sizes-same (start unprocessed .args .n)) ∙ c .if7 .taken))
 
 returns-8 : tie.Need-returns-8
-unfolding bringNumber stateOf
+unfolding stateOf
 returns-8 c =
     let unprocessed = c .before .before .before .before in
-    let granted = unprocessed .before .before .before in
-    let fitting = granted .before in
-    let there = fitting .before .before in
-    let opened = there .before .before .before in
-    let typed = opened .before .before .before in
-    let start = typed .before .before .before .before .before .before in
-    first-passes _ _ _ (typed .before .type-number .ensures ∙ ap typeNumber (typed .before .before .type-of .ensures)) (typed .if1 .left)
-    (passes _ _ _ (fresh-no (start .args .n) (opened .if2 .left))
-    (passes _ _ _ (absent-no (start .args .n) _ (omega (arith, there .before .before .wide .ensures, there .if3 .left)))
-    (passes _ _ _ (sym (fitting .before .bring-wrong .ensures) ∙ fitting .if4 .left)
-    (passes _ _ _ (granted .if5 .left)
-    (passes _ _ _
-    (ap (processedBy (start .args .side)) (sym (unprocessed .before .before .node-of .ensures)) ∙ sym (unprocessed .before .is-processed .ensures)
-    ∙ unprocessed .if6 .left)
-    (passes _ _ _ (sym (sizes-same (start .args .n)) ∙ c .if7 .left) refl))))))
+    unrefused unprocessed (passes _ _ _ (sym (sizes-same (start unprocessed .args .n)) ∙ c .if7 .left) refl)
 
 pub bring-number-spec : {M : Type 1} → statement M
 bring-number-spec =

@@ -1,8 +1,13 @@
 use native.Mathlib.Omega.{arith}
-use mathlib.Core.Path.{refl, sym, _∙_, ap}
+use Prim.Native.Nat.{ℕ}
+use mathlib.Core.Path.{_≡_, refl, sym, _∙_, ap}
+use lib.Dec.{leb}
+use lib.ListN.{length}
 use Rattle.negotiation.specs.laws.State.{stateOf}
 use Rattle.graph.specs.Processed.{processedBy}
-use Rattle.legal.specs.Number.{joinNumber}
+use Rattle.numbers.specs.Sizes.{MOST-EDGES}
+use Rattle.numbers.specs.Refusals.{FULL}
+use Rattle.legal.specs.Number.{refuse, joinNumber}
 use Rattle.legal.specs.laws.Number.{stops, passes, fresh-yes, fresh-no, both-present, parent-absent, child-absent, edges-full, edges-room}
 use borrow.Author.Needs.{needs}
 use Rattle.legal.proofs.edges.join_number.Statement.{statement}
@@ -92,47 +97,41 @@ returns-6 c =
     (stops _ _ _
     (ap (processedBy (start .args .side)) (sym (c .before .before .node-of .ensures)) ∙ sym (c .before .is-processed .ensures) ∙ c .if6 .taken)))))
 
-returns-7 : tie.Need-returns-7
+abbrev start : tie.Else6 → tie.Start
+start c = c .before .before .before .before .before .before .before .before .before .before .before .before .before .before .before
+
+-- no rule but the last refuses the edge
+unrefused : (c : tie.Else6) {r : ℕ} → r ≡ refuse (leb MOST-EDGES (length (stateOf (start c .args .n) .edges))) FULL 0
+    → r ≡ joinNumber (start c .args .side) (stateOf (start c .args .n)) (start c .args .e) (start c .args .justified)
 unfolding joinNumber stateOf
+unrefused c last =
+    let granted = c .before .before .before in
+    let fitting = granted .before in
+    let child = fitting .before .before in
+    let parent = child .before .before .before in
+    let opened = parent .before .before .before in
+    let s = start c in
+    passes _ _ _ (fresh-no (s .args .n) (opened .if1 .left))
+    (passes _ _ _ (both-present (s .args .n) _ _
+    (omega (arith, parent .before .before .wide .ensures, parent .if2 .left))
+    (omega (arith, child .before .before .wide2 .ensures, child .if3 .left)))
+    (passes _ _ _ (sym (fitting .before .join-wrong .ensures) ∙ fitting .if4 .left)
+    (passes _ _ _ (granted .if5 .left)
+    (passes _ _ _
+    (ap (processedBy (s .args .side)) (sym (c .before .before .node-of .ensures)) ∙ sym (c .before .is-processed .ensures) ∙ c .if6 .left)
+    last))))
+
+returns-7 : tie.Need-returns-7
+unfolding stateOf
 returns-7 c =
     let unprocessed = c .before .before .before in
-    let granted = unprocessed .before .before .before in
-    let fitting = granted .before in
-    let child = fitting .before .before in
-    let parent = child .before .before .before in
-    let opened = parent .before .before .before in
-    let start = opened .before .before .before in
-    passes _ _ _ (fresh-no (start .args .n) (opened .if1 .left))
-    (passes _ _ _ (both-present (start .args .n) _ _
-    (omega (arith, parent .before .before .wide .ensures, parent .if2 .left))
-    (omega (arith, child .before .before .wide2 .ensures, child .if3 .left)))
-    (passes _ _ _ (sym (fitting .before .join-wrong .ensures) ∙ fitting .if4 .left)
-    (passes _ _ _ (granted .if5 .left)
-    (passes _ _ _
-    (ap (processedBy (start .args .side)) (sym (unprocessed .before .before .node-of .ensures)) ∙ sym (unprocessed .before .is-processed .ensures)
-    ∙ unprocessed .if6 .left)
-    (stops _ _ _ (edges-full (start .args .n) (c .if7 .taken)))))))
+    unrefused unprocessed (stops _ _ _ (edges-full (start unprocessed .args .n) (c .if7 .taken)))
 
 returns-8 : tie.Need-returns-8
-unfolding joinNumber stateOf
+unfolding stateOf
 returns-8 c =
     let unprocessed = c .before .before .before in
-    let granted = unprocessed .before .before .before in
-    let fitting = granted .before in
-    let child = fitting .before .before in
-    let parent = child .before .before .before in
-    let opened = parent .before .before .before in
-    let start = opened .before .before .before in
-    passes _ _ _ (fresh-no (start .args .n) (opened .if1 .left))
-    (passes _ _ _ (both-present (start .args .n) _ _
-    (omega (arith, parent .before .before .wide .ensures, parent .if2 .left))
-    (omega (arith, child .before .before .wide2 .ensures, child .if3 .left)))
-    (passes _ _ _ (sym (fitting .before .join-wrong .ensures) ∙ fitting .if4 .left)
-    (passes _ _ _ (granted .if5 .left)
-    (passes _ _ _
-    (ap (processedBy (start .args .side)) (sym (unprocessed .before .before .node-of .ensures)) ∙ sym (unprocessed .before .is-processed .ensures)
-    ∙ unprocessed .if6 .left)
-    (passes _ _ _ (edges-room (start .args .n) (c .if7 .left)) refl)))))
+    unrefused unprocessed (passes _ _ _ (edges-room (start unprocessed .args .n) (c .if7 .left)) refl)
 
 pub join-number-spec : {M : Type 1} → statement M
 join-number-spec =
