@@ -19,6 +19,13 @@ pub fn worst_reply() -> Giving {
     Giving { name: NAME.into(), tables, negotiation: include_bytes!("../data/reply/negotiation").to_vec() }
 }
 
+/// The worst of an earlier search, before own credentials not yet shown were kept as flags.
+pub fn earlier_reply() -> Giving {
+    let tables = include_bytes!("../data/earlier-reply/tables").to_vec();
+    let negotiation = include_bytes!("../data/earlier-reply/negotiation").to_vec();
+    Giving { name: "the worst that an earlier search found".into(), tables, negotiation }
+}
+
 pub fn worst_report() -> Shaped {
     let tables = include_bytes!("../data/report/tables").to_vec();
     let negotiation = decode(include_bytes!("../data/report/negotiation")).unwrap();

@@ -5,7 +5,7 @@
 
 use crate::calls::{Call, Recorder};
 use crate::count::{Counted, Group, Pick};
-use crate::found::worst_reply;
+use crate::found::{earlier_reply, worst_reply};
 use reference::ends::calls::{Calls, Reference};
 use reference::message::take::SCRATCH_BYTES;
 use reference::message::MOST_MESSAGE_BYTES;
@@ -254,6 +254,7 @@ fn large() -> Two {
 /// Long ones, and what a search found.
 fn known() -> Vec<Giving> {
     let mut known = long_replies();
+    known.push(earlier_reply());
     known.push(worst_reply());
     known
 }

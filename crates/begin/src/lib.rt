@@ -14,6 +14,7 @@ ghost use Rattle.class.specs.laws.Names.{namesFrom, namesOf, Ascending};
 ghost use Rattle.begin.specs.Begin.{isRequester, roleNumber, otherNumber, sideOf, beginOf};
 ghost use Rattle.numbers.specs.Answer.{bufferAfter, answerOf, noValue};
 ghost use Rattle.negotiation.specs.Layout.{stateBytes};
+ghost use Rattle.numbers.specs.Sizes.{MOST-NAMES};
 
 // Whether no role is wanted: we are the requester.
 fn is_requester(entity: u16, name: u16) -> bool
@@ -30,7 +31,7 @@ fn role_number<'a>(
     entity: u16,
     name: u16,
 ) -> u64
-    requires { ⌜ (n ≤ 64) × Ascending n (now names) ⌝ }
+    requires { ⌜ (n ≤ MOST-NAMES) × Ascending n (now names) ⌝ }
     ensures { λ r. ⌜ r ≡ roleNumber (namesOf (namesFrom n (now (names .entry)) (now (classes .entry)))) entity name ⌝ }
 {
     if is_requester(entity, name) {

@@ -23,7 +23,7 @@ ghost use Rattle.candidates.specs.laws.Done.{doneIn};
 ghost use Rattle.candidates.specs.laws.Offers.{folded, offer};
 ghost use Rattle.candidates.specs.laws.Goals.{isNamedPair, pairEdge, isNamedHead, headEdge, solutionEdge, namedRoles};
 ghost use mathlib.Core.List.{List, map};
-ghost use Rattle.numbers.specs.Sizes.{MOST-NODES, MOST-EDGES};
+ghost use Rattle.numbers.specs.Sizes.{MOST-EDGES, MOST-NODES, MOST-SENSITIVE};
 
 // The best of what is chosen and the edge to sensitive role k, if it has the name r, whatever the other roles.
 fn with_pair<'a>(
@@ -89,7 +89,7 @@ fn with_pairs<'a>(
     n: Node,
     r: u16,
 ) -> Choice
-    requires { ⌜ (q ≤ 32) × (count ≤ MOST-NODES) × (edges ≤ MOST-EDGES) ⌝ }
+    requires { ⌜ (q ≤ MOST-SENSITIVE) × (count ≤ MOST-NODES) × (edges ≤ MOST-EDGES) ⌝ }
     ensures { λ c. ⌜ ((others : List ℕ) → c ≡ folded q (offer (doneIn count (now (kind .entry)) (now (number .entry)) (now (subject .entry))
         (now (verifier .entry)) edges (now (edge .entry)) (now (parent .entry)) (now (child .entry)) i)
         (isNamedPair (pairsFrom q (now (roles .entry)) others) r) (pairEdge (pairsFrom q (now (roles .entry)) others) n)) C.Nothing) ⌝ }

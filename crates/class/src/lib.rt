@@ -14,6 +14,7 @@ ghost use lib.ListN.{getD};
 ghost use Rattle.class.specs.laws.Names.{namesFrom, namesOf, Ascending, Between, Placed};
 ghost use Rattle.class.specs.Names.{classOf};
 ghost use Rattle.class.specs.Typing.{named as namedOf, linked as linkedOf, together, typeOf, isUnnamed, suits as suitsOf, credentialNumber};
+ghost use Rattle.numbers.specs.Sizes.{MOST-NAMES};
 
 // A role name and its class: 1 issuer-def, 2 issuer-all, 3 subject-all.
 pub struct Name {
@@ -70,7 +71,7 @@ fn place_among<'a>(name: &'a [u16; 64], m: u16, start: usize, most: usize) -> us
 
 // Where 32 names begin among which m stands if it stands among n names: at the first, or 32 before the end.
 fn half_place<'a>(n: usize, name: &'a [u16; 64], m: u16) -> usize
-    requires { ⌜ (32 ≤ n) × (n ≤ 64) × Ascending n (now name) ⌝ }
+    requires { ⌜ (32 ≤ n) × (n ≤ MOST-NAMES) × Ascending n (now name) ⌝ }
     ensures { λ r. ⌜ Between n (now (name .entry)) m r 32 ⌝ }
 {
     let half = MOST_NAMES / 2;
@@ -82,7 +83,7 @@ fn half_place<'a>(n: usize, name: &'a [u16; 64], m: u16) -> usize
 
 // The only place where m may stand among n names. From 32 names on the search is among 32, a fixed number: it is compiled without a loop.
 fn place<'a>(n: usize, name: &'a [u16; 64], m: u16) -> usize
-    requires { ⌜ (0 < n) × (n ≤ 64) × Ascending n (now name) ⌝ }
+    requires { ⌜ (0 < n) × (n ≤ MOST-NAMES) × Ascending n (now name) ⌝ }
     ensures { λ r. ⌜ Between n (now (name .entry)) m r 1 ⌝ }
 {
     let half = MOST_NAMES / 2;
@@ -94,7 +95,7 @@ fn place<'a>(n: usize, name: &'a [u16; 64], m: u16) -> usize
 
 // The class of the name m, or zero where it has none.
 pub fn class_of<'a>(n: usize, name: &'a [u16; 64], class: &'a [u8; 64], m: u16) -> u8
-    requires { ⌜ (n ≤ 64) × Ascending n (now name) ⌝ }
+    requires { ⌜ (n ≤ MOST-NAMES) × Ascending n (now name) ⌝ }
     ensures { λ r. ⌜ r ≡ classOf (namesOf (namesFrom n (now (name .entry)) (now (class .entry)))) m ⌝ }
 {
     if n == 0 {
@@ -157,7 +158,7 @@ fn meet(a: u8, b: u8, c: u8, d: u8) -> Typing
 
 // An intersection.
 fn type_of_parts<'a>(n: usize, name: &'a [u16; 64], class: &'a [u8; 64], p: Parts) -> Typing
-    requires { ⌜ (n ≤ 64) × Ascending n (now name) ⌝ }
+    requires { ⌜ (n ≤ MOST-NAMES) × Ascending n (now name) ⌝ }
     ensures { λ r. ⌜ r ≡ typeOf (namesOf (namesFrom n (now (name .entry)) (now (class .entry)))) (Expression.Intersection p) ⌝ }
 {
     let a = class_of(n, name, class, p.first.name);
@@ -175,7 +176,7 @@ fn type_of_parts<'a>(n: usize, name: &'a [u16; 64], class: &'a [u8; 64], p: Part
 
 // What class an expression has.
 pub fn type_of<'a>(n: usize, name: &'a [u16; 64], class: &'a [u8; 64], x: Expression) -> Typing
-    requires { ⌜ (n ≤ 64) × Ascending n (now name) ⌝ }
+    requires { ⌜ (n ≤ MOST-NAMES) × Ascending n (now name) ⌝ }
     ensures { λ r. ⌜ r ≡ typeOf (namesOf (namesFrom n (now (name .entry)) (now (class .entry)))) x ⌝ }
 {
     match x {
@@ -215,7 +216,7 @@ pub fn number_under<'a>(
     k: u8,
     c: Credential,
 ) -> u64
-    requires { ⌜ (n ≤ 64) × Ascending n (now name) × (k ≡ classOf (namesOf (namesFrom n (now name) (now class))) (c .head .name)) ⌝ }
+    requires { ⌜ (n ≤ MOST-NAMES) × Ascending n (now name) × (k ≡ classOf (namesOf (namesFrom n (now name) (now class))) (c .head .name)) ⌝ }
     ensures { λ r. ⌜ r ≡ credentialNumber (namesOf (namesFrom n (now (name .entry)) (now (class .entry)))) c ⌝ }
 {
     let body = c.body;
@@ -232,7 +233,7 @@ pub fn credential_number<'a>(
     class: &'a [u8; 64],
     c: Credential,
 ) -> u64
-    requires { ⌜ (n ≤ 64) × Ascending n (now name) ⌝ }
+    requires { ⌜ (n ≤ MOST-NAMES) × Ascending n (now name) ⌝ }
     ensures { λ r. ⌜ r ≡ credentialNumber (namesOf (namesFrom n (now (name .entry)) (now (class .entry)))) c ⌝ }
 {
     let head = c.head;

@@ -10,10 +10,11 @@ ghost use mathlib.Core.Path.{_≡_};
 ghost use Prim.Native.Nat.{_≤_};
 ghost use Rattle.class.specs.laws.Names.{namesFrom, namesOf, Ascending};
 ghost use Rattle.damage.specs.Header.{wantedSound, headerSound, emptySound, countSound, endSound};
+ghost use Rattle.numbers.specs.Sizes.{MOST-NAMES};
 
 // The wanted role of a side.
 fn wanted_sound<'a>(k: usize, name: &'a [u16; 64], class: &'a [u8; 64], side: u8, r: Role) -> bool
-    requires { ⌜ (k ≤ 64) × Ascending k (now name) ⌝ }
+    requires { ⌜ (k ≤ MOST-NAMES) × Ascending k (now name) ⌝ }
     ensures { λ b. ⌜ b ≡ wantedSound (namesOf (namesFrom k (now (name .entry)) (now (class .entry)))) side r ⌝ }
 {
     if side != MEDIATOR {
@@ -30,7 +31,7 @@ pub fn header_sound<'a>(
     class: &'a [u8; 64],
     h: Header,
 ) -> bool
-    requires { ⌜ (k ≤ 64) × Ascending k (now name) ⌝ }
+    requires { ⌜ (k ≤ MOST-NAMES) × Ascending k (now name) ⌝ }
     ensures { λ b. ⌜ b ≡ headerSound own (namesOf (namesFrom k (now (name .entry)) (now (class .entry)))) h ⌝ }
 {
     let wanted = h.wanted;

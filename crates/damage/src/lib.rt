@@ -34,7 +34,7 @@ ghost use Rattle.negotiation.specs.laws.State.{stateOf};
 ghost use Rattle.negotiation.specs.State.{within};
 ghost use Rattle.damage.specs.laws.Damage.{stateWith};
 ghost use Rattle.damage.specs.Damage.{recordsSound, edgesJustified, graphSound, sound as soundOf};
-ghost use Rattle.numbers.specs.Sizes.{MOST-NAMES, MOST-NODES, MOST-EDGES};
+ghost use Rattle.numbers.specs.Sizes.{MOST-EDGES, MOST-NAMES, MOST-NODES};
 
 mod edges;
 mod header;
@@ -58,7 +58,7 @@ fn records_sound<'a>(
     kinds: &'a [u8; 256],
     numbers: &'a [u16; 1024],
 ) -> bool
-    requires { ⌜ (k ≤ 64) × Ascending k (now name) × (0 < n) × (n ≤ 128) × (q ≤ 128) ⌝ }
+    requires { ⌜ (k ≤ MOST-NAMES) × Ascending k (now name) × (0 < n) × (n ≤ 128) × (q ≤ 128) ⌝ }
     ensures { λ b. ⌜ ((es : List Edge) → b ≡ recordsSound (namesOf (namesFrom k (now (name .entry)) (now (class .entry))))
         (stateWith h (nodesOf (nodesFrom n (now (kind .entry)) (now (number .entry)) (now (subject .entry)) (now (verifier .entry))
         (now (state .entry)))) es (credentials (poolOf q (now (heads .entry)) (now (kinds .entry)) (now (numbers .entry)))))) ⌝ }

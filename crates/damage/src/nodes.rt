@@ -20,6 +20,7 @@ ghost use Rattle.class.specs.laws.Names.{namesFrom, namesOf, Ascending};
 ghost use Rattle.graph.specs.laws.Graph.{nodesFrom, nodesOf, nodeAt};
 ghost use Rattle.justification.specs.InTurn.{inTurn};
 ghost use Rattle.damage.specs.Records.{isTyped, nodeSound, nodeFits, primarySound};
+ghost use Rattle.numbers.specs.Sizes.{MOST-NAMES};
 
 fn is_typed(t: Typing) -> bool
     ensures { λ b. ⌜ b ≡ isTyped t ⌝ }
@@ -34,7 +35,7 @@ fn is_typed(t: Typing) -> bool
 
 // A node by itself.
 fn node_sound<'a>(k: usize, name: &'a [u16; 64], class: &'a [u8; 64], x: Node) -> bool
-    requires { ⌜ (k ≤ 64) × Ascending k (now name) ⌝ }
+    requires { ⌜ (k ≤ MOST-NAMES) × Ascending k (now name) ⌝ }
     ensures { λ b. ⌜ b ≡ nodeSound (namesOf (namesFrom k (now (name .entry)) (now (class .entry)))) x ⌝ }
 {
     let e = x.expression;
@@ -57,7 +58,7 @@ fn node_fits<'a>(
     state: &'a [u8; 128],
     i: usize,
 ) -> bool
-    requires { ⌜ (k ≤ 64) × Ascending k (now name) × (i < 128) ⌝ }
+    requires { ⌜ (k ≤ MOST-NAMES) × Ascending k (now name) × (i < 128) ⌝ }
     ensures { λ b. ⌜ b ≡ nodeFits (namesOf (namesFrom k (now (name .entry)) (now (class .entry))))
         (nodesOf (nodesFrom i (now (kind .entry)) (now (number .entry)) (now (subject .entry)) (now (verifier .entry)) (now (state .entry))))
         (nodeAt (nodesFrom i (now (kind .entry)) (now (number .entry)) (now (subject .entry)) (now (verifier .entry)) (now (state .entry))) i) ⌝ }
@@ -82,7 +83,7 @@ pub fn nodes_fit<'a>(
     verifier: &'a [u8; 128],
     state: &'a [u8; 128],
 ) -> bool
-    requires { ⌜ (k ≤ 64) × Ascending k (now name) × (n ≤ 128) ⌝ }
+    requires { ⌜ (k ≤ MOST-NAMES) × Ascending k (now name) × (n ≤ 128) ⌝ }
     ensures { λ b. ⌜ b ≡ inTurn (nodeFits (namesOf (namesFrom k (now (name .entry)) (now (class .entry))))) []
         (nodesOf (nodesFrom n (now (kind .entry)) (now (number .entry)) (now (subject .entry)) (now (verifier .entry)) (now (state .entry)))) ⌝ }
 {

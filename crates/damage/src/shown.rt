@@ -12,10 +12,11 @@ ghost use Rattle.rt0.specs.laws.Pool.{poolOf, credentialIn, credentials};
 ghost use Rattle.class.specs.laws.Names.{namesFrom, namesOf, Ascending};
 ghost use Rattle.justification.specs.InTurn.{inTurn};
 ghost use Rattle.damage.specs.Records.{credentialSound, credentialFits};
+ghost use Rattle.numbers.specs.Sizes.{MOST-NAMES};
 
 // A credential by itself.
 fn credential_sound<'a>(k: usize, name: &'a [u16; 64], class: &'a [u8; 64], c: Credential) -> bool
-    requires { ⌜ (k ≤ 64) × Ascending k (now name) ⌝ }
+    requires { ⌜ (k ≤ MOST-NAMES) × Ascending k (now name) ⌝ }
     ensures { λ b. ⌜ b ≡ credentialSound (namesOf (namesFrom k (now (name .entry)) (now (class .entry)))) c ⌝ }
 {
     well_formed_credential(c) & (credential_number(k, name, class, c) == 0)
@@ -31,7 +32,7 @@ fn credential_fits<'a>(
     numbers: &'a [u16; 1024],
     i: usize,
 ) -> bool
-    requires { ⌜ (k ≤ 64) × Ascending k (now name) × (i < 128) ⌝ }
+    requires { ⌜ (k ≤ MOST-NAMES) × Ascending k (now name) × (i < 128) ⌝ }
     ensures { λ b. ⌜ b ≡ credentialFits (namesOf (namesFrom k (now (name .entry)) (now (class .entry))))
         (credentials (poolOf i (now (heads .entry)) (now (kinds .entry)) (now (numbers .entry))))
         (credentialIn (now (heads .entry)) (now (kinds .entry)) (now (numbers .entry)) i) ⌝ }
@@ -56,7 +57,7 @@ pub fn shown_fit<'a>(
     kinds: &'a [u8; 256],
     numbers: &'a [u16; 1024],
 ) -> bool
-    requires { ⌜ (k ≤ 64) × Ascending k (now name) × (n ≤ 128) ⌝ }
+    requires { ⌜ (k ≤ MOST-NAMES) × Ascending k (now name) × (n ≤ 128) ⌝ }
     ensures { λ b. ⌜ b ≡ inTurn (credentialFits (namesOf (namesFrom k (now (name .entry)) (now (class .entry))))) []
         (credentials (poolOf n (now (heads .entry)) (now (kinds .entry)) (now (numbers .entry)))) ⌝ }
 {

@@ -6,9 +6,10 @@ ghost use mathlib.Core.Path.{_≡_};
 ghost use Prim.Native.Nat.{_≤_};
 ghost use Rattle.class.specs.laws.Names.{namesFrom, namesOf, Ascending};
 ghost use Rattle.moves.specs.Initial.{isSubjectAll, traced, initialState};
+ghost use Rattle.numbers.specs.Sizes.{MOST-NAMES};
 
 pub fn is_subject_all<'a>(n: usize, names: &'a [u16; 64], classes: &'a [u8; 64], r: u16) -> bool
-    requires { ⌜ (n ≤ 64) × Ascending n (now names) ⌝ }
+    requires { ⌜ (n ≤ MOST-NAMES) × Ascending n (now names) ⌝ }
     ensures { λ b. ⌜ b ≡ isSubjectAll (namesOf (namesFrom n (now (names .entry)) (now (classes .entry)))) r ⌝ }
 {
     class_of(n, names, classes, r) == SUBJECT_ALL
@@ -29,7 +30,7 @@ pub fn initial_state<'a>(
     own: bool,
     e: Expression,
 ) -> u8
-    requires { ⌜ (n ≤ 64) × Ascending n (now names) ⌝ }
+    requires { ⌜ (n ≤ MOST-NAMES) × Ascending n (now names) ⌝ }
     ensures { λ r. ⌜ r ≡ initialState (namesOf (namesFrom n (now (names .entry)) (now (classes .entry)))) own e ⌝ }
 {
     match e {

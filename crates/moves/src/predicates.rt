@@ -15,6 +15,7 @@ ghost use Rattle.class.specs.laws.Names.{namesFrom, namesOf, Ascending};
 ghost use Rattle.tables.specs.laws.Tables.{pairsFrom, pairsOf};
 ghost use Rattle.frontier.specs.laws.Frontier.{Stops};
 ghost use Rattle.moves.specs.laws.Stops.{predicateOf};
+ghost use Rattle.numbers.specs.Sizes.{MOST-NAMES, MOST-SENSITIVE};
 
 fn flag_of(b: bool) -> u8
     ensures { λ r. ⌜ r ≡ cond b 1 0 ⌝ }
@@ -33,7 +34,7 @@ fn stops_at<'a>(
     others: &'a [u16; 64],
     a: Role,
 ) -> bool
-    requires { ⌜ (n ≤ 64) × Ascending n (now names) × (k ≤ 32) ⌝ }
+    requires { ⌜ (n ≤ MOST-NAMES) × Ascending n (now names) × (k ≤ MOST-SENSITIVE) ⌝ }
     ensures { λ b. ⌜ b ≡ predicateOf p (namesOf (namesFrom n (now (names .entry)) (now (classes .entry))))
         (pairsOf (pairsFrom k (now (roles .entry)) (now (others .entry)))) (E.Role a) ⌝ }
 {
@@ -55,7 +56,7 @@ fn is_stop<'a>(
     others: &'a [u16; 64],
     e: Expression,
 ) -> bool
-    requires { ⌜ (n ≤ 64) × Ascending n (now names) × (k ≤ 32) ⌝ }
+    requires { ⌜ (n ≤ MOST-NAMES) × Ascending n (now names) × (k ≤ MOST-SENSITIVE) ⌝ }
     ensures { λ b. ⌜ b ≡ predicateOf p (namesOf (namesFrom n (now (names .entry)) (now (classes .entry))))
         (pairsOf (pairsFrom k (now (roles .entry)) (now (others .entry)))) e ⌝ }
 {
@@ -81,7 +82,7 @@ pub fn stops<'a>(
     kinds: &'a [u8; 256],
     numbers: &'a [u16; 1024],
 ) -> [u8; 128]
-    requires { ⌜ (n ≤ 64) × Ascending n (now names) × (k ≤ 32) × (m ≤ 128) ⌝ }
+    requires { ⌜ (n ≤ MOST-NAMES) × Ascending n (now names) × (k ≤ MOST-SENSITIVE) × (m ≤ 128) ⌝ }
     ensures { λ r. ⌜ ((H : List ℕ) → Stops (predicateOf p (namesOf (namesFrom n (now (names .entry)) (now (classes .entry))))
         (pairsOf (pairsFrom k (now (roles .entry)) (now (others .entry))))) (poolOf m H (now (kinds .entry)) (now (numbers .entry))) r) ⌝ }
 {

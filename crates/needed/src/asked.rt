@@ -6,8 +6,10 @@ use expression::Role;
 use expression::key_of;
 use rt0::expression_at;
 use rt0::has_head;
+use rt0::some_head;
 ghost use mathlib.Core.Path.{_≡_};
-ghost use Prim.Native.Nat.{_<_, _≤_};
+ghost use mathlib.Core.List.{List};
+ghost use Prim.Native.Nat.{ℕ, _+_, _<_, _≤_};
 ghost use lib.ListN.{length};
 ghost use Rattle.expression.specs.declared.Expression.the-variants as E;
 ghost use Rattle.expression.specs.Same.{sameRole};
@@ -15,17 +17,6 @@ ghost use Rattle.expression.specs.laws.Key.{KeyOf};
 ghost use Rattle.rt0.specs.laws.Pool.{poolOf, headIn};
 ghost use Rattle.needed.specs.laws.Relevant.{asks, ClosedFor};
 ghost use Rattle.needed.specs.laws.Flags.{isNamed, Raised, Marked, Work, Followed, Swept};
-
-// 1 where credential i has the head with this key, else the flag that was there.
-fn flag_head<'a>(heads: &'a [u16; 256], i: usize, key: u32, was: u8) -> u8
-    requires { ⌜ i < 128 ⌝ }
-    ensures { λ r. ⌜ ((p : Role) → KeyOf p key → Raised (sameRole p (headIn (now (heads .entry)) i)) was r) ⌝ }
-{
-    if !has_head(heads, key, i) {
-        return was;
-    }
-    1
-}
 
 // 1 where the head of credential i has the name m, else the flag that was there.
 fn flag_name<'a>(heads: &'a [u16; 256], i: usize, m: u16, was: u8) -> u8
@@ -38,17 +29,61 @@ fn flag_name<'a>(heads: &'a [u16; 256], i: usize, m: u16, was: u8) -> u8
     1
 }
 
-// Flags the credentials with the head p.
+// Flags credential i, if it has the head with this key.
+fn flag_head<'a>(heads: &'a [u16; 256], key: u32, i: usize, flags: &'a mut [u8; 128])
+    requires { ⌜ (i < 128) × (length (now flags) ≡ 128) ⌝ }
+    ensures { λ _. ⌜ (length (now (flags .exit)) ≡ 128) × ((p : Role) → KeyOf p key → (r : List ℕ)
+        → Marked (now (heads .entry)) (sameRole p) i r (now (flags .entry)) → Marked (now (heads .entry)) (sameRole p) (i + 1) r (now (flags .exit))) ⌝ }
+{
+    if !has_head(heads, key, i) {
+        return;
+    }
+    flags[i] = 1;
+}
+
+// Flags those with the head p, of the credentials from i up to end.
+fn flag_from<'a>(heads: &'a [u16; 256], p: Role, i: usize, end: usize, flags: &'a mut [u8; 128])
+    requires { ⌜ (end ≤ 128) × (length (now flags) ≡ 128) ⌝ }
+    ensures { λ _. ⌜ ((r : List ℕ) → Marked (now (heads .entry)) (sameRole p) i r (now (flags .entry))
+        → Marked (now (heads .entry)) (sameRole p) end r (now (flags .exit))) ⌝ }
+{
+    let key = key_of(p);
+    let mut k = i;
+    while k < end {
+        flag_head(heads, key, k, flags);
+        k += 1;
+    }
+}
+
+// Flags those with the head p, of the eight credentials from i on.
+fn flag_eight<'a>(heads: &'a [u16; 256], p: Role, i: usize, flags: &'a mut [u8; 128])
+    requires { ⌜ (i ≤ 120) × (length (now flags) ≡ 128) ⌝ }
+    ensures { λ _. ⌜ ((r : List ℕ) → Marked (now (heads .entry)) (sameRole p) i r (now (flags .entry))
+        → Marked (now (heads .entry)) (sameRole p) (i + 8) r (now (flags .exit))) ⌝ }
+{
+    let key = key_of(p);
+    if !some_head(heads, key, i) {
+        return;
+    }
+    flag_from(heads, p, i, i + 8, flags)
+}
+
+// Flags the credentials with the head p: eight at a time, then the rest.
 fn flag_role<'a>(n: usize, heads: &'a [u16; 256], p: Role, flags: &'a mut [u8; 128])
     requires { ⌜ (n ≤ 128) × (length (now flags) ≡ 128) ⌝ }
     ensures { λ _. ⌜ Marked (now (heads .entry)) (sameRole p) n (now (flags .entry)) (now (flags .exit)) ⌝ }
 {
-    let key = key_of(p);
-    let mut i = 0;
-    while i < n {
-        flags[i] = flag_head(heads, i, key, flags[i]);
-        i += 1;
+    if n < 8 {
+        flag_from(heads, p, 0, n, flags);
+        return;
     }
+    let last = n - 7;
+    let mut i = 0;
+    while i < last {
+        flag_eight(heads, p, i, flags);
+        i += 8;
+    }
+    flag_from(heads, p, i, n, flags)
 }
 
 // Flags the credentials whose heads have the name m.

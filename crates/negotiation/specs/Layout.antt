@@ -16,6 +16,16 @@ use Rattle.negotiation.specs.declared.Header.{Header}
 use Rattle.negotiation.specs.State.{State}
 use Rattle.numbers.specs.Sizes.{MOST-NODES, MOST-EDGES, MOST-SHOWN}
 
+-- where the nodes, the edges and the credentials shown begin
+abbrev pub NODES-AT : ℕ
+NODES-AT = 128
+
+abbrev pub EDGES-AT : ℕ
+EDGES-AT = 2944
+
+abbrev pub SHOWN-AT : ℕ
+SHOWN-AT = 3712
+
 -- Writing
 
 -- layout number 1, side, self, other end, wanted entity and name, end, idle, message count, node count, edge count, shown count
@@ -53,7 +63,8 @@ headerPart S = headerBytes (S .header) (length (S .nodes)) (length (S .edges)) (
 
 -- 128 bytes, 128 nodes of 22, 256 edges of 3, 64 credentials of 22
 unfoldable pub stateBytes : State → List ℕ
-stateBytes S = headerPart S ++ part 2816 nodeBytes (S .nodes) ++ part 768 edgeBytes (S .edges) ++ part 1408 credentialBytes (S .shown)
+stateBytes S =
+    headerPart S ++ part (MOST-NODES * 22) nodeBytes (S .nodes) ++ part (MOST-EDGES * 3) edgeBytes (S .edges) ++ part (MOST-SHOWN * 22) credentialBytes (S .shown)
 
 -- Reading
 
@@ -88,9 +99,9 @@ unfoldable pub candidateOf : List ℕ → State
 candidateOf s =
     record {
       header = headerFrom s;
-      nodes = upTo (few MOST-NODES (getD s 14 0)) (λ (i : ℕ). nodeFrom s (128 + i * 22));
-      edges = upTo (few MOST-EDGES (numberAt s 15)) (λ (j : ℕ). edgeFrom s (2944 + j * 3));
-      shown = upTo (few MOST-SHOWN (getD s 17 0)) (λ (k : ℕ). credentialFrom s (3712 + k * 22));
+      nodes = upTo (few MOST-NODES (getD s 14 0)) (λ (i : ℕ). nodeFrom s (NODES-AT + i * 22));
+      edges = upTo (few MOST-EDGES (numberAt s 15)) (λ (j : ℕ). edgeFrom s (EDGES-AT + j * 3));
+      shown = upTo (few MOST-SHOWN (getD s 17 0)) (λ (k : ℕ). credentialFrom s (SHOWN-AT + k * 22));
     }
 
 unfoldable pub sameBytes : List ℕ → List ℕ → Bool

@@ -27,6 +27,8 @@ ghost use Rattle.rt0.specs.Pool.{upTo};
 ghost use Rattle.rt0.specs.laws.Pool.{credentials};
 ghost use Rattle.graph.specs.laws.Graph.{nodesOf, edgesOf};
 ghost use Rattle.negotiation.specs.laws.State.{stateOf};
+ghost use Rattle.numbers.specs.Sizes.{MOST-NODES, MOST-EDGES, MOST-SHOWN, NEGOTIATION-BYTES};
+ghost use Rattle.negotiation.specs.Layout.{NODES-AT, EDGES-AT, SHOWN-AT};
 ghost use Rattle.negotiation.specs.Layout.{headerFrom, nodeFrom, edgeFrom, credentialFrom, few, candidateOf, sameBytes, readState};
 ghost use Rattle.negotiation.specs.laws.Layout.{readingOf};
 
@@ -57,8 +59,8 @@ fn credential_from(s: &[u8], at: usize) -> Credential
 
 // The columns are filled where they stand: a method by value would copy them for each node.
 fn read_nodes(s: &[u8], count: usize) -> Nodes
-    requires { ⌜ (count ≤ 128) × (2944 ≤ length (now s)) ⌝ }
-    ensures { λ r. ⌜ nodesOf r ≡ upTo count (λ (i : ℕ). nodeFrom (now (s .entry)) (128 + i * 22)) ⌝ }
+    requires { ⌜ (count ≤ MOST-NODES) × (EDGES-AT ≤ length (now s)) ⌝ }
+    ensures { λ r. ⌜ nodesOf r ≡ upTo count (λ (i : ℕ). nodeFrom (now (s .entry)) (NODES-AT + i * 22)) ⌝ }
 {
     let mut nodes = Nodes::empty();
     while nodes.count < count {
@@ -76,8 +78,8 @@ fn read_nodes(s: &[u8], count: usize) -> Nodes
 }
 
 fn read_edges(s: &[u8], count: usize) -> Edges
-    requires { ⌜ (count ≤ 256) × (3712 ≤ length (now s)) ⌝ }
-    ensures { λ r. ⌜ edgesOf r ≡ upTo count (λ (j : ℕ). edgeFrom (now (s .entry)) (2944 + j * 3)) ⌝ }
+    requires { ⌜ (count ≤ MOST-EDGES) × (SHOWN-AT ≤ length (now s)) ⌝ }
+    ensures { λ r. ⌜ edgesOf r ≡ upTo count (λ (j : ℕ). edgeFrom (now (s .entry)) (EDGES-AT + j * 3)) ⌝ }
 {
     let mut edges = Edges::empty();
     while edges.count < count {
@@ -92,8 +94,8 @@ fn read_edges(s: &[u8], count: usize) -> Edges
 }
 
 fn read_shown(s: &[u8], count: usize) -> Pool
-    requires { ⌜ (count ≤ 64) × (5120 ≤ length (now s)) ⌝ }
-    ensures { λ r. ⌜ credentials r ≡ upTo count (λ (k : ℕ). credentialFrom (now (s .entry)) (3712 + k * 22)) ⌝ }
+    requires { ⌜ (count ≤ MOST-SHOWN) × (NEGOTIATION-BYTES ≤ length (now s)) ⌝ }
+    ensures { λ r. ⌜ credentials r ≡ upTo count (λ (k : ℕ). credentialFrom (now (s .entry)) (SHOWN-AT + k * 22)) ⌝ }
 {
     let mut heads = [0u16; 256];
     let mut kinds = [0u8; 256];
@@ -120,7 +122,7 @@ fn at_most(most: usize, n: usize) -> usize
 
 // The only negotiation whose bytes these may be.
 pub fn candidate(s: &[u8]) -> Negotiation
-    requires { ⌜ length (now s) ≡ 5120 ⌝ }
+    requires { ⌜ length (now s) ≡ NEGOTIATION-BYTES ⌝ }
     ensures { λ r. ⌜ stateOf r ≡ candidateOf (now (s .entry)) ⌝ }
 {
     let nodes = at_most(Negotiation::NODES, s[14] as usize);
@@ -148,7 +150,7 @@ fn same_bytes<'a>(a: &'a [u8], b: &'a [u8]) -> bool
 }
 
 pub fn read(s: &[u8]) -> Reading
-    requires { ⌜ length (now s) ≡ 5120 ⌝ }
+    requires { ⌜ length (now s) ≡ NEGOTIATION-BYTES ⌝ }
     ensures { λ r. ⌜ readingOf r ≡ readState (now (s .entry)) ⌝ }
 {
     let negotiation = candidate(s);

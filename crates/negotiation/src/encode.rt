@@ -17,7 +17,7 @@ use rt0::expression_at;
 use rt0::head_at;
 ghost use mathlib.Core.Path.{_≡_};
 ghost use mathlib.Core.Bool.{true};
-ghost use Prim.Native.Nat.{_+_, _-_, _≤_};
+ghost use Prim.Native.Nat.{_+_, _*_, _-_, _≤_};
 ghost use lib.ListN.{length};
 ghost use Rattle.expression.specs.Bytes.{pasted};
 ghost use Rattle.expression.specs.Credential.{credentialBytes};
@@ -25,6 +25,8 @@ ghost use Rattle.graph.specs.laws.Graph.{nodesFrom, edgesFrom, nodesOf, edgesOf
 ghost use Rattle.rt0.specs.laws.Pool.{poolOf, credentials};
 ghost use Rattle.negotiation.specs.laws.State.{stateOf};
 ghost use Rattle.negotiation.specs.State.{within};
+ghost use Rattle.numbers.specs.Sizes.{MOST-NODES, MOST-EDGES, MOST-SHOWN, NEGOTIATION-BYTES};
+ghost use Rattle.negotiation.specs.Layout.{NODES-AT, EDGES-AT, SHOWN-AT};
 ghost use Rattle.negotiation.specs.Layout.{headerBytes, nodeBytes, edgeBytes, zeros, part, stateBytes};
 
 // Zeros from an index up to another.
@@ -41,7 +43,7 @@ pub fn write_zeros(buf: &mut [u8], from: usize, to: usize)
 
 // The first 18 bytes.
 fn header_bytes(h: Header, nodes: usize, edges: usize, shown: usize) -> [u8; 18]
-    requires { ⌜ (nodes ≤ 128) × (edges ≤ 256) × (shown ≤ 64) ⌝ }
+    requires { ⌜ (nodes ≤ MOST-NODES) × (edges ≤ MOST-EDGES) × (shown ≤ MOST-SHOWN) ⌝ }
     ensures { λ b. ⌜ b ≡ headerBytes h nodes edges shown ⌝ }
 {
     let wanted = h.wanted;
@@ -99,9 +101,9 @@ fn write_nodes<'a>(
     verifier: &'a [u8; 128],
     state: &'a [u8; 128],
 )
-    requires { ⌜ (n ≤ 128) × (2944 ≤ length (now buf)) ⌝ }
-    ensures { λ _. ⌜ now (buf .exit) ≡ pasted (now (buf .entry)) 128
-        (part 2816 nodeBytes (nodesOf (nodesFrom n (now (kind .entry)) (now (number .entry)) (now (subject .entry)) (now (verifier .entry))
+    requires { ⌜ (n ≤ MOST-NODES) × (EDGES-AT ≤ length (now buf)) ⌝ }
+    ensures { λ _. ⌜ now (buf .exit) ≡ pasted (now (buf .entry)) NODES-AT
+        (part (MOST-NODES * 22) nodeBytes (nodesOf (nodesFrom n (now (kind .entry)) (now (number .entry)) (now (subject .entry)) (now (verifier .entry))
         (now (state .entry))))) ⌝ }
 {
     let mut i = 0;
@@ -125,9 +127,9 @@ fn write_edges<'a>(
     parent: &'a [u8; 256],
     child: &'a [u8; 256],
 )
-    requires { ⌜ (m ≤ 256) × (3712 ≤ length (now buf)) ⌝ }
-    ensures { λ _. ⌜ now (buf .exit) ≡ pasted (now (buf .entry)) 2944
-        (part 768 edgeBytes (edgesOf (edgesFrom m (now (kind .entry)) (now (parent .entry)) (now (child .entry))))) ⌝ }
+    requires { ⌜ (m ≤ MOST-EDGES) × (SHOWN-AT ≤ length (now buf)) ⌝ }
+    ensures { λ _. ⌜ now (buf .exit) ≡ pasted (now (buf .entry)) EDGES-AT
+        (part (MOST-EDGES * 3) edgeBytes (edgesOf (edgesFrom m (now (kind .entry)) (now (parent .entry)) (now (child .entry))))) ⌝ }
 {
     let mut j = 0;
     while j < m {
@@ -149,9 +151,9 @@ fn write_shown<'a>(
     kinds: &'a [u8; 256],
     numbers: &'a [u16; 1024],
 )
-    requires { ⌜ (count ≤ 64) × (5120 ≤ length (now buf)) ⌝ }
-    ensures { λ _. ⌜ now (buf .exit) ≡ pasted (now (buf .entry)) 3712
-        (part 1408 credentialBytes (credentials (poolOf count (now (heads .entry)) (now (kinds .entry)) (now (numbers .entry))))) ⌝ }
+    requires { ⌜ (count ≤ MOST-SHOWN) × (NEGOTIATION-BYTES ≤ length (now buf)) ⌝ }
+    ensures { λ _. ⌜ now (buf .exit) ≡ pasted (now (buf .entry)) SHOWN-AT
+        (part (MOST-SHOWN * 22) credentialBytes (credentials (poolOf count (now (heads .entry)) (now (kinds .entry)) (now (numbers .entry))))) ⌝ }
 {
     let mut k = 0;
     while k < count {
@@ -167,7 +169,7 @@ fn write_shown<'a>(
 
 // Every byte is written, so what the buffer held before does not matter.
 pub fn write(n: Negotiation, buf: &mut [u8])
-    requires { ⌜ (within (stateOf n) ≡ true) × (length (now buf) ≡ 5120) ⌝ }
+    requires { ⌜ (within (stateOf n) ≡ true) × (length (now buf) ≡ NEGOTIATION-BYTES) ⌝ }
     ensures { λ _. ⌜ now (buf .exit) ≡ stateBytes (stateOf n) ⌝ }
 {
     let b = header_bytes(n.header, n.nodes.count, n.edges.count, n.shown.count);

@@ -23,6 +23,7 @@ use sending::prepare;
 use standing::restore;
 use standing::sends;
 use tables::House;
+ghost use Rattle.numbers.specs.Sizes.{MOST-MESSAGE-BYTES};
 ghost use mathlib.Core.Path.{_≡_};
 ghost use mathlib.Core.Bool.{true};
 ghost use Prim.Native.Nat.{_≤_};
@@ -65,7 +66,7 @@ fn first_open(house: House, wanted: Role) -> Command
 
 // The mediator's first reply starts with open.
 fn begun(house: House, n: Negotiation, s: &mut [u8]) -> Replying
-    requires { ⌜ Housed house × (within (stateOf n) ≡ true) × (4096 ≤ length (now s)) ⌝ }
+    requires { ⌜ Housed house × (within (stateOf n) ≡ true) × (MOST-MESSAGE-BYTES ≤ length (now s)) ⌝ }
     ensures { λ r. ⌜ Begins (tablesOf house) (stateOf n) (now (s .entry)) r (now (s .exit)) ⌝ }
 {
     if n.nodes.count != 0 {
@@ -81,7 +82,8 @@ fn begun(house: House, n: Negotiation, s: &mut [u8]) -> Replying
 
 // The moves of a reply; then the end is judged, and the end byte is written.
 fn replied_in(house: House, n: Negotiation, s: &mut [u8]) -> Replying
-    requires { ⌜ Housed house × Sound (tablesOf house) × (sound (tablesOf house) (stateOf n) ≡ true) × (within (stateOf n) ≡ true) × (4096 ≤ length (now s)) ⌝ }
+    requires { ⌜ Housed house × Sound (tablesOf house) × (sound (tablesOf house) (stateOf n) ≡ true) × (within (stateOf n) ≡ true)
+        × (MOST-MESSAGE-BYTES ≤ length (now s)) ⌝ }
     ensures { λ r. ⌜ Replies (tablesOf house) (stateOf n) (now (s .entry)) r (now (s .exit)) ⌝ }
 {
     let h = n.header;

@@ -11,6 +11,7 @@ use numbers::CREDENTIAL_BYTES;
 use rt0::Pool;
 use sending::credential_at;
 use word::wide;
+ghost use Rattle.numbers.specs.Sizes.{MOST-MESSAGE-BYTES};
 ghost use mathlib.Core.Path.{_≡_};
 ghost use mathlib.Core.Bool.{true};
 ghost use Prim.Native.Nat.{_+_, _≤_, _<_};
@@ -114,7 +115,7 @@ fn show_at(s: &mut [u8], at: usize, n: Negotiation, pool: Pool, flag: u8, k: usi
 // All that are on.
 fn show_all(s: &mut [u8], from: usize, start: Negotiation, pool: Pool, on: [u8; 128]) -> Negotiation
     requires { ⌜ (pool .count ≤ 128) × (hasRoomFor 0 (stateOf start) (shows (chosen pool on)) ≡ true)
-        × (from + length (bytesOf (shows (chosen pool on))) ≤ 4096) × (4096 ≤ length (now s)) ⌝ }
+        × (from + length (bytesOf (shows (chosen pool on))) ≤ MOST-MESSAGE-BYTES) × (MOST-MESSAGE-BYTES ≤ length (now s)) ⌝ }
     ensures shown { λ r. ⌜ stateOf r ≡ carried 0 (stateOf start) (shows (chosen pool on)) ⌝ }
     ensures written { λ _. ⌜ now (s .exit) ≡ pasted (now (s .entry)) from (bytesOf (shows (chosen pool on))) ⌝ }
 {
@@ -134,7 +135,7 @@ fn show_all(s: &mut [u8], from: usize, start: Negotiation, pool: Pool, on: [u8; 
 // A move is written from an index, and the negotiation goes on by it.
 pub fn carry(s: &mut [u8], at: usize, n: Negotiation, out: Outgoing) -> Negotiation
     requires { ⌜ (within (stateOf n) ≡ true) × (out .pool .count ≤ 128) × (hasRoomFor (n .header .side) (stateOf n) (commandsOf out) ≡ true)
-        × (at + length (bytesOf (commandsOf out)) ≤ 4096) × (4096 ≤ length (now s)) ⌝ }
+        × (at + length (bytesOf (commandsOf out)) ≤ MOST-MESSAGE-BYTES) × (MOST-MESSAGE-BYTES ≤ length (now s)) ⌝ }
     ensures led { λ r. ⌜ stateOf r ≡ carried (n .header .side) (stateOf n) (commandsOf out) ⌝ }
     ensures written { λ _. ⌜ now (s .exit) ≡ pasted (now (s .entry)) at (bytesOf (commandsOf out)) ⌝ }
 {

@@ -13,6 +13,7 @@ use numbers::MOST_MESSAGE_BYTES;
 use sending::outgoing;
 use states::node_states;
 use word::wide;
+ghost use Rattle.numbers.specs.Sizes.{MOST-MESSAGE-BYTES};
 ghost use mathlib.Core.Path.{_≡_};
 ghost use mathlib.Core.Bool.{cond};
 ghost use Prim.Native.Nat.{_+_, _≤_};
@@ -45,8 +46,9 @@ fn larger(a: usize, b: usize) -> usize
 // Each move is written behind the last, and the negotiation goes on by it. Below a node at which a move was made there was nothing left to do; what was
 // done by rule (4) there stays done, and targets there rest while the satisfied nodes and the solutions that failed are the same.
 pub fn reply_from(own: Preparation, start: Negotiation, from: usize, s: &mut [u8]) -> Replying
-    requires { ⌜ Prepared own × Going (tablesOf (own .house)) (stateOf start) × (from + 1 ≤ 4096) × (4096 ≤ length (now s)) ⌝ }
-    ensures { λ r. ⌜ Gives (tablesOf (own .house)) (restFrom 4096 (tablesOf (own .house)) (stateOf start) from) from (now (s .entry)) r (now (s .exit)) ⌝ }
+    requires { ⌜ Prepared own × Going (tablesOf (own .house)) (stateOf start) × (from + 1 ≤ MOST-MESSAGE-BYTES) × (MOST-MESSAGE-BYTES ≤ length (now s)) ⌝ }
+    ensures { λ r. ⌜ Gives (tablesOf (own .house)) (restFrom MOST-MESSAGE-BYTES (tablesOf (own .house)) (stateOf start) from) from
+        (now (s .entry)) r (now (s .exit)) ⌝ }
 {
     let mut n = start;
     let mut at = from;

@@ -11,7 +11,7 @@ ghost use Rattle.negotiation.specs.laws.State.{stateOf};
 ghost use Rattle.report.specs.laws.Report.{numbered};
 ghost use Rattle.report.specs.Report.{reportOn, reportOf, packed};
 ghost use Rattle.numbers.specs.Answer.{answerOf};
-ghost use Rattle.numbers.specs.Sizes.{MOST-NODES, MOST-EDGES, MOST-SHOWN};
+ghost use Rattle.numbers.specs.Sizes.{MOST-EDGES, MOST-NODES, MOST-SHOWN};
 
 fn wide(x: u8) -> u64
     ensures { λ r. ⌜ (r ≡ x) × (r < 256) ⌝ }
@@ -41,7 +41,7 @@ fn pack(
     shown: usize,
     messages: u16,
 ) -> u64
-    requires { ⌜ (nodes ≤ 128) × (edges ≤ 256) × (shown ≤ 64) ⌝ }
+    requires { ⌜ (nodes ≤ MOST-NODES) × (edges ≤ MOST-EDGES) × (shown ≤ MOST-SHOWN) ⌝ }
     ensures { λ r. ⌜ (r ≡ packed (numbered state propagated end nodes edges shown messages)) × (r < 36028797018963968) ⌝ }
 {
     let a = wide_size(shown) + wide16(messages) * 128;

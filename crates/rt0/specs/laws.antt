@@ -5,3 +5,4 @@ pub mod Added
 pub mod Find
 pub mod Shown
 pub mod Bodies
+pub mod Heads

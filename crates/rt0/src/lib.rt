@@ -7,11 +7,13 @@ use expression::expression_of;
 use expression::key_of;
 use expression::raw_of;
 ghost use mathlib.Core.Path.{_≡_};
+ghost use mathlib.Core.Bool.{false};
 ghost use mathlib.Core.List.{[], _∷_, _++_};
-ghost use Prim.Native.Nat.{_<_, _+_, _*_};
+ghost use Prim.Native.Nat.{_≤_, _<_, _+_, _*_};
 ghost use Rattle.expression.specs.Same.{sameRole};
 ghost use Rattle.expression.specs.laws.Key.{KeyOf};
 ghost use Rattle.rt0.specs.laws.Pool.{poolOf, headIn, rawAtColumns, expressionIn, credentials as credentialsOf};
+ghost use Rattle.rt0.specs.laws.Heads.{NoHead};
 ghost use Rattle.rt0.specs.laws.Added.{pair, stored, Sized, Stored};
 pub use shown::is_at;
 pub use shown::is_shown;
@@ -128,6 +130,21 @@ pub fn has_head<'a>(heads: &'a [u16; 256], key: u32, i: usize) -> bool
     ensures { λ r. ⌜ ((p : Role) → KeyOf p key → r ≡ sameRole (headIn (now (heads .entry)) i) p) ⌝ }
 {
     key_of(head_at(heads, i)) == key
+}
+
+// Whether one of the eight credentials from i on has the head with this key. All are looked at, so that they are compared at once.
+pub fn some_head<'a>(heads: &'a [u16; 256], key: u32, i: usize) -> bool
+    requires { ⌜ i ≤ 120 ⌝ }
+    ensures { λ r. ⌜ ((p : Role) → KeyOf p key → r ≡ false → NoHead (now (heads .entry)) p i (i + 8)) ⌝ }
+{
+    has_head(heads, key, i)
+        | has_head(heads, key, i + 1)
+        | has_head(heads, key, i + 2)
+        | has_head(heads, key, i + 3)
+        | has_head(heads, key, i + 4)
+        | has_head(heads, key, i + 5)
+        | has_head(heads, key, i + 6)
+        | has_head(heads, key, i + 7)
 }
 
 fn raw_at<'a>(kinds: &'a [u8; 256], numbers: &'a [u16; 1024], i: usize) -> Raw

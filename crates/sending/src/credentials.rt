@@ -24,7 +24,7 @@ ghost use Rattle.moves.specs.laws.Own.{Prepared};
 ghost use Rattle.sending.specs.laws.Fresh.{UnshownIn, Fresh};
 ghost use Rattle.sending.specs.laws.Unshown.{unshownOf};
 ghost use Rattle.sending.specs.laws.Sent.{Sends, directIn, sideSetOf};
-ghost use Rattle.numbers.specs.Sizes.{MOST-SHOWN};
+ghost use Rattle.numbers.specs.Sizes.{MOST-SHOWN, MOST-STORED};
 
 // A command alone.
 pub fn alone(command: Command) -> Outgoing
@@ -85,7 +85,7 @@ fn needed_of(
     e: Expression,
     command: Command,
 ) -> Outgoing
-    requires { ⌜ (shown .count ≤ MOST-SHOWN) × (set .count ≤ 64) × UnshownIn (credentials shown) set (now unshown) ⌝ }
+    requires { ⌜ (shown .count ≤ MOST-SHOWN) × (set .count ≤ MOST-STORED) × UnshownIn (credentials shown) set (now unshown) ⌝ }
     ensures { λ r. ⌜ Sends (neededOf (credentials shown) f e (unshownOf (credentials shown) (chosen set on))) command r ⌝ }
 {
     let pool = own_pool(

@@ -15,7 +15,7 @@ ghost use Rattle.sending.specs.laws.Unshown.{unshownOf};
 ghost use Rattle.sending.specs.laws.Fresh.{UnshownIn};
 ghost use Rattle.sending.specs.laws.Behind.{StoredIf};
 ghost use Rattle.sending.specs.laws.Relevant.{Selected, PartOf};
-ghost use Rattle.numbers.specs.Sizes.{MOST-SHOWN};
+ghost use Rattle.numbers.specs.Sizes.{MOST-SHOWN, MOST-STORED};
 
 // A pool, the first credentials of which are shown.
 pub struct Part {
@@ -69,7 +69,7 @@ pub fn own_pool<'a>(
     on: &'a [u8; 128],
     unshown: &'a [u8; 128],
 ) -> Pool
-    requires { ⌜ (shown .count ≤ MOST-SHOWN) × (m ≤ 64)
+    requires { ⌜ (shown .count ≤ MOST-SHOWN) × (m ≤ MOST-STORED)
         × UnshownIn (credentials shown) (poolOf m (now heads) (now kinds) (now numbers)) (now unshown) ⌝ }
     ensures few { λ r. ⌜ r .count ≤ 128 ⌝ }
     ensures all { λ r. ⌜ credentials r ≡ credentials shown ++ unshownOf (credentials shown)

@@ -16,6 +16,7 @@ ghost use Rattle.tables.specs.laws.Decoding.{Housed};
 ghost use Rattle.tables.specs.Lookup.{isDirect};
 ghost use Rattle.tables.specs.Public.{lessDirect};
 ghost use Rattle.moves.specs.laws.Own.{Prepared};
+ghost use Rattle.numbers.specs.Sizes.{MOST-SENSITIVE};
 
 // 1 for a credential that may show, 0 for the direct one of a sensitive role.
 fn visible_flag<'a>(
@@ -25,7 +26,7 @@ fn visible_flag<'a>(
     others: &'a [u16; 64],
     c: Credential,
 ) -> u8
-    requires { ⌜ k ≤ 32 ⌝ }
+    requires { ⌜ k ≤ MOST-SENSITIVE ⌝ }
     ensures { λ r. ⌜ r ≡ cond (not (isDirect own (pairsOf (pairsFrom k (now (roles .entry)) (now (others .entry)))) c)) 1 0 ⌝ }
 {
     if is_direct(own, k, roles, others, c) {
@@ -46,7 +47,7 @@ fn visible_of<'a>(
     kinds: &'a [u8; 256],
     numbers: &'a [u16; 1024],
 ) -> [u8; 128]
-    requires { ⌜ (k ≤ 32) × (m ≤ 128) ⌝ }
+    requires { ⌜ (k ≤ MOST-SENSITIVE) × (m ≤ 128) ⌝ }
     ensures { λ r. ⌜ chosen (poolOf m (now (heads .entry)) (now (kinds .entry)) (now (numbers .entry))) r
         ≡ lessDirect own (pairsOf (pairsFrom k (now (roles .entry)) (now (others .entry))))
         (credentials (poolOf m (now (heads .entry)) (now (kinds .entry)) (now (numbers .entry)))) ⌝ }

@@ -11,7 +11,7 @@ ghost use Prim.Native.Nat.{_≤_, _<_};
 ghost use lib.Dec.{eqb};
 ghost use lib.ListN.{length};
 ghost use Rattle.rt0.specs.Shown.{isShown};
-ghost use Rattle.rt0.specs.laws.Pool.{poolOf, credentialIn, credentials};
+ghost use Rattle.rt0.specs.laws.Pool.{poolOf, credentials};
 ghost use Rattle.needed.specs.laws.Needed.{restOf};
 ghost use Rattle.sending.specs.laws.Fresh.{FreshIn, UnshownIn};
 

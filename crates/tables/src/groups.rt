@@ -15,7 +15,7 @@ ghost use Rattle.tables.specs.laws.Tables.{pairsFrom};
 ghost use Rattle.rt0.specs.laws.Added.{Sized};
 ghost use Rattle.tables.specs.laws.Columns.{NamesSized, PairsSized};
 ghost use Rattle.tables.specs.laws.Decoding.{DecodesPairs, DecodesStored, DecodesNames, Countless};
-ghost use Rattle.numbers.specs.Sizes.{MOST-NAMES};
+ghost use Rattle.numbers.specs.Sizes.{MOST-NAMES, MOST-STORED};
 
 // No records, and why.
 fn stopped(k: u64) -> StoredCounts
@@ -48,7 +48,7 @@ fn decode_pairs<'a>(
     access_roles: &'a mut [u16; 64],
     access_others: &'a mut [u16; 64],
 ) -> PairCounts
-    requires { ⌜ (n ≤ MOST-NAMES) × Ascending n (now name) × (c ≤ 64) × PairsSized (pairsFrom 0 (now roles) (now others))
+    requires { ⌜ (n ≤ MOST-NAMES) × Ascending n (now name) × (c ≤ MOST-STORED) × PairsSized (pairsFrom 0 (now roles) (now others))
         × PairsSized (pairsFrom 0 (now «access_roles») (now «access_others»)) ⌝ }
     ensures { λ r. ⌜ DecodesPairs (now (s .entry)) at own (namesFrom n (now (name .entry)) (now (class .entry)))
         (poolOf c (now (heads .entry)) (now (kinds .entry)) (now (numbers .entry))) r

@@ -15,6 +15,7 @@ ghost use Rattle.tables.specs.laws.Tables.{pairsFrom, pairsOf};
 ghost use Rattle.tables.specs.Check.{classNumber};
 ghost use Rattle.tables.specs.laws.Reading.{tablesFor};
 ghost use Rattle.tables.specs.laws.Decoding.{leftNumber};
+ghost use Rattle.numbers.specs.Sizes.{MOST-NAMES, MOST-SENSITIVE};
 
 // The class rules for a record: zero where it keeps them.
 fn class_number<'a>(
@@ -31,7 +32,7 @@ fn class_number<'a>(
     others: &'a [u16; 64],
     r: Record,
 ) -> u64
-    requires { ⌜ (n ≤ 64) × Ascending n (now name) × (c ≤ 128) × (p ≤ 32) ⌝ }
+    requires { ⌜ (n ≤ MOST-NAMES) × Ascending n (now name) × (c ≤ 128) × (p ≤ MOST-SENSITIVE) ⌝ }
     ensures { λ k. ⌜ k ≡ classNumber (tablesFor own (namesOf (namesFrom n (now (name .entry)) (now (class .entry))))
         (credentials (poolOf c (now (heads .entry)) (now (kinds .entry)) (now (numbers .entry))))
         (pairsOf (pairsFrom p (now (roles .entry)) (now (others .entry))))) r ⌝ }
@@ -92,7 +93,7 @@ pub fn left_over<'a>(
     roles: &'a [u16; 64],
     others: &'a [u16; 64],
 ) -> u64
-    requires { ⌜ (n ≤ 64) × Ascending n (now name) × (c ≤ 128) × (p ≤ 32) ⌝ }
+    requires { ⌜ (n ≤ MOST-NAMES) × Ascending n (now name) × (c ≤ 128) × (p ≤ MOST-SENSITIVE) ⌝ }
     ensures { λ k. ⌜ k ≡ leftNumber (now (s .entry)) at
         (tablesFor own (namesOf (namesFrom n (now (name .entry)) (now (class .entry))))
         (credentials (poolOf c (now (heads .entry)) (now (kinds .entry)) (now (numbers .entry))))

@@ -35,6 +35,7 @@ ghost use Rattle.tables.specs.Check.{pairNumber};
 ghost use Rattle.tables.specs.laws.Group.{behind, numberBehind, judgedStep, pickedStep, stepOf};
 ghost use Rattle.tables.specs.laws.Groups.{pairs as pairsGroup, pairsMost, pickPair};
 ghost use Rattle.tables.specs.laws.Reading.{pairStep, tablesFor, PairsGone};
+ghost use Rattle.numbers.specs.Sizes.{MOST-NAMES, MOST-SENSITIVE};
 
 fn pairs_most(access: bool) -> usize
     ensures { λ r. ⌜ r ≡ pairsMost access ⌝ }
@@ -58,7 +59,7 @@ fn suits_pair<'a>(
     r: Role,
     start: usize,
 ) -> bool
-    requires { ⌜ (c ≤ 128) × (p ≤ 32) ⌝ }
+    requires { ⌜ (c ≤ 128) × (p ≤ MOST-SENSITIVE) ⌝ }
     ensures { λ b. ⌜ b ≡ cond access (holdsOf own (credentials (poolOf c (now (heads .entry)) (now (kinds .entry)) (now (numbers .entry)))) r
         && isSensitive (pairsOf (pairsFrom p (now (roles .entry)) (now (others .entry)))) r) (eqb k 3) ⌝ }
 {
@@ -86,7 +87,7 @@ pub fn pair_number<'a>(
     x: Pair,
     start: usize,
 ) -> u64
-    requires { ⌜ (n ≤ 64) × Ascending n (now name) × (c ≤ 128) × (p ≤ 32) ⌝ }
+    requires { ⌜ (n ≤ MOST-NAMES) × Ascending n (now name) × (c ≤ 128) × (p ≤ MOST-SENSITIVE) ⌝ }
     ensures { λ r. ⌜ r ≡ pairNumber access (tablesFor own (namesOf (namesFrom n (now (name .entry)) (now (class .entry))))
         (credentials (poolOf c (now (heads .entry)) (now (kinds .entry)) (now (numbers .entry))))
         (pairsOf (pairsFrom p (now (roles .entry)) (now (others .entry))))) x ⌝ }
@@ -174,7 +175,7 @@ fn next_pair<'a>(
     count: usize,
     last: Pair,
 ) -> PairStep
-    requires { ⌜ (at < length (now s)) × (n ≤ 64) × Ascending n (now name) × (c ≤ 128) × (p ≤ 32) ⌝ }
+    requires { ⌜ (at < length (now s)) × (n ≤ MOST-NAMES) × Ascending n (now name) × (c ≤ 128) × (p ≤ MOST-SENSITIVE) ⌝ }
     ensures { λ r. ⌜ pairStep r ≡ stepOf (pairsGroup access)
         (numberBehind (pairsGroup access) (pairNumber access
         (tablesFor own (namesOf (namesFrom n (now (name .entry)) (now (class .entry))))
@@ -228,7 +229,7 @@ pub fn read_pairs<'a>(
     first: &'a mut [u16; 64],
     second: &'a mut [u16; 64],
 ) -> Reached
-    requires { ⌜ (n ≤ 64) × Ascending n (now name) × (c ≤ 128) × (p ≤ 32) × PairsSized (pairsFrom 0 (now first) (now second)) ⌝ }
+    requires { ⌜ (n ≤ MOST-NAMES) × Ascending n (now name) × (c ≤ 128) × (p ≤ MOST-SENSITIVE) × PairsSized (pairsFrom 0 (now first) (now second)) ⌝ }
     ensures { λ r. ⌜ PairsGone (tablesFor own (namesOf (namesFrom n (now (name .entry)) (now (class .entry))))
         (credentials (poolOf c (now (heads .entry)) (now (kinds .entry)) (now (numbers .entry))))
         (pairsOf (pairsFrom p (now (roles .entry)) (now (others .entry))))) access (now (s .entry)) start r

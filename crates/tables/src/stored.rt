@@ -35,6 +35,7 @@ ghost use Rattle.tables.specs.Check.{suitsStorage, storedNumber};
 ghost use Rattle.tables.specs.laws.Group.{numberBehind, judgedStep, pickedStep, stepOf};
 ghost use Rattle.tables.specs.laws.Groups.{credentialsOf, pickStored};
 ghost use Rattle.tables.specs.laws.Reading.{storedStep, StoredGone};
+ghost use Rattle.numbers.specs.Sizes.{MOST-NAMES};
 
 // Whether a head of class k may stand in a storage.
 fn suits_storage(subject: bool, k: u8) -> bool
@@ -54,7 +55,7 @@ pub fn stored_number<'a>(
     subject: bool,
     c: Credential,
 ) -> u64
-    requires { ⌜ (n ≤ 64) × Ascending n (now name) ⌝ }
+    requires { ⌜ (n ≤ MOST-NAMES) × Ascending n (now name) ⌝ }
     ensures { λ r. ⌜ r ≡ storedNumber (namesOf (namesFrom n (now (name .entry)) (now (class .entry)))) subject c ⌝ }
 {
     let head = c.head;
@@ -76,7 +77,7 @@ fn judged_stored<'a>(
     count: usize,
     last: Credential,
 ) -> StoredStep
-    requires { ⌜ (n ≤ 64) × Ascending n (now name) ⌝ }
+    requires { ⌜ (n ≤ MOST-NAMES) × Ascending n (now name) ⌝ }
     ensures { λ r. ⌜ storedStep r ≡ judgedStep (numberBehind (credentialsOf subject)
         (storedNumber (namesOf (namesFrom n (now (name .entry)) (now (class .entry)))) subject) count last c) c ⌝ }
 {
@@ -152,7 +153,7 @@ fn next_stored<'a>(
     count: usize,
     last: Credential,
 ) -> StoredStep
-    requires { ⌜ (at < length (now s)) × (n ≤ 64) × Ascending n (now name) ⌝ }
+    requires { ⌜ (at < length (now s)) × (n ≤ MOST-NAMES) × Ascending n (now name) ⌝ }
     ensures { λ r. ⌜ storedStep r ≡ stepOf (credentialsOf subject)
         (numberBehind (credentialsOf subject) (storedNumber (namesOf (namesFrom n (now (name .entry)) (now (class .entry)))) subject) count last)
         (recordAt (now (s .entry)) at) ⌝ }
@@ -175,7 +176,7 @@ pub fn read_stored<'a>(
     kinds: &'a mut [u8; 256],
     numbers: &'a mut [u16; 1024],
 ) -> Reached
-    requires { ⌜ (n ≤ 64) × Ascending n (now name) × Sized (poolOf 0 (now heads) (now kinds) (now numbers)) ⌝ }
+    requires { ⌜ (n ≤ MOST-NAMES) × Ascending n (now name) × Sized (poolOf 0 (now heads) (now kinds) (now numbers)) ⌝ }
     ensures { λ r. ⌜ StoredGone (namesOf (namesFrom n (now (name .entry)) (now (class .entry)))) subject (now (s .entry)) start r
         (poolOf (r .count) (now (heads .exit)) (now (kinds .exit)) (now (numbers .exit))) ⌝ }
 {

@@ -3,10 +3,10 @@ use Prim.Native.Nat.{ℕ, _+_, _≤_, _<_}
 use native.Mathlib.Omega.{arith}
 use mathlib.Core.Path.{_≡_, refl, sym, _∙_, ap, subst}
 use mathlib.Core.Logic.{_⊎_, inl, inr, ⊎-elim}
-use mathlib.Core.Bool.{Bool, true, false, not, _||_}
+use mathlib.Core.Bool.{Bool, true, false, _||_}
 use mathlib.Core.List.{List}
-use borrow.Author.Tests.{eqb-true, eqb-false, eq-eqb, ne-eqb, not-true}
-use lib.Dec.{eqb}
+use borrow.Author.Tests.{eqb-true, eqb-false, eq-eqb, ne-eqb, ltb-true, ltb-false}
+use lib.Dec.{eqb, ltb}
 use lib.ListN.{getD-replicate, length, length-set, length-replicate, set, replicate}
 use lib.Seq.{getD-set-same, getD-set-other}
 use Rattle.expression.specs.declared.Role.{Role}
@@ -20,6 +20,7 @@ use Rattle.rt0.specs.From.{rolesOf}
 use Rattle.rt0.specs.laws.Lists.{any-find}
 use Rattle.word.specs.laws.Bools.{false-true, or-cases}
 use Rattle.rt0.specs.laws.Pool.{headAt, bodyAt, headIn}
+use Rattle.rt0.specs.laws.Heads.{NoHead}
 use Rattle.rules.specs.laws.Table.{third, fourth}
 use Rattle.rules.specs.laws.Exact.{four-all}
 use Rattle.closure.specs.laws.Rules.{el}
@@ -35,11 +36,6 @@ raised-not was h = record { told = λ k. absurd (false-true (sym h ∙ k)); stay
 
 pub raised-one : {b : Bool} (was : ℕ) → Raised b was 1
 raised-one was = record { told = λ k. refl; stays = λ k. refl }
-
--- a head that is not p leaves the flag
-pub raised-other : (p h : Role) {t : Bool} (was : ℕ) → t ≡ sameRole h p → not t ≡ true → Raised (sameRole p h) was was
-raised-other p h {t} was e k =
-    record { told = λ z. absurd (false-true (sym (not-true t k) ∙ (e ∙ eq-sameRole h p (sym (sameRole-eq p h z))))); stays = λ z. z }
 
 pub not-named : (m : ℕ) (h : Role) → (h .name ≡ m → ⊥) → isNamed m h ≡ false
 unfolding isNamed
@@ -75,6 +71,18 @@ module _ {H : List ℕ} {t : Role → Bool} {r : List ℕ} where
 
   pub marked-all : {i : ℕ} {q : List ℕ} (n : ℕ) → n ≤ i → Marked H t i r q → Marked H t n r q
   marked-all n l m = record { sized = m .sized; grows = m .grows; all = λ j k. m .all j (omega arith) }
+
+-- a credential is marked
+pub marked-one : {H : List ℕ} {t : Role → Bool} {r q : List ℕ} {i : ℕ} → Marked H t i r q → i < 128 → Marked H t (i + 1) r (set q i 1)
+marked-one m l = marked-next m l (raised-one _)
+
+-- those with other heads need not be
+pub marked-other : {H : List ℕ} {p : Role} {r q : List ℕ} {i k : ℕ} → NoHead H p i k → Marked H (sameRole p) i r q → Marked H (sameRole p) k r q
+marked-other {H} {p} {r} {q} {i} {k} o m = record { sized = m .sized; grows = m .grows; all = λ j l h. go j l h (ltb j i) refl }
+  where
+    go : (j : ℕ) → j < k → sameRole p (headIn H j) ≡ true → (t : Bool) → ltb j i ≡ t → el q j ≡ 1
+    go j l h true e = m .all j (ltb-true j i e) h
+    go j l h false e = absurd (false-true (sym (o .none j (ltb-false j i e) l) ∙ eq-sameRole (headIn H j) p (sym (sameRole-eq p (headIn H j) h))))
 
 -- What an expression asks for
 

@@ -28,7 +28,9 @@ returns-3 c =
     let c6 = c5 .before in
     let c12 = c6 .before .before .before .before .before .before in
     let s = c12 in link-all (tablesOf (s .args .own .house)) (stateOf (s .args .n)) _ (s .args .i) (s .args .x) (s .args .a) (s .args .r)
-    (c6 .class-of .ensures) (c5 .if1 .left) (c4 .if2 .left) (c .before .all-edges .ensures (s .args .a) (s .pre .1 .by (s .args .a) (s .args .r) refl (sym (c6 .class-of .ensures) ∙ c4 .if2 .left))) (c .or-else .ensures)
+    (c6 .class-of .ensures) (c5 .if1 .left) (c4 .if2 .left)
+    (c .before .all-edges .ensures (s .args .a) (s .pre .1 .by (s .args .a) (s .args .r) refl (sym (c6 .class-of .ensures) ∙ c4 .if2 .left)))
+    (c .or-else .ensures)
 
 pub verifier-link-spec : {M : Type 1} → statement M
 verifier-link-spec =

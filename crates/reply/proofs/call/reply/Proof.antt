@@ -54,19 +54,12 @@ write-requires c κs =
     ((c5 .replied-in .ensures .sizes) (c .before .if3 .left), restored-length _ _ _ (c9 .restore .ensures .0) (c7 .if2 .left))
 
 write-zeros-requires : tie.Need-write-zeros-requires
-write-zeros-requires c κs = (
-  omega arith,
-  omega (
-    arith,
-    size-parts
-        (c .before .before .before .before .before .before .before .before .before .before .before .before .before .before .before .before .before .before .before .before .before .args .tables .now)
-        (c .before .before .before .before .before .before .before .before .before .before .before .before .before .before .before .before .before .before .before .before .before .args .negotiation .now)
-        (c .before .before .before .before .before .before .before .before .before .before .before .before .before .before .before .before .before .before .before .before .before .args .reply .now)
-        (c .before .before .before .before .before .before .before .before .before .before .before .before .before .before .before .before .before .before .before .before .before .args .scratch .now)
-        (c .before .before .before .before .before .before .before .before .before .before .before .before .before .before .before .before .fits2 .ensures)
-        (c .before .before .before .before .before .before .before .before .before .before .before .before .before .before .before .if1 .left) .1,
-  ),
-)
+write-zeros-requires c κs =
+    let fits = c .before .before .before .before .before .before .before .before .before .before .before .before .before .before .before in
+    let asked = fits .before in
+    let s = asked .before .before .before .before .before in
+    let sizes = size-parts (s .args .tables .now) (s .args .negotiation .now) (s .args .reply .now) (s .args .scratch .now) (asked .fits2 .ensures) (fits .if1 .left) in
+    (omega arith, omega (arith, sizes .1))
 
 mul-result : tie.Need-mul-result
 mul-result c =

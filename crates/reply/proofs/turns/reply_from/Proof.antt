@@ -74,13 +74,15 @@ next-choice-requires c κs =
       g .4,
       told .node-states .ensures,
       loop .loop .inv .1,
-      waits-now (tablesOf (start .args .own .house)) (loop .loop .n) (loop .loop .inv .0 .going) (told .node-states .ensures) (loop .loop .inv .2) (c .resting .ensures),
+      waits-now (tablesOf (start .args .own .house)) (loop .loop .n) (loop .loop .inv .0 .going) (told .node-states .ensures) (loop .loop .inv .2)
+          (c .resting .ensures),
       loop .loop .inv .3,
     )
 
 same-length-2 : tie.Need-same-length-2 Inv-loop μ-loop
 same-length-2 c =
-    let loop = c .before .before .before .before .before .before .before .before .before .before .before .before .before .before .before in
+    let next = c .before .before .before .before in
+    let loop = next .before .before .before .before .before .before .before .before .before .before .before in
     writing-length _ _ _ _ (loop .loop .n) (loop .loop .inv .0)
 
 returns-2 : tie.Need-returns-2 Inv-loop μ-loop
@@ -114,12 +116,14 @@ outgoing-requires c κs =
 
 room-for-requires : tie.Need-room-for-requires Inv-loop μ-loop
 room-for-requires c κs =
-    let loop = c .before .before .before .before .before .before .before .before .before .before .before .before .before .before .before .before .before .before in
+    let next = c .before .before .before .before .before .before .before in
+    let loop = next .before .before .before .before .before .before .before .before .before .before .before in
     (loop .loop .inv .0 .going .sizes, c .outgoing .ensures .1 .0)
 
 same-length-3 : tie.Need-same-length-3 Inv-loop μ-loop
 same-length-3 c =
-    let loop = c .before .before .before .before .before .before .before .before .before .before .before .before .before .before .before .before .before .before .before .before .before in
+    let next = c .before .before .before .before .before .before .before .before .before .before in
+    let loop = next .before .before .before .before .before .before .before .before .before .before .before in
     writing-length _ _ _ _ (loop .loop .n) (loop .loop .inv .0)
 
 returns-3 : tie.Need-returns-3 Inv-loop μ-loop
@@ -145,17 +149,20 @@ size-of-outgoing-requires c κs =
 
 add-if4 : tie.Need-add-if4 Inv-loop μ-loop
 add-if4 c =
-    let loop = c .before .before .before .before .before .before .before .before .before .before .before .before .before .before .before .before .before .before .before .before .before in
+    let next = c .before .before .before .before .before .before .before .before .before .before in
+    let loop = next .before .before .before .before .before .before .before .before .before .before .before in
     omega (arith, c .size-of-outgoing .ensures .1, loop .loop .inv .0 .most)
 
 add-if4-2 : tie.Need-add-if4-2 Inv-loop μ-loop
 add-if4-2 c =
-    let loop = c .before .before .before .before .before .before .before .before .before .before .before .before .before .before .before .before .before .before .before .before .before in
+    let next = c .before .before .before .before .before .before .before .before .before .before in
+    let loop = next .before .before .before .before .before .before .before .before .before .before .before in
     omega (arith, c .size-of-outgoing .ensures .1, loop .loop .inv .0 .most)
 
 same-length-4 : tie.Need-same-length-4 Inv-loop μ-loop
 same-length-4 c =
-    let loop = c .before .before .before .before .before .before .before .before .before .before .before .before .before .before .before .before .before .before .before .before .before .before .before in
+    let next = c .before .before .before .before .before .before .before .before .before .before .before .before in
+    let loop = next .before .before .before .before .before .before .before .before .before .before .before in
     writing-length _ _ _ _ (loop .loop .n) (loop .loop .inv .0)
 
 returns-4 : tie.Need-returns-4 Inv-loop μ-loop
@@ -198,17 +205,22 @@ carry-requires c κs =
 add-at : tie.Need-add-at Inv-loop μ-loop
 add-at c =
     let size = c .before .before .before .before .before in
-    let loop = size .before .before .before .before .before .before .before .before .before .before .before .before .before .before .before .before .before .before .before .before .before in
+    let next = size .before .before .before .before .before .before .before .before .before .before in
+    let loop = next .before .before .before .before .before .before .before .before .before .before .before in
     omega (arith, size .size-of-outgoing .ensures .1, loop .loop .inv .0 .most)
 
 sub-left : tie.Need-sub-left Inv-loop μ-loop
 sub-left c =
-    let inside = c .before .before .before .before .before .before .before .before .before .before .before .before .before .before .before .before .before .before .before .before .before .before .before .before .before .before .before .before in
+    let size = c .before .before .before .before .before .before .before .before in
+    let next = size .before .before .before .before .before .before .before .before .before .before in
+    let inside = next .before .before .before .before .before .before .before .before .before .before in
     omega (arith, inside .loop-test .taken)
 
 loop-less : tie.Need-loop-less Inv-loop μ-loop
 loop-less c =
-    let inside = c .before .before .before .before .before .before .before .before .before .before .before .before .before .before .before .before .before .before .before .before .before .before .before .before .before .before .before .before in
+    let size = c .before .before .before .before .before .before .before .before in
+    let next = size .before .before .before .before .before .before .before .before .before .before in
+    let inside = next .before .before .before .before .before .before .before .before .before .before in
     omega (arith, inside .loop-test .taken)
 
 loop-again : tie.Need-loop-again Inv-loop μ-loop
@@ -233,8 +245,8 @@ loop-again c =
           (unmet .if1 .left) (next .next-choice .result .found) (next .next-choice .ensures .0) (out .outgoing .result) (out .outgoing .ensures .0)
           (room .room-for .ensures) (fits .if3 .left) (size .size-of-outgoing .ensures .0) (short .if4 .left))
           (carried .carry .result) (carried .carry .ensures .0) (carried .carry .ensures .1) (size .size-of-outgoing .ensures .0),
-      exhausted-next (tablesOf (start .args .own .house)) (loop .loop .n) (carried .carry .result) (commandsOf (out .outgoing .result)) g (carried .carry .ensures .0)
-          (loop .loop .inv .1) (next .next-choice .ensures .1 .0) (next .next-choice .ensures .1 .1 .0) (wide .wide .ensures) (larger .larger .ensures),
+      exhausted-next (tablesOf (start .args .own .house)) (loop .loop .n) (carried .carry .result) (commandsOf (out .outgoing .result)) g
+          (carried .carry .ensures .0) (loop .loop .inv .1) (next .next-choice .ensures .1 .0) (next .next-choice .ensures .1 .1 .0) (wide .wide .ensures) (larger .larger .ensures),
       waits-next (tablesOf (start .args .own .house)) (loop .loop .n) (carried .carry .result) (next .next-choice .result .found) g (out .outgoing .ensures .0)
           (carried .carry .ensures .0) (told .node-states .ensures) (next .next-choice .ensures .1 .0) (next .next-choice .ensures .1 .1 .0)
           (wide .wide .ensures),
@@ -256,4 +268,8 @@ returns-5 c =
 pub reply-from-spec : {M : Type 1} → statement M
 reply-from-spec =
     tie.close
-    (tie.spec Inv-loop μ-loop (λ c κs. search needs) loop-holds node-states-requires (λ c. search needs) (λ c κs. search needs) same-length returns resting-requires next-choice-requires (λ c κs. search needs) (λ c κs. search needs) same-length-2 returns-2 outgoing-requires room-for-requires (λ c κs. search needs) same-length-3 returns-3 size-of-outgoing-requires add-if4 add-if4-2 (λ c κs. search needs) same-length-4 returns-4 carry-requires add-at (λ c κs. search needs) (λ c κs. search needs) sub-left loop-less loop-again (λ c κs. search needs) same-length-5 returns-5)
+    (tie.spec Inv-loop μ-loop (λ c κs. search needs) loop-holds node-states-requires (λ c. search needs) (λ c κs. search needs) same-length
+    returns resting-requires next-choice-requires (λ c κs. search needs) (λ c κs. search needs) same-length-2 returns-2 outgoing-requires
+    room-for-requires (λ c κs. search needs) same-length-3 returns-3 size-of-outgoing-requires add-if4 add-if4-2 (λ c κs. search needs)
+    same-length-4 returns-4 carry-requires add-at (λ c κs. search needs) (λ c κs. search needs) sub-left loop-less loop-again
+    (λ c κs. search needs) same-length-5 returns-5)

@@ -1,5 +1,4 @@
 use native.Mathlib.Omega.{arith}
-use borrow.Author.Needs.{needs}
 use Rattle.sending.specs.laws.Fresh.{fresh-issuer, fresh-subject}
 use Rattle.sending.specs.laws.SentLaws.{needed-issuer, needed-subject}
 use Rattle.sending.proofs.credentials.needed_for.Statement.{statement}

@@ -35,7 +35,8 @@ loop-again c =
     let loop = inside .before in
     let s = loop .before .before .before .before in
     behind-next _ _ _ _ (loop .loop .inv) (inside .loop-test .taken) (stored .credential-at .ensures)
-    (unshown-new (getD (s .args .on .now) (loop .loop .i) 0) (loop .loop .i) (s .pre .2) (inside .loop-test .taken) (stored .credential-at .ensures)) (c .store-if .ensures)
+    (unshown-new (getD (s .args .on .now) (loop .loop .i) 0) (loop .loop .i) (s .pre .2) (inside .loop-test .taken) (stored .credential-at .ensures))
+    (c .store-if .ensures)
 
 returns : tie.Need-returns Inv-loop μ-loop
 unfolding unshownOf

@@ -1,7 +1,6 @@
 use Prim.Native.Nat.{_-_}
 use native.Mathlib.Omega.{arith}
 use mathlib.Core.Path.{refl}
-use borrow.Author.Needs.{needs}
 use Rattle.rt0.specs.laws.Pool.{poolOf}
 use Rattle.needed.specs.laws.Needed.{restOf}
 use Rattle.sending.specs.laws.Fresh.{Refreshed, refreshed-start, refreshed-next, fresh-within, fresh-now, fresh-after}
