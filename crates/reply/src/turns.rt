@@ -60,7 +60,7 @@ pub fn reply_from(own: Preparation, start: Negotiation, from: usize, s: &mut [u8
     let mut reach = no_reach();
     let mut seen = [0; 2];
     let mut issuer = [1u8; 128];
-    let mut subject = [1u8; 128];
+    let mut subject = own.visible;
     while 0 < left {
         let states = node_states(n.nodes, n.edges);
         let sat = states.satisfied;

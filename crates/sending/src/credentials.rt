@@ -13,17 +13,20 @@ use needed::relevant;
 use needed::with_rest;
 use rt0::Pool;
 use rt0::is_shown;
-ghost use mathlib.Core.List.{[], _∷_};
-ghost use Prim.Native.Nat.{_≤_};
+ghost use mathlib.Core.Path.{_≡_};
+ghost use mathlib.Core.List.{List, [], _∷_, _++_};
+ghost use Prim.Native.Nat.{ℕ, _≤_};
+ghost use lib.ListN.{length};
 ghost use Rattle.rt0.specs.laws.Pool.{credentials};
 ghost use Rattle.rules.specs.laws.Table.{chosen};
 ghost use Rattle.needed.specs.Needed.{needed as neededOf};
+ghost use Rattle.needed.specs.laws.Needed.{firstOf, restOf};
 ghost use Rattle.tables.specs.laws.Tables.{tablesOf};
 ghost use Rattle.tables.specs.Public.{publicOf};
 ghost use Rattle.moves.specs.laws.Own.{Prepared};
-ghost use Rattle.sending.specs.laws.Fresh.{UnshownIn, Fresh};
+ghost use Rattle.sending.specs.laws.Fresh.{UnshownIn, FreshIn, Fresh};
 ghost use Rattle.sending.specs.laws.Unshown.{unshownOf};
-ghost use Rattle.sending.specs.laws.Sent.{Sends, directIn, sideSetOf};
+ghost use Rattle.sending.specs.laws.Sent.{Sends, directIn, sideSetOf, sideChosen};
 ghost use Rattle.numbers.specs.Sizes.{MOST-SHOWN, MOST-STORED};
 
 // A command alone.
@@ -74,36 +77,19 @@ pub fn direct_for(own: u16, shown: Pool, f: Expression, command: Command) -> Out
     }
 }
 
-// Those of a set of own credentials that are on, not shown, and needed for f from e. They are looked for among those that can matter for f:
+// Those of a pool behind the first ones, which are shown, that are needed for f from e. They are looked for among those that can matter for f:
 // where these are not enough, neither are all, and all are needed.
-fn needed_of(
-    shown: Pool,
-    set: Pool,
-    on: [u8; 128],
-    unshown: &[u8; 128],
-    f: Expression,
-    e: Expression,
-    command: Command,
-) -> Outgoing
-    requires { ⌜ (shown .count ≤ MOST-SHOWN) × (set .count ≤ MOST-STORED) × UnshownIn (credentials shown) set (now unshown) ⌝ }
-    ensures { λ r. ⌜ Sends (neededOf (credentials shown) f e (unshownOf (credentials shown) (chosen set on))) command r ⌝ }
+fn needed_of(shown: usize, pool: Pool, f: Expression, e: Expression, command: Command) -> Outgoing
+    requires { ⌜ (shown ≤ pool .count) × (pool .count ≤ 128) ⌝ }
+    ensures { λ r. ⌜ Sends (neededOf (firstOf pool shown) f e (restOf pool shown)) command r ⌝ }
 {
-    let pool = own_pool(
-        shown,
-        set.count,
-        &set.heads,
-        &set.kinds,
-        &set.numbers,
-        &on,
-        unshown,
-    );
     let flags = relevant(pool.count, &pool.heads, &pool.kinds, &pool.numbers, f);
     let part = part_of(
         pool.count,
         &pool.heads,
         &pool.kinds,
         &pool.numbers,
-        shown.count,
+        shown,
         &flags,
     );
     let kept = needed(
@@ -125,7 +111,7 @@ fn needed_of(
             command,
         };
     }
-    let all = with_rest(pool.count, shown.count, [0u8; 128]);
+    let all = with_rest(pool.count, shown, [0u8; 128]);
     Outgoing {
         pool,
         on: all,
@@ -133,8 +119,62 @@ fn needed_of(
     }
 }
 
-// Those needed for node x from e, of our set for our side of it: 0x12 where we verify it, else 0x13 less direct credentials of sensitive
-// roles. The flags of the set's credentials that are not shown are made current.
+// The credentials shown and, behind them, those of a set that may show and are not shown; the first of those shown were looked at before.
+fn fresh_pool(shown: Pool, set: Pool, seen: usize, fresh: &mut [u8; 128]) -> Pool
+    requires { ⌜ (shown .count ≤ MOST-SHOWN) × (set .count ≤ MOST-STORED) × (seen ≤ shown .count) × (length (now fresh) ≡ 128) ⌝ }
+    ensures few { λ r. ⌜ r .count ≤ 128 ⌝ }
+    ensures sized { λ _. ⌜ length (now (fresh .exit)) ≡ 128 ⌝ }
+    ensures flags { λ r. ⌜ ((on : List ℕ) → FreshIn (credentials shown) set on seen (now (fresh .entry))
+        → UnshownIn (credentials shown) set on (now (fresh .exit)) × (credentials r ≡ credentials shown ++ unshownOf (credentials shown) (chosen set on))) ⌝ }
+{
+    refresh(
+        set.count,
+        &set.heads,
+        &set.kinds,
+        &set.numbers,
+        seen,
+        shown.count,
+        &shown.heads,
+        &shown.kinds,
+        &shown.numbers,
+        fresh,
+    );
+    own_pool(
+        shown,
+        set.count,
+        &set.heads,
+        &set.kinds,
+        &set.numbers,
+        fresh,
+    )
+}
+
+// The credentials shown and, behind them, those of our set for a side that are not shown: 0x12 where we verify, else 0x13 less direct credentials
+// of sensitive roles.
+fn side_pool<'a>(
+    own: Preparation,
+    ours: bool,
+    shown: Pool,
+    seen: &'a mut [usize; 2],
+    issuer: &'a mut [u8; 128],
+    subject: &'a mut [u8; 128],
+) -> Pool
+    requires { ⌜ Prepared own × (shown .count ≤ MOST-SHOWN) × Fresh (credentials shown) own (now seen) (now issuer) (now subject) ⌝ }
+    ensures few { λ r. ⌜ r .count ≤ 128 ⌝ }
+    ensures all { λ r. ⌜ credentials r ≡ credentials shown ++ unshownOf (credentials shown) (sideChosen own ours) ⌝ }
+    ensures fresh { λ _. ⌜ Fresh (credentials shown) own (now (seen .exit)) (now (issuer .exit)) (now (subject .exit)) ⌝ }
+{
+    if ours {
+        let before = seen[0];
+        seen[0] = shown.count;
+        return fresh_pool(shown, own.house.issuer, before, issuer);
+    }
+    let before = seen[1];
+    seen[1] = shown.count;
+    fresh_pool(shown, own.house.subject, before, subject)
+}
+
+// Those needed for node x from e, of our set for our side of it.
 pub fn needed_for<'a>(
     own: Preparation,
     side: u8,
@@ -152,34 +192,7 @@ pub fn needed_for<'a>(
     ensures fresh { λ _. ⌜ Fresh (credentials shown) own (now (seen .exit)) (now (issuer .exit)) (now (subject .exit)) ⌝ }
 {
     let f = x.expression;
-    let all = [1u8; 128];
-    let visible = own.visible;
-    if x.verifier == side {
-        seen[0] = refresh(
-            own.house.issuer.count,
-            &own.house.issuer.heads,
-            &own.house.issuer.kinds,
-            &own.house.issuer.numbers,
-            seen[0],
-            shown.count,
-            &shown.heads,
-            &shown.kinds,
-            &shown.numbers,
-            issuer,
-        );
-        return needed_of(shown, own.house.issuer, all, issuer, f, e, command);
-    }
-    seen[1] = refresh(
-        own.house.subject.count,
-        &own.house.subject.heads,
-        &own.house.subject.kinds,
-        &own.house.subject.numbers,
-        seen[1],
-        shown.count,
-        &shown.heads,
-        &shown.kinds,
-        &shown.numbers,
-        subject,
-    );
-    needed_of(shown, own.house.subject, visible, subject, f, e, command)
+    let ours = x.verifier == side;
+    let pool = side_pool(own, ours, shown, seen, issuer, subject);
+    needed_of(shown.count, pool, f, e, command)
 }

@@ -1,4 +1,4 @@
-// The credentials shown and, behind them, own ones that are not; and what of such a pool can matter for an edge.
+// The credentials shown and, behind them, own ones; and what of such a pool can matter for an edge.
 use expression::Credential;
 use rt0::Pool;
 use rt0::expression_at;
@@ -11,8 +11,6 @@ ghost use lib.Dec.{eqb};
 ghost use Rattle.rt0.specs.laws.Pool.{poolOf, credentialIn, credentials};
 ghost use Rattle.rt0.specs.laws.Added.{Sized};
 ghost use Rattle.rules.specs.laws.Table.{chosen};
-ghost use Rattle.sending.specs.laws.Unshown.{unshownOf};
-ghost use Rattle.sending.specs.laws.Fresh.{UnshownIn};
 ghost use Rattle.sending.specs.laws.Behind.{StoredIf};
 ghost use Rattle.sending.specs.laws.Relevant.{Selected, PartOf};
 ghost use Rattle.numbers.specs.Sizes.{MOST-SHOWN, MOST-STORED};
@@ -39,61 +37,6 @@ pub fn credential_at<'a>(
     }
 }
 
-// The credential goes behind the k others where it is new; how many there are then.
-fn store_if<'a>(
-    new: bool,
-    heads: &'a mut [u16; 256],
-    kinds: &'a mut [u8; 256],
-    numbers: &'a mut [u16; 1024],
-    k: usize,
-    c: Credential,
-) -> usize
-    requires { ⌜ (k < 128) × Sized (poolOf k (now heads) (now kinds) (now numbers)) ⌝ }
-    ensures { λ r. ⌜ StoredIf new c (poolOf k (now (heads .entry)) (now (kinds .entry)) (now (numbers .entry)))
-        (poolOf r (now (heads .exit)) (now (kinds .exit)) (now (numbers .exit))) ⌝ }
-{
-    if !new {
-        return k;
-    }
-    store(heads, kinds, numbers, k, c);
-    k + 1
-}
-
-// The credentials shown and, behind them, those of m own ones that are on and not shown, by the flags of these.
-pub fn own_pool<'a>(
-    shown: Pool,
-    m: usize,
-    heads: &'a [u16; 256],
-    kinds: &'a [u8; 256],
-    numbers: &'a [u16; 1024],
-    on: &'a [u8; 128],
-    unshown: &'a [u8; 128],
-) -> Pool
-    requires { ⌜ (shown .count ≤ MOST-SHOWN) × (m ≤ MOST-STORED)
-        × UnshownIn (credentials shown) (poolOf m (now heads) (now kinds) (now numbers)) (now unshown) ⌝ }
-    ensures few { λ r. ⌜ r .count ≤ 128 ⌝ }
-    ensures all { λ r. ⌜ credentials r ≡ credentials shown ++ unshownOf (credentials shown)
-        (chosen (poolOf m (now (heads .entry)) (now (kinds .entry)) (now (numbers .entry))) (now (on .entry))) ⌝ }
-{
-    let mut h = shown.heads;
-    let mut k = shown.kinds;
-    let mut u = shown.numbers;
-    let mut count = shown.count;
-    let mut i = 0;
-    while i < m {
-        let c = credential_at(heads, kinds, numbers, i);
-        let new = (on[i] == 1) & (unshown[i] == 1);
-        count = store_if(new, &mut h, &mut k, &mut u, count, c);
-        i += 1;
-    }
-    Pool {
-        count,
-        heads: h,
-        kinds: k,
-        numbers: u,
-    }
-}
-
 // Credential i, where it is flagged, goes behind the m others; how many there are then.
 fn store_flagged<'a>(
     heads: &'a [u16; 256],
@@ -116,6 +59,47 @@ fn store_flagged<'a>(
     let c = credential_at(heads, kinds, numbers, i);
     store(h, k, u, m, c);
     m + 1
+}
+
+// The credentials shown and, behind them, those of m own ones that are flagged.
+pub fn own_pool<'a>(
+    shown: Pool,
+    m: usize,
+    heads: &'a [u16; 256],
+    kinds: &'a [u8; 256],
+    numbers: &'a [u16; 1024],
+    flags: &'a [u8; 128],
+) -> Pool
+    requires { ⌜ (shown .count ≤ MOST-SHOWN) × (m ≤ MOST-STORED) ⌝ }
+    ensures few { λ r. ⌜ r .count ≤ 128 ⌝ }
+    ensures all { λ r. ⌜ credentials r ≡ credentials shown
+        ++ chosen (poolOf m (now (heads .entry)) (now (kinds .entry)) (now (numbers .entry))) (now (flags .entry)) ⌝ }
+{
+    let mut h = shown.heads;
+    let mut k = shown.kinds;
+    let mut u = shown.numbers;
+    let mut count = shown.count;
+    let mut i = 0;
+    while i < m {
+        count = store_flagged(
+            heads,
+            kinds,
+            numbers,
+            flags[i],
+            i,
+            &mut h,
+            &mut k,
+            &mut u,
+            count,
+        );
+        i += 1;
+    }
+    Pool {
+        count,
+        heads: h,
+        kinds: k,
+        numbers: u,
+    }
 }
 
 // The flagged ones of the credentials from a to b go behind the m others, however many more there are; how many there are then.

@@ -1,5 +1,5 @@
-// Which own credentials are not shown yet, 1 for each. The flags are kept along a reply: of the credentials shown, only those that were not looked at
-// before are.
+// Which own credentials may show and are not shown yet, 1 for each. The flags are kept along a reply: of the credentials shown, only those that were
+// not looked at before are.
 use crate::pool::credential_at;
 use expression::Credential;
 use expression::key_of;
@@ -7,7 +7,8 @@ use expression::raw_of;
 use rt0::is_at;
 ghost use mathlib.Core.Path.{_≡_};
 ghost use mathlib.Core.Bool.{not, _&&_};
-ghost use Prim.Native.Nat.{_≤_, _<_};
+ghost use mathlib.Core.List.{List};
+ghost use Prim.Native.Nat.{ℕ, _≤_, _<_};
 ghost use lib.Dec.{eqb};
 ghost use lib.ListN.{length};
 ghost use Rattle.rt0.specs.Shown.{isShown};
@@ -65,7 +66,7 @@ fn flag_after<'a>(
     1
 }
 
-// The flags of m own credentials, where the first a of the b credentials shown were looked at before; how many are now.
+// The flags of m own credentials, where the first a of the b credentials shown were looked at before.
 pub fn refresh<'a>(
     m: usize,
     own: &'a [u16; 256],
@@ -77,16 +78,16 @@ pub fn refresh<'a>(
     kinds: &'a [u8; 256],
     numbers: &'a [u16; 1024],
     unshown: &'a mut [u8; 128],
-) -> usize
-    requires { ⌜ (m ≤ 128) × (b ≤ 128) × (length (now unshown) ≡ 128)
-        × FreshIn (credentials (poolOf b (now heads) (now kinds) (now numbers))) (poolOf m (now own) (now bodies) (now terms)) a (now unshown) ⌝ }
-    ensures count { λ r. ⌜ r ≡ b ⌝ }
+)
+    requires { ⌜ (m ≤ 128) × (a ≤ b) × (b ≤ 128) × (length (now unshown) ≡ 128) ⌝ }
     ensures sized { λ _. ⌜ length (now (unshown .exit)) ≡ 128 ⌝ }
-    ensures flags { λ _. ⌜ UnshownIn (credentials (poolOf b (now (heads .entry)) (now (kinds .entry)) (now (numbers .entry))))
-        (poolOf m (now (own .entry)) (now (bodies .entry)) (now (terms .entry))) (now (unshown .exit)) ⌝ }
+    ensures flags { λ _. ⌜ ((on : List ℕ) → FreshIn (credentials (poolOf b (now (heads .entry)) (now (kinds .entry)) (now (numbers .entry))))
+        (poolOf m (now (own .entry)) (now (bodies .entry)) (now (terms .entry))) on a (now (unshown .entry))
+        → UnshownIn (credentials (poolOf b (now (heads .entry)) (now (kinds .entry)) (now (numbers .entry))))
+        (poolOf m (now (own .entry)) (now (bodies .entry)) (now (terms .entry))) on (now (unshown .exit))) ⌝ }
 {
     if a == b {
-        return b;
+        return;
     }
     let mut i = 0;
     while i < m {
@@ -94,5 +95,4 @@ pub fn refresh<'a>(
         unshown[i] = flag_after(unshown[i], c, a, b, heads, kinds, numbers);
         i += 1;
     }
-    b
 }

@@ -3,7 +3,7 @@ use Prim.Native.Nat.{ℕ, _+_, _≤_, _<_}
 use native.Mathlib.Omega.{arith}
 use native.Mathlib.Numerals.{add-one}
 use mathlib.Core.Path.{_≡_, refl, sym, _∙_, ap}
-use mathlib.Core.Bool.{Bool, true, false, not, cond, _&&_}
+use mathlib.Core.Bool.{Bool, true, false, not, cond}
 use mathlib.Core.List.{List, [], _∷_, _++_, append-nil, append-assoc, head-eq-of-cons-eq, tail-eq-of-cons-eq}
 use borrow.Author.Tests.{not-true, not-false}
 use lib.Dec.{eqb}
@@ -14,10 +14,8 @@ use Rattle.rt0.specs.laws.Pool.{credentialAt, credentials}
 use Rattle.rt0.specs.laws.Added.{Sized, Stored, count-length, length-upTo}
 use Rattle.closure.specs.laws.Rules.{el}
 use Rattle.rules.specs.laws.Table.{chosenTo, chosen}
-use Rattle.tables.specs.Public.{keep}
 use Rattle.needed.specs.laws.Needed.{firstOf, restOf}
 use Rattle.needed.specs.laws.Column.{first-rest}
-use Rattle.sending.specs.laws.Picked.{keep-append}
 
 -- the pool Q is P with the credential c behind the others where b says so
 pub record StoredIf (b : Bool) (c : Credential) (P Q : Pool) : Type 0 where
@@ -39,39 +37,32 @@ stored-few b c P Q s = omega (arith, count-length P, count-length Q, ap length (
     at-most-one true = omega arith
     at-most-one false = omega arith
 
--- the pool Q has the credentials of S and, behind them, those of the first i of P that are on and pass the test
-pub record Behind (f : Credential → Bool) (S P : Pool) (on : List ℕ) (i : ℕ) (Q : Pool) : Type 0 where
+-- the pool Q has the credentials of S and, behind them, those of the first i of P that are on
+pub record Behind (S P : Pool) (on : List ℕ) (i : ℕ) (Q : Pool) : Type 0 where
   pub within : i ≤ P .count
   pub sized : Sized Q
   pub few : Q .count ≤ S .count + i
-  pub all : credentials Q ≡ credentials S ++ keep f (chosenTo P on i)
+  pub all : credentials Q ≡ credentials S ++ chosenTo P on i
 
-module _ (f : Credential → Bool) (S P : Pool) (on : List ℕ) where
-  pub behind-start : Sized S → Behind f S P on 0 S
+module _ (S P : Pool) (on : List ℕ) where
+  pub behind-start : Sized S → Behind S P on 0 S
   behind-start z = record { within = omega arith; sized = z; few = omega arith; all = sym (append-nil (credentials S)) }
 
-  one-more : (C : List Credential) (c : Credential) (a b : Bool) → b ≡ (a && f c) → keep f C ++ cond b (c ∷ []) [] ≡ keep f (C ++ cond a (c ∷ []) [])
-  one-more C c true b h = ap (λ (x : Bool). keep f C ++ cond x (c ∷ []) []) h ∙ sym (keep-append f C (c ∷ []))
-  one-more C c false b h = ap (λ (x : Bool). keep f C ++ cond x (c ∷ []) []) h ∙ sym (keep-append f C [])
-
-  pub behind-next : {i : ℕ} {Q R : Pool} {b : Bool} {c : Credential} → Behind f S P on i Q → i < P .count → c ≡ credentialAt P i
-      → b ≡ (eqb (el on i) 1 && f c) → StoredIf b c Q R → Behind f S P on (i + 1) R
-  behind-next {i} {Q} {R} {b} {c} h l ce be s =
+  pub behind-next : {i : ℕ} {Q R : Pool} → Behind S P on i Q → i < P .count → StoredIf (eqb (el on i) 1) (credentialAt P i) Q R → Behind S P on (i + 1) R
+  behind-next {i} {Q} {R} h l s =
       record {
         within = omega arith;
         sized = s .sized;
-        few = omega (arith, h .few, stored-few b c Q R s);
+        few = omega (arith, h .few, stored-few (eqb (el on i) 1) (credentialAt P i) Q R s);
         all = s .all
-            ∙ ap (λ (l : List Credential). l ++ cond b (c ∷ []) []) (h .all)
-            ∙ append-assoc (credentials S) (keep f (chosenTo P on i)) (cond b (c ∷ []) [])
-            ∙ ap (λ (l : List Credential). credentials S ++ l) (one-more (chosenTo P on i) c (eqb (el on i) 1) b be)
-            ∙ ap (λ (d : Credential). credentials S ++ keep f (chosenTo P on i ++ cond (eqb (el on i) 1) (d ∷ []) [])) ce
-            ∙ ap (λ (k : ℕ). credentials S ++ keep f (chosenTo P on k)) (sym (add-one i));
+            ∙ ap (λ (l : List Credential). l ++ cond (eqb (el on i) 1) (credentialAt P i ∷ []) []) (h .all)
+            ∙ append-assoc (credentials S) (chosenTo P on i) (cond (eqb (el on i) 1) (credentialAt P i ∷ []) [])
+            ∙ ap (λ (k : ℕ). credentials S ++ chosenTo P on k) (sym (add-one i));
       }
 
-  pub behind-all : {i : ℕ} {Q : Pool} → Behind f S P on i Q → P .count ≤ i → credentials Q ≡ credentials S ++ keep f (chosen P on)
+  pub behind-all : {i : ℕ} {Q : Pool} → Behind S P on i Q → P .count ≤ i → credentials Q ≡ credentials S ++ chosen P on
   unfolding chosen
-  behind-all {i} {Q} h l = let z : i ≡ P .count = omega (arith, h .within) in h .all ∙ ap (λ (k : ℕ). credentials S ++ keep f (chosenTo P on k)) z
+  behind-all {i} {Q} h l = let z : i ≡ P .count = omega (arith, h .within) in h .all ∙ ap (λ (k : ℕ). credentials S ++ chosenTo P on k) z
 
 pub append-parts : {A : Type 0} (a c b d : List A) → length a ≡ length c → a ++ b ≡ c ++ d → (a ≡ c) × (b ≡ d)
 append-parts [] [] b d l h = (refl, h)

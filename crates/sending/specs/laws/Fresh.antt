@@ -1,13 +1,13 @@
--- Flags for own credentials that are not shown yet, kept while more and more are shown. Assumes nothing.
-use Prim.Native.Nat.{ℕ, _+_, _-_, _≤_, _<_}
+-- Flags for own credentials that may show and are not shown yet, kept while more and more are shown. Assumes nothing.
+use Prim.Native.Nat.{ℕ, zero, suc, _+_, _-_, _≤_, _<_}
 use native.Mathlib.Omega.{arith}
 use mathlib.Core.Path.{_≡_, refl, sym, _∙_, ap, subst}
 use mathlib.Core.Logic.{⊎-elim}
-use mathlib.Core.Bool.{Bool, true, false, not, _&&_, _||_}
+use mathlib.Core.Bool.{Bool, true, false, not, cond, _&&_, _||_}
 use mathlib.Core.List.{List, [], _∷_, _++_, append-nil, append-assoc}
 use borrow.Author.Tests.{eqb-true, eqb-false, eq-eqb, ne-eqb}
 use lib.Dec.{eqb}
-use lib.ListN.{length, set, replicate, length-set, length-append, length-replicate, getD-replicate}
+use lib.ListN.{length, set, replicate, length-set, length-append, length-replicate}
 use lib.Seq.{getD-set-same, getD-set-other}
 use Rattle.expression.specs.declared.Credential.{Credential}
 use Rattle.expression.specs.Same.{sameCredential}
@@ -18,36 +18,50 @@ use Rattle.rt0.specs.laws.Pool.{credentialAt, credentials}
 use Rattle.rt0.specs.laws.Added.{count-length, length-upTo}
 use Rattle.rt0.specs.laws.Find.{Missed, any-at, any-none}
 use Rattle.closure.specs.laws.Rules.{el}
+use Rattle.rules.specs.laws.Table.{chosenTo, chosen}
+use Rattle.tables.specs.Public.{keep}
 use Rattle.propagation.specs.laws.Flags.{decided}
 use Rattle.needed.specs.laws.Needed.{firstOf, restOf}
 use Rattle.needed.specs.laws.Column.{first-rest}
 use Rattle.moves.specs.declared.Preparation.{Preparation}
-use Rattle.moves.specs.laws.Own.{Prepared}
+use Rattle.sending.specs.laws.Picked.{keep-append}
 use Rattle.sending.specs.laws.Behind.{append-parts}
+use Rattle.sending.specs.laws.Unshown.{unshownOf}
 
--- 1 for each credential of a pool that is not one of these
-pub record UnshownIn (l : List Credential) (P : Pool) (F : List ℕ) : Type 0 where
-  pub says : (i : ℕ) → i < P .count → eqb (el F i) 1 ≡ not (isShown l (credentialAt P i))
+-- 1 for each credential of a pool that is on and not one of these
+pub record UnshownIn (l : List Credential) (P : Pool) (on F : List ℕ) : Type 0 where
+  pub says : (i : ℕ) → i < P .count → eqb (el F i) 1 ≡ (eqb (el on i) 1 && not (isShown l (credentialAt P i)))
 
 -- the same of the first k of the credentials shown
-pub record FreshIn (shown : List Credential) (P : Pool) (k : ℕ) (F : List ℕ) : Type 0 where
+pub record FreshIn (shown : List Credential) (P : Pool) (on : List ℕ) (k : ℕ) (F : List ℕ) : Type 0 where
   pub first : List Credential
   pub rest : List Credential
   pub split : shown ≡ first ++ rest
   pub counted : length first ≡ k
-  pub unshown : UnshownIn first P F
+  pub unshown : UnshownIn first P on F
 
 -- the columns for both sets of our tables, and of how many of the credentials shown each speaks
 pub record Fresh (shown : List Credential) (o : Preparation) (seen issuer subject : List ℕ) : Type 0 where
-  pub issuers : FreshIn shown (o .house .issuer) (el seen 0) issuer
-  pub subjects : FreshIn shown (o .house .subject) (el seen 1) subject
+  pub issuers : FreshIn shown (o .house .issuer) (replicate 128 1) (el seen 0) issuer
+  pub subjects : FreshIn shown (o .house .subject) (o .visible) (el seen 1) subject
   pub pair : length seen ≡ 2
   pub sized : (length issuer ≡ 128) × (length subject ≡ 128)
 
--- a credential is new where it is on and its flag is
-pub unshown-new : {l : List Credential} {P : Pool} {F : List ℕ} (on i : ℕ) {c : Credential} → UnshownIn l P F → i < P .count → c ≡ credentialAt P i
-    → (eqb on 1 && eqb (el F i) 1) ≡ (eqb on 1 && not (isShown l c))
-unshown-new {l} on i U h e = ap (λ (b : Bool). eqb on 1 && b) (U .says i h ∙ sym (ap (λ (d : Credential). not (isShown l d)) e))
+-- the flagged ones are those that are on and not shown
+keep-more : (f : Credential → Bool) (C : List Credential) (c : Credential) (a b : Bool) → b ≡ (a && f c)
+    → keep f C ++ cond b (c ∷ []) [] ≡ keep f (C ++ cond a (c ∷ []) [])
+keep-more f C c true b h = ap (λ (x : Bool). keep f C ++ cond x (c ∷ []) []) h ∙ sym (keep-append f C (c ∷ []))
+keep-more f C c false b h = ap (λ (x : Bool). keep f C ++ cond x (c ∷ []) []) h ∙ sym (keep-append f C [])
+
+pub unshown-chosen : {l : List Credential} {P : Pool} {on F : List ℕ} → UnshownIn l P on F → chosen P F ≡ unshownOf l (chosen P on)
+unfolding chosen unshownOf
+unshown-chosen {l} {P} {on} {F} U = go (P .count) (omega arith)
+  where
+    go : (n : ℕ) → n ≤ P .count → chosenTo P F n ≡ keep (λ c. not (isShown l c)) (chosenTo P on n)
+    go zero h = refl
+    go (suc n) h =
+        ap (λ (C : List Credential). C ++ cond (eqb (el F n) 1) (credentialAt P n ∷ []) []) (go n (omega arith))
+        ∙ keep-more (λ c. not (isShown l c)) (chosenTo P on n) (credentialAt P n) (eqb (el on n) 1) (eqb (el F n) 1) (U .says n (omega arith))
 
 -- Among the credentials from a on
 
@@ -117,12 +131,20 @@ unfolding isShown
 shown-append l m c =
     not-or (any (λ d. sameCredential d c) l) (any (λ d. sameCredential d c) m) ∙ sym (ap not (any-append (λ d. sameCredential d c) l m))
 
+and-assoc : (a b c : Bool) → ((a && b) && c) ≡ (a && (b && c))
+and-assoc true b c = refl
+and-assoc false b c = refl
+
+and-true : (a : Bool) → a ≡ (a && true)
+and-true true = refl
+and-true false = refl
+
 no-more : {A : Type 0} (l : List A) → length l ≤ 0 → l ≡ []
 no-more [] h = refl
 no-more (x ∷ l) h = absurd (omega arith)
 
 -- Of a pool of credentials shown
-module _ (S P : Pool) {a : ℕ} {F : List ℕ} (h : FreshIn (credentials S) P a F) where
+module _ (S P : Pool) {on : List ℕ} {a : ℕ} {F : List ℕ} (h : FreshIn (credentials S) P on a F) where
   pub fresh-within : a ≤ S .count
   fresh-within = omega (arith, count-length S, ap length (h .split), length-append (h .first) (h .rest), h .counted)
 
@@ -133,35 +155,35 @@ module _ (S P : Pool) {a : ℕ} {F : List ℕ} (h : FreshIn (credentials S) P a 
       (sym (first-rest S a fresh-within) ∙ h .split)
 
   -- all were looked at before
-  pub fresh-now : a ≡ S .count → UnshownIn (credentials S) P F
+  pub fresh-now : a ≡ S .count → UnshownIn (credentials S) P on F
   fresh-now e =
       let z : length (h .rest) ≤ 0 = omega (arith, count-length S, ap length (h .split), length-append (h .first) (h .rest), h .counted) in
       let q : h .first ≡ credentials S = sym (h .split ∙ (ap (λ (l : List Credential). h .first ++ l) (no-more (h .rest) z) ∙ append-nil (h .first))) in
-      subst (λ (l : List Credential). UnshownIn l P F) q (h .unshown)
+      subst (λ (l : List Credential). UnshownIn l P on F) q (h .unshown)
 
   -- the others are looked at now
-  pub fresh-after : {m : ℕ} {G : List ℕ} → Refreshed (restOf S a) P F m G → P .count ≤ m → UnshownIn (credentials S) P G
-  fresh-after {m} {G} R l =
-      record {
-        says = λ i k.
-            R .done i (omega arith)
-            ∙ ap (λ (b : Bool). b && not (isShown (restOf S a) (credentialAt P i))) (h .unshown .says i k)
-            ∙ ap (λ (x : List Credential). not (isShown (h .first) (credentialAt P i)) && not (isShown x (credentialAt P i))) (parts .1)
-            ∙ shown-append (h .first) (h .rest) (credentialAt P i)
-            ∙ ap (λ (x : List Credential). not (isShown x (credentialAt P i))) (sym (h .split));
-      }
+  pub fresh-after : {m : ℕ} {G : List ℕ} → Refreshed (restOf S a) P F m G → P .count ≤ m → UnshownIn (credentials S) P on G
+  fresh-after {m} {G} R l = record { says = says }
+    where
+      says : (i : ℕ) → i < P .count → eqb (el G i) 1 ≡ (eqb (el on i) 1 && not (isShown (credentials S) (credentialAt P i)))
+      says i k =
+          let c = credentialAt P i in
+          R .done i (omega arith)
+          ∙ ap (λ (b : Bool). b && not (isShown (restOf S a) c)) (h .unshown .says i k)
+          ∙ and-assoc (eqb (el on i) 1) (not (isShown (h .first) c)) (not (isShown (restOf S a) c))
+          ∙ ap (λ (x : List Credential). eqb (el on i) 1 && (not (isShown (h .first) c) && not (isShown x c))) (parts .1)
+          ∙ ap (λ (b : Bool). eqb (el on i) 1 && b) (shown-append (h .first) (h .rest) c)
+          ∙ ap (λ (x : List Credential). eqb (el on i) 1 && not (isShown x c)) (sym (h .split))
 
-pub fresh-all : (S P : Pool) {F : List ℕ} → UnshownIn (credentials S) P F → FreshIn (credentials S) P (S .count) F
+fresh-all : (S P : Pool) {on F : List ℕ} → UnshownIn (credentials S) P on F → FreshIn (credentials S) P on (S .count) F
 fresh-all S P U = record { first = credentials S; rest = []; split = sym (append-nil (credentials S)); counted = count-length S; unshown = U }
 
-fresh-none : (l : List Credential) (P : Pool) (F : List ℕ) → ((i : ℕ) → i < P .count → el F i ≡ 1) → FreshIn l P 0 F
+-- none is shown
+fresh-none : (l : List Credential) (P : Pool) (on : List ℕ) → FreshIn l P on 0 on
 unfolding isShown
-fresh-none l P F h = record { first = []; rest = l; split = refl; counted = refl; unshown = record { says = says } }
-  where
-    says : (i : ℕ) → i < P .count → eqb (el F i) 1 ≡ not (isShown [] (credentialAt P i))
-    says i k = eq-eqb (el F i) 1 (h i k)
+fresh-none l P on = record { first = []; rest = l; split = refl; counted = refl; unshown = record { says = λ i k. and-true (eqb (el on i) 1) } }
 
-fresh-grown : {l : List Credential} {P : Pool} {k : ℕ} {F : List ℕ} (X : List Credential) → FreshIn l P k F → FreshIn (l ++ X) P k F
+fresh-grown : {l : List Credential} {P : Pool} {on : List ℕ} {k : ℕ} {F : List ℕ} (X : List Credential) → FreshIn l P on k F → FreshIn (l ++ X) P on k F
 fresh-grown X h =
     record {
       first = h .first;
@@ -177,36 +199,36 @@ pub fresh-more : {l : List Credential} {o : Preparation} {seen issuer subject : 
     → Fresh (l ++ X) o seen issuer subject
 fresh-more X h = record { issuers = fresh-grown X (h .issuers); subjects = fresh-grown X (h .subjects); pair = h .pair; sized = h .sized }
 
-pub fresh-start : (o : Preparation) (l : List Credential) → Prepared o → Fresh l o (replicate 2 0) (replicate 128 1) (replicate 128 1)
-fresh-start o l R =
+pub fresh-start : (o : Preparation) (l : List Credential) → length (o .visible) ≡ 128 → Fresh l o (replicate 2 0) (replicate 128 1) (o .visible)
+fresh-start o l z =
     record {
-      issuers = fresh-none l (o .house .issuer) (replicate 128 1) (λ i k. getD-replicate 128 i 1 0 (omega (arith, R .housed .issuer)));
-      subjects = fresh-none l (o .house .subject) (replicate 128 1) (λ i k. getD-replicate 128 i 1 0 (omega (arith, R .housed .subject)));
+      issuers = fresh-none l (o .house .issuer) (replicate 128 1);
+      subjects = fresh-none l (o .house .subject) (o .visible);
       pair = length-replicate {A = ℕ} 2 0;
-      sized = (length-replicate {A = ℕ} 128 1, length-replicate {A = ℕ} 128 1);
+      sized = (length-replicate {A = ℕ} 128 1, z);
     }
 
 -- one of the sets was looked through
-module _ (S : Pool) {o : Preparation} {seen issuer subject : List ℕ} (h : Fresh (credentials S) o seen issuer subject) {k : ℕ} {F : List ℕ}
-    (e : k ≡ S .count) (l : length F ≡ 128) where
-  pub fresh-issuer : UnshownIn (credentials S) (o .house .issuer) F → Fresh (credentials S) o (set seen 0 k) F subject
+module _ (S : Pool) {o : Preparation} {seen issuer subject : List ℕ} (h : Fresh (credentials S) o seen issuer subject) {F : List ℕ}
+    (l : length F ≡ 128) where
+  pub fresh-issuer : UnshownIn (credentials S) (o .house .issuer) (replicate 128 1) F → Fresh (credentials S) o (set seen 0 (S .count)) F subject
   fresh-issuer U =
       record {
-        issuers = subst (λ (j : ℕ). FreshIn (credentials S) (o .house .issuer) j F) (sym (getD-set-same seen 0 k 0 (omega (arith, h .pair)) ∙ e))
-            (fresh-all S (o .house .issuer) U);
-        subjects = subst (λ (j : ℕ). FreshIn (credentials S) (o .house .subject) j subject) (sym (getD-set-other seen 0 1 k 0 (λ z. omega (arith, z))))
-            (h .subjects);
-        pair = length-set seen 0 k ∙ h .pair;
+        issuers = subst (λ (j : ℕ). FreshIn (credentials S) (o .house .issuer) (replicate 128 1) j F)
+            (sym (getD-set-same seen 0 (S .count) 0 (omega (arith, h .pair)))) (fresh-all S (o .house .issuer) U);
+        subjects = subst (λ (j : ℕ). FreshIn (credentials S) (o .house .subject) (o .visible) j subject)
+            (sym (getD-set-other seen 0 1 (S .count) 0 (λ z. omega (arith, z)))) (h .subjects);
+        pair = length-set seen 0 (S .count) ∙ h .pair;
         sized = (l, h .sized .1);
       }
 
-  pub fresh-subject : UnshownIn (credentials S) (o .house .subject) F → Fresh (credentials S) o (set seen 1 k) issuer F
+  pub fresh-subject : UnshownIn (credentials S) (o .house .subject) (o .visible) F → Fresh (credentials S) o (set seen 1 (S .count)) issuer F
   fresh-subject U =
       record {
-        issuers = subst (λ (j : ℕ). FreshIn (credentials S) (o .house .issuer) j issuer) (sym (getD-set-other seen 1 0 k 0 (λ z. omega (arith, z))))
-            (h .issuers);
-        subjects = subst (λ (j : ℕ). FreshIn (credentials S) (o .house .subject) j F) (sym (getD-set-same seen 1 k 0 (omega (arith, h .pair)) ∙ e))
-            (fresh-all S (o .house .subject) U);
-        pair = length-set seen 1 k ∙ h .pair;
+        issuers = subst (λ (j : ℕ). FreshIn (credentials S) (o .house .issuer) (replicate 128 1) j issuer)
+            (sym (getD-set-other seen 1 0 (S .count) 0 (λ z. omega (arith, z)))) (h .issuers);
+        subjects = subst (λ (j : ℕ). FreshIn (credentials S) (o .house .subject) (o .visible) j F)
+            (sym (getD-set-same seen 1 (S .count) 0 (omega (arith, h .pair)))) (fresh-all S (o .house .subject) U);
+        pair = length-set seen 1 (S .count) ∙ h .pair;
         sized = (h .sized .0, l);
       }

@@ -108,36 +108,31 @@ part-is P s d flags S Q R small l q none h k =
 
 -- What is needed
 
-module _ (S Q : Pool) (L : List Credential) (f e : Expression) (h : credentials Q ≡ credentials S ++ L) where
-  -- of the whole pool
-  sends-whole : {k : Command} {r : Outgoing} → Sends (needed (firstOf Q (S .count)) f e (restOf Q (S .count))) k r → Sends (needed (credentials S) f e L) k r
-  sends-whole s = let p = behind-parts S Q L h in sends-as (ap₂ (λ (a b : List Credential). needed a f e b) (p .0) (p .1)) s
+-- of a pool that has the credentials of another one first
+pub sends-whole : (S Q : Pool) (L : List Credential) (f e : Expression) → credentials Q ≡ credentials S ++ L → {k : Command} {r : Outgoing}
+    → Sends (needed (firstOf Q (S .count)) f e (restOf Q (S .count))) k r → Sends (needed (credentials S) f e L) k r
+sends-whole S Q L f e h s = let p = behind-parts S Q L h in sends-as (ap₂ (λ (a b : List Credential). needed a f e b) (p .0) (p .1)) s
 
-  module _ {R : Pool} {t : ℕ} {flags : List ℕ} {b : Bool} (closed : ClosedFor Q f flags) (part : PartOf Q (S .count) flags R t)
-      (be : b ≡ from? (credentials R) f e) where
-    heads : Sufficient f (firstOf Q (S .count) ++ restOf Q (S .count)) (Flagged Q flags)
-    heads = subst (λ (l : List Credential). Sufficient f l (Flagged Q flags)) (first-rest Q (S .count) (behind-count S Q L h)) (closed-column Q f flags closed)
+module _ (Q : Pool) (s : ℕ) (f e : Expression) (l : s ≤ Q .count) {R : Pool} {t : ℕ} {flags : List ℕ} {b : Bool} (closed : ClosedFor Q f flags)
+    (part : PartOf Q s flags R t) (be : b ≡ from? (credentials R) f e) where
+  heads : Sufficient f (firstOf Q s ++ restOf Q s) (Flagged Q flags)
+  heads = subst (λ (l : List Credential). Sufficient f l (Flagged Q flags)) (first-rest Q s l) (closed-column Q f flags closed)
 
-    -- the edge holds over the whole pool as over the part
-    as-part : from? (firstOf Q (S .count) ++ restOf Q (S .count)) f e ≡ b
-    as-part =
-        from-relevant f e heads (reduced-append (part .first) (part .rest))
-        ∙ ap (λ (l : List Credential). from? l f e) (sym (first-rest R t (part .within))) ∙ sym be
+  -- the edge holds over the whole pool as over the part
+  as-part : from? (firstOf Q s ++ restOf Q s) f e ≡ b
+  as-part =
+      from-relevant f e heads (reduced-append (part .first) (part .rest))
+      ∙ ap (λ (l : List Credential). from? l f e) (sym (first-rest R t (part .within))) ∙ sym be
 
-    -- of the part that can matter, where it is enough
-    pub sends-part : {q : List ℕ} (k : Command) → b ≡ true → chosen R q ≡ needed (firstOf R t) f e (restOf R t)
-        → Sends (needed (credentials S) f e L) k (record { pool = R; on = q; command = k })
-    sends-part k is z =
-        sends-whole (sends-as (needed-relevant (firstOf Q (S .count)) (firstOf R t) f e (part .first) (restOf Q (S .count)) (restOf R t) heads
-        (as-part ∙ is) (part .rest)) (record { shows = z; command = refl; few = part .few }))
+  -- of the part that can matter, where it is enough
+  pub sends-part : {q : List ℕ} (k : Command) → b ≡ true → chosen R q ≡ needed (firstOf R t) f e (restOf R t)
+      → Sends (needed (firstOf Q s) f e (restOf Q s)) k (record { pool = R; on = q; command = k })
+  sends-part k is z =
+      sends-as (needed-relevant (firstOf Q s) (firstOf R t) f e (part .first) (restOf Q s) (restOf R t) heads (as-part ∙ is) (part .rest))
+      (record { shows = z; command = refl; few = part .few })
 
-    -- where it is not, all are needed
-    pub sends-all : {q : List ℕ} (k : Command) → b ≡ false → Q .count ≤ 128 → WithRest (Q .count) (S .count) (replicate 128 0) q
-        → Sends (needed (credentials S) f e L) k (record { pool = Q; on = q; command = k })
-    sends-all {q} k is small w =
-        sends-whole (record {
-          shows = rest-alone Q q (S .count) (behind-count S Q L h) w
-              ∙ sym (needed-all (firstOf Q (S .count)) f e (restOf Q (S .count)) (as-part ∙ is));
-          command = refl;
-          few = small;
-        })
+  -- where it is not, all are needed
+  pub sends-all : {q : List ℕ} (k : Command) → b ≡ false → Q .count ≤ 128 → WithRest (Q .count) s (replicate 128 0) q
+      → Sends (needed (firstOf Q s) f e (restOf Q s)) k (record { pool = Q; on = q; command = k })
+  sends-all {q} k is small w =
+      record { shows = rest-alone Q q s l w ∙ sym (needed-all (firstOf Q s) f e (restOf Q s) (as-part ∙ is)); command = refl; few = small }

@@ -1,9 +1,10 @@
 -- A move as it is sent, by its parts: credentials, then a command (document 01, "The reply"). Assumes nothing.
 use Prim.Native.Nat.{ℕ, _≤_}
 use mathlib.Core.Path.{_≡_}
-use mathlib.Core.Bool.{cond}
+use mathlib.Core.Bool.{Bool, cond}
 use mathlib.Core.List.{List, [], _∷_}
 use lib.Dec.{eqb}
+use lib.ListN.{replicate}
 use Rattle.expression.specs.declared.Credential.{Credential}
 use Rattle.expression.specs.declared.Expression.{Expression}
 use Rattle.expression.specs.declared.Expression.the-variants as E
@@ -16,6 +17,7 @@ use Rattle.message.specs.declared.Command.{Command}
 use Rattle.message.specs.declared.Command.the-variants.{Bring, Join}
 use Rattle.moves.specs.declared.Candidate.{Candidate}
 use Rattle.moves.specs.declared.Outgoing.{Outgoing}
+use Rattle.moves.specs.declared.Preparation.{Preparation}
 use Rattle.moves.specs.Initial.{initialState}
 use Rattle.moves.specs.Candidates.{childNumber, childStands}
 use Rattle.sending.specs.laws.Unshown.{unshownOf}
@@ -51,3 +53,7 @@ directIn shown own (E.Goal r) = []
 -- "from the own set for that side"
 unfoldable pub sideSetOf : Public → ℕ → Node → List Credential
 sideSetOf T side n = cond (eqb (n .verifier) side) (T .issuerStored) (T .subjectStored)
+
+-- the same by the columns of our tables
+unfoldable pub sideChosen : Preparation → Bool → List Credential
+sideChosen o ours = cond ours (chosen (o .house .issuer) (replicate 128 1)) (chosen (o .house .subject) (o .visible))

@@ -1,7 +1,7 @@
 -- The credentials and the command of a move, found part by part. Assumes nothing.
 use Prim.Native.Nat.{ℕ, _≤_, _<_}
 use native.Mathlib.Omega.{arith}
-use mathlib.Core.Path.{_≡_, refl, sym, _∙_, ap}
+use mathlib.Core.Path.{_≡_, refl, sym, _∙_, ap, ap₂}
 use mathlib.Core.Bool.{Bool, true, false, not, cond}
 use mathlib.Core.List.{List, [], _∷_, _++_}
 use borrow.Author.Tests.{eq-eqb, ne-eqb, lt-ltb, le-ltb}
@@ -39,7 +39,7 @@ use Rattle.moves.specs.Candidates.{childNumber}
 use Rattle.moves.specs.laws.Own.{Prepared}
 use Rattle.sending.specs.laws.Unshown.{unshownOf}
 use Rattle.sending.specs.laws.Picked.{all-on}
-use Rattle.sending.specs.laws.Sent.{Sends, commandFor, directIn, sideSetOf}
+use Rattle.sending.specs.laws.Sent.{Sends, commandFor, directIn, sideSetOf, sideChosen}
 
 pub sends-as : {cs ds : List Credential} {k : Command} {r : Outgoing} → cs ≡ ds → Sends cs k r → Sends ds k r
 sends-as h s = record { shows = s .shows ∙ h; command = s .command; few = s .few }
@@ -90,25 +90,17 @@ module _ (shown : List Credential) (own : ℕ) (f : Expression) {k : Command} {r
 
 -- The needed ones
 
-set-issuer : (H : House) (side : ℕ) (x : Node) → x .verifier ≡ side → credentials (H .issuer) ≡ sideSetOf (publicOf (tablesOf H)) side x
+set-side : (H : House) (b : Bool) (x : Node) (side : ℕ) → b ≡ eqb (x .verifier) side
+    → cond b (credentials (H .issuer)) (publicOf (tablesOf H) .subjectStored) ≡ sideSetOf (publicOf (tablesOf H)) side x
 unfolding publicOf tablesOf sideSetOf
-set-issuer H side x h = ap (λ (b : Bool). cond b (credentials (H .issuer)) (publicOf (tablesOf H) .subjectStored)) (sym (eq-eqb (x .verifier) side h))
+set-side H b x side h = ap (λ (t : Bool). cond t (credentials (H .issuer)) (publicOf (tablesOf H) .subjectStored)) h
 
-set-subject : (T : Public) (side : ℕ) (x : Node) → (x .verifier ≡ side → ⊥) → T .subjectStored ≡ sideSetOf T side x
-unfolding sideSetOf
-set-subject T side x h = ap (λ (b : Bool). cond b (T .issuerStored) (T .subjectStored)) (sym (ne-eqb (x .verifier) side h))
-
-module _ (o : Preparation) (p : Prepared o) (side : ℕ) (x : Node) (shown : List Credential) (f e : Expression) {k : Command} {r : Outgoing} where
-  set-needed : (cs ds : List Credential) → cs ≡ ds → Sends (needed shown f e (unshownOf shown cs)) k r → Sends (needed shown f e (unshownOf shown ds)) k r
-  set-needed cs ds h s = sends-as (ap (λ (l : List Credential). needed shown f e (unshownOf shown l)) h) s
-
-  pub needed-issuer : x .verifier ≡ side → Sends (needed shown f e (unshownOf shown (chosen (o .house .issuer) (replicate 128 1)))) k r
-      → Sends (needed shown f e (unshownOf shown (sideSetOf (publicOf (tablesOf (o .house))) side x))) k r
-  needed-issuer h s = set-needed _ _ (all-on (o .house .issuer) (omega (arith, p .housed .issuer)) ∙ set-issuer (o .house) side x h) s
-
-  pub needed-subject : (x .verifier ≡ side → ⊥) → Sends (needed shown f e (unshownOf shown (chosen (o .house .subject) (o .visible)))) k r
-      → Sends (needed shown f e (unshownOf shown (sideSetOf (publicOf (tablesOf (o .house))) side x))) k r
-  needed-subject h s = set-needed _ _ (p .visible ∙ set-subject (publicOf (tablesOf (o .house))) side x h) s
+-- our set for our side of a node
+pub side-chosen : (o : Preparation) → Prepared o → (b : Bool) (side : ℕ) (x : Node) → b ≡ eqb (x .verifier) side
+    → sideChosen o b ≡ sideSetOf (publicOf (tablesOf (o .house))) side x
+unfolding sideChosen
+side-chosen o p b side x h =
+    ap₂ (λ (i s : List Credential). cond b i s) (all-on (o .house .issuer) (omega (arith, p .housed .issuer))) (p .visible) ∙ set-side (o .house) b x side h
 
 -- The command of an edge
 

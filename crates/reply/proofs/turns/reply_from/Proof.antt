@@ -1,4 +1,6 @@
 use native.Mathlib.Omega.{arith}
+use mathlib.Core.Path.{_≡_}
+use lib.ListN.{length}
 use borrow.Author.Needs.{needs}
 use Rattle.tables.specs.laws.Tables.{tablesOf}
 use Rattle.negotiation.specs.laws.State.{stateOf}
@@ -24,20 +26,23 @@ Inv-loop own from s₀ n₀ at₀ left₀ passed₀ waiting₀ last₀ earlier�
 abbrev μ-loop : tie.MeasureT-loop
 μ-loop own from s₀ n₀ at₀ left₀ passed₀ waiting₀ last₀ earlier₀ reach₀ seen₀ issuer₀ subject₀ s n at left passed waiting last earlier reach seen issuer subject = left
 
+visible-length : (s : tie.Start Inv-loop μ-loop) → length (s .args .own .visible) ≡ 128
+visible-length s = search (needs, s .good)
+
 loop-holds : tie.Need-loop-holds Inv-loop μ-loop
 loop-holds c =
-    let start = c .before .before in (
+    let start = c .before .before .before in (
       writing-start _ _ _ _ (start .pre .1) (start .pre .2) (start .pre .3),
       exhausted-none _ _,
       waits-start _ _ _ _ (start .pre .1),
-      recalls-none _ _ (c .no-reach .ensures),
-      fresh-start _ _ (start .pre .0),
+      recalls-none _ _ (c .before .no-reach .ensures),
+      fresh-start _ _ (visible-length start),
     )
 
 node-states-requires : tie.Need-node-states-requires Inv-loop μ-loop
 node-states-requires c κs =
     let loop = c .before in
-    let start = loop .before .before .before in
+    let start = loop .before .before .before .before in
     let g = going-ready (tablesOf (start .args .own .house)) (loop .loop .n) (loop .loop .inv .0 .going) in (g .1, g .2, g .3, g .4)
 
 same-length : tie.Need-same-length Inv-loop μ-loop
@@ -50,7 +55,7 @@ returns c =
     let told = c .before .before .before .before in
     let inside = told .before in
     let loop = inside .before in
-    let start = loop .before .before .before in
+    let start = loop .before .before .before .before in
     writing-stops _ _ _ _ (loop .loop .n) (loop .loop .inv .0) (inside .loop-test .taken)
     (next-satisfied (tablesOf (start .args .own .house)) (loop .loop .n) (loop .loop .at) (told .node-states .ensures) (c .before .if1 .taken))
     (c .replying .result) (c .replying .ensures .1) (c .replying .ensures .2) (c .replying .ensures .3)
@@ -58,14 +63,14 @@ returns c =
 resting-requires : tie.Need-resting-requires Inv-loop μ-loop
 resting-requires c κs =
     let loop = c .before .before .before .before .before .before .before .before .before in
-    let start = loop .before .before .before in
+    let start = loop .before .before .before .before in
     going-ready (tablesOf (start .args .own .house)) (loop .loop .n) (loop .loop .inv .0 .going) .2
 
 next-choice-requires : tie.Need-next-choice-requires Inv-loop μ-loop
 next-choice-requires c κs =
     let told = c .before .before .before .before .before .before .before .before in
     let loop = told .before .before in
-    let start = loop .before .before .before in
+    let start = loop .before .before .before .before in
     let g = going-ready (tablesOf (start .args .own .house)) (loop .loop .n) (loop .loop .inv .0 .going) in (
       start .pre .0,
       loop .loop .inv .0 .going .sizes,
@@ -93,7 +98,7 @@ returns-2 c =
     let told = unmet .before .before .before in
     let inside = told .before in
     let loop = inside .before in
-    let start = loop .before .before .before in
+    let start = loop .before .before .before .before in
     writing-stops _ _ _ _ (loop .loop .n) (loop .loop .inv .0) (inside .loop-test .taken)
     (next-none (tablesOf (start .args .own .house)) (loop .loop .n) (loop .loop .at) (told .node-states .ensures) (loop .loop .inv .0 .going)
     (unmet .if1 .left) (next .next-choice .result .found) (next .next-choice .ensures .0) (nothing .is-nothing .ensures) (c .before .if2 .taken))
@@ -105,7 +110,7 @@ outgoing-requires c κs =
     let nothing = some .before in
     let next = nothing .before .before in
     let loop = next .before .before .before .before .before .before .before .before .before .before .before in
-    let start = loop .before .before .before in
+    let start = loop .before .before .before .before in
     let found = next .next-choice .result .found in (
       start .pre .0,
       loop .loop .inv .0 .going .sizes,
@@ -135,7 +140,7 @@ returns-3 c =
     let told = unmet .before .before .before in
     let inside = told .before in
     let loop = inside .before in
-    let start = loop .before .before .before in
+    let start = loop .before .before .before .before in
     writing-stops _ _ _ _ (loop .loop .n) (loop .loop .inv .0) (inside .loop-test .taken)
     (next-full (tablesOf (start .args .own .house)) (loop .loop .n) (loop .loop .at) (told .node-states .ensures) (loop .loop .inv .0 .going)
     (unmet .if1 .left) (next .next-choice .result .found) (next .next-choice .ensures .0) (out .outgoing .result) (out .outgoing .ensures .0)
@@ -176,7 +181,7 @@ returns-4 c =
     let told = unmet .before .before .before in
     let inside = told .before in
     let loop = inside .before in
-    let start = loop .before .before .before in
+    let start = loop .before .before .before .before in
     writing-stops _ _ _ _ (loop .loop .n) (loop .loop .inv .0) (inside .loop-test .taken)
     (next-long (tablesOf (start .args .own .house)) (loop .loop .n) (loop .loop .at) (told .node-states .ensures) (loop .loop .inv .0 .going)
     (unmet .if1 .left) (next .next-choice .result .found) (next .next-choice .ensures .0) (out .outgoing .result) (out .outgoing .ensures .0)
@@ -195,7 +200,7 @@ carry-requires c κs =
     let told = unmet .before .before .before in
     let inside = told .before in
     let loop = inside .before in
-    let start = loop .before .before .before in
+    let start = loop .before .before .before .before in
     let w = writing-room _ _ _ _ (loop .loop .n) (loop .loop .inv .0) (inside .loop-test .taken)
     (next-goes (tablesOf (start .args .own .house)) (loop .loop .n) (loop .loop .at) (told .node-states .ensures) (loop .loop .inv .0 .going)
     (unmet .if1 .left) (next .next-choice .result .found) (next .next-choice .ensures .0) (out .outgoing .result) (out .outgoing .ensures .0)
@@ -238,7 +243,7 @@ loop-again c =
     let told = unmet .before .before .before in
     let inside = told .before in
     let loop = inside .before in
-    let start = loop .before .before .before in
+    let start = loop .before .before .before .before in
     let g = loop .loop .inv .0 .going in (
       writing-next _ _ _ _ (loop .loop .n) (loop .loop .inv .0) (inside .loop-test .taken)
           (next-goes (tablesOf (start .args .own .house)) (loop .loop .n) (loop .loop .at) (told .node-states .ensures) (loop .loop .inv .0 .going)

@@ -1,9 +1,8 @@
 use Prim.Native.Nat.{_-_}
 use native.Mathlib.Omega.{arith}
-use mathlib.Core.Path.{refl}
 use Rattle.rt0.specs.laws.Pool.{poolOf}
 use Rattle.needed.specs.laws.Needed.{restOf}
-use Rattle.sending.specs.laws.Fresh.{Refreshed, refreshed-start, refreshed-next, fresh-within, fresh-now, fresh-after}
+use Rattle.sending.specs.laws.Fresh.{Refreshed, refreshed-start, refreshed-next, fresh-now, fresh-after}
 use Rattle.sending.proofs.unshown.refresh.Statement.{statement}
 use Rattle.sending.proofs.unshown.refresh.Tie as tie
 
@@ -15,10 +14,10 @@ abbrev μ-loop : tie.MeasureT-loop
 μ-loop m own bodies terms a b heads kinds numbers unshown₀ i₀ unshown i = m - i
 
 returns : tie.Need-returns Inv-loop μ-loop
-returns c = (refl, (c .before .pre .2, fresh-now _ _ (c .before .pre .3) (c .if1 .taken)))
+returns c = (c .before .pre .3, λ on h. fresh-now _ _ h (c .if1 .taken))
 
 loop-holds : tie.Need-loop-holds Inv-loop μ-loop
-loop-holds c = refreshed-start (c .before .pre .2)
+loop-holds c = refreshed-start (c .before .pre .3)
 
 credential-at-requires : tie.Need-credential-at-requires Inv-loop μ-loop
 credential-at-requires c κs = omega (arith, c .loop-test .taken, c .before .before .before .pre .0)
@@ -30,7 +29,7 @@ element-copy-out-flag-after c =
 
 flag-after-requires : tie.Need-flag-after-requires Inv-loop μ-loop
 flag-after-requires c κs =
-    let s = c .before .before .before .before .before in (fresh-within _ _ (s .pre .3), s .pre .1)
+    let s = c .before .before .before .before .before in (s .pre .1, s .pre .2)
 
 element-write-unshown : tie.Need-element-write-unshown Inv-loop μ-loop
 element-write-unshown c =
@@ -54,9 +53,7 @@ loop-again c =
     (c .flag-after .ensures)
 
 returns-2 : tie.Need-returns-2 Inv-loop μ-loop
-returns-2 c =
-    let s = c .before .before .before in
-    (refl, (c .before .loop .inv .sized, fresh-after _ _ (s .pre .3) (c .before .loop .inv) (c .loop-test .left)))
+returns-2 c = (c .before .loop .inv .sized, λ on h. fresh-after _ _ h (c .before .loop .inv) (c .loop-test .left))
 
 pub refresh-spec : {M : Type 1} → statement M
 refresh-spec =
