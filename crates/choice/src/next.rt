@@ -3,7 +3,7 @@ use crate::Turn;
 use crate::processing::choice_at;
 use candidates::LinkReach;
 use candidates::reach_at;
-use graph::node_of;
+use graph::node_at;
 use moves::Choice;
 use moves::Found;
 use moves::Preparation;
@@ -94,7 +94,14 @@ pub fn next_choice(
     while i < count {
         if is_unprocessed(h.side, nodes.verifier[i], nodes.state[i]) {
             let node = i as u8;
-            let x = node_of(nodes, node);
+            let x = node_at(
+                &nodes.kind,
+                &nodes.number,
+                &nodes.subject,
+                &nodes.verifier,
+                &nodes.state,
+                i,
+            );
             let visit = reach_at(own, h.side, x, reach);
             reach = visit;
             let choice = choice_at(own, n, states, &reach.found, node, x, passed);

@@ -56,8 +56,9 @@ pub fn size_of_outgoing(out: Outgoing) -> usize
     ensures few { λ r. ⌜ r ≤ 2968 ⌝ }
 {
     let pool = out.pool;
+    let on = out.on;
     let c = out.command;
-    CREDENTIAL_BYTES * count_on(pool, &out.on) + size_of(c)
+    CREDENTIAL_BYTES * count_on(pool, &on) + size_of(c)
 }
 
 // Whether a command has room among so many nodes, edges and credentials shown.
@@ -82,8 +83,9 @@ pub fn room_for(n: Negotiation, out: Outgoing) -> bool
     ensures { λ r. ⌜ r ≡ hasRoomFor (n .header .side) (stateOf n) (commandsOf out) ⌝ }
 {
     let pool = out.pool;
+    let on = out.on;
     let c = out.command;
-    let shown = n.shown.count + count_on(pool, &out.on);
+    let shown = n.shown.count + count_on(pool, &on);
     if Negotiation::SHOWN < shown {
         return false;
     }

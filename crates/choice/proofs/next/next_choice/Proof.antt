@@ -46,35 +46,36 @@ cast-node c =
     let c4 = c .before .before .before .before in
     let s = c4 .before .before .before .before .before .before .before in omega (arith, c4 .loop-test .taken, within-few _ (s .pre .1) .0)
 
-node-of-requires : tie.Need-node-of-requires Inv-loop μ-loop
-node-of-requires c κs =
-    let c4 = c .before .before .before .before in
-    let s = c4 .before .before .before .before .before .before .before in (c4 .loop-test .taken, within-few _ (s .pre .1) .0)
+node-at-requires : tie.Need-node-at-requires Inv-loop μ-loop
+node-at-requires c κs =
+    let inside = c .before .before .before .before .before .before .before .before .before .before in
+    let s = inside .before .before .before .before .before .before .before in omega (arith, inside .loop-test .taken, within-few _ (s .pre .1) .0)
 
 reach-at-requires : tie.Need-reach-at-requires Inv-loop μ-loop
 reach-at-requires c κs =
-    let l = c .before .before .before .before .before .before in
+    let l = c .before .before .before .before .before .before .before .before .before .before .before .before in
     let s = l .before .before .before .before .before .before in (s .pre .0, l .loop .inv .2)
 
 choice-at-requires : tie.Need-choice-at-requires Inv-loop μ-loop
 choice-at-requires c κs =
     let reached = c .before .before in
     let node = reached .before in
-    let c5 = node .before .before .before .before .before in
-    let s = c5 .before .before .before .before .before .before .before in
-    (ready-of (s .pre .0) (s .pre .1) (s .pre .4) (s .pre .5), c5 .loop-test .taken, s .pre .6, node .node-of .ensures, reached .reach-at .ensures .1)
+    let inside = node .before .before .before .before .before .before .before .before .before .before .before in
+    let s = inside .before .before .before .before .before .before .before in
+    let taken = inside .loop-test .taken in
+    (ready-of (s .pre .0) (s .pre .1) (s .pre .4) (s .pre .5), taken, s .pre .6, node .node-at .ensures _ taken, reached .reach-at .ensures .1)
 
 returns : tie.Need-returns Inv-loop μ-loop
 unfolding endIn stateOf
 returns c =
     let reached = c .before .before .before .before .before in
     let node = reached .before in
-    let c8 = node .before .before .before .before .before in
-    let s = c8 .before .before .before .before .before .before .before in (
-      found-here (endIn (tablesOf (s .args .own .house)) (stateOf (s .args .n))) (c8 .before .loop .inv .0) (node .node-of .ensures)
+    let inside = node .before .before .before .before .before .before .before .before .before .before .before in
+    let s = inside .before .before .before .before .before .before .before in (
+      found-here (endIn (tablesOf (s .args .own .house)) (stateOf (s .args .n))) (inside .before .loop .inv .0) (node .node-at .ensures _ (inside .loop-test .taken))
           (c .before .before .choice-at .ensures) (c .before .is-nothing .ensures) (c .if2 .taken)
-          (omega (arith, nodes-length (s .args .n .nodes), c8 .loop-test .taken)) refl,
-      (c8 .loop-test .taken, (c8 .before .loop .inv .0, reached .reach-at .ensures .0)),
+          (omega (arith, nodes-length (s .args .n .nodes), inside .loop-test .taken)) refl,
+      (inside .loop-test .taken, (inside .before .loop .inv .0, reached .reach-at .ensures .0)),
     )
 
 add-i : tie.Need-add-i Inv-loop μ-loop
@@ -91,13 +92,13 @@ loop-again c =
     let c4 = c .before .before .before .before in
     let s = c4 .before .before .before .before .before .before .before in (
       ⊎-elim
-          (λ w. nothing-next (endIn (tablesOf (s .args .own .house)) (stateOf (s .args .n))) (c4 .before .loop .inv .0) (w .1 .ensures) (w .5 .ensures)
-          (w .6 .ensures) (w .7 .left))
+          (λ w. nothing-next (endIn (tablesOf (s .args .own .house)) (stateOf (s .args .n))) (c4 .before .loop .inv .0)
+          (w .7 .ensures _ (c4 .loop-test .taken)) (w .11 .ensures) (w .12 .ensures) (w .13 .left))
           (λ w. nothing-processed (tablesOf (s .args .own .house)) (s .args .n) (c4 .before .loop .inv .0) (c4 .loop-test .taken)
           (c .before .is-unprocessed .ensures) (w .0 .left))
           (c .if1 .came),
       omega (arith, c4 .loop-test .taken),
-      ⊎-elim (λ w. subst (λ (l : LinkReach). Recalls (s .args .own) l) (sym (w .8)) (w .2 .ensures .0))
+      ⊎-elim (λ w. subst (λ (l : LinkReach). Recalls (s .args .own) l) (sym (w .14)) (w .8 .ensures .0))
           (λ w. subst (λ (l : LinkReach). Recalls (s .args .own) l) (sym (w .1)) (c4 .before .loop .inv .2))
           (c .if1 .came),
     )
@@ -115,4 +116,4 @@ pub next-choice-spec : {M : Type 1} → statement M
 next-choice-spec =
     tie.close
     (tie.spec Inv-loop μ-loop begins-at-requires loop-holds element-copy-out-is-unprocessed element-copy-out-is-unprocessed-2 (λ c κs. search needs)
-    cast-node node-of-requires reach-at-requires choice-at-requires (λ c κs. search needs) returns add-i loop-less loop-again returns-2)
+    cast-node node-at-requires reach-at-requires choice-at-requires (λ c κs. search needs) returns add-i loop-less loop-again returns-2)

@@ -11,13 +11,13 @@ add-shown c = omega (arith, within-few _ (c .before .before .before .before .bef
 returns : tie.Need-returns
 returns c =
     let c6 = c .before .before .before .before .before .before in
-    room-none (c6 .args .n) (c6 .args .t2) (c6 .pre .0) (c .before .before .count-on .ensures .0) (c .if1 .taken)
+    room-none (c6 .args .n) (c6 .args .out) (c6 .pre .0) (c .before .before .count-on .ensures .0) (c .if1 .taken)
 
 returns-2 : tie.Need-returns-2
 returns-2 c =
     let c3 = c .before .before .before in
     let c7 = c3 .before .before .before .before in
-    room-left (c7 .args .n) (c7 .args .t2) (c7 .pre .0) (c3 .count-on .ensures .0) (c .before .if1 .left) (c .has-room .ensures)
+    room-left (c7 .args .n) (c7 .args .out) (c7 .pre .0) (c3 .count-on .ensures .0) (c .before .if1 .left) (c .has-room .ensures)
 
 pub room-for-spec : {M : Type 1} → statement M
 room-for-spec =

@@ -5,13 +5,13 @@ use Rattle.reply.proofs.carry.size_of_outgoing.Statement.{statement}
 use Rattle.reply.proofs.carry.size_of_outgoing.Tie as tie
 
 add-result : tie.Need-add-result
-add-result c = omega (arith, size-few (c .before .before .before .before .before .args .t1 .command) (c .before .count-on .ensures .1) (c .size-of .ensures))
+add-result c = omega (arith, size-few (c .before .before .before .before .before .args .out .command) (c .before .count-on .ensures .1) (c .size-of .ensures))
 
 returns : tie.Need-returns
 returns c =
     let c5 = c .before .before .before .before .before in (
-      size-outgoing (c5 .args .t1) (c .before .count-on .ensures .0) (c .size-of .ensures),
-      size-few (c5 .args .t1 .command)
+      size-outgoing (c5 .args .out) (c .before .count-on .ensures .0) (c .size-of .ensures),
+      size-few (c5 .args .out .command)
           (c .before .count-on .ensures .1) (c .size-of .ensures),
     )
 
