@@ -4,7 +4,7 @@
 
 use crate::calls::Call;
 use crate::count::{Counted, Group, Pick};
-use crate::found::worst_take;
+use crate::found::{earlier_take, worst_take};
 use reference::message::large::{all_again, long_messages, onto_full};
 use reference::message::shapes::{marked_takes, size_runs};
 use reference::message::take::{self, Lent, SCRATCH_BYTES};
@@ -127,7 +127,7 @@ fn is_full(run: &Run) -> bool {
 /// Case (i), messages at the sizes, long ones, and what a search found.
 fn named() -> Vec<Run> {
     let sized = size_runs().into_iter().filter(|run| run.answer == 0).collect();
-    [marked_takes(true).0, sized, long_messages(), vec![worst_take()]].concat()
+    [marked_takes(true).0, sized, long_messages(), vec![earlier_take(), worst_take()]].concat()
 }
 
 pub fn table() {

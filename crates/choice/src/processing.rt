@@ -45,17 +45,6 @@ ghost use Rattle.choice.specs.laws.Asked.{restEdges, Asked};
 ghost use Rattle.choice.specs.laws.Exhausted.{Exhausted};
 ghost use Rattle.numbers.specs.Sizes.{MOST-NODES, MOST-EDGES};
 
-// A linked target by the rules that both sides share, whatever our tables.
-fn linked(n: Negotiation, states: NodeStates, i: u8, x: Node, a: Role, r: u16) -> Choice
-    requires { ⌜ (n .nodes .count ≤ MOST-NODES) × (n .edges .count ≤ MOST-EDGES) × EdgesFormed (nodesOf (n .nodes)) (edgesOf (n .edges))
-        × StateColumns (nodesOf (n .nodes)) (edgesOf (n .edges)) (states .satisfied) (states .failed) ⌝ }
-    ensures { λ c. ⌜ ((T : Tables) → c ≡ chosenIn (isDone (nodesOf (n .nodes)) (edgesOf (n .edges)) i) (linkRules (endIn T (stateOf n)) i x a r)) ⌝ }
-{
-    let nodes = n.nodes;
-    let edges = n.edges;
-    link_rules(nodes, edges, states, i, x, a, r)
-}
-
 // 5.3: a linked target, by the class of its first name.
 fn verifier_link(
     own: Preparation,
@@ -73,15 +62,15 @@ fn verifier_link(
 {
     let house = own.house;
     let names = house.names;
+    let nodes = n.nodes;
+    let edges = n.edges;
     let k = class_of(names.count, &names.name, &names.class, a.name);
     if k == ISSUER_DEF {
-        return linked(n, states, i, x, a, r);
+        return link_rules(nodes, edges, states, i, x, a, r);
     }
     if k != ISSUER_ALL {
         return Choice::Mark;
     }
-    let nodes = n.nodes;
-    let edges = n.edges;
     or_else(all_edges(own, found, nodes, edges, i, x, r), Choice::Mark)
 }
 
@@ -192,7 +181,7 @@ fn opponent_rules(
     match e {
         Expression::Entity(_) => Choice::Mark,
         Expression::Role(a) => opponent_role(own, n, states, i, x, a, passed),
-        Expression::Linked(a, r) => linked(n, states, i, x, a, r),
+        Expression::Linked(a, r) => link_rules(nodes, edges, states, i, x, a, r),
         Expression::Intersection(p) => or_else(part_edges(nodes, edges, i, x, p), Choice::Mark),
         Expression::Goal(r) => or_else(solutions(own, nodes, edges, i, x, r), Choice::Mark),
     }

@@ -196,20 +196,15 @@ pub fn sound(house: House, negotiation: Negotiation) -> bool
     ensures { λ b. ⌜ b ≡ soundOf (tablesOf house) (stateOf negotiation) ⌝ }
 {
     let h = negotiation.header;
-    if !header_sound(
-        house.own,
-        house.names.count,
-        &house.names.name,
-        &house.names.class,
-        h,
-    ) {
+    let names = house.names;
+    if !header_sound(house.own, names.count, &names.name, &names.class, h) {
         return false;
     }
     if negotiation.nodes.count == 0 {
         return empty_sound(h, negotiation.edges.count, negotiation.shown.count);
     }
     graph_sound(
-        house.names,
+        names,
         h,
         negotiation.nodes,
         negotiation.edges,

@@ -4,12 +4,13 @@ use class::Names;
 use class::Typing;
 use class::type_of;
 use graph::Edge;
+use graph::Edges;
 use graph::Node;
 use graph::find_node;
 use graph::form;
 use graph::has_edge;
 use graph::is_processed;
-use graph::node_of;
+use graph::node_at;
 use message::NewEdge;
 use negotiation::Header;
 use negotiation::Negotiation;
@@ -25,9 +26,13 @@ use numbers::PROCESSED;
 use numbers::UNJUSTIFIED;
 use word::wide;
 ghost use mathlib.Core.Path.{_≡_};
-ghost use Prim.Native.Nat.{_≤_, _<_};
+ghost use mathlib.Core.List.{List};
+ghost use Prim.Native.Nat.{ℕ, _≤_};
 ghost use Rattle.class.specs.laws.Names.{namesOf, Ascending};
+ghost use Rattle.graph.specs.laws.Graph.{nodesFrom, edgesOf};
+ghost use Rattle.negotiation.specs.State.{State};
 ghost use Rattle.negotiation.specs.laws.State.{stateOf};
+ghost use Rattle.legal.specs.laws.Edge.{JoinAt, BringAt};
 ghost use Rattle.legal.specs.Number.{formedAs, joinWrong, joinNumber, typeNumber, bringWrong, bringNumber};
 ghost use Rattle.numbers.specs.Sizes.{MOST-NAMES, MOST-NODES, MOST-EDGES};
 
@@ -38,16 +43,11 @@ fn formed_as(h: Header, kind: u8, p: Node, c: Node) -> bool
     form(kind, entity_of(h, p.verifier), p, c)
 }
 
-// An edge between nodes that may not be added by its form, or is there.
-fn join_wrong(n: Negotiation, e: Edge) -> bool
-    requires { ⌜ (e .parent < n .nodes .count) × (e .child < n .nodes .count) × (n .nodes .count ≤ MOST-NODES) × (n .edges .count ≤ MOST-EDGES) ⌝ }
-    ensures { λ r. ⌜ r ≡ joinWrong (stateOf n) e ⌝ }
+// Whether an edge from c to p may not be added by its form, or is there.
+fn join_wrong(h: Header, edges: Edges, p: Node, c: Node, e: Edge) -> bool
+    requires { ⌜ edges .count ≤ MOST-EDGES ⌝ }
+    ensures { λ r. ⌜ ((S : State) → JoinAt S h (edgesOf edges) p c e → r ≡ joinWrong S e) ⌝ }
 {
-    let h = n.header;
-    let nodes = n.nodes;
-    let edges = n.edges;
-    let p = node_of(nodes, e.parent);
-    let c = node_of(nodes, e.child);
     if !formed_as(h, e.kind, p, c) {
         return true;
     }
@@ -61,7 +61,9 @@ pub fn join_number(side: u8, n: Negotiation, e: Edge, justified: bool) -> u64
     requires { ⌜ (n .nodes .count ≤ MOST-NODES) × (n .edges .count ≤ MOST-EDGES) ⌝ }
     ensures { λ r. ⌜ r ≡ joinNumber side (stateOf n) e justified ⌝ }
 {
+    let h = n.header;
     let nodes = n.nodes;
+    let edges = n.edges;
     if nodes.count == 0 {
         return OPENING;
     }
@@ -71,16 +73,31 @@ pub fn join_number(side: u8, n: Negotiation, e: Edge, justified: bool) -> u64
     if nodes.count <= wide(e.child) {
         return ABSENT;
     }
-    if join_wrong(n, e) {
+    let p = node_at(
+        &nodes.kind,
+        &nodes.number,
+        &nodes.subject,
+        &nodes.verifier,
+        &nodes.state,
+        e.parent as usize,
+    );
+    let c = node_at(
+        &nodes.kind,
+        &nodes.number,
+        &nodes.subject,
+        &nodes.verifier,
+        &nodes.state,
+        e.child as usize,
+    );
+    if join_wrong(h, edges, p, c, e) {
         return PRESENT;
     }
     if !justified {
         return UNJUSTIFIED;
     }
-    if is_processed(side, node_of(nodes, e.parent)) {
+    if is_processed(side, p) {
         return PROCESSED;
     }
-    let edges = n.edges;
     if Negotiation::EDGES <= edges.count {
         return FULL;
     }
@@ -98,30 +115,28 @@ fn type_number(t: Typing) -> u64
     }
 }
 
-// A new child that its form does not allow, or that stands.
-fn bring_wrong(n: Negotiation, b: NewEdge) -> bool
-    requires { ⌜ (b .parent < n .nodes .count) × (n .nodes .count ≤ MOST-NODES) ⌝ }
-    ensures { λ r. ⌜ r ≡ bringWrong (stateOf n) b ⌝ }
+// Whether a new child of p is not allowed by its form, or stands, whatever the states of the nodes.
+fn bring_wrong<'a>(
+    h: Header,
+    n: usize,
+    kind: &'a [u8; 256],
+    number: &'a [u16; 1024],
+    subject: &'a [u16; 128],
+    verifier: &'a [u8; 128],
+    p: Node,
+    b: NewEdge,
+) -> bool
+    requires { ⌜ n ≤ MOST-NODES ⌝ }
+    ensures { λ r. ⌜ ((state : List ℕ) (S : State)
+        → BringAt S h (nodesFrom n (now (kind .entry)) (now (number .entry)) (now (subject .entry)) (now (verifier .entry)) state) p b
+        → r ≡ bringWrong S b) ⌝ }
 {
-    let h = n.header;
-    let nodes = n.nodes;
-    let p = node_of(nodes, b.parent);
     let c = child_of(p, b);
     if !formed_as(h, b.kind, p, c) {
         return true;
     }
     let y = b.expression;
-    find_node(
-        nodes.count,
-        &nodes.kind,
-        &nodes.number,
-        &nodes.subject,
-        &nodes.verifier,
-        y,
-        c.verifier,
-        b.subject,
-    )
-        != MOST_NODES
+    find_node(n, kind, number, subject, verifier, y, c.verifier, b.subject) != MOST_NODES
 }
 
 pub fn bring_number(names: Names, side: u8, n: Negotiation, b: NewEdge, justified: bool) -> u64
@@ -133,6 +148,7 @@ pub fn bring_number(names: Names, side: u8, n: Negotiation, b: NewEdge, justifie
     if k != 0 {
         return k;
     }
+    let h = n.header;
     let nodes = n.nodes;
     if nodes.count == 0 {
         return OPENING;
@@ -140,13 +156,30 @@ pub fn bring_number(names: Names, side: u8, n: Negotiation, b: NewEdge, justifie
     if nodes.count <= wide(b.parent) {
         return ABSENT;
     }
-    if bring_wrong(n, b) {
+    let parent = node_at(
+        &nodes.kind,
+        &nodes.number,
+        &nodes.subject,
+        &nodes.verifier,
+        &nodes.state,
+        b.parent as usize,
+    );
+    if bring_wrong(
+        h,
+        nodes.count,
+        &nodes.kind,
+        &nodes.number,
+        &nodes.subject,
+        &nodes.verifier,
+        parent,
+        b,
+    ) {
         return PRESENT;
     }
     if !justified {
         return UNJUSTIFIED;
     }
-    if is_processed(side, node_of(nodes, b.parent)) {
+    if is_processed(side, parent) {
         return PROCESSED;
     }
     let edges = n.edges;

@@ -15,28 +15,15 @@ returns-2 c =
     sound-empty _ _ (c4 .header-sound .ensures) (c3 .if1 .left) (c .before .if2 .taken) (c .empty-sound .ensures)
 
 graph-sound-requires : tie.Need-graph-sound-requires
-graph-sound-requires c κs = (
-  (c .before .before .before .before .before .before .before .before .before .pre .0 .names),
-  (c .before .before .before .before .before .before .before .before .before .pre .0 .ascending),
-  omega (arith, (c .before .if2 .left)),
-  within-few
-      (c .before .before .before .before .before .before .before .before .before .args .negotiation)
-      (c .before .before .before .before .before .before .before .before .before .pre .1) .0,
-  within-few
-      (c .before .before .before .before .before .before .before .before .before .args .negotiation)
-      (c .before .before .before .before .before .before .before .before .before .pre .1) .1,
-  omega (
-    arith,
-    within-few (c .before .before .before .before .before .before .before .before .before .args .negotiation)
-        (c .before .before .before .before .before .before .before .before .before .pre .1) .2,
-  ),
-)
+graph-sound-requires c κs =
+    let s = c .before .before .before .before .before .before .before .before .before in
+    let few = within-few (s .args .negotiation) (s .pre .1) in
+    (s .pre .0 .names, s .pre .0 .ascending, omega (arith, c .if2 .left), few .0, few .1, omega (arith, few .2))
 
 returns-3 : tie.Need-returns-3
 returns-3 c =
-    let c4 = c .before .before .before .before in
-    let c5 = c4 .before in
-    sound-graph _ _ (c5 .header-sound .ensures) (c4 .if1 .left) (c .before .before .if2 .left) (c .graph-sound .ensures)
+    let left = c .before .before .before in
+    sound-graph _ _ (left .before .header-sound .ensures) (left .if1 .left) (c .before .if2 .left) (c .graph-sound .ensures)
 
 pub sound-spec : {M : Type 1} → statement M
 sound-spec =

@@ -24,9 +24,7 @@ use Rattle.justification.specs.Justified.{monitors, monitored, monitoredIf, imp
 use Rattle.justification.specs.laws.Justified.{Says}
 use Rattle.message.specs.declared.NewEdge.{NewEdge}
 use Rattle.negotiation.specs.declared.Header.{Header}
-use Rattle.negotiation.specs.declared.Negotiation.{Negotiation}
 use Rattle.negotiation.specs.State.{State}
-use Rattle.negotiation.specs.laws.State.{stateOf}
 use Rattle.negotiation.specs.Ends.{entityOf}
 use Rattle.damage.specs.laws.Records.{found-none}
 use Rattle.applied.specs.Step.{childOf}
@@ -58,39 +56,53 @@ pub formed-is : (h : Header) (k : ℕ) (p c : Node) {v : ℕ} {r : Bool} → v �
 unfolding formedAs
 formed-is h k p c ve e = e ∙ ap (λ (w : ℕ). form k w p c) ve
 
-module _ (n : Negotiation) (e : Edge) (p c : Node) {f : Bool} (pe : p ≡ nodeIn (nodesOf (n .nodes)) (e .parent))
-    (ce : c ≡ nodeIn (nodesOf (n .nodes)) (e .child))
-    (fe : f ≡ formedAs (n .header) (e .kind) p c) where
-  by-join : (a b h : Bool) → a ≡ f → b ≡ eqb (e .parent) (e .child) → h ≡ hasEdge (edgesOf (n .edges)) e → (not a || (b || h)) ≡ joinWrong (stateOf n) e
-  unfolding joinWrong stateOf
-  by-join a b h x y z = λ i. not ((x ∙ fe ∙ (λ j. formedAs (n .header) (e .kind) (pe j) (ce j))) i) || (y i || z i)
+-- an edge of a state with this header and these edges joins these nodes
+pub record JoinAt (S : State) (h : Header) (E : List Edge) (p c : Node) (e : Edge) : Type 0 where
+  pub header : S .header ≡ h
+  pub edges : S .edges ≡ E
+  pub parent : p ≡ nodeIn (S .nodes) (e .parent)
+  pub child : c ≡ nodeIn (S .nodes) (e .child)
 
-  pub join-unformed : not f ≡ true → true ≡ joinWrong (stateOf n) e
-  join-unformed h = by-join false _ _ (sym (not-true f h)) refl refl
+module _ (S : State) (h : Header) (E : List Edge) (p c : Node) (e : Edge) {f : Bool} (fe : f ≡ formedAs h (e .kind) p c) (j : JoinAt S h E p c e) where
+  by-join : (a b d : Bool) → a ≡ f → b ≡ eqb (e .parent) (e .child) → d ≡ hasEdge E e → (not a || (b || d)) ≡ joinWrong S e
+  unfolding joinWrong
+  by-join a b d x y z = λ i.
+      not ((x ∙ fe ∙ (λ k. formedAs (sym (j .header) k) (e .kind) (j .parent k) (j .child k))) i)
+      || (y i || (z ∙ ap (λ (l : List Edge). hasEdge l e) (sym (j .edges))) i)
 
-  pub join-self : not f ≡ false → e .parent ≡ e .child → true ≡ joinWrong (stateOf n) e
-  join-self h s = by-join true true _ (sym (not-false f h)) (sym (eq-eqb (e .parent) (e .child) s)) refl
+  pub join-unformed : not f ≡ true → true ≡ joinWrong S e
+  join-unformed n = by-join false _ _ (sym (not-true f n)) refl refl
 
-  pub join-there : {r : Bool} → not f ≡ false → (e .parent ≡ e .child → ⊥) → r ≡ hasEdge (edgesOf (n .edges)) e → r ≡ joinWrong (stateOf n) e
-  join-there {r} h s q = by-join true false r (sym (not-false f h)) (sym (ne-eqb (e .parent) (e .child) s)) q
+  pub join-self : not f ≡ false → e .parent ≡ e .child → true ≡ joinWrong S e
+  join-self n s = by-join true true _ (sym (not-false f n)) (sym (eq-eqb (e .parent) (e .child) s)) refl
 
-module _ (n : Negotiation) (b : NewEdge) (p c : Node) {f : Bool} (pe : p ≡ nodeIn (nodesOf (n .nodes)) (b .parent)) (ce : c ≡ childOf p b)
-    (fe : f ≡ formedAs (n .header) (b .kind) p c) where
-  child : c ≡ childOf (nodeIn (nodesOf (n .nodes)) (b .parent)) b
-  child = ce ∙ ap (λ (x : Node). childOf x b) pe
+  pub join-there : {r : Bool} → not f ≡ false → (e .parent ≡ e .child → ⊥) → r ≡ hasEdge E e → r ≡ joinWrong S e
+  join-there {r} n s q = by-join true false r (sym (not-false f n)) (sym (ne-eqb (e .parent) (e .child) s)) q
 
-  by-bring : (a r : Bool) → a ≡ f → r ≡ any (isNode (b .expression) (c .verifier) (b .subject)) (nodesOf (n .nodes)) → (not a || r) ≡ bringWrong (stateOf n) b
-  unfolding bringWrong stateOf
+-- a new child of this node is brought to a state with this header and these nodes
+pub record BringAt (S : State) (h : Header) (N : Nodes) (p : Node) (b : NewEdge) : Type 0 where
+  pub header : S .header ≡ h
+  pub nodes : S .nodes ≡ nodesOf N
+  pub parent : p ≡ nodeIn (S .nodes) (b .parent)
+
+module _ (S : State) (h : Header) (N : Nodes) (p c : Node) (b : NewEdge) {f : Bool} (ce : c ≡ childOf p b) (fe : f ≡ formedAs h (b .kind) p c)
+    (j : BringAt S h N p b) where
+  child : c ≡ childOf (nodeIn (S .nodes) (b .parent)) b
+  child = ce ∙ ap (λ (x : Node). childOf x b) (j .parent)
+
+  by-bring : (a r : Bool) → a ≡ f → r ≡ any (isNode (b .expression) (c .verifier) (b .subject)) (S .nodes) → (not a || r) ≡ bringWrong S b
+  unfolding bringWrong
   by-bring a r x y = λ i.
-      not ((x ∙ fe ∙ (λ j. formedAs (n .header) (b .kind) (pe j) (child j))) i)
-      || (y ∙ ap (λ (z : Node). any (isNode (b .expression) (z .verifier) (b .subject)) (nodesOf (n .nodes))) child) i
+      not ((x ∙ fe ∙ (λ k. formedAs (sym (j .header) k) (b .kind) (j .parent k) (child k))) i)
+      || (y ∙ ap (λ (z : Node). any (isNode (b .expression) (z .verifier) (b .subject)) (S .nodes)) child) i
 
-  pub bring-unformed : not f ≡ true → true ≡ bringWrong (stateOf n) b
-  bring-unformed h = by-bring false _ (sym (not-true f h)) refl
+  pub bring-unformed : not f ≡ true → true ≡ bringWrong S b
+  bring-unformed n = by-bring false _ (sym (not-true f n)) refl
 
-  pub bring-there : {r : ℕ} → n .nodes .count ≤ MOST-NODES → not f ≡ false
-      → r ≡ findNode (nodesOf (n .nodes)) (b .expression) (c .verifier) (b .subject) → not (eqb r 128) ≡ bringWrong (stateOf n) b
-  bring-there {r} few h q =
-      by-bring true (not (eqb r 128)) (sym (not-false f h))
-      (ap (λ (k : ℕ). not (eqb k 128)) q ∙ ap not (found-none (n .nodes) (b .expression) (c .verifier) (b .subject) few)
-      ∙ not-not (any (isNode (b .expression) (c .verifier) (b .subject)) (nodesOf (n .nodes))))
+  pub bring-there : {r : ℕ} → N .count ≤ MOST-NODES → not f ≡ false → r ≡ findNode (nodesOf N) (b .expression) (c .verifier) (b .subject)
+      → not (eqb r 128) ≡ bringWrong S b
+  bring-there {r} few n q =
+      by-bring true (not (eqb r 128)) (sym (not-false f n))
+      (ap (λ (k : ℕ). not (eqb k 128)) q ∙ ap not (found-none N (b .expression) (c .verifier) (b .subject) few)
+      ∙ not-not (any (isNode (b .expression) (c .verifier) (b .subject)) (nodesOf N))
+      ∙ ap (any (isNode (b .expression) (c .verifier) (b .subject))) (sym (j .nodes)))

@@ -1,7 +1,9 @@
 use mathlib.Core.Path.{refl}
 use Rattle.tables.specs.laws.Tables.{tablesOf}
 use Rattle.negotiation.specs.laws.State.{stateOf}
+use Rattle.moves.specs.Rules.{endIn}
 use Rattle.candidates.specs.laws.Frontiers.{public-solutions}
+use Rattle.candidates.specs.laws.Links.{linked-rules}
 use Rattle.choice.specs.laws.Asked.{asked-as}
 use Rattle.choice.specs.laws.RuleChoice.{opponent-as, opponent-entity, opponent-link, opponent-parts, opponent-goal}
 use borrow.Author.Needs.{needs}
@@ -26,10 +28,14 @@ returns-2 c =
     (c .opponent-role .ensures)
 
 returns-3 : tie.Need-returns-3
+unfolding endIn stateOf
 returns-3 c =
-    let c6 = c .before .before .before .before .before .before in
-    let s = c6 in opponent-as (tablesOf (s .args .own .house)) (stateOf (s .args .n)) _ (s .args .i) (s .args .x) (c .before .before .e2 .given .1)
-    (opponent-link _ _ _ _ _ _ _ (c .linked .ensures _))
+    let s = c .before .before .before .before .before .before in
+    let T = tablesOf (s .args .own .house) in
+    let n = s .args .n in
+    let by = linked-rules (endIn T (stateOf n)) (n .nodes) (n .edges) refl refl (s .pre .0 .formed) (s .pre .0 .nodes) (s .pre .0 .settled)
+    (c .link-rules .ensures) in
+    opponent-as T (stateOf n) _ (s .args .i) (s .args .x) (c .before .before .e2 .given .1) (opponent-link _ _ _ _ _ _ _ by)
 
 returns-4 : tie.Need-returns-4
 returns-4 c =
