@@ -32,7 +32,7 @@ ghost use Rattle.class.specs.laws.Names.{namesOf, Ascending};
 ghost use Rattle.graph.specs.laws.Graph.{nodesFrom, edgesOf};
 ghost use Rattle.negotiation.specs.State.{State};
 ghost use Rattle.negotiation.specs.laws.State.{stateOf};
-ghost use Rattle.legal.specs.laws.Edge.{JoinAt, BringAt};
+ghost use Rattle.legal.specs.laws.Edge.{JoinAt, BringAt, addedNumber};
 ghost use Rattle.legal.specs.Number.{formedAs, joinWrong, joinNumber, typeNumber, bringWrong, bringNumber};
 ghost use Rattle.numbers.specs.Sizes.{MOST-NAMES, MOST-NODES, MOST-EDGES};
 
@@ -55,6 +55,22 @@ fn join_wrong(h: Header, edges: Edges, p: Node, c: Node, e: Edge) -> bool
         return true;
     }
     has_edge(edges.count, &edges.kind, &edges.parent, &edges.child, e)
+}
+
+// The rules for an edge into p that has its form and is new.
+fn added_number(side: u8, p: Node, justified: bool, full: bool) -> u64
+    ensures { λ r. ⌜ r ≡ addedNumber side p justified full ⌝ }
+{
+    if !justified {
+        return UNJUSTIFIED;
+    }
+    if is_processed(side, p) {
+        return PROCESSED;
+    }
+    if full {
+        return FULL;
+    }
+    0
 }
 
 pub fn join_number(side: u8, n: Negotiation, e: Edge, justified: bool) -> u64
@@ -92,16 +108,7 @@ pub fn join_number(side: u8, n: Negotiation, e: Edge, justified: bool) -> u64
     if join_wrong(h, edges, p, c, e) {
         return PRESENT;
     }
-    if !justified {
-        return UNJUSTIFIED;
-    }
-    if is_processed(side, p) {
-        return PROCESSED;
-    }
-    if Negotiation::EDGES <= edges.count {
-        return FULL;
-    }
-    0
+    added_number(side, p, justified, Negotiation::EDGES <= edges.count)
 }
 
 fn type_number(t: Typing) -> u64
@@ -176,15 +183,6 @@ pub fn bring_number(names: Names, side: u8, n: Negotiation, b: NewEdge, justifie
     ) {
         return PRESENT;
     }
-    if !justified {
-        return UNJUSTIFIED;
-    }
-    if is_processed(side, parent) {
-        return PROCESSED;
-    }
-    let edges = n.edges;
-    if (Negotiation::NODES <= nodes.count) | (Negotiation::EDGES <= edges.count) {
-        return FULL;
-    }
-    0
+    let full = (Negotiation::NODES <= nodes.count) | (Negotiation::EDGES <= n.edges.count);
+    added_number(side, parent, justified, full)
 }

@@ -17,6 +17,7 @@ use Rattle.graph.specs.declared.Edges.{Edges}
 use Rattle.graph.specs.laws.Graph.{nodesOf, edgesOf}
 use Rattle.graph.specs.Graph.{nodeIn}
 use Rattle.graph.specs.Form.{form}
+use Rattle.graph.specs.Processed.{processedBy}
 use Rattle.graph.specs.Find.{isNode, findNode, hasEdge}
 use Rattle.states.specs.laws.Brings.{NodesFormed, Joined, Needs}
 use Rattle.states.specs.laws.Complete.{satisfied-read}
@@ -28,8 +29,9 @@ use Rattle.negotiation.specs.State.{State}
 use Rattle.negotiation.specs.Ends.{entityOf}
 use Rattle.damage.specs.laws.Records.{found-none}
 use Rattle.applied.specs.Step.{childOf}
-use Rattle.legal.specs.Number.{formedAs, joinWrong, bringWrong, justifiedBy, justifiedFor}
+use Rattle.legal.specs.Number.{refuse, formedAs, joinWrong, bringWrong, justifiedBy, justifiedFor}
 use Rattle.numbers.specs.Sizes.{MOST-NODES}
+use Rattle.numbers.specs.Refusals.{UNJUSTIFIED, PROCESSED, FULL}
 
 -- the satisfied nodes, by the columns of propagation
 pub says-is : (N : Nodes) (E : Edges) (F S : List ℕ) → NodesFormed (nodesOf N) → Joined (nodesOf N) (edgesOf E) F S → (M sat : List ℕ) → Needs (nodesOf N) M
@@ -106,3 +108,7 @@ module _ (S : State) (h : Header) (N : Nodes) (p c : Node) (b : NewEdge) {f : Bo
       (ap (λ (k : ℕ). not (eqb k 128)) q ∙ ap not (found-none N (b .expression) (c .verifier) (b .subject) few)
       ∙ not-not (any (isNode (b .expression) (c .verifier) (b .subject)) (nodesOf N))
       ∙ ap (any (isNode (b .expression) (c .verifier) (b .subject))) (sym (j .nodes)))
+
+-- what the rules behind the form say of an edge into p
+abbrev pub addedNumber : ℕ → Node → Bool → Bool → ℕ
+addedNumber s p justifies full = refuse (not justifies) UNJUSTIFIED (refuse (processedBy s p) PROCESSED (refuse full FULL 0))

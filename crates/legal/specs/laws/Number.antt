@@ -17,7 +17,7 @@ use Rattle.negotiation.specs.declared.Negotiation.{Negotiation}
 use Rattle.negotiation.specs.State.{State}
 use Rattle.negotiation.specs.laws.State.{stateOf}
 use Rattle.legal.specs.Number.{refuse, first, isFresh, isAbsent, justifiedBy, legalBy}
-use Rattle.numbers.specs.Sizes.{MOST-EDGES, MOST-SHOWN}
+use Rattle.numbers.specs.Sizes.{MOST-SHOWN}
 
 module _ (b : Bool) (k rest : ℕ) where
   -- the test holds
@@ -76,11 +76,8 @@ module _ (n : Negotiation) where
   pub shown-room : n .shown .count < MOST-SHOWN → leb 64 (length (credentials (n .shown))) ≡ false
   shown-room h = lt-leb 64 (length (credentials (n .shown))) (omega (arith, count-length (n .shown)))
 
-  pub edges-full : 256 ≤ n .edges .count → leb 256 (length (edgesOf (n .edges))) ≡ true
-  edges-full h = le-leb 256 (length (edgesOf (n .edges))) (omega (arith, edges-length (n .edges)))
-
-  pub edges-room : n .edges .count < MOST-EDGES → leb 256 (length (edgesOf (n .edges))) ≡ false
-  edges-room h = lt-leb 256 (length (edgesOf (n .edges))) (omega (arith, edges-length (n .edges)))
+  pub edges-same : leb 256 (n .edges .count) ≡ leb 256 (length (edgesOf (n .edges)))
+  edges-same = ap (leb 256) (sym (edges-length (n .edges)))
 
   pub sizes-same : (leb 128 (n .nodes .count) || leb 256 (n .edges .count)) ≡ (leb 128 (length (nodesOf (n .nodes))) || leb 256 (length (edgesOf (n .edges))))
   sizes-same = λ i. leb 128 (sym (nodes-length (n .nodes)) i) || leb 256 (sym (edges-length (n .edges)) i)

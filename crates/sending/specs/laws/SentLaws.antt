@@ -4,7 +4,7 @@ use native.Mathlib.Omega.{arith}
 use mathlib.Core.Path.{_≡_, refl, sym, _∙_, ap, ap₂}
 use mathlib.Core.Bool.{Bool, true, false, not, cond}
 use mathlib.Core.List.{List, [], _∷_, _++_}
-use borrow.Author.Tests.{eq-eqb, ne-eqb, lt-ltb, le-ltb}
+use borrow.Author.Tests.{lt-ltb, le-ltb}
 use lib.Dec.{eqb, ltb}
 use lib.ListN.{length, replicate}
 use Rattle.expression.specs.declared.Role.{Role}
@@ -20,7 +20,7 @@ use Rattle.rules.specs.laws.Table.{chosen}
 use Rattle.class.specs.declared.Name.{Name}
 use Rattle.tables.specs.Lookup.{directOf}
 use Rattle.tables.specs.laws.Tables.{tablesOf}
-use Rattle.tables.specs.Public.{Public, publicOf}
+use Rattle.tables.specs.Public.{publicOf}
 use Rattle.tables.specs.declared.House.{House}
 use Rattle.graph.specs.declared.Node.{Node}
 use Rattle.graph.specs.declared.Nodes.{Nodes}
@@ -29,7 +29,6 @@ use Rattle.graph.specs.laws.Columns.{nodes-length}
 use Rattle.message.specs.declared.Command.{Command}
 use Rattle.message.specs.declared.Command.the-variants.{Bring, Join}
 use Rattle.rt0.specs.Shown.{isShown}
-use Rattle.needed.specs.Needed.{needed}
 use Rattle.needed.specs.laws.Column.{none-on}
 use Rattle.moves.specs.declared.Preparation.{Preparation}
 use Rattle.moves.specs.declared.Candidate.{Candidate}

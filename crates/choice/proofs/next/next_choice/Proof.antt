@@ -71,11 +71,12 @@ returns c =
     let reached = c .before .before .before .before .before in
     let node = reached .before in
     let inside = node .before .before .before .before .before .before .before .before .before .before .before in
-    let s = inside .before .before .before .before .before .before .before in (
-      found-here (endIn (tablesOf (s .args .own .house)) (stateOf (s .args .n))) (inside .before .loop .inv .0) (node .node-at .ensures _ (inside .loop-test .taken))
+    let s = inside .before .before .before .before .before .before .before in
+    let taken = inside .loop-test .taken in (
+      found-here (endIn (tablesOf (s .args .own .house)) (stateOf (s .args .n))) (inside .before .loop .inv .0) (node .node-at .ensures _ taken)
           (c .before .before .choice-at .ensures) (c .before .is-nothing .ensures) (c .if2 .taken)
-          (omega (arith, nodes-length (s .args .n .nodes), inside .loop-test .taken)) refl,
-      (inside .loop-test .taken, (inside .before .loop .inv .0, reached .reach-at .ensures .0)),
+          (omega (arith, nodes-length (s .args .n .nodes), taken)) refl,
+      (taken, (inside .before .loop .inv .0, reached .reach-at .ensures .0)),
     )
 
 add-i : tie.Need-add-i Inv-loop μ-loop

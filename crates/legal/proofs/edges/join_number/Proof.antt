@@ -1,16 +1,15 @@
 use native.Mathlib.Omega.{arith}
 use Prim.Native.Nat.{ℕ, _<_}
-use mathlib.Core.Path.{_≡_, refl, sym, _∙_, ap}
-use mathlib.Core.Bool.{not}
+use mathlib.Core.Path.{_≡_, refl, sym, _∙_}
 use lib.Dec.{leb}
 use lib.ListN.{length}
 use Rattle.negotiation.specs.laws.State.{stateOf}
 use Rattle.graph.specs.Graph.{nodeIn}
-use Rattle.graph.specs.Processed.{processedBy}
 use Rattle.numbers.specs.Sizes.{MOST-EDGES}
-use Rattle.numbers.specs.Refusals.{PRESENT, UNJUSTIFIED, PROCESSED, FULL}
+use Rattle.numbers.specs.Refusals.{PRESENT}
 use Rattle.legal.specs.Number.{refuse, joinWrong, joinNumber}
-use Rattle.legal.specs.laws.Number.{stops, passes, fresh-yes, fresh-no, both-present, parent-absent, child-absent, edges-full, edges-room}
+use Rattle.legal.specs.laws.Edge.{addedNumber}
+use Rattle.legal.specs.laws.Number.{stops, passes, fresh-yes, fresh-no, both-present, parent-absent, child-absent, edges-same}
 use borrow.Author.Needs.{needs}
 use Rattle.legal.proofs.edges.join_number.Statement.{statement}
 use Rattle.legal.proofs.edges.join_number.Tie as tie
@@ -53,10 +52,15 @@ node-at-requires c κs =
 
 node-at-requires-2 : tie.Need-node-at-requires-2
 node-at-requires-2 c κs =
-    let stand = c .before .before .before .before .before .before .before .before .before .before .before .before .before .before .before in omega (arith, child-stands stand, start stand .pre .0)
+    let parent = c .before .before .before .before .before .before .before in
+    let stand = parent .before .before .before .before .before .before .before .before in
+    omega (arith, child-stands stand, start stand .pre .0)
 
 join-wrong-requires : tie.Need-join-wrong-requires
-join-wrong-requires c κs = let stand = c .before .before .before .before .before .before .before .before .before .before .before .before .before .before .before .before in start stand .pre .1
+join-wrong-requires c κs =
+    let parent = c .before .before .before .before .before .before .before .before in
+    let stand = parent .before .before .before .before .before .before .before .before in
+    start stand .pre .1
 
 abbrev stand : tie.After-join-wrong → tie.Else3
 stand c = c .before .before .before .before .before .before .before .before .before .before .before .before .before .before .before .before .before
@@ -75,27 +79,18 @@ wrong c =
       child = child .node-at2 .ensures _ (child-stands (stand c));
     })
 
-processed : (c : tie.After-is-processed) → c .is-processed .result
-    ≡ processedBy (start (stand (c .before .before .before)) .args .side)
-    (nodeIn (stateOf (start (stand (c .before .before .before)) .args .n) .nodes) (start (stand (c .before .before .before)) .args .e .parent))
-unfolding stateOf
-processed c =
-    let judged = c .before .before .before in
-    let parent = judged .before .before .before .before .before .before .before .before .before in
-    c .is-processed .ensures ∙ ap (processedBy (start (stand judged) .args .side)) (parent .node-at .ensures _ (parent-stands (stand judged)))
-
 -- what the rules behind the form say
 abbrev behind : tie.After-join-wrong → ℕ
 behind c =
     let s = start (stand c) in
-    refuse (not (s .args .justified)) UNJUSTIFIED
-    (refuse (processedBy (s .args .side) (nodeIn (stateOf (s .args .n) .nodes) (s .args .e .parent))) PROCESSED
-    (refuse (leb MOST-EDGES (length (stateOf (s .args .n) .edges))) FULL 0))
+    addedNumber (s .args .side) (nodeIn (stateOf (s .args .n) .nodes) (s .args .e .parent)) (s .args .justified)
+    (leb MOST-EDGES (length (stateOf (s .args .n) .edges)))
 
 -- no rule before the form refuses the edge
 unrefused : (c : tie.After-join-wrong) {r : ℕ}
     → r ≡ refuse (joinWrong (stateOf (start (stand c) .args .n)) (start (stand c) .args .e)) PRESENT (behind c)
-    → r ≡ joinNumber (start (stand c) .args .side) (stateOf (start (stand c) .args .n)) (start (stand c) .args .e) (start (stand c) .args .justified)
+    → r ≡ joinNumber (start (stand c) .args .side) (stateOf (start (stand c) .args .n)) (start (stand c) .args .e)
+    (start (stand c) .args .justified)
 unfolding joinNumber stateOf
 unrefused c last =
     let n = start (stand c) .args .n in
@@ -106,44 +101,18 @@ returns-4 : tie.Need-returns-4
 returns-4 c = unrefused (c .before) (stops _ _ _ (sym (wrong (c .before)) ∙ c .if4 .taken))
 
 returns-5 : tie.Need-returns-5
+unfolding stateOf
 returns-5 c =
-    let fitting = c .before in
-    unrefused (fitting .before) (passes _ _ _ (sym (wrong (fitting .before)) ∙ fitting .if4 .left) (stops _ _ _ (c .if5 .taken)))
-
-returns-6 : tie.Need-returns-6
-returns-6 c =
-    let granted = c .before .before in
-    let fitting = granted .before in
-    unrefused (fitting .before) (passes _ _ _ (sym (wrong (fitting .before)) ∙ fitting .if4 .left)
-    (passes _ _ _ (granted .if5 .left)
-    (stops _ _ _ (sym (processed (c .before)) ∙ c .if6 .taken))))
-
--- no rule but the last
-last-rule : (c : tie.Else6) {r : ℕ}
-    → r ≡ refuse (leb MOST-EDGES (length (stateOf (start (stand (c .before .before .before .before)) .args .n) .edges))) FULL 0
-    → r ≡ joinNumber (start (stand (c .before .before .before .before)) .args .side) (stateOf (start (stand (c .before .before .before .before)) .args .n))
-    (start (stand (c .before .before .before .before)) .args .e) (start (stand (c .before .before .before .before)) .args .justified)
-last-rule c last =
-    let granted = c .before .before in
-    let fitting = granted .before in
-    unrefused (fitting .before) (passes _ _ _ (sym (wrong (fitting .before)) ∙ fitting .if4 .left)
-    (passes _ _ _ (granted .if5 .left)
-    (passes _ _ _ (sym (processed (c .before)) ∙ c .if6 .left) last)))
-
-returns-7 : tie.Need-returns-7
-unfolding stateOf
-returns-7 c =
-    let left = c .before .before in
-    last-rule left (stops _ _ _ (edges-full (start (stand (left .before .before .before .before)) .args .n) (c .if7 .taken)))
-
-returns-8 : tie.Need-returns-8
-unfolding stateOf
-returns-8 c =
-    let left = c .before .before in
-    last-rule left (passes _ _ _ (edges-room (start (stand (left .before .before .before .before)) .args .n) (c .if7 .left)) refl)
+    let fitting = c .before .before in
+    let judged = fitting .before in
+    let parent = judged .before .before .before .before .before .before .before .before .before in
+    let s = start (stand judged) in
+    unrefused judged (passes _ _ _ (sym (wrong judged) ∙ fitting .if4 .left)
+    (c .added-number .ensures
+    ∙ (λ i. addedNumber (s .args .side) (parent .node-at .ensures _ (parent-stands (stand judged)) i) (s .args .justified) (edges-same (s .args .n) i))))
 
 pub join-number-spec : {M : Type 1} → statement M
 join-number-spec =
     tie.close
     (tie.spec returns (λ c κs. search needs) returns-2 (λ c κs. search needs) returns-3 (λ c. search needs) node-at-requires (λ c. search needs)
-    node-at-requires-2 join-wrong-requires returns-4 returns-5 (λ c κs. search needs) returns-6 returns-7 returns-8)
+    node-at-requires-2 join-wrong-requires returns-4 (λ c κs. search needs) returns-5)

@@ -27,7 +27,8 @@ returns c =
     let shown = s .args .shown in
     let r = c .fresh-pool .ensures in
     let told = r .1 .1 _ (s .pre .2 .issuers) in
-    let all = told .1 ∙ ap (λ (b : Bool). credentials shown ++ unshownOf (credentials shown) (sideChosen (s .args .own) b)) (sym (c .before .before .before .if1 .taken)) in
+    let side = sym (c .before .before .before .if1 .taken) in
+    let all = told .1 ∙ ap (λ (b : Bool). credentials shown ++ unshownOf (credentials shown) (sideChosen (s .args .own) b)) side in
     (r .0, (all, fresh-issuer shown (s .pre .2) (r .1 .0) (told .0)))
 
 element-copy-out-before-2 : tie.Need-element-copy-out-before-2
@@ -48,7 +49,8 @@ returns-2 c =
     let shown = s .args .shown in
     let r = c .fresh-pool2 .ensures in
     let told = r .1 .1 _ (s .pre .2 .subjects) in
-    let all = told .1 ∙ ap (λ (b : Bool). credentials shown ++ unshownOf (credentials shown) (sideChosen (s .args .own) b)) (sym (c .before .before .before .if1 .left)) in
+    let side = sym (c .before .before .before .if1 .left) in
+    let all = told .1 ∙ ap (λ (b : Bool). credentials shown ++ unshownOf (credentials shown) (sideChosen (s .args .own) b)) side in
     (r .0, (all, fresh-subject shown (s .pre .2) (r .1 .0) (told .0)))
 
 pub side-pool-spec : {M : Type 1} → statement M
