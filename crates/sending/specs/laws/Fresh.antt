@@ -3,7 +3,7 @@ use Prim.Native.Nat.{ℕ, zero, suc, _+_, _-_, _≤_, _<_}
 use native.Mathlib.Omega.{arith}
 use mathlib.Core.Path.{_≡_, refl, sym, _∙_, ap, subst}
 use mathlib.Core.Logic.{⊎-elim}
-use mathlib.Core.Bool.{Bool, true, false, not, cond, _&&_, _||_}
+use mathlib.Core.Bool.{Bool, true, false, not, cond, _&&_, _||_, and-true, and-assoc}
 use mathlib.Core.List.{List, [], _∷_, _++_, append-nil, append-assoc}
 use borrow.Author.Tests.{eqb-true, eqb-false, eq-eqb, ne-eqb}
 use lib.Dec.{eqb}
@@ -131,14 +131,6 @@ unfolding isShown
 shown-append l m c =
     not-or (any (λ d. sameCredential d c) l) (any (λ d. sameCredential d c) m) ∙ sym (ap not (any-append (λ d. sameCredential d c) l m))
 
-and-assoc : (a b c : Bool) → ((a && b) && c) ≡ (a && (b && c))
-and-assoc true b c = refl
-and-assoc false b c = refl
-
-and-true : (a : Bool) → a ≡ (a && true)
-and-true true = refl
-and-true false = refl
-
 no-more : {A : Type 0} (l : List A) → length l ≤ 0 → l ≡ []
 no-more [] h = refl
 no-more (x ∷ l) h = absurd (omega arith)
@@ -181,7 +173,7 @@ fresh-all S P U = record { first = credentials S; rest = []; split = sym (append
 -- none is shown
 fresh-none : (l : List Credential) (P : Pool) (on : List ℕ) → FreshIn l P on 0 on
 unfolding isShown
-fresh-none l P on = record { first = []; rest = l; split = refl; counted = refl; unshown = record { says = λ i k. and-true (eqb (el on i) 1) } }
+fresh-none l P on = record { first = []; rest = l; split = refl; counted = refl; unshown = record { says = λ i k. sym (and-true (eqb (el on i) 1)) } }
 
 fresh-grown : {l : List Credential} {P : Pool} {on : List ℕ} {k : ℕ} {F : List ℕ} (X : List Credential) → FreshIn l P on k F → FreshIn (l ++ X) P on k F
 fresh-grown X h =
