@@ -1,8 +1,8 @@
 /* SPDX-License-Identifier: Apache-2.0 */
 /*
  * Runs the marked cases and prints them: the questions (a) to (h) with their credentials and answers, then the
- * negotiations (i) and (j) with the tables of both ends, each message and the nodes that it changed, and the graph at
- * the end. Exits with 1 if one of them comes out otherwise than marked.
+ * negotiations (i) and (j) with the tables of both ends, each message and the nodes that it changed, and the graph and
+ * the messages of each side at the end. Exits with 1 if one of them comes out otherwise than marked.
  */
 #include <stdio.h>
 #include <stdlib.h>

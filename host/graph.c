@@ -14,7 +14,8 @@ static const char help[] =
     "       graph -h | --version\n"
     "Prints the graph of NEGOTIATION, the 5,120 bytes that a host has stored, of the house with these TABLES: records, or\n"
     "text as the program tables reads it. - is the standard input.\n"
-    "  -o text  a line for each node: number, role, holder, state, who asks; then the end. It is so otherwise too.\n"
+    "  -o text  a line for each node: number, role, holder, state, who asks; then the messages of each side, and the end. It\n"
+    "           is so otherwise too.\n"
     "  -o dot   a picture in the language DOT; 'dot -Tsvg' of graphviz draws it\n"
     "Exits with 0, 2 for a wrong argument, 5 for tables or a negotiation that are refused, 7 if a file cannot be read or\n"
     "written.\n";

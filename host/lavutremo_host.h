@@ -73,7 +73,10 @@ void lavutremo_print_message(FILE *to, const uint8_t *tables, size_t tables_len,
 /* A message's commands alone. The new nodes are numbered from node_count, the number of nodes before the message. */
 void lavutremo_print_commands(FILE *to, const uint8_t *message, size_t message_len, unsigned node_count);
 
-/* The graph: a line for each node with its number, role, holder, state and verifier; then the end. */
+/*
+ * The graph: a line for each node with its number, role, holder, state and verifier; then how many messages there were of
+ * each side, as in "messages: mediator 2, requester 2", and the end.
+ */
 void lavutremo_print_graph(FILE *to, const uint8_t *tables, size_t tables_len, const uint8_t *negotiation);
 
 /* Why a call was refused, and what an end is, in words. */

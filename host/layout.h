@@ -11,10 +11,11 @@ enum {
     OTHER_AT = 4,
     WANTED_AT = 6, /* a role; zeros for the requester */
     END_AT = 10,
-    MESSAGE_COUNT_AT = 12,
-    NODE_COUNT_AT = 14,
-    EDGE_COUNT_AT = 15,
-    SHOWN_COUNT_AT = 17,
+    MEDIATOR_MESSAGES_AT = 12,
+    REQUESTER_MESSAGES_AT = 14,
+    NODE_COUNT_AT = 16,
+    EDGE_COUNT_AT = 17,
+    SHOWN_COUNT_AT = 19,
     NODES_AT = 128, /* the header is over */
     NODE_BYTES = 22,
     NODE_SUBJECT_AT = 18,

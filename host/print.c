@@ -291,16 +291,26 @@ static void keep_printed(const uint8_t *negotiation, struct lavutremo_printed *p
         printed->states[i] = node_of(negotiation, i)[NODE_STATE_AT];
 }
 
+static unsigned message_count_of(const uint8_t *negotiation)
+{
+    return number_at(negotiation + MEDIATOR_MESSAGES_AT) + number_at(negotiation + REQUESTER_MESSAGES_AT);
+}
+
 void print_message(FILE *to, const struct house *house, const uint8_t *negotiation, const uint8_t *message,
                    size_t length, const char *direction, struct lavutremo_printed *printed)
 {
     struct marked changed = {0}, none = {0};
-    fprintf(to, "message %u, %s, %zu bytes\n", number_at(negotiation + MESSAGE_COUNT_AT), direction, length);
+    fprintf(to, "message %u, %s, %zu bytes\n", message_count_of(negotiation), direction, length);
     print_commands(to, message, length, printed->nodes);
     find_changed(house, negotiation, printed, &changed);
     keep_printed(negotiation, printed);
     if (memcmp(&changed, &none, sizeof none) != 0)
         print_nodes(to, negotiation, &changed, printed->propagated);
+}
+
+void print_counts(FILE *to, unsigned mediator, unsigned requester)
+{
+    fprintf(to, "messages: mediator %u, requester %u\n", mediator, requester);
 }
 
 void print_graph(FILE *to, const struct house *house, const uint8_t *negotiation)
@@ -311,5 +321,7 @@ void print_graph(FILE *to, const struct house *house, const uint8_t *negotiation
     for (unsigned i = 0; i < node_count_of(negotiation); i++)
         propagated[i] = (uint8_t)propagated_of(house, negotiation, i);
     print_nodes(to, negotiation, &all, propagated);
+    fprintf(to, "    ");
+    print_counts(to, number_at(negotiation + MEDIATOR_MESSAGES_AT), number_at(negotiation + REQUESTER_MESSAGES_AT));
     fprintf(to, "    end: %s\n", end_words(negotiation[END_AT]));
 }

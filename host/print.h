@@ -38,7 +38,10 @@ void print_commands(FILE *to, const uint8_t *message, size_t length, unsigned no
 void print_message(FILE *to, const struct house *house, const uint8_t *negotiation, const uint8_t *message,
                    size_t length, const char *direction, struct lavutremo_printed *printed);
 
-/* The graph: a line for each node with its number, role, holder, state and verifier; then the end. */
+/* How many messages there were of each side, as in "messages: mediator 2, requester 2". */
+void print_counts(FILE *to, unsigned mediator, unsigned requester);
+
+/* The graph: a line for each node with its number, role, holder, state and verifier; then both counts, and the end. */
 void print_graph(FILE *to, const struct house *house, const uint8_t *negotiation);
 
 /* Why a call was refused, and what an end is, in words. */

@@ -139,6 +139,8 @@ void printout_course(struct printout *printout, const struct end *end, const str
     if (course->count > 0) {
         fprintf(to, "graph\n");
         print_graph(to, end->house, last);
+    } else {
+        print_counts(to, 0, 0);
     }
     print_over(to, course);
 }

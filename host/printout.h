@@ -19,7 +19,7 @@ int printout_open(struct printout *printout);
 
 /*
  * The date in UTC, both ends, the wanted role, the SHA-256 of the tables; each message with its commands and the nodes
- * that it changed; the graph at the end; why it is over.
+ * that it changed; the graph at the end; how many messages there were of each side; why it is over.
  */
 void printout_course(struct printout *printout, const struct end *end, const struct course *course, time_t date);
 

@@ -49,7 +49,7 @@
 #include <stdint.h>
 
 /* The version of this header and of the library that comes with it. */
-#define LAVUTREMO_VERSION "1.0.0"
+#define LAVUTREMO_VERSION "2.0.0"
 
 /* The first byte of a message's command. */
 enum {
@@ -101,7 +101,7 @@ enum {
 #define LAVUTREMO_CLASS 5u    /* a class rule broken */
 #define LAVUTREMO_ORDER 6u    /* tables out of order, repeated, self missing, or a size passed */
 #define LAVUTREMO_OTHER 7u    /* at begin: the other end is zero or self */
-#define LAVUTREMO_DAMAGED 20u /* the negotiation is damaged */
+#define LAVUTREMO_DAMAGED 20u /* the negotiation is damaged, or its layout number is not 2 */
 #define LAVUTREMO_TURN 21u    /* not that side's turn */
 #define LAVUTREMO_ENDED 22u   /* already ended */
 #define LAVUTREMO_OPENING 23u /* a command but open while no node stands, or open later */
@@ -179,7 +179,8 @@ uint64_t lavutremo_check(const uint8_t *tables, size_t tables_len);
  *   entity, name the wanted role, or zeros
  *
  * Writes
- *   negotiation  5,120 bytes: the fresh negotiation, as docs/LAYOUT.md describes; what they held before does not count
+ *   negotiation  5,120 bytes: the fresh negotiation, both message counts zero, in layout number 2 as docs/LAYOUT.md
+ *                describes; what they held before does not count
  *
  * Returns 0 if the call is accepted, else a number alone, the first of these that applies, and then no byte changes:
  *   LAVUTREMO_LENGTH   a length is outside the sizes,
@@ -202,9 +203,9 @@ uint64_t lavutremo_begin(const uint8_t *tables, size_t tables_len, uint8_t *nego
  *   message      commands as above: 1 to 4,096 bytes
  *
  * Writes
- *   negotiation  the one that the commands lead to, its count one higher, its end judged: 1 success or 2 failed where the
- *                first target is satisfied or failed, 3 stalled where this message and the one before had no open, edge or
- *                mark, else 0
+ *   negotiation  the one that the commands lead to, the other side's message count one higher, its end judged: 1 success
+ *                or 2 failed where the first target is satisfied or failed, 3 stalled where this message and the one before
+ *                had no open, edge or mark, else 0
  *   scratch      4,096 bytes: zeros
  *
  * Returns 0 if the message is accepted, else a number alone, the first of these that applies, and then no byte changes, of
@@ -213,7 +214,7 @@ uint64_t lavutremo_begin(const uint8_t *tables, size_t tables_len, uint8_t *nego
  *   LAVUTREMO_COMMAND, LAVUTREMO_OPERAND, LAVUTREMO_NAME, LAVUTREMO_CLASS, LAVUTREMO_ORDER   the tables, as above,
  *   LAVUTREMO_DAMAGED  the bytes are not those of a sound negotiation of these tables' house,
  *   LAVUTREMO_ENDED    the negotiation has ended,
- *   LAVUTREMO_TURN     it is our side's turn to send: the mediator sends when the count of messages is even;
+ *   LAVUTREMO_TURN     it is our side's turn to send: the mediator sends when the sum of both message counts is even;
  * else the commands are judged left to right, each carried out before the next is read, and the first that cannot be taken
  * ends the call with the first of these that applies:
  *   LAVUTREMO_COMMAND, LAVUTREMO_OPERAND   it is unknown or cut, bytes follow the end or there is no end; a wrong operand
@@ -240,9 +241,9 @@ uint64_t lavutremo_take(const uint8_t *tables, size_t tables_len, uint8_t *negot
  *   negotiation  5,120 bytes that a call left
  *
  * Writes
- *   negotiation  the one that the commands lead to, its count one higher, its end judged: 1 success or 2 failed where the
- *                first target is satisfied or failed, 3 stalled where this message and the one before had no open, edge or
- *                mark, 4 full where the next move would pass a size, else 0
+ *   negotiation  the one that the commands lead to, our side's message count one higher, its end judged: 1 success or 2
+ *                failed where the first target is satisfied or failed, 3 stalled where this message and the one before had
+ *                no open, edge or mark, 4 full where the next move would pass a size, else 0
  *   reply        4,096 bytes or more: the message at their start; those behind it stay as they are
  *   scratch      4,096 bytes: zeros
  *
@@ -270,6 +271,8 @@ uint64_t lavutremo_reply(const uint8_t *tables, size_t tables_len, uint8_t *nego
  * Writes nothing. It keeps no pointer and no state between calls, so threads may ask at the same time.
  *
  * Returns 256 times the value if the call is accepted; lavutremo_state and the accessors behind it take the value apart.
+ * From its lowest bit it has: state 2 bits, propagated state 2, end 3, nodes 8, edges 9, shown 7, messages of the mediator
+ * 10, of the requester 10.
  * A refused call returns its number alone, the first of these that applies:
  *   LAVUTREMO_LENGTH   a length is outside the sizes,
  *   LAVUTREMO_COMMAND, LAVUTREMO_OPERAND, LAVUTREMO_NAME, LAVUTREMO_CLASS, LAVUTREMO_ORDER   the tables, as above,
@@ -357,10 +360,24 @@ static inline unsigned lavutremo_shown(uint64_t answer)
     return (unsigned)(answer >> 32 & 127u);
 }
 
-/* How many messages were accepted and replies given together. */
+/*
+ * How many messages of the mediator and of the requester there were: those of our side are the replies given, those of the
+ * other side the messages accepted. They are as many, or the mediator's are one more.
+ */
+static inline unsigned lavutremo_mediator_messages(uint64_t answer)
+{
+    return (unsigned)(answer >> 39 & 1023u);
+}
+
+static inline unsigned lavutremo_requester_messages(uint64_t answer)
+{
+    return (unsigned)(answer >> 49 & 1023u);
+}
+
+/* How many messages were accepted and replies given together: the sum of both. */
 static inline unsigned lavutremo_messages(uint64_t answer)
 {
-    return (unsigned)(answer >> 39 & 2047u);
+    return lavutremo_mediator_messages(answer) + lavutremo_requester_messages(answer);
 }
 
 #ifdef __cplusplus

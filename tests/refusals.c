@@ -220,7 +220,7 @@ static void expect_begin(const char *what, uint64_t expected, size_t tables_size
     memset(negotiation, 0xa5, sizeof negotiation);
     memcpy(after, negotiation, sizeof after);
     if (expected == 0) {
-        const uint8_t header[18] = {1,
+        const uint8_t header[20] = {2,
                                     wanted_entity == 0,
                                     0,
                                     2,
@@ -277,7 +277,7 @@ static uint64_t expect_report(const char *what, uint64_t expected, size_t tables
     return answer;
 }
 
-/* One node, the role 300.1 wanted of entity 3, in state 3: failed, after one message. */
+/* One node, the role 300.1 wanted of entity 3, in state 3: failed, after one message of the mediator. */
 static void put_primary(uint8_t *negotiation)
 {
     static const uint8_t node[22] = {2, 0, 300 >> 8, 300 & 255, 0, 1, [18] = 0, 3, 0, 3};
@@ -285,7 +285,7 @@ static void put_primary(uint8_t *negotiation)
     memcpy(negotiation + 128, node, sizeof node);
     negotiation[10] = 2;
     negotiation[13] = 1;
-    negotiation[14] = 1;
+    negotiation[16] = 1;
 }
 
 static void reports(void)
@@ -300,34 +300,49 @@ static void reports(void)
     expect_report("tables of no bytes", LAVUTREMO_LENGTH, 0, n, size, 0);
     expect_report("cut tables", LAVUTREMO_COMMAND, tables_len - 1, n, size, 0);
     put_primary(n);
-    const uint64_t value = 3 | 2 << 2 | 2 << 4 | 1 << 7 | (uint64_t)1 << 31;
-    uint64_t answer = expect_report("a failed primary", value << 8, tables_len, n, size, 0);
+    const uint64_t value = 3 | 2 << 2 | 2 << 4 | 1 << 7, one = 1;
+    uint64_t answer = expect_report("a failed primary", (value | one << 31) << 8, tables_len, n, size, 0);
     if (lavutremo_state(answer) == 3 && lavutremo_propagated(answer) == 2 && lavutremo_end(answer) == 2 &&
         lavutremo_nodes(answer) == 1 && lavutremo_edges(answer) == 0 && lavutremo_shown(answer) == 0 &&
+        lavutremo_mediator_messages(answer) == 1 && lavutremo_requester_messages(answer) == 0 &&
         lavutremo_messages(answer) == 1)
         passed++;
     else
         failed++;
     expect_report("node 1 is absent", LAVUTREMO_ABSENT, tables_len, n, size, 1);
     expect_report("node 255 is absent", LAVUTREMO_ABSENT, tables_len, n, size, 255);
-    /* Each of these bytes, changed alone, damages it. */
+    n[15] = 1;
+    expect_report("one message of each", (value | one << 31 | one << 41) << 8, tables_len, n, size, 0);
+    memcpy(n + 12, (const uint8_t[]){514 >> 8, 514 & 255, 513 >> 8, 513 & 255}, 4);
+    expect_report("514 and 513", (value | 514 * one << 31 | 513 * one << 41) << 8, tables_len, n, size, 0);
+}
+
+/* Each of these bytes, changed alone, damages a negotiation. */
+static void damaged_bytes(void)
+{
+    static uint8_t n[LAVUTREMO_NEGOTIATION_BYTES];
     static const struct {
         const char *what;
         size_t at;
         uint8_t value;
-    } damage[] = {{"layout 2", 0, 2},
+    } damage[] = {{"layout 1", 0, 1},
+                  {"layout 3", 0, 3},
                   {"a third side", 1, 2},
                   {"another self", 3, 9},
                   {"other end is self", 5, 2},
                   {"another wanted role", 9, 2},
                   {"no end, though failed", 10, 0},
                   {"idle and failed", 11, 1},
-                  {"1,281 messages", 12, 5},
+                  {"1,281 messages of the mediator", 12, 5},
                   {"no message", 13, 0},
-                  {"a node that is not there", 14, 2},
-                  {"an edge from nowhere", 16, 1},
-                  {"a credential of zeros", 17, 1},
-                  {"an unused byte", 18, 1},
+                  {"two of the mediator alone", 13, 2},
+                  {"256 of the requester", 14, 1},
+                  {"two of the requester", 15, 2},
+                  {"a node that is not there", 16, 2},
+                  {"an edge from nowhere", 18, 1},
+                  {"a credential of zeros", 19, 1},
+                  {"an unused byte", 20, 1},
+                  {"the last of the header", 127, 1},
                   {"an entity for a role", 128, 1},
                   {"another subject", 147, 4},
                   {"another verifier", 148, 1},
@@ -338,7 +353,7 @@ static void reports(void)
     for (size_t i = 0; i < sizeof damage / sizeof damage[0]; i++) {
         put_primary(n);
         n[damage[i].at] = damage[i].value;
-        expect_report(damage[i].what, LAVUTREMO_DAMAGED, tables_len, n, size, 0);
+        expect_report(damage[i].what, LAVUTREMO_DAMAGED, tables_len, n, sizeof n, 0);
     }
 }
 
@@ -406,9 +421,9 @@ static void takes(void)
     expect_take("5,121 bytes of negotiation", LAVUTREMO_LENGTH, tables_len, size + 1, message_len, scratch_size);
     expect_take("no tables", LAVUTREMO_LENGTH, 0, size, message_len, scratch_size);
     expect_take("cut tables", LAVUTREMO_COMMAND, tables_len - 1, size, message_len, scratch_size);
-    taken[18] = 1;
+    taken[20] = 1;
     expect_message("an unused byte of the negotiation", LAVUTREMO_DAMAGED);
-    taken[18] = 0;
+    taken[20] = 0;
     expect_message("an open", 0);
     expect_message("out of turn", LAVUTREMO_TURN);
     put_primary(taken);
@@ -470,7 +485,8 @@ static void takes(void)
     uint64_t answer = lavutremo_report(tables, tables_len, taken, size, 0);
     if (lavutremo_number(answer) == 0 && lavutremo_state(answer) == 3 && lavutremo_propagated(answer) == 0 &&
         lavutremo_end(answer) == 0 && lavutremo_nodes(answer) == 2 && lavutremo_edges(answer) == 1 &&
-        lavutremo_shown(answer) == 1 && lavutremo_messages(answer) == 1)
+        lavutremo_shown(answer) == 1 && lavutremo_mediator_messages(answer) == 1 &&
+        lavutremo_requester_messages(answer) == 0 && lavutremo_messages(answer) == 1)
         passed++;
     else
         failed++;
@@ -485,6 +501,7 @@ int main(void)
     table_sizes();
     begins();
     reports();
+    damaged_bytes();
     takes();
     printf("%d passed, %d failed\n", passed, failed);
     return failed > 0;

@@ -1,10 +1,11 @@
 /*
- * Replies through the C interface: what is refused and in which order, and which bytes change. The other end's messages
- * are those of marked case (i).
+ * Replies through the C interface: what is refused and in which order, which bytes change, and how messages are counted.
+ * The other end's messages are those of marked case (i).
  */
 #include <stdio.h>
 #include <string.h>
 
+#include "layout.h"
 #include "text.h"
 
 #define CLASSES "class 1 issuer-def\nclass 2 subject-all\nclass 3 subject-all\n"
@@ -18,6 +19,9 @@ static const uint8_t messages[4][56] = {
     {0x01, 0, 4, 0, 3, ENTITY(2), 0x03, 1, 1, ENTITY(2), 0, 2, 3, 0x06},
 };
 static const size_t lengths[4] = {56, 25, 50, 48};
+
+/* After each of them: the messages of the mediator and of the requester. */
+static const unsigned counts[4][2] = {{1, 0}, {1, 1}, {2, 1}, {2, 2}};
 
 /* The buffers of one end, each with room for a length that is too great. */
 static struct lent {
@@ -57,6 +61,16 @@ static void refused_now(const char *what, uint64_t number)
     refused(what, number, tables_len, LAVUTREMO_NEGOTIATION_BYTES, LAVUTREMO_LEAST_REPLY_BYTES, LAVUTREMO_SCRATCH_BYTES);
 }
 
+/* What a report says of the messages: of the mediator, of the requester, and together. */
+static void counted(const char *what, unsigned mediator, unsigned requester)
+{
+    uint64_t answer = lavutremo_report(lent.tables, tables_len, lent.negotiation, LAVUTREMO_NEGOTIATION_BYTES, 0);
+    count(what,
+          lavutremo_number(answer) == 0 && lavutremo_mediator_messages(answer) == mediator &&
+              lavutremo_requester_messages(answer) == requester && lavutremo_messages(answer) == mediator + requester,
+          answer);
+}
+
 /* Asks for a reply that must be this message; what lies behind it, and the tables, may not change. */
 static void given(const char *what, int index, size_t reply_size)
 {
@@ -68,9 +82,9 @@ static void given(const char *what, int index, size_t reply_size)
     memset(due.scratch, 0, LAVUTREMO_SCRATCH_BYTES);
     uint64_t answer = lavutremo_reply(lent.tables, tables_len, lent.negotiation, LAVUTREMO_NEGOTIATION_BYTES, lent.reply,
                                       reply_size, lent.scratch, LAVUTREMO_SCRATCH_BYTES);
-    int counted = lent.negotiation[13] == due.negotiation[13] + 1;
     memcpy(due.negotiation, lent.negotiation, LAVUTREMO_NEGOTIATION_BYTES);
-    count(what, answer == 256 * lengths[index] && counted && memcmp(&lent, &due, sizeof lent) == 0, answer);
+    count(what, answer == 256 * lengths[index] && memcmp(&lent, &due, sizeof lent) == 0, answer);
+    counted(what, counts[index][0], counts[index][1]);
 }
 
 static void taken(const char *what, int index)
@@ -78,6 +92,7 @@ static void taken(const char *what, int index)
     uint64_t answer = lavutremo_take(lent.tables, tables_len, lent.negotiation, LAVUTREMO_NEGOTIATION_BYTES,
                                      messages[index], lengths[index], lent.scratch, LAVUTREMO_SCRATCH_BYTES);
     count(what, answer == 0, answer);
+    counted(what, counts[index][0], counts[index][1]);
 }
 
 static void begin(const char *text, uint16_t other, uint16_t entity, uint16_t name)
@@ -115,7 +130,7 @@ static void outside_the_sizes(void)
     refused("4,095 bytes for the reply", LAVUTREMO_LENGTH, tables_len, size, reply - 1, scratch);
     refused("4,095 bytes of scratch", LAVUTREMO_LENGTH, tables_len, size, reply, scratch - 1);
     refused("4,097 bytes of scratch", LAVUTREMO_LENGTH, tables_len, size, reply, scratch + 1);
-    lent.negotiation[18] = 1;
+    lent.negotiation[20] = 1;
     refused("a short reply buffer and damage", LAVUTREMO_LENGTH, tables_len, size, reply - 1, scratch);
     refused("cut tables and damage", LAVUTREMO_COMMAND, tables_len - 1, size, reply, scratch);
     refused_now("damage", LAVUTREMO_DAMAGED);
@@ -163,11 +178,138 @@ static void turns(void)
     refused_now("after success, not the requester's turn", LAVUTREMO_ENDED);
 }
 
+/* The negotiation is damaged: reply, take and report say so, whoever's turn it is, and no byte changes. */
+static void damaged(const char *what)
+{
+    static struct lent before;
+    refused_now(what, LAVUTREMO_DAMAGED);
+    before = lent;
+    uint64_t answer = lavutremo_take(lent.tables, tables_len, lent.negotiation, LAVUTREMO_NEGOTIATION_BYTES, messages[1],
+                                     lengths[1], lent.scratch, LAVUTREMO_SCRATCH_BYTES);
+    count(what, answer == LAVUTREMO_DAMAGED && memcmp(&lent, &before, sizeof lent) == 0, answer);
+    answer = lavutremo_report(lent.tables, tables_len, lent.negotiation, LAVUTREMO_NEGOTIATION_BYTES, 0);
+    count(what, answer == LAVUTREMO_DAMAGED && memcmp(&lent, &before, sizeof lent) == 0, answer);
+}
+
+static void set_counts(unsigned mediator, unsigned requester)
+{
+    const uint8_t bytes[4] = {(uint8_t)(mediator >> 8), (uint8_t)mediator, (uint8_t)(requester >> 8), (uint8_t)requester};
+    memcpy(lent.negotiation + MEDIATOR_MESSAGES_AT, bytes, sizeof bytes);
+}
+
+/* Counts that no negotiation with a node has, at both ends after the first message, where they are 1 and 0. */
+static void wrong_counts(void)
+{
+    static const struct {
+        const char *what;
+        unsigned mediator, requester;
+    } wrong[] = {{"the requester one ahead", 0, 1},
+                 {"the mediator two ahead", 2, 0},
+                 {"the requester one ahead of 512", 512, 513},
+                 {"the mediator two ahead of 512", 514, 512},
+                 {"no message and a node", 0, 0},
+                 {"514 of each", 514, 514},
+                 {"515 and 514", 515, 514},
+                 {"65,535 and 1", 65535, 1},
+                 {"0 and 65,535", 0, 65535},
+                 {"32,768 of each", 32768, 32768},
+                 {"32,769 and 32,768", 32769, 32768},
+                 {"65,535 of each", 65535, 65535}};
+    for (size_t i = 0; i < sizeof wrong / sizeof wrong[0]; i++) {
+        begin_studio();
+        given("the first reply", 0, LAVUTREMO_LEAST_REPLY_BYTES);
+        set_counts(wrong[i].mediator, wrong[i].requester);
+        damaged(wrong[i].what);
+        begin_house();
+        taken("the first message", 0);
+        set_counts(wrong[i].mediator, wrong[i].requester);
+        damaged(wrong[i].what);
+    }
+}
+
+/* Without a node there is no message. */
+static void counts_alone(void)
+{
+    static const unsigned wrong[][2] = {{1, 0}, {0, 1}, {1, 1}, {32768, 32768}};
+    for (size_t i = 0; i < sizeof wrong / sizeof wrong[0]; i++) {
+        begin_studio();
+        set_counts(wrong[i][0], wrong[i][1]);
+        damaged("messages and no node, the mediator");
+        begin_house();
+        set_counts(wrong[i][0], wrong[i][1]);
+        damaged("messages and no node, the requester");
+    }
+}
+
+/* The most messages that a negotiation may have are 514 of the mediator and 513 of the requester. */
+static void most_counts(void)
+{
+    begin_studio();
+    given("the first reply", 0, LAVUTREMO_LEAST_REPLY_BYTES);
+    set_counts(514, 513);
+    counted("514 and 513, the mediator", 514, 513);
+    set_counts(1, 0);
+    taken("the second message", 1);
+    set_counts(513, 513);
+    counted("513 of each", 513, 513);
+    uint64_t answer = lavutremo_reply(lent.tables, tables_len, lent.negotiation, LAVUTREMO_NEGOTIATION_BYTES, lent.reply,
+                                      sizeof lent.reply, lent.scratch, LAVUTREMO_SCRATCH_BYTES);
+    count("a reply after 513 of each", answer == 256 * lengths[2], answer);
+    counted("514 and 513 after a reply", 514, 513);
+    begin_house();
+    taken("the first message", 0);
+    set_counts(514, 513);
+    counted("514 and 513, the requester", 514, 513);
+}
+
+/* Rewrites the header in the order of layout number 1: one count of messages, the other counts two bytes before. */
+static void put_old_header(void)
+{
+    uint8_t *header = lent.negotiation;
+    unsigned sum = number_at(header + MEDIATOR_MESSAGES_AT) + number_at(header + REQUESTER_MESSAGES_AT);
+    header[0] = 1;
+    header[12] = (uint8_t)(sum >> 8);
+    header[13] = (uint8_t)sum;
+    memmove(header + 14, header + NODE_COUNT_AT, 4);
+    memset(header + 18, 0, 2);
+}
+
+/* A negotiation of another layout number, its header in the order of today or of layout number 1. */
+static void layout_numbers(void)
+{
+    static const uint8_t others[] = {0, 1, 3, 255};
+    for (size_t i = 0; i < sizeof others; i++) {
+        begin_studio();
+        lent.negotiation[0] = others[i];
+        damaged("another layout number of a fresh negotiation");
+        lent.negotiation[0] = 2;
+        given("the first reply", 0, LAVUTREMO_LEAST_REPLY_BYTES);
+        lent.negotiation[0] = others[i];
+        damaged("another layout number");
+    }
+    for (int index = 0; index < 4; index++) {
+        begin_house();
+        for (int i = 0; i <= index; i++)
+            if (i % 2 == 0)
+                taken("a message", i);
+            else
+                given("a reply", i, LAVUTREMO_LEAST_REPLY_BYTES);
+        put_old_header();
+        damaged("a whole record of layout number 1");
+        lent.negotiation[0] = 2;
+        damaged("a header of layout number 1 with number 2");
+    }
+}
+
 int main(void)
 {
     outside_the_sizes();
     wrong_tables();
     turns();
+    wrong_counts();
+    counts_alone();
+    most_counts();
+    layout_numbers();
     printf("%d passed, %d failed\n", passed, failed);
     return failed > 0;
 }

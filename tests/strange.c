@@ -1,7 +1,8 @@
 /*
  * strange COUNT: texts of tables with changes at random, from a fixed seed, random bytes to be printed, and a hundredth as
  * many random negotiations and refused messages. Built with sanitizers. Exits with 1 if a text that is accepted does not
- * come back as it was, a node's state is not the one that was printed last, or another command was refused than is told.
+ * come back as it was, a node's state is not the one that was printed last, a message is not counted for its sender, or
+ * another command was refused than is told.
  */
 #define _POSIX_C_SOURCE 200809L
 #include <stdio.h>
@@ -9,6 +10,7 @@
 #include <string.h>
 
 #include "end.h"
+#include "layout.h"
 #include "print.h"
 #include "text.h"
 
@@ -138,7 +140,15 @@ static int printed_right(const struct end *end, const struct lavutremo_printed *
         if (lavutremo_number(report) != 0 || lavutremo_propagated(report) != printed->propagated[i])
             return 0;
     }
-    return printed->nodes == end->negotiation[14];
+    return printed->nodes == end->negotiation[NODE_COUNT_AT];
+}
+
+/* The counts that a report gives at either end after this message, from 0. */
+static int counted_right(const struct end *end, unsigned message)
+{
+    uint64_t report = lavutremo_report(end->house->bytes, end->house->length, end->negotiation, sizeof end->negotiation, 0);
+    return lavutremo_number(report) == 0 && lavutremo_mediator_messages(report) == message / 2 + 1 &&
+           lavutremo_requester_messages(report) == (message + 1) / 2 && lavutremo_messages(report) == message + 1;
 }
 
 /* Tries the commands of a message one after another, and compares with what is told of it. */
@@ -201,6 +211,8 @@ static int try_negotiation(FILE *to, int *refused, int *ends)
         print_message(to, other->house, other->negotiation, other->message, other->length, "in", &printed[1 - i % 2]);
         if (!printed_right(from, &printed[i % 2]) || !printed_right(other, &printed[1 - i % 2]))
             return 0;
+        if (!counted_right(from, (unsigned)i) || !counted_right(other, (unsigned)i))
+            return 0;
     }
     ends[end_now(&sides[0])]++;
     return 1;
@@ -211,7 +223,7 @@ static int negotiations(FILE *to, int count)
     int refused = 0, ends[5] = {0};
     for (int i = 0; i < count; i++)
         if (!try_negotiation(to, &refused, ends)) {
-            printf("negotiation %d is printed wrong\n", i);
+            printf("negotiation %d is printed or counted wrong\n", i);
             return 0;
         }
     printf("%d negotiations, %d messages refused; ends %d %d %d %d %d\n", count, refused, ends[0], ends[1], ends[2],

@@ -9,6 +9,7 @@
 #include <string.h>
 
 #include "end.h"
+#include "layout.h"
 #include "text.h"
 
 #define CLASSES "class 1 issuer-def\nclass 2 subject-all\nclass 3 subject-all\n"
@@ -118,6 +119,6 @@ int main(int count, char **arguments)
         if (house.length == 0 || end_now(&house) != LAVUTREMO_END_NONE || end_take(&studio) != 0)
             break;
     }
-    printf("%lu, %u nodes, end %u\n", sum, house.negotiation[14], end_now(&house));
+    printf("%lu, %u nodes, end %u\n", sum, house.negotiation[NODE_COUNT_AT], end_now(&house));
     return 0;
 }

@@ -108,7 +108,7 @@ impl Case {
         }
         let ours = (kind == Kind::Reply) == (*side == Side::Mediator);
         let state = if is_first { Propagated::Open } else { propagated(nodes, edges)[0] };
-        settled.messages = if is_first { 0 } else { 1 + ours as u16 };
+        settled.messages = Messages::in_turn(if is_first { 0 } else { 1 + ours as u32 });
         settled.idle = false;
         settled.end = match state {
             Propagated::Open => 0,

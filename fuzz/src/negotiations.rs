@@ -7,6 +7,7 @@ use reference::negotiation::bytes::{self, Lent};
 use reference::negotiation::counts::NegotiationCounts;
 use reference::negotiation::report::{answer, judge};
 use reference::negotiation::sample::Grown;
+use reference::negotiation::NODE_COUNT_AT;
 use reference::random::Random;
 use reference::rules::expression::Role;
 use std::collections::BTreeSet;
@@ -45,8 +46,9 @@ impl Negotiations {
     fn report(&mut self, random: &mut Random, lent: &Lent) {
         let Lent { tables, negotiation } = lent;
         let judged = judge(tables, negotiation);
+        self.counts.lent(negotiation);
         self.counts.judged(&judged);
-        let count = negotiation.get(14).copied().unwrap_or(0);
+        let count = negotiation.get(NODE_COUNT_AT).copied().unwrap_or(0);
         let mut buffers = [tables, negotiation].map(|content| Guarded::new(random, content));
         let copies = buffers.each_ref().map(|buffer| buffer.bytes.clone());
         for node in nodes_asked(random, count, judged.is_ok()) {
@@ -125,13 +127,16 @@ pub fn ask_negotiations(seed: u64, count: u64) -> (u64, u64) {
         }
     }
     let mut changed_count = 0;
-    for lent in bytes::some_small(&mut random) {
-        bytes::each_byte(&lent, |changed| {
+    let small = bytes::some_small(&mut random);
+    for lent in &small {
+        bytes::each_byte(lent, |changed| {
             all.report(&mut guards, changed);
             changed_count += 1;
         });
+        let negotiation = bytes::in_layout_1(&lent.negotiation);
+        all.report(&mut guards, &Lent { negotiation, ..lent.clone() });
     }
-    println!("{count} negotiations, {changed_count} with each byte changed");
+    println!("{count} negotiations, {changed_count} with each byte changed, {} in layout number 1", small.len());
     all.counts.print();
     let missing = all.counts.missing();
     if count >= 100_000 && !missing.is_empty() {

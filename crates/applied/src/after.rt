@@ -1,6 +1,7 @@
 // What a message leaves, once its commands are carried out.
 use negotiation::Header;
 use negotiation::Negotiation;
+use negotiation::counted;
 use states::state_of;
 ghost use mathlib.Core.Path.{_≡_};
 ghost use mathlib.Core.Bool.{true};
@@ -8,6 +9,7 @@ ghost use Prim.Native.Nat.{_<_};
 ghost use Rattle.graph.specs.laws.Graph.{nodesOf, edgesOf};
 ghost use Rattle.states.specs.laws.Brings.{NodesFormed, EdgesFormed};
 ghost use Rattle.negotiation.specs.laws.State.{stateOf};
+ghost use Rattle.negotiation.specs.Messages.{messageCount};
 ghost use Rattle.negotiation.specs.State.{within};
 ghost use Rattle.applied.specs.After.{endOf, isStalled, idleOf, headerAfter, afterMessage};
 
@@ -39,9 +41,9 @@ fn idle_of(moved: bool) -> u8
     if moved { 0 } else { 1 }
 }
 
-fn header_after(primary: u8, moved: bool, full: bool, h: Header) -> Header
-    requires { ⌜ h .messages < 65535 ⌝ }
-    ensures { λ r. ⌜ r ≡ headerAfter primary moved full h ⌝ }
+fn header_after(sender: u8, primary: u8, moved: bool, full: bool, h: Header) -> Header
+    requires { ⌜ messageCount (h .messages) < 65535 ⌝ }
+    ensures { λ r. ⌜ r ≡ headerAfter sender primary moved full h ⌝ }
 {
     let wanted = h.wanted;
     Header {
@@ -51,19 +53,19 @@ fn header_after(primary: u8, moved: bool, full: bool, h: Header) -> Header
         wanted,
         end: end_of(primary, is_stalled(moved, h.idle), full),
         idle: idle_of(moved),
-        messages: h.messages + 1,
+        messages: counted(sender, h.messages),
     }
 }
 
-// The end is judged, and the message counted.
-pub fn after_message(n: Negotiation, moved: bool, full: bool) -> Negotiation
-    requires { ⌜ (within (stateOf n) ≡ true) × (0 < n .nodes .count) × (n .header .messages < 65535) × NodesFormed (nodesOf (n .nodes))
+// The end is judged, and the message counted for its sender.
+pub fn after_message(sender: u8, n: Negotiation, moved: bool, full: bool) -> Negotiation
+    requires { ⌜ (within (stateOf n) ≡ true) × (0 < n .nodes .count) × (messageCount (n .header .messages) < 65535) × NodesFormed (nodesOf (n .nodes))
         × EdgesFormed (nodesOf (n .nodes)) (edgesOf (n .edges)) ⌝ }
-    ensures { λ r. ⌜ stateOf r ≡ afterMessage (stateOf n) moved full ⌝ }
+    ensures { λ r. ⌜ stateOf r ≡ afterMessage sender (stateOf n) moved full ⌝ }
 {
     let h = n.header;
     let nodes = n.nodes;
     let edges = n.edges;
     let primary = state_of(nodes, edges, 0);
-    n.with_header(header_after(primary, moved, full, h))
+    n.with_header(header_after(sender, primary, moved, full, h))
 }

@@ -13,7 +13,7 @@ use Rattle.class.specs.declared.Name.{Name}
 use Rattle.tables.specs.Tables.{Tables}
 use Rattle.negotiation.specs.State.{State}
 use Rattle.negotiation.specs.Layout.{readState}
-use Rattle.damage.specs.Header.{headerSound, emptySound, countSound, endSound}
+use Rattle.damage.specs.Header.{headerSound, countsAgree, emptySound, countSound, endSound}
 use Rattle.damage.specs.Records.{nodeFits, primarySound, credentialFits}
 use Rattle.damage.specs.Edges.{allBrought}
 
@@ -38,6 +38,7 @@ graphSound ns S =
 unfoldable pub sound : Tables → State → Bool
 sound T S =
     headerSound (T .own) (T .names) (S .header)
+    && countsAgree (S .header .messages)
     && cond (eqb (length (S .nodes)) 0) (emptySound (S .header) (length (S .edges)) (length (S .shown))) (graphSound (T .names) S)
 
 -- the negotiation whose bytes these are, where it is not damaged

@@ -1,5 +1,5 @@
--- The header of a negotiation that is not damaged (document 01, "From the state", 20). Assumes nothing.
-use Prim.Native.Nat.{ℕ}
+-- The header of a negotiation that is not damaged (document 01, "From the state", 20; request 1). Assumes nothing.
+use Prim.Native.Nat.{ℕ, _+_}
 use mathlib.Core.Bool.{Bool, not, cond, _&&_, _||_}
 use mathlib.Core.List.{List}
 use lib.Dec.{eqb, ltb, leb}
@@ -8,6 +8,8 @@ use Rattle.expression.specs.Form.{isRole, isEmpty}
 use Rattle.class.specs.declared.Name.{Name}
 use Rattle.class.specs.Names.{classOf}
 use Rattle.negotiation.specs.declared.Header.{Header}
+use Rattle.negotiation.specs.declared.Messages.{Messages}
+use Rattle.negotiation.specs.Messages.{messageCount}
 use Rattle.numbers.specs.Sizes.{MOST-MESSAGES}
 
 -- the wanted role: of the mediator (side 0) a role whose name has a class, of the requester none
@@ -22,15 +24,19 @@ otherSound own other = not (eqb other 0) && not (eqb other own)
 unfoldable pub headerSound : ℕ → List Name → Header → Bool
 headerSound own ns h = ltb (h .side) 2 && eqb (h .own) own && otherSound (h .own) (h .other) && wantedSound ns (h .side) (h .wanted)
 
--- Count, end and idle
+-- Counts, end and idle
+
+-- request 1: "Counts that are neither equal nor the mediator's one ahead are damage"
+unfoldable pub countsAgree : Messages → Bool
+countsAgree m = eqb (m .mediator) (m .requester) || eqb (m .mediator) (m .requester + 1)
 
 -- without a node: count, end, idle, edges and credentials shown are none
 unfoldable pub emptySound : Header → ℕ → ℕ → Bool
-emptySound h edges shown = eqb (h .messages) 0 && eqb (h .end) 0 && eqb (h .idle) 0 && eqb edges 0 && eqb shown 0
+emptySound h edges shown = eqb (messageCount (h .messages)) 0 && eqb (h .end) 0 && eqb (h .idle) 0 && eqb edges 0 && eqb shown 0
 
 -- with one: "a count above 1,027, or zero with a node"
-unfoldable pub countSound : ℕ → Bool
-countSound n = ltb 0 n && leb n MOST-MESSAGES
+unfoldable pub countSound : Messages → Bool
+countSound m = ltb 0 (messageCount m) && leb (messageCount m) MOST-MESSAGES
 
 -- "an end that the node states contradict": 1 exactly where the primary is satisfied, 2 exactly where it is failed; 3 goes with idle 1,
 -- 1 and 2 with idle 0, 0 and 4 with either

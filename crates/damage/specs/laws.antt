@@ -3,5 +3,5 @@ pub mod Records
 pub mod Edges
 pub mod Turns
 pub mod Damage
-pub mod Proved
 pub mod Going
+pub mod Proved

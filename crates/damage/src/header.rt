@@ -5,11 +5,13 @@ use expression::is_empty;
 use expression::is_role;
 use negotiation::Header;
 use negotiation::MEDIATOR;
+use negotiation::Messages;
+use negotiation::message_count;
 use numbers::MOST_MESSAGES;
 ghost use mathlib.Core.Path.{_≡_};
 ghost use Prim.Native.Nat.{_≤_};
 ghost use Rattle.class.specs.laws.Names.{namesFrom, namesOf, Ascending};
-ghost use Rattle.damage.specs.Header.{wantedSound, headerSound, emptySound, countSound, endSound};
+ghost use Rattle.damage.specs.Header.{wantedSound, headerSound, countsAgree, emptySound, countSound, endSound};
 ghost use Rattle.numbers.specs.Sizes.{MOST-NAMES};
 
 // The wanted role of a side.
@@ -41,18 +43,26 @@ pub fn header_sound<'a>(
         & wanted_sound(k, name, class, h.side, wanted)
 }
 
+// The counts are equal, or the mediator's is one ahead.
+pub fn counts_agree(m: Messages) -> bool
+    ensures { λ b. ⌜ b ≡ countsAgree m ⌝ }
+{
+    (m.mediator == m.requester) | (m.mediator as u32 == m.requester as u32 + 1)
+}
+
 // Where no node stands.
 pub fn empty_sound(h: Header, edges: usize, shown: usize) -> bool
     ensures { λ b. ⌜ b ≡ emptySound h edges shown ⌝ }
 {
-    (h.messages == 0) & (h.end == 0) & (h.idle == 0) & (edges == 0) & (shown == 0)
+    (message_count(h.messages) == 0) & (h.end == 0) & (h.idle == 0) & (edges == 0) & (shown == 0)
 }
 
 // The message count where a node stands.
-pub fn count_sound(n: u16) -> bool
-    ensures { λ b. ⌜ b ≡ countSound n ⌝ }
+pub fn count_sound(m: Messages) -> bool
+    ensures { λ b. ⌜ b ≡ countSound m ⌝ }
 {
-    (0 < n) & (n <= MOST_MESSAGES)
+    let n = message_count(m);
+    (0 < n) & (n <= MOST_MESSAGES as u32)
 }
 
 // The end, by the propagated state of the primary.

@@ -5,6 +5,7 @@ use graph::Edges;
 use graph::Nodes;
 use graph::node_at;
 use header::count_sound;
+use header::counts_agree;
 use header::empty_sound;
 use header::end_sound;
 use header::header_sound;
@@ -198,6 +199,9 @@ pub fn sound(house: House, negotiation: Negotiation) -> bool
     let h = negotiation.header;
     let names = house.names;
     if !header_sound(house.own, names.count, &names.name, &names.class, h) {
+        return false;
+    }
+    if !counts_agree(h.messages) {
         return false;
     }
     if negotiation.nodes.count == 0 {

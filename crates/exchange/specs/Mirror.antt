@@ -8,4 +8,4 @@ use Rattle.reply.specs.Reply.{replyIn}
 
 -- what the other end, in the state R, reaches with the reply of the state S
 abbrev pub otherAfter : Tables → State → State → State
-otherAfter T S R = afterMessage (withHeader (replyIn T S .state) (R .header)) (moved (replyIn T S .commands)) false
+otherAfter T S R = afterMessage (S .header .side) (withHeader (replyIn T S .state) (R .header)) (moved (replyIn T S .commands)) false

@@ -1,4 +1,4 @@
--- The 5,120 bytes of a negotiation, layout number 1 (docs/LAYOUT.md), and what is read from them. Assumes nothing.
+-- The 5,120 bytes of a negotiation, layout number 2 (docs/LAYOUT.md), and what is read from them. Assumes nothing.
 use Prim.Native.Nat.{ℕ, _+_, _*_, _-_, _/_, _%_}
 use mathlib.Core.Bool.{Bool, true, false, cond, _&&_}
 use mathlib.Core.List.{List, [], _∷_, _++_}
@@ -28,12 +28,13 @@ SHOWN-AT = 3712
 
 -- Writing
 
--- layout number 1, side, self, other end, wanted entity and name, end, idle, message count, node count, edge count, shown count
+-- layout number 2, side, self, other end, wanted entity and name, end, idle, messages of the mediator and of the requester, node count, edge
+-- count, shown count
 abbrev pub headerBytes : Header → ℕ → ℕ → ℕ → List ℕ
 headerBytes h nodes edges shown =
-    1 ∷ h .side ∷ h .own / 256 ∷ h .own % 256 ∷ h .other / 256 ∷ h .other % 256 ∷
+    2 ∷ h .side ∷ h .own / 256 ∷ h .own % 256 ∷ h .other / 256 ∷ h .other % 256 ∷
     h .wanted .entity / 256 ∷ h .wanted .entity % 256 ∷ h .wanted .name / 256 ∷ h .wanted .name % 256 ∷
-    h .end ∷ h .idle ∷ h .messages / 256 ∷ h .messages % 256 ∷
+    h .end ∷ h .idle ∷ h .messages .mediator / 256 ∷ h .messages .mediator % 256 ∷ h .messages .requester / 256 ∷ h .messages .requester % 256 ∷
     nodes ∷ edges / 256 ∷ edges % 256 ∷ shown ∷ []
 
 -- expression, subject, verifier, state
@@ -59,7 +60,7 @@ part size f xs = records f xs ++ zeros (size - length (records f xs))
 
 -- the header, zeros up to 127
 unfoldable pub headerPart : State → List ℕ
-headerPart S = headerBytes (S .header) (length (S .nodes)) (length (S .edges)) (length (S .shown)) ++ zeros 110
+headerPart S = headerBytes (S .header) (length (S .nodes)) (length (S .edges)) (length (S .shown)) ++ zeros 108
 
 -- 128 bytes, 128 nodes of 22, 256 edges of 3, 64 credentials of 22
 unfoldable pub stateBytes : State → List ℕ
@@ -77,7 +78,7 @@ headerFrom s =
       wanted = roleAt s 6;
       end = getD s 10 0;
       idle = getD s 11 0;
-      messages = numberAt s 12;
+      messages = record { mediator = numberAt s 12; requester = numberAt s 14 };
     }
 
 abbrev pub nodeFrom : List ℕ → ℕ → Node
@@ -99,9 +100,9 @@ unfoldable pub candidateOf : List ℕ → State
 candidateOf s =
     record {
       header = headerFrom s;
-      nodes = upTo (few MOST-NODES (getD s 14 0)) (λ (i : ℕ). nodeFrom s (NODES-AT + i * 22));
-      edges = upTo (few MOST-EDGES (numberAt s 15)) (λ (j : ℕ). edgeFrom s (EDGES-AT + j * 3));
-      shown = upTo (few MOST-SHOWN (getD s 17 0)) (λ (k : ℕ). credentialFrom s (SHOWN-AT + k * 22));
+      nodes = upTo (few MOST-NODES (getD s 16 0)) (λ (i : ℕ). nodeFrom s (NODES-AT + i * 22));
+      edges = upTo (few MOST-EDGES (numberAt s 17)) (λ (j : ℕ). edgeFrom s (EDGES-AT + j * 3));
+      shown = upTo (few MOST-SHOWN (getD s 19 0)) (λ (k : ℕ). credentialFrom s (SHOWN-AT + k * 22));
     }
 
 unfoldable pub sameBytes : List ℕ → List ℕ → Bool

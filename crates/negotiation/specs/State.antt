@@ -22,7 +22,7 @@ pub record State : Type 0 where
 unfoldable pub freshState : ℕ → ℕ → ℕ → Role → State
 freshState side own other wanted =
     record {
-      header = record { side = side; own = own; other = other; wanted = wanted; end = 0; idle = 0; messages = 0 };
+      header = record { side = side; own = own; other = other; wanted = wanted; end = 0; idle = 0; messages = record { mediator = 0; requester = 0 } };
       nodes = [];
       edges = [];
       shown = [];

@@ -1,3 +1,4 @@
+pub mod Messages
 pub mod State
 pub mod Within
 pub mod Layout

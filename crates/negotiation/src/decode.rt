@@ -2,6 +2,7 @@
 use crate::EDGE_BYTES;
 use crate::EDGES_AT;
 use crate::Header;
+use crate::Messages;
 use crate::NODE_BYTES;
 use crate::NODES_AT;
 use crate::Negotiation;
@@ -33,7 +34,7 @@ ghost use Rattle.negotiation.specs.Layout.{headerFrom, nodeFrom, edgeFro
 ghost use Rattle.negotiation.specs.laws.Layout.{readingOf};
 
 fn header_from(s: &[u8]) -> Header
-    requires { ⌜ 18 ≤ length (now s) ⌝ }
+    requires { ⌜ 20 ≤ length (now s) ⌝ }
     ensures { λ h. ⌜ h ≡ headerFrom (now (s .entry)) ⌝ }
 {
     Header {
@@ -43,7 +44,10 @@ fn header_from(s: &[u8]) -> Header
         wanted: role_at(s, 6),
         end: s[10],
         idle: s[11],
-        messages: number_at(s, 12),
+        messages: Messages {
+            mediator: number_at(s, 12),
+            requester: number_at(s, 14),
+        },
     }
 }
 
@@ -125,9 +129,9 @@ pub fn candidate(s: &[u8]) -> Negotiation
     requires { ⌜ length (now s) ≡ NEGOTIATION-BYTES ⌝ }
     ensures { λ r. ⌜ stateOf r ≡ candidateOf (now (s .entry)) ⌝ }
 {
-    let nodes = at_most(Negotiation::NODES, s[14] as usize);
-    let edges = at_most(Negotiation::EDGES, number_at(s, 15) as usize);
-    let shown = at_most(Negotiation::SHOWN, s[17] as usize);
+    let nodes = at_most(Negotiation::NODES, s[16] as usize);
+    let edges = at_most(Negotiation::EDGES, number_at(s, 17) as usize);
+    let shown = at_most(Negotiation::SHOWN, s[19] as usize);
     Negotiation {
         header: header_from(s),
         nodes: read_nodes(s, nodes),

@@ -1,4 +1,4 @@
-// A negotiation becomes bytes: layout number 1.
+// A negotiation becomes bytes: layout number 2.
 use crate::EDGE_BYTES;
 use crate::EDGES_AT;
 use crate::Header;
@@ -41,14 +41,15 @@ pub fn write_zeros(buf: &mut [u8], from: usize, to: usize)
     }
 }
 
-// The first 18 bytes.
-fn header_bytes(h: Header, nodes: usize, edges: usize, shown: usize) -> [u8; 18]
+// The first 20 bytes.
+fn header_bytes(h: Header, nodes: usize, edges: usize, shown: usize) -> [u8; 20]
     requires { ⌜ (nodes ≤ MOST-NODES) × (edges ≤ MOST-EDGES) × (shown ≤ MOST-SHOWN) ⌝ }
     ensures { λ b. ⌜ b ≡ headerBytes h nodes edges shown ⌝ }
 {
     let wanted = h.wanted;
+    let messages = h.messages;
     [
-        1,
+        2,
         h.side,
         (h.own / 256) as u8,
         (h.own % 256) as u8,
@@ -60,8 +61,10 @@ fn header_bytes(h: Header, nodes: usize, edges: usize, shown: usize) -> [u8; 18]
         (wanted.name % 256) as u8,
         h.end,
         h.idle,
-        (h.messages / 256) as u8,
-        (h.messages % 256) as u8,
+        (messages.mediator / 256) as u8,
+        (messages.mediator % 256) as u8,
+        (messages.requester / 256) as u8,
+        (messages.requester % 256) as u8,
         nodes as u8,
         (edges / 256) as u8,
         (edges % 256) as u8,
@@ -174,7 +177,7 @@ pub fn write(n: Negotiation, buf: &mut [u8])
 {
     let b = header_bytes(n.header, n.nodes.count, n.edges.count, n.shown.count);
     copy_in(buf, 0, &b);
-    write_zeros(buf, 18, NODES_AT);
+    write_zeros(buf, 20, NODES_AT);
     write_nodes(
         buf,
         n.nodes.count,

@@ -14,6 +14,8 @@ ghost use mathlib.Core.Path.{_≡_};
 ghost use Prim.Native.Nat.{_≤_, _<_};
 ghost use Rattle.negotiation.specs.laws.State.{stateOf};
 ghost use Rattle.negotiation.specs.State.{freshState, withNode, withEdge, withShown, withMark, withHeader};
+pub use counts::counted;
+pub use counts::message_count;
 pub use decode::candidate;
 pub use decode::read;
 pub use encode::write;
@@ -24,12 +26,13 @@ pub use ends::entity_of;
 pub use ends::requester;
 ghost use Rattle.numbers.specs.Sizes.{MOST-NODES, MOST-EDGES, MOST-SHOWN};
 
+mod counts;
 mod decode;
 mod encode;
 mod ends;
 
 // Our side (0 mediator, 1 requester), self and the other end, the wanted role (zeros for the requester, who is not told it), the end,
-// whether the last message had no open, edge or mark, and how many messages were accepted and replies given.
+// whether the last message had no open, edge or mark, and the messages of each end.
 pub struct Header {
     pub side: u8,
     pub own: u16,
@@ -37,7 +40,13 @@ pub struct Header {
     pub wanted: Role,
     pub end: u8,
     pub idle: u8,
-    pub messages: u16,
+    pub messages: Messages,
+}
+
+// How many messages of the mediator and of the requester were accepted or given.
+pub struct Messages {
+    pub mediator: u16,
+    pub requester: u16,
 }
 
 // The graph, and the credentials shown so far by either end.
@@ -83,7 +92,10 @@ impl Negotiation {
                 wanted,
                 end: 0,
                 idle: 0,
-                messages: 0,
+                messages: Messages {
+                    mediator: 0,
+                    requester: 0,
+                },
             },
             nodes: Nodes::empty(),
             edges: Edges::empty(),

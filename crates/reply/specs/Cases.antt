@@ -111,7 +111,7 @@ allLegal ns s S (c ∷ cs) = eqb (legalNumber ns s S c) 0 && allLegal ns s (step
 
 -- what the message leaves at the end that takes it
 abbrev takenState : ℕ → State → List Command → State
-takenState s R cs = afterMessage (carried s R cs) (moved cs) false
+takenState s R cs = afterMessage s (carried s R cs) (moved cs) false
 
 -- so many messages, the first by the end of tables T in state S to that of U in R, and then in turn
 abbrev play : ℕ → Tables → State → Tables → State → List Turn

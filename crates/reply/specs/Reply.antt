@@ -57,9 +57,9 @@ opening T S =
 unfoldable pub replyIn : Tables → State → Replied
 replyIn T S = replyFrom MOST-MESSAGE-BYTES T (carried (S .header .side) S (opening T S)) (opening T S)
 
--- what the reply leaves: "success, failed, stalled, full, in that order"
+-- what the reply leaves, counted for our side: "success, failed, stalled, full, in that order"
 unfoldable pub repliedState : Replied → State
-repliedState r = afterMessage (r .state) (moved (r .commands)) (r .full)
+repliedState r = afterMessage (r .state .header .side) (r .state) (moved (r .commands)) (r .full)
 
 -- "Then 0x06 is written"
 unfoldable pub replyBytes : Replied → List ℕ

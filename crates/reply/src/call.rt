@@ -96,7 +96,7 @@ fn replied_in(house: House, n: Negotiation, s: &mut [u8]) -> Replying
     let b = begun(house, n, s);
     let own = prepare(house);
     let r = reply_from(own, b.negotiation, b.at, s);
-    let after = after_message(r.negotiation, r.at != 0, r.full);
+    let after = after_message(h.side, r.negotiation, r.at != 0, r.full);
     write_command(s, r.at, Command::End);
     replying(0, after, r.at + 1, r.full)
 }

@@ -6,6 +6,7 @@ use lib.Dec.{ltb}
 use lib.ListN.{length}
 use Rattle.graph.specs.Graph.{nodeIn}
 use Rattle.graph.specs.Propagated.{propagatedState}
+use Rattle.negotiation.specs.declared.Messages.{Messages}
 use Rattle.negotiation.specs.State.{State}
 use Rattle.standing.specs.Standing.{restoreOf}
 use Rattle.numbers.specs.Answer.{Answer, refused, accepted, onward}
@@ -13,7 +14,7 @@ use Rattle.numbers.specs.Refusals.{ABSENT}
 use Rattle.tables.specs.Tables.{Tables}
 
 -- "a node's state byte and its propagated state, ..; the end, counts of nodes, edges, shown credentials, messages accepted and replies given
--- together"
+-- together", those of the mediator and those of the requester
 pub record Report : Type 0 where
   pub state : ℕ
   pub propagated : ℕ
@@ -21,7 +22,7 @@ pub record Report : Type 0 where
   pub nodes : ℕ
   pub edges : ℕ
   pub shown : ℕ
-  pub messages : ℕ
+  pub messages : Messages
 
 -- what stands in a negotiation, of node i
 unfoldable pub reportOn : State → ℕ → Report
@@ -46,10 +47,12 @@ reportOf tables negotiation i = behindNegotiation i (restoreOf tables negotiatio
 
 -- The answer
 
--- from the low bits: state byte (2 bits), propagated state (2), end (3), nodes (8), edges (9), shown (7), messages (11)
+-- from the low bits: state byte (2 bits), propagated state (2), end (3), nodes (8), edges (9), shown (7), messages of the mediator (10), of the
+-- requester (10)
 unfoldable pub packed : Report → ℕ
 packed r =
-    r .state + (r .propagated + (r .end + (r .nodes + (r .edges + (r .shown + r .messages * 128) * 512) * 256) * 8) * 4) * 4
+    r .state + (r .propagated + (r .end + (r .nodes + (r .edges + (r .shown + (r .messages .mediator + r .messages .requester * 1024) * 128) * 512) * 256) * 8)
+    * 4) * 4
 
 unfoldable pub unpacked : ℕ → Report
 unpacked v =
@@ -60,5 +63,5 @@ unpacked v =
       nodes = v / 4 / 4 / 8 % 256;
       edges = v / 4 / 4 / 8 / 256 % 512;
       shown = v / 4 / 4 / 8 / 256 / 512 % 128;
-      messages = v / 4 / 4 / 8 / 256 / 512 / 128;
+      messages = record { mediator = v / 4 / 4 / 8 / 256 / 512 / 128 % 1024; requester = v / 4 / 4 / 8 / 256 / 512 / 128 / 1024 };
     }

@@ -1,4 +1,5 @@
 // The report on a node of a negotiation.
+use negotiation::Messages;
 use negotiation::Negotiation;
 use numbers::ABSENT;
 use standing::restore;
@@ -39,12 +40,14 @@ fn pack(
     nodes: usize,
     edges: usize,
     shown: usize,
-    messages: u16,
+    messages: Messages,
 ) -> u64
-    requires { ⌜ (nodes ≤ MOST-NODES) × (edges ≤ MOST-EDGES) × (shown ≤ MOST-SHOWN) ⌝ }
+    requires { ⌜ (nodes ≤ MOST-NODES) × (edges ≤ MOST-EDGES) × (shown ≤ MOST-SHOWN)
+        × (messages .mediator < 1024) × (messages .requester < 1024) ⌝ }
     ensures { λ r. ⌜ (r ≡ packed (numbered state propagated end nodes edges shown messages)) × (r < 36028797018963968) ⌝ }
 {
-    let a = wide_size(shown) + wide16(messages) * 128;
+    let m = wide16(messages.mediator) + wide16(messages.requester) * 1024;
+    let a = wide_size(shown) + m * 128;
     let b = wide_size(edges) + a * 512;
     let c = wide_size(nodes) + b * 256;
     let d = wide(end) + c * 8;
@@ -55,6 +58,7 @@ fn pack(
 // What is reported on node i, in one number.
 fn report_on(n: Negotiation, i: usize) -> u64
     requires { ⌜ (i < n .nodes .count) × (n .nodes .count ≤ MOST-NODES) × (n .edges .count ≤ MOST-EDGES) × (n .shown .count ≤ MOST-SHOWN)
+        × (n .header .messages .mediator < 1024) × (n .header .messages .requester < 1024)
         × NodesFormed (nodesOf (n .nodes)) × EdgesFormed (nodesOf (n .nodes)) (edgesOf (n .edges)) ⌝ }
     ensures { λ r. ⌜ (r ≡ packed (reportOn (stateOf n) i)) × (r < 36028797018963968) ⌝ }
 {

@@ -42,12 +42,12 @@ unfoldable pub messagesOf : List ℕ → State → List Call → List Message
 messagesOf tables S [] = []
 messagesOf tables S (c ∷ cs) = messageOf tables S c ++ messagesOf tables (afterCall tables S c) cs
 
--- the commands in the bytes of messages, each a legal update, lead from one state to another; behind a message its count and its end are set,
--- full where the sender stopped on a size
+-- the commands in the bytes of messages, each a legal update, lead from one state to another; a message is counted for its sender, and its end
+-- set, full where the sender stopped on a size
 pub data Builds (ns : List Name) : State → List Message → State → Type 0 where
   none : {S : State} → Builds ns S [] S
   next : {S L N : State} {m : Message} {ms : List Message} (commands : List Command) (full : Bool) → m .bytes ≡ messageBytes commands
-      → Updates ns (m .sender) S commands L → Builds ns (afterMessage L (moved commands) full) ms N → Builds ns S (m ∷ ms) N
+      → Updates ns (m .sender) S commands L → Builds ns (afterMessage (m .sender) L (moved commands) full) ms N → Builds ns S (m ∷ ms) N
 
 -- the message that a call is lent consists of bytes
 abbrev pub LentBytes : Call → Type 0

@@ -1,4 +1,5 @@
 pub mod Runs
 pub mod Built
+pub mod Counted
 pub mod Cases
 pub mod laws

@@ -58,6 +58,11 @@ unfoldable pub run : List ℕ → List ℕ → List Call → List Left
 run tables negotiation [] = []
 run tables negotiation (c ∷ cs) = leftBy tables negotiation c ∷ run tables (leftBy tables negotiation c .negotiation) cs
 
+-- the negotiation that the last of them left
+unfoldable pub lastOf : List ℕ → List Left → List ℕ
+lastOf negotiation [] = negotiation
+lastOf negotiation (x ∷ xs) = lastOf (x .negotiation) xs
+
 -- The graph
 
 -- what a message accepted or a reply given leads to

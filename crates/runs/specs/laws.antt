@@ -6,4 +6,5 @@ pub mod Stays
 pub mod TwoReplies
 pub mod Acknowledged
 pub mod Built
+pub mod Counted
 pub mod Cases

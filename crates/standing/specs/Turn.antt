@@ -2,12 +2,14 @@
 use Prim.Native.Nat.{ℕ, _%_}
 use mathlib.Core.Bool.{Bool}
 use lib.Dec.{eqb}
+use Rattle.negotiation.specs.declared.Messages.{Messages}
+use Rattle.negotiation.specs.Messages.{messageCount}
 use Rattle.negotiation.specs.State.{State}
 use Rattle.negotiation.specs.Ends.{otherSide}
 
--- "the mediator sends when it is even": whether side s sends once n messages are counted
-unfoldable pub sends : ℕ → ℕ → Bool
-sends s n = eqb (n % 2) s
+-- "the mediator sends when it is even": whether side s sends once these messages are counted
+unfoldable pub sends : ℕ → Messages → Bool
+sends s m = eqb (messageCount m % 2) s
 
 -- the side that sends a message to us
 abbrev pub senderTo : State → ℕ

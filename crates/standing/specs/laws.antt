@@ -1,3 +1,4 @@
+pub mod Turn
 pub mod Standing
 pub mod StandingPublic
 pub mod Exactly

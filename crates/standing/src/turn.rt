@@ -1,4 +1,6 @@
 // Whose turn it is.
+use negotiation::Messages;
+use negotiation::message_count;
 ghost use mathlib.Core.Path.{_≡_};
 ghost use Rattle.negotiation.specs.Ends.{otherSide};
 ghost use Rattle.standing.specs.Turn.{sends as sendsAt};
@@ -10,8 +12,8 @@ pub fn other_side(side: u8) -> u8
 }
 
 // Whether a side sends next.
-pub fn sends(side: u8, messages: u16) -> bool
+pub fn sends(side: u8, messages: Messages) -> bool
     ensures { λ r. ⌜ r ≡ sendsAt side messages ⌝ }
 {
-    messages % 2 == side as u16
+    message_count(messages) % 2 == side as u32
 }

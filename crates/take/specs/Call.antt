@@ -25,12 +25,12 @@ pub record InTurn (S : State) : Type 0 where
   pub going : S .header .end ≡ 0
   pub turn : sends (senderTo S) (S .header .messages) ≡ true
 
--- the message holds legal commands and an end, and A is what they lead to, the end being judged
+-- the message holds legal commands and an end, and A is what they lead to, the message counted for its sender and the end judged
 pub record Accepted (T : Tables) (S : State) (message : List ℕ) (A : State) : Type 0 where
   pub commands : List Command
   pub led : State
   pub carries : Carries (T .names) (senderTo S) message S commands led
-  pub after : A ≡ afterMessage led (moved commands) false
+  pub after : A ≡ afterMessage (senderTo S) led (moved commands) false
 
 -- why a call is refused with k, in the order of "From the state"
 pub data Refusal (tables negotiation message scratch : List ℕ) (k : ℕ) : Type 0 where

@@ -14,16 +14,16 @@ use Rattle.numbers.specs.Refusals.{LENGTH, TURN, ENDED}
 use Rattle.numbers.specs.Sizes.{MOST-MESSAGE-BYTES, SCRATCH-BYTES}
 use Rattle.numbers.specs.Answer.{Answer, refused, accepted, onward}
 
--- the end is judged after the message
-abbrev pub behindCommands : Answer (State × Bool) → Answer State
-behindCommands a = onward (λ x. accepted (afterMessage (x .0) (x .1) false)) a
+-- the end is judged after the message, which is counted for its sender
+abbrev pub behindCommands : ℕ → Answer (State × Bool) → Answer State
+behindCommands sender a = onward (λ x. accepted (afterMessage sender (x .0) (x .1) false)) a
 
 -- "22 already ended", "21 not that side's turn", then the commands left to right
 unfoldable pub takenIn : List ℕ → Tables → State → Answer State
 takenIn message T S =
     cond (not (eqb (S .header .end) 0)) (refused ENDED)
     (cond (not (sends (senderTo S) (S .header .messages))) (refused TURN)
-    (behindCommands (C.commandsFrom (length message) (T .names) (senderTo S) message 0 S false)))
+    (behindCommands (senderTo S) (C.commandsFrom (length message) (T .names) (senderTo S) message 0 S false)))
 
 abbrev pub behindStanding : List ℕ → Answer (Tables × State) → Answer State
 behindStanding message a = onward (λ x. takenIn message (x .0) (x .1)) a

@@ -55,7 +55,7 @@ fn taken_in(house: House, n: Negotiation, message: &[u8]) -> Taking
     if t.refusal != 0 {
         return t;
     }
-    let after = after_message(t.negotiation, t.moved, false);
+    let after = after_message(sender, t.negotiation, t.moved, false);
     taking(0, t.moved, after)
 }
 

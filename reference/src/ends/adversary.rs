@@ -5,6 +5,7 @@ use crate::ends::two_ends::TwoEnds;
 use crate::message::plan::Plan;
 use crate::message::take::{sender, SCRATCH_BYTES};
 use crate::message::MOST_MESSAGE_BYTES;
+use crate::negotiation::faults;
 use crate::negotiation::*;
 use crate::random::Random;
 use crate::rules::expression::Role;
@@ -63,20 +64,24 @@ impl Random {
             negotiation.end = 0;
         }
         if !negotiation.nodes.is_empty() && sender(&negotiation) != negotiation.side && self.percent(95) {
-            negotiation.messages = if negotiation.messages > 1 { negotiation.messages - 1 } else { 2 };
+            let count = negotiation.messages.count();
+            negotiation.messages = Messages::in_turn(if count > 1 { count - 1 } else { 2 });
         }
         (tables, negotiation)
     }
 
     /// A reply onto such a negotiation, some with a fault.
     fn reply_to_graph(&mut self, calls: &mut impl Calls) {
-        let (tables, negotiation) = self.some_graph();
+        let (tables, mut negotiation) = self.some_graph();
+        if self.percent(5) {
+            faults::messages(self, &tables.house, &mut negotiation);
+        }
         let mut lent = self.lent_reply(tables.records.concat(), encode(&negotiation));
         match self.below(20) {
             0 => self.other_reply_lengths(&mut lent),
             1 => lent.tables = self.tables(),
             2 => {
-                let at = if self.percent(50) { self.below(18) } else { self.below(NEGOTIATION_BYTES) };
+                let at = if self.percent(50) { self.below(HEADER_USED) } else { self.below(NEGOTIATION_BYTES) };
                 lent.negotiation[at] ^= 1 << self.below(8);
             }
             _ => {}
@@ -85,10 +90,12 @@ impl Random {
     }
 }
 
-/// One end that follows the rules, and what the other one can say to it.
+/// One end that follows the rules, and what the other one can say to it; and how many messages of each were accepted or
+/// given since it began.
 struct Played {
     plan: Plan,
     negotiation: Vec<u8>,
+    messages: Messages,
 }
 
 impl Played {
@@ -104,13 +111,15 @@ impl Played {
         let mut negotiation = vec![0xff; NEGOTIATION_BYTES];
         assert_eq!(calls.begin(&tables.records.concat(), &mut negotiation, whole.other, wanted), 0);
         let now = Negotiation::fresh(whole.side, whole.own, whole.other, wanted);
-        Played { plan: Plan { tables, now, whole }, negotiation }
+        Played { plan: Plan { tables, now, whole }, negotiation, messages: Messages::default() }
     }
 
-    /// Keeps the negotiation that a call left.
-    fn keep(&mut self, negotiation: Vec<u8>) {
+    /// Keeps the negotiation that a message of this side left, which counts the messages so far.
+    fn keep(&mut self, negotiation: Vec<u8>, sender: Side) {
         self.plan.now = decode(&negotiation).unwrap_or_else(|clause| unreachable!("damaged: {clause:?}"));
         self.negotiation = negotiation;
+        self.messages.add(sender);
+        assert_eq!(self.plan.now.messages, self.messages);
     }
 
     /// Our reply, sometimes after one that is refused. Given on the other's turn it is refused too.
@@ -122,7 +131,7 @@ impl Played {
             other.reply(calls);
         }
         if lent.reply(calls).is_multiple_of(256) {
-            self.keep(lent.negotiation);
+            self.keep(lent.negotiation, self.plan.now.side);
         }
     }
 
@@ -132,7 +141,7 @@ impl Played {
         let ours = lent.negotiation == self.negotiation;
         let answer = calls.take(&lent.tables, &mut lent.negotiation, &lent.message, &mut lent.scratch);
         if answer == 0 && ours {
-            self.keep(lent.negotiation);
+            self.keep(lent.negotiation, self.plan.now.side.opposite());
         }
     }
 

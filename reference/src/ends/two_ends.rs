@@ -42,10 +42,11 @@ impl End {
     }
 }
 
-/// The mediator and the requester, and the messages so far.
+/// The mediator and the requester, the messages so far, and how many of them each end sent.
 pub struct TwoEnds {
     pub ends: [End; 2],
     pub messages: Vec<Vec<u8>>,
+    sent: [u16; 2],
 }
 
 impl TwoEnds {
@@ -58,14 +59,15 @@ impl TwoEnds {
             End::begun(calls, mediator, requesting, wanted),
             End::begun(calls, requester, mediating, Role { entity: 0, name: 0 }),
         ];
-        TwoEnds { ends, messages: vec![] }
+        TwoEnds { ends, messages: vec![], sent: [0; 2] }
     }
 
     pub fn sender(&self) -> usize {
         self.messages.len() % 2
     }
 
-    /// One reply, and its take at the other end, which must not refuse it. Both ends hold the same graph then.
+    /// One reply, and its take at the other end, which must not refuse it. Both ends hold the same graph then, and the
+    /// counts of the messages that were carried.
     pub fn next(&mut self, calls: &mut impl Calls) -> &[u8] {
         let sender = self.sender();
         let message = self.ends[sender].reply(calls);
@@ -73,7 +75,10 @@ impl TwoEnds {
         assert_eq!(answer, 0, "an honest message was refused");
         let [given, taken] = [sender, 1 - sender].map(|end| self.ends[end].state());
         assert_eq!((given.nodes, given.edges, given.shown), (taken.nodes, taken.edges, taken.shown));
-        assert_eq!((given.idle, given.messages), (taken.idle, taken.messages));
+        assert_eq!(given.idle, taken.idle);
+        self.sent[sender] += 1;
+        let [mediator, requester] = self.sent;
+        assert_eq!([given.messages, taken.messages], [Messages { mediator, requester }; 2]);
         // Full is known to the end that gives the reply alone.
         assert_eq!(if given.end == 4 { 0 } else { given.end }, taken.end);
         self.messages.push(message);

@@ -77,7 +77,8 @@ impl Random {
     fn other_turn(&mut self, plan: &Plan, lent: &mut Lent) {
         let mut negotiation = plan.now.clone();
         if negotiation.nodes.is_empty() || self.percent(50) {
-            negotiation.messages = negotiation.messages.wrapping_sub(1);
+            let count = negotiation.messages.count();
+            negotiation.messages = Messages::in_turn(if count > 0 { count - 1 } else { 1 });
         } else if negotiation.end == 0 {
             (negotiation.end, negotiation.idle) = [(3, true), (4, true), (4, false)][self.below(3)];
         }
@@ -107,7 +108,9 @@ pub fn many(random: &mut Random, count: u64, mut ask: impl FnMut(&Lent) -> Resul
     for i in 0..count {
         let judged = ask(&random.lent_message(&plan));
         match judged {
-            Ok(Accepted { after, .. }) if after.end == 0 && after.messages < MOST_MESSAGES && random.percent(60) => {
+            Ok(Accepted { after, .. })
+                if after.end == 0 && after.messages.count() < MOST_MESSAGES && random.percent(60) =>
+            {
                 plan.turn(random, after);
             }
             _ => {

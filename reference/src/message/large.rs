@@ -34,7 +34,7 @@ fn one_node(shown: impl IntoIterator<Item = Command>) -> Writer {
 
 /// What the writer has written was an earlier message.
 fn go_on(writer: Writer) -> Writer {
-    Writer::new(plain_tables(REQUESTER), Negotiation { messages: 2, ..writer.now })
+    Writer::new(plain_tables(REQUESTER), Negotiation { messages: Messages::in_turn(2), ..writer.now })
 }
 
 /// Writes a command if it is legal and fits within the most bytes of a message.

@@ -44,7 +44,8 @@ impl Plan {
             house.own = self.now.own;
             self.tables.records[0] = encode_record(&Record::Own(house.own));
         } else {
-            self.now = Negotiation { messages: after.messages + 1, idle: random.percent(30), ..after };
+            self.now = Negotiation { idle: random.percent(30), ..after };
+            self.now.messages.add(self.now.side);
         }
     }
 }
@@ -126,9 +127,9 @@ impl Random {
             Propagated::Failed => (2, false),
             Propagated::Open => (0, self.percent(30)),
         };
-        let odd = (part.side == Side::Mediator) as u16;
-        let count = [1, 1, self.between(1, 8), self.between(1, 512), 513][self.below(5)] as u16;
-        part.messages = (2 * count + odd).min(MOST_MESSAGES - 1 + odd);
+        let odd = (part.side == Side::Mediator) as u32;
+        let count = [1, 1, self.between(1, 8), self.between(1, 512), 513][self.below(5)] as u32;
+        part.messages = Messages::in_turn((2 * count + odd).min(MOST_MESSAGES - 1 + odd));
     }
 
     /// Rarely, credentials or control edges up to the size or one below.

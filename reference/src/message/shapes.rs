@@ -118,7 +118,8 @@ fn control_joins(nodes: &[Node]) -> Vec<Command> {
 fn credential_runs() -> Vec<Run> {
     let mut writer = opening();
     (0..MOST_SHOWN).for_each(|i| writer.must(shown(i)));
-    let next = Writer::new(plain_tables(REQUESTER), Negotiation { messages: 2, ..writer.now.clone() });
+    let next =
+        Writer::new(plain_tables(REQUESTER), Negotiation { messages: Messages::in_turn(2), ..writer.now.clone() });
     vec![
         writer.finish("64 credentials"),
         writer.finish_with("65 credentials", &[shown(64)], 28),

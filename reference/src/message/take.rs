@@ -48,7 +48,7 @@ fn all_lengths_fit(tables: &[u8], negotiation: &[u8], message: &[u8], scratch: &
 
 /// The side that sends the next message: the mediator when the count is even.
 pub fn sender(negotiation: &Negotiation) -> Side {
-    if negotiation.messages.is_multiple_of(2) {
+    if negotiation.messages.count().is_multiple_of(2) {
         Side::Mediator
     } else {
         Side::Requester
@@ -76,12 +76,12 @@ fn all_commands(tables: &Tables, negotiation: &mut Negotiation, message: &[u8]) 
     Ok(commands)
 }
 
-/// Counts the message and judges the end: success, failed, stalled, or none.
+/// Counts the other side's message and judges the end: success, failed, stalled, or none.
 ///
 /// A message without a move changes no node and no edge, so no message ends in success or failure and is idle.
 fn close(negotiation: &mut Negotiation, idle: bool) {
     let idle_before = negotiation.idle;
-    negotiation.messages += 1;
+    negotiation.messages.add(negotiation.side.opposite());
     negotiation.idle = idle;
     negotiation.end = match propagated(&negotiation.nodes, &negotiation.edges)[0] {
         Propagated::Done => 1,

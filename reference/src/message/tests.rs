@@ -94,7 +94,7 @@ fn lent(before: &Negotiation, message: Vec<u8>) -> Lent {
 fn reached(commands: &[Command]) -> Negotiation {
     let mut writer = Writer::new(tables(), fresh());
     commands.iter().for_each(|command| writer.must(command.clone()));
-    Negotiation { messages: 2, ..writer.now }
+    Negotiation { messages: Messages::in_turn(2), ..writer.now }
 }
 
 /// The answers to the bytes as a message, with an end.
@@ -149,11 +149,11 @@ fn before_the_message() {
     assert_eq!(lend(&opened, &[0x10, 0, 2, 0x14, 0, 1, 0, 1, 0, 1, 0, 1]), 4);
     assert_eq!(lend(&opened, &[0x10, 0, 2, 0x11, 0, 1, 1, 0x14, 0, 1, 0, 1, 0, 1, 0, 1]), 5);
     assert_eq!(lend(&opened, &[0x10, 0, 2, 0x10, 0, 2]), 6);
-    let ended = Negotiation { end: 4, messages: 3, ..opened.clone() };
-    assert_eq!(lend(&Negotiation { messages: 0, ..ended.clone() }, &tables), 20);
+    let ended = Negotiation { end: 4, messages: Messages::in_turn(3), ..opened.clone() };
+    assert_eq!(lend(&Negotiation { messages: Messages::in_turn(0), ..ended.clone() }, &tables), 20);
     // Ended before not our turn.
     assert_eq!(lend(&ended, &tables), 22);
-    assert_eq!(lend(&Negotiation { messages: 3, ..opened.clone() }, &tables), 21);
+    assert_eq!(lend(&Negotiation { messages: Messages::in_turn(3), ..opened.clone() }, &tables), 21);
     let mediator = other_end(&Negotiation { own: 1, other: 2, ..opened });
     assert_eq!(mediator.own, 2);
     assert_eq!(lend(&mediator, &tables), 20);
@@ -321,37 +321,40 @@ fn processed() {
 
 #[test]
 fn ends() {
-    let closed = |negotiation: Negotiation| (negotiation.end, negotiation.idle, negotiation.messages);
+    let closed = |negotiation: Negotiation| {
+        let Negotiation { end, idle, messages, .. } = negotiation;
+        (end, idle, [messages.mediator, messages.requester])
+    };
     let opened = opened();
     let shown = credential(role(1, 1), Expression::Entity(2));
     let proof = child(1, 0, Form::Target(Expression::Entity(2)), 2, 3);
-    assert_eq!(closed(after(&opened, &[shown.clone(), proof.clone()])), (1, false, 3));
-    assert_eq!(closed(after(&opened, &[Command::Mark(0)])), (0, false, 3));
+    assert_eq!(closed(after(&opened, &[shown.clone(), proof.clone()])), (1, false, [2, 1]));
+    assert_eq!(closed(after(&opened, &[Command::Mark(0)])), (0, false, [2, 1]));
     let by_other = reached(&[Command::Open(role(1, 1), 2)]);
-    assert_eq!(closed(after(&by_other, &[Command::Mark(0)])), (2, false, 3));
-    assert_eq!(closed(after(&fresh(), &[Command::Open(role(1, 1), 3)])), (2, false, 1));
+    assert_eq!(closed(after(&by_other, &[Command::Mark(0)])), (2, false, [2, 1]));
+    assert_eq!(closed(after(&fresh(), &[Command::Open(role(1, 1), 3)])), (2, false, [1, 0]));
     // Credentials alone are idle; twice is stalled.
-    assert_eq!(closed(after(&opened, &[])), (0, true, 3));
-    assert_eq!(closed(after(&opened, from_ref(&shown))), (0, true, 3));
+    assert_eq!(closed(after(&opened, &[])), (0, true, [2, 1]));
+    assert_eq!(closed(after(&opened, from_ref(&shown))), (0, true, [2, 1]));
     let idle = Negotiation { idle: true, ..opened };
-    assert_eq!(closed(after(&idle, &[])), (3, true, 3));
-    assert_eq!(closed(after(&idle, from_ref(&shown))), (3, true, 3));
-    assert_eq!(closed(after(&idle, &[Command::Mark(0)])), (0, false, 3));
-    assert_eq!(closed(after(&idle, &[shown, proof])), (1, false, 3));
+    assert_eq!(closed(after(&idle, &[])), (3, true, [2, 1]));
+    assert_eq!(closed(after(&idle, from_ref(&shown))), (3, true, [2, 1]));
+    assert_eq!(closed(after(&idle, &[Command::Mark(0)])), (0, false, [2, 1]));
+    assert_eq!(closed(after(&idle, &[shown, proof])), (1, false, [2, 1]));
     // The most messages is no size of take's.
-    let most = Negotiation { messages: 1026, ..idle };
-    assert_eq!(closed(after(&most, &[Command::Mark(0)])), (0, false, 1027));
+    let most = Negotiation { messages: Messages::in_turn(1026), ..idle };
+    assert_eq!(closed(after(&most, &[Command::Mark(0)])), (0, false, [514, 513]));
 }
 
 /// The mediator at the greatest count takes one message more, and what follows is damaged.
 #[test]
 fn beyond_the_greatest_count() {
     let opened = opened();
-    let mut before = other_end(&Negotiation { messages: 1027, ..opened });
+    let mut before = other_end(&Negotiation { messages: Messages::in_turn(1027), ..opened });
     (before.own, before.other) = (2, 3);
     before.nodes[0].subject = 3;
     let mut lent = lent(&before, vec![MARK, 0, END]);
     assert_eq!(take(&lent.tables, &mut lent.negotiation, &lent.message, &mut lent.scratch), 0);
-    assert_eq!(lent.negotiation[12..14], 1028u16.to_be_bytes());
+    assert_eq!(lent.negotiation[12..16], [2, 2, 2, 2]);
     assert_eq!(answer(&lent), 20);
 }

@@ -1,6 +1,6 @@
 //! Random and faulty negotiations with their tables, in bytes.
 
-use crate::negotiation::faults::NEGOTIATION_FAULTS;
+use crate::negotiation::faults::{self, NEGOTIATION_FAULTS};
 use crate::negotiation::sample::{Extent, Grown, ALL_CLASSES};
 use crate::negotiation::shapes::marked_case;
 use crate::negotiation::*;
@@ -17,16 +17,34 @@ pub struct Lent {
     pub negotiation: Vec<u8>,
 }
 
+/// The counts of the header: where they are, of how many bytes, and the most of each.
+const COUNTS: [(usize, usize, u16); 5] = [
+    (MEDIATOR_MESSAGES_AT, 2, 514),
+    (REQUESTER_MESSAGES_AT, 2, 513),
+    (NODE_COUNT_AT, 1, MOST_NODES as u16),
+    (EDGE_COUNT_AT, 2, MOST_EDGES as u16),
+    (SHOWN_COUNT_AT, 1, MOST_SHOWN as u16),
+];
+
+/// The same record as layout number 1 had it: with one count of messages, and the other counts right after it.
+pub fn in_layout_1(bytes: &[u8]) -> Vec<u8> {
+    let number = |at: usize| u16::from_be_bytes([bytes[at], bytes[at + 1]]);
+    let messages = number(MEDIATOR_MESSAGES_AT).wrapping_add(number(REQUESTER_MESSAGES_AT));
+    let (before, counts) = (&bytes[1..MEDIATOR_MESSAGES_AT], &bytes[NODE_COUNT_AT..HEADER_USED]);
+    [&[1], before, &messages.to_be_bytes(), counts, &[0; 2], &bytes[HEADER_USED..]].concat()
+}
+
 impl Random {
     /// A sound negotiation with its tables, or one with a fault in it.
     pub fn lent(&mut self, grown: &Grown) -> Lent {
         let mut lent = Lent { tables: grown.tables.records.concat(), negotiation: encode(&grown.negotiation) };
-        match self.below(20) {
+        match self.below(22) {
             0..=3 => {}
             4..=11 => lent.negotiation = encode(&self.faulty(grown)),
-            12..=15 => self.change_negotiation_bytes(&mut lent.negotiation),
-            16..=17 => lent.tables = self.other_classes(grown),
-            18 => self.other_tables(&mut lent.tables),
+            12..=13 => lent.negotiation = encode(&self.miscounted(grown)),
+            14..=17 => self.change_negotiation_bytes(&mut lent.negotiation),
+            18..=19 => lent.tables = self.other_classes(grown),
+            20 => self.other_tables(&mut lent.tables),
             _ => self.other_lengths(&mut lent),
         }
         lent
@@ -51,16 +69,28 @@ impl Random {
         negotiation
     }
 
+    /// Nothing but the counts of messages is wrong, with nodes or without any.
+    fn miscounted(&mut self, grown: &Grown) -> Negotiation {
+        let mut negotiation = grown.negotiation.clone();
+        if self.percent(20) {
+            let Negotiation { side, own, other, wanted, .. } = negotiation;
+            negotiation = Negotiation::fresh(side, own, other, wanted);
+        }
+        faults::messages(self, &grown.tables.house, &mut negotiation);
+        negotiation
+    }
+
     /// One change below the level of records.
     fn change_negotiation_bytes(&mut self, bytes: &mut [u8]) {
-        let counts = [bytes[14], bytes[16], bytes[17]].map(usize::from);
+        // Of the edge count the low byte.
+        let counts = [NODE_COUNT_AT, EDGE_COUNT_AT + 1, SHOWN_COUNT_AT].map(|at| bytes[at] as usize);
         let node = NODES_AT + NODE_BYTES * self.below(counts[0].max(1));
         let edge = EDGES_AT + EDGE_BYTES * self.below(counts[1].max(1));
         let credential = SHOWN_AT + CREDENTIAL_BYTES * self.below(counts[2].max(1));
         let small = self.below(8) as u8;
-        match self.below(15) {
+        match self.below(16) {
             0 => bytes[self.below(NEGOTIATION_BYTES)] = self.byte(),
-            1 => bytes[self.below(18)] = small,
+            1 => bytes[self.below(HEADER_USED)] = small,
             2 => bytes[self.between(10, 11)] = small,
             3 => bytes[[0, 1][self.below(2)]] = small,
             4 => self.change_count(bytes),
@@ -73,6 +103,7 @@ impl Random {
             10 => bytes[node..node + NODE_BYTES].fill(0),
             11 => bytes[edge..edge + EDGE_BYTES].fill(0),
             12 => bytes[credential..credential + CREDENTIAL_BYTES].fill(0),
+            14 => self.change_layout(bytes),
             _ => {
                 let to = NODES_AT + NODE_BYTES * self.below(counts[0].max(1));
                 bytes.copy_within(node..node + NODE_BYTES, to);
@@ -82,28 +113,30 @@ impl Random {
 
     /// One more or less, the most, one more than that, or any.
     fn change_count(&mut self, bytes: &mut [u8]) {
-        let edge_count = u16::from_be_bytes([bytes[15], bytes[16]]);
-        let any = self.byte();
-        let mut other = |count: u16, most: u16| {
-            [count.wrapping_add(1), count.saturating_sub(1), most, most + 1, any.into()][self.below(5)]
-        };
-        let (nodes, shown) = (other(bytes[14].into(), 128) as u8, other(bytes[17].into(), 64) as u8);
-        let edges = other(edge_count, 256);
-        match self.below(3) {
-            0 => bytes[14] = nodes,
-            1 => bytes[15..17].copy_from_slice(&edges.to_be_bytes()),
-            _ => bytes[17] = shown,
+        let (at, size, most) = COUNTS[self.below(COUNTS.len())];
+        let field = &mut bytes[at..at + size];
+        let count = field.iter().fold(0, |count: u16, &byte| count << 8 | u16::from(byte));
+        let any = self.byte().into();
+        let other = [count.wrapping_add(1), count.saturating_sub(1), most, most + 1, any][self.below(5)];
+        field.copy_from_slice(&other.to_be_bytes()[2 - size..]);
+    }
+
+    /// The record as layout number 1 had it; with that number, or with ours.
+    fn change_layout(&mut self, bytes: &mut [u8]) {
+        bytes.copy_from_slice(&in_layout_1(bytes));
+        if self.percent(30) {
+            bytes[0] = LAYOUT;
         }
     }
 
     /// A byte that is not used is not zero: after the header, after the last record of a part, or at a part's end.
     fn fill_unused(&mut self, bytes: &mut [u8]) {
-        let edge_count = u16::from_be_bytes([bytes[15], bytes[16]]) as usize;
+        let edge_count = u16::from_be_bytes([bytes[EDGE_COUNT_AT], bytes[EDGE_COUNT_AT + 1]]) as usize;
         let ends = [
-            (18, NODES_AT),
-            (NODES_AT + NODE_BYTES * bytes[14] as usize, EDGES_AT),
+            (HEADER_USED, NODES_AT),
+            (NODES_AT + NODE_BYTES * bytes[NODE_COUNT_AT] as usize, EDGES_AT),
             (EDGES_AT + EDGE_BYTES * edge_count, SHOWN_AT),
-            (SHOWN_AT + CREDENTIAL_BYTES * bytes[17] as usize, NEGOTIATION_BYTES),
+            (SHOWN_AT + CREDENTIAL_BYTES * bytes[SHOWN_COUNT_AT] as usize, NEGOTIATION_BYTES),
         ];
         let (start, end) = ends[self.below(4)];
         if start < end {
@@ -189,15 +222,16 @@ pub fn some_small(random: &mut Random) -> Vec<Lent> {
 #[cfg(test)]
 mod tests {
     use super::*;
-    use crate::negotiation::clause::CLAUSES;
+    use crate::negotiation::clause::Clause;
+    use crate::negotiation::counts::NegotiationCounts;
     use crate::negotiation::report::{judge, Refused};
-    use std::collections::BTreeSet;
 
-    /// Every clause is the first to find damage in some, and what is read is written back.
+    /// Every clause is the first to find damage in some, all that is wrong with counts occurs, and what is read is
+    /// written back.
     #[test]
-    fn every_clause_occurs() {
+    fn every_damage_occurs() {
         let mut random = Random::new(9);
-        let mut found = BTreeSet::new();
+        let (mut counts, mut in_old_layout) = (NegotiationCounts::default(), 0);
         for _ in 0..5000 {
             let grown = random.grown();
             for _ in 0..4 {
@@ -207,12 +241,22 @@ mod tests {
                         assert_eq!(encode(&negotiation), lent.negotiation);
                     }
                 }
-                if let Err(Refused::Damaged(clause)) = judge(&lent.tables, &lent.negotiation) {
-                    found.insert(clause);
-                }
+                counts.lent(&lent.negotiation);
+                counts.judged(&judge(&lent.tables, &lent.negotiation));
+                in_old_layout += (lent.negotiation == in_layout_1(&encode(&grown.negotiation))) as u64;
             }
         }
-        let missing: Vec<_> = CLAUSES.into_iter().filter(|clause| !found.contains(clause)).collect();
-        assert!(missing.is_empty(), "{missing:?}");
+        assert_eq!(counts.missing_damage(), [""; 0]);
+        assert!(in_old_layout > 50, "{in_old_layout} in layout number 1");
+    }
+
+    /// Case (i) at its end as layout number 1 had it: 4 messages, 5 nodes, 4 edges, 3 credentials.
+    #[test]
+    fn layout_1() {
+        let (tables, negotiation) = marked_case(Side::Mediator, true);
+        let old = in_layout_1(&encode(&negotiation));
+        assert_eq!(old[..20], [1, 0, 0, 3, 0, 2, 0, 3, 0, 1, 1, 0, 0, 4, 5, 0, 4, 3, 0, 0]);
+        assert_eq!(old[20..], encode(&negotiation)[20..]);
+        assert_eq!(judge(&tables, &old).err(), Some(Refused::Damaged(Clause::Layout)));
     }
 }

@@ -3,7 +3,7 @@
 /// In the order in which the reference looks.
 #[derive(Clone, Copy, Debug, PartialEq, Eq, PartialOrd, Ord, Hash)]
 pub enum Clause {
-    /// The layout number is not 1.
+    /// The layout number is not 2.
     Layout,
     /// The side byte is not 0 or 1.
     Side,
@@ -29,6 +29,8 @@ pub enum Clause {
     Wanted,
     /// The wanted name has no class.
     WantedName,
+    /// The messages of the two ends are neither equally many nor the mediator's one more.
+    CountsDisagree,
     /// A message, an end, an idle message, an edge or a credential without a node.
     NotFresh,
     /// No message, or more than 1,027, with a node.
@@ -70,7 +72,7 @@ pub enum Clause {
 
 use Clause::*;
 
-pub const CLAUSES: [Clause; 35] = [
+pub const CLAUSES: [Clause; 36] = [
     Layout,
     Side,
     EndByte,
@@ -84,6 +86,7 @@ pub const CLAUSES: [Clause; 35] = [
     OtherEnd,
     Wanted,
     WantedName,
+    CountsDisagree,
     NotFresh,
     Messages,
     NodeName,

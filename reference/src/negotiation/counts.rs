@@ -1,6 +1,7 @@
 //! What occurred among many calls on negotiations, by the reference's answers, and what never did.
 
 use crate::negotiation::clause::{Clause, CLAUSES};
+use crate::negotiation::damage::MOST_MESSAGES;
 use crate::negotiation::report::{Refused, Sound};
 use crate::negotiation::*;
 use crate::rules::expression::Expression;
@@ -30,11 +31,28 @@ fn form_name(form: &Form) -> &'static str {
     }
 }
 
+/// Whether counts of messages are wrong in some way, given whether a node stands.
+type WrongMessages = fn(Messages, bool) -> bool;
+
+const WRONG_MESSAGES: [(&str, WrongMessages); 9] = [
+    ("the mediator's two ahead", |m, _| m.mediator.checked_sub(m.requester) == Some(2)),
+    ("the requester's one ahead", |m, _| m.requester.checked_sub(m.mediator) == Some(1)),
+    ("none with a node", |m, node| m.count() == 0 && node),
+    ("some without a node", |m, node| m.count() > 0 && !node),
+    ("1,028 in turn", |m, _| m == Messages::in_turn(MOST_MESSAGES + 1)),
+    ("1,029 in turn", |m, _| m == Messages::in_turn(MOST_MESSAGES + 2)),
+    // In two bytes: one ahead; a sum of 0; a sum of 1 to 1,027.
+    ("0 and 65,535", |m, _| (m.mediator, m.requester) == (0, 65535)),
+    ("65,536 in turn without a node", |m, node| m == Messages::in_turn(65536) && !node),
+    ("65,537 to 66,563 in turn", |m, _| (65537..=66563).contains(&m.count()) && m == Messages::in_turn(m.count())),
+];
+
 #[derive(Default)]
 pub struct NegotiationCounts {
     begins: BTreeMap<u64, u64>,
     reports: BTreeMap<u64, u64>,
     clauses: BTreeMap<Clause, u64>,
+    wrong_messages: BTreeMap<&'static str, u64>,
     states: BTreeMap<(&'static str, u64), u64>,
     ends: BTreeMap<u8, u64>,
     kinds: BTreeMap<u8, u64>,
@@ -69,6 +87,19 @@ impl NegotiationCounts {
         count(&mut self.reports, answer % 256);
     }
 
+    /// What is wrong with the counts of messages, if the negotiation can be read.
+    pub fn lent(&mut self, negotiation: &[u8]) {
+        if negotiation.len() != NEGOTIATION_BYTES {
+            return;
+        }
+        let Ok(Negotiation { messages, nodes, .. }) = decode(negotiation) else { return };
+        for (what, is_wrong) in WRONG_MESSAGES {
+            if is_wrong(messages, !nodes.is_empty()) {
+                count(&mut self.wrong_messages, what);
+            }
+        }
+    }
+
     pub fn judged(&mut self, judged: &Result<Sound, Refused>) {
         match judged {
             Err(Refused::Input(_)) => {}
@@ -96,6 +127,9 @@ impl NegotiationCounts {
         println!("report: {}", numbers_line(&self.reports, &REPORT_NUMBERS));
         let times = |clause: &Clause| format!("{clause:?} {}", self.clauses.get(clause).unwrap_or(&0));
         println!("damage, found first by: {}", CLAUSES.iter().map(times).collect::<Vec<_>>().join(", "));
+        let times =
+            |(what, _): &(&str, WrongMessages)| format!("{what} {}", self.wrong_messages.get(what).unwrap_or(&0));
+        println!("wrong counts of messages: {}", WRONG_MESSAGES.iter().map(times).collect::<Vec<_>>().join(", "));
         println!("sound negotiations, by end: {}", lines(&self.ends));
         for (form, states) in STATES {
             let times = |&state: &u64| format!("{state} {}", self.states.get(&(form, state)).unwrap_or(&0));
@@ -106,9 +140,17 @@ impl NegotiationCounts {
         println!("at most {nodes} nodes, {edges} edges, {shown} credentials");
     }
 
+    /// What must have been damaged and was not.
+    pub fn missing_damage(&self) -> Vec<String> {
+        let clauses = CLAUSES.iter().filter(|clause| !self.clauses.contains_key(clause));
+        let messages = WRONG_MESSAGES.iter().filter(|(what, _)| !self.wrong_messages.contains_key(what));
+        let of_messages = messages.map(|(what, _)| format!("messages: {what}"));
+        clauses.map(|clause| format!("damage {clause:?}")).chain(of_messages).collect()
+    }
+
     /// What a large run must have met and did not.
     pub fn missing(&self) -> Vec<String> {
-        let mut missing = Vec::new();
+        let mut missing = self.missing_damage();
         let mut note = |occurred: bool, what: String| {
             if !occurred {
                 missing.push(what);
@@ -116,7 +158,6 @@ impl NegotiationCounts {
         };
         BEGIN_NUMBERS.iter().for_each(|number| note(self.begins.contains_key(number), format!("begin {number}")));
         REPORT_NUMBERS.iter().for_each(|number| note(self.reports.contains_key(number), format!("report {number}")));
-        CLAUSES.iter().for_each(|clause| note(self.clauses.contains_key(clause), format!("damage {clause:?}")));
         (0..=4).for_each(|end| note(self.ends.contains_key(&end), format!("end {end}")));
         (1..=6).for_each(|kind| note(self.kinds.contains_key(&kind), format!("an edge of kind {kind}")));
         for (form, states) in STATES {

@@ -11,7 +11,7 @@ use crate::rules::relation::Relation;
 use crate::tables::Tables;
 
 /// An open, 256 edges and 256 marks, each in a message of its own with an idle one after it, and one idle message more.
-pub const MOST_MESSAGES: u16 = 1027;
+pub const MOST_MESSAGES: u32 = 1027;
 
 /// Ok, or the clause where it does not hold.
 fn demand(holds: bool, clause: Clause) -> Result<(), Clause> {
@@ -36,14 +36,17 @@ fn header(tables: &Tables, negotiation: &Negotiation) -> Result<(), Clause> {
     }
 }
 
-/// Without a node all else is zero; with one there was a message, and there were not too many.
+/// The counts are equal, or the mediator's is one ahead. Without a node all else is zero; with one there was a message,
+/// and there were not too many.
 fn counts(negotiation: &Negotiation) -> Result<(), Clause> {
     let Negotiation { end, idle, messages, nodes, edges, shown, .. } = negotiation;
+    let [mediator, requester] = [messages.mediator, messages.requester].map(u32::from);
+    demand(mediator == requester || mediator == requester + 1, Clause::CountsDisagree)?;
     if nodes.is_empty() {
-        let fresh = (*messages, *end, *idle) == (0, 0, false) && edges.is_empty() && shown.is_empty();
+        let fresh = (messages.count(), *end, *idle) == (0, 0, false) && edges.is_empty() && shown.is_empty();
         demand(fresh, Clause::NotFresh)
     } else {
-        demand((1..=MOST_MESSAGES).contains(messages), Clause::Messages)
+        demand((1..=MOST_MESSAGES).contains(&messages.count()), Clause::Messages)
     }
 }
 

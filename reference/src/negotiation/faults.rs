@@ -106,9 +106,33 @@ fn idle(_: &mut Random, _: &House, negotiation: &mut Negotiation) {
     negotiation.idle = !negotiation.idle;
 }
 
-fn messages(random: &mut Random, _: &House, negotiation: &mut Negotiation) {
-    negotiation.messages =
-        [0, 0, 1, MOST_MESSAGES, MOST_MESSAGES + 1, u16::MAX, random.number() as u16][random.below(7)];
+pub fn messages(random: &mut Random, _: &House, negotiation: &mut Negotiation) {
+    let Messages { mediator, requester } = negotiation.messages;
+    let any = random.number() as u16;
+    let counts = |mediator, requester| Messages { mediator, requester };
+    let wrong = [
+        // In turn: none, the most, more.
+        Messages::in_turn(0),
+        Messages::in_turn(0),
+        Messages::in_turn(MOST_MESSAGES),
+        Messages::in_turn(MOST_MESSAGES + 1),
+        Messages::in_turn(MOST_MESSAGES + 2),
+        Messages::in_turn(any.into()),
+        // Not in turn: swapped, one end too far ahead, any.
+        counts(requester, mediator),
+        counts(requester.wrapping_add(2), requester),
+        counts(mediator, mediator.wrapping_add(1)),
+        counts(any, random.below(600) as u16),
+        // Two bytes do not hold the sum, or one more than a count.
+        counts(32768, 32768),
+        counts(32769, 32768),
+        counts(33000, 33000),
+        counts(65535, 1),
+        counts(1, 65535),
+        counts(0, 65535),
+        counts(65535, 65535),
+    ];
+    negotiation.messages = wrong[random.below(wrong.len())];
 }
 
 /// No node, and perhaps something else.
@@ -116,7 +140,9 @@ fn emptied(random: &mut Random, _: &House, negotiation: &mut Negotiation) {
     negotiation.nodes.clear();
     let kept = random.below(6);
     let keeps = |part| kept == part || kept == 5;
-    negotiation.messages *= keeps(0) as u16;
+    if !keeps(0) {
+        negotiation.messages = Messages::default();
+    }
     negotiation.end *= keeps(1) as u8;
     negotiation.idle &= keeps(2);
     if !keeps(3) {

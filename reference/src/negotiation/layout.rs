@@ -1,13 +1,22 @@
-//! A negotiation as one end holds it, and its 5,120 bytes of layout number 1.
+//! A negotiation as one end holds it, and its 5,120 bytes of layout number 2.
 
 use crate::negotiation::clause::Clause;
+use crate::negotiation::Messages;
 use crate::rules::expression::*;
 
 pub const NEGOTIATION_BYTES: usize = 5120;
 pub const MOST_NODES: usize = 128;
 pub const MOST_EDGES: usize = 256;
 pub const MOST_SHOWN: usize = 64;
-pub const LAYOUT: u8 = 1;
+pub const LAYOUT: u8 = 2;
+
+/// Where the header has its counts, of two bytes, two, one, two and one; and how many bytes it uses.
+pub const MEDIATOR_MESSAGES_AT: usize = 12;
+pub const REQUESTER_MESSAGES_AT: usize = 14;
+pub const NODE_COUNT_AT: usize = 16;
+pub const EDGE_COUNT_AT: usize = 17;
+pub const SHOWN_COUNT_AT: usize = 19;
+pub const HEADER_USED: usize = 20;
 
 /// Where the parts begin, and the bytes of a record.
 pub const NODES_AT: usize = 128;
@@ -15,7 +24,6 @@ pub const NODE_BYTES: usize = 22;
 pub const EDGES_AT: usize = 2944;
 pub const EDGE_BYTES: usize = 3;
 pub const SHOWN_AT: usize = 3712;
-const HEADER_USED: usize = 18;
 
 #[derive(Clone, Copy, Debug, PartialEq, Eq, PartialOrd, Ord, Hash)]
 pub enum Side {
@@ -83,7 +91,7 @@ pub struct Negotiation {
     pub wanted: Role,
     pub end: u8,
     pub idle: bool,
-    pub messages: u16,
+    pub messages: Messages,
     pub nodes: Vec<Node>,
     pub edges: Vec<Edge>,
     pub shown: Vec<Credential>,
@@ -92,7 +100,7 @@ pub struct Negotiation {
 impl Negotiation {
     /// No node, no edge and no credential.
     pub fn fresh(side: Side, own: u16, other: u16, wanted: Role) -> Negotiation {
-        let (end, idle, messages) = (0, false, 0);
+        let (end, idle, messages) = (0, false, Messages::default());
         Negotiation { side, own, other, wanted, end, idle, messages, nodes: vec![], edges: vec![], shown: vec![] }
     }
 
@@ -161,7 +169,8 @@ pub fn decode(bytes: &[u8]) -> Result<Negotiation, Clause> {
     let side = decode_side(bytes[1]).ok_or(Clause::Side)?;
     demand(bytes[10] <= 4, Clause::EndByte)?;
     demand(bytes[11] <= 1, Clause::IdleByte)?;
-    let (node_count, edge_count, shown_count) = (bytes[14] as usize, number(bytes, 15) as usize, bytes[17] as usize);
+    let (node_count, shown_count) = (bytes[NODE_COUNT_AT] as usize, bytes[SHOWN_COUNT_AT] as usize);
+    let edge_count = number(bytes, EDGE_COUNT_AT) as usize;
     demand(node_count <= MOST_NODES && edge_count <= MOST_EDGES && shown_count <= MOST_SHOWN, Clause::TooMany)?;
 
     let unused = [
@@ -181,7 +190,10 @@ pub fn decode(bytes: &[u8]) -> Result<Negotiation, Clause> {
         wanted: Role { entity: number(bytes, 6), name: number(bytes, 8) },
         end: bytes[10],
         idle: bytes[11] == 1,
-        messages: number(bytes, 12),
+        messages: Messages {
+            mediator: number(bytes, MEDIATOR_MESSAGES_AT),
+            requester: number(bytes, REQUESTER_MESSAGES_AT),
+        },
         nodes: nodes.ok_or(Clause::NodeForm)?,
         edges: edges.ok_or(Clause::EdgeKind)?,
         shown: shown.ok_or(Clause::CredentialForm)?,
@@ -204,7 +216,8 @@ pub fn encode(negotiation: &Negotiation) -> Vec<u8> {
         bytes.extend(n.to_be_bytes());
     }
     bytes.extend([*end, *idle as u8]);
-    bytes.extend(messages.to_be_bytes());
+    bytes.extend(messages.mediator.to_be_bytes());
+    bytes.extend(messages.requester.to_be_bytes());
     bytes.push(nodes.len() as u8);
     bytes.extend((edges.len() as u16).to_be_bytes());
     bytes.push(shown.len() as u8);

@@ -11,6 +11,7 @@ pub mod graph;
 pub mod growth;
 pub mod large;
 mod layout;
+mod messages;
 pub mod node_faults;
 pub mod report;
 pub mod sample;
@@ -20,3 +21,4 @@ pub mod states;
 mod tests;
 
 pub use layout::*;
+pub use messages::*;

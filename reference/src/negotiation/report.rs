@@ -59,7 +59,8 @@ fn values(sound: &Sound, node: usize) -> u64 {
         (negotiation.nodes.len() as u64, 8),
         (negotiation.edges.len() as u64, 9),
         (negotiation.shown.len() as u64, 7),
-        (negotiation.messages.into(), 11),
+        (negotiation.messages.mediator.into(), 10),
+        (negotiation.messages.requester.into(), 10),
     ])
 }
 

@@ -143,7 +143,7 @@ impl Random {
         }
     }
 
-    /// The count, the end and the idle byte that fit.
+    /// The counts, the end and the idle byte that fit.
     pub fn close(&mut self, negotiation: &mut Negotiation) {
         let primary = propagated(&negotiation.nodes, &negotiation.edges)[0];
         (negotiation.end, negotiation.idle) = match primary {
@@ -151,7 +151,8 @@ impl Random {
             Propagated::Failed => (2, false),
             Propagated::Open => [(0, false), (0, true), (3, true), (4, false), (4, true)][self.below(5)],
         };
-        negotiation.messages = [1, 2, self.between(3, 20), self.between(1, 1027), 1027][self.below(5)] as u16;
+        let count = [1, 2, self.between(3, 20), self.between(1, 1027), 1027][self.below(5)] as u32;
+        negotiation.messages = Messages::in_turn(count);
     }
 }
 

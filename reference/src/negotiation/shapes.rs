@@ -1,5 +1,6 @@
 //! Sound negotiations: the marked cases at their last message, and full ones whose report takes long.
 
+use crate::negotiation::damage::MOST_MESSAGES;
 use crate::negotiation::states::{propagated, Propagated};
 use crate::negotiation::*;
 use crate::random::Random;
@@ -49,7 +50,7 @@ pub fn marked_case(side: Side, success: bool) -> (Vec<u8>, Negotiation) {
         negotiation.edges.pop();
         negotiation.shown.pop();
     }
-    negotiation.messages = 4;
+    negotiation.messages = Messages::in_turn(4);
     negotiation.end = if success { 1 } else { 2 };
     (records.iter().flat_map(encode_record).collect(), negotiation)
 }
@@ -154,7 +155,7 @@ impl Builder {
             Propagated::Done => 1,
             Propagated::Failed => 2,
         };
-        self.negotiation.messages = 1027;
+        self.negotiation.messages = Messages::in_turn(MOST_MESSAGES);
         let mut records: Vec<Vec<u8>> = vec![encode_record(&Record::Own(MEDIATOR))];
         let names = (1..=62).chain([99, 100]).map(|name| Record::Name(name, SubjectAll));
         records.extend(names.map(|record| encode_record(&record)));

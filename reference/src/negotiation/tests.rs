@@ -56,7 +56,7 @@ fn opened(nodes: Vec<Node>, list: &[(u8, usize, usize)], shown: &[(u16, u16, Exp
         body: body.clone(),
     };
     negotiation.shown = shown.iter().map(credential).collect();
-    negotiation.messages = 3;
+    negotiation.messages = Messages::in_turn(3);
     negotiation.end = match propagated(&negotiation.nodes, &negotiation.edges)[0] {
         Propagated::Open => 0,
         Propagated::Done => 1,
@@ -250,14 +250,37 @@ fn ends() {
 
 #[test]
 fn message_counts() {
-    let with = |messages, nodes: usize| {
+    let found = |(mediator, requester), nodes: usize| {
         let mut negotiation = opened(vec![], &[], &[]);
         negotiation.nodes.truncate(nodes);
-        Negotiation { messages, ..negotiation }
+        damage(&house(), &Negotiation { messages: Messages { mediator, requester }, ..negotiation })
     };
-    let sound = |messages, nodes| damage(&house(), &with(messages, nodes)).is_none();
-    assert_eq!([0, 1, 1027, 1028].map(|messages| sound(messages, 1)), [false, true, true, false]);
-    assert_eq!([0, 1].map(|messages| sound(messages, 0)), [true, false]);
+    for counts in [(1, 0), (1, 1), (2, 1), (513, 513), (514, 513)] {
+        assert_eq!(found(counts, 1), None, "{counts:?}");
+        assert_eq!(found(counts, 0), Some(Clause::NotFresh), "{counts:?}");
+    }
+    assert_eq!([1, 0].map(|nodes| found((0, 0), nodes)), [Some(Clause::Messages), None]);
+    // More than 1,027; those after the first two would be no more in two bytes.
+    for counts in [(514, 514), (515, 514), (32769, 32768), (33000, 33000)] {
+        assert_eq!(found(counts, 1), Some(Clause::Messages), "{counts:?}");
+    }
+    assert_eq!(found((32768, 32768), 0), Some(Clause::NotFresh));
+    for counts in [(2, 0), (0, 1), (3, 1), (1, 2), (65535, 1), (1, 65535), (0, 65535), (65535, 0)] {
+        assert_eq!([0, 1].map(|nodes| found(counts, nodes)), [Some(Clause::CountsDisagree); 2], "{counts:?}");
+    }
+}
+
+/// Messages sent in turn, and one more of the side whose turn it is.
+#[test]
+fn messages_in_turn() {
+    let counts = [0, 1, 2, 3, 1027].map(Messages::in_turn).map(|messages| (messages.mediator, messages.requester));
+    assert_eq!(counts, [(0, 0), (1, 0), (1, 1), (2, 1), (514, 513)]);
+    for count in 0..10 {
+        let mut messages = Messages::in_turn(count);
+        assert_eq!(messages.count(), count);
+        messages.add([Side::Mediator, Side::Requester][count as usize % 2]);
+        assert_eq!(messages, Messages::in_turn(count + 1));
+    }
 }
 
 /// Marked cases (i) and (j) from both ends, at their last message.
@@ -272,10 +295,14 @@ fn marked_cases() {
     }
     let (tables, negotiation) = marked_case(Side::Mediator, true);
     let bytes = encode(&negotiation);
-    // Node 1: state 1, satisfied, end 1; 5 nodes, 4 edges, 3 credentials, 4 messages.
-    let value = 1 | 1 << 2 | 1 << 4 | 5 << 7 | 4 << 15 | 3 << 24 | 4 << 31;
+    // Node 1: state 1, satisfied, end 1; 5 nodes, 4 edges, 3 credentials, 2 messages of each end.
+    let value = 1 | 1 << 2 | 1 << 4 | 5 << 7 | 4 << 15 | 3 << 24 | 2 << 31 | 2 << 41;
     assert_eq!(report(&tables, &bytes, 1), 256 * value);
     assert_eq!(report(&tables, &bytes, 4), 256 * (value | 3));
+    // With 1,027 messages: 514 of the mediator, 513 of the requester.
+    let most = encode(&Negotiation { messages: Messages::in_turn(1027), ..negotiation });
+    assert_eq!(most[12..20], [2, 2, 2, 1, 5, 0, 4, 3]);
+    assert_eq!(report(&tables, &most, 1) >> 39, 514 | 513 << 10);
     assert_eq!([5, 255].map(|node| report(&tables, &bytes, node)), [24, 24]);
     assert_eq!(report(&tables, &bytes[1..], 0), 1);
     assert_eq!(report(&[], &bytes, 0), 1);
@@ -319,8 +346,8 @@ fn begins() {
     let numbers = [(0, 1, 2), (0, 1, 1), (1, 1, 1), (1, 0, 0)];
     assert_eq!(numbers.map(|(other, entity, name)| try_one(5120, other, entity, name).0), [4, 7, 7, 7]);
     let (_, bytes) = try_one(5120, 0x203, 0x905, 1);
-    assert_eq!(bytes[..18], [1, 0, 0, 1, 2, 3, 9, 5, 0, 1, 0, 0, 0, 0, 0, 0, 0, 0]);
-    assert!(bytes[18..].iter().all(|&byte| byte == 0));
-    assert_eq!(try_one(5120, 2, 0, 0).1[..6], [1, 1, 0, 1, 0, 2]);
+    assert_eq!(bytes[..10], [2, 0, 0, 1, 2, 3, 9, 5, 0, 1]);
+    assert!(bytes[10..].iter().all(|&byte| byte == 0));
+    assert_eq!(try_one(5120, 2, 0, 0).1[..6], [2, 1, 0, 1, 0, 2]);
     assert_eq!(report(&tables, &bytes, 0), 24);
 }

@@ -129,10 +129,10 @@ impl Replying<'_> {
     }
 }
 
-/// Counts the reply and judges the end: success, failed, stalled, full, or none.
+/// Counts our reply and judges the end: success, failed, stalled, full, or none.
 fn close(negotiation: &mut Negotiation, idle: bool, stop: Stop) {
     let stalled = idle && negotiation.idle;
-    negotiation.messages += 1;
+    negotiation.messages.add(negotiation.side);
     negotiation.idle = idle;
     negotiation.end = match propagated(&negotiation.nodes, &negotiation.edges)[0] {
         Propagated::Done => 1,

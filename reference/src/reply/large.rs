@@ -136,7 +136,7 @@ impl Draft {
         let mut negotiation = Negotiation::fresh(side, own, other, wanted);
         let form = Form::Target(Expression::Role(WANTED));
         negotiation.nodes.push(Node { form, subject: REQUESTER, verifier: Side::Mediator, state: 2 });
-        negotiation.messages = if side == Side::Mediator { 2 } else { 1 };
+        negotiation.messages = Messages::in_turn(if side == Side::Mediator { 2 } else { 1 });
         Draft { negotiation }
     }
 
@@ -359,7 +359,7 @@ fn waiting_for_one_goal(links: u16) -> Giving {
 /// Full negotiations that have not ended, on the mediator's turn.
 fn onto_full() -> Vec<Giving> {
     let giving = |Shaped { name, tables, negotiation }| {
-        let negotiation = encode(&Negotiation { messages: 2, ..negotiation });
+        let negotiation = encode(&Negotiation { messages: Messages::in_turn(2), ..negotiation });
         Giving { name: format!("onto: {name}"), tables, negotiation }
     };
     large().into_iter().filter(|shaped| shaped.negotiation.end == 0).map(giving).collect()

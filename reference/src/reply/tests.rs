@@ -88,7 +88,7 @@ fn graph(own: u16, side: Side, nodes: Vec<Node>) -> Negotiation {
     let other = if side == Side::Mediator { REQUESTER } else { MEDIATOR };
     let mut negotiation = Negotiation::fresh(side, own, other, wanted);
     negotiation.nodes = nodes;
-    negotiation.messages = if side == Side::Mediator { 2 } else { 1 };
+    negotiation.messages = Messages::in_turn(if side == Side::Mediator { 2 } else { 1 });
     negotiation
 }
 
@@ -172,7 +172,7 @@ fn refusals() {
     assert_eq!(ask(&tables, &encode(&ended), 4096, 4096), 22);
     (ended.end, ended.nodes[0].state) = (0, 0);
     assert_eq!(ask(&tables, &encode(&ended), 4096, 4096), 21);
-    ended.messages = 2;
+    ended.messages = Messages::in_turn(2);
     assert_eq!(ask(&tables, &encode(&ended), 4096, 4096), 256 * 3);
     let idle = Negotiation::fresh(Side::Requester, MEDIATOR, REQUESTER, role(0, 0));
     assert_eq!(ask(&tables, &encode(&idle), 4096, 4096), 21);
@@ -704,7 +704,7 @@ fn stop_on_bytes() {
     let first = first_reply_of(&house, 0);
     assert_eq!(encode_message(&first.commands).len(), 4095);
     assert_eq!((first.stop, first.after.end, first.after.idle), (Stop::Bytes, 0, false));
-    let second = given(&house, Negotiation { messages: 2, ..first.after });
+    let second = given(&house, Negotiation { messages: Messages::in_turn(2), ..first.after });
     assert_eq!(second.commands[0], target(5, 62, to_role(224, 7), REQUESTER, 1));
     assert_eq!(encode_message(&second.commands).len(), 3 * 98 + 1);
     assert_eq!((second.stop, second.after.end, second.after.nodes.len()), (Stop::NoMove, 0, 121));

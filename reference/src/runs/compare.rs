@@ -4,6 +4,9 @@
 //! Each call must answer alike and leave the same bytes in both runs, up to and with each call after which one of the
 //! two runs, at least, has no differing role's Ack target satisfied. As Ack targets stay satisfied, it is enough to look
 //! at the first call that differs.
+//!
+//! In each run besides, the counts that the negotiation holds and that a report gives are those of the messages accepted
+//! and the replies given since its begin.
 
 use crate::ends::calls::Calls;
 use crate::message::legal::carry_out;
@@ -41,6 +44,8 @@ pub enum Outcome {
     Parted(usize),
     /// The call of this number differed before. Begin has the number 0.
     Leak(usize),
+    /// After the call of this number a run had other counts than those of its messages.
+    Miscounted(usize),
 }
 
 /// What a call can be seen to have done: its answer, and the bytes of its buffers after it.
@@ -50,7 +55,7 @@ struct Seen {
     buffers: Vec<Vec<u8>>,
 }
 
-/// One run: its tables and negotiation, and the graph built by the commands accepted and given.
+/// One run: its tables and negotiation, and the graph built by the messages accepted and given, which it counts.
 struct Run {
     tables_bytes: Vec<u8>,
     tables: Tables,
@@ -101,9 +106,22 @@ impl Run {
         Seen { answer, buffers: [vec![self.negotiation.clone()], others].concat() }
     }
 
-    /// Carries the commands of a message out on the graph. Those that are accepted or given can be read and are legal;
-    /// if one is not, that is for other checks to find.
+    /// Whether the negotiation after a call has the counts of the messages so far, and the answer of a report too, which
+    /// has them above its low 39 bits.
+    fn is_counted(&self, call: &Call, seen: &Seen) -> bool {
+        let messages = self.graph.messages;
+        let [mediator, requester] = [messages.mediator, messages.requester].map(u64::from);
+        let is_reported = match call {
+            Call::Report { .. } if seen.answer.is_multiple_of(256) => seen.answer >> 39 == mediator + 1024 * requester,
+            _ => true,
+        };
+        is_reported && decode(&self.negotiation).is_ok_and(|held| held.messages == messages)
+    }
+
+    /// Counts a message, and carries its commands out on the graph. Those that are accepted or given can be read and are
+    /// legal; if one is not, that is for other checks to find.
     fn build(&mut self, message: &[u8], sender: Side) {
+        self.graph.messages.add(sender);
         let mut rest = message;
         while let Some(bytes) = next_command(rest) {
             if let Some(command) = decode_command(bytes) {
@@ -157,7 +175,11 @@ pub fn compare(calls: &mut impl Calls, tables: [&[u8]; 2], list: &List) -> Optio
     }
     let acks = differing_acks([&a.tables, &b.tables]);
     for (number, call) in (1..).zip(&list.calls) {
-        if a.call(calls, call) != b.call(calls, call) {
+        let (seen_a, seen_b) = (a.call(calls, call), b.call(calls, call));
+        if !a.is_counted(call, &seen_a) || !b.is_counted(call, &seen_b) {
+            return Some(Outcome::Miscounted(number));
+        }
+        if seen_a != seen_b {
             let none_met = |run: &Run| !acks.iter().any(|&ack| run.is_met(ack));
             let hidden = none_met(&a) || none_met(&b);
             return Some(if hidden { Outcome::Leak(number) } else { Outcome::Parted(number) });

@@ -183,6 +183,7 @@ impl Listing {
 #[cfg(test)]
 mod tests {
     use super::*;
+    use crate::ends::calls::Calls;
     use crate::message::shapes::marked_messages;
     use crate::message::*;
     use crate::reply::leak::{Leak, LEAKS};
@@ -205,7 +206,7 @@ mod tests {
             match outcome(&mut random, Leak::None) {
                 Outcome::Alike => alike += 1,
                 Outcome::Parted(_) => parted += 1,
-                Outcome::Leak(number) => panic!("list {i} leaks at call {number}"),
+                wrong => panic!("list {i}: {wrong:?}"),
             }
         }
         println!("alike {alike}, parted {parted}");
@@ -223,24 +224,33 @@ mod tests {
         }
     }
 
-    /// Cases (i) and (j) as two runs of House: they part when it has taken Studio's proof of the Ack role. With a leak
-    /// they differ in the first reply, before that.
-    #[test]
-    fn marked_cases() {
-        let role = |entity, name| Role { entity, name };
+    fn role(entity: u16, name: u16) -> Role {
+        Role { entity, name }
+    }
+
+    /// House's tables in cases (i) and (j), with these records of what it holds.
+    fn house_tables(held: &[Record]) -> Vec<u8> {
         let names = [(1, IssuerDef), (2, SubjectAll), (3, SubjectAll)].map(|(name, class)| Record::Name(name, class));
         let sensitive = Record::Sensitive(Guard { role: role(4, 3), by: role(1, 2) });
-        let direct = Record::SubjectStored(Credential { head: role(4, 3), body: Expression::Entity(2) });
-        let tables = |held: &[Record]| -> Vec<u8> {
-            let records = [&[Record::Own(2)][..], &names, held, std::slice::from_ref(&sensitive)].concat();
-            records.iter().flat_map(encode_record).collect()
-        };
-        let (held, not_held) = (tables(&[direct]), tables(&[]));
+        let records = [&[Record::Own(2)][..], &names, held, &[sensitive]].concat();
+        records.iter().flat_map(encode_record).collect()
+    }
+
+    /// House's calls there, and a report between them.
+    fn house_list() -> List {
         let [first, _, third, _] = marked_messages(true).map(|commands| [commands, vec![Command::End]].concat());
         let take = |commands: &[Command]| Call::Take { message: encode_message(commands), scratch: vec![1; 4096] };
         let reply = || Call::Reply { reply: vec![2; 4096], scratch: vec![3; 4096] };
         let calls = vec![take(&first), reply(), Call::Report { node: 2 }, take(&third), reply()];
-        let list = List { other: 3, wanted: role(0, 0), negotiation: vec![4; NEGOTIATION_BYTES], calls };
+        List { other: 3, wanted: role(0, 0), negotiation: vec![4; NEGOTIATION_BYTES], calls }
+    }
+
+    /// Cases (i) and (j) as two runs of House: they part when it has taken Studio's proof of the Ack role. With a leak
+    /// they differ in the first reply, before that.
+    #[test]
+    fn marked_cases() {
+        let direct = Record::SubjectStored(Credential { head: role(4, 3), body: Expression::Entity(2) });
+        let (held, not_held, list) = (house_tables(&[direct]), house_tables(&[]), house_list());
         for (leak, expected) in [
             (Leak::None, Outcome::Parted(5)),
             (Leak::Possession, Outcome::Leak(2)),
@@ -252,6 +262,42 @@ mod tests {
         }
         let mut reference = Reference::default();
         assert_eq!(compare(&mut reference, [&held, &held], &list), Some(Outcome::Alike));
-        assert_eq!(compare(&mut reference, [&held, &tables(&[Record::Own(3)])], &list), None);
+        assert_eq!(compare(&mut reference, [&held, &house_tables(&[Record::Own(3)])], &list), None);
+    }
+
+    /// The reference with wrong counts: in the negotiation after a reply, or in reports.
+    struct Miscounting {
+        reference: Reference,
+        in_reports: bool,
+    }
+
+    impl Calls for Miscounting {
+        fn begin(&mut self, tables: &[u8], negotiation: &mut [u8], other: u16, wanted: Role) -> u64 {
+            self.reference.begin(tables, negotiation, other, wanted)
+        }
+
+        fn take(&mut self, tables: &[u8], negotiation: &mut [u8], message: &[u8], scratch: &mut [u8]) -> u64 {
+            self.reference.take(tables, negotiation, message, scratch)
+        }
+
+        fn reply(&mut self, tables: &[u8], negotiation: &mut [u8], reply: &mut [u8], scratch: &mut [u8]) -> u64 {
+            let answer = self.reference.reply(tables, negotiation, reply, scratch);
+            // The low byte of the requester's count.
+            negotiation[REQUESTER_MESSAGES_AT + 1] -= !self.in_reports as u8;
+            answer
+        }
+
+        fn report(&mut self, tables: &[u8], negotiation: &[u8], node: u8) -> u64 {
+            self.reference.report(tables, negotiation, node) + ((self.in_reports as u64) << 39)
+        }
+    }
+
+    #[test]
+    fn wrong_counts_are_found() {
+        let (tables, list) = (house_tables(&[]), house_list());
+        for (in_reports, number) in [(false, 2), (true, 3)] {
+            let mut miscounting = Miscounting { reference: Reference::default(), in_reports };
+            assert_eq!(compare(&mut miscounting, [&tables, &tables], &list), Some(Outcome::Miscounted(number)));
+        }
     }
 }

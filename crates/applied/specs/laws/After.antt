@@ -1,5 +1,5 @@
 -- The end after a message, test by test. Assumes nothing.
-use Prim.Native.Nat.{ℕ, _+_}
+use Prim.Native.Nat.{ℕ}
 use mathlib.Core.Path.{_≡_, refl, sym, _∙_, ap}
 use mathlib.Core.Bool.{Bool, true, false, cond}
 use borrow.Author.Tests.{eq-eqb, ne-eqb}
@@ -7,15 +7,17 @@ use lib.Dec.{eqb}
 use Rattle.graph.specs.laws.Graph.{nodesOf, edgesOf}
 use Rattle.graph.specs.Propagated.{propagatedState as propagated}
 use Rattle.negotiation.specs.declared.Header.{Header}
+use Rattle.negotiation.specs.declared.Messages.{Messages}
+use Rattle.negotiation.specs.Messages.{counted}
 use Rattle.negotiation.specs.declared.Negotiation.{Negotiation}
 use Rattle.negotiation.specs.laws.State.{stateOf}
 use Rattle.negotiation.specs.State.{withHeader, State, within}
 use Rattle.applied.specs.After.{endOf, isStalled, idleOf, headerAfter, afterMessage}
 use Rattle.applied.specs.Step.{moved}
 
-pub after-within : (S : State) (m full : Bool) → within (afterMessage S m full) ≡ within S
+pub after-within : (v : ℕ) (S : State) (m full : Bool) → within (afterMessage v S m full) ≡ within S
 unfolding within afterMessage withHeader
-after-within S m full = refl
+after-within v S m full = refl
 
 module _ (p : ℕ) (s f : Bool) where
   by-tests : (a b c d : Bool) → eqb p 1 ≡ a → eqb p 2 ≡ b → s ≡ c → f ≡ d → endOf p s f ≡ cond a 1 (cond b 2 (cond c 3 (cond d 4 0)))
@@ -40,11 +42,12 @@ module _ (p : ℕ) (s f : Bool) where
       end-none e d = sym (by-tests false false false false (ne-eqb p 1 h) (ne-eqb p 2 g) e d)
 
 -- a header of these numbers
-pub header-is : (p : ℕ) (moved full : Bool) (h : Header) {b : Bool} {e i : ℕ} → b ≡ isStalled moved (h .idle) → e ≡ endOf p b full → i ≡ idleOf moved
-    → _≡_ {A = Header} (record { side = h .side; own = h .own; other = h .other; wanted = h .wanted; end = e; idle = i; messages = h .messages + 1 })
-    (headerAfter p moved full h)
+pub header-is : (v p : ℕ) (moved full : Bool) (h : Header) {b : Bool} {e i : ℕ} {m : Messages} → b ≡ isStalled moved (h .idle) → e ≡ endOf p b full
+    → i ≡ idleOf moved → m ≡ counted v (h .messages)
+    → _≡_ {A = Header} (record { side = h .side; own = h .own; other = h .other; wanted = h .wanted; end = e; idle = i; messages = m })
+    (headerAfter v p moved full h)
 unfolding headerAfter
-header-is p moved full h x y z =
+header-is v p moved full h x y z w =
     λ t. record {
       side = h .side;
       own = h .own;
@@ -52,11 +55,11 @@ header-is p moved full h x y z =
       wanted = h .wanted;
       end = (y ∙ ap (λ (b : Bool). endOf p b full) x) t;
       idle = z t;
-      messages = h .messages + 1;
+      messages = w t;
     }
 
-pub after-is : (n m : Negotiation) (moved full : Bool) {p : ℕ} {h : Header} → p ≡ propagated (nodesOf (n .nodes)) (edgesOf (n .edges)) 0
-    → h ≡ headerAfter p moved full (n .header) → stateOf m ≡ withHeader (stateOf n) h
-    → stateOf m ≡ afterMessage (stateOf n) moved full
+pub after-is : (v : ℕ) (n m : Negotiation) (moved full : Bool) {p : ℕ} {h : Header} → p ≡ propagated (nodesOf (n .nodes)) (edgesOf (n .edges)) 0
+    → h ≡ headerAfter v p moved full (n .header) → stateOf m ≡ withHeader (stateOf n) h
+    → stateOf m ≡ afterMessage v (stateOf n) moved full
 unfolding afterMessage stateOf
-after-is n m moved full x y z = z ∙ ap (withHeader (stateOf n)) (y ∙ ap (λ (k : ℕ). headerAfter k moved full (n .header)) x)
+after-is v n m moved full x y z = z ∙ ap (withHeader (stateOf n)) (y ∙ ap (λ (k : ℕ). headerAfter v k moved full (n .header)) x)

@@ -17,10 +17,11 @@ use Rattle.class.specs.Names.{classOf}
 use Rattle.tables.specs.Tables.{Tables}
 use Rattle.tables.specs.Check.{orElse, readTables}
 use Rattle.tables.specs.Public.{Public, publicOf}
+use Rattle.negotiation.specs.Messages.{messageCount}
 use Rattle.negotiation.specs.State.{State, freshState}
 use Rattle.negotiation.specs.Layout.{stateBytes}
 use Rattle.negotiation.specs.laws.Codec.{state-back}
-use Rattle.damage.specs.Header.{wantedSound, otherSound, headerSound, emptySound}
+use Rattle.damage.specs.Header.{wantedSound, otherSound, headerSound, countsAgree, emptySound}
 use Rattle.damage.specs.Damage.{sound, ifSound, readSound}
 use Rattle.begin.specs.Begin.{isRequester, roleNumber, otherNumber, beginNumber, sideOf, begunState, behindTables, beginOf}
 use Rattle.begin.specs.Refused.{Wanted, requester, mediator, Begun}
@@ -34,8 +35,8 @@ use Rattle.numbers.specs.Refusals.{LENGTH}
 
 fresh-sound : (T : Tables) (side other : ℕ) (wanted : Role) → ltb side 2 ≡ true → otherSound (T .own) other ≡ true
     → wantedSound (T .names) side wanted ≡ true → sound T (freshState side (T .own) other wanted) ≡ true
-unfolding sound headerSound emptySound freshState
-fresh-sound T side other wanted s o w = λ i. s i && eq-eqb (T .own) (T .own) refl i && o i && w i && true
+unfolding sound headerSound countsAgree messageCount emptySound freshState
+fresh-sound T side other wanted s o w = λ i. s i && eq-eqb (T .own) (T .own) refl i && o i && w i && true && true
 
 -- the requester wants no role, the mediator one whose name has a class
 wanted-sound : (ns : List Name) (entity name : ℕ) → Wanted ns entity name → wantedSound ns (sideOf entity name) (roleOf entity name) ≡ true

@@ -16,7 +16,7 @@ use Rattle.class.specs.declared.Name.{Name}
 use Rattle.tables.specs.Tables.{Tables}
 use Rattle.negotiation.specs.declared.Header.{Header}
 use Rattle.negotiation.specs.State.{State, within}
-use Rattle.damage.specs.Header.{headerSound, emptySound, countSound, endSound}
+use Rattle.damage.specs.Header.{headerSound, countsAgree, emptySound, countSound, endSound}
 use Rattle.negotiation.specs.Ends.{entityOf}
 use Rattle.damage.specs.Records.{nodeFits, primarySound, credentialFits, nodeSound}
 use Rattle.damage.specs.Edges.{allBrought, brought, broughtFrom, placed, formed, edgeFits}
@@ -218,23 +218,29 @@ module _ (ns : List Name) (S : State) where
 -- The whole
 
 module _ (T : Tables) (S : State) where
-  by-whole : (a b : Bool) → a ≡ headerSound (T .own) (T .names) (S .header) → b ≡ eqb (length (S .nodes)) 0 → (e : Bool)
-      → e ≡ cond b (emptySound (S .header) (length (S .edges)) (length (S .shown))) (graphSound (T .names) S) → (a && e) ≡ sound T S
+  by-whole : (a c b : Bool) → a ≡ headerSound (T .own) (T .names) (S .header) → c ≡ countsAgree (S .header .messages) → b ≡ eqb (length (S .nodes)) 0
+      → (e : Bool) → e ≡ cond b (emptySound (S .header) (length (S .edges)) (length (S .shown))) (graphSound (T .names) S) → (a && c && e) ≡ sound T S
   unfolding sound
-  by-whole a b p q e r =
-      λ i. p i && (r ∙ ap (λ (t : Bool). cond t (emptySound (S .header) (length (S .edges)) (length (S .shown))) (graphSound (T .names) S)) q) i
+  by-whole a c b p k q e r =
+      λ i. p i && k i && (r ∙ ap (λ (t : Bool). cond t (emptySound (S .header) (length (S .edges)) (length (S .shown))) (graphSound (T .names) S)) q) i
 
   module _ {a : Bool} (ae : a ≡ headerSound (T .own) (T .names) (S .header)) where
     pub whole-header : not a ≡ true → false ≡ sound T S
-    whole-header h = by-whole false (eqb (length (S .nodes)) 0) (sym (not-true a h) ∙ ae) refl _ refl
+    whole-header h = by-whole false _ (eqb (length (S .nodes)) 0) (sym (not-true a h) ∙ ae) refl refl _ refl
 
-    module _ (ah : not a ≡ false) {n : ℕ} (ne : n ≡ length (S .nodes)) where
-      pub whole-empty : {m k : ℕ} {b : Bool} → n ≡ 0 → m ≡ length (S .edges) → k ≡ length (S .shown) → b ≡ emptySound (S .header) m k → b ≡ sound T S
-      whole-empty {b} z me ke be =
-          by-whole true true (sym (not-false a ah) ∙ ae) (sym (eq-eqb (length (S .nodes)) 0 (sym ne ∙ z))) b (be ∙ (λ i. emptySound (S .header) (me i) (ke i)))
+    module _ (ah : not a ≡ false) {c : Bool} (ce : c ≡ countsAgree (S .header .messages)) where
+      pub whole-counts : not c ≡ true → false ≡ sound T S
+      whole-counts h = by-whole true false (eqb (length (S .nodes)) 0) (sym (not-false a ah) ∙ ae) (sym (not-true c h) ∙ ce) refl _ refl
 
-      pub whole-graph : {b : Bool} → (n ≡ 0 → ⊥) → b ≡ graphSound (T .names) S → b ≡ sound T S
-      whole-graph {b} z be = by-whole true false (sym (not-false a ah) ∙ ae) (sym (ne-eqb (length (S .nodes)) 0 (λ w. z (ne ∙ w)))) b be
+      module _ (ch : not c ≡ false) {n : ℕ} (ne : n ≡ length (S .nodes)) where
+        pub whole-empty : {m k : ℕ} {b : Bool} → n ≡ 0 → m ≡ length (S .edges) → k ≡ length (S .shown) → b ≡ emptySound (S .header) m k → b ≡ sound T S
+        whole-empty {b} z me ke be =
+            by-whole true true true (sym (not-false a ah) ∙ ae) (sym (not-false c ch) ∙ ce) (sym (eq-eqb (length (S .nodes)) 0 (sym ne ∙ z))) b
+            (be ∙ (λ i. emptySound (S .header) (me i) (ke i)))
+
+        pub whole-graph : {b : Bool} → (n ≡ 0 → ⊥) → b ≡ graphSound (T .names) S → b ≡ sound T S
+        whole-graph {b} z be =
+            by-whole true true false (sym (not-false a ah) ∙ ae) (sym (not-false c ch) ∙ ce) (sym (ne-eqb (length (S .nodes)) 0 (λ w. z (ne ∙ w)))) b be
 
 -- a negotiation as it is held, by the tables of a house
 module _ (H : House) (G : Negotiation) where
@@ -243,20 +249,35 @@ module _ (H : House) (G : Negotiation) where
     unfolding tablesOf stateHeld
     sound-header h = whole-header (tablesOf H) (stateHeld G) ae h
 
-    module _ (ah : not a ≡ false) where
-      pub sound-empty : {b : Bool} → G .nodes .count ≡ 0 → b ≡ emptySound (G .header) (G .edges .count) (G .shown .count) → b ≡ sound (tablesOf H) (stateHeld G)
-      unfolding tablesOf stateHeld credentials
-      sound-empty z be =
-          whole-empty (tablesOf H) (stateHeld G) ae ah (sym (nodes-length (G .nodes))) z (sym (edges-length (G .edges)))
-          (sym (length-upTo (G .shown .count) (credentialAt (G .shown)))) be
-
-      pub sound-graph : {b : Bool} → (G .nodes .count ≡ 0 → ⊥)
-          → b ≡ graphSound (namesOf (H .names)) (stateWith (G .header) (nodesOf (G .nodes)) (edgesOf (G .edges)) (credentials (G .shown)))
-          → b ≡ sound (tablesOf H) (stateHeld G)
+    module _ (ah : not a ≡ false) {c : Bool} (ce : c ≡ countsAgree (G .header .messages)) where
+      pub sound-counts : not c ≡ true → false ≡ sound (tablesOf H) (stateHeld G)
       unfolding tablesOf stateHeld
-      sound-graph z be = whole-graph (tablesOf H) (stateHeld G) ae ah (sym (nodes-length (G .nodes))) z be
+      sound-counts h = whole-counts (tablesOf H) (stateHeld G) ae ah ce h
 
--- What a sound negotiation with a node has
+      module _ (ch : not c ≡ false) where
+        pub sound-empty : {b : Bool} → G .nodes .count ≡ 0 → b ≡ emptySound (G .header) (G .edges .count) (G .shown .count)
+            → b ≡ sound (tablesOf H) (stateHeld G)
+        unfolding tablesOf stateHeld credentials
+        sound-empty z be =
+            whole-empty (tablesOf H) (stateHeld G) ae ah ce ch (sym (nodes-length (G .nodes))) z (sym (edges-length (G .edges)))
+            (sym (length-upTo (G .shown .count) (credentialAt (G .shown)))) be
+
+        pub sound-graph : {b : Bool} → (G .nodes .count ≡ 0 → ⊥)
+            → b ≡ graphSound (namesOf (H .names)) (stateWith (G .header) (nodesOf (G .nodes)) (edgesOf (G .edges)) (credentials (G .shown)))
+            → b ≡ sound (tablesOf H) (stateHeld G)
+        unfolding tablesOf stateHeld
+        sound-graph z be = whole-graph (tablesOf H) (stateHeld G) ae ah ce ch (sym (nodes-length (G .nodes))) z be
+
+-- What a sound negotiation has
+
+pub sound-parts : (T : Tables) (S : State) → sound T S ≡ true
+    → (headerSound (T .own) (T .names) (S .header) ≡ true) × (countsAgree (S .header .messages) ≡ true)
+    × (cond (eqb (length (S .nodes)) 0) (emptySound (S .header) (length (S .edges)) (length (S .shown))) (graphSound (T .names) S) ≡ true)
+unfolding sound
+sound-parts T S h =
+    let a = and-parts (headerSound (T .own) (T .names) (S .header) && countsAgree (S .header .messages)) _ h in
+    let b = and-parts (headerSound (T .own) (T .names) (S .header)) (countsAgree (S .header .messages)) (a .0) in
+    (b .0, b .1, a .1)
 
 pub graph-parts : (ns : List Name) (S : State) → graphSound ns S ≡ true
     → (countSound (S .header .messages) ≡ true) × (recordsSound ns S ≡ true) × (allBrought (S .header) (S .nodes) (S .edges) ≡ true)
@@ -270,10 +291,9 @@ graph-parts ns S h =
     (d .0, d .1, c .1, b .1, a .1)
 
 pub sound-some : (T : Tables) (S : State) → sound T S ≡ true → (length (S .nodes) ≡ 0 → ⊥) → graphSound (T .names) S ≡ true
-unfolding sound
 sound-some T S h z =
     sym (ap (λ (b : Bool). cond b (emptySound (S .header) (length (S .edges)) (length (S .shown))) (graphSound (T .names) S))
-    (ne-eqb (length (S .nodes)) 0 z)) ∙ and-parts (headerSound (T .own) (T .names) (S .header)) _ h .1
+    (ne-eqb (length (S .nodes)) 0 z)) ∙ sound-parts T S h .2
 
 -- a negotiation as it is held: its nodes and its edges have their forms
 module _ (H : House) (G : Negotiation) (w : within (stateHeld G) ≡ true) (h : sound (tablesOf H) (stateHeld G) ≡ true) (some : 0 < G .nodes .count) where

@@ -1,5 +1,5 @@
 -- The header, by its tests. Assumes nothing.
-use Prim.Native.Nat.{ℕ}
+use Prim.Native.Nat.{ℕ, _+_}
 use mathlib.Core.Path.{_≡_, refl, sym, _∙_}
 use mathlib.Core.Bool.{Bool, true, false, not, cond, _&&_, _||_}
 use mathlib.Core.List.{List}
@@ -10,7 +10,9 @@ use Rattle.expression.specs.Form.{isRole, isEmpty}
 use Rattle.class.specs.declared.Name.{Name}
 use Rattle.class.specs.Names.{classOf}
 use Rattle.negotiation.specs.declared.Header.{Header}
-use Rattle.damage.specs.Header.{wantedSound, otherSound, headerSound, emptySound, countSound, endSound}
+use Rattle.negotiation.specs.declared.Messages.{Messages}
+use Rattle.negotiation.specs.Messages.{messageCount}
+use Rattle.damage.specs.Header.{wantedSound, otherSound, headerSound, countsAgree, emptySound, countSound, endSound}
 
 module _ (ns : List Name) (side : ℕ) (r : Role) where
   by-side : (a : Bool) → a ≡ eqb side 0 → cond a (isRole r && not (eqb (classOf ns (r .name)) 0)) (isEmpty r) ≡ wantedSound ns side r
@@ -31,13 +33,18 @@ unfolding headerSound
 header-is own ns h e = λ i. ltb (h .side) 2 && eqb (h .own) own && otherSound (h .own) (h .other) && e i
 
 module _ (h : Header) where
-  pub empty-is : (edges shown : ℕ) → (eqb (h .messages) 0 && eqb (h .end) 0 && eqb (h .idle) 0 && eqb edges 0 && eqb shown 0) ≡ emptySound h edges shown
+  pub empty-is : (edges shown : ℕ) {n : ℕ} → n ≡ messageCount (h .messages)
+      → (eqb n 0 && eqb (h .end) 0 && eqb (h .idle) 0 && eqb edges 0 && eqb shown 0) ≡ emptySound h edges shown
   unfolding emptySound
-  empty-is edges shown = refl
+  empty-is edges shown e = λ i. eqb (e i) 0 && eqb (h .end) 0 && eqb (h .idle) 0 && eqb edges 0 && eqb shown 0
 
-pub count-is : (n : ℕ) → (ltb 0 n && leb n 1027) ≡ countSound n
+pub counts-are : (m : Messages) → (eqb (m .mediator) (m .requester) || eqb (m .mediator) (m .requester + 1)) ≡ countsAgree m
+unfolding countsAgree
+counts-are m = refl
+
+pub count-is : (m : Messages) {n : ℕ} → n ≡ messageCount m → (ltb 0 n && leb n 1027) ≡ countSound m
 unfolding countSound
-count-is n = refl
+count-is m e = λ i. ltb 0 (e i) && leb (e i) 1027
 
 module _ (primary end idle : ℕ) where
   -- neither satisfied nor failed

@@ -39,11 +39,13 @@ use Rattle.justification.specs.Justified.{monitorKind, isSolutionFor, solves, s
 use Rattle.tables.specs.Tables.{Tables}
 use Rattle.negotiation.specs.declared.Header.{Header}
 use Rattle.negotiation.specs.State.{State}
-use Rattle.damage.specs.Header.{headerSound, emptySound, countSound, endSound}
+use Rattle.damage.specs.Header.{emptySound, endSound}
 use Rattle.negotiation.specs.Ends.{requester, entityOf}
 use Rattle.damage.specs.Records.{nodeSound, nodeFits, primarySound}
 use Rattle.damage.specs.Edges.{nextBrought, broughtFrom, brought, placed, formed, edgeFits, allBrought}
 use Rattle.damage.specs.Damage.{recordsSound, edgesJustified, graphSound, sound}
+use Rattle.damage.specs.laws.Damage.{sound-parts, graph-parts}
+use Rattle.damage.specs.laws.Going.{empty-parts}
 
 -- Tests in turn
 
@@ -322,12 +324,7 @@ end-one p end idle z k =
 module _ (names : List Name) (S : State) (h : graphSound names S ≡ true) where
   parts : (recordsSound names S ≡ true) × (allBrought (S .header) (S .nodes) (S .edges) ≡ true) × (edgesJustified S ≡ true)
       × (endSound (propagatedState (S .nodes) (S .edges) 0) (S .header .end) (S .header .idle) ≡ true)
-  unfolding graphSound
-  parts =
-      let a = and-parts (countSound (S .header .messages) && recordsSound names S && allBrought (S .header) (S .nodes) (S .edges) && edgesJustified S) _ h in
-      let b = and-parts (countSound (S .header .messages) && recordsSound names S && allBrought (S .header) (S .nodes) (S .edges)) (edgesJustified S) (a .0) in
-      let c = and-parts (countSound (S .header .messages) && recordsSound names S) (allBrought (S .header) (S .nodes) (S .edges)) (b .0) in
-      (and-parts (countSound (S .header .messages)) (recordsSound names S) (c .0) .1, c .1, b .1, a .1)
+  parts = let p = graph-parts names S h in (p .1, p .2, p .3, p .4)
 
   records : (inTurn (nodeFits names) [] (S .nodes) ≡ true) × (primarySound (S .header) (nodeIn (S .nodes) 0) ≡ true)
   unfolding recordsSound
@@ -415,20 +412,13 @@ no-edge (d ∷ es) z m = omega arith
 module _ (T : Tables) (S : State) (h : sound T S ≡ true) where
   by-count : {b : Bool} → eqb (length (S .nodes)) 0 ≡ b
       → cond b (emptySound (S .header) (length (S .edges)) (length (S .shown))) (graphSound (T .names) S) ≡ true
-  unfolding sound
   by-count z =
       sym (ap (λ (b : Bool). cond b (emptySound (S .header) (length (S .edges)) (length (S .shown))) (graphSound (T .names) S)) z)
-      ∙ and-parts (headerSound (T .own) (T .names) (S .header)) _ h .1
+      ∙ sound-parts T S h .2
 
   -- without a node it has neither edge nor end
   without-node : eqb (length (S .nodes)) 0 ≡ true → (length (S .edges) ≡ 0) × (S .header .end ≡ 0)
-  unfolding emptySound
-  without-node z =
-      let p = and-parts (eqb (S .header .messages) 0 && eqb (S .header .end) 0 && eqb (S .header .idle) 0 && eqb (length (S .edges)) 0)
-      (eqb (length (S .shown)) 0) (by-count z) in
-      let q = and-parts (eqb (S .header .messages) 0 && eqb (S .header .end) 0 && eqb (S .header .idle) 0) (eqb (length (S .edges)) 0) (p .0) in
-      let r = and-parts (eqb (S .header .messages) 0 && eqb (S .header .end) 0) (eqb (S .header .idle) 0) (q .0) in
-      (eqb-true (length (S .edges)) 0 (q .1), eqb-true (S .header .end) 0 (and-parts (eqb (S .header .messages) 0) (eqb (S .header .end) 0) (r .0) .1))
+  without-node z = let e = empty-parts (S .header) (length (S .edges)) (length (S .shown)) (by-count z) in (e .2, e .1)
 
   -- edges have their forms, and nodes are unique
   pub sound-graph-formed : Formed (S .nodes) (S .edges)

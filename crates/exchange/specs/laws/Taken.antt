@@ -1,5 +1,5 @@
 -- The other end takes what we reply, and reaches the same graph. Assumes nothing.
-use Prim.Native.Nat.{ℕ, _+_}
+use Prim.Native.Nat.{ℕ}
 use native.Mathlib.Omega.{arith}
 use mathlib.Core.Path.{_≡_, refl, sym, _∙_, ap, subst}
 use mathlib.Core.Bool.{Bool, true, false, not, cond}
@@ -12,6 +12,7 @@ use Rattle.tables.specs.Tables.{Tables}
 use Rattle.tables.specs.Accepted.{Sound}
 use Rattle.message.specs.declared.Command.the-variants.{End}
 use Rattle.negotiation.specs.declared.Header.{Header}
+use Rattle.negotiation.specs.Messages.{counted}
 use Rattle.negotiation.specs.State.{State, within, withHeader}
 use Rattle.damage.specs.Damage.{sound}
 use Rattle.negotiation.specs.Ends.{otherSide}
@@ -73,8 +74,8 @@ module _ (T : Tables) (t : Sound T) (S : State) (h : sound T S ≡ true) (w : wi
       let x : Answer (State × Bool) = C.commandsFrom (length b) (U .names) (senderTo R) b 0 R false in
       let e : eqb (R .header .end) 0 ≡ true = eq-eqb (R .header .end) 0 going in
       let f : sends (senderTo R) (R .header .messages) ≡ true = (λ i. sends (sender i) (count i)) ∙ turn in
-      (λ i. cond (not (e i)) (refused ENDED) (cond (not (f i)) (refused TURN) (behindCommands x)))
-      ∙ ap behindCommands ((λ i. C.commandsFrom (length b) (names i) (sender i) b 0 (mirror-state S R m i) false) ∙ reply-carried b refl)
+      (λ i. cond (not (e i)) (refused ENDED) (cond (not (f i)) (refused TURN) (behindCommands (sender i) x)))
+      ∙ ap (behindCommands (S .header .side)) ((λ i. C.commandsFrom (length b) (names i) (sender i) b 0 (mirror-state S R m i) false) ∙ reply-carried b refl)
 
   -- it reaches the same graph and the same credentials as we do
   pub reply-mirror : Mirror (repliedState (replyIn T S)) (otherAfter T S R)
@@ -84,6 +85,9 @@ module _ (T : Tables) (t : Sound T) (S : State) (h : sound T S ≡ true) (w : wi
       let k : Mirrored (replyIn T S .state .header) (R .header) = subst (λ (x : Header). Mirrored x (R .header)) (sym q) (m .header) in
       record { header = record { side = k .side; other-side = k .other-side; own = k .own; other = k .other }; nodes = refl; edges = refl; shown = refl }
 
+  -- and counts the messages of each end as we do
   pub reply-counted : R .header .messages ≡ S .header .messages → otherAfter T S R .header .messages ≡ repliedState (replyIn T S) .header .messages
   unfolding repliedState afterMessage withHeader headerAfter
-  reply-counted count = ap (λ (n : ℕ). n + 1) (count ∙ ap (λ (x : Header). x .messages) (sym (updates-header (reply-updates T t S h w turn))))
+  reply-counted count =
+      let q : replyIn T S .state .header ≡ S .header = updates-header (reply-updates T t S h w turn) in
+      ap (counted (S .header .side)) count ∙ ap (λ (x : Header). counted (x .side) (x .messages)) (sym q)

@@ -15,9 +15,11 @@ use Rattle.graph.specs.Propagated.{propagatedState as propagated}
 use Rattle.justification.specs.InTurn.{inTurn}
 use Rattle.tables.specs.Tables.{Tables}
 use Rattle.negotiation.specs.declared.Header.{Header}
+use Rattle.negotiation.specs.Messages.{messageCount, counted}
+use Rattle.negotiation.specs.laws.Messages.{counted-one}
 use Rattle.negotiation.specs.State.{State, withHeader}
 use Rattle.negotiation.specs.Ends.{requester, entityOf}
-use Rattle.damage.specs.Header.{headerSound, countSound, endSound}
+use Rattle.damage.specs.Header.{headerSound, countsAgree, countSound, endSound}
 use Rattle.damage.specs.Records.{primarySound}
 use Rattle.damage.specs.Edges.{brought, formed, edgeFits, allBrought}
 use Rattle.damage.specs.Damage.{recordsSound, edgesJustified, sound}
@@ -45,44 +47,46 @@ end-judged p idle moved full h = go (eqb p 1) refl (eqb p 2) refl moved h (eqb i
     go false x false y false g false true = refl
     go false x false y false g false false = refl
 
-module _ (p : ℕ) (moved full : Bool) (h : Header) where
-  same-fits : (ns : List Node) (b : List Edge) (e : Edge) → edgeFits h ns b e ≡ edgeFits (headerAfter p moved full h) ns b e
+module _ (v p : ℕ) (moved full : Bool) (h : Header) where
+  same-fits : (ns : List Node) (b : List Edge) (e : Edge) → edgeFits h ns b e ≡ edgeFits (headerAfter v p moved full h) ns b e
   unfolding edgeFits formed entityOf headerAfter
   same-fits ns b e = refl
 
-  same-brought : (ns : List Node) (es : List Edge) → allBrought h ns es ≡ allBrought (headerAfter p moved full h) ns es
+  same-brought : (ns : List Node) (es : List Edge) → allBrought h ns es ≡ allBrought (headerAfter v p moved full h) ns es
   unfolding allBrought
   same-brought ns es = ap (λ (f : List Edge → Edge → Bool). inTurn f [] es && eqb (brought es) (length ns)) (λ i b e. same-fits ns b e i)
 
-  same-header : (own : ℕ) (ns : List Name) → headerSound own ns h ≡ headerSound own ns (headerAfter p moved full h)
+  same-header : (own : ℕ) (ns : List Name) → headerSound own ns h ≡ headerSound own ns (headerAfter v p moved full h)
   unfolding headerSound headerAfter
   same-header own ns = refl
 
-module _ (T : Tables) (U : State) (moved full : Bool) where
-  same-records : recordsSound (T .names) U ≡ recordsSound (T .names) (afterMessage U moved full)
+module _ (T : Tables) (v : ℕ) (U : State) (moved full : Bool) where
+  same-records : recordsSound (T .names) U ≡ recordsSound (T .names) (afterMessage v U moved full)
   unfolding recordsSound primarySound requester afterMessage withHeader headerAfter
   same-records = refl
 
-  same-justified : edgesJustified U ≡ edgesJustified (afterMessage U moved full)
+  same-justified : edgesJustified U ≡ edgesJustified (afterMessage v U moved full)
   unfolding edgesJustified afterMessage withHeader
   same-justified = refl
 
-  counted : U .header .messages < MOST-MESSAGES → countSound (afterMessage U moved full .header .messages) ≡ true
-  unfolding countSound afterMessage withHeader headerAfter
-  counted l =
-      and-both (ltb 0 (U .header .messages + 1)) (leb (U .header .messages + 1) 1027) (lt-ltb 0 (U .header .messages + 1) (omega arith))
-      (le-leb (U .header .messages + 1) 1027 (omega arith))
+  count-sound : messageCount (U .header .messages) < MOST-MESSAGES → countSound (counted v (U .header .messages)) ≡ true
+  unfolding countSound
+  count-sound l =
+      let n : ℕ = messageCount (counted v (U .header .messages)) in
+      let one : n ≡ messageCount (U .header .messages) + 1 = counted-one v (U .header .messages) in
+      and-both (ltb 0 n) (leb n 1027) (lt-ltb 0 n (omega (arith, one))) (le-leb n 1027 (omega (arith, one, l)))
 
   pub after-sound : headerSound (T .own) (T .names) (U .header) ≡ true → GraphKept (T .names) U → (length (U .nodes) ≡ 0 → ⊥)
-      → U .header .messages < MOST-MESSAGES
+      → countsAgree (counted v (U .header .messages)) ≡ true → messageCount (U .header .messages) < MOST-MESSAGES
       → (moved ≡ false → (propagated (U .nodes) (U .edges) 0 ≡ 1 → ⊥) × (propagated (U .nodes) (U .edges) 0 ≡ 2 → ⊥))
-      → sound T (afterMessage U moved full) ≡ true
+      → sound T (afterMessage v U moved full) ≡ true
   unfolding afterMessage withHeader headerAfter
-  after-sound h g some few still =
+  after-sound h g some agree few still =
       let p : ℕ = propagated (U .nodes) (U .edges) 0 in
       sym
-      (whole-graph T (afterMessage U moved full) {a = true} (sym (sym (same-header p moved full (U .header) (T .own) (T .names)) ∙ h)) refl refl some
-      (graph-end (T .names) (afterMessage U moved full) {a = true} (sym (counted few)) refl {b = true} (sym (sym same-records ∙ g .records)) refl
-      {c = true} (sym (sym (same-brought p moved full (U .header) (U .nodes) (U .edges)) ∙ g .edges)) refl {d = true}
+      (whole-graph T (afterMessage v U moved full) {a = true} (sym (sym (same-header v p moved full (U .header) (T .own) (T .names)) ∙ h)) refl
+      {c = true} (sym agree) refl refl some
+      (graph-end (T .names) (afterMessage v U moved full) {a = true} (sym (count-sound few)) refl {b = true} (sym (sym same-records ∙ g .records)) refl
+      {c = true} (sym (sym (same-brought v p moved full (U .header) (U .nodes) (U .edges)) ∙ g .edges)) refl {d = true}
       (sym (sym same-justified ∙ g .justified)) refl refl
       (sym (end-judged p (U .header .idle) moved full still))))

@@ -4,7 +4,7 @@ use native.Mathlib.Omega.{arith}
 use mathlib.Core.Path.{_≡_, refl, sym, _∙_, ap}
 use mathlib.Core.Bool.{Bool, true, false, not, cond, _&&_}
 use mathlib.Core.List.{List, [], _∷_, _++_}
-use borrow.Author.Tests.{eq-eqb, eqb-true, eqb-false, lt-ltb, not-true}
+use borrow.Author.Tests.{eq-eqb, eqb-false, lt-ltb, not-true}
 use lib.Dec.{eqb, ltb}
 use lib.ListN.{length, length-append}
 use Rattle.expression.specs.declared.Role.{Role}
@@ -29,12 +29,13 @@ use Rattle.message.specs.declared.Command.{Command}
 use Rattle.message.specs.declared.Command.the-variants.{Open}
 use Rattle.message.specs.Command.{formedCommand}
 use Rattle.negotiation.specs.State.{State, within, withNode}
-use Rattle.damage.specs.Header.{wantedSound, headerSound, emptySound}
+use Rattle.damage.specs.Header.{wantedSound, headerSound}
 use Rattle.negotiation.specs.Ends.{requester}
 use Rattle.damage.specs.Records.{isTyped, nodeSound, nodeFits, primarySound, credentialFits}
 use Rattle.damage.specs.Edges.{broughtFrom, brought, edgeFits}
-use Rattle.damage.specs.Damage.{edgesJustified, graphSound, sound}
+use Rattle.damage.specs.Damage.{edgesJustified, sound}
 use Rattle.damage.specs.laws.Damage.{graph-parts, sound-some}
+use Rattle.damage.specs.laws.Going.{by-nodes, no-nodes, empty-parts}
 use Rattle.applied.specs.Step.{primaryOf, stepped}
 use Rattle.legal.specs.Legal.{NamesClassed, ClassesSuit, OpenFirst, NodesStand, FormedAndNew, EdgeJustified, Unprocessed, RoomLeft, Legal}
 use Rattle.legal.specs.laws.Exact.{legal-exactly}
@@ -84,38 +85,22 @@ move-going T S g room = updates-going T (move-updates T S g room) g
 -- The start
 
 module _ (T : Tables) (t : Sound T) (S : State) (h : sound T S ≡ true) (w : within S ≡ true) where
-  sound-header : headerSound (T .own) (T .names) (S .header) ≡ true
-  unfolding sound
-  sound-header = and-parts (headerSound (T .own) (T .names) (S .header)) _ h .0
-
   -- an undamaged negotiation with a node
   pub sound-going : (length (S .nodes) ≡ 0 → ⊥) → Going T S
   sound-going some =
       let p = graph-parts (T .names) S (sound-some T S h some) in
-      record { tables = t; header = sound-header; graph = record { records = p .1; edges = p .2; justified = p .3 }; some = some; sizes = w }
+      record { tables = t; header = by-nodes T S h; graph = record { records = p .1; edges = p .2; justified = p .3 }; some = some; sizes = w }
 
   -- the mediator's open
   module _ (side : S .header .side ≡ 0) (fresh : length (S .nodes) ≡ 0) where
     abbrev opening : Opening
     opening = record { role = S .header .wanted; state = initialState (T .names) true (E.Role (S .header .wanted)) }
 
-    sound-empty : emptySound (S .header) (length (S .edges)) (length (S .shown)) ≡ true
-    unfolding sound
-    sound-empty =
-        sym (ap (λ (b : Bool). cond b (emptySound (S .header) (length (S .edges)) (length (S .shown))) (graphSound (T .names) S))
-        (eq-eqb (length (S .nodes)) 0 fresh)) ∙ and-parts (headerSound (T .own) (T .names) (S .header)) _ h .1
-
     empty-counts : (length (S .edges) ≡ 0) × (length (S .shown) ≡ 0)
-    unfolding emptySound
-    empty-counts =
-        let m : ℕ = length (S .edges) in
-        let k : ℕ = length (S .shown) in
-        let a = and-parts (eqb (S .header .messages) 0 && eqb (S .header .end) 0 && eqb (S .header .idle) 0 && eqb m 0) (eqb k 0) sound-empty in
-        let b = and-parts (eqb (S .header .messages) 0 && eqb (S .header .end) 0 && eqb (S .header .idle) 0) (eqb m 0) (a .0) in
-        (eqb-true m 0 (b .1), eqb-true k 0 (a .1))
+    empty-counts = let e = empty-parts (S .header) (length (S .edges)) (length (S .shown)) (no-nodes T S h fresh) in (e .2, e .3)
 
     parts : HeaderParts (T .own) (T .names) (S .header)
-    parts = header-parts (T .own) (T .names) (S .header) sound-header
+    parts = header-parts (T .own) (T .names) (S .header) (by-nodes T S h)
 
     wanted-parts : (isRole (S .header .wanted) ≡ true) × (eqb (classOf (T .names) (S .header .wanted .name)) 0 ≡ false)
     unfolding wantedSound
@@ -209,7 +194,7 @@ module _ (T : Tables) (t : Sound T) (S : State) (h : sound T S ≡ true) (w : wi
         let s : ℕ = S .header .side in
         record {
           tables = t;
-          header = ap (headerSound (T .own) (T .names)) (step-header S s (Open opening)) ∙ sound-header;
+          header = ap (headerSound (T .own) (T .names)) (step-header S s (Open opening)) ∙ by-nodes T S h;
           graph = open-kept;
           some = opened;
           sizes = step-within S w s (Open opening) (legal-room S (T .names) s (Open opening) (legal-exactly (T .names) s S (Open opening) .1 open-legal));

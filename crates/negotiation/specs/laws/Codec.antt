@@ -121,10 +121,10 @@ module _ (S : State) (z : Sizes S) where
         wanted = record { entity = div-add-mod' (h .wanted .entity) 256 t; name = div-add-mod' (h .wanted .name) 256 t };
         end = h .end;
         idle = h .idle;
-        messages = div-add-mod' (h .messages) 256 t;
+        messages = record { mediator = div-add-mod' (h .messages .mediator) 256 t; requester = div-add-mod' (h .messages .requester) 256 t };
       }
 
-  nodes-back : upTo (few 128 (getD (stateBytes S) 14 0)) (λ (i : ℕ). nodeFrom (stateBytes S) (128 + i * 22)) ≡ S .nodes
+  nodes-back : upTo (few 128 (getD (stateBytes S) 16 0)) (λ (i : ℕ). nodeFrom (stateBytes S) (128 + i * 22)) ≡ S .nodes
   unfolding stateBytes headerPart
   nodes-back =
       let nodes : List ℕ = part 2816 nodeBytes (S .nodes) in
@@ -136,7 +136,7 @@ module _ (S : State) (z : Sizes S) where
       ∙ part-back nodeBytes nodeFrom 22 node-size node-back 2816 (S .nodes) (stateBytes S) 128 (edges ++ shown)
       (ap (drop 128) split ∙ drop-at (headerPart S) (nodes ++ (edges ++ shown)) 128 (header-part S z))
 
-  edges-back : upTo (few 256 (numberAt (stateBytes S) 15)) (λ (j : ℕ). edgeFrom (stateBytes S) (2944 + j * 3)) ≡ S .edges
+  edges-back : upTo (few 256 (numberAt (stateBytes S) 17)) (λ (j : ℕ). edgeFrom (stateBytes S) (2944 + j * 3)) ≡ S .edges
   unfolding stateBytes headerPart
   edges-back =
       let nodes : List ℕ = part 2816 nodeBytes (S .nodes) in
@@ -147,7 +147,7 @@ module _ (S : State) (z : Sizes S) where
       ∙ part-back edgeBytes edgeFrom 3 edge-size edge-back 768 (S .edges) (stateBytes S) 2944 shown
       (ap (drop 2944) (append-assoc (headerPart S ++ nodes) edges shown) ∙ drop-at (headerPart S ++ nodes) (edges ++ shown) 2944 (nodes-front S z))
 
-  shown-back : upTo (few 64 (getD (stateBytes S) 17 0)) (λ (k : ℕ). credentialFrom (stateBytes S) (3712 + k * 22)) ≡ S .shown
+  shown-back : upTo (few 64 (getD (stateBytes S) 19 0)) (λ (k : ℕ). credentialFrom (stateBytes S) (3712 + k * 22)) ≡ S .shown
   unfolding stateBytes headerPart part
   shown-back =
       let front : List ℕ = headerPart S ++ part 2816 nodeBytes (S .nodes) ++ part 768 edgeBytes (S .edges) in

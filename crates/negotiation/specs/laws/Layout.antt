@@ -164,8 +164,8 @@ module _ (S : State) (z : Sizes S) where
   pub header-part : length (headerPart S) ≡ 128
   unfolding headerPart
   header-part =
-      length-append (headerBytes (S .header) (length (S .nodes)) (length (S .edges)) (length (S .shown))) (zeros 110)
-      ∙ ap (λ (n : ℕ). 18 + n) (length-zeros 110)
+      length-append (headerBytes (S .header) (length (S .nodes)) (length (S .edges)) (length (S .shown))) (zeros 108)
+      ∙ ap (λ (n : ℕ). 20 + n) (length-zeros 108)
 
   pub nodes-front : length (headerPart S ++ part 2816 nodeBytes (S .nodes)) ≡ 2944
   nodes-front = length-append (headerPart S) (part 2816 nodeBytes (S .nodes)) ∙ (λ i. header-part i + nodes-part i)
@@ -183,7 +183,7 @@ module _ (S : State) (z : Sizes S) where
   -- header, zeros and the three parts, written one after the other
   pub all-written : (d b c e f g : List ℕ) → length d ≡ 5120
       → b ≡ pasted d 0 (headerBytes (S .header) (length (S .nodes)) (length (S .edges)) (length (S .shown)))
-      → c ≡ pasted b 18 (zeros 110)
+      → c ≡ pasted b 20 (zeros 108)
       → e ≡ pasted c 128 (part 2816 nodeBytes (S .nodes))
       → f ≡ pasted e 2944 (part 768 edgeBytes (S .edges))
       → g ≡ pasted f 3712 (part 1408 credentialBytes (S .shown))
@@ -194,8 +194,8 @@ module _ (S : State) (z : Sizes S) where
       let nodes : List ℕ = part 2816 nodeBytes (S .nodes) in
       let edges : List ℕ = part 768 edgeBytes (S .edges) in
       let shown : List ℕ = part 1408 credentialBytes (S .shown) in
-      let c′ : c ≡ pasted d 0 (headerPart S) = hc ∙ ap (λ (l : List ℕ). pasted l 18 (zeros 110)) hb
-      ∙ paste-on d header (zeros 110) 18 refl (omega (arith, length-zeros 110)) in
+      let c′ : c ≡ pasted d 0 (headerPart S) = hc ∙ ap (λ (l : List ℕ). pasted l 20 (zeros 108)) hb
+      ∙ paste-on d header (zeros 108) 20 refl (omega (arith, length-zeros 108)) in
       let e′ : e ≡ pasted d 0 (headerPart S ++ nodes) = he ∙ ap (λ (l : List ℕ). pasted l 128 nodes) c′
       ∙ paste-on d (headerPart S) nodes 128 header-part (omega (arith, nodes-part)) in
       let f′ : f ≡ pasted d 0 (headerPart S ++ nodes ++ edges) = hf ∙ ap (λ (l : List ℕ). pasted l 2944 edges) e′
@@ -215,7 +215,7 @@ module _ (n : Negotiation) (h : within (stateOf n) ≡ true) where
   pub negotiation-written : (d b c e f g front : List ℕ) → length d ≡ 5120
       → front ≡ headerBytes (n .header) (n .nodes .count) (n .edges .count) (n .shown .count)
       → b ≡ pasted d 0 front
-      → c ≡ pasted b 18 (zeros 110)
+      → c ≡ pasted b 20 (zeros 108)
       → e ≡ pasted c 128 (part 2816 nodeBytes (nodesOf (n .nodes)))
       → f ≡ pasted e 2944 (part 768 edgeBytes (edgesOf (n .edges)))
       → g ≡ pasted f 3712 (part 1408 credentialBytes (credentials (n .shown)))

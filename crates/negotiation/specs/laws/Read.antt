@@ -105,9 +105,9 @@ candidate-within s = rw (small 128 _ _, small 256 _ _, small 64 _ _)
 
 -- header, nodes, edges and credentials, read by position
 pub candidate-read : (s : List ℕ) (n : Negotiation) (a b c : ℕ) → n .header ≡ headerFrom s
-    → a ≡ few 128 (getD s 14 0) → nodesOf (n .nodes) ≡ upTo a (λ (i : ℕ). nodeFrom s (128 + i * 22))
-    → b ≡ few 256 (numberAt s 15) → edgesOf (n .edges) ≡ upTo b (λ (j : ℕ). edgeFrom s (2944 + j * 3))
-    → c ≡ few 64 (getD s 17 0) → credentials (n .shown) ≡ upTo c (λ (k : ℕ). credentialFrom s (3712 + k * 22))
+    → a ≡ few 128 (getD s 16 0) → nodesOf (n .nodes) ≡ upTo a (λ (i : ℕ). nodeFrom s (128 + i * 22))
+    → b ≡ few 256 (numberAt s 17) → edgesOf (n .edges) ≡ upTo b (λ (j : ℕ). edgeFrom s (2944 + j * 3))
+    → c ≡ few 64 (getD s 19 0) → credentials (n .shown) ≡ upTo c (λ (k : ℕ). credentialFrom s (3712 + k * 22))
     → stateOf n ≡ candidateOf s
 unfolding stateOf candidateOf
 candidate-read s n a b c h ea nodes eb edges ec shown = λ i. record {

@@ -20,6 +20,7 @@ use Rattle.graph.specs.Form.{hasRole, form, legalState}
 use Rattle.graph.specs.Propagated.{satisfiedB, failedB, completeB, propagatedState as propagated}
 use Rattle.justification.specs.Justified.{solves, solved, monitors, monitored, implied, impliedIf, monitoredIf, justified}
 use Rattle.message.specs.Command.{commandBytes}
+use Rattle.negotiation.specs.Messages.{counted}
 use Rattle.negotiation.specs.State.{freshState, withNode, withEdge, withShown, withMark, withHeader, within}
 use Rattle.damage.specs.Header.{wantedSound, headerSound, emptySound, countSound, endSound}
 use Rattle.negotiation.specs.Ends.{requester, entityOf}
@@ -54,7 +55,7 @@ unfolding roleFrom reaches pass close closure from? sameRole same beforeOf befor
     requester entityOf emptySound countSound endSound nodeSound nodeFits primarySound credentialSound isShown credentialFits kept needed firstOf
     restOf processedBy markedState primaryOf verifierOf childOf stepped hasRoom refuse first isFresh isAbsent formedAs showNumber openNumber
     markNumber endNumber joinWrong justifiedBy justifiedFor joinNumber bringWrong bringNumber justifiedIn legalBy legalNumber endOf isStalled idleOf
-    headerAfter afterMessage holdingOf isAcknowledged knownOf traced initialState spread frontierOf ordered verifierRules sensitiveRules opponentRules
+    counted headerAfter afterMessage holdingOf isAcknowledged knownOf traced initialState spread frontierOf ordered verifierRules sensitiveRules opponentRules
     firstNot chosenIn isDone credentialsFor choiceAt movesFrom nextMove endIn replyFrom replyIn repliedState replyBytes zeros
 marked-cases = refl
 

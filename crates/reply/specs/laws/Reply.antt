@@ -26,6 +26,7 @@ use Rattle.message.specs.Command.{commandBytes, sizeOf}
 use Rattle.message.specs.laws.CommandExact.{command-length}
 use Rattle.negotiation.specs.declared.Header.{Header}
 use Rattle.negotiation.specs.declared.Negotiation.{Negotiation}
+use Rattle.negotiation.specs.Messages.{messageCount}
 use Rattle.negotiation.specs.State.{State, within, withHeader}
 use Rattle.negotiation.specs.laws.State.{stateOf}
 use Rattle.damage.specs.Damage.{sound}
@@ -46,7 +47,7 @@ use Rattle.reply.specs.laws.Turns.{behind, restFrom, from-rest, bytes-be
 use Rattle.reply.specs.laws.Turn.{going-ready}
 use Rattle.reply.specs.laws.Writing.{Gives}
 use Rattle.reply.specs.laws.Moved.{reply-moved}
-use Rattle.reply.specs.laws.ReplyLegal.{first-side, no-messages, reply-updates}
+use Rattle.reply.specs.laws.ReplyLegal.{opens-first, reply-updates}
 use Rattle.numbers.specs.Answer.{refused, accepted}
 use Rattle.numbers.specs.Refusals.{TURN, ENDED}
 
@@ -129,8 +130,7 @@ module _ (T : Tables) (t : Sound T) (S : State) (h : sound T S ≡ true) (w : wi
     where
       go : (b : Bool) → eqb (length (S .nodes)) 0 ≡ b → Going T (carried (S .header .side) S (cond b (firstOpen (T .names) (S .header .wanted) ∷ []) []))
       go true e =
-          let z : length (S .nodes) ≡ 0 = eqb-true (length (S .nodes)) 0 e in opening-going T t S h w
-          (first-side (S .header .side) (S .header .messages) (no-messages T t S h w turn z) turn) z
+          let z : length (S .nodes) ≡ 0 = eqb-true (length (S .nodes)) 0 e in opening-going T t S h w (opens-first T t S h w turn z) z
       go false e = sound-going T t S h w (eqb-false (length (S .nodes)) 0 e)
 
   module _ {d₀ d₁ : List ℕ} (b : Replying) (g : Begins T S d₀ b d₁) (long : 4096 ≤ length d₀) where
@@ -163,9 +163,9 @@ module _ (T : Tables) (t : Sound T) (S : State) (h : sound T S ≡ true) (w : wi
 
 -- The end
 
-after-within : (S : State) (m f : Bool) {U : State} → U ≡ afterMessage S m f → within S ≡ true → within U ≡ true
+after-within : (v : ℕ) (S : State) (m f : Bool) {U : State} → U ≡ afterMessage v S m f → within S ≡ true → within U ≡ true
 unfolding afterMessage withHeader within
-after-within S m f e w = ap within e ∙ w
+after-within v S m f e w = ap within e ∙ w
 
 message-end : (cs : List Command) → messageBytes cs ≡ bytesOf cs ++ commandBytes End
 message-end cs = bytes-append cs (End ∷ []) ∙ ap (λ (l : List ℕ). bytesOf cs ++ l) (append-nil (commandBytes End))
@@ -221,13 +221,18 @@ module _ (T : Tables) (n : Negotiation) where
         unfolding stateOf
         same-header = ap (λ (S : State). S .header) (g .state) ∙ updates-header (reply-updates T t (stateOf n) s w in-turn)
 
+        same-side : n .header .side ≡ stateOf (q .negotiation) .header .side
+        unfolding stateOf
+        same-side = ap (λ (x : Header). x .side) (sym same-header)
+
         -- what judging the end asks
-        pub after-ready : (within (stateOf (q .negotiation)) ≡ true) × (0 < q .negotiation .nodes .count) × (q .negotiation .header .messages < 65535)
+        pub after-ready : (within (stateOf (q .negotiation)) ≡ true) × (0 < q .negotiation .nodes .count)
+            × (messageCount (q .negotiation .header .messages) < 65535)
             × NodesFormed (nodesOf (q .negotiation .nodes)) × EdgesFormed (nodesOf (q .negotiation .nodes)) (edgesOf (q .negotiation .edges))
         unfolding stateOf
         after-ready =
             let r = going-ready T (q .negotiation) (g .going) in
-            (g .going .sizes, r .0, omega (arith, ap (λ (x : Header). x .messages) same-header, sound-count T (stateOf n) s), r .3, r .4)
+            (g .going .sizes, r .0, omega (arith, ap (λ (x : Header). messageCount (x .messages)) same-header, sound-count T (stateOf n) s), r .3, r .4)
 
         module _ (long : 4096 ≤ length d₀) where
           same-length : length d₁ ≡ length d₀
@@ -241,7 +246,7 @@ module _ (T : Tables) (n : Negotiation) where
           end-length de = ap length de ∙ paste-length d₁ (q .at) (commandBytes End) (omega (arith, end-fits, command-length End)) ∙ same-length
 
           pub replied-given : {d : List ℕ} (a : Negotiation) (r : Replying)
-              → stateOf a ≡ afterMessage (stateOf (q .negotiation)) (not (eqb (q .at) 0)) (q .full) → d ≡ pasted d₁ (q .at) (commandBytes End)
+              → stateOf a ≡ afterMessage (n .header .side) (stateOf (q .negotiation)) (not (eqb (q .at) 0)) (q .full) → d ≡ pasted d₁ (q .at) (commandBytes End)
               → r .refusal ≡ 0 → r .negotiation ≡ a → r .at ≡ q .at + 1
               → Replies T (stateOf n) d₀ r d
           unfolding replyBytes repliedState
@@ -250,7 +255,8 @@ module _ (T : Tables) (n : Negotiation) where
               let size : q .at ≡ length (bytesOf (A .commands)) = omega (arith, g .size) in
               let behindBytes : q .at ≡ 0 + length (bytesOf (A .commands)) = g .size in
               let state : stateOf (r .negotiation) ≡ repliedState A = ap stateOf ne ∙ ae
-              ∙ (λ i. afterMessage (g .state i) (reply-moved T (stateOf n) size i) (g .full i)) in
+              ∙ ap (λ (v : ℕ). afterMessage v (stateOf (q .negotiation)) (not (eqb (q .at) 0)) (q .full)) same-side
+              ∙ (λ i. afterMessage (g .state i .header .side) (g .state i) (reply-moved T (stateOf n) size i) (g .full i)) in
               let all : length (messageBytes (A .commands)) ≡ length (bytesOf (A .commands)) + 1 = ap length (message-end (A .commands))
               ∙ length-append (bytesOf (A .commands)) (commandBytes End) ∙ ap (λ (k : ℕ). length (bytesOf (A .commands)) + k) (command-length End) in
               let written : d ≡ pasted d₀ 0 (messageBytes (A .commands))
@@ -266,5 +272,5 @@ module _ (T : Tables) (n : Negotiation) where
                 written = λ h. written ∙ pasted-front d₀ (messageBytes (A .commands));
                 size = λ h. omega (arith, se, size, all);
                 few = λ h. omega (arith, se, g .most);
-                sizes = λ h. after-within (stateOf (q .negotiation)) (not (eqb (q .at) 0)) (q .full) (ap stateOf ne ∙ ae) (g .going .sizes);
+                sizes = λ h. after-within (n .header .side) (stateOf (q .negotiation)) (not (eqb (q .at) 0)) (q .full) (ap stateOf ne ∙ ae) (g .going .sizes);
               }

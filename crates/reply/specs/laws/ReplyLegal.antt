@@ -1,13 +1,13 @@
 -- A reply consists of legal updates, leaves a negotiation that is not damaged, and is taken at the other end (document 01, "The reply").
 -- Assumes nothing.
-use Prim.Native.Nat.{ℕ, zero, suc, _+_, _%_, _<_}
+use Prim.Native.Nat.{ℕ, zero, suc, _+_, _<_}
 use mathlib.Core.Path.{_≡_, refl, sym, _∙_, ap, subst}
-use mathlib.Core.Bool.{Bool, true, false, cond, _&&_}
+use mathlib.Core.Bool.{Bool, true, false, cond}
 use mathlib.Core.List.{List, [], _∷_, _++_, append-assoc, append-nil}
-use borrow.Author.Tests.{eq-eqb, eqb-true, eqb-false}
+use borrow.Author.Tests.{eqb-true, eqb-false}
 use lib.Dec.{eqb, leb}
 use lib.ListN.{length}
-use Rattle.word.specs.laws.Bools.{and-parts, or-neither}
+use Rattle.word.specs.laws.Bools.{or-neither}
 use Rattle.expression.specs.declared.Expression.the-variants as E
 use Rattle.class.specs.declared.Name.{Name}
 use Rattle.tables.specs.Tables.{Tables}
@@ -18,10 +18,11 @@ use Rattle.message.specs.declared.Command.{Command}
 use Rattle.message.specs.declared.Command.the-variants.{Open}
 use Rattle.message.specs.Command.{formedCommand}
 use Rattle.negotiation.specs.declared.Header.{Header}
+use Rattle.negotiation.specs.Messages.{messageCount, counted}
 use Rattle.negotiation.specs.State.{State, within, withHeader}
-use Rattle.damage.specs.Header.{headerSound, emptySound, endSound}
-use Rattle.damage.specs.Damage.{graphSound, sound}
-use Rattle.damage.specs.laws.Damage.{graph-parts, sound-some}
+use Rattle.damage.specs.Header.{countsAgree, endSound}
+use Rattle.damage.specs.Damage.{sound}
+use Rattle.damage.specs.laws.Damage.{sound-parts, graph-parts, sound-some}
 use Rattle.applied.specs.Step.{stepped, isMove, moved}
 use Rattle.applied.specs.After.{afterMessage}
 use Rattle.legal.specs.laws.AfterKept.{after-sound}
@@ -30,7 +31,8 @@ use Rattle.message.specs.Message.{bytesOf}
 use Rattle.legal.specs.Updates.{Updates, none, next}
 use Rattle.applied.specs.laws.Step.{step-header, step-still}
 use Rattle.standing.specs.Turn.{sends}
-use Rattle.damage.specs.laws.Going.{going-on}
+use Rattle.standing.specs.laws.Turn.{first-side, agree-next}
+use Rattle.damage.specs.laws.Going.{no-messages, going-on}
 use Rattle.moves.specs.Initial.{initialState}
 use Rattle.moves.specs.Rules.{endIn}
 use Rattle.moves.specs.Move.{Move, nextMove}
@@ -114,11 +116,6 @@ record Given (T : Tables) (S : State) (r : Replied) : Type 0 where
   going : Going T (r .state)
   mirror : (k : Header) → Mirrored (S .header) k → Updates (T .names) (S .header .side) (withHeader S k) (r .commands) (withHeader (r .state) k)
 
--- while none is counted, the mediator sends
-pub first-side : (v n : ℕ) → n ≡ 0 → sends v n ≡ true → v ≡ 0
-unfolding sends
-first-side v n z h = sym (eqb-true (n % 2) v h) ∙ ap (λ (k : ℕ). k % 2) z
-
 module _ (T : Tables) (t : Sound T) (S : State) (h : sound T S ≡ true) (w : within S ≡ true) (turn : sends (S .header .side) (S .header .messages) ≡ true) where
   abbrev s : ℕ
   s = S .header .side
@@ -126,17 +123,9 @@ module _ (T : Tables) (t : Sound T) (S : State) (h : sound T S ≡ true) (w : wi
   abbrev first : Opening
   first = record { role = S .header .wanted; state = initialState (T .names) true (E.Role (S .header .wanted)) }
 
-  pub no-messages : length (S .nodes) ≡ 0 → S .header .messages ≡ 0
-  unfolding sound emptySound
-  no-messages z =
-      let m : ℕ = length (S .edges) in
-      let k : ℕ = length (S .shown) in
-      let e = sym (ap (λ (b : Bool). cond b (emptySound (S .header) m k) (graphSound (T .names) S)) (eq-eqb (length (S .nodes)) 0 z))
-      ∙ and-parts (headerSound (T .own) (T .names) (S .header)) _ h .1 in
-      let a = and-parts (eqb (S .header .messages) 0 && eqb (S .header .end) 0 && eqb (S .header .idle) 0 && eqb m 0) (eqb k 0) e in
-      let b = and-parts (eqb (S .header .messages) 0 && eqb (S .header .end) 0 && eqb (S .header .idle) 0) (eqb m 0) (a .0) in
-      let c = and-parts (eqb (S .header .messages) 0 && eqb (S .header .end) 0) (eqb (S .header .idle) 0) (b .0) in
-      eqb-true (S .header .messages) 0 (and-parts (eqb (S .header .messages) 0) (eqb (S .header .end) 0) (c .0) .0)
+  -- while no node stands, the mediator sends
+  pub opens-first : length (S .nodes) ≡ 0 → S .header .side ≡ 0
+  opens-first z = first-side (S .header .side) (S .header .messages) turn (no-messages T S h z)
 
   -- a reply that goes on from a graph
   going-given : Going T S → (r : Replied) → Behind T s S [] r → Given T S r
@@ -148,7 +137,7 @@ module _ (T : Tables) (t : Sound T) (S : State) (h : sound T S ≡ true) (w : wi
   -- the mediator's first reply
   opened-given : length (S .nodes) ≡ 0 → (r : Replied) → Behind T s (stepped S s (Open first)) (Open first ∷ []) r → Given T S r
   opened-given z r b =
-      let side : S .header .side ≡ 0 = first-side s (S .header .messages) (no-messages z) turn in
+      let side : S .header .side ≡ 0 = opens-first z in
       let f : formedCommand (Open first) ≡ true = open-formed T t S h w side z in
       let l : Legal (T .names) s S (Open first) = open-legal T t S h w side z in
       let g : Going T (stepped S s (Open first)) = opening-going T t S h w side z in
@@ -167,7 +156,7 @@ module _ (T : Tables) (t : Sound T) (S : State) (h : sound T S ≡ true) (w : wi
       go : (b : Bool) → eqb (length (S .nodes)) 0 ≡ b → Given T S (replyFrom 4096 T (carried s S (cond b (Open first ∷ []) [])) (cond b (Open first ∷ []) []))
       go true e =
           let z : length (S .nodes) ≡ 0 = eqb-true (length (S .nodes)) 0 e in
-          let side : S .header .side ≡ 0 = first-side s (S .header .messages) (no-messages z) turn in
+          let side : S .header .side ≡ 0 = opens-first z in
           opened-given z (replyFrom 4096 T (stepped S s (Open first)) (Open first ∷ []))
           (from-behind T 4096 s (stepped S s (Open first)) (Open first ∷ []) (opening-going T t S h w side z)
           (ap (λ (x : Header). x .side) (step-header S s (Open first))))
@@ -183,12 +172,15 @@ module _ (T : Tables) (t : Sound T) (S : State) (h : sound T S ≡ true) (w : wi
   reply-going = given .going
 
   -- kept-sound for reply: it leaves a negotiation that is not damaged, where the count stays within its bound
-  pub reply-sound : S .header .end ≡ 0 → S .header .messages < MOST-MESSAGES → sound T (repliedState (replyIn T S)) ≡ true
+  pub reply-sound : S .header .end ≡ 0 → messageCount (S .header .messages) < MOST-MESSAGES → sound T (repliedState (replyIn T S)) ≡ true
   unfolding repliedState
   reply-sound going few =
       let r : Replied = replyIn T S in
-      after-sound T (r .state) (moved (r .commands)) (r .full) (reply-going .header) (reply-going .graph) (reply-going .some)
-      (subst (λ (x : Header). x .messages < MOST-MESSAGES) (sym (updates-header reply-updates)) few) still
+      let q : r .state .header ≡ S .header = updates-header reply-updates in
+      after-sound T (r .state .header .side) (r .state) (moved (r .commands)) (r .full) (reply-going .header) (reply-going .graph) (reply-going .some)
+      (ap (λ (x : Header). countsAgree (counted (x .side) (x .messages))) q
+      ∙ agree-next (S .header .side) (S .header .messages) turn (sound-parts T S h .1))
+      (subst (λ (x : Header). messageCount (x .messages) < MOST-MESSAGES) (sym q) few) still
     where
       still : moved (replyIn T S .commands) ≡ false
           → (propagated (replyIn T S .state .nodes) (replyIn T S .state .edges) 0 ≡ 1 → ⊥)

@@ -2,7 +2,7 @@ use Rattle.negotiation.specs.laws.Within.{within-few}
 use mathlib.Core.Path.{refl}
 use Rattle.damage.specs.laws.Damage.{held-nodes, held-edges}
 use native.Mathlib.Omega.{arith}
-use Rattle.report.specs.laws.Report.{report-refused, report-absent, report-node}
+use Rattle.report.specs.laws.Report.{report-refused, report-absent, report-node, held-counts}
 use borrow.Author.Needs.{needs}
 use Rattle.report.proofs.report.Statement.{statement}
 use Rattle.report.proofs.report.Tie as tie
@@ -17,25 +17,23 @@ returns-2 c =
     report-absent _ _ _ _ (c6 .restore .ensures .0) (c4 .if1 .left) refl (c .if2 .taken)
 
 report-on-requires : tie.Need-report-on-requires
-report-on-requires c κs = (
-  omega (arith, (c .if2 .left)),
-  within-few (c .before .before .before .before .before .before .restore .result .negotiation)
-      ((c .before .before .before .before .before .before .restore .ensures .1) .within-sizes (c .before .before .before .before .if1 .left)) .0,
-  within-few (c .before .before .before .before .before .before .restore .result .negotiation)
-      ((c .before .before .before .before .before .before .restore .ensures .1) .within-sizes (c .before .before .before .before .if1 .left)) .1,
-  within-few (c .before .before .before .before .before .before .restore .result .negotiation)
-      ((c .before .before .before .before .before .before .restore .ensures .1) .within-sizes (c .before .before .before .before .if1 .left)) .2,
-  held-nodes (c .before .before .before .before .before .before .restore .result .house)
-      (c .before .before .before .before .before .before .restore .result .negotiation)
-      ((c .before .before .before .before .before .before .restore .ensures .1) .within-sizes (c .before .before .before .before .if1 .left))
-      ((c .before .before .before .before .before .before .restore .ensures .1) .is-sound (c .before .before .before .before .if1 .left))
-      (omega (arith, (c .if2 .left))),
-  held-edges (c .before .before .before .before .before .before .restore .result .house)
-      (c .before .before .before .before .before .before .restore .result .negotiation)
-      ((c .before .before .before .before .before .before .restore .ensures .1) .within-sizes (c .before .before .before .before .if1 .left))
-      ((c .before .before .before .before .before .before .restore .ensures .1) .is-sound (c .before .before .before .before .if1 .left))
-      (omega (arith, (c .if2 .left))),
-)
+report-on-requires c κs =
+    let left = c .before .before .before .before in
+    let r = left .before .before in
+    let n = r .restore .result .negotiation in
+    let w = r .restore .ensures .1 .within-sizes (left .if1 .left) in
+    let s = r .restore .ensures .1 .is-sound (left .if1 .left) in
+    let few = within-few n w in
+    let counts = held-counts _ n s in (
+      omega (arith, c .if2 .left),
+      few .0,
+      few .1,
+      few .2,
+      counts .0,
+      counts .1,
+      held-nodes (r .restore .result .house) n w s (omega (arith, c .if2 .left)),
+      held-edges (r .restore .result .house) n w s (omega (arith, c .if2 .left)),
+    )
 
 returns-3 : tie.Need-returns-3
 returns-3 c =

@@ -20,6 +20,7 @@ use Rattle.graph.specs.laws.Graph.{nodesOf, edgesOf}
 use Rattle.graph.specs.laws.Columns.{nodes-length, edges-length, node-in}
 use Rattle.graph.specs.laws.Form.{legal-few}
 use Rattle.tables.specs.laws.Tables.{tablesOf}
+use Rattle.negotiation.specs.declared.Messages.{Messages}
 use Rattle.negotiation.specs.declared.Negotiation.{Negotiation}
 use Rattle.negotiation.specs.State.{State, within}
 use Rattle.negotiation.specs.laws.State.{stateOf as stateHeld}
@@ -28,6 +29,7 @@ use Rattle.damage.specs.Header.{endSound}
 use Rattle.damage.specs.Damage.{sound, recordsSound}
 use Rattle.standing.specs.laws.Standing.{standingOf}
 use Rattle.damage.specs.laws.Damage.{graph-parts, sound-some, sound-legal, fits-sound}
+use Rattle.damage.specs.laws.Going.{few-messages}
 use Rattle.report.specs.Report.{Report, reportOn, behindNegotiation, reportOf, packed, unpacked}
 use Rattle.numbers.specs.Answer.{Answer, refused, accepted, answerOf}
 use Rattle.tables.specs.Tables.{Tables}
@@ -37,7 +39,7 @@ use Rattle.graph.specs.Graph.{nodeIn, blank}
 use Rattle.numbers.specs.Sizes.{MOST-NODES, MOST-EDGES, MOST-SHOWN}
 
 -- a report of these numbers
-abbrev pub numbered : ℕ → ℕ → ℕ → ℕ → ℕ → ℕ → ℕ → Report
+abbrev pub numbered : ℕ → ℕ → ℕ → ℕ → ℕ → ℕ → Messages → Report
 numbered s p e n m k c = record { state = s; propagated = p; end = e; nodes = n; edges = m; shown = k; messages = c }
 
 -- The numbers
@@ -58,11 +60,16 @@ low-256 x y n q l = (omega arith, omega arith)
 low-512 : (x y n : ℕ) → n ≡ x + y * 512 → x < 512 → (n % 512 ≡ x) × (n / 512 ≡ y)
 low-512 x y n q l = (omega arith, omega arith)
 
+low-1024 : (x y n : ℕ) → n ≡ x + y * 1024 → x < 1024 → (n % 1024 ≡ x) × (n / 1024 ≡ y)
+low-1024 x y n q l = (omega arith, omega arith)
+
 -- what is packed is read back
-pub packed-back : (r : Report) → r .state < 4 → r .propagated < 4 → r .end < 8 → r .nodes < 256 → r .edges < 512 → r .shown < 128 → unpacked (packed r) ≡ r
+pub packed-back : (r : Report) → r .state < 4 → r .propagated < 4 → r .end < 8 → r .nodes < 256 → r .edges < 512 → r .shown < 128
+    → r .messages .mediator < 1024 → unpacked (packed r) ≡ r
 unfolding packed unpacked
-packed-back r a b c d e f =
-    let s6 : ℕ = r .shown + r .messages * 128 in
+packed-back r a b c d e f g =
+    let s7 : ℕ = r .messages .mediator + r .messages .requester * 1024 in
+    let s6 : ℕ = r .shown + s7 * 128 in
     let s5 : ℕ = r .edges + s6 * 512 in
     let s4 : ℕ = r .nodes + s5 * 256 in
     let s3 : ℕ = r .end + s4 * 8 in
@@ -72,8 +79,17 @@ packed-back r a b c d e f =
     let v3 = low-8 (r .end) s4 (packed r / 4 / 4) (v2 .1) c in
     let v4 = low-256 (r .nodes) s5 (packed r / 4 / 4 / 8) (v3 .1) d in
     let v5 = low-512 (r .edges) s6 (packed r / 4 / 4 / 8 / 256) (v4 .1) e in
-    let v6 = low-128 (r .shown) (r .messages) (packed r / 4 / 4 / 8 / 256 / 512) (v5 .1) f in
-    λ i. record { state = v1 .0 i; propagated = v2 .0 i; end = v3 .0 i; nodes = v4 .0 i; edges = v5 .0 i; shown = v6 .0 i; messages = v6 .1 i }
+    let v6 = low-128 (r .shown) s7 (packed r / 4 / 4 / 8 / 256 / 512) (v5 .1) f in
+    let v7 = low-1024 (r .messages .mediator) (r .messages .requester) (packed r / 4 / 4 / 8 / 256 / 512 / 128) (v6 .1) g in
+    λ i. record {
+      state = v1 .0 i;
+      propagated = v2 .0 i;
+      end = v3 .0 i;
+      nodes = v4 .0 i;
+      edges = v5 .0 i;
+      shown = v6 .0 i;
+      messages = record { mediator = v7 .0 i; requester = v7 .1 i };
+    }
 
 -- The call
 
@@ -106,10 +122,11 @@ module _ (tables negotiation : List ℕ) (i : ℕ) (R : Restored) (e : standingO
 
 -- In code
 
-pub pack-is : {s p e n m k c s′ p′ e′ n′ m′ k′ c′ : ℕ} → s′ ≡ s → p′ ≡ p → e′ ≡ e → n′ ≡ n → m′ ≡ m → k′ ≡ k → c′ ≡ c
-    → (s′ + (p′ + (e′ + (n′ + (m′ + (k′ + c′ * 128) * 512) * 256) * 8) * 4) * 4) ≡ packed (numbered s p e n m k c)
+pub pack-is : {s p e n m k s′ p′ e′ n′ m′ k′ a′ b′ : ℕ} {c : Messages} → s′ ≡ s → p′ ≡ p → e′ ≡ e → n′ ≡ n → m′ ≡ m → k′ ≡ k
+    → a′ ≡ c .mediator → b′ ≡ c .requester
+    → (s′ + (p′ + (e′ + (n′ + (m′ + (k′ + (a′ + b′ * 1024) * 128) * 512) * 256) * 8) * 4) * 4) ≡ packed (numbered s p e n m k c)
 unfolding packed
-pack-is a b d f g h j = λ i. a i + (b i + (d i + (f i + (g i + (h i + j i * 128) * 512) * 256) * 8) * 4) * 4
+pack-is a b d f g h j l = λ i. a i + (b i + (d i + (f i + (g i + (h i + (j i + l i * 1024) * 128) * 512) * 256) * 8) * 4) * 4
 
 -- the numbers of a negotiation as it is held
 pub report-is : (G : Negotiation) (i : ℕ) {p v : ℕ} → i < G .nodes .count → p ≡ propagatedState (nodesOf (G .nodes)) (edgesOf (G .edges)) i
@@ -125,6 +142,12 @@ report-is G i l e q = q ∙ ap packed (λ t. record {
   shown = sym (length-upTo (G .shown .count) (credentialAt (G .shown))) t;
   messages = G .header .messages;
 })
+
+-- and its counts of messages have ten bits
+pub held-counts : (T : Tables) (G : Negotiation) → sound T (stateHeld G) ≡ true
+    → (G .header .messages .mediator < 1024) × (G .header .messages .requester < 1024)
+unfolding stateHeld
+held-counts T G h = few-messages T (stateHeld G) h
 
 -- What a report's numbers are
 
@@ -184,3 +207,4 @@ report-numbers T S w h i l =
     (omega (arith, leb-true (length (S .nodes)) MOST-NODES (b .0)))
     (omega (arith, leb-true (length (S .edges)) MOST-EDGES (b .1)))
     (omega (arith, leb-true (length (S .shown)) MOST-SHOWN (a .1)))
+    (few-messages T S h .0)

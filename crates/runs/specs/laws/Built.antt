@@ -9,24 +9,28 @@ use Rattle.numbers.specs.Answer.{Answer, refused, accepted}
 use Rattle.numbers.specs.laws.Answer.{isAccepted, valueOr}
 use Rattle.tables.specs.Tables.{Tables}
 use Rattle.tables.specs.Check.{readTables}
+use Rattle.negotiation.specs.declared.Header.{Header}
 use Rattle.negotiation.specs.State.{State, within}
 use Rattle.negotiation.specs.Layout.{stateBytes}
 use Rattle.standing.specs.Standing.{restoreOf}
 use Rattle.standing.specs.laws.Exactly.{restored-exactly}
+use Rattle.applied.specs.Step.{moved}
+use Rattle.applied.specs.After.{afterMessage}
 use Rattle.take.specs.Take.{takeOf}
 use Rattle.take.specs.Call.{Accepted}
 use Rattle.take.specs.laws.TakenExactly.{take-exactly}
-use Rattle.reply.specs.Reply.{replyIn, repliedState, replyOf}
+use Rattle.reply.specs.Reply.{Replied, replyIn, repliedState, replyOf}
 use Rattle.exchange.specs.Given.{ReplyGiven}
 use Rattle.exchange.specs.laws.Given.{given-exactly}
 use Rattle.begin.specs.Begin.{beginOf}
 use Rattle.runs.specs.Runs.{Call, take, reply, report, takenTo, givenTo, afterCall, after}
 use Rattle.runs.specs.Built.{Message, byTake, byReply, messageOf, messagesOf, Builds, none, next, LentBytes}
+use Rattle.runs.specs.laws.Stays.{header-kept, reply-stays}
 use Rattle.runs.specs.laws.RunsKept.{Finds, none-found, state-found, finds, call-keeps, keeps-sizes, begun-within}
 
 module _ (tables : List ℕ) (T : Tables) (h : readTables tables ≡ accepted T) where
   -- in the bytes of a state a call finds these tables and that state
-  finds-only : (S : State) → within S ≡ true → (x : Tables × State) → restoreOf tables (stateBytes S) ≡ accepted x → _≡_ {A = Tables × State} x (T, S)
+  pub finds-only : (S : State) → within S ≡ true → (x : Tables × State) → restoreOf tables (stateBytes S) ≡ accepted x → _≡_ {A = Tables × State} x (T, S)
   finds-only S w x e = go (finds tables T S h w)
     where
       go : Finds T S (restoreOf tables (stateBytes S)) → _≡_ {A = Tables × State} x (T, S)
@@ -54,9 +58,13 @@ module _ (tables : List ℕ) (T : Tables) (h : readTables tables ≡ accepted T)
         let U : Tables = g .house in
         let R : State = g .state in
         let found = finds-only S w (U, R) (restored-exactly tables (stateBytes S) U R .1 (g .held)) in
+        let r : Replied = replyIn U R in
+        let side : r .state .header .side ≡ R .header .side = ap (λ (x : Header). x .side) (reply-stays (header-kept (R .header)) U R refl) in
+        let after : A ≡ afterMessage (R .header .side) (r .state) (moved (r .commands)) (r .full) = g .after
+        ∙ ap (λ (v : ℕ). afterMessage v (r .state) (moved (r .commands)) (r .full)) side in
         subst (λ (x : Tables × State). Builds (x .0 .names) (x .1) (record { sender = x .1 .header .side; bytes = m } ∷ ms) N) found
-        (next (replyIn U R .commands) (replyIn U R .full) (g .bytes) (g .updates)
-        (subst (λ (x : State). Builds (U .names) x ms N) (g .after) (subst (λ (x : Tables × State). Builds (x .0 .names) A ms N) (sym found) b)))
+        (next (r .commands) (r .full) (g .bytes) (g .updates)
+        (subst (λ (x : State). Builds (U .names) x ms N) after (subst (λ (x : Tables × State). Builds (x .0 .names) A ms N) (sym found) b)))
 
   call-builds : (S : State) → within S ≡ true → (c : Call) → LentBytes c → {N : State} {ms : List Message}
       → Builds (T .names) (afterCall tables S c) ms N → Builds (T .names) S (messageOf tables S c ++ ms) N

@@ -19,6 +19,7 @@ use Rattle.tables.specs.Check.{readTables, storedNumber, pairNumber, classNumbe
 use Rattle.tables.specs.Bytes.{tablesBytes}
 use Rattle.tables.specs.Lookup.{holds, isDirect, isSensitive, otherOf}
 use Rattle.tables.specs.Public.{DifferOnly, lessDirect, heldOf, publicOf, hiddenOf}
+use Rattle.negotiation.specs.Messages.{messageCount, counted}
 use Rattle.negotiation.specs.State.{State, within, freshState, withNode, withEdge, withShown, withMark, withHeader}
 use Rattle.negotiation.specs.Layout.{zeros, stateBytes}
 use Rattle.damage.specs.Damage.{sound, recordsSound, edgesJustified, graphSound}
@@ -59,7 +60,7 @@ use Rattle.justification.specs.Justified.{implied, impliedIf, monitoredIf, just
 use Rattle.negotiation.specs.Ends.{requester, entityOf}
 use Rattle.standing.specs.Turn.{sends}
 use Rattle.damage.specs.Edges.{broughtFrom, brought, placed, formed as formedEdge, edgeFits, allBrought}
-use Rattle.damage.specs.Header.{wantedSound, headerSound, emptySound, countSound, endSound}
+use Rattle.damage.specs.Header.{wantedSound, headerSound, countsAgree, emptySound, countSound, endSound}
 use Rattle.damage.specs.Records.{nodeSound, nodeFits, primarySound, credentialSound, credentialFits}
 use Rattle.applied.specs.Step.{primaryOf, verifierOf, childOf, stepped, hasRoom}
 use Rattle.legal.specs.Number.{refuse, first as firstNumber, isFresh, isAbsent, formedAs, showNumber, openNumber, markNumber, endNumber, joinWrong}
@@ -137,13 +138,13 @@ thirdCommands =
 
 -- the negotiation behind the first, the second and the third message
 firstState : State
-firstState = afterMessage (carried 0 begun firstCommands) true false
+firstState = afterMessage 0 (carried 0 begun firstCommands) true false
 
 secondState : State
-secondState = afterMessage (carried 1 firstState secondCommands) true false
+secondState = afterMessage 1 (carried 1 firstState secondCommands) true false
 
 thirdState : State
-thirdState = afterMessage (carried 0 secondState thirdCommands) true false
+thirdState = afterMessage 0 (carried 0 secondState thirdCommands) true false
 
 -- what House does with tables T, which give the fourth message m
 record Gives (T : Tables) (m : List ℕ) : Type 0 where
@@ -174,8 +175,8 @@ unfolding wellFormedCredential readCredential sameRole same roleFrom reaches pas
     orderNumber judge recordsFrom sized readTables holds isSensitive otherOf isDirect lessDirect heldOf publicOf hiddenOf rounds least findNode
     hasEdge hasRole form legalState processedBy markedState satisfiedB failedB completeB propagatedState formedCommand showAt openAt bringAt joinAt
     markAt endAt commandAt commandBytes inTurn implied impliedIf monitoredIf justified requester entityOf freshState withNode withEdge withShown
-    withMark withHeader within sends recordsSound edgesJustified graphSound sound broughtFrom brought placed formedEdge edgeFits allBrought
-    wantedSound headerSound emptySound countSound endSound nodeSound nodeFits primarySound credentialSound credentialFits endOf isStalled idleOf
+    messageCount counted withMark withHeader within sends recordsSound edgesJustified graphSound sound broughtFrom brought placed formedEdge edgeFits allBrought
+    wantedSound headerSound countsAgree emptySound countSound endSound nodeSound nodeFits primarySound credentialSound credentialFits endOf isStalled idleOf
     headerAfter afterMessage primaryOf verifierOf childOf stepped hasRoom refuse firstNumber isFresh isAbsent formedAs showNumber openNumber
     markNumber endNumber joinWrong justifiedBy justifiedFor joinNumber bringWrong bringNumber justifiedIn legalBy legalNumber ordered firstNot
     chosenIn isDone spread frontierOf traced initialState holdingOf isAcknowledged knownOf credentialsFor choiceAt movesFrom nextMove endIn

@@ -36,16 +36,16 @@ use Rattle.numbers.specs.Sizes.{NEGOTIATION-BYTES}
 
 -- A message leaves the graph, and the header's side and other end
 
-after-disclosed : (T U : Tables) (S : State) (m full : Bool) → isDisclosed T U (afterMessage S m full) ≡ isDisclosed T U S
+after-disclosed : (T U : Tables) (v : ℕ) (S : State) (m full : Bool) → isDisclosed T U (afterMessage v S m full) ≡ isDisclosed T U S
 unfolding isDisclosed isAcknowledged afterMessage headerAfter withHeader
-after-disclosed T U S m full = refl
+after-disclosed T U v S m full = refl
 
-after-both : (T U : Tables) (S : State) (m full : Bool) → DisclosedIn T U S → DisclosedIn T U (afterMessage S m full)
-after-both T U S m full h = record { sizes = after-within S m full ∙ h .sizes; opened = after-disclosed T U S m full ∙ h .opened }
+after-both : (T U : Tables) (v : ℕ) (S : State) (m full : Bool) → DisclosedIn T U S → DisclosedIn T U (afterMessage v S m full)
+after-both T U v S m full h = record { sizes = after-within v S m full ∙ h .sizes; opened = after-disclosed T U v S m full ∙ h .opened }
 
 pub disclosed-replied : (T U : Tables) (r : Replied) → isDisclosed T U (repliedState r) ≡ isDisclosed T U (r .state)
 unfolding repliedState
-disclosed-replied T U r = after-disclosed T U (r .state) (moved (r .commands)) (r .full)
+disclosed-replied T U r = after-disclosed T U (r .state .header .side) (r .state) (moved (r .commands)) (r .full)
 
 -- What a call finds is within the sizes
 
@@ -120,30 +120,43 @@ module _ (T U : Tables) (e : publicOf T ≡ publicOf U) where
 
 -- Calls one after another
 
--- what every command with room keeps, and the end of a message
-module _ {P : State → Type 0} (k : Stays P) (after : (S : State) (m full : Bool) → P S → P (afterMessage S m full)) (W : Tables) (S A : State) (h : P S) where
-  given-kept : (m : List ℕ) → repliedIn W S ≡ accepted (m, A) → P A
-  unfolding repliedIn repliedState
-  given-kept m e = go (not (eqb (S .header .end) 0)) (not (K.sends (S .header .side) (S .header .messages))) e
-    where
-      r : Replied
-      r = replyIn W S
+-- what a reply given was
+pub record Gave (W : Tables) (S A : State) : Type 0 where
+  pub turn : K.sends (S .header .side) (S .header .messages) ≡ true
+  pub after : A ≡ repliedState (replyIn W S)
 
-      go : (b d : Bool) → cond {A = Answer (List ℕ × State)} b (refused ENDED) (cond d (refused TURN) (accepted (replyBytes r, repliedState r)))
-          ≡ accepted (m, A) → P A
-      go true d q = absurd (false-true (ap isAccepted q))
-      go false true q = absurd (false-true (ap isAccepted q))
-      go false false q = subst P (ap (secondOf S) q) (after (r .state) (moved (r .commands)) (r .full) (reply-stays k W S h))
+pub gave : (W : Tables) (S A : State) (m : List ℕ) → repliedIn W S ≡ accepted (m, A) → Gave W S A
+unfolding repliedIn
+gave W S A m e = go (not (eqb (S .header .end) 0)) (K.sends (S .header .side) (S .header .messages)) refl e
+  where
+    r : Replied
+    r = replyIn W S
+
+    go : (b d : Bool) → K.sends (S .header .side) (S .header .messages) ≡ d
+        → cond {A = Answer (List ℕ × State)} b (refused ENDED) (cond (not d) (refused TURN) (accepted (replyBytes r, repliedState r)))
+        ≡ accepted (m, A) → Gave W S A
+    go true d t q = absurd (false-true (ap isAccepted q))
+    go false false t q = absurd (false-true (ap isAccepted q))
+    go false true t q = record { turn = t; after = sym (ap (secondOf S) q) }
+
+-- what every command with room keeps, and the end of a message
+module _ {P : State → Type 0} (k : Stays P) (after : (v : ℕ) (S : State) (m full : Bool) → P S → P (afterMessage v S m full)) (W : Tables)
+    (S A : State) (h : P S) where
+  given-kept : (m : List ℕ) → repliedIn W S ≡ accepted (m, A) → P A
+  unfolding repliedState
+  given-kept m e =
+      let r : Replied = replyIn W S in
+      subst P (sym (gave W S A m e .after)) (after (r .state .header .side) (r .state) (moved (r .commands)) (r .full) (reply-stays k W S h))
 
   taken-kept : (m : List ℕ) → takenIn m W S ≡ accepted A → P A
   taken-kept m e =
       let t : Took m W S A = took m W S A e in
-      subst P (sym (t .after)) (after (t .led) (t .moved) false
+      subst P (sym (t .after)) (after (K.senderTo S) (t .led) (t .moved) false
       (commands-stay k (length m) (W .names) (K.senderTo S) m 0 S false (t .led) (t .moved) h (t .commands)))
 
 -- a reply given keeps the sizes, as a message taken does
 pub given-within : (W : Tables) (S A : State) → within S ≡ true → (m : List ℕ) → repliedIn W S ≡ accepted (m, A) → within A ≡ true
-given-within W S A w = given-kept within-kept (λ B m full v. after-within B m full ∙ v) W S A w
+given-within W S A w = given-kept within-kept (λ v B m full w. after-within v B m full ∙ w) W S A w
 
 -- both keep an Ack target of a differing role satisfied
 pub given-disclosed : (T U W : Tables) (S A : State) → DisclosedIn T U S → (m : List ℕ) → repliedIn W S ≡ accepted (m, A) → DisclosedIn T U A

@@ -6,13 +6,8 @@ use Rattle.negotiation.specs.State.{State}
 use Rattle.negotiation.specs.Layout.{stateBytes}
 use Rattle.take.specs.Take as K
 use Rattle.reply.specs.Reply as A
-use Rattle.runs.specs.Runs.{Call, take, reply, report, leftByTake, leftByReply, leftByReport, leftBy, run, takenTo, givenTo, afterCall, after, Left}
+use Rattle.runs.specs.Runs.{Call, take, reply, report, leftByTake, leftByReply, leftByReport, leftBy, run, lastOf, takenTo, givenTo, afterCall, after}
 use Rattle.numbers.specs.Answer.{Answer, refused, accepted, bufferAfter}
-
--- the negotiation that the last of them left
-unfoldable pub lastOf : List ℕ → List Left → List ℕ
-lastOf negotiation [] = negotiation
-lastOf negotiation (x ∷ xs) = lastOf (x .negotiation) xs
 
 taken-bytes : (S : State) (o : Answer State) → bufferAfter stateBytes (stateBytes S) o ≡ stateBytes (takenTo S o)
 taken-bytes S (refused k) = refl

@@ -1,6 +1,6 @@
 -- What calls keep: the sizes, and a satisfied Ack target of a role in which the tables differ (document 01, "Two runs"). Assumes nothing.
 use Prim.Native.Nat.{ℕ}
-use mathlib.Core.Path.{_≡_, refl, sym, _∙_, ap, subst}
+use mathlib.Core.Path.{_≡_, refl, sym, _∙_, ap}
 use mathlib.Core.Bool.{Bool, true, false, cond}
 use mathlib.Core.List.{List, [], _∷_}
 use mathlib.Core.Option.{Option, none, some}
@@ -23,7 +23,8 @@ use Rattle.runs.specs.laws.ReplyPublic.{given-within, given-disclosed, t
 use Rattle.begin.specs.Begin.{beginOf}
 use Rattle.begin.specs.laws.Kept.{begin-undamaged}
 use Rattle.runs.specs.Runs.{Call, take, reply, report, takenTo, givenTo, afterCall, after}
-use Rattle.numbers.specs.Answer.{Answer, refused, accepted}
+use Rattle.numbers.specs.Answer.{Answer, refused, accepted, onward}
+use Rattle.numbers.specs.laws.Answer.{isAccepted}
 use Rattle.applied.specs.laws.After.{after-within}
 use Rattle.numbers.specs.Refusals.{LENGTH, DAMAGED}
 use Rattle.numbers.specs.Sizes.{NEGOTIATION-BYTES}
@@ -47,6 +48,27 @@ finds tables T S h w =
     go true false e = none-found DAMAGED e
     go false c e = none-found LENGTH e
 
+-- so a call that is accepted goes on from it
+module _ (tables : List ℕ) (T : Tables) (S : State) (h : C.readTables tables ≡ accepted T) (w : within S ≡ true) where
+  found : {B : Type 0} (f : Tables × State → Answer B) (b : Bool) (v : B)
+      → cond b (onward f (R.restoreOf tables (stateBytes S))) (refused LENGTH) ≡ accepted v → f (T, S) ≡ accepted v
+  found {B} f b v e = go b (R.restoreOf tables (stateBytes S)) (finds tables T S h w) e
+    where
+      go : (b : Bool) (x : Answer (Tables × State)) → Finds T S x → cond {A = Answer B} b (onward f x) (refused LENGTH) ≡ accepted v
+          → f (T, S) ≡ accepted v
+      go false x y q = absurd (false-true (ap isAccepted q))
+      go true x (none-found n g) q = absurd (false-true (ap isAccepted (sym (ap (onward f) g) ∙ q)))
+      go true x (state-found g) q = sym (ap (onward f) g) ∙ q
+
+  pub take-found : (message scratch : List ℕ) (N : State) → K.takeOf tables (stateBytes S) message scratch ≡ accepted N → K.takenIn message T S ≡ accepted N
+  unfolding K.takeOf
+  take-found message scratch N e = found (λ x. K.takenIn message (x .0) (x .1)) (K.messageSize (length message) (length scratch)) N e
+
+  pub reply-found : (buffer scratch m : List ℕ) (N : State) → A.replyOf tables (stateBytes S) buffer scratch ≡ accepted (m, N)
+      → A.repliedIn T S ≡ accepted (m, N)
+  unfolding A.replyOf
+  reply-found buffer scratch m N e = found (λ x. A.repliedIn (x .0) (x .1)) (A.replySize (length buffer) (length scratch)) (m, N) e
+
 -- What a message accepted and a reply given keep, calls keep
 
 pub record Keeps (P : State → Type 0) : Type 0 where
@@ -56,32 +78,18 @@ pub record Keeps (P : State → Type 0) : Type 0 where
 
 module _ {P : State → Type 0} (k : Keeps P) (tables : List ℕ) (T : Tables) (h : C.readTables tables ≡ accepted T) where
   take-keeps : (S : State) (message scratch : List ℕ) → P S → P (takenTo S (K.takeOf tables (stateBytes S) message scratch))
-  unfolding K.takeOf
-  take-keeps S message scratch p =
-      sized (K.messageSize (length message) (length scratch)) (R.restoreOf tables (stateBytes S)) (finds tables T S h (k .sizes S p))
+  take-keeps S message scratch p = go (K.takeOf tables (stateBytes S) message scratch) refl
     where
-      led : (o : Answer State) → K.takenIn message T S ≡ o → P (takenTo S o)
-      led (refused n) e = p
-      led (accepted N) e = k .taken T S N p message e
-
-      sized : (b : Bool) (x : Answer (Tables × State)) → Finds T S x → P (takenTo S (cond b (K.behindStanding message x) (refused LENGTH)))
-      sized false x f = p
-      sized true x (none-found n e) = subst (λ (v : Answer (Tables × State)). P (takenTo S (K.behindStanding message v))) (sym e) p
-      sized true x (state-found e) =
-          subst (λ (v : Answer (Tables × State)). P (takenTo S (K.behindStanding message v))) (sym e) (led (K.takenIn message T S) refl)
+      go : (o : Answer State) → K.takeOf tables (stateBytes S) message scratch ≡ o → P (takenTo S o)
+      go (refused n) e = p
+      go (accepted N) e = k .taken T S N p message (take-found tables T S h (k .sizes S p) message scratch N e)
 
   reply-keeps : (S : State) (buffer scratch : List ℕ) → P S → P (givenTo S (A.replyOf tables (stateBytes S) buffer scratch))
-  unfolding A.replyOf
-  reply-keeps S buffer scratch p = sized (A.replySize (length buffer) (length scratch)) (R.restoreOf tables (stateBytes S)) (finds tables T S h (k .sizes S p))
+  reply-keeps S buffer scratch p = go (A.replyOf tables (stateBytes S) buffer scratch) refl
     where
-      led : (o : Answer (List ℕ × State)) → A.repliedIn T S ≡ o → P (givenTo S o)
-      led (refused n) e = p
-      led (accepted (m, N)) e = k .given T S N p m e
-
-      sized : (b : Bool) (x : Answer (Tables × State)) → Finds T S x → P (givenTo S (cond b (A.behindStanding x) (refused LENGTH)))
-      sized false x f = p
-      sized true x (none-found n e) = subst (λ (v : Answer (Tables × State)). P (givenTo S (A.behindStanding v))) (sym e) p
-      sized true x (state-found e) = subst (λ (v : Answer (Tables × State)). P (givenTo S (A.behindStanding v))) (sym e) (led (A.repliedIn T S) refl)
+      go : (o : Answer (List ℕ × State)) → A.replyOf tables (stateBytes S) buffer scratch ≡ o → P (givenTo S o)
+      go (refused n) e = p
+      go (accepted (m, N)) e = k .given T S N p m (reply-found tables T S h (k .sizes S p) buffer scratch m N e)
 
   pub call-keeps : (S : State) (c : Call) → P S → P (afterCall tables S c)
   unfolding afterCall
@@ -99,7 +107,7 @@ module _ {P : State → Type 0} (k : Keeps P) (tables : List ℕ) (T : Tables) (
 taken-sizes : (W : Tables) (S N : State) → within S ≡ true → (m : List ℕ) → K.takenIn m W S ≡ accepted N → within N ≡ true
 taken-sizes W S N w m e =
     let t : Took m W S N = took m W S N e in
-    ap within (t .after) ∙ after-within (t .led) (t .moved) false
+    ap within (t .after) ∙ after-within (senderTo S) (t .led) (t .moved) false
     ∙ commands-stay within-kept (length m) (W .names) (senderTo S) m 0 S false (t .led) (t .moved) w (t .commands)
 
 pub keeps-sizes : Keeps (λ S. within S ≡ true)

@@ -1,8 +1,8 @@
--- What stays so through a reply and through a message taken: the sizes, and a satisfied Ack target of a differing role (document 01, "Two runs":
+-- What stays so through a reply and through a message taken: the header, the sizes, and a satisfied Ack target of a differing role (document 01, "Two runs":
 -- "The graph after a call is built by the commands of all messages accepted and replies given so far"). Assumes nothing.
 use Prim.Native.Nat.{ℕ, zero, suc, _+_}
 use native.Mathlib.Omega.{arith}
-use mathlib.Core.Path.{_≡_, refl, ap, subst}
+use mathlib.Core.Path.{_≡_, refl, _∙_, ap, subst}
 use mathlib.Core.Bool.{Bool, true, false, cond, _||_}
 use mathlib.Core.List.{List, [], _∷_, _++_}
 use borrow.Author.Tests.{eqb-true, lt-ltb}
@@ -18,8 +18,10 @@ use Rattle.message.specs.declared.Command.the-variants.{Open}
 use Rattle.message.specs.declared.CommandAnswer.{CommandAnswer}
 use Rattle.message.specs.declared.CommandAnswer.the-variants.{Read, Refused}
 use Rattle.message.specs.Command.{commandAt, sizeOf}
+use Rattle.negotiation.specs.declared.Header.{Header}
 use Rattle.negotiation.specs.State.{State, within}
 use Rattle.applied.specs.Step.{stepped, hasRoom, isMove}
+use Rattle.applied.specs.laws.Step.{step-header}
 use Rattle.legal.specs.Number.{legalNumber}
 use Rattle.legal.specs.laws.Room.{legal-room, step-within}
 use Rattle.message.specs.Message.{bytesOf, isEnd}
@@ -41,6 +43,10 @@ pub record Stays (P : State → Type 0) : Type 0 where
 
 pub within-kept : Stays (λ S. within S ≡ true)
 within-kept = record { step = λ S s c r w. step-within S w s c r }
+
+-- commands leave the header
+pub header-kept : (h : Header) → Stays (λ S. S .header ≡ h)
+header-kept h = record { step = λ S s c r e. step-header S s c ∙ e }
 
 -- within the sizes, an Ack target of a role in which T and U differ is satisfied
 pub record DisclosedIn (T U : Tables) (S : State) : Type 0 where

@@ -11,7 +11,7 @@ use Rattle.tables.specs.Check.{readTables}
 use Rattle.tables.specs.Public.{Public, publicOf}
 use Rattle.negotiation.specs.State.{State}
 use Rattle.negotiation.specs.Layout.{readState}
-use Rattle.damage.specs.Header.{headerSound, emptySound}
+use Rattle.damage.specs.Header.{headerSound, countsAgree, emptySound}
 use Rattle.damage.specs.Damage.{graphSound, sound, ifSound, readSound}
 use Rattle.standing.specs.Standing.{behindDamage, behindTables, restoreOf}
 use Rattle.numbers.specs.Answer.{Answer, refused, accepted}
@@ -22,6 +22,7 @@ pub sound-public : (T U : Tables) (S : State) → publicOf T ≡ publicOf U → 
 unfolding sound publicOf
 sound-public T U S e =
     ap (λ (P : Public). headerSound (P .own) (P .names) (S .header)
+    && countsAgree (S .header .messages)
     && cond (eqb (length (S .nodes)) 0) (emptySound (S .header) (length (S .edges)) (length (S .shown))) (graphSound (P .names) S)) e
 
 -- two calls whose tables have one public part: both are refused, with one number, or both find the same state

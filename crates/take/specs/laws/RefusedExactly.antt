@@ -176,18 +176,19 @@ module _ (tables negotiation message scratch : List ℕ) (bytes : (i : ℕ) → 
   leadsTo T S = C.commandsFrom (length message) (T .names) (senderTo S) message 0 S false
 
   by-commands : (T : Tables) (S : State) → Stands tables negotiation message scratch T S → InTurn S → (x : Answer (State × Bool)) → leadsTo T S ≡ x
-      → behindCommands x ≡ refused k → Refusal tables negotiation message scratch k
+      → behindCommands (senderTo S) x ≡ refused k → Refusal tables negotiation message scratch k
   by-commands T S h t (refused j) e q = stopped h t (stops-exactly (T .names) (senderTo S) message bytes k S .0 (e ∙ ap refused (ap numberOf q)))
   by-commands T S h t (accepted (U, v)) e q = absurd (false-true (ap isRefused q))
 
   by-turn : (T : Tables) (S : State) → Stands tables negotiation message scratch T S → S .header .end ≡ 0 → (b : Bool)
-      → sends (senderTo S) (S .header .messages) ≡ b → cond (not b) (refused TURN) (behindCommands (leadsTo T S)) ≡ refused k
+      → sends (senderTo S) (S .header .messages) ≡ b → cond (not b) (refused TURN) (behindCommands (senderTo S) (leadsTo T S)) ≡ refused k
       → Refusal tables negotiation message scratch k
   by-turn T S h e true g q = by-commands T S h (record { going = e; turn = g }) (leadsTo T S) refl q
   by-turn T S h e false g q = out-of-turn h e g (sym (ap numberOf q))
 
   by-end : (T : Tables) (S : State) → Stands tables negotiation message scratch T S → (b : Bool) → eqb (S .header .end) 0 ≡ b
-      → cond (not b) (refused ENDED) (cond (not (sends (senderTo S) (S .header .messages))) (refused TURN) (behindCommands (leadsTo T S))) ≡ refused k
+      → cond (not b) (refused ENDED) (cond (not (sends (senderTo S) (S .header .messages))) (refused TURN)
+      (behindCommands (senderTo S) (leadsTo T S))) ≡ refused k
       → Refusal tables negotiation message scratch k
   by-end T S h true g q = by-turn T S h (eqb-true (S .header .end) 0 g) (sends (senderTo S) (S .header .messages)) refl q
   by-end T S h false g q = ended h (eqb-false (S .header .end) 0 g) (sym (ap numberOf q))
@@ -214,7 +215,7 @@ module _ (tables negotiation message scratch : List ℕ) (bytes : (i : ℕ) → 
   refuses (ended {T} {S} h z e) = take-ended tables negotiation message scratch T S h z ∙ ap refused (sym e)
   refuses (out-of-turn {T} {S} h z g e) = take-out-of-turn tables negotiation message scratch T S h z g ∙ ap refused (sym e)
   refuses (stopped {T} {S} h t r) =
-      take-commands tables negotiation message scratch T S h t ∙ ap behindCommands (stops-exactly (T .names) (senderTo S) message bytes k S .1 r)
+      take-commands tables negotiation message scratch T S h t ∙ ap (behindCommands (senderTo S)) (stops-exactly (T .names) (senderTo S) message bytes k S .1 r)
 
   -- a call is refused with k exactly where one of the reasons holds
   pub take-refused-exactly : (takeOf tables negotiation message scratch ≡ refused k) ↔ Refusal tables negotiation message scratch k

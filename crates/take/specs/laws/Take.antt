@@ -4,6 +4,7 @@ use mathlib.Core.Bool.{Bool, not, cond, false, _&&_, true}
 use mathlib.Core.List.{List}
 use lib.Dec.{eqb, leb}
 use lib.ListN.{length}
+use Rattle.negotiation.specs.Messages.{messageCount}
 use Rattle.negotiation.specs.State.{State, within, withHeader}
 use Rattle.negotiation.specs.laws.State.{stateOf}
 use Rattle.negotiation.specs.Layout.{stateBytes, zeros}
@@ -66,9 +67,9 @@ no-room r k e z = record { sizes = λ w. absurd (z (sym e ∙ w)); formed = λ w
 module _ (m : List ℕ) (H : House) (n : Negotiation) where
   by-tests : (a b : Bool) → not (eqb (n .header .end) 0) ≡ a → not (sends (otherSide (n .header .side)) (n .header .messages)) ≡ b
       → (t : Answer (State × Bool)) → C.commandsFrom (length m) (namesOf (H .names)) (otherSide (n .header .side)) m 0 (stateOf n) false ≡ t
-      → takenIn m (tablesOf H) (stateOf n) ≡ cond a (refused ENDED) (cond b (refused TURN) (behindCommands t))
+      → takenIn m (tablesOf H) (stateOf n) ≡ cond a (refused ENDED) (cond b (refused TURN) (behindCommands (otherSide (n .header .side)) t))
   unfolding takenIn tablesOf stateOf
-  by-tests a b x y t z = λ i. cond (x i) (refused ENDED) (cond (y i) (refused TURN) (behindCommands (z i)))
+  by-tests a b x y t z = λ i. cond (x i) (refused ENDED) (cond (y i) (refused TURN) (behindCommands (otherSide (n .header .side)) (z i)))
 
   -- already ended
   pub taken-ended : (r : Taking) → (n .header .end ≡ 0 → ⊥) → r .refusal ≡ 22 → (outcomeOf r ≡ takenIn m (tablesOf H) (stateOf n)) × Room r
@@ -88,7 +89,7 @@ module _ (m : List ℕ) (H : House) (n : Negotiation) where
     )
 
     module _ (bh : not b ≡ false) (t : Taking) (te : takenOf t ≡ C.commandsFrom (length m) (namesOf (H .names)) s m 0 (stateOf n) false) where
-      by-commands : takenIn m (tablesOf H) (stateOf n) ≡ behindCommands (takenOf t)
+      by-commands : takenIn m (tablesOf H) (stateOf n) ≡ behindCommands (otherSide (n .header .side)) (takenOf t)
       by-commands =
           by-tests false false (ap not (eq-eqb (n .header .end) 0 z)) (ap not (sym sent) ∙ bh) (takenOf t)
           (ap (λ (k : ℕ). C.commandsFrom (length m) (namesOf (H .names)) k m 0 (stateOf n) false) (sym se) ∙ sym te)
@@ -98,7 +99,8 @@ module _ (m : List ℕ) (H : House) (n : Negotiation) where
       unfolding takenOf
       taken-refused r q h = (
         outcome-refused r (t .refusal) (ap (λ (x : Taking). x .refusal) q) h
-            ∙ sym (by-commands ∙ ap (λ (b : Bool). behindCommands (cond b (accepted (stateOf (t .negotiation), t .moved)) (refused (t .refusal))))
+            ∙ sym (by-commands
+            ∙ ap (λ (b : Bool). behindCommands (otherSide (n .header .side)) (cond b (accepted (stateOf (t .negotiation), t .moved)) (refused (t .refusal))))
             (ne-eqb (t .refusal) 0 h)),
         no-room r (t .refusal) (ap (λ (x : Taking). x .refusal) q) h,
       )
@@ -109,11 +111,12 @@ module _ (m : List ℕ) (H : House) (n : Negotiation) where
         is-taken = ap (λ (b : Bool). cond b (accepted (stateOf (t .negotiation), t .moved)) (refused (t .refusal))) (eq-eqb (t .refusal) 0 tz)
 
         -- all are carried out
-        pub taken-after : (a : Negotiation) (r : Taking) → Room t → stateOf a ≡ afterMessage (stateOf (t .negotiation)) (t .moved) false
+        pub taken-after : (a : Negotiation) (r : Taking) → Room t → stateOf a ≡ afterMessage s (stateOf (t .negotiation)) (t .moved) false
             → r .refusal ≡ 0 → r .negotiation ≡ a → (outcomeOf r ≡ takenIn m (tablesOf H) (stateOf n)) × Room r
         unfolding afterMessage withHeader stateOf within
         taken-after a r room ae e q = (
-          outcome-accepted r e ∙ ap accepted (ap stateOf q ∙ ae) ∙ sym (by-commands ∙ ap behindCommands is-taken),
+          outcome-accepted r e ∙ ap accepted (ap stateOf q ∙ ae ∙ ap (λ (k : ℕ). afterMessage k (stateOf (t .negotiation)) (t .moved) false) se)
+              ∙ sym (by-commands ∙ ap (behindCommands (otherSide (n .header .side))) is-taken),
           record {
             sizes = λ w. ap within (ap stateOf q ∙ ae) ∙ room .sizes tz;
             formed = λ w. subst (λ (S : State). NodesFormed (S .nodes)) (sym (ap stateOf q ∙ ae)) (room .formed tz);
@@ -130,7 +133,7 @@ module _ (m : List ℕ) (H : House) (n : Negotiation) where
 
         -- what judging the end asks of it
         pub led-ready : sound (tablesOf H) (stateOf n) ≡ true → within (stateOf n) ≡ true → 0 < H .own → Room t
-            → (within (stateOf (t .negotiation)) ≡ true) × (0 < t .negotiation .nodes .count) × (t .negotiation .header .messages < 65535)
+            → (within (stateOf (t .negotiation)) ≡ true) × (0 < t .negotiation .nodes .count) × (messageCount (t .negotiation .header .messages) < 65535)
             × NodesFormed (nodesOf (t .negotiation .nodes)) × EdgesFormed (nodesOf (t .negotiation .nodes)) (edgesOf (t .negotiation .edges))
         unfolding stateOf
         led-ready h w own room =
@@ -138,7 +141,7 @@ module _ (m : List ℕ) (H : House) (n : Negotiation) where
             let some : 0 < t .negotiation .nodes .count = omega (arith, nodes-length (t .negotiation .nodes), l .some) in (
               room .sizes tz,
               some,
-              omega (arith, ap (λ (x : Header). x .messages) (l .header), sound-count (tablesOf H) (stateOf n) h),
+              omega (arith, ap (λ (x : Header). messageCount (x .messages)) (l .header), sound-count (tablesOf H) (stateOf n) h),
               room .formed
                   tz,
               led-edges (namesOf (H .names)) (stateOf n) false (t .negotiation) (t .moved) l some,

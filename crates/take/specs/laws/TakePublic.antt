@@ -21,7 +21,8 @@ taken-public : (m : List ℕ) (T U : Tables) (S : State) → publicOf T ≡ publ
 unfolding takenIn publicOf
 taken-public m T U S e =
     ap (λ (p : Public). cond (not (eqb (S .header .end) 0)) (refused ENDED)
-    (cond (not (sends (senderTo S) (S .header .messages))) (refused TURN) (behindCommands (commandsFrom (length m) (p .names) (senderTo S) m 0 S false)))) e
+    (cond (not (sends (senderTo S) (S .header .messages))) (refused TURN)
+    (behindCommands (senderTo S) (commandsFrom (length m) (p .names) (senderTo S) m 0 S false)))) e
 
 pub take-public : (s t : List ℕ) (T U : Tables) → readTables s ≡ accepted T → readTables t ≡ accepted U → publicOf T ≡ publicOf U
     → (negotiation message scratch : List ℕ) → takeOf s negotiation message scratch ≡ takeOf t negotiation message scratch

@@ -165,35 +165,35 @@ module _ (tables negotiation message scratch : List ℕ) (T : Tables) (S : State
   unfolding takenIn
   take-ended e =
       by-standing ∙ ap (λ (b : Bool). cond (not b) (refused ENDED)
-      (cond (not (sends (senderTo S) (S .header .messages))) (refused TURN) (behindCommands leadsTo))) (ne-eqb (S .header .end) 0 e)
+      (cond (not (sends (senderTo S) (S .header .messages))) (refused TURN) (behindCommands (senderTo S) leadsTo))) (ne-eqb (S .header .end) 0 e)
 
   by-end : S .header .end ≡ 0 → takeOf tables negotiation message scratch
-      ≡ cond (not (sends (senderTo S) (S .header .messages))) (refused TURN) (behindCommands leadsTo)
+      ≡ cond (not (sends (senderTo S) (S .header .messages))) (refused TURN) (behindCommands (senderTo S) leadsTo)
   unfolding takenIn
   by-end e =
       by-standing ∙ ap (λ (b : Bool). cond (not b) (refused ENDED)
-      (cond (not (sends (senderTo S) (S .header .messages))) (refused TURN) (behindCommands leadsTo))) (eq-eqb (S .header .end) 0 e)
+      (cond (not (sends (senderTo S) (S .header .messages))) (refused TURN) (behindCommands (senderTo S) leadsTo))) (eq-eqb (S .header .end) 0 e)
 
   -- not that side's turn
   pub take-out-of-turn : S .header .end ≡ 0 → sends (senderTo S) (S .header .messages) ≡ false → takeOf tables negotiation message scratch ≡ refused 21
-  take-out-of-turn e q = by-end e ∙ ap (λ (b : Bool). cond (not b) (refused TURN) (behindCommands leadsTo)) q
+  take-out-of-turn e q = by-end e ∙ ap (λ (b : Bool). cond (not b) (refused TURN) (behindCommands (senderTo S) leadsTo)) q
 
   -- else the commands decide
-  pub take-commands : InTurn S → takeOf tables negotiation message scratch ≡ behindCommands leadsTo
-  take-commands t = by-end (t .going) ∙ ap (λ (b : Bool). cond (not b) (refused TURN) (behindCommands leadsTo)) (t .turn)
+  pub take-commands : InTurn S → takeOf tables negotiation message scratch ≡ behindCommands (senderTo S) leadsTo
+  take-commands t = by-end (t .going) ∙ ap (λ (b : Bool). cond (not b) (refused TURN) (behindCommands (senderTo S) leadsTo)) (t .turn)
 
   module _ (t : InTurn S) (bytes : (i : ℕ) → getD message i 0 < 256) (A : State) where
-    accepted-of : (x : Answer (State × Bool)) → leadsTo ≡ x → behindCommands x ≡ accepted A → Accepted T S message A
+    accepted-of : (x : Answer (State × Bool)) → leadsTo ≡ x → behindCommands (senderTo S) x ≡ accepted A → Accepted T S message A
     accepted-of (refused k) e q = absurd (false-true (ap isAccepted q))
     accepted-of (accepted (U, v)) e q =
         let r = commands-exactly (T .names) (senderTo S) message bytes S U v .0 e in
-        record { commands = r .0; led = U; carries = r .1; after = sym (ap (valueOr A) q) ∙ ap (λ (b : Bool). afterMessage U b false) (r .2) }
+        record { commands = r .0; led = U; carries = r .1; after = sym (ap (valueOr A) q) ∙ ap (λ (b : Bool). afterMessage (senderTo S) U b false) (r .2) }
 
     -- a message in its turn is accepted exactly where it consists of legal commands and an end
     pub taken-exactly : (takeOf tables negotiation message scratch ≡ accepted A) ↔ Accepted T S message A
     taken-exactly = (
       λ q. accepted-of leadsTo refl (sym (take-commands t) ∙ q),
-      λ r. take-commands t ∙ ap behindCommands (commands-exactly (T .names) (senderTo S) message bytes S (r .led) (moved (r .commands)) .1
+      λ r. take-commands t ∙ ap (behindCommands (senderTo S)) (commands-exactly (T .names) (senderTo S) message bytes S (r .led) (moved (r .commands)) .1
           (r .commands, r .carries, refl)) ∙ ap accepted (sym (r .after)),
     )
 
@@ -204,13 +204,14 @@ module _ (tables negotiation message scratch : List ℕ) (A : State) where
 
   ready-turn : (T : Tables) (S : State) → Stands tables negotiation message scratch T S → S .header .end ≡ 0 → (b : Bool)
       → sends (senderTo S) (S .header .messages) ≡ b
-      → cond (not b) (refused TURN) (behindCommands (C.commandsFrom (length message) (T .names) (senderTo S) message 0 S false)) ≡ accepted A → Ready
+      → cond (not b) (refused TURN) (behindCommands (senderTo S) (C.commandsFrom (length message) (T .names) (senderTo S) message 0 S false)) ≡ accepted A
+      → Ready
   ready-turn T S h e true g q = (T, S, h, record { going = e; turn = g })
   ready-turn T S h e false g q = absurd (false-true (ap isAccepted q))
 
   ready-end : (T : Tables) (S : State) → Stands tables negotiation message scratch T S → (b : Bool) → eqb (S .header .end) 0 ≡ b
       → cond (not b) (refused ENDED) (cond (not (sends (senderTo S) (S .header .messages))) (refused TURN)
-      (behindCommands (C.commandsFrom (length message) (T .names) (senderTo S) message 0 S false))) ≡ accepted A → Ready
+      (behindCommands (senderTo S) (C.commandsFrom (length message) (T .names) (senderTo S) message 0 S false))) ≡ accepted A → Ready
   ready-end T S h true g q = ready-turn T S h (eqb-true (S .header .end) 0 g) (sends (senderTo S) (S .header .messages)) refl q
   ready-end T S h false g q = absurd (false-true (ap isAccepted q))
 

@@ -10,7 +10,7 @@ state-of-requires c κs =
     ((c3 .pre .1), within-few _ (c3 .pre .0) .0, within-few _ (c3 .pre .0) .1, (c3 .pre .3), (c3 .pre .4))
 
 returns : tie.Need-returns
-returns c = after-is _ _ _ _ (c .before .before .state-of .ensures) (c .before .header-after .ensures) (c .with-header .ensures)
+returns c = after-is _ _ _ _ _ (c .before .before .state-of .ensures) (c .before .header-after .ensures) (c .with-header .ensures)
 
 pub after-message-spec : {M : Type 1} → statement M
 after-message-spec =

@@ -8,10 +8,10 @@ use Rattle.negotiation.proofs.decode.candidate.Statement.{statement}
 use Rattle.negotiation.proofs.decode.candidate.Tie as tie
 
 cast-at-most : tie.Need-cast-at-most
-cast-at-most c = omega (arith, c .shared-slice-known2 .given 14)
+cast-at-most c = omega (arith, c .shared-slice-known2 .given 16)
 
 cast-at-most-3 : tie.Need-cast-at-most-3
-cast-at-most-3 c = omega (arith, c .shared-slice-known3 .given 17)
+cast-at-most-3 c = omega (arith, c .shared-slice-known3 .given 19)
 
 read-nodes-requires : tie.Need-read-nodes-requires
 read-nodes-requires c κs = (
@@ -19,7 +19,7 @@ read-nodes-requires c κs = (
     arith,
     c .before .before .before .before .before .at-most .ensures,
     few-most 128
-        (getD (c .before .before .before .before .before .before .before .before .args .s .now) 14 0),
+        (getD (c .before .before .before .before .before .before .before .before .args .s .now) 16 0),
   ),
   omega
       (arith, c .before .before .before .before .before .before .before .before .pre),
@@ -44,7 +44,7 @@ read-shown-requires c κs = (
     arith,
     c .before .before .before .at-most3 .ensures,
     few-most 64
-        (getD (c .before .before .before .before .before .before .before .before .before .before .args .s .now) 17 0),
+        (getD (c .before .before .before .before .before .before .before .before .before .before .args .s .now) 19 0),
   ),
   omega
       (arith, c .before .before .before .before .before .before .before .before .before .before .pre),
