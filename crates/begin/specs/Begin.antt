@@ -6,32 +6,29 @@ use lib.Dec.{eqb}
 use lib.ListN.{length}
 use Rattle.numbers.specs.Sizes.{NEGOTIATION-BYTES}
 use Rattle.rt0.specs.From.{roleOf}
-use Rattle.class.specs.declared.Name.{Name}
-use Rattle.class.specs.Names.{classOf}
 use Rattle.tables.specs.Tables.{Tables}
 use Rattle.tables.specs.Check.{orElse, readTables}
 use Rattle.negotiation.specs.State.{State, freshState}
 use Rattle.numbers.specs.Answer.{Answer, refused, accepted, onward, judged}
-use Rattle.numbers.specs.Refusals.{LENGTH, OPERAND, NAME, OTHER}
+use Rattle.numbers.specs.Refusals.{LENGTH, OPERAND, OTHER}
 
 -- "both zero makes us the requester"
 abbrev pub isRequester : ℕ → ℕ → Bool
 isRequester entity name = eqb entity 0 && eqb name 0
 
--- the wanted role: "3 .. at begin just one zero in the role", "4 a name without class", or zero
-unfoldable pub roleNumber : List Name → ℕ → ℕ → ℕ
-roleNumber ns entity name =
+-- the wanted role: "3 .. at begin just one zero in the role", or zero
+unfoldable pub roleNumber : ℕ → ℕ → ℕ
+roleNumber entity name =
     cond (isRequester entity name) 0
-    (cond (eqb entity 0 || eqb name 0) OPERAND
-    (cond (eqb (classOf ns name) 0) NAME 0))
+    (cond (eqb entity 0 || eqb name 0) OPERAND 0)
 
 -- "7 at begin: other end is zero or self", or zero
 unfoldable pub otherNumber : ℕ → ℕ → ℕ
 otherNumber own other = cond (eqb other 0 || eqb other own) OTHER 0
 
--- "begin's role by 3 and 4, 7"
+-- "begin's role by 3 .., 7"
 unfoldable pub beginNumber : Tables → ℕ → ℕ → ℕ → ℕ
-beginNumber T other entity name = orElse (roleNumber (T .names) entity name) (otherNumber (T .own) other)
+beginNumber T other entity name = orElse (roleNumber entity name) (otherNumber (T .own) other)
 
 -- the mediator is side 0, the requester side 1
 abbrev pub sideOf : ℕ → ℕ → ℕ
@@ -45,7 +42,7 @@ begunState T other entity name = freshState (sideOf entity name) (T .own) other 
 abbrev pub behindTables : ℕ → ℕ → ℕ → Answer Tables → Answer State
 behindTables other entity name a = onward (λ T. judged (beginNumber T other entity name) (accepted (begunState T other entity name))) a
 
--- "Order: 1, tables 2 to 6 record by record .., begin's role by 3 and 4, 7"; of the negotiation only the length counts
+-- "Order: 1, tables 2 to 6 record by record .., begin's role by 3 .., 7"; of the negotiation only the length counts
 unfoldable pub beginOf : List ℕ → List ℕ → ℕ → ℕ → ℕ → Answer State
 beginOf tables negotiation other entity name =
     cond (eqb (length negotiation) NEGOTIATION-BYTES) (behindTables other entity name (readTables tables)) (refused LENGTH)

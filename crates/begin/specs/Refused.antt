@@ -4,15 +4,13 @@ use mathlib.Core.Path.{_≡_}
 use mathlib.Core.Logic.{_⊎_}
 use mathlib.Core.List.{List}
 use lib.ListN.{length}
-use Rattle.class.specs.declared.Name.{Name}
-use Rattle.class.specs.Names.{classOf}
 use Rattle.tables.specs.Tables.{Tables}
 use Rattle.tables.specs.Check.{readTables}
 use Rattle.tables.specs.Refused.{CheckRefused}
 use Rattle.negotiation.specs.State.{State}
 use Rattle.begin.specs.Begin.{begunState}
 use Rattle.numbers.specs.Answer.{accepted}
-use Rattle.numbers.specs.Refusals.{LENGTH, OPERAND, NAME, OTHER}
+use Rattle.numbers.specs.Refusals.{LENGTH, OPERAND, OTHER}
 use Rattle.numbers.specs.Sizes.{NEGOTIATION-BYTES}
 
 -- "negotiation 5,120 exactly", and the tables are accepted as T
@@ -21,11 +19,11 @@ pub record Lent (tables negotiation : List ℕ) (T : Tables) : Type 0 where
   pub house : readTables tables ≡ accepted T
 
 -- a role that may be wanted
-pub data Wanted (ns : List Name) (entity name : ℕ) : Type 0 where
+pub data Wanted (entity name : ℕ) : Type 0 where
   -- "both zero makes us the requester"
-  requester : entity ≡ 0 → name ≡ 0 → Wanted ns entity name
+  requester : entity ≡ 0 → name ≡ 0 → Wanted entity name
   -- "the wanted role, entity and name"
-  mediator : (entity ≡ 0 → ⊥) → (name ≡ 0 → ⊥) → (classOf ns name ≡ 0 → ⊥) → Wanted ns entity name
+  mediator : (entity ≡ 0 → ⊥) → (name ≡ 0 → ⊥) → Wanted entity name
 
 -- "just one zero in the role"
 pub data OneZero (entity name : ℕ) : Type 0 where
@@ -40,18 +38,15 @@ pub data BeginRefused (tables negotiation : List ℕ) (other entity name k : ℕ
   unread : length negotiation ≡ NEGOTIATION-BYTES → CheckRefused tables k → BeginRefused tables negotiation other entity name k
   -- "3 .. at begin just one zero in the role"
   one-zero : {T : Tables} → Lent tables negotiation T → OneZero entity name → k ≡ OPERAND → BeginRefused tables negotiation other entity name k
-  -- "4 a name without class"
-  unnamed : {T : Tables} → Lent tables negotiation T → (entity ≡ 0 → ⊥) → (name ≡ 0 → ⊥) → classOf (T .names) name ≡ 0 → k ≡ NAME
-      → BeginRefused tables negotiation other entity name k
   -- "7 at begin: other end is zero or self"
-  other-end : {T : Tables} → Lent tables negotiation T → Wanted (T .names) entity name → (other ≡ 0) ⊎ (other ≡ T .own) → k ≡ OTHER
+  other-end : {T : Tables} → Lent tables negotiation T → Wanted entity name → (other ≡ 0) ⊎ (other ≡ T .own) → k ≡ OTHER
       → BeginRefused tables negotiation other entity name k
 
 -- begin is accepted, and S is the fresh negotiation
 pub record Begun (tables negotiation : List ℕ) (other entity name : ℕ) (S : State) : Type 0 where
   pub house : Tables
   pub lent : Lent tables negotiation house
-  pub wanted : Wanted (house .names) entity name
+  pub wanted : Wanted entity name
   pub nonzero : other ≡ 0 → ⊥
   pub distinct : other ≡ house .own → ⊥
   pub fresh : S ≡ begunState house other entity name

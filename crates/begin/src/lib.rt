@@ -1,20 +1,15 @@
 // Begin: a fresh negotiation for the tables of a house.
-use class::class_of;
 use expression::Role;
 use negotiation::Negotiation;
 use negotiation::write;
 use numbers::LENGTH;
-use numbers::NAME;
 use numbers::OPERAND;
 use numbers::OTHER;
 use tables::decode;
 ghost use mathlib.Core.Path.{_≡_};
-ghost use Prim.Native.Nat.{_≤_};
-ghost use Rattle.class.specs.laws.Names.{namesFrom, namesOf, Ascending};
 ghost use Rattle.begin.specs.Begin.{isRequester, roleNumber, otherNumber, sideOf, beginOf};
 ghost use Rattle.numbers.specs.Answer.{bufferAfter, answerOf, noValue};
 ghost use Rattle.negotiation.specs.Layout.{stateBytes};
-ghost use Rattle.numbers.specs.Sizes.{MOST-NAMES};
 
 // Whether no role is wanted: we are the requester.
 fn is_requester(entity: u16, name: u16) -> bool
@@ -24,24 +19,14 @@ fn is_requester(entity: u16, name: u16) -> bool
 }
 
 // The wanted role: zero where it may be wanted.
-fn role_number<'a>(
-    n: usize,
-    names: &'a [u16; 64],
-    classes: &'a [u8; 64],
-    entity: u16,
-    name: u16,
-) -> u64
-    requires { ⌜ (n ≤ MOST-NAMES) × Ascending n (now names) ⌝ }
-    ensures { λ r. ⌜ r ≡ roleNumber (namesOf (namesFrom n (now (names .entry)) (now (classes .entry)))) entity name ⌝ }
+fn role_number(entity: u16, name: u16) -> u64
+    ensures { λ r. ⌜ r ≡ roleNumber entity name ⌝ }
 {
     if is_requester(entity, name) {
         return 0;
     }
     if (entity == 0) | (name == 0) {
         return OPERAND;
-    }
-    if class_of(n, names, classes, name) == 0 {
-        return NAME;
     }
     0
 }
@@ -74,12 +59,11 @@ pub fn begin(tables: &[u8], negotiation: &mut [u8], other: u16, entity: u16, nam
     }
     let d = decode(tables);
     let house = d.house;
-    let names = house.names;
     let own = house.own;
     if d.refusal != 0 {
         return d.refusal;
     }
-    let k = role_number(names.count, &names.name, &names.class, entity, name);
+    let k = role_number(entity, name);
     if k != 0 {
         return k;
     }

@@ -4,7 +4,6 @@ use expression::Expression;
 use expression::Parts;
 use numbers::CLASS;
 use numbers::MOST_NAMES;
-use numbers::NAME;
 ghost use mathlib.Core.Path.{_≡_};
 ghost use mathlib.Core.Bool.{cond};
 ghost use mathlib.Core.List.{[], _∷_};
@@ -13,7 +12,7 @@ ghost use lib.Dec.{ltb};
 ghost use lib.ListN.{getD};
 ghost use Rattle.class.specs.laws.Names.{namesFrom, namesOf, Ascending, Between, Placed};
 ghost use Rattle.class.specs.Names.{classOf};
-ghost use Rattle.class.specs.Typing.{named as namedOf, linked as linkedOf, together, typeOf, isUnnamed, suits as suitsOf, credentialNumber};
+ghost use Rattle.class.specs.Typing.{linked as linkedOf, together, typeOf, suits as suitsOf, credentialNumber};
 ghost use Rattle.numbers.specs.Sizes.{MOST-NAMES};
 
 // A role name and its class: 1 issuer-def, 2 issuer-all, 3 subject-all.
@@ -29,9 +28,8 @@ pub struct Names {
     pub class: [u8; 64],
 }
 
-// What an expression is by its names: one of them has no class; it is ill-typed; it suits every class; or it has a class.
+// What an expression is by its names: it is ill-typed, it suits every class, or it has a class.
 pub enum Typing {
-    Unnamed,
     Ill,
     Any,
     Class(u8),
@@ -93,38 +91,25 @@ fn place<'a>(n: usize, name: &'a [u16; 64], m: u16) -> usize
     place_among(name, m, half_place(n, name, m), half)
 }
 
-// The class of the name m, or zero where it has none.
+// The class of the name m: subject-all where it is not listed.
 pub fn class_of<'a>(n: usize, name: &'a [u16; 64], class: &'a [u8; 64], m: u16) -> u8
     requires { ⌜ (n ≤ MOST-NAMES) × Ascending n (now name) ⌝ }
     ensures { λ r. ⌜ r ≡ classOf (namesOf (namesFrom n (now (name .entry)) (now (class .entry)))) m ⌝ }
 {
     if n == 0 {
-        return 0;
+        return SUBJECT_ALL;
     }
     let i = place(n, name, m);
     if name[i] != m {
-        return 0;
+        return SUBJECT_ALL;
     }
     class[i]
-}
-
-// A role or a goal, by the class of its name.
-fn named(a: u8) -> Typing
-    ensures { λ r. ⌜ r ≡ namedOf a ⌝ }
-{
-    if a == 0 {
-        return Typing::Unnamed;
-    }
-    Typing::Class(a)
 }
 
 // A linked role, by the classes of its two names.
 fn linked(a: u8, b: u8) -> Typing
     ensures { λ r. ⌜ r ≡ linkedOf a b ⌝ }
 {
-    if (a == 0) | (b == 0) {
-        return Typing::Unnamed;
-    }
     if (a == SUBJECT_ALL) & (b == SUBJECT_ALL) {
         return Typing::Class(SUBJECT_ALL);
     }
@@ -144,9 +129,6 @@ fn linked(a: u8, b: u8) -> Typing
 fn meet(a: u8, b: u8, c: u8, d: u8) -> Typing
     ensures { λ r. ⌜ r ≡ together (a ∷ b ∷ c ∷ d ∷ []) ⌝ }
 {
-    if (a == 0) | (b == 0) | (c == 0) | (d == 0) {
-        return Typing::Unnamed;
-    }
     if (a == SUBJECT_ALL) & (b == SUBJECT_ALL) & (c == SUBJECT_ALL) & (d == SUBJECT_ALL) {
         return Typing::Class(SUBJECT_ALL);
     }
@@ -181,30 +163,24 @@ pub fn type_of<'a>(n: usize, name: &'a [u16; 64], class: &'a [u8; 64], x: Expres
 {
     match x {
         Expression::Entity(_) => Typing::Any,
-        Expression::Role(r) => named(class_of(n, name, class, r.name)),
+        Expression::Role(r) => Typing::Class(class_of(n, name, class, r.name)),
         Expression::Linked(r, m) => linked(
             class_of(n, name, class, r.name),
             class_of(n, name, class, m),
         ),
         Expression::Intersection(p) => type_of_parts(n, name, class, p),
-        Expression::Goal(m) => named(class_of(n, name, class, m)),
+        Expression::Goal(m) => Typing::Class(class_of(n, name, class, m)),
     }
 }
 
-// The number of a body of type t under a head of class k: a name without class, a class rule broken, or zero.
-fn suits(t: Typing, k: u8) -> u64
-    ensures { λ r. ⌜ r ≡ cond (isUnnamed t) 4 (cond (suitsOf t k) 0 5) ⌝ }
+// Whether a body of type t may stand under a head of class k.
+fn suits(t: Typing, k: u8) -> bool
+    ensures { λ r. ⌜ r ≡ suitsOf t k ⌝ }
 {
     match t {
-        Typing::Unnamed => NAME,
-        Typing::Ill => CLASS,
-        Typing::Any => 0,
-        Typing::Class(a) => {
-            if (k == ISSUER_DEF) | (a == k) {
-                return 0;
-            }
-            CLASS
-        }
+        Typing::Ill => false,
+        Typing::Any => true,
+        Typing::Class(a) => (k == ISSUER_DEF) | (a == k),
     }
 }
 
@@ -220,10 +196,10 @@ pub fn number_under<'a>(
     ensures { λ r. ⌜ r ≡ credentialNumber (namesOf (namesFrom n (now (name .entry)) (now (class .entry)))) c ⌝ }
 {
     let body = c.body;
-    if k == 0 {
-        return NAME;
+    if suits(type_of(n, name, class, body), k) {
+        return 0;
     }
-    suits(type_of(n, name, class, body), k)
+    CLASS
 }
 
 // The class rules for a credential: zero where it keeps them.

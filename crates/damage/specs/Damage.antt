@@ -37,7 +37,7 @@ graphSound ns S =
 -- a negotiation that is not damaged
 unfoldable pub sound : Tables → State → Bool
 sound T S =
-    headerSound (T .own) (T .names) (S .header)
+    headerSound (T .own) (S .header)
     && countsAgree (S .header .messages)
     && cond (eqb (length (S .nodes)) 0) (emptySound (S .header) (length (S .edges)) (length (S .shown))) (graphSound (T .names) S)
 

@@ -1,28 +1,25 @@
 -- The header of a negotiation that is not damaged (document 01, "From the state", 20; request 1). Assumes nothing.
 use Prim.Native.Nat.{ℕ, _+_}
 use mathlib.Core.Bool.{Bool, not, cond, _&&_, _||_}
-use mathlib.Core.List.{List}
 use lib.Dec.{eqb, ltb, leb}
 use Rattle.expression.specs.declared.Role.{Role}
 use Rattle.expression.specs.Form.{isRole, isEmpty}
-use Rattle.class.specs.declared.Name.{Name}
-use Rattle.class.specs.Names.{classOf}
 use Rattle.negotiation.specs.declared.Header.{Header}
 use Rattle.negotiation.specs.declared.Messages.{Messages}
 use Rattle.negotiation.specs.Messages.{messageCount}
 use Rattle.numbers.specs.Sizes.{MOST-MESSAGES}
 
--- the wanted role: of the mediator (side 0) a role whose name has a class, of the requester none
-unfoldable pub wantedSound : List Name → ℕ → Role → Bool
-wantedSound ns side r = cond (eqb side 0) (isRole r && not (eqb (classOf ns (r .name)) 0)) (isEmpty r)
+-- the wanted role: of the mediator (side 0) a role, of the requester none
+unfoldable pub wantedSound : ℕ → Role → Bool
+wantedSound side r = cond (eqb side 0) (isRole r) (isEmpty r)
 
 -- the other end is neither zero nor self
 abbrev pub otherSound : ℕ → ℕ → Bool
 otherSound own other = not (eqb other 0) && not (eqb other own)
 
 -- side, "a self other than the tables'", other end and wanted role
-unfoldable pub headerSound : ℕ → List Name → Header → Bool
-headerSound own ns h = ltb (h .side) 2 && eqb (h .own) own && otherSound (h .own) (h .other) && wantedSound ns (h .side) (h .wanted)
+unfoldable pub headerSound : ℕ → Header → Bool
+headerSound own h = ltb (h .side) 2 && eqb (h .own) own && otherSound (h .own) (h .other) && wantedSound (h .side) (h .wanted)
 
 -- Counts, end and idle
 

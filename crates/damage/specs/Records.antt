@@ -1,5 +1,5 @@
 -- Nodes and credentials of a negotiation that is not damaged (document 01, "From the state", 20): "a record of wrong form or illegal state, a
--- repeat, a primary other than begun", "a name without class or a class rule broken". Assumes nothing.
+-- repeat, a primary other than begun", "a class rule broken". Assumes nothing.
 use mathlib.Core.Bool.{Bool, true, false, not, cond, _&&_}
 use mathlib.Core.List.{List}
 use lib.Dec.{eqb, ltb}
@@ -12,7 +12,7 @@ use Rattle.expression.specs.Kinds.{isRoleExpression}
 use Rattle.rt0.specs.Lists.{any}
 use Rattle.class.specs.declared.Name.{Name}
 use Rattle.class.specs.declared.Typing.{Typing}
-use Rattle.class.specs.declared.Typing.the-variants.{Unnamed, Ill, Any, Class}
+use Rattle.class.specs.declared.Typing.the-variants.{Ill, Any, Class}
 use Rattle.class.specs.Typing.{typeOf, credentialNumber}
 use Rattle.graph.specs.declared.Node.{Node}
 use Rattle.graph.specs.Form.{legalState}
@@ -21,9 +21,8 @@ use Rattle.negotiation.specs.declared.Header.{Header}
 use Rattle.negotiation.specs.Ends.{requester}
 use Rattle.rt0.specs.Shown.{isShown}
 
--- every name has a class, and a linked role is well typed
+-- a linked role is well typed
 abbrev pub isTyped : Typing → Bool
-isTyped Unnamed = false
 isTyped Ill = false
 isTyped Any = true
 isTyped (Class a) = true

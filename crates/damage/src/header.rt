@@ -1,5 +1,4 @@
 // The header.
-use class::class_of;
 use expression::Role;
 use expression::is_empty;
 use expression::is_role;
@@ -9,38 +8,27 @@ use negotiation::Messages;
 use negotiation::message_count;
 use numbers::MOST_MESSAGES;
 ghost use mathlib.Core.Path.{_≡_};
-ghost use Prim.Native.Nat.{_≤_};
-ghost use Rattle.class.specs.laws.Names.{namesFrom, namesOf, Ascending};
 ghost use Rattle.damage.specs.Header.{wantedSound, headerSound, countsAgree, emptySound, countSound, endSound};
-ghost use Rattle.numbers.specs.Sizes.{MOST-NAMES};
 
 // The wanted role of a side.
-fn wanted_sound<'a>(k: usize, name: &'a [u16; 64], class: &'a [u8; 64], side: u8, r: Role) -> bool
-    requires { ⌜ (k ≤ MOST-NAMES) × Ascending k (now name) ⌝ }
-    ensures { λ b. ⌜ b ≡ wantedSound (namesOf (namesFrom k (now (name .entry)) (now (class .entry)))) side r ⌝ }
+fn wanted_sound(side: u8, r: Role) -> bool
+    ensures { λ b. ⌜ b ≡ wantedSound side r ⌝ }
 {
     if side != MEDIATOR {
         return is_empty(r);
     }
-    is_role(r) & (class_of(k, name, class, r.name) != 0)
+    is_role(r)
 }
 
 // Side, self, other end and wanted role.
-pub fn header_sound<'a>(
-    own: u16,
-    k: usize,
-    name: &'a [u16; 64],
-    class: &'a [u8; 64],
-    h: Header,
-) -> bool
-    requires { ⌜ (k ≤ MOST-NAMES) × Ascending k (now name) ⌝ }
-    ensures { λ b. ⌜ b ≡ headerSound own (namesOf (namesFrom k (now (name .entry)) (now (class .entry)))) h ⌝ }
+pub fn header_sound(own: u16, h: Header) -> bool
+    ensures { λ b. ⌜ b ≡ headerSound own h ⌝ }
 {
     let wanted = h.wanted;
     (h.side < 2)
         & (h.own == own)
         & ((h.other != 0) & (h.other != h.own))
-        & wanted_sound(k, name, class, h.side, wanted)
+        & wanted_sound(h.side, wanted)
 }
 
 // The counts are equal, or the mediator's is one ahead.

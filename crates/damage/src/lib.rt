@@ -198,7 +198,7 @@ pub fn sound(house: House, negotiation: Negotiation) -> bool
 {
     let h = negotiation.header;
     let names = house.names;
-    if !header_sound(house.own, names.count, &names.name, &names.class, h) {
+    if !header_sound(house.own, h) {
         return false;
     }
     if !counts_agree(h.messages) {

@@ -26,7 +26,6 @@ fn is_typed(t: Typing) -> bool
     ensures { λ b. ⌜ b ≡ isTyped t ⌝ }
 {
     match t {
-        Typing::Unnamed => false,
         Typing::Ill => false,
         Typing::Any => true,
         Typing::Class(_) => true,

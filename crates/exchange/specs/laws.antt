@@ -1,3 +1,4 @@
+pub mod SameClasses
 pub mod Taken
 pub mod Given
 pub mod Refused

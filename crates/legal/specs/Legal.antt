@@ -12,7 +12,7 @@ use Rattle.expression.specs.declared.Expression.the-variants as E
 use Rattle.rt0.specs.From.{From, roleOf}
 use Rattle.class.specs.declared.Name.{Name}
 use Rattle.class.specs.Names.{classOf}
-use Rattle.class.specs.Typing.{typeOf, suits, isUnnamed}
+use Rattle.class.specs.Typing.{typeOf, suits}
 use Rattle.graph.specs.declared.Node.{Node}
 use Rattle.graph.specs.Graph.{nodeIn}
 use Rattle.graph.specs.States.{solutionKind, Child, Satisfied}
@@ -24,7 +24,7 @@ use Rattle.damage.specs.Records.{isTyped}
 use Rattle.graph.specs.Processed.{processedBy}
 use Rattle.applied.specs.Step.{parentIn, childIn}
 use Rattle.legal.specs.Number.{formedAs}
-use Rattle.numbers.specs.Refusals.{NAME, CLASS, OPENING, ABSENT, PRESENT, UNJUSTIFIED, PROCESSED, FULL}
+use Rattle.numbers.specs.Refusals.{CLASS, OPENING, ABSENT, PRESENT, UNJUSTIFIED, PROCESSED, FULL}
 
 -- "has a linking-monitor child ⟨V : ?X.r2 ← S⟩, and ⟨V : ?X.r2 ← S⟩ has a link-solution child ⟨V : B.r2 ← S⟩ that is satisfied" (section 4.2);
 -- x is A.r1.r2, the expression of the node p, and b is B
@@ -46,15 +46,6 @@ pub record Justifies (S : State) (k p : ℕ) (y : Expression) (b : ℕ) : Type 0
   pub monitored : k ≡ 4 → Monitored S (nodeIn (S .nodes) p .expression) b p
 
 -- What the rules ask of a command, by the numbers of "From the input" and "From the state"
-
--- "4 a name without class"
-unfoldable pub NamesClassed : List Name → Command → Type 0
-NamesClassed ns (Show c) = (classOf ns (c .head .name) ≡ 0 → ⊥) × (isUnnamed (typeOf ns (c .body)) ≡ false)
-NamesClassed ns (Open o) = classOf ns (o .role .name) ≡ 0 → ⊥
-NamesClassed ns (Bring n) = isUnnamed (typeOf ns (n .expression)) ≡ false
-NamesClassed ns (Join e) = Unit {0}
-NamesClassed ns (Mark i) = Unit {0}
-NamesClassed ns End = Unit {0}
 
 -- "5 a class rule broken"
 unfoldable pub ClassesSuit : List Name → Command → Type 0
@@ -126,7 +117,6 @@ RoomLeft S End = Unit {0}
 
 -- the command of side s is legal in the state S, the house having the names ns
 pub record Legal (ns : List Name) (s : ℕ) (S : State) (c : Command) : Type 0 where
-  pub names : NamesClassed ns c
   pub classes : ClassesSuit ns c
   pub open-first : OpenFirst S c
   pub nodes : NodesStand S c
@@ -137,14 +127,13 @@ pub record Legal (ns : List Name) (s : ℕ) (S : State) (c : Command) : Type 0 w
 
 -- why it is not: "each by rising number", the first rule that it breaks
 pub data Illegal (ns : List Name) (s : ℕ) (S : State) (c : Command) : ℕ → Type 0 where
-  unnamed : (NamesClassed ns c → ⊥) → Illegal ns s S c NAME
-  class-rule : NamesClassed ns c → (ClassesSuit ns c → ⊥) → Illegal ns s S c CLASS
-  opening : NamesClassed ns c → ClassesSuit ns c → (OpenFirst S c → ⊥) → Illegal ns s S c OPENING
-  no-node : NamesClassed ns c → ClassesSuit ns c → OpenFirst S c → (NodesStand S c → ⊥) → Illegal ns s S c ABSENT
-  present : NamesClassed ns c → ClassesSuit ns c → OpenFirst S c → NodesStand S c → (FormedAndNew S c → ⊥) → Illegal ns s S c PRESENT
-  unjustified : NamesClassed ns c → ClassesSuit ns c → OpenFirst S c → NodesStand S c → FormedAndNew S c → (EdgeJustified S c → ⊥)
+  class-rule : (ClassesSuit ns c → ⊥) → Illegal ns s S c CLASS
+  opening : ClassesSuit ns c → (OpenFirst S c → ⊥) → Illegal ns s S c OPENING
+  no-node : ClassesSuit ns c → OpenFirst S c → (NodesStand S c → ⊥) → Illegal ns s S c ABSENT
+  present : ClassesSuit ns c → OpenFirst S c → NodesStand S c → (FormedAndNew S c → ⊥) → Illegal ns s S c PRESENT
+  unjustified : ClassesSuit ns c → OpenFirst S c → NodesStand S c → FormedAndNew S c → (EdgeJustified S c → ⊥)
       → Illegal ns s S c UNJUSTIFIED
-  processed : NamesClassed ns c → ClassesSuit ns c → OpenFirst S c → NodesStand S c → FormedAndNew S c → EdgeJustified S c
+  processed : ClassesSuit ns c → OpenFirst S c → NodesStand S c → FormedAndNew S c → EdgeJustified S c
       → (Unprocessed s S c → ⊥) → Illegal ns s S c PROCESSED
-  full : NamesClassed ns c → ClassesSuit ns c → OpenFirst S c → NodesStand S c → FormedAndNew S c → EdgeJustified S c
+  full : ClassesSuit ns c → OpenFirst S c → NodesStand S c → FormedAndNew S c → EdgeJustified S c
       → Unprocessed s S c → (RoomLeft S c → ⊥) → Illegal ns s S c FULL

@@ -12,8 +12,7 @@ use Rattle.rt0.specs.Lists.{any}
 use Rattle.rt0.specs.Decide.{from? as fromOf}
 use Rattle.class.specs.declared.Name.{Name}
 use Rattle.class.specs.declared.Typing.{Typing}
-use Rattle.class.specs.declared.Typing.the-variants.{Unnamed, Ill, Any, Class}
-use Rattle.class.specs.Names.{classOf}
+use Rattle.class.specs.declared.Typing.the-variants.{Ill, Any, Class}
 use Rattle.class.specs.Typing.{typeOf, credentialNumber}
 use Rattle.graph.specs.declared.Node.{Node}
 use Rattle.graph.specs.declared.Edge.{Edge}
@@ -21,7 +20,6 @@ use Rattle.graph.specs.Graph.{nodeIn}
 use Rattle.graph.specs.Form.{form}
 use Rattle.graph.specs.Find.{isNode, hasEdge}
 use Rattle.justification.specs.Justified.{monitors, justified}
-use Rattle.message.specs.declared.Opening.{Opening}
 use Rattle.message.specs.declared.NewEdge.{NewEdge}
 use Rattle.message.specs.declared.Command.{Command}
 use Rattle.message.specs.declared.Command.the-variants.{Show, Open, Bring, Join, Mark, End}
@@ -31,7 +29,7 @@ use Rattle.negotiation.specs.Ends.{entityOf}
 use Rattle.rt0.specs.Shown.{isShown}
 use Rattle.graph.specs.Processed.{processedBy}
 use Rattle.applied.specs.Step.{parentIn, childIn}
-use Rattle.numbers.specs.Refusals.{NAME, CLASS, OPENING, ABSENT, PRESENT, UNJUSTIFIED, PROCESSED, FULL}
+use Rattle.numbers.specs.Refusals.{CLASS, OPENING, ABSENT, PRESENT, UNJUSTIFIED, PROCESSED, FULL}
 
 -- refused with k where b holds, else judged further
 unfoldable pub refuse : Bool → ℕ → ℕ → ℕ
@@ -63,11 +61,8 @@ showNumber ns S c =
     0)))
 
 -- 0x02
-unfoldable pub openNumber : List Name → State → Opening → ℕ
-openNumber ns S o =
-    refuse (eqb (classOf ns (o .role .name)) 0) NAME
-    (refuse (not (isFresh S)) OPENING
-    0)
+unfoldable pub openNumber : State → ℕ
+openNumber S = refuse (not (isFresh S)) OPENING 0
 
 -- 0x05
 unfoldable pub markNumber : ℕ → State → ℕ → ℕ
@@ -109,9 +104,8 @@ joinNumber s S e justifies =
     (refuse (leb MOST-EDGES (length (S .edges))) FULL
     0)))))
 
--- "4 a name without class", "5 a class rule broken"
+-- "5 a class rule broken"
 abbrev pub typeNumber : Typing → ℕ
-typeNumber Unnamed = NAME
 typeNumber Ill = CLASS
 typeNumber Any = 0
 typeNumber (Class a) = 0
@@ -145,7 +139,7 @@ justifiedIn S End = true
 -- a command of side s, and whether its edge is justified
 unfoldable pub legalBy : List Name → ℕ → State → Command → Bool → ℕ
 legalBy ns s S (Show c) justifies = showNumber ns S c
-legalBy ns s S (Open o) justifies = openNumber ns S o
+legalBy ns s S (Open o) justifies = openNumber S
 legalBy ns s S (Bring n) justifies = bringNumber ns s S n justifies
 legalBy ns s S (Join e) justifies = joinNumber s S e justifies
 legalBy ns s S (Mark i) justifies = markNumber s S i

@@ -1,15 +1,12 @@
 // Credentials, opens, marks and ends.
 use class::Names;
-use class::class_of;
 use class::credential_number;
 use expression::Credential;
 use graph::is_processed;
 use graph::node_of;
-use message::Opening;
 use negotiation::Negotiation;
 use numbers::ABSENT;
 use numbers::FULL;
-use numbers::NAME;
 use numbers::OPENING;
 use numbers::PRESENT;
 use numbers::PROCESSED;
@@ -44,14 +41,9 @@ pub fn show_number(names: Names, n: Negotiation, c: Credential) -> u64
     0
 }
 
-pub fn open_number(names: Names, n: Negotiation, o: Opening) -> u64
-    requires { ⌜ (names .count ≤ MOST-NAMES) × Ascending (names .count) (names .name) ⌝ }
-    ensures { λ r. ⌜ r ≡ openNumber (namesOf names) (stateOf n) o ⌝ }
+pub fn open_number(n: Negotiation) -> u64
+    ensures { λ r. ⌜ r ≡ openNumber (stateOf n) ⌝ }
 {
-    let role = o.role;
-    if class_of(names.count, &names.name, &names.class, role.name) == 0 {
-        return NAME;
-    }
     let nodes = n.nodes;
     if nodes.count != 0 {
         return OPENING;

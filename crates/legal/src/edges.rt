@@ -19,7 +19,6 @@ use numbers::ABSENT;
 use numbers::CLASS;
 use numbers::FULL;
 use numbers::MOST_NODES;
-use numbers::NAME;
 use numbers::OPENING;
 use numbers::PRESENT;
 use numbers::PROCESSED;
@@ -115,7 +114,6 @@ fn type_number(t: Typing) -> u64
     ensures { λ r. ⌜ r ≡ typeNumber t ⌝ }
 {
     match t {
-        Typing::Unnamed => NAME,
         Typing::Ill => CLASS,
         Typing::Any => 0,
         Typing::Class(_) => 0,

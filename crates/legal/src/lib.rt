@@ -53,7 +53,7 @@ pub fn legal(names: Names, sender: u8, n: Negotiation, c: Command, justified: bo
 {
     match c {
         Command::Show(d) => show_number(names, n, d),
-        Command::Open(o) => open_number(names, n, o),
+        Command::Open(_) => open_number(n),
         Command::Bring(b) => bring_number(names, sender, n, b, justified),
         Command::Join(e) => join_number(sender, n, e, justified),
         Command::Mark(i) => mark_number(sender, n, i),

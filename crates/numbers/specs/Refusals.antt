@@ -13,7 +13,7 @@ COMMAND = 2
 abbrev pub OPERAND : ℕ
 OPERAND = 3
 
--- "4 a name without class"
+-- "4 a name without class"; request 2: "Refusal 4 no longer occurs"
 abbrev pub NAME : ℕ
 NAME = 4
 

@@ -16,7 +16,6 @@ pub use refusals::DAMAGED;
 pub use refusals::ENDED;
 pub use refusals::FULL;
 pub use refusals::LENGTH;
-pub use refusals::NAME;
 pub use refusals::OPENING;
 pub use refusals::OPERAND;
 pub use refusals::ORDER;

@@ -9,9 +9,6 @@ pub const COMMAND: u64 = 2;
 // An operand of wrong form.
 pub const OPERAND: u64 = 3;
 
-// A name without class.
-pub const NAME: u64 = 4;
-
 // A class rule broken.
 pub const CLASS: u64 = 5;
 

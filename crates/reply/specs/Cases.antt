@@ -1,5 +1,5 @@
--- The marked cases (a) to (j) of document 01: questions, and negotiations by the definitions of reply and take at both ends. One table, one
--- computed proof. Assumes nothing.
+-- The marked cases (a) to (j) of document 01: questions, and negotiations by the definitions of reply and take at both ends; (i) and (j) also with
+-- names that are not listed (request 2). One table, one computed proof. Assumes nothing.
 use Prim.Native.Nat.{ℕ, zero, suc}
 use mathlib.Core.Bool.{Bool, true, false, _&&_}
 use lib.Dec.{eqb}
@@ -29,6 +29,10 @@ named n c = record { name = n; class = c }
 abbrev names : List Name
 names = named 1 1 ∷ named 2 3 ∷ named 3 3 ∷ []
 
+-- without those of class 3
+abbrev fewerNames : List Name
+fewerNames = named 1 1 ∷ []
+
 abbrev _←_ : Role → Expression → Credential
 p ← b = record { head = p; body = b }
 
@@ -55,11 +59,11 @@ meet = (roleOf 1 1 ← both (roleOf 2 2) (roleOf 3 3)) ∷ (roleOf 2 2 ← E.Ent
 -- Negotiations
 
 -- "Studio 3 .. has 0x12 3.1←4.3 and 0x13 1.2←3"
-abbrev studio : Tables
-studio =
+abbrev studio : List Name → Tables
+studio ns =
     record {
       own = 3;
-      names = names;
+      names = ns;
       issuerStored = (roleOf 3 1 ← E.Role (roleOf 4 3)) ∷ [];
       subjectStored = (roleOf 1 2 ← E.Entity 3) ∷ [];
       sensitive = [];
@@ -67,9 +71,12 @@ studio =
     }
 
 -- "House has 0x13 4.3←2, 4.3 sensitive, Ack 1.2, no AC"; (j) "House without 4.3←2"
+abbrev houseOf : List Name → List Credential → Tables
+houseOf ns held =
+    record { own = 2; names = ns; issuerStored = []; subjectStored = held; sensitive = record { role = roleOf 4 3; other = roleOf 1 2 } ∷ []; access = [] }
+
 abbrev pub house : List Credential → Tables
-house held =
-    record { own = 2; names = names; issuerStored = []; subjectStored = held; sensitive = record { role = roleOf 4 3; other = roleOf 1 2 } ∷ []; access = [] }
+house held = houseOf names held
 
 -- The messages of (i), byte by byte
 
@@ -123,15 +130,15 @@ play (suc k) T S U R =
     ∷ play k U A T (repliedState r)
 
 -- "Studio 3 mediates 3.1 for House 2"
-abbrev played : List Credential → List Turn
-played held = play 4 studio (freshState 0 3 2 (roleOf 3 1)) (house held) (freshState 1 2 3 (roleOf 0 0))
+abbrev played : List Name → List Credential → List Turn
+played ns held = play 4 (studio ns) (freshState 0 3 2 (roleOf 3 1)) (houseOf ns held) (freshState 1 2 3 (roleOf 0 0))
 
 -- The table
 
--- "f from e" over credentials; House with these credentials
+-- "f from e" over credentials; both ends with these names, House with these credentials
 pub data Case : Type 0 where
   question : List Credential → Expression → Expression → Case
-  negotiation : List Credential → Case
+  negotiation : List Name → List Credential → Case
 
 pub data Outcome : Type 0 where
   answer : Bool → Outcome
@@ -139,7 +146,7 @@ pub data Outcome : Type 0 where
 
 abbrev pub outcome : Case → Outcome
 outcome (question C f e) = answer (from? C f e)
-outcome (negotiation held) = turns (played held)
+outcome (negotiation ns held) = turns (played ns held)
 
 abbrev pub table : List Case
 table =
@@ -151,6 +158,8 @@ table =
     ∷ question link (role 1 1) (E.Entity 4)
     ∷ question meet (role 1 1) (E.Entity 4)
     ∷ question ((roleOf 3 3 ← E.Entity 4) ∷ meet) (role 1 1) (E.Entity 4)
-    ∷ negotiation ((roleOf 4 3 ← E.Entity 2) ∷ [])
-    ∷ negotiation []
+    ∷ negotiation names ((roleOf 4 3 ← E.Entity 2) ∷ [])
+    ∷ negotiation names []
+    ∷ negotiation fewerNames ((roleOf 4 3 ← E.Entity 2) ∷ [])
+    ∷ negotiation fewerNames []
     ∷ []

@@ -7,4 +7,5 @@ pub mod TwoReplies
 pub mod Acknowledged
 pub mod Built
 pub mod Counted
+pub mod NoName
 pub mod Cases

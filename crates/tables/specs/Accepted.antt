@@ -28,7 +28,7 @@ pub record Records {A : Type 0} (wrap : A → Record) (before : A → A → Bool
   pub few : length L ≤ most
   -- none has "an operand of wrong form"
   pub form : (x : A) → List·Memᴰ x L → formed (wrap x) ≡ true
-  -- none has "a name without class", and by none is "a class rule broken"
+  -- by none is "a class rule broken"
   pub rules : (x : A) → List·Memᴰ x L → number x ≡ 0
 
 -- tables that keep all rules

@@ -23,7 +23,7 @@ use Rattle.record.specs.Record.{recordAt, sizeOf}
 use Rattle.tables.specs.Tables.{Tables, unread, added}
 use Rattle.tables.specs.Lookup.{holds, isSensitive}
 use Rattle.numbers.specs.Answer.{Answer, refused, accepted, judged, answerOf, noValue}
-use Rattle.numbers.specs.Refusals.{LENGTH, NAME, CLASS, ORDER}
+use Rattle.numbers.specs.Refusals.{LENGTH, CLASS, ORDER}
 
 -- the first number that is not zero
 abbrev pub orElse : ℕ → ℕ → ℕ
@@ -34,7 +34,7 @@ abbrev pub suitsStorage : Bool → ℕ → Bool
 suitsStorage true k = eqb k 3
 suitsStorage false k = eqb k 1 || eqb k 2
 
--- 4 or 5 of a stored credential
+-- 5 of a stored credential, or zero
 unfoldable pub storedNumber : List Name → Bool → Credential → ℕ
 storedNumber ns subject c = orElse (credentialNumber ns c) (cond (suitsStorage subject (classOf ns (c .head .name))) 0 CLASS)
 
@@ -43,13 +43,11 @@ abbrev pub suitsPair : Bool → Tables → Role → Bool
 suitsPair true T r = holds (T .own) (T .subjectStored) r && isSensitive (T .sensitive) r
 suitsPair false T r = eqb (classOf (T .names) (r .name)) 3
 
--- 4 or 5 of a sensitive role and its Ack or AC role
+-- 5 of a sensitive role with its Ack or AC role, or zero
 unfoldable pub pairNumber : Bool → Tables → Pair → ℕ
-pairNumber access T p =
-    cond (eqb (classOf (T .names) (p .role .name)) 0 || eqb (classOf (T .names) (p .other .name)) 0) NAME
-    (cond (suitsPair access T (p .role)) 0 CLASS)
+pairNumber access T p = cond (suitsPair access T (p .role)) 0 CLASS
 
--- "4 a name without class", "5 a class rule broken", or zero
+-- "5 a class rule broken", or zero
 unfoldable pub classNumber : Tables → Record → ℕ
 classNumber T (Own e) = 0
 classNumber T (Named n) = 0
@@ -93,7 +91,7 @@ room T (Access p) = ltb (length (T .access)) MOST-ACCESS
 unfoldable pub orderNumber : Tables → Record → ℕ
 orderNumber T r = cond (inOrder T r && above T r && room T r) 0 ORDER
 
--- a record behind those of T: the first of 4, 5 and 6 that it earns, or zero
+-- a record behind those of T: the first of 5 and 6 that it earns, or zero
 unfoldable pub judge : Tables → Record → ℕ
 judge T r = orElse (classNumber T r) (orderNumber T r)
 

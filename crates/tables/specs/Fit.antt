@@ -2,14 +2,8 @@
 use Prim.Native.Nat.{ℕ}
 use mathlib.Core.Path.{_≡_}
 use mathlib.Core.Bool.{Bool, true, false, _&&_}
-use mathlib.Core.List.{List, [], _∷_, map}
-use lib.Dec.{eqb}
-use Rattle.expression.specs.declared.Role.{Role}
+use mathlib.Core.List.{List}
 use Rattle.expression.specs.declared.Credential.{Credential}
-use Rattle.expression.specs.declared.Expression.{Expression}
-use Rattle.expression.specs.declared.Expression.the-variants as E
-use Rattle.rt0.specs.From.{rolesOf}
-use Rattle.rt0.specs.Lists.{any}
 use Rattle.class.specs.declared.Name.{Name}
 use Rattle.class.specs.Names.{classOf}
 use Rattle.class.specs.Typing.{typeOf, suits}
@@ -17,31 +11,7 @@ use Rattle.record.specs.declared.Record.{Record}
 use Rattle.record.specs.declared.Record.the-variants.{Own, Named, IssuerStored, SubjectStored, Sensitive, Access}
 use Rattle.tables.specs.Tables.{Tables}
 use Rattle.tables.specs.Check.{suitsStorage, suitsPair, inOrder, above, room}
-use Rattle.numbers.specs.Refusals.{NAME, CLASS, ORDER}
-
--- the names in an expression
-abbrev pub namesIn : Expression → List ℕ
-namesIn (E.Entity b) = []
-namesIn (E.Role r) = r .name ∷ []
-namesIn (E.Linked r m) = r .name ∷ m ∷ []
-namesIn (E.Intersection p) = map (λ (r : Role). r .name) (rolesOf p)
-namesIn (E.Goal m) = m ∷ []
-
--- the names that need a class where the record stands: those of its roles
-abbrev pub roleNames : Record → List ℕ
-roleNames (Own e) = []
-roleNames (Named n) = []
-roleNames (IssuerStored c) = c .head .name ∷ namesIn (c .body)
-roleNames (SubjectStored c) = c .head .name ∷ namesIn (c .body)
-roleNames (Sensitive p) = p .role .name ∷ p .other .name ∷ []
-roleNames (Access p) = p .role .name ∷ p .other .name ∷ []
-
-abbrev pub unclassed : List Name → ℕ → Bool
-unclassed ns m = eqb (classOf ns m) 0
-
--- "4 a name without class"
-unfoldable pub lacksClass : Tables → Record → Bool
-lacksClass T r = any (unclassed (T .names)) (roleNames r)
+use Rattle.numbers.specs.Refusals.{CLASS, ORDER}
 
 -- "A credential whose head is class 2 or 3 needs a body of that class; class 1 takes any well-typed body. 0x12 heads have class 1 or 2, 0x13
 -- heads class 3."
@@ -59,7 +29,6 @@ keepsRules T (Access p) = suitsPair true T (p .role)
 
 -- a record that keeps all rules behind the tables T
 pub record Fit (T : Tables) (r : Record) : Type 0 where
-  pub classes : lacksClass T r ≡ false
   pub rules : keepsRules T r ≡ true
   -- "House tables, in this order"
   pub order : inOrder T r ≡ true
@@ -70,9 +39,7 @@ pub record Fit (T : Tables) (r : Record) : Type 0 where
 
 -- which rule a record breaks first behind the tables T, and k is its number
 pub data Breaks (T : Tables) (r : Record) (k : ℕ) : Type 0 where
-  -- "4 a name without class"
-  unnamed : lacksClass T r ≡ true → k ≡ NAME → Breaks T r k
   -- "5 a class rule broken"
-  class-rule : lacksClass T r ≡ false → keepsRules T r ≡ false → k ≡ CLASS → Breaks T r k
+  class-rule : keepsRules T r ≡ false → k ≡ CLASS → Breaks T r k
   -- "6 tables out of order, repeated, self missing, or a size passed"
-  out-of-order : lacksClass T r ≡ false → keepsRules T r ≡ true → (inOrder T r && above T r && room T r) ≡ false → k ≡ ORDER → Breaks T r k
+  out-of-order : keepsRules T r ≡ true → (inOrder T r && above T r && room T r) ≡ false → k ≡ ORDER → Breaks T r k

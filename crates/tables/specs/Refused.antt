@@ -25,7 +25,7 @@ pub data Reads (s : List ℕ) : ℕ → Tables → Type 0 where
 pub data Unfit (s : List ℕ) (at : ℕ) (T : Tables) (k : ℕ) : Type 0 where
   -- 2 and 3
   unreadable : Unreadable s at k → Unfit s at T k
-  -- 4, 5 and 6
+  -- 5 and 6
   breaks : {r : Record} → StandsAt s at r → Breaks T r k → Unfit s at T k
 
 -- why the tables are refused, and k is the number

@@ -19,3 +19,4 @@ pub mod Accepted
 pub mod Refused
 pub mod Sound
 pub mod BehindRecords
+pub mod Listed

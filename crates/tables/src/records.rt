@@ -6,9 +6,9 @@ use crate::Pairs;
 use crate::groups::decode_names;
 use crate::refusal_of;
 use class::Names;
+use numbers::CLASS;
 use numbers::LENGTH;
 use numbers::MOST_TABLES_BYTES;
-use numbers::NAME;
 use numbers::ORDER;
 use record::Record;
 use record::RecordAnswer;
@@ -32,7 +32,7 @@ fn sized(n: usize) -> bool
     (0 < n) & (n <= MOST_TABLES_BYTES)
 }
 
-// The first record. Where it is not self, it is out of order, and before that its names have no class.
+// The first record. Where it is not self, it is out of order; before that, by class rules, no head is issuer-def or issuer-all, and nothing is held.
 fn own_of(s: &[u8]) -> OwnAnswer
     requires { ⌜ 0 < length (now s) ⌝ }
     ensures { λ r. ⌜ r ≡ firstRecord (recordAt (now (s .entry)) 0) ⌝ }
@@ -44,10 +44,10 @@ fn own_of(s: &[u8]) -> OwnAnswer
     match r {
         Record::Own(e) => OwnAnswer::Read(e),
         Record::Named(_) => OwnAnswer::Refused(ORDER),
-        Record::IssuerStored(_) => OwnAnswer::Refused(NAME),
-        Record::SubjectStored(_) => OwnAnswer::Refused(NAME),
-        Record::Sensitive(_) => OwnAnswer::Refused(NAME),
-        Record::Access(_) => OwnAnswer::Refused(NAME),
+        Record::IssuerStored(_) => OwnAnswer::Refused(CLASS),
+        Record::SubjectStored(_) => OwnAnswer::Refused(ORDER),
+        Record::Sensitive(_) => OwnAnswer::Refused(ORDER),
+        Record::Access(_) => OwnAnswer::Refused(CLASS),
     }
 }
 

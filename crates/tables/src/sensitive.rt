@@ -14,15 +14,12 @@ use expression::ascending;
 use numbers::CLASS;
 use numbers::MOST_ACCESS;
 use numbers::MOST_SENSITIVE;
-use numbers::NAME;
 use numbers::PAIR_BYTES;
 use record::Pair;
 use record::Record;
 use record::RecordAnswer;
 use record::read_record;
 ghost use mathlib.Core.Path.{_≡_};
-ghost use mathlib.Core.Bool.{cond, _&&_};
-ghost use lib.Dec.{eqb};
 ghost use Prim.Native.Nat.{_<_, _≤_};
 ghost use lib.ListN.{length};
 ghost use Rattle.rt0.specs.laws.Pool.{poolOf, credentials};
@@ -30,8 +27,7 @@ ghost use Rattle.class.specs.laws.Names.{namesFrom, namesOf, Ascending};
 ghost use Rattle.record.specs.Record.{recordAt};
 ghost use Rattle.tables.specs.laws.Tables.{pairsFrom, pairsOf};
 ghost use Rattle.tables.specs.laws.Columns.{PairsSized};
-ghost use Rattle.tables.specs.Lookup.{holds as holdsOf, isSensitive};
-ghost use Rattle.tables.specs.Check.{pairNumber};
+ghost use Rattle.tables.specs.Check.{suitsPair, pairNumber};
 ghost use Rattle.tables.specs.laws.Group.{behind, numberBehind, judgedStep, pickedStep, stepOf};
 ghost use Rattle.tables.specs.laws.Groups.{pairs as pairsGroup, pairsMost, pickPair};
 ghost use Rattle.tables.specs.laws.Reading.{pairStep, tablesFor, PairsGone};
@@ -43,11 +39,13 @@ fn pairs_most(access: bool) -> usize
     if access { MOST_ACCESS } else { MOST_SENSITIVE }
 }
 
-// Whether the role r, whose name has class k, may stand: in 0x15 we hold it and it is sensitive, in 0x14 its class is subject-all. Where start
+// Whether the role r may stand: in 0x15 we hold it and it is sensitive, in 0x14 its class is subject-all. Where start
 // records of 0x15 stand before it, as many credentials and sensitive roles are theirs, and the search begins behind them.
 fn suits_pair<'a>(
     access: bool,
-    k: u8,
+    n: usize,
+    name: &'a [u16; 64],
+    class: &'a [u8; 64],
     own: u16,
     c: usize,
     heads: &'a [u16; 256],
@@ -59,12 +57,13 @@ fn suits_pair<'a>(
     r: Role,
     start: usize,
 ) -> bool
-    requires { ⌜ (c ≤ 128) × (p ≤ MOST-SENSITIVE) ⌝ }
-    ensures { λ b. ⌜ b ≡ cond access (holdsOf own (credentials (poolOf c (now (heads .entry)) (now (kinds .entry)) (now (numbers .entry)))) r
-        && isSensitive (pairsOf (pairsFrom p (now (roles .entry)) (now (others .entry)))) r) (eqb k 3) ⌝ }
+    requires { ⌜ (n ≤ MOST-NAMES) × Ascending n (now name) × (c ≤ 128) × (p ≤ MOST-SENSITIVE) ⌝ }
+    ensures { λ b. ⌜ b ≡ suitsPair access (tablesFor own (namesOf (namesFrom n (now (name .entry)) (now (class .entry))))
+        (credentials (poolOf c (now (heads .entry)) (now (kinds .entry)) (now (numbers .entry))))
+        (pairsOf (pairsFrom p (now (roles .entry)) (now (others .entry))))) r ⌝ }
 {
     if !access {
-        return k == SUBJECT_ALL;
+        return class_of(n, name, class, r.name) == SUBJECT_ALL;
     }
     holds_from(own, c, heads, kinds, numbers, r, start)
         & is_sensitive_from(p, roles, others, r, start)
@@ -93,15 +92,11 @@ pub fn pair_number<'a>(
         (pairsOf (pairsFrom p (now (roles .entry)) (now (others .entry))))) x ⌝ }
 {
     let role = x.role;
-    let other = x.other;
-    let k = class_of(n, name, class, role.name);
-    let m = class_of(n, name, class, other.name);
-    if (k == 0) | (m == 0) {
-        return NAME;
-    }
     if suits_pair(
         access,
-        k,
+        n,
+        name,
+        class,
         own,
         c,
         heads,

@@ -9,9 +9,6 @@ use lib.ListN.{length}
 use Rattle.numbers.specs.Sizes.{NEGOTIATION-BYTES}
 use Rattle.expression.specs.declared.Role.{Role}
 use Rattle.rt0.specs.From.{roleOf}
-use Rattle.class.specs.declared.Name.{Name}
-use Rattle.class.specs.laws.Names.{namesOf}
-use Rattle.class.specs.Names.{classOf}
 use Rattle.tables.specs.declared.Decoded.{Decoded}
 use Rattle.tables.specs.laws.Tables.{tablesOf}
 use Rattle.tables.specs.Check.{orElse, readTables}
@@ -26,28 +23,22 @@ use Rattle.numbers.specs.Refusals.{LENGTH}
 
 -- The wanted role and the other end
 
-module _ (ns : List Name) (entity name : ℕ) where
-  by-tests : (a b c : Bool) → a ≡ isRequester entity name → b ≡ (eqb entity 0 || eqb name 0) → c ≡ eqb (classOf ns name) 0
-      → _≡_ {A = ℕ} (cond a 0 (cond b 3 (cond c 4 0))) (roleNumber ns entity name)
+module _ (entity name : ℕ) where
+  by-tests : (a b : Bool) → a ≡ isRequester entity name → b ≡ (eqb entity 0 || eqb name 0) → _≡_ {A = ℕ} (cond a 0 (cond b 3 0)) (roleNumber entity name)
   unfolding roleNumber
-  by-tests a b c h k l = λ i. cond (h i) 0 (cond (k i) 3 (cond (l i) 4 0))
+  by-tests a b h k = λ i. cond (h i) 0 (cond (k i) 3 0)
 
   module _ {a : Bool} (h : a ≡ isRequester entity name) where
     -- no role is wanted
-    pub role-none : a ≡ true → 0 ≡ roleNumber ns entity name
-    role-none e = by-tests true (eqb entity 0 || eqb name 0) (eqb (classOf ns name) 0) (sym e ∙ h) refl refl
+    pub role-none : a ≡ true → 0 ≡ roleNumber entity name
+    role-none e = by-tests true (eqb entity 0 || eqb name 0) (sym e ∙ h) refl
 
     -- just one zero
-    pub role-zero : a ≡ false → (eqb entity 0 || eqb name 0) ≡ true → 3 ≡ roleNumber ns entity name
-    role-zero e z = by-tests false true (eqb (classOf ns name) 0) (sym e ∙ h) (sym z) refl
+    pub role-zero : a ≡ false → (eqb entity 0 || eqb name 0) ≡ true → 3 ≡ roleNumber entity name
+    role-zero e z = by-tests false true (sym e ∙ h) (sym z)
 
-    module _ (e : a ≡ false) (z : (eqb entity 0 || eqb name 0) ≡ false) {k : ℕ} (q : k ≡ classOf ns name) where
-      -- a name without class
-      pub role-unnamed : k ≡ 0 → 4 ≡ roleNumber ns entity name
-      role-unnamed n = by-tests false false true (sym e ∙ h) (sym z) (sym (eq-eqb (classOf ns name) 0 (sym q ∙ n)))
-
-      pub role-free : (k ≡ 0 → ⊥) → 0 ≡ roleNumber ns entity name
-      role-free n = by-tests false false false (sym e ∙ h) (sym z) (sym (ne-eqb (classOf ns name) 0 (λ w. n (q ∙ w))))
+    pub role-free : a ≡ false → (eqb entity 0 || eqb name 0) ≡ false → 0 ≡ roleNumber entity name
+    role-free e z = by-tests false false (sym e ∙ h) (sym z)
 
 -- the side, by whether a role is wanted
 pub side-by : (entity name : ℕ) {a : Bool} → a ≡ isRequester entity name → (b : Bool) → a ≡ b → _≡_ {A = ℕ} (cond b 1 0) (sideOf entity name)
@@ -92,7 +83,7 @@ module _ (s n : List ℕ) (other entity name : ℕ) (d : Decoded) (size : length
   pub begin-tables : (d .refusal ≡ 0 → ⊥) → Leaves n (beginOf s n other entity name) (d .refusal) n
   begin-tables z = leaves-refused n _ (d .refusal) (inside (refused (d .refusal)) (outcome-refused d (d .refusal) refl z))
 
-  module _ (ok : d .refusal ≡ 0) {k : ℕ} (role : k ≡ roleNumber (namesOf (d .house .names)) entity name) where
+  module _ (ok : d .refusal ≡ 0) {k : ℕ} (role : k ≡ roleNumber entity name) where
     numbers : (m : ℕ) → beginNumber (tablesOf (d .house)) other entity name ≡ m
         → beginOf s n other entity name ≡ judged m (accepted (begunState (tablesOf (d .house)) other entity name))
     unfolding outcomeOf

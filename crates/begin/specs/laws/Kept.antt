@@ -12,8 +12,6 @@ use lib.ListN.{length}
 use Rattle.numbers.specs.Sizes.{NEGOTIATION-BYTES}
 use Rattle.expression.specs.declared.Role.{Role}
 use Rattle.rt0.specs.From.{roleOf}
-use Rattle.class.specs.declared.Name.{Name}
-use Rattle.class.specs.Names.{classOf}
 use Rattle.tables.specs.Tables.{Tables}
 use Rattle.tables.specs.Check.{orElse, readTables}
 use Rattle.tables.specs.Public.{Public, publicOf}
@@ -34,19 +32,19 @@ use Rattle.numbers.specs.Refusals.{LENGTH}
 -- Not damaged
 
 fresh-sound : (T : Tables) (side other : ℕ) (wanted : Role) → ltb side 2 ≡ true → otherSound (T .own) other ≡ true
-    → wantedSound (T .names) side wanted ≡ true → sound T (freshState side (T .own) other wanted) ≡ true
+    → wantedSound side wanted ≡ true → sound T (freshState side (T .own) other wanted) ≡ true
 unfolding sound headerSound countsAgree messageCount emptySound freshState
 fresh-sound T side other wanted s o w = λ i. s i && eq-eqb (T .own) (T .own) refl i && o i && w i && true && true
 
--- the requester wants no role, the mediator one whose name has a class
-wanted-sound : (ns : List Name) (entity name : ℕ) → Wanted ns entity name → wantedSound ns (sideOf entity name) (roleOf entity name) ≡ true
+-- the requester wants no role, the mediator one
+wanted-sound : (entity name : ℕ) → Wanted entity name → wantedSound (sideOf entity name) (roleOf entity name) ≡ true
 unfolding wantedSound
-wanted-sound ns entity name (requester p q) =
+wanted-sound entity name (requester p q) =
     λ i. (let r : Bool = eq-eqb entity 0 p i && eq-eqb name 0 q i in
-    cond (eqb (cond r 1 0) 0) (ltb 0 entity && ltb 0 name && not (eqb (classOf ns name) 0)) r)
-wanted-sound ns entity name (mediator p q r) =
+    cond (eqb (cond r 1 0) 0) (ltb 0 entity && ltb 0 name) r)
+wanted-sound entity name (mediator p q) =
     λ i. cond (eqb (cond (ne-eqb entity 0 p i && eqb name 0) 1 0) 0)
-    (lt-ltb 0 entity (omega (arith, p)) i && lt-ltb 0 name (omega (arith, q)) i && not (ne-eqb (classOf ns name) 0 r i))
+    (lt-ltb 0 entity (omega (arith, p)) i && lt-ltb 0 name (omega (arith, q)) i)
     (isRequester entity name)
 
 side-two : (entity name : ℕ) → ltb (sideOf entity name) 2 ≡ true
@@ -64,7 +62,7 @@ begun-sound {other = other} {entity = entity} {name = name} b =
     let T : Tables = b .house in
     ap (sound T) (b .fresh)
     ∙ fresh-sound T (sideOf entity name) other (roleOf entity name) (side-two entity name)
-    (λ i. not (ne-eqb other 0 (b .nonzero) i) && not (ne-eqb other (T .own) (b .distinct) i)) (wanted-sound (T .names) entity name (b .wanted))
+    (λ i. not (ne-eqb other 0 (b .nonzero) i) && not (ne-eqb other (T .own) (b .distinct) i)) (wanted-sound entity name (b .wanted))
 
 -- Over bytes
 
@@ -85,7 +83,7 @@ pub begin-public : (T U : Tables) (other entity name : ℕ) → publicOf T ≡ p
     → (beginNumber T other entity name ≡ beginNumber U other entity name) × (begunState T other entity name ≡ begunState U other entity name)
 unfolding publicOf beginNumber begunState
 begin-public T U other entity name h = (
-  ap (λ (P : Public). orElse (roleNumber (P .names) entity name) (otherNumber (P .own) other)) h,
+  ap (λ (P : Public). orElse (roleNumber entity name) (otherNumber (P .own) other)) h,
   ap (λ (P : Public). freshState (sideOf entity name) (P .own) other (roleOf entity name)) h,
 )
 

@@ -8,37 +8,35 @@ use mathlib.Core.List.{List}
 use borrow.Author.Tests.{eqb-true, eqb-false, eq-eqb, ne-eqb}
 use lib.Dec.{eqb}
 use lib.ListN.{length, getD}
-use Rattle.class.specs.declared.Name.{Name}
-use Rattle.class.specs.Names.{classOf}
 use Rattle.tables.specs.Tables.{Tables}
 use Rattle.tables.specs.Check.{orElse, readTables}
 use Rattle.tables.specs.laws.Accepted.{check-numbers}
 use Rattle.tables.specs.laws.Refused.{refused-range, check-refused-exactly}
 use Rattle.negotiation.specs.State.{State}
 use Rattle.begin.specs.Begin.{roleNumber, otherNumber, beginNumber, begunState, behindTables, beginOf}
-use Rattle.begin.specs.Refused.{Lent, Wanted, requester, mediator, OneZero, zero-entity, zero-name, BeginRefused, wrong-length, unread, one-zero, unnamed}
+use Rattle.begin.specs.Refused.{Lent, Wanted, requester, mediator, OneZero, zero-entity, zero-name, BeginRefused, wrong-length, unread, one-zero}
 use Rattle.begin.specs.Refused.{other-end, Begun}
 use Rattle.numbers.specs.Answer.{Answer, refused, accepted, judged}
-use Rattle.numbers.specs.Refusals.{LENGTH}
+use Rattle.numbers.specs.Refusals.{LENGTH, NAME}
 use Rattle.numbers.specs.Sizes.{NEGOTIATION-BYTES}
 
 -- The wanted role and the other end
 
-abbrev byTests : Bool → Bool → Bool → ℕ
-byTests e n c = cond (e && n) 0 (cond (e || n) 3 (cond c 4 0))
+abbrev byTests : Bool → Bool → ℕ
+byTests e n = cond (e && n) 0 (cond (e || n) 3 0)
 
-module _ (ns : List Name) (entity name : ℕ) where
-  role-tests : {e n c : Bool} → eqb entity 0 ≡ e → eqb name 0 ≡ n → eqb (classOf ns name) 0 ≡ c → roleNumber ns entity name ≡ byTests e n c
+module _ (entity name : ℕ) where
+  role-tests : {e n : Bool} → eqb entity 0 ≡ e → eqb name 0 ≡ n → roleNumber entity name ≡ byTests e n
   unfolding roleNumber
-  role-tests p q r = λ i. byTests (p i) (q i) (r i)
+  role-tests p q = λ i. byTests (p i) (q i)
 
-  role-zero : OneZero entity name → roleNumber ns entity name ≡ 3
-  role-zero (zero-entity p q) = role-tests (eq-eqb entity 0 p) (ne-eqb name 0 q) refl
-  role-zero (zero-name p q) = role-tests (ne-eqb entity 0 p) (eq-eqb name 0 q) refl
+  role-zero : OneZero entity name → roleNumber entity name ≡ 3
+  role-zero (zero-entity p q) = role-tests (eq-eqb entity 0 p) (ne-eqb name 0 q)
+  role-zero (zero-name p q) = role-tests (ne-eqb entity 0 p) (eq-eqb name 0 q)
 
-  role-free : Wanted ns entity name → roleNumber ns entity name ≡ 0
-  role-free (requester p q) = role-tests (eq-eqb entity 0 p) (eq-eqb name 0 q) refl
-  role-free (mediator p q r) = role-tests (ne-eqb entity 0 p) (ne-eqb name 0 q) (ne-eqb (classOf ns name) 0 r)
+  role-free : Wanted entity name → roleNumber entity name ≡ 0
+  role-free (requester p q) = role-tests (eq-eqb entity 0 p) (eq-eqb name 0 q)
+  role-free (mediator p q) = role-tests (ne-eqb entity 0 p) (ne-eqb name 0 q)
 
 module _ (own other : ℕ) where
   other-tests : {o w : Bool} → eqb other 0 ≡ o → eqb other own ≡ w → otherNumber own other ≡ cond (o || w) 7 0
@@ -60,7 +58,7 @@ module _ (tables negotiation : List ℕ) (other entity name : ℕ) where
   Refusal k = BeginRefused tables negotiation other entity name k
 
   module _ {T : Tables} (g : Lent tables negotiation T) where
-    by-numbers : {j k : ℕ} → roleNumber (T .names) entity name ≡ j → otherNumber (T .own) other ≡ k
+    by-numbers : {j k : ℕ} → roleNumber entity name ≡ j → otherNumber (T .own) other ≡ k
         → beginOf tables negotiation other entity name ≡ judged (orElse j k) (accepted (begunState T other entity name))
     unfolding beginOf beginNumber
     by-numbers p q =
@@ -75,28 +73,25 @@ module _ (tables negotiation : List ℕ) (other entity name : ℕ) where
     Says (accepted S) = Begun tables negotiation other entity name S
 
     module _ {T : Tables} (g : Lent tables negotiation T) where
-      other-says : Wanted (T .names) entity name → (o w : Bool) → eqb other 0 ≡ o → eqb other (T .own) ≡ w
+      other-says : Wanted entity name → (o w : Bool) → eqb other 0 ≡ o → eqb other (T .own) ≡ w
           → Says (judged (cond (o || w) 7 0) (accepted (begunState T other entity name)))
       other-says r true w p q = reason 7 (other-end g r (inl (eqb-true other 0 p)) refl)
       other-says r false true p q = reason 7 (other-end g r (inr (eqb-true other (T .own) q)) refl)
       other-says r false false p q =
           record { house = T; lent = g; wanted = r; nonzero = eqb-false other 0 p; distinct = eqb-false other (T .own) q; fresh = refl }
 
-      role-says : (k : ℕ) (a : Answer State) → (Wanted (T .names) entity name → Says (judged k a)) → (e n c : Bool)
-          → eqb entity 0 ≡ e → eqb name 0 ≡ n → eqb (classOf (T .names) name) 0 ≡ c → Says (judged (orElse (byTests e n c) k) a)
-      role-says k a free true true c p q r = free (requester (eqb-true entity 0 p) (eqb-true name 0 q))
-      role-says k a free true false c p q r = reason 3 (one-zero g (zero-entity (eqb-true entity 0 p) (eqb-false name 0 q)) refl)
-      role-says k a free false true c p q r = reason 3 (one-zero g (zero-name (eqb-false entity 0 p) (eqb-true name 0 q)) refl)
-      role-says k a free false false true p q r =
-          reason 4 (unnamed g (eqb-false entity 0 p) (eqb-false name 0 q) (eqb-true (classOf (T .names) name) 0 r) refl)
-      role-says k a free false false false p q r =
-          free (mediator (eqb-false entity 0 p) (eqb-false name 0 q) (eqb-false (classOf (T .names) name) 0 r))
+      role-says : (k : ℕ) (a : Answer State) → (Wanted entity name → Says (judged k a)) → (e n : Bool)
+          → eqb entity 0 ≡ e → eqb name 0 ≡ n → Says (judged (orElse (byTests e n) k) a)
+      role-says k a free true true p q = free (requester (eqb-true entity 0 p) (eqb-true name 0 q))
+      role-says k a free true false p q = reason 3 (one-zero g (zero-entity (eqb-true entity 0 p) (eqb-false name 0 q)) refl)
+      role-says k a free false true p q = reason 3 (one-zero g (zero-name (eqb-false entity 0 p) (eqb-true name 0 q)) refl)
+      role-says k a free false false p q = free (mediator (eqb-false entity 0 p) (eqb-false name 0 q))
 
       lent-says : Says (beginOf tables negotiation other entity name)
       lent-says =
-          subst Says (sym (by-numbers g (role-tests (T .names) entity name refl refl refl) (other-tests (T .own) other refl refl)))
+          subst Says (sym (by-numbers g (role-tests entity name refl refl) (other-tests (T .own) other refl refl)))
           (role-says (cond (eqb other 0 || eqb other (T .own)) 7 0) (accepted (begunState T other entity name))
-          (λ r. other-says r (eqb other 0) (eqb other (T .own)) refl refl) (eqb entity 0) (eqb name 0) (eqb (classOf (T .names) name) 0) refl refl refl)
+          (λ r. other-says r (eqb other 0) (eqb other (T .own)) refl refl) (eqb entity 0) (eqb name 0) refl refl)
 
     begin-says : Says (beginOf tables negotiation other entity name)
     unfolding beginOf
@@ -129,30 +124,28 @@ module _ (tables negotiation : List ℕ) (other entity name : ℕ) where
     from-refusal {k} (unread l u) =
         λ i. cond (eq-eqb (length negotiation) NEGOTIATION-BYTES l i)
         (behindTables other entity name (check-refused-exactly tables bytes k .1 u i)) (refused LENGTH)
-    from-refusal (one-zero {T} g z e) = by-numbers g (role-zero (T .names) entity name z) refl ∙ ap refused (sym e)
-    from-refusal (unnamed {T} g p q r e) =
-        by-numbers g (role-tests (T .names) entity name (ne-eqb entity 0 p) (ne-eqb name 0 q) (eq-eqb (classOf (T .names) name) 0 r)) refl
-        ∙ ap refused (sym e)
-    from-refusal (other-end {T} g w o e) = by-numbers g (role-free (T .names) entity name w) (other-same (T .own) other o) ∙ ap refused (sym e)
+    from-refusal (one-zero {T} g z e) = by-numbers g (role-zero entity name z) refl ∙ ap refused (sym e)
+    from-refusal (other-end {T} g w o e) = by-numbers g (role-free entity name w) (other-same (T .own) other o) ∙ ap refused (sym e)
 
     -- begin is refused with a number exactly where its reason holds and no earlier one does
     pub begin-refused-exactly : (k : ℕ) → (beginOf tables negotiation other entity name ≡ refused k) ↔ BeginRefused tables negotiation other entity name k
     begin-refused-exactly k = (to-refusal k, from-refusal)
 
-  refusal-range : (k : ℕ) → Refusal k → (0 < k) × (k ≤ 7)
-  refusal-range k (wrong-length n e) = (omega arith, omega arith)
-  refusal-range k (unread l u) = let w = refused-range u in (w .0, omega (arith, w .1))
-  refusal-range k (one-zero g z e) = (omega arith, omega arith)
-  refusal-range k (unnamed g p q r e) = (omega arith, omega arith)
-  refusal-range k (other-end g w o e) = (omega arith, omega arith)
+  abbrev Numbered : ℕ → Type 0
+  Numbered k = (0 < k) × (k ≤ 7) × (k ≡ NAME → ⊥)
 
-  -- begin is refused by a number from 1 to 7
-  pub begin-numbers : (k : ℕ) → beginOf tables negotiation other entity name ≡ refused k → (0 < k) × (k ≤ 7)
+  refusal-range : (k : ℕ) → Refusal k → Numbered k
+  refusal-range k (wrong-length n e) = (omega arith, omega arith, λ z. omega (arith, z))
+  refusal-range k (unread l u) = let w = refused-range u in (w .0, omega (arith, w .1), w .2)
+  refusal-range k (one-zero g z e) = (omega arith, omega arith, λ y. omega (arith, y))
+  refusal-range k (other-end g w o e) = (omega arith, omega arith, λ z. omega (arith, z))
+
+  -- begin is refused by a number from 1 to 7, and never by 4
+  pub begin-numbers : (k : ℕ) → beginOf tables negotiation other entity name ≡ refused k → (0 < k) × (k ≤ 7) × (k ≡ NAME → ⊥)
   begin-numbers k h =
-      let range : ℕ → Type 0 = λ j. (0 < j) × (j ≤ 7) in
-      let house : (j : ℕ) → length negotiation ≡ NEGOTIATION-BYTES → readTables tables ≡ refused j → (0 < j) × (j ≤ 7)
-      = λ j l e. (check-numbers tables j e .0, omega (arith, check-numbers tables j e .1)) in
-      subst (Says range refusal-range house) h (begin-says range refusal-range house)
+      let house : (j : ℕ) → length negotiation ≡ NEGOTIATION-BYTES → readTables tables ≡ refused j → Numbered j
+      = λ j l e. let w = check-numbers tables j e in (w .0, omega (arith, w .1), w .2) in
+      subst (Says Numbered refusal-range house) h (begin-says Numbered refusal-range house)
 
   -- Accepted
 
@@ -162,7 +155,7 @@ module _ (tables negotiation : List ℕ) (other entity name : ℕ) where
   from-begun : (S : State) → Begun tables negotiation other entity name S → beginOf tables negotiation other entity name ≡ accepted S
   from-begun S b =
       let T : Tables = b .house in
-      by-numbers (b .lent) (role-free (T .names) entity name (b .wanted))
+      by-numbers (b .lent) (role-free entity name (b .wanted))
       (other-tests (T .own) other (ne-eqb other 0 (b .nonzero)) (ne-eqb other (T .own) (b .distinct)))
       ∙ ap accepted (sym (b .fresh))
 

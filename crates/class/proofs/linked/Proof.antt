@@ -20,13 +20,7 @@ returns-4 c = rw (c .before .before .before .if1 .left, c .before .before .if2 .
 
 returns-5 : tie.Need-returns-5
 unfolding linked
-returns-5 c =
-    rw (c .before .before .before .before .if1 .left, c .before .before .before .if2 .left, c .before .before .if3 .left, c .before .if4 .left, c .if5 .taken)
-
-returns-6 : tie.Need-returns-6
-unfolding linked
-returns-6 c =
-    rw (c .before .before .before .before .if1 .left, c .before .before .before .if2 .left, c .before .before .if3 .left, c .before .if4 .left, c .if5 .left)
+returns-5 c = rw (c .before .before .before .if1 .left, c .before .before .if2 .left, c .before .if3 .left, c .if4 .left)
 
 pub linked-spec : {M : Type 1} → statement M
-linked-spec = tie.close (tie.spec returns returns-2 returns-3 returns-4 returns-5 returns-6)
+linked-spec = tie.close (tie.spec returns returns-2 returns-3 returns-4 returns-5)

@@ -9,10 +9,7 @@ returns-2 : tie.Need-returns-2
 returns-2 c = rw (together-four, c .before .if1 .left, c .if2 .taken)
 
 returns-3 : tie.Need-returns-3
-returns-3 c = rw (together-four, c .before .before .if1 .left, c .before .if2 .left, c .if3 .taken)
-
-returns-4 : tie.Need-returns-4
-returns-4 c = rw (together-four, c .before .before .if1 .left, c .before .if2 .left, c .if3 .left)
+returns-3 c = rw (together-four, c .before .if1 .left, c .if2 .left)
 
 pub meet-spec : {M : Type 1} → statement M
-meet-spec = tie.close (tie.spec returns returns-2 returns-3 returns-4)
+meet-spec = tie.close (tie.spec returns returns-2 returns-3)

@@ -79,15 +79,15 @@ module _ {n : ℕ} {M : List ℕ} where
   pub class-here : (C : List ℕ) {m : ℕ} → Ascending n M → (i : ℕ) → i < n → getD M i 0 ≡ m → getD C i 0 ≡ classOf (namesOf (namesFrom n M C)) m
   unfolding classOf namesOf
   class-here C {m} a i l e =
-      sym (first-at {t = λ (k : Name). eqb (k .name) m} {g = nameAt (namesFrom n M C)} (λ (k : Name). k .class) 0 n
+      sym (first-at {t = λ (k : Name). eqb (k .name) m} {g = nameAt (namesFrom n M C)} (λ (k : Name). k .class) 3 n
       (record { none = λ j h. ne-eqb (getD M j 0) m (λ q. omega (arith, a .less j i h l)) }) l (eq-eqb (getD M i 0) m e))
 
-  -- the search ends at another name, or there are none: the name m has no class
+  -- the search ends at another name, or there are none: the name m is not listed
   pub class-none : (C : List ℕ) {m low size : ℕ} → Between n M m low size → size ≤ 1 → (low < n → getD M low 0 ≡ m → ⊥)
-      → 0 ≡ classOf (namesOf (namesFrom n M C)) m
+      → 3 ≡ classOf (namesOf (namesFrom n M C)) m
   unfolding classOf namesOf
   class-none C {m} {low} w l h =
-      sym (first-none {t = λ (k : Name). eqb (k .name) m} {g = nameAt (namesFrom n M C)} (λ (k : Name). k .class) 0 n
+      sym (first-none {t = λ (k : Name). eqb (k .name) m} {g = nameAt (namesFrom n M C)} (λ (k : Name). k .class) 3 n
       (record { none = λ i k. ne-eqb (getD M i 0) m (λ q. other i k q) }))
     where
       other : (i : ℕ) → i < n → getD M i 0 ≡ m → ⊥

@@ -1,34 +1,23 @@
 -- The class of an intersection. Assumes nothing.
 use Prim.Native.Nat.{ℕ}
 use mathlib.Core.Path.{_≡_, refl, sym, _∙_, ap}
-use mathlib.Core.Bool.{Bool, true, false, cond, _&&_, _||_}
+use mathlib.Core.Bool.{Bool, true, false, cond, _&&_}
 use mathlib.Core.List.{List, [], _∷_, _++_}
 use borrow.Author.Tests.{eq-eqb, ne-eqb}
 use lib.Dec.{eqb}
 use Rattle.expression.specs.declared.Parts.{Parts}
 use Rattle.expression.specs.declared.Expression.the-variants as E
-use Rattle.rt0.specs.Lists.{any, all}
+use Rattle.rt0.specs.Lists.{all}
 use Rattle.class.specs.declared.Name.{Name}
 use Rattle.class.specs.declared.Typing.{Typing}
-use Rattle.class.specs.declared.Typing.the-variants.{Unnamed, Class}
+use Rattle.class.specs.declared.Typing.the-variants.{Class}
 use Rattle.class.specs.Names.{classOf}
 use Rattle.class.specs.Typing.{together, typeOf}
 
 module _ {A : Type 0} (f : A → Bool) (a : A) where
-  any-last : f a ≡ false → (xs : List A) → any f (xs ++ (a ∷ [])) ≡ any f xs
-  any-last e [] = rw e
-  any-last e (x ∷ xs) = ap (λ (b : Bool). f x || b) (any-last e xs)
-
   all-last : f a ≡ true → (xs : List A) → all f (xs ++ (a ∷ [])) ≡ all f xs
   all-last e [] = rw e
   all-last e (x ∷ xs) = ap (λ (b : Bool). f x && b) (all-last e xs)
-
-  any-again : (xs : List A) → any f (a ∷ (xs ++ (a ∷ []))) ≡ any f (a ∷ xs)
-  any-again xs = go (f a) refl
-    where
-      go : (b : Bool) → f a ≡ b → (b || any f (xs ++ (a ∷ []))) ≡ (b || any f xs)
-      go true e = refl
-      go false e = any-last e xs
 
   all-again : (xs : List A) → all f (a ∷ (xs ++ (a ∷ []))) ≡ all f (a ∷ xs)
   all-again xs = go (f a) refl
@@ -41,8 +30,7 @@ module _ {A : Type 0} (f : A → Bool) (a : A) where
 together-again : (a : ℕ) (xs : List ℕ) → together (a ∷ (xs ++ (a ∷ []))) ≡ together (a ∷ xs)
 unfolding together
 together-again a xs =
-    λ i. cond (any-again (λ k. eqb k 0) a xs i) Unnamed
-    (cond (all-again (λ k. eqb k 3) a xs i) (Class 3) (cond (all-again (λ k. eqb k 2) a xs i) (Class 2) (Class 1)))
+    λ i. cond (all-again (λ k. eqb k 3) a xs i) (Class 3) (cond (all-again (λ k. eqb k 2) a xs i) (Class 2) (Class 1))
 
 module _ (ns : List Name) (p : Parts) {a b : ℕ} {r : Typing} where
   -- two roles: the first class stands for the third and the fourth
@@ -63,13 +51,6 @@ module _ (ns : List Name) (p : Parts) {a b : ℕ} {r : Typing} where
   unfolding typeOf
   parts-four m n x y z w h = rw (ne-eqb (p .count) 2 m, ne-eqb (p .count) 3 n) (h ∙ (λ i. together (x i ∷ y i ∷ z i ∷ w i ∷ [])))
 
-any-four : (x y z w : Bool) → (((x || y) || z) || w) ≡ (x || (y || (z || (w || false))))
-any-four true y z w = refl
-any-four false true z w = refl
-any-four false false true w = refl
-any-four false false false true = refl
-any-four false false false false = refl
-
 all-four : (x y z w : Bool) → (((x && y) && z) && w) ≡ (x && (y && (z && (w && true))))
 all-four false y z w = refl
 all-four true false z w = refl
@@ -79,9 +60,8 @@ all-four true true true false = refl
 
 -- four classes, by the tests of the code
 pub together-four : (a b c d : ℕ) → together (a ∷ b ∷ c ∷ d ∷ [])
-    ≡ cond (((eqb a 0 || eqb b 0) || eqb c 0) || eqb d 0) Unnamed
-    (cond (((eqb a 3 && eqb b 3) && eqb c 3) && eqb d 3) (Class 3) (cond (((eqb a 2 && eqb b 2) && eqb c 2) && eqb d 2) (Class 2) (Class 1)))
+    ≡ cond (((eqb a 3 && eqb b 3) && eqb c 3) && eqb d 3) (Class 3) (cond (((eqb a 2 && eqb b 2) && eqb c 2) && eqb d 2) (Class 2) (Class 1))
 unfolding together
 together-four a b c d =
-    sym (λ i. cond (any-four (eqb a 0) (eqb b 0) (eqb c 0) (eqb d 0) i) Unnamed
-    (cond (all-four (eqb a 3) (eqb b 3) (eqb c 3) (eqb d 3) i) (Class 3) (cond (all-four (eqb a 2) (eqb b 2) (eqb c 2) (eqb d 2) i) (Class 2) (Class 1))))
+    sym (λ i. cond (all-four (eqb a 3) (eqb b 3) (eqb c 3) (eqb d 3) i) (Class 3)
+    (cond (all-four (eqb a 2) (eqb b 2) (eqb c 2) (eqb d 2) i) (Class 2) (Class 1)))

@@ -22,7 +22,7 @@ returns-3 c =
 
 graph-sound-requires : tie.Need-graph-sound-requires
 graph-sound-requires c κs =
-    let s = c .before .before .before .before .before .before .before .before .before .before .before in
+    let s = c .before .before .before .before .before .before .before .before in
     let few = within-few (s .args .negotiation) (s .pre .1) in
     (s .pre .0 .names, s .pre .0 .ascending, omega (arith, c .if3 .left), few .0, few .1, omega (arith, few .2))
 

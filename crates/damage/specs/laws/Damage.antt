@@ -218,13 +218,13 @@ module _ (ns : List Name) (S : State) where
 -- The whole
 
 module _ (T : Tables) (S : State) where
-  by-whole : (a c b : Bool) → a ≡ headerSound (T .own) (T .names) (S .header) → c ≡ countsAgree (S .header .messages) → b ≡ eqb (length (S .nodes)) 0
+  by-whole : (a c b : Bool) → a ≡ headerSound (T .own) (S .header) → c ≡ countsAgree (S .header .messages) → b ≡ eqb (length (S .nodes)) 0
       → (e : Bool) → e ≡ cond b (emptySound (S .header) (length (S .edges)) (length (S .shown))) (graphSound (T .names) S) → (a && c && e) ≡ sound T S
   unfolding sound
   by-whole a c b p k q e r =
       λ i. p i && k i && (r ∙ ap (λ (t : Bool). cond t (emptySound (S .header) (length (S .edges)) (length (S .shown))) (graphSound (T .names) S)) q) i
 
-  module _ {a : Bool} (ae : a ≡ headerSound (T .own) (T .names) (S .header)) where
+  module _ {a : Bool} (ae : a ≡ headerSound (T .own) (S .header)) where
     pub whole-header : not a ≡ true → false ≡ sound T S
     whole-header h = by-whole false _ (eqb (length (S .nodes)) 0) (sym (not-true a h) ∙ ae) refl refl _ refl
 
@@ -244,7 +244,7 @@ module _ (T : Tables) (S : State) where
 
 -- a negotiation as it is held, by the tables of a house
 module _ (H : House) (G : Negotiation) where
-  module _ {a : Bool} (ae : a ≡ headerSound (H .own) (namesOf (H .names)) (G .header)) where
+  module _ {a : Bool} (ae : a ≡ headerSound (H .own) (G .header)) where
     pub sound-header : not a ≡ true → false ≡ sound (tablesOf H) (stateHeld G)
     unfolding tablesOf stateHeld
     sound-header h = whole-header (tablesOf H) (stateHeld G) ae h
@@ -271,12 +271,12 @@ module _ (H : House) (G : Negotiation) where
 -- What a sound negotiation has
 
 pub sound-parts : (T : Tables) (S : State) → sound T S ≡ true
-    → (headerSound (T .own) (T .names) (S .header) ≡ true) × (countsAgree (S .header .messages) ≡ true)
+    → (headerSound (T .own) (S .header) ≡ true) × (countsAgree (S .header .messages) ≡ true)
     × (cond (eqb (length (S .nodes)) 0) (emptySound (S .header) (length (S .edges)) (length (S .shown))) (graphSound (T .names) S) ≡ true)
 unfolding sound
 sound-parts T S h =
-    let a = and-parts (headerSound (T .own) (T .names) (S .header) && countsAgree (S .header .messages)) _ h in
-    let b = and-parts (headerSound (T .own) (T .names) (S .header)) (countsAgree (S .header .messages)) (a .0) in
+    let a = and-parts (headerSound (T .own) (S .header) && countsAgree (S .header .messages)) _ h in
+    let b = and-parts (headerSound (T .own) (S .header)) (countsAgree (S .header .messages)) (a .0) in
     (b .0, b .1, a .1)
 
 pub graph-parts : (ns : List Name) (S : State) → graphSound ns S ≡ true

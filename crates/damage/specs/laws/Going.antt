@@ -4,13 +4,11 @@ use native.Mathlib.Omega.{arith}
 use mathlib.Core.Path.{_≡_, refl, sym, _∙_, ap}
 use mathlib.Core.Logic.{_⊎_, inl, inr, ⊎-elim}
 use mathlib.Core.Bool.{Bool, true, false, cond, _&&_, _||_}
-use mathlib.Core.List.{List}
 use borrow.Author.Tests.{eq-eqb, eqb-true, eqb-false, leb-true, ltb-true}
 use lib.Dec.{eqb, ltb, leb}
 use lib.ListN.{length}
 use Rattle.word.specs.laws.Bools.{and-parts, or-cases, false-true}
 use Rattle.propagation.specs.laws.Flags.{decided}
-use Rattle.class.specs.declared.Name.{Name}
 use Rattle.tables.specs.Tables.{Tables}
 use Rattle.negotiation.specs.declared.Header.{Header}
 use Rattle.negotiation.specs.declared.Messages.{Messages}
@@ -23,10 +21,10 @@ use Rattle.numbers.specs.Sizes.{MOST-MESSAGES}
 
 -- What a header has
 
-pub header-parts : (own : ℕ) (ns : List Name) (h : Header) → headerSound own ns h ≡ true → (h .side < 2) × (h .own ≡ own)
+pub header-parts : (own : ℕ) (h : Header) → headerSound own h ≡ true → (h .side < 2) × (h .own ≡ own)
 unfolding headerSound
-header-parts own ns h e =
-    let a = and-parts (ltb (h .side) 2 && eqb (h .own) own && otherSound (h .own) (h .other)) (wantedSound ns (h .side) (h .wanted)) e in
+header-parts own h e =
+    let a = and-parts (ltb (h .side) 2 && eqb (h .own) own && otherSound (h .own) (h .other)) (wantedSound (h .side) (h .wanted)) e in
     let b = and-parts (ltb (h .side) 2 && eqb (h .own) own) (otherSound (h .own) (h .other)) (a .0) in
     let c = and-parts (ltb (h .side) 2) (eqb (h .own) own) (b .0) in
     (ltb-true (h .side) 2 (c .0), eqb-true (h .own) own (c .1))
@@ -49,7 +47,7 @@ agree-cases m h =
     (or-cases (eqb (m .mediator) (m .requester)) (eqb (m .mediator) (m .requester + 1)) h)
 
 module _ (T : Tables) (S : State) (h : sound T S ≡ true) where
-  pub by-nodes : headerSound (T .own) (T .names) (S .header) ≡ true
+  pub by-nodes : headerSound (T .own) (S .header) ≡ true
   by-nodes = sound-parts T S h .0
 
   pub no-nodes : length (S .nodes) ≡ 0 → emptySound (S .header) (length (S .edges)) (length (S .shown)) ≡ true

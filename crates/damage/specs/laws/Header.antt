@@ -2,35 +2,32 @@
 use Prim.Native.Nat.{ℕ, _+_}
 use mathlib.Core.Path.{_≡_, refl, sym, _∙_}
 use mathlib.Core.Bool.{Bool, true, false, not, cond, _&&_, _||_}
-use mathlib.Core.List.{List}
 use borrow.Author.Tests.{eq-eqb, ne-eqb}
 use lib.Dec.{eqb, ltb, leb}
 use Rattle.expression.specs.declared.Role.{Role}
 use Rattle.expression.specs.Form.{isRole, isEmpty}
-use Rattle.class.specs.declared.Name.{Name}
-use Rattle.class.specs.Names.{classOf}
 use Rattle.negotiation.specs.declared.Header.{Header}
 use Rattle.negotiation.specs.declared.Messages.{Messages}
 use Rattle.negotiation.specs.Messages.{messageCount}
 use Rattle.damage.specs.Header.{wantedSound, otherSound, headerSound, countsAgree, emptySound, countSound, endSound}
 
-module _ (ns : List Name) (side : ℕ) (r : Role) where
-  by-side : (a : Bool) → a ≡ eqb side 0 → cond a (isRole r && not (eqb (classOf ns (r .name)) 0)) (isEmpty r) ≡ wantedSound ns side r
+module _ (side : ℕ) (r : Role) where
+  by-side : (a : Bool) → a ≡ eqb side 0 → cond a (isRole r) (isEmpty r) ≡ wantedSound side r
   unfolding wantedSound
-  by-side a e = λ i. cond (e i) (isRole r && not (eqb (classOf ns (r .name)) 0)) (isEmpty r)
+  by-side a e = λ i. cond (e i) (isRole r) (isEmpty r)
 
   -- the requester wants none
-  pub wanted-none : {b : Bool} → (side ≡ 0 → ⊥) → b ≡ isEmpty r → b ≡ wantedSound ns side r
+  pub wanted-none : {b : Bool} → (side ≡ 0 → ⊥) → b ≡ isEmpty r → b ≡ wantedSound side r
   wanted-none h e = e ∙ by-side false (sym (ne-eqb side 0 h))
 
   -- the mediator's role
-  pub wanted-role : {b : Bool} {k : ℕ} → side ≡ 0 → b ≡ isRole r → k ≡ classOf ns (r .name) → (b && not (eqb k 0)) ≡ wantedSound ns side r
-  wanted-role h e f = (λ i. e i && not (eqb (f i) 0)) ∙ by-side true (sym (eq-eqb side 0 h))
+  pub wanted-role : {b : Bool} → side ≡ 0 → b ≡ isRole r → b ≡ wantedSound side r
+  wanted-role h e = e ∙ by-side true (sym (eq-eqb side 0 h))
 
-pub header-is : (own : ℕ) (ns : List Name) (h : Header) {w : Bool} → w ≡ wantedSound ns (h .side) (h .wanted)
-    → (ltb (h .side) 2 && eqb (h .own) own && (not (eqb (h .other) 0) && not (eqb (h .other) (h .own))) && w) ≡ headerSound own ns h
+pub header-is : (own : ℕ) (h : Header) {w : Bool} → w ≡ wantedSound (h .side) (h .wanted)
+    → (ltb (h .side) 2 && eqb (h .own) own && (not (eqb (h .other) 0) && not (eqb (h .other) (h .own))) && w) ≡ headerSound own h
 unfolding headerSound
-header-is own ns h e = λ i. ltb (h .side) 2 && eqb (h .own) own && otherSound (h .own) (h .other) && e i
+header-is own h e = λ i. ltb (h .side) 2 && eqb (h .own) own && otherSound (h .own) (h .other) && e i
 
 module _ (h : Header) where
   pub empty-is : (edges shown : ℕ) {n : ℕ} → n ≡ messageCount (h .messages)

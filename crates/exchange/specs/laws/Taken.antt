@@ -8,6 +8,7 @@ use borrow.Author.Tests.{eq-eqb, eqb-true, eqb-false}
 use lib.Dec.{eqb}
 use lib.ListN.{length}
 use Rattle.class.specs.declared.Name.{Name}
+use Rattle.class.specs.Names.{classOf}
 use Rattle.tables.specs.Tables.{Tables}
 use Rattle.tables.specs.Accepted.{Sound}
 use Rattle.message.specs.declared.Command.the-variants.{End}
@@ -17,7 +18,7 @@ use Rattle.negotiation.specs.State.{State, within, withHeader}
 use Rattle.damage.specs.Damage.{sound}
 use Rattle.negotiation.specs.Ends.{otherSide}
 use Rattle.applied.specs.After.{headerAfter, afterMessage}
-use Rattle.legal.specs.Legal.{NamesClassed, ClassesSuit, OpenFirst, NodesStand, FormedAndNew, EdgeJustified, Unprocessed, RoomLeft, Legal}
+use Rattle.legal.specs.Legal.{ClassesSuit, OpenFirst, NodesStand, FormedAndNew, EdgeJustified, Unprocessed, RoomLeft, Legal}
 use Rattle.message.specs.Message.{messageBytes}
 use Rattle.applied.specs.Step.{moved}
 use Rattle.take.specs.Commands as C
@@ -29,6 +30,7 @@ use Rattle.legality.specs.Mirror.{Mirrored, Mirror}
 use Rattle.legality.specs.laws.Mirror.{mirror-state}
 use Rattle.reply.specs.Reply.{replyIn, repliedState, replyBytes}
 use Rattle.exchange.specs.Mirror.{otherAfter}
+use Rattle.exchange.specs.laws.SameClasses.{commands-same}
 use Rattle.reply.specs.laws.ReplyLegal.{reply-going, reply-updates, reply-mirrored}
 use Rattle.numbers.specs.Answer.{Answer, refused, accepted}
 use Rattle.numbers.specs.Refusals.{TURN, ENDED}
@@ -44,10 +46,9 @@ module _ (T : Tables) (t : Sound T) (S : State) (h : sound T S ≡ true) (w : wi
       go false e = omega (arith, m .header .side, eqb-false (S .header .side) 0 e)
 
   end-legal : (ns : List Name) → Legal ns (S .header .side) (withHeader (replyIn T S .state) (R .header)) End
-  unfolding NamesClassed ClassesSuit OpenFirst NodesStand FormedAndNew EdgeJustified Unprocessed RoomLeft withHeader
+  unfolding ClassesSuit OpenFirst NodesStand FormedAndNew EdgeJustified Unprocessed RoomLeft withHeader
   end-legal ns =
       record {
-        names = tt;
         classes = tt;
         open-first = omega (arith, reply-going T t S h w turn .some);
         nodes = tt;
@@ -65,8 +66,9 @@ module _ (T : Tables) (t : Sound T) (S : State) (h : sound T S ≡ true) (w : wi
       commands-taken (T .names) (S .header .side) b (reply-mirrored T t S h w turn (R .header) (m .header)) (end-legal (T .names)) (length b) 0 false
       e (omega (arith, ap length e))
 
-  -- another end that has the same names and holds the same graph and credentials takes the reply, where it is our turn and its negotiation has not ended
-  pub reply-legal : (U : Tables) → U .names ≡ T .names → R .header .messages ≡ S .header .messages → R .header .end ≡ 0
+  -- another end that gives each name the same class, listed or not, and holds the same graph and credentials takes the reply, where it is our turn and
+  -- its negotiation has not ended
+  pub reply-legal : (U : Tables) → ((n : ℕ) → classOf (U .names) n ≡ classOf (T .names) n) → R .header .messages ≡ S .header .messages → R .header .end ≡ 0
       → takenIn (replyBytes (replyIn T S)) U R ≡ accepted (otherAfter T S R)
   unfolding takenIn replyBytes
   reply-legal U names count going =
@@ -75,7 +77,8 @@ module _ (T : Tables) (t : Sound T) (S : State) (h : sound T S ≡ true) (w : wi
       let e : eqb (R .header .end) 0 ≡ true = eq-eqb (R .header .end) 0 going in
       let f : sends (senderTo R) (R .header .messages) ≡ true = (λ i. sends (sender i) (count i)) ∙ turn in
       (λ i. cond (not (e i)) (refused ENDED) (cond (not (f i)) (refused TURN) (behindCommands (sender i) x)))
-      ∙ ap (behindCommands (S .header .side)) ((λ i. C.commandsFrom (length b) (names i) (sender i) b 0 (mirror-state S R m i) false) ∙ reply-carried b refl)
+      ∙ ap (behindCommands (S .header .side)) (commands-same (U .names) (T .names) names (senderTo R) b (length b) 0 R false
+      ∙ (λ i. C.commandsFrom (length b) (T .names) (sender i) b 0 (mirror-state S R m i) false) ∙ reply-carried b refl)
 
   -- it reaches the same graph and the same credentials as we do
   pub reply-mirror : Mirror (repliedState (replyIn T S)) (otherAfter T S R)

@@ -8,7 +8,6 @@ use borrow.Author.Tests.{eqb-true, lt-ltb, le-leb}
 use lib.Dec.{eqb, ltb, leb}
 use lib.ListN.{length}
 use Rattle.word.specs.laws.Bools.{and-both}
-use Rattle.class.specs.declared.Name.{Name}
 use Rattle.graph.specs.declared.Node.{Node}
 use Rattle.graph.specs.declared.Edge.{Edge}
 use Rattle.graph.specs.Propagated.{propagatedState as propagated}
@@ -56,9 +55,9 @@ module _ (v p : ℕ) (moved full : Bool) (h : Header) where
   unfolding allBrought
   same-brought ns es = ap (λ (f : List Edge → Edge → Bool). inTurn f [] es && eqb (brought es) (length ns)) (λ i b e. same-fits ns b e i)
 
-  same-header : (own : ℕ) (ns : List Name) → headerSound own ns h ≡ headerSound own ns (headerAfter v p moved full h)
+  same-header : (own : ℕ) → headerSound own h ≡ headerSound own (headerAfter v p moved full h)
   unfolding headerSound headerAfter
-  same-header own ns = refl
+  same-header own = refl
 
 module _ (T : Tables) (v : ℕ) (U : State) (moved full : Bool) where
   same-records : recordsSound (T .names) U ≡ recordsSound (T .names) (afterMessage v U moved full)
@@ -76,7 +75,7 @@ module _ (T : Tables) (v : ℕ) (U : State) (moved full : Bool) where
       let one : n ≡ messageCount (U .header .messages) + 1 = counted-one v (U .header .messages) in
       and-both (ltb 0 n) (leb n 1027) (lt-ltb 0 n (omega (arith, one))) (le-leb n 1027 (omega (arith, one, l)))
 
-  pub after-sound : headerSound (T .own) (T .names) (U .header) ≡ true → GraphKept (T .names) U → (length (U .nodes) ≡ 0 → ⊥)
+  pub after-sound : headerSound (T .own) (U .header) ≡ true → GraphKept (T .names) U → (length (U .nodes) ≡ 0 → ⊥)
       → countsAgree (counted v (U .header .messages)) ≡ true → messageCount (U .header .messages) < MOST-MESSAGES
       → (moved ≡ false → (propagated (U .nodes) (U .edges) 0 ≡ 1 → ⊥) × (propagated (U .nodes) (U .edges) 0 ≡ 2 → ⊥))
       → sound T (afterMessage v U moved full) ≡ true
@@ -84,7 +83,7 @@ module _ (T : Tables) (v : ℕ) (U : State) (moved full : Bool) where
   after-sound h g some agree few still =
       let p : ℕ = propagated (U .nodes) (U .edges) 0 in
       sym
-      (whole-graph T (afterMessage v U moved full) {a = true} (sym (sym (same-header v p moved full (U .header) (T .own) (T .names)) ∙ h)) refl
+      (whole-graph T (afterMessage v U moved full) {a = true} (sym (sym (same-header v p moved full (U .header) (T .own)) ∙ h)) refl
       {c = true} (sym agree) refl refl some
       (graph-end (T .names) (afterMessage v U moved full) {a = true} (sym (count-sound few)) refl {b = true} (sym (sym same-records ∙ g .records)) refl
       {c = true} (sym (sym (same-brought v p moved full (U .header) (U .nodes) (U .edges)) ∙ g .edges)) refl {d = true}

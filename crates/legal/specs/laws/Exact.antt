@@ -23,9 +23,9 @@ use Rattle.rt0.specs.Decide.{from? as fromOf}
 use Rattle.rt0.specs.laws.Laws.{from-exact}
 use Rattle.class.specs.declared.Name.{Name}
 use Rattle.class.specs.declared.Typing.{Typing}
-use Rattle.class.specs.declared.Typing.the-variants.{Unnamed, Ill, Any, Class}
+use Rattle.class.specs.declared.Typing.the-variants.{Ill, Any, Class}
 use Rattle.class.specs.Names.{classOf}
-use Rattle.class.specs.Typing.{typeOf, suits, isUnnamed, credentialNumber}
+use Rattle.class.specs.Typing.{typeOf, suits, credentialNumber}
 use Rattle.propagation.specs.Flags.{at}
 use Rattle.graph.specs.declared.Node.{Node}
 use Rattle.graph.specs.declared.Edge.{Edge}
@@ -48,9 +48,9 @@ use Rattle.legal.specs.Number.{refuse, first, isFresh, isAbsent, formedA
 use Rattle.legal.specs.Number.{justifiedFor, joinNumber, typeNumber, bringWrong, bringNumber, justifiedIn, legalBy, legalNumber}
 use Rattle.legal.specs.laws.Number.{passes}
 use Rattle.legal.specs.laws.Edge.{join-justified}
-use Rattle.legal.specs.Legal.{Monitored, Justifies, NamesClassed, ClassesSuit, OpenFirst, NodesStand, FormedAndNew, EdgeJustified, Unprocessed}
-use Rattle.legal.specs.Legal.{RoomLeft, Legal, Illegal, unnamed, class-rule, opening, no-node, present, unjustified, processed, full}
-use Rattle.numbers.specs.Refusals.{NAME, CLASS, OPENING, ABSENT, PRESENT, UNJUSTIFIED, PROCESSED, FULL}
+use Rattle.legal.specs.Legal.{Monitored, Justifies, ClassesSuit, OpenFirst, NodesStand, FormedAndNew, EdgeJustified, Unprocessed}
+use Rattle.legal.specs.Legal.{RoomLeft, Legal, Illegal, class-rule, opening, no-node, present, unjustified, processed, full}
+use Rattle.numbers.specs.Refusals.{CLASS, OPENING, ABSENT, PRESENT, UNJUSTIFIED, PROCESSED, FULL}
 
 -- Tests
 
@@ -271,20 +271,6 @@ module _ {P : Type 0} (d : Decided P) where
       go false e = absurd (n (d .holds e))
 
 module _ (ns : List Name) where
-  names-decided : (c : Command) → Decided (NamesClassed ns c)
-  unfolding NamesClassed
-  names-decided (Show c) =
-      let u : Bool = eqb (classOf ns (c .head .name)) 0 in
-      let v : Bool = isUnnamed (typeOf ns (c .body)) in
-      tested (u || v) (λ e. let w = or-neither u v e in (eqb-false (classOf ns (c .head .name)) 0 (w .0), w .1))
-      (λ p. or-none u v (ne-eqb (classOf ns (c .head .name)) 0 (p .0)) (p .1))
-  names-decided (Open o) =
-      tested (eqb (classOf ns (o .role .name)) 0) (λ e. eqb-false (classOf ns (o .role .name)) 0 e) (λ p. ne-eqb (classOf ns (o .role .name)) 0 p)
-  names-decided (Bring n) = tested (isUnnamed (typeOf ns (n .expression))) (λ e. e) (λ p. p)
-  names-decided (Join e) = nothing
-  names-decided (Mark i) = nothing
-  names-decided End = nothing
-
   classes-decided : (c : Command) → Decided (ClassesSuit ns c)
   unfolding ClassesSuit
   classes-decided (Show c) = let b : Bool = suits (typeOf ns (c .body)) (classOf ns (c .head .name)) in tested (not b) (λ e. not-false b e) (λ p. ap not p)
@@ -391,10 +377,9 @@ module _ (S : State) where
 -- The number, by the rules in order
 
 -- the first rule that is broken
-abbrev firstBroken : Bool → Bool → Bool → Bool → Bool → Bool → Bool → Bool → ℕ
-firstBroken a b c d e f g h =
-    refuse a NAME
-    (refuse b CLASS (refuse c OPENING (refuse d ABSENT (refuse e PRESENT (refuse f UNJUSTIFIED (refuse g PROCESSED (refuse h FULL 0)))))))
+abbrev firstBroken : Bool → Bool → Bool → Bool → Bool → Bool → Bool → ℕ
+firstBroken b c d e f g h =
+    refuse b CLASS (refuse c OPENING (refuse d ABSENT (refuse e PRESENT (refuse f UNJUSTIFIED (refuse g PROCESSED (refuse h FULL 0))))))
 
 -- a command that is refused with k, or legal where k is zero
 data Judged (ns : List Name) (s : ℕ) (S : State) (c : Command) : ℕ → Type 0 where
@@ -403,9 +388,6 @@ data Judged (ns : List Name) (s : ℕ) (S : State) (c : Command) : ℕ → Type 
 
 module _ (ns : List Name) (s : ℕ) (S : State) (c : Command) where
   -- the rules in order
-  abbrev nameRule : Decided (NamesClassed ns c)
-  nameRule = names-decided ns c
-
   abbrev classRule : Decided (ClassesSuit ns c)
   classRule = classes-decided ns c
 
@@ -429,143 +411,118 @@ module _ (ns : List Name) (s : ℕ) (S : State) (c : Command) where
 
   abbrev byRules : ℕ
   byRules =
-      firstBroken (nameRule .broken) (classRule .broken) (openRule .broken) (nodeRule .broken) (formRule .broken) (edgeRule .broken)
-      (processedRule .broken) (roomRule .broken)
+      firstBroken (classRule .broken) (openRule .broken) (nodeRule .broken) (formRule .broken) (edgeRule .broken) (processedRule .broken) (roomRule .broken)
 
-  judged : (a b d e f g h r : Bool) → nameRule .broken ≡ a → classRule .broken ≡ b → openRule .broken ≡ d → nodeRule .broken ≡ e
-      → formRule .broken ≡ f → edgeRule .broken ≡ g → processedRule .broken ≡ h → roomRule .broken ≡ r
-      → Judged ns s S c (firstBroken a b d e f g h r)
+  judged : (b d e f g h r : Bool) → classRule .broken ≡ b → openRule .broken ≡ d → nodeRule .broken ≡ e → formRule .broken ≡ f → edgeRule .broken ≡ g
+      → processedRule .broken ≡ h → roomRule .broken ≡ r → Judged ns s S c (firstBroken b d e f g h r)
   unfolding refuse
-  judged true b d e f g h r q1 q2 q3 q4 q5 q6 q7 q8 = illegal (unnamed (nameRule .fails q1))
-  judged false true d e f g h r q1 q2 q3 q4 q5 q6 q7 q8 = illegal (class-rule (nameRule .holds q1) (classRule .fails q2))
-  judged false false true e f g h r q1 q2 q3 q4 q5 q6 q7 q8 =
-      illegal (opening (nameRule .holds q1) (classRule .holds q2) (openRule .fails q3))
-  judged false false false true f g h r q1 q2 q3 q4 q5 q6 q7 q8 =
-      illegal (no-node (nameRule .holds q1) (classRule .holds q2) (openRule .holds q3) (nodeRule .fails q4))
-  judged false false false false true g h r q1 q2 q3 q4 q5 q6 q7 q8 =
-      illegal (present (nameRule .holds q1) (classRule .holds q2) (openRule .holds q3) (nodeRule .holds q4) (formRule .fails q5))
-  judged false false false false false true h r q1 q2 q3 q4 q5 q6 q7 q8 =
-      illegal (unjustified (nameRule .holds q1) (classRule .holds q2) (openRule .holds q3) (nodeRule .holds q4) (formRule .holds q5) (edgeRule .fails q6))
-  judged false false false false false false true r q1 q2 q3 q4 q5 q6 q7 q8 =
+  judged true d e f g h r q1 q2 q3 q4 q5 q6 q7 = illegal (class-rule (classRule .fails q1))
+  judged false true e f g h r q1 q2 q3 q4 q5 q6 q7 = illegal (opening (classRule .holds q1) (openRule .fails q2))
+  judged false false true f g h r q1 q2 q3 q4 q5 q6 q7 = illegal (no-node (classRule .holds q1) (openRule .holds q2) (nodeRule .fails q3))
+  judged false false false true g h r q1 q2 q3 q4 q5 q6 q7 =
+      illegal (present (classRule .holds q1) (openRule .holds q2) (nodeRule .holds q3) (formRule .fails q4))
+  judged false false false false true h r q1 q2 q3 q4 q5 q6 q7 =
+      illegal (unjustified (classRule .holds q1) (openRule .holds q2) (nodeRule .holds q3) (formRule .holds q4) (edgeRule .fails q5))
+  judged false false false false false true r q1 q2 q3 q4 q5 q6 q7 =
       illegal
-      (processed (nameRule .holds q1) (classRule .holds q2) (openRule .holds q3) (nodeRule .holds q4) (formRule .holds q5) (edgeRule .holds q6)
-      (processedRule .fails q7))
-  judged false false false false false false false true q1 q2 q3 q4 q5 q6 q7 q8 =
+      (processed (classRule .holds q1) (openRule .holds q2) (nodeRule .holds q3) (formRule .holds q4) (edgeRule .holds q5) (processedRule .fails q6))
+  judged false false false false false false true q1 q2 q3 q4 q5 q6 q7 =
       illegal
-      (full (nameRule .holds q1) (classRule .holds q2) (openRule .holds q3) (nodeRule .holds q4) (formRule .holds q5) (edgeRule .holds q6)
-      (processedRule .holds q7) (roomRule .fails q8))
-  judged false false false false false false false false q1 q2 q3 q4 q5 q6 q7 q8 =
+      (full (classRule .holds q1) (openRule .holds q2) (nodeRule .holds q3) (formRule .holds q4) (edgeRule .holds q5) (processedRule .holds q6)
+      (roomRule .fails q7))
+  judged false false false false false false false q1 q2 q3 q4 q5 q6 q7 =
       legal
       (record {
-        names = nameRule .holds q1;
-        classes = classRule .holds q2;
-        open-first = openRule .holds q3;
-        nodes = nodeRule .holds q4;
-        form = formRule .holds q5;
-        justified = edgeRule .holds q6;
-        unprocessed = processedRule .holds q7;
-        room = roomRule .holds q8;
+        classes = classRule .holds q1;
+        open-first = openRule .holds q2;
+        nodes = nodeRule .holds q3;
+        form = formRule .holds q4;
+        justified = edgeRule .holds q5;
+        unprocessed = processedRule .holds q6;
+        room = roomRule .holds q7;
       })
 
   by-judged : Judged ns s S c byRules
   by-judged =
-      judged (nameRule .broken) (classRule .broken) (openRule .broken) (nodeRule .broken) (formRule .broken) (edgeRule .broken)
-      (processedRule .broken) (roomRule .broken) refl refl refl refl refl refl refl refl
+      judged (classRule .broken) (openRule .broken) (nodeRule .broken) (formRule .broken) (edgeRule .broken) (processedRule .broken) (roomRule .broken)
+      refl refl refl refl refl refl refl
 
   legal-none : Legal ns s S c → byRules ≡ 0
   unfolding refuse
   legal-none l =
-      λ i. firstBroken (keeps nameRule (l .names) i) (keeps classRule (l .classes) i) (keeps openRule (l .open-first) i) (keeps nodeRule (l .nodes) i)
-      (keeps formRule (l .form) i) (keeps edgeRule (l .justified) i) (keeps processedRule (l .unprocessed) i) (keeps roomRule (l .room) i)
+      λ i. firstBroken (keeps classRule (l .classes) i) (keeps openRule (l .open-first) i) (keeps nodeRule (l .nodes) i) (keeps formRule (l .form) i)
+      (keeps edgeRule (l .justified) i) (keeps processedRule (l .unprocessed) i) (keeps roomRule (l .room) i)
 
   illegal-number : {k : ℕ} → Illegal ns s S c k → byRules ≡ k
   unfolding refuse
-  illegal-number (unnamed n) =
-      λ i. firstBroken (breaks nameRule n i) (classRule .broken) (openRule .broken) (nodeRule .broken) (formRule .broken) (edgeRule .broken)
-      (processedRule .broken) (roomRule .broken)
-  illegal-number (class-rule a n) =
-      λ i. firstBroken (keeps nameRule a i) (breaks classRule n i) (openRule .broken) (nodeRule .broken) (formRule .broken) (edgeRule .broken)
-      (processedRule .broken) (roomRule .broken)
-  illegal-number (opening a b n) =
-      λ i. firstBroken (keeps nameRule a i) (keeps classRule b i) (breaks openRule n i) (nodeRule .broken) (formRule .broken) (edgeRule .broken)
-      (processedRule .broken) (roomRule .broken)
-  illegal-number (no-node a b d n) =
-      λ i. firstBroken (keeps nameRule a i) (keeps classRule b i) (keeps openRule d i) (breaks nodeRule n i) (formRule .broken) (edgeRule .broken)
-      (processedRule .broken) (roomRule .broken)
-  illegal-number (present a b d e n) =
-      λ i. firstBroken (keeps nameRule a i) (keeps classRule b i) (keeps openRule d i) (keeps nodeRule e i) (breaks formRule n i) (edgeRule .broken)
-      (processedRule .broken) (roomRule .broken)
-  illegal-number (unjustified a b d e f n) =
-      λ i. firstBroken (keeps nameRule a i) (keeps classRule b i) (keeps openRule d i) (keeps nodeRule e i) (keeps formRule f i) (breaks edgeRule n i)
-      (processedRule .broken) (roomRule .broken)
-  illegal-number (processed a b d e f g n) =
-      λ i. firstBroken (keeps nameRule a i) (keeps classRule b i) (keeps openRule d i) (keeps nodeRule e i) (keeps formRule f i) (keeps edgeRule g i)
-      (breaks processedRule n i) (roomRule .broken)
-  illegal-number (full a b d e f g h n) =
-      λ i. firstBroken (keeps nameRule a i) (keeps classRule b i) (keeps openRule d i) (keeps nodeRule e i) (keeps formRule f i) (keeps edgeRule g i)
-      (keeps processedRule h i) (breaks roomRule n i)
+  illegal-number (class-rule n) =
+      λ i. firstBroken (breaks classRule n i) (openRule .broken) (nodeRule .broken) (formRule .broken) (edgeRule .broken) (processedRule .broken)
+      (roomRule .broken)
+  illegal-number (opening b n) =
+      λ i. firstBroken (keeps classRule b i) (breaks openRule n i) (nodeRule .broken) (formRule .broken) (edgeRule .broken) (processedRule .broken)
+      (roomRule .broken)
+  illegal-number (no-node b d n) =
+      λ i. firstBroken (keeps classRule b i) (keeps openRule d i) (breaks nodeRule n i) (formRule .broken) (edgeRule .broken) (processedRule .broken)
+      (roomRule .broken)
+  illegal-number (present b d e n) =
+      λ i. firstBroken (keeps classRule b i) (keeps openRule d i) (keeps nodeRule e i) (breaks formRule n i) (edgeRule .broken) (processedRule .broken)
+      (roomRule .broken)
+  illegal-number (unjustified b d e f n) =
+      λ i. firstBroken (keeps classRule b i) (keeps openRule d i) (keeps nodeRule e i) (keeps formRule f i) (breaks edgeRule n i) (processedRule .broken)
+      (roomRule .broken)
+  illegal-number (processed b d e f g n) =
+      λ i. firstBroken (keeps classRule b i) (keeps openRule d i) (keeps nodeRule e i) (keeps formRule f i) (keeps edgeRule g i) (breaks processedRule n i)
+      (roomRule .broken)
+  illegal-number (full b d e f g h n) =
+      λ i. firstBroken (keeps classRule b i) (keeps openRule d i) (keeps nodeRule e i) (keeps formRule f i) (keeps edgeRule g i) (keeps processedRule h i)
+      (breaks roomRule n i)
 
 -- The number is that of the rules
 
 -- a credential's class rules, and an expression's
-credential-rules : (u v : Bool) (rest : ℕ) → first (cond u NAME (cond v 0 CLASS)) rest ≡ refuse u NAME (refuse (not v) CLASS rest)
+credential-rules : (v : Bool) (rest : ℕ) → first (cond v 0 CLASS) rest ≡ refuse (not v) CLASS rest
 unfolding first refuse
-credential-rules true v rest = refl
-credential-rules false true rest = refl
-credential-rules false false rest = refl
+credential-rules true rest = refl
+credential-rules false rest = refl
 
-type-rules : (t : Typing) (rest : ℕ) → first (typeNumber t) rest ≡ refuse (isUnnamed t) NAME (refuse (not (isTyped t)) CLASS rest)
+type-rules : (t : Typing) (rest : ℕ) → first (typeNumber t) rest ≡ refuse (not (isTyped t)) CLASS rest
 unfolding first refuse
-type-rules Unnamed rest = refl
 type-rules Ill rest = refl
 type-rules Any rest = refl
 type-rules (Class a) rest = refl
 
 -- what a number of zero says of them
-pub credential-kept : (ns : List Name) (c : Credential) → credentialNumber ns c ≡ 0 → NamesClassed ns (Show c) × ClassesSuit ns (Show c)
-unfolding credentialNumber NamesClassed ClassesSuit
-credential-kept ns c h = go u v refl refl h
+pub credential-kept : (ns : List Name) (c : Credential) → credentialNumber ns c ≡ 0 → ClassesSuit ns (Show c)
+unfolding credentialNumber ClassesSuit
+credential-kept ns c h = go (suits (typeOf ns (c .body)) (classOf ns (c .head .name))) refl h
   where
-    u : Bool
-    u = eqb (classOf ns (c .head .name)) 0 || isUnnamed (typeOf ns (c .body))
-
-    v : Bool
-    v = suits (typeOf ns (c .body)) (classOf ns (c .head .name))
-
-    go : (a b : Bool) → u ≡ a → v ≡ b → _≡_ {A = ℕ} (cond a NAME (cond b 0 CLASS)) 0
-        → ((classOf ns (c .head .name) ≡ 0 → ⊥) × (isUnnamed (typeOf ns (c .body)) ≡ false)) × (v ≡ true)
-    go true b e f z = absurd (omega (arith, z))
-    go false true e f z =
-        let w = or-neither (eqb (classOf ns (c .head .name)) 0) (isUnnamed (typeOf ns (c .body))) e in
-        ((eqb-false (classOf ns (c .head .name)) 0 (w .0), w .1), f)
-    go false false e f z = absurd (omega (arith, z))
-
-pub typed-named : (t : Typing) → isTyped t ≡ true → isUnnamed t ≡ false
-typed-named Unnamed h = absurd (false-true h)
-typed-named Ill h = refl
-typed-named Any h = refl
-typed-named (Class a) h = refl
+    go : (b : Bool) → suits (typeOf ns (c .body)) (classOf ns (c .head .name)) ≡ b → _≡_ {A = ℕ} (cond b 0 CLASS) 0
+        → suits (typeOf ns (c .body)) (classOf ns (c .head .name)) ≡ true
+    go true e z = e
+    go false e z = absurd (omega (arith, z))
 
 by-rules : (ns : List Name) (s : ℕ) (S : State) (c : Command) → legalNumber ns s S c ≡ byRules ns s S c
 unfolding legalNumber legalBy justifiedIn showNumber openNumber bringNumber joinNumber markNumber endNumber credentialNumber refuse tested nothing
-    names-decided classes-decided some-decided open-decided nodes-decided new-decided old-decided form-decided justified-decided processed-decided room-decided
-by-rules ns s S (Show c) =
-    credential-rules (eqb (classOf ns (c .head .name)) 0 || isUnnamed (typeOf ns (c .body))) (suits (typeOf ns (c .body)) (classOf ns (c .head .name))) _
+    classes-decided some-decided open-decided nodes-decided new-decided old-decided form-decided justified-decided processed-decided room-decided
+by-rules ns s S (Show c) = credential-rules (suits (typeOf ns (c .body)) (classOf ns (c .head .name))) _
 by-rules ns s S (Open o) = refl
 by-rules ns s S (Bring n) = type-rules (typeOf ns (n .expression)) _
 by-rules ns s S (Join e) = refl
 by-rules ns s S (Mark i) = refl
 by-rules ns s S End = refl
 
+-- the numbers of a command that breaks a rule: 5 or 23 to 28, each above 4
+pub illegal-range : {ns : List Name} {s : ℕ} {S : State} {c : Command} {k : ℕ} → Illegal ns s S c k → 4 < k
+illegal-range (class-rule n) = omega arith
+illegal-range (opening b n) = omega arith
+illegal-range (no-node b d n) = omega arith
+illegal-range (present b d f n) = omega arith
+illegal-range (unjustified b d f g n) = omega arith
+illegal-range (processed b d f g h n) = omega arith
+illegal-range (full b d f g h r n) = omega arith
+
 illegal-some : {ns : List Name} {s : ℕ} {S : State} {c : Command} {k : ℕ} → Illegal ns s S c k → k ≡ 0 → ⊥
-illegal-some (unnamed n) e = omega (arith, e)
-illegal-some (class-rule a n) e = omega (arith, e)
-illegal-some (opening a b n) e = omega (arith, e)
-illegal-some (no-node a b d n) e = omega (arith, e)
-illegal-some (present a b d f n) e = omega (arith, e)
-illegal-some (unjustified a b d f g n) e = omega (arith, e)
-illegal-some (processed a b d f g h n) e = omega (arith, e)
-illegal-some (full a b d f g h r n) e = omega (arith, e)
+illegal-some r e = omega (arith, illegal-range r, e)
 
 module _ (ns : List Name) (s : ℕ) (S : State) (c : Command) where
   legal-judged : (k : ℕ) → Judged ns s S c k → k ≡ 0 → Legal ns s S c

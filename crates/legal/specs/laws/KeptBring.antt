@@ -14,7 +14,7 @@ use Rattle.rt0.specs.laws.Lists.{any-find}
 use Rattle.word.specs.laws.Bools.{and-parts, and-both, or-neither, not-of}
 use Rattle.class.specs.declared.Name.{Name}
 use Rattle.class.specs.declared.Typing.{Typing}
-use Rattle.class.specs.declared.Typing.the-variants.{Unnamed, Ill, Any, Class}
+use Rattle.class.specs.declared.Typing.the-variants.{Ill, Any, Class}
 use Rattle.class.specs.Typing.{typeOf}
 use Rattle.graph.specs.declared.Node.{Node}
 use Rattle.graph.specs.declared.Edge.{Edge}
@@ -43,7 +43,6 @@ use Rattle.legal.specs.laws.Kept.{GraphKept, present, record-parts, reco
 
 -- an expression that is not refused keeps the class rules
 typed : (t : Typing) → typeNumber t ≡ 0 → isTyped t ≡ true
-typed Unnamed h = absurd (let z : _≡_ {A = ℕ} 4 0 = h in omega arith)
 typed Ill h = absurd (let z : _≡_ {A = ℕ} 5 0 = h in omega arith)
 typed Any h = refl
 typed (Class a) h = refl

@@ -12,9 +12,7 @@ use Rattle.expression.specs.Form.{isRole}
 use Rattle.expression.specs.Same.{same}
 use Rattle.word.specs.laws.Bools.{and-parts, and-both}
 use Rattle.class.specs.declared.Name.{Name}
-use Rattle.class.specs.declared.Typing.the-variants.{Unnamed, Class}
-use Rattle.class.specs.Names.{classOf}
-use Rattle.class.specs.Typing.{named, typeOf}
+use Rattle.class.specs.Typing.{typeOf}
 use Rattle.graph.specs.declared.Node.{Node}
 use Rattle.graph.specs.Graph.{nodeIn}
 use Rattle.graph.specs.Form.{legalState}
@@ -26,7 +24,7 @@ use Rattle.message.specs.declared.Command.the-variants.{Show, Open, Bring, Join
 use Rattle.message.specs.Command.{formedCommand}
 use Rattle.negotiation.specs.State.{State, withNode}
 use Rattle.negotiation.specs.Ends.{requester}
-use Rattle.damage.specs.Records.{isTyped, nodeSound, nodeFits, primarySound, credentialFits}
+use Rattle.damage.specs.Records.{nodeSound, nodeFits, primarySound, credentialFits}
 use Rattle.damage.specs.Edges.{broughtFrom, brought, edgeFits}
 use Rattle.damage.specs.Damage.{edgesJustified}
 use Rattle.applied.specs.Step.{primaryOf, stepped}
@@ -55,31 +53,27 @@ module _ (ns : List Name) (S : State) (o : Opening) (side : S .header .side ≡ 
       (eq-eqb (requester (S .header)) (requester (S .header)) refl)
       (ap (λ (v : ℕ). cond (eqb v 0) b true) side)
 
-  opened-sound : (S .header .own ≡ 0 → ⊥) → formedCommand (Open o) ≡ true → legalNumber ns 0 S (Open o) ≡ 0 → nodeSound ns (primaryOf (S .header) o) ≡ true
-  unfolding formedCommand legalNumber legalBy openNumber nodeSound primaryOf typeOf named
-  opened-sound own f l =
+  opened-sound : (S .header .own ≡ 0 → ⊥) → formedCommand (Open o) ≡ true → nodeSound ns (primaryOf (S .header) o) ≡ true
+  unfolding formedCommand nodeSound primaryOf typeOf
+  opened-sound own f =
       let x = E.Role (o .role) in
-      let k : ℕ = classOf ns (o .role .name) in
       let a = and-parts (isRole (o .role)) (legalState x (o .state)) f in
-      let c = refuse-none (eqb k 0) 4 _ (omega arith) l in
       let u : ltb 0 (requester (S .header)) ≡ true = lt-ltb 0 (requester (S .header)) (omega (arith, requester-own, own)) in
-      and-both (isRole (o .role) && ltb 0 (requester (S .header)) && true && legalState x (o .state)) (isTyped (cond (eqb k 0) Unnamed (Class k)))
+      and-both (isRole (o .role) && ltb 0 (requester (S .header)) && true && legalState x (o .state)) true
       (and-both (isRole (o .role) && ltb 0 (requester (S .header)) && true) (legalState x (o .state))
-      (and-both (isRole (o .role) && ltb 0 (requester (S .header))) true (and-both (isRole (o .role)) (ltb 0 (requester (S .header))) (a .0) u) refl) (a .1))
-      (ap (λ (b : Bool). isTyped (cond b Unnamed (Class k))) (c .0))
+      (and-both (isRole (o .role) && ltb 0 (requester (S .header))) true (and-both (isRole (o .role)) (ltb 0 (requester (S .header))) (a .0) u) refl) (a .1)) refl
 
   pub open-kept : length (S .nodes) ≡ 0 → length (S .edges) ≡ 0 → length (S .shown) ≡ 0 → (S .header .own ≡ 0 → ⊥) → formedCommand (Open o) ≡ true
-      → legalNumber ns 0 S (Open o) ≡ 0
       → GraphKept ns (stepped S 0 (Open o))
   unfolding stepped withNode edgesJustified inTurn nodeFits brought broughtFrom
-  open-kept nz ez sz own f l =
+  open-kept nz ez sz own f =
       let x : Node = primaryOf (S .header) o in
       let no-nodes : S .nodes ≡ [] = empty (S .nodes) nz in
       let no-edges : S .edges ≡ [] = empty (S .edges) ez in
       record {
         records = records-of ns (withNode S x)
             (ap (λ (xs : List Node). inTurn (nodeFits ns) [] (xs ++ (x ∷ []))) no-nodes
-            ∙ and-both (nodeSound ns x && true) true (and-both (nodeSound ns x) true (opened-sound own f l) refl) refl)
+            ∙ and-both (nodeSound ns x && true) true (and-both (nodeSound ns x) true (opened-sound own f) refl) refl)
             (ap (λ (xs : List Node). primarySound (S .header) (nodeIn (xs ++ (x ∷ [])) 0)) no-nodes ∙ opened-primary)
             (ap (inTurn (credentialFits ns) []) (empty (S .shown) sz));
         edges =
@@ -94,8 +88,7 @@ module _ (ns : List Name) (S : State) (o : Opening) (side : S .header .side ≡ 
 open-refused : (ns : List Name) (s : ℕ) (S : State) (o : Opening) → (length (S .nodes) ≡ 0 → ⊥) → legalNumber ns s S (Open o) ≡ 0 → ⊥
 unfolding legalNumber legalBy openNumber isFresh
 open-refused ns s S o some l =
-    let a = refuse-none (eqb (classOf ns (o .role .name)) 0) 4 _ (omega arith) l in
-    some (eqb-true (length (S .nodes)) 0 (not-false (eqb (length (S .nodes)) 0) (refuse-none (not (eqb (length (S .nodes)) 0)) 23 _ (omega arith) (a .1) .0)))
+    some (eqb-true (length (S .nodes)) 0 (not-false (eqb (length (S .nodes)) 0) (refuse-none (not (eqb (length (S .nodes)) 0)) 23 _ (omega arith) l .0)))
 
 pub step-kept : (ns : List Name) (s : ℕ) (S : State) (c : Command) → GraphKept ns S → (length (S .nodes) ≡ 0 → ⊥) → formedCommand c ≡ true
     → legalNumber ns s S c ≡ 0 → GraphKept ns (stepped S s c)

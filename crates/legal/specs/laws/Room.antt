@@ -39,7 +39,7 @@ module _ (S : State) where
   legal-room ns s (Show c) h =
       room 64 (length (S .shown)) (refuse-none _ _ _ (omega arith)
       (refuse-none _ _ _ (omega arith) (refuse-none _ _ _ (omega arith) (first-none _ _ h .1) .1) .1) .0)
-  legal-room ns s (Open o) h = none (refuse-none _ _ _ (omega arith) (refuse-none _ _ _ (omega arith) h .1) .0)
+  legal-room ns s (Open o) h = none (refuse-none _ _ _ (omega arith) h .0)
   legal-room ns s (Bring n) h =
       let a = refuse-none _ _ _ (omega arith) (refuse-none _ _ _ (omega arith) (first-none _ _ h .1) .1) in
       let b = refuse-none _ _ _ (omega arith) (refuse-none _ _ _ (omega arith)

@@ -33,23 +33,23 @@ use Rattle.numbers.specs.Sizes.{MOST-NODES, MOST-EDGES, MOST-SHOWN}
 -- our tables are sound, and so is the graph of the negotiation, whatever its count and end
 pub record Going (T : Tables) (S : State) : Type 0 where
   pub tables : Sound T
-  pub header : headerSound (T .own) (T .names) (S .header) ≡ true
+  pub header : headerSound (T .own) (S .header) ≡ true
   pub graph : GraphKept (T .names) S
   pub some : length (S .nodes) ≡ 0 → ⊥
   pub sizes : within S ≡ true
 
 -- What a sound header has
 
-pub record HeaderParts (self : ℕ) (ns : List Name) (h : Header) : Type 0 where
+pub record HeaderParts (self : ℕ) (h : Header) : Type 0 where
   pub side : h .side < 2
   pub own : h .own ≡ self
   pub other : h .other ≡ 0 → ⊥
-  pub wanted : wantedSound ns (h .side) (h .wanted) ≡ true
+  pub wanted : wantedSound (h .side) (h .wanted) ≡ true
 
-pub header-parts : (own : ℕ) (ns : List Name) (h : Header) → headerSound own ns h ≡ true → HeaderParts own ns h
+pub header-parts : (own : ℕ) (h : Header) → headerSound own h ≡ true → HeaderParts own h
 unfolding headerSound
-header-parts own ns h e =
-    let a = and-parts (ltb (h .side) 2 && eqb (h .own) own && otherSound (h .own) (h .other)) (wantedSound ns (h .side) (h .wanted)) e in
+header-parts own h e =
+    let a = and-parts (ltb (h .side) 2 && eqb (h .own) own && otherSound (h .own) (h .other)) (wantedSound (h .side) (h .wanted)) e in
     let b = and-parts (ltb (h .side) 2 && eqb (h .own) own) (otherSound (h .own) (h .other)) (a .0) in
     let c = and-parts (ltb (h .side) 2) (eqb (h .own) own) (b .0) in
     let d = and-parts (not (eqb (h .other) 0)) (not (eqb (h .other) (h .own))) (b .1) in
@@ -85,8 +85,8 @@ getD-mem (x ∷ xs) d zero l = List·Memᴰ·head refl
 getD-mem (x ∷ xs) d (suc j) l = List·Memᴰ·tail (getD-mem xs d j (omega (arith, l)))
 
 module _ (T : Tables) (S : State) (g : Going T S) where
-  pub going-header : HeaderParts (T .own) (T .names) (S .header)
-  going-header = header-parts (T .own) (T .names) (S .header) (g .header)
+  pub going-header : HeaderParts (T .own) (S .header)
+  going-header = header-parts (T .own) (S .header) (g .header)
 
   -- a node that stands is sound
   pub going-node : (i : ℕ) → i < length (S .nodes) → NodeParts (T .names) (nodeIn (S .nodes) i)

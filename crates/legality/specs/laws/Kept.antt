@@ -2,9 +2,9 @@
 use Prim.Native.Nat.{ℕ}
 use native.Mathlib.Omega.{arith}
 use mathlib.Core.Path.{_≡_, refl, sym, _∙_, ap}
-use mathlib.Core.Bool.{Bool, true, false, not, cond, _&&_}
+use mathlib.Core.Bool.{Bool, true, cond, _&&_}
 use mathlib.Core.List.{List, [], _∷_, _++_}
-use borrow.Author.Tests.{eq-eqb, eqb-false, lt-ltb, not-true}
+use borrow.Author.Tests.{eq-eqb, lt-ltb}
 use lib.Dec.{eqb, ltb}
 use lib.ListN.{length, length-append}
 use Rattle.expression.specs.declared.Role.{Role}
@@ -13,9 +13,8 @@ use Rattle.expression.specs.declared.Expression.the-variants as E
 use Rattle.expression.specs.Form.{isRole, wellFormed}
 use Rattle.expression.specs.Same.{same}
 use Rattle.expression.specs.laws.Same.{eq-same}
-use Rattle.word.specs.laws.Bools.{and-parts, and-both}
+use Rattle.word.specs.laws.Bools.{and-both}
 use Rattle.class.specs.declared.Name.{Name}
-use Rattle.class.specs.Names.{classOf}
 use Rattle.class.specs.Typing.{typeOf}
 use Rattle.tables.specs.Tables.{Tables}
 use Rattle.tables.specs.Accepted.{Sound}
@@ -37,7 +36,7 @@ use Rattle.damage.specs.Damage.{edgesJustified, sound}
 use Rattle.damage.specs.laws.Damage.{graph-parts, sound-some}
 use Rattle.damage.specs.laws.Going.{by-nodes, no-nodes, empty-parts}
 use Rattle.applied.specs.Step.{primaryOf, stepped}
-use Rattle.legal.specs.Legal.{NamesClassed, ClassesSuit, OpenFirst, NodesStand, FormedAndNew, EdgeJustified, Unprocessed, RoomLeft, Legal}
+use Rattle.legal.specs.Legal.{ClassesSuit, OpenFirst, NodesStand, FormedAndNew, EdgeJustified, Unprocessed, RoomLeft, Legal}
 use Rattle.legal.specs.laws.Exact.{legal-exactly}
 use Rattle.legal.specs.laws.Kept.{GraphKept, records-of, brought-of}
 use Rattle.legal.specs.laws.KeptStep.{step-kept}
@@ -61,7 +60,7 @@ step-going T s S c g f l =
     let k = legal-exactly (T .names) s S c .1 l in
     record {
       tables = g .tables;
-      header = ap (headerSound (T .own) (T .names)) (step-header S s c) ∙ g .header;
+      header = ap (headerSound (T .own)) (step-header S s c) ∙ g .header;
       graph = step-kept (T .names) s S c (g .graph) (g .some) f k;
       some = step-some S s c (g .some);
       sizes = step-within S (g .sizes) s c (legal-room S (T .names) s c k);
@@ -99,28 +98,23 @@ module _ (T : Tables) (t : Sound T) (S : State) (h : sound T S ≡ true) (w : wi
     empty-counts : (length (S .edges) ≡ 0) × (length (S .shown) ≡ 0)
     empty-counts = let e = empty-parts (S .header) (length (S .edges)) (length (S .shown)) (no-nodes T S h fresh) in (e .2, e .3)
 
-    parts : HeaderParts (T .own) (T .names) (S .header)
-    parts = header-parts (T .own) (T .names) (S .header) (by-nodes T S h)
+    parts : HeaderParts (T .own) (S .header)
+    parts = header-parts (T .own) (S .header) (by-nodes T S h)
 
-    wanted-parts : (isRole (S .header .wanted) ≡ true) × (eqb (classOf (T .names) (S .header .wanted .name)) 0 ≡ false)
+    wanted-role : isRole (S .header .wanted) ≡ true
     unfolding wantedSound
-    wanted-parts =
-        let r : Role = S .header .wanted in
-        let b : Bool = eqb (classOf (T .names) (r .name)) 0 in
-        let p = and-parts (isRole r) (not b) (sym (ap (λ (v : ℕ). wantedSound (T .names) v r) side) ∙ parts .wanted) in
-        (p .0, not-true b (p .1))
+    wanted-role = sym (ap (λ (v : ℕ). wantedSound v (S .header .wanted)) side) ∙ parts .wanted
 
     pub open-formed : formedCommand (Open opening) ≡ true
     unfolding formedCommand
     open-formed =
-        and-both (isRole (S .header .wanted)) (legalState (E.Role (S .header .wanted)) (opening .state)) (wanted-parts .0)
+        and-both (isRole (S .header .wanted)) (legalState (E.Role (S .header .wanted)) (opening .state)) wanted-role
         (initial-legal (T .names) true (E.Role (S .header .wanted)))
 
     pub open-legal : Legal (T .names) (S .header .side) S (Open opening)
-    unfolding NamesClassed ClassesSuit OpenFirst NodesStand FormedAndNew EdgeJustified Unprocessed RoomLeft
+    unfolding ClassesSuit OpenFirst NodesStand FormedAndNew EdgeJustified Unprocessed RoomLeft
     open-legal =
         record {
-          names = eqb-false (classOf (T .names) (S .header .wanted .name)) 0 (wanted-parts .1);
           classes = tt;
           open-first = fresh;
           nodes = tt;
@@ -145,7 +139,7 @@ module _ (T : Tables) (t : Sound T) (S : State) (h : sound T S ≡ true) (w : wi
     unfolding nodeSound primaryOf
     primary-node =
         let x : Expression = E.Role (S .header .wanted) in
-        let p : Proper (T .names) x = role-proper (T .names) (S .header .wanted) (wanted-parts .1) (wanted-parts .0) in
+        let p : Proper (T .names) x = role-proper (T .names) (S .header .wanted) wanted-role in
         let u : ltb 0 (requester (S .header)) ≡ true = lt-ltb 0 (requester (S .header)) (omega (arith, requester-other, parts .other)) in
         and-both (wellFormed x && ltb 0 (requester (S .header)) && true && legalState x (opening .state)) (isTyped (typeOf (T .names) x))
         (and-both (wellFormed x && ltb 0 (requester (S .header)) && true) (legalState x (opening .state))
@@ -194,7 +188,7 @@ module _ (T : Tables) (t : Sound T) (S : State) (h : sound T S ≡ true) (w : wi
         let s : ℕ = S .header .side in
         record {
           tables = t;
-          header = ap (headerSound (T .own) (T .names)) (step-header S s (Open opening)) ∙ by-nodes T S h;
+          header = ap (headerSound (T .own)) (step-header S s (Open opening)) ∙ by-nodes T S h;
           graph = open-kept;
           some = opened;
           sizes = step-within S w s (Open opening) (legal-room S (T .names) s (Open opening) (legal-exactly (T .names) s S (Open opening) .1 open-legal));

@@ -31,9 +31,7 @@ use Rattle.negotiation.specs.State.{State}
 use Rattle.graph.specs.Processed.{processedBy}
 use Rattle.applied.specs.Step.{childOf, stepped, hasRoom}
 use Rattle.legal.specs.Number.{formedAs}
-use Rattle.legal.specs.Legal.{Justifies, NamesClassed, ClassesSuit, OpenFirst, NodesStand, FormedAndNew, EdgeJustified, Unprocessed, RoomLeft, Legal}
-use Rattle.legal.specs.laws.Exact.{typed-named}
-use Rattle.class.specs.Typing.{typeOf}
+use Rattle.legal.specs.Legal.{Justifies, ClassesSuit, OpenFirst, NodesStand, FormedAndNew, EdgeJustified, Unprocessed, RoomLeft, Legal}
 use Rattle.legal.specs.Updates.{Updates, none, next}
 use Rattle.moves.specs.declared.Candidate.{Candidate}
 use Rattle.moves.specs.declared.Choice.{Choice}
@@ -131,13 +129,12 @@ module _ (T : Tables) (S : State) (g : Going T S) (i : ℕ) (l : i < length (S .
         }
 
     join-legal : childStands (S .nodes) w ≡ true → hasRoom (showing S cs) (Join oldChild) ≡ true → Legal (T .names) s (showing S cs) (Join oldChild)
-    unfolding NamesClassed ClassesSuit OpenFirst NodesStand FormedAndNew EdgeJustified Unprocessed RoomLeft hasRoom
+    unfolding ClassesSuit OpenFirst NodesStand FormedAndNew EdgeJustified Unprocessed RoomLeft hasRoom
     join-legal h room =
         let x : Node = nodeIn (S .nodes) (childNumber (S .nodes) w) in
         let e = stands-node (S .nodes) w (omega (arith, going-few T S g)) h in
         let d = not-done (S .nodes) w (S .edges) i undone h in
         record {
-          names = tt;
           classes = tt;
           open-first = omega (arith, l);
           nodes = (l, ltb-true (childNumber (S .nodes) w) (length (S .nodes)) h);
@@ -155,13 +152,12 @@ module _ (T : Tables) (S : State) (g : Going T S) (i : ℕ) (l : i < length (S .
         }
 
     bring-legal : childStands (S .nodes) w ≡ false → hasRoom (showing S cs) (Bring newChild) ≡ true → Legal (T .names) s (showing S cs) (Bring newChild)
-    unfolding NamesClassed ClassesSuit OpenFirst NodesStand FormedAndNew EdgeJustified Unprocessed RoomLeft hasRoom childOf
+    unfolding ClassesSuit OpenFirst NodesStand FormedAndNew EdgeJustified Unprocessed RoomLeft hasRoom childOf
     bring-legal h room =
         let p = and-parts (ltb i (length (S .nodes)) && ltb (length (S .nodes)) MOST-NODES) (ltb (length (S .edges)) MOST-EDGES) room in
         let q = and-parts (ltb i (length (S .nodes))) (ltb (length (S .nodes)) MOST-NODES) (p .0) in
         let t : ℕ = newChild .state in
         record {
-          names = typed-named (typeOf (T .names) (w .expression)) (f .child .typed);
           classes = f .child .typed;
           open-first = omega (arith, l);
           nodes = l;
@@ -229,7 +225,7 @@ mark-cases Q false m n = n
 
 module _ (T : Tables) (S : State) (g : Going T S) where
   choice-goes : (i : ℕ) → i < length (S .nodes) → Goes T S (moveFor (endIn T S) i (nodeIn (S .nodes) i) (choiceAt (endIn T S) i (nodeIn (S .nodes) i)))
-  unfolding choiceAt chosenIn endIn formedCommand NamesClassed ClassesSuit OpenFirst NodesStand FormedAndNew EdgeJustified Unprocessed RoomLeft
+  unfolding choiceAt chosenIn endIn formedCommand ClassesSuit OpenFirst NodesStand FormedAndNew EdgeJustified Unprocessed RoomLeft
   choice-goes i l = go (processedBy (S .header .side) (nodeIn (S .nodes) i)) refl
     where
       o : End
@@ -248,7 +244,6 @@ module _ (T : Tables) (S : State) (g : Going T S) where
       mark-legal : processedBy (S .header .side) n ≡ false → Legal (T .names) (S .header .side) S (Mark i)
       mark-legal free =
           record {
-            names = tt;
             classes = tt;
             open-first = omega (arith, l);
             nodes = l;

@@ -23,7 +23,7 @@ use Rattle.negotiation.specs.Ends.{requester, entityOf, otherSide}
 use Rattle.applied.specs.Step.{primaryOf, childOf, stepped}
 use Rattle.legal.specs.Number.{formedAs}
 use lib.ListN.{length}
-use Rattle.legal.specs.Legal.{Monitored, Justifies, NamesClassed, ClassesSuit, OpenFirst, NodesStand, FormedAndNew, EdgeJustified, Unprocessed, RoomLeft, Legal}
+use Rattle.legal.specs.Legal.{Monitored, Justifies, ClassesSuit, OpenFirst, NodesStand, FormedAndNew, EdgeJustified, Unprocessed, RoomLeft, Legal}
 use Rattle.legal.specs.Updates.{Updates, none, next}
 use Rattle.applied.specs.laws.Step.{step-header}
 use Rattle.legality.specs.laws.Going.{Going, going-node}
@@ -104,9 +104,9 @@ module _ (h k : Header) (m : Mirrored h k) where
 
     -- the mediator's open
     pub open-mirror : (ns : List Name) (s : ℕ) (o : Opening) → Legal ns s S (Open o) → Legal ns s (withHeader S k) (Open o)
-    unfolding NamesClassed ClassesSuit OpenFirst NodesStand FormedAndNew EdgeJustified Unprocessed RoomLeft withHeader
+    unfolding ClassesSuit OpenFirst NodesStand FormedAndNew EdgeJustified Unprocessed RoomLeft withHeader
     open-mirror ns s o l =
-        record { names = l .names; classes = tt; open-first = l .open-first; nodes = tt; form = tt; justified = tt; unprocessed = tt; room = tt }
+        record { classes = tt; open-first = l .open-first; nodes = tt; form = tt; justified = tt; unprocessed = tt; room = tt }
 
     -- the rules that look at the graph and the credentials alone
     abbrev Apart : State → ℕ → Command → Type 0
@@ -146,7 +146,6 @@ module _ (h k : Header) (m : Mirrored h k) where
     legal-mirror T s c g e l =
         let p = apart-mirror s c (l .open-first, l .nodes, l .justified, l .unprocessed, l .room) in
         record {
-          names = l .names;
           classes = l .classes;
           open-first = p .0;
           nodes = p .1;

@@ -1,10 +1,10 @@
--- Expressions of right form whose names have classes, and what that says of their parts. Assumes nothing.
+-- Expressions of right form that are well typed, and what that says of their parts. Assumes nothing.
 use Prim.Native.Nat.{ℕ}
 use native.Mathlib.Omega.{arith}
-use mathlib.Core.Path.{_≡_, refl, sym, _∙_, ap}
+use mathlib.Core.Path.{_≡_, refl, _∙_, ap}
 use mathlib.Core.Logic.{⊎-elim}
-use mathlib.Core.Bool.{Bool, true, false, cond, _&&_, _||_}
-use mathlib.Core.List.{List, [], _∷_, map, List·Memᴰ, List·Memᴰ·cases-cons, List·Memᴰ·not-nil}
+use mathlib.Core.Bool.{Bool, true, false, cond, _&&_}
+use mathlib.Core.List.{List, [], _∷_, List·Memᴰ, List·Memᴰ·cases-cons, List·Memᴰ·not-nil}
 use lib.Dec.{eqb, ltb}
 use Rattle.expression.specs.declared.Role.{Role}
 use Rattle.expression.specs.declared.Parts.{Parts}
@@ -14,93 +14,44 @@ use Rattle.expression.specs.declared.Expression.the-variants as E
 use Rattle.expression.specs.Form.{choose, ascends, isRole, isEmpty, tailFormed, wellFormed}
 use Rattle.expression.specs.Credential.{isBody, beginsWith, wellFormedCredential}
 use Rattle.rt0.specs.From.{roleOf, rolesOf}
-use Rattle.rt0.specs.Lists.{any}
-use Rattle.rt0.specs.laws.Lists.{any-here, map-mem}
-use Rattle.word.specs.laws.Bools.{false-true, and-parts, and-both, or-neither}
+use Rattle.word.specs.laws.Bools.{false-true, and-parts, and-both}
 use Rattle.class.specs.declared.Name.{Name}
 use Rattle.class.specs.declared.Typing.{Typing}
-use Rattle.class.specs.declared.Typing.the-variants.{Unnamed, Ill, Any, Class}
+use Rattle.class.specs.declared.Typing.the-variants.{Ill, Any, Class}
 use Rattle.class.specs.Names.{classOf}
-use Rattle.class.specs.Typing.{named, linked, together, typeOf, suits, isUnnamed, credentialNumber}
+use Rattle.class.specs.Typing.{typeOf, suits, credentialNumber}
 use Rattle.damage.specs.Records.{isTyped}
 
--- every name of the expression has a class, it is well typed, and its form is right
+-- the expression is well typed, and its form is right
 pub record Proper (ns : List Name) (x : Expression) : Type 0 where
   pub typed : isTyped (typeOf ns x) ≡ true
   pub formed : wellFormed x ≡ true
 
--- the name has a class
-abbrev pub HasClass : List Name → ℕ → Type 0
-HasClass ns r = eqb (classOf ns r) 0 ≡ false
-
--- Names
-
-named-typed : (k : ℕ) → eqb k 0 ≡ false → isTyped (named k) ≡ true
-unfolding named
-named-typed k h = ap (λ (b : Bool). isTyped (cond b Unnamed (Class k))) h
-
-typed-named : (k : ℕ) → isTyped (named k) ≡ true → eqb k 0 ≡ false
-unfolding named
-typed-named k h = go (eqb k 0) h
-  where
-    go : (b : Bool) → isTyped (cond b Unnamed (Class k)) ≡ true → b ≡ false
-    go true q = absurd (false-true q)
-    go false q = refl
-
-typed-linked : (a b : ℕ) → isTyped (linked a b) ≡ true → (eqb a 0 ≡ false) × (eqb b 0 ≡ false)
-unfolding linked
-typed-linked a b h = or-neither (eqb a 0) (eqb b 0) (go (eqb a 0 || eqb b 0) _ h)
-  where
-    go : (c : Bool) (t : Typing) → isTyped (cond c Unnamed t) ≡ true → c ≡ false
-    go true t q = absurd (false-true q)
-    go false t q = refl
-
-typed-together : (ks : List ℕ) → isTyped (together ks) ≡ true → any (λ k. eqb k 0) ks ≡ false
-unfolding together
-typed-together ks h = go (any (λ k. eqb k 0) ks) _ h
-  where
-    go : (c : Bool) (t : Typing) → isTyped (cond c Unnamed t) ≡ true → c ≡ false
-    go true t q = absurd (false-true q)
-    go false t q = refl
-
 -- Expressions
 
 module _ (ns : List Name) where
-  pub role-proper : (a : Role) → HasClass ns (a .name) → isRole a ≡ true → Proper ns (E.Role a)
+  pub role-proper : (a : Role) → isRole a ≡ true → Proper ns (E.Role a)
   unfolding typeOf
-  role-proper a h f = record { typed = named-typed (classOf ns (a .name)) h; formed = f }
+  role-proper a f = record { typed = refl; formed = f }
 
-  pub proper-role : (a : Role) → Proper ns (E.Role a) → HasClass ns (a .name)
+  pub goal-proper : (r : ℕ) → ltb 0 r ≡ true → Proper ns (E.Goal r)
   unfolding typeOf
-  proper-role a p = typed-named (classOf ns (a .name)) (p .typed)
-
-  pub goal-proper : (r : ℕ) → HasClass ns r → ltb 0 r ≡ true → Proper ns (E.Goal r)
-  unfolding typeOf
-  goal-proper r h f = record { typed = named-typed (classOf ns r) h; formed = f }
-
-  pub proper-goal : (r : ℕ) → Proper ns (E.Goal r) → HasClass ns r
-  unfolding typeOf
-  proper-goal r p = typed-named (classOf ns r) (p .typed)
+  goal-proper r f = record { typed = refl; formed = f }
 
   pub entity-proper : (b : ℕ) → ltb 0 b ≡ true → Proper ns (E.Entity b)
   unfolding typeOf
   entity-proper b h = record { typed = refl; formed = h }
 
-  -- both names of a linked role
-  pub linked-names : (a : Role) (r : ℕ) → Proper ns (E.Linked a r) → HasClass ns (a .name) × HasClass ns r
-  unfolding typeOf
-  linked-names a r p = typed-linked (classOf ns (a .name)) (classOf ns r) (p .typed)
-
-  -- its first role, and its second name as a goal
+  -- the first role of a linked role, and its second name as a goal
   pub linked-first : (a : Role) (r : ℕ) → Proper ns (E.Linked a r) → Proper ns (E.Role a)
-  linked-first a r p = role-proper a (linked-names a r p .0) (and-parts (isRole a) (ltb 0 r) (p .formed) .0)
+  linked-first a r p = role-proper a (and-parts (isRole a) (ltb 0 r) (p .formed) .0)
 
   pub linked-goal : (a : Role) (r : ℕ) → Proper ns (E.Linked a r) → Proper ns (E.Goal r)
-  linked-goal a r p = goal-proper r (linked-names a r p .1) (and-parts (isRole a) (ltb 0 r) (p .formed) .1)
+  linked-goal a r p = goal-proper r (and-parts (isRole a) (ltb 0 r) (p .formed) .1)
 
   -- a role with its second name
   pub linked-second : (a : Role) (r b : ℕ) → Proper ns (E.Linked a r) → ltb 0 b ≡ true → Proper ns (E.Role (roleOf b r))
-  linked-second a r b p h = role-proper (roleOf b r) (linked-names a r p .1) (and-both (ltb 0 b) (ltb 0 r) h (and-parts (isRole a) (ltb 0 r) (p .formed) .1))
+  linked-second a r b p h = role-proper (roleOf b r) (and-both (ltb 0 b) (ltb 0 r) h (and-parts (isRole a) (ltb 0 r) (p .formed) .1))
 
   -- the roles of an intersection
   parts-formed : (p : Parts) → wellFormed (E.Intersection p) ≡ true → (a : Role) → List·Memᴰ a (rolesOf p) → isRole a ≡ true
@@ -130,27 +81,12 @@ module _ (ns : List Name) where
           ⊎-elim (λ e. ap isRole e ∙ and-parts (isRole (p .third)) (ascends (p .second) (p .third)) (v .0) .0) (λ j. last (v .1) j) (List·Memᴰ·cases-cons k)
       rest false false false h k = absurd (false-true h)
 
-  parts-named : (p : Parts) → isTyped (typeOf ns (E.Intersection p)) ≡ true → (a : Role) → List·Memᴰ a (rolesOf p) → HasClass ns (a .name)
-  unfolding typeOf
-  parts-named p h a m = go (eqb (classOf ns (a .name)) 0) refl
-    where
-      ks : List ℕ
-      ks = map (λ (r : Role). classOf ns (r .name)) (rolesOf p)
-
-      none : any (λ k. eqb k 0) ks ≡ false
-      none = typed-together ks h
-
-      go : (b : Bool) → eqb (classOf ns (a .name)) 0 ≡ b → eqb (classOf ns (a .name)) 0 ≡ false
-      go true e = absurd (false-true (sym none ∙ any-here (λ k. eqb k 0) (map-mem (λ (r : Role). classOf ns (r .name)) m) e))
-      go false e = e
-
   pub part-proper : (p : Parts) → Proper ns (E.Intersection p) → (a : Role) → List·Memᴰ a (rolesOf p) → Proper ns (E.Role a)
-  part-proper p h a m = role-proper a (parts-named p (h .typed) a m) (parts-formed p (h .formed) a m)
+  part-proper p h a m = role-proper a (parts-formed p (h .formed) a m)
 
 -- Credentials
 
 suits-typed : (t : Typing) (k : ℕ) → suits t k ≡ true → isTyped t ≡ true
-suits-typed Unnamed k h = absurd (false-true h)
 suits-typed Ill k h = absurd (false-true h)
 suits-typed Any k h = refl
 suits-typed (Class a) k h = refl
@@ -163,13 +99,12 @@ pub record ProperCredential (ns : List Name) (c : Credential) : Type 0 where
 module _ (ns : List Name) (c : Credential) (k : ProperCredential ns c) where
   body-typed : credentialNumber ns c ≡ 0 → isTyped (typeOf ns (c .body)) ≡ true
   unfolding credentialNumber
-  body-typed h = go (eqb (classOf ns (c .head .name)) 0 || isUnnamed (typeOf ns (c .body))) (suits (typeOf ns (c .body)) (classOf ns (c .head .name))) refl h
+  body-typed h = go (suits (typeOf ns (c .body)) (classOf ns (c .head .name))) refl h
     where
-      go : (a b : Bool) → suits (typeOf ns (c .body)) (classOf ns (c .head .name)) ≡ b → _≡_ {A = ℕ} (cond a 4 (cond b 0 5)) 0
+      go : (b : Bool) → suits (typeOf ns (c .body)) (classOf ns (c .head .name)) ≡ b → _≡_ {A = ℕ} (cond b 0 5) 0
           → isTyped (typeOf ns (c .body)) ≡ true
-      go true b e q = absurd (let z : _≡_ {A = ℕ} 4 0 = q in omega (arith, z))
-      go false true e q = suits-typed (typeOf ns (c .body)) (classOf ns (c .head .name)) e
-      go false false e q = absurd (let z : _≡_ {A = ℕ} 5 0 = q in omega (arith, z))
+      go true e q = suits-typed (typeOf ns (c .body)) (classOf ns (c .head .name)) e
+      go false e q = absurd (let z : _≡_ {A = ℕ} 5 0 = q in omega (arith, z))
 
   credential-parts : wellFormedCredential c ≡ true → (isRole (c .head) ≡ true) × (wellFormed (c .body) ≡ true) × (isBody (c .body) ≡ true)
   unfolding wellFormedCredential

@@ -56,7 +56,7 @@ use Rattle.moves.specs.Rules.{End, endIn, entitiesIn, ownersIn, childFor, suits
 use Rattle.moves.specs.Rules.{solutionsOf, linkRules, membersOf, oppoFrontier, verifierRules, controlEdge, ownEdge, sensitiveRules, sensFrontier}
 use Rattle.moves.specs.Rules.{simpFrontier, ownRules, isNamed, solutionRoles, opponentRules}
 use Rattle.moves.specs.Move.{sideSet, directFor, credentialsFor, planAt}
-use Rattle.legality.specs.laws.Proper.{Proper, role-proper, proper-goal, entity-proper, linked-first, linked-goal, linked-second, part-proper}
+use Rattle.legality.specs.laws.Proper.{Proper, role-proper, entity-proper, linked-first, linked-goal, linked-second, part-proper}
 use Rattle.legality.specs.laws.Proper.{ProperCredential, head-formed, body-proper}
 use Rattle.legality.specs.laws.Stored.{Stored, issuer-stored, subject-stored, less-stored, sensitive-role, ack-proper, access-proper}
 use Rattle.legality.specs.laws.Going.{Going, going-header, going-node, going-ends}
@@ -408,7 +408,6 @@ module _ (T : Tables) (S : State) (g : Going T S) (i : ℕ) (l : i < length (S .
         fit-ordered T S i (λ (a : Role). childFor 3 n (E.Role a) (n .subject)) (solutionRoles (endIn T S) r)
         (λ a m.
         let k = keep-find (isNamed (endIn T S) r) (map (λ (p : Pair). p .role) (T .sensitive) ++ map (λ (c : Credential). c .head) C) m in
-        let name : a .name ≡ r = eqb-true (a .name) r (k .1) in
         let role : isRole a ≡ true = ⊎-elim
         (λ j. let w = map-find (λ (p : Pair). p .role) (T .sensitive) j in ap isRole (w .2) ∙ sensitive-role T (g .tables) (w .0) (w .1))
         (λ j. let w = map-find (λ (c : Credential). c .head) C j in ap isRole (w .2)
@@ -416,8 +415,7 @@ module _ (T : Tables) (S : State) (g : Going T S) (i : ℕ) (l : i < length (S .
         (List·Memᴰ·append-cases (map (λ (p : Pair). p .role) (T .sensitive)) (k .0)) in
         plain-fit T S i (childFor 3 n (E.Role a) (n .subject)) refl refl refl
         (λ t. form-three _ n (childNode (childFor 3 n (E.Role a) (n .subject)) t) e (k .1) refl refl)
-        (role-proper (T .names) a (ap (λ (s : ℕ). eqb (classOf (T .names) s) 0) name ∙ proper-goal (T .names) r (proper e)) role)
-        (going-node T S g i l .subject) (λ z. absurd (let y : _≡_ {A = ℕ} 3 4 = z in omega (arith, y))))
+        (role-proper (T .names) a role) (going-node T S g i l .subject) (λ z. absurd (let y : _≡_ {A = ℕ} 3 4 = z in omega (arith, y))))
 
     opponent-fit : (x : Expression) → n .expression ≡ x → AllFit T S i (opponentRules (endIn T S) i n x .wanted)
     unfolding opponentRules endIn publicOf

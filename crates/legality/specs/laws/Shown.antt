@@ -109,10 +109,8 @@ module _ (ns : List Name) (s : ℕ) (rest : List Command) (U : State) where
       record { header = S .header; nodes = S .nodes; edges = S .edges; shown = append-assoc (S .shown) (c ∷ []) cs i } in
       let proper : ProperCredential ns c = h .stored .each c (List·Memᴰ·head refl) in
       next {c = Show c} refl (proper .formed)
-      (let kept = credential-kept ns c (proper .classes) in
-      record {
-        names = kept .0;
-        classes = kept .1;
+      (record {
+        classes = credential-kept ns c (proper .classes);
         open-first = some;
         nodes = tt;
         form = h .fresh c (List·Memᴰ·head refl);

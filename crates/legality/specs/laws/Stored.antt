@@ -2,7 +2,7 @@
 use Prim.Native.Nat.{ℕ}
 use native.Mathlib.Omega.{arith}
 use mathlib.Core.Path.{_≡_, refl, ap, subst}
-use mathlib.Core.Bool.{Bool, true, false, cond, _||_}
+use mathlib.Core.Bool.{Bool, true, false, cond}
 use mathlib.Core.List.{List, [], _∷_, List·Memᴰ}
 use borrow.Author.Tests.{eqb-true}
 use lib.Dec.{eqb}
@@ -15,19 +15,18 @@ use Rattle.expression.specs.Same.{sameRole}
 use Rattle.word.specs.laws.Bools.{and-parts}
 use Rattle.class.specs.declared.Name.{Name}
 use Rattle.rt0.specs.Lists.{firstOr}
-use Rattle.class.specs.Names.{classOf}
 use Rattle.class.specs.Typing.{credentialNumber}
 use Rattle.record.specs.declared.Pair.{Pair}
 use Rattle.record.specs.Record.{formed}
 use Rattle.tables.specs.declared.RoleAnswer.{RoleAnswer}
 use Rattle.tables.specs.declared.RoleAnswer.the-variants as A
 use Rattle.tables.specs.Tables.{Tables}
-use Rattle.tables.specs.Check.{orElse, storedNumber, suitsPair, pairNumber}
+use Rattle.tables.specs.Check.{orElse, storedNumber}
 use Rattle.tables.specs.Accepted.{Rising, Sound}
 use Rattle.tables.specs.Lookup.{otherOf}
 use Rattle.tables.specs.Public.{lessDirect}
 use Rattle.tables.specs.laws.Public.{less-find, less-rising}
-use Rattle.legality.specs.laws.Proper.{Proper, HasClass, role-proper, ProperCredential}
+use Rattle.legality.specs.laws.Proper.{Proper, role-proper, ProperCredential}
 
 -- each credential keeps all rules, and they ascend
 pub record Stored (ns : List Name) (C : List Credential) : Type 0 where
@@ -44,16 +43,6 @@ else-none k rest h = go (eqb k 0) refl h
 stored-classes : (ns : List Name) (subject : Bool) (c : Credential) → storedNumber ns subject c ≡ 0 → credentialNumber ns c ≡ 0
 unfolding storedNumber
 stored-classes ns subject c h = else-none (credentialNumber ns c) _ h
-
-pair-none : (a b s : Bool) → _≡_ {A = ℕ} (cond (a || b) 4 (cond s 0 5)) 0 → (a ≡ false) × (b ≡ false)
-pair-none true b s h = absurd (let z : _≡_ {A = ℕ} 4 0 = h in omega (arith, z))
-pair-none false true s h = absurd (let z : _≡_ {A = ℕ} 4 0 = h in omega (arith, z))
-pair-none false false s h = (refl, refl)
-
-pair-classes : (access : Bool) (T : Tables) (p : Pair) → pairNumber access T p ≡ 0 → HasClass (T .names) (p .role .name) × HasClass (T .names) (p .other .name)
-unfolding pairNumber
-pair-classes access T p h =
-    pair-none (eqb (classOf (T .names) (p .role .name)) 0) (eqb (classOf (T .names) (p .other .name)) 0) (suitsPair access T (p .role)) h
 
 abbrev number : RoleAnswer → ℕ
 number (A.Found a) = 1
@@ -114,9 +103,7 @@ module _ (T : Tables) (t : Sound T) where
 
   pub ack-proper : (p : Pair) → List·Memᴰ p (T .sensitive) → Proper (T .names) (E.Role (p .other))
   unfolding formed
-  ack-proper p m =
-      role-proper (T .names) (p .other) (pair-classes false T p (t .sensitive .rules p m) .1)
-      (and-parts (isRole (p .role)) (isRole (p .other)) (t .sensitive .form p m) .1)
+  ack-proper p m = role-proper (T .names) (p .other) (and-parts (isRole (p .role)) (isRole (p .other)) (t .sensitive .form p m) .1)
 
   -- AC roles
   pub access-proper : (r q : Role) → otherOf (T .access) r ≡ A.Found q → Proper (T .names) (E.Role q)
@@ -125,5 +112,4 @@ module _ (T : Tables) (t : Sound T) where
       let w = other-find (T .access) r q h in
       let p : Pair = w .0 in
       subst (λ (a : Role). Proper (T .names) (E.Role a)) (w .2)
-      (role-proper (T .names) (p .other) (pair-classes true T p (t .access .rules p (w .1)) .1)
-      (and-parts (isRole (p .role)) (isRole (p .other)) (t .access .form p (w .1)) .1))
+      (role-proper (T .names) (p .other) (and-parts (isRole (p .role)) (isRole (p .other)) (t .access .form p (w .1)) .1))

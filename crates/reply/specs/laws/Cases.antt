@@ -8,7 +8,7 @@ use Rattle.expression.specs.Order.{beforeOf, beforeCredential}
 use Rattle.expression.specs.Credential.{wellFormedCredential, readCredential}
 use Rattle.class.specs.laws.Names.{namesOf}
 use Rattle.class.specs.Names.{classOf}
-use Rattle.class.specs.Typing.{named as namedType, linked as linkedType, together, typeOf, credentialNumber}
+use Rattle.class.specs.Typing.{linked as linkedType, together, typeOf, credentialNumber}
 use Rattle.tables.specs.Lookup.{holds, isSensitive, otherOf, isDirect}
 use Rattle.tables.specs.Public.{lessDirect, heldOf, publicOf, hiddenOf}
 use Rattle.propagation.specs.laws.Flags.{cnt}
@@ -47,9 +47,11 @@ use lib.ListN.{length}
 pub marked-cases : map outcome table
     ≡ answer true ∷ answer false ∷ answer true ∷ answer false ∷ answer true ∷ answer false ∷ answer false ∷ answer true
     ∷ turns (turn firstMessage 0 2 ∷ turn secondMessage 0 3 ∷ turn thirdMessage 0 4 ∷ turn fourthMessage 1 5 ∷ [])
+    ∷ turns (turn firstMessage 0 2 ∷ turn secondMessage 0 3 ∷ turn thirdMessage 0 4 ∷ turn (5 ∷ 1 ∷ 6 ∷ []) 2 4 ∷ [])
+    ∷ turns (turn firstMessage 0 2 ∷ turn secondMessage 0 3 ∷ turn thirdMessage 0 4 ∷ turn fourthMessage 1 5 ∷ [])
     ∷ turns (turn firstMessage 0 2 ∷ turn secondMessage 0 3 ∷ turn thirdMessage 0 4 ∷ turn (5 ∷ 1 ∷ 6 ∷ []) 2 4 ∷ []) ∷ []
 unfolding roleFrom reaches pass close closure from? sameRole same beforeOf beforeCredential wellFormedCredential readCredential namesOf classOf
-    namedType linkedType together typeOf credentialNumber holds isSensitive otherOf isDirect lessDirect heldOf publicOf hiddenOf cnt rounds least
+    linkedType together typeOf credentialNumber holds isSensitive otherOf isDirect lessDirect heldOf publicOf hiddenOf cnt rounds least
     expressionIn nodesOf edgesOf findNode hasEdge hasRole form legalState satisfiedB failedB completeB propagated solves solved monitors monitored
     implied impliedIf monitoredIf justified commandBytes freshState withNode withEdge withShown withMark withHeader within wantedSound headerSound
     requester entityOf emptySound countSound endSound nodeSound nodeFits primarySound credentialSound isShown credentialFits kept needed firstOf

@@ -47,7 +47,7 @@ use Rattle.expression.specs.Same.{sameRole, same}
 use Rattle.rt0.specs.Decide.{roleFrom, reaches, pass, close, closure, from?}
 use Rattle.rt0.specs.Shown.{isShown}
 use Rattle.class.specs.Names.{classOf}
-use Rattle.class.specs.Typing.{named as namedType, typeOf, credentialNumber}
+use Rattle.class.specs.Typing.{typeOf, credentialNumber}
 use Rattle.record.specs.Record.{formed as formedRecord, ownAt, nameAt, storedAt, pairAt, recordAt, recordBytes}
 use Rattle.propagation.specs.Least.{rounds, least}
 use Rattle.graph.specs.Find.{findNode, hasEdge}
@@ -170,7 +170,7 @@ record Computed : Type 0 where
   pub with-lacking : Gives lacking (5 ∷ 1 ∷ 6 ∷ [])
 
 computed : Computed
-unfolding wellFormedCredential readCredential sameRole same roleFrom reaches pass close closure from? isShown classOf namedType typeOf
+unfolding wellFormedCredential readCredential sameRole same roleFrom reaches pass close closure from? isShown classOf typeOf
     credentialNumber formedRecord ownAt nameAt storedAt pairAt recordAt recordBytes tablesBytes storedNumber pairNumber classNumber inOrder above room
     orderNumber judge recordsFrom sized readTables holds isSensitive otherOf isDirect lessDirect heldOf publicOf hiddenOf rounds least findNode
     hasEdge hasRole form legalState processedBy markedState satisfiedB failedB completeB propagatedState formedCommand showAt openAt bringAt joinAt

@@ -21,7 +21,7 @@ use Rattle.numbers.specs.Sizes.{NEGOTIATION-BYTES}
 pub sound-public : (T U : Tables) (S : State) → publicOf T ≡ publicOf U → sound T S ≡ sound U S
 unfolding sound publicOf
 sound-public T U S e =
-    ap (λ (P : Public). headerSound (P .own) (P .names) (S .header)
+    ap (λ (P : Public). headerSound (P .own) (S .header)
     && countsAgree (S .header .messages)
     && cond (eqb (length (S .nodes)) 0) (emptySound (S .header) (length (S .edges)) (length (S .shown))) (graphSound (P .names) S)) e
 

@@ -1,4 +1,4 @@
--- Tables are accepted only where they are sound, and from their own bytes only; a refusal has a number from 1 to 6. Assumes nothing.
+-- Tables are accepted only where they are sound, and from their own bytes only; a refusal has a number from 1 to 6, but not 4. Assumes nothing.
 use Prim.Native.Nat.{ℕ, zero, suc, _+_, _<_, _≤_}
 use mathlib.Core.Path.{_≡_, refl, sym, ap, _∙_, subst}
 use mathlib.Core.Logic.{⊎-elim}
@@ -28,7 +28,7 @@ use Rattle.tables.specs.laws.Fit.{judge-reason, breaks-range, fit-exactl
 use Rattle.tables.specs.laws.Sorted.{rising-add}
 use Rattle.tables.specs.Bytes.{bytesOf, tablesBytes}
 use Rattle.numbers.specs.Answer.{Answer, refused, accepted, judged}
-use Rattle.numbers.specs.Refusals.{LENGTH}
+use Rattle.numbers.specs.Refusals.{LENGTH, NAME}
 
 -- The records of one command
 
@@ -342,32 +342,39 @@ one-arrangement s t T b c h k = accepted-bytes s T b h ∙ sym (accepted-bytes t
 
 -- Refused tables
 
-judge-most : (T : Tables) (r : Record) → judge T r ≤ 6
-judge-most T r = ⊎-elim (λ f. omega (arith, fit-exactly T r .1 f)) (λ b. breaks-range T r b .1) (judge-reason T r)
+-- a record is refused by 5 or 6
+judge-numbers : (T : Tables) (r : Record) → (judge T r ≡ 0 → ⊥) → (4 < judge T r) × (judge T r ≤ 6)
+judge-numbers T r z = ⊎-elim (λ f. absurd (z (fit-exactly T r .1 f))) (breaks-range T r) (judge-reason T r)
 
-abbrev OneToSix : ℕ → Type 0
-OneToSix k = (0 < k) × (k ≤ 6)
+-- "4 a name without class" is not among them
+abbrev Numbered : ℕ → Type 0
+Numbered k = (0 < k) × (k ≤ 6) × (k ≡ NAME → ⊥)
 
-from-numbers : (n : ℕ) (s : List ℕ) (at : ℕ) (T : Tables) (k : ℕ) → recordsFrom n s at T ≡ refused k → OneToSix k
+from-numbers : (n : ℕ) (s : List ℕ) (at : ℕ) (T : Tables) (k : ℕ) → recordsFrom n s at T ≡ refused k → Numbered k
 unfolding recordsFrom
 from-numbers zero s at T k h = absurd (let y : _≡_ {A = ℕ} 0 1 = cc in omega arith)
 from-numbers (suc n) s at T k h = go (ltb at (length s)) (recordAt s at) refl h (λ m U. from-numbers n s m U k)
   where
-    by-judge : (m : ℕ) (o : Answer Tables) → m ≤ 6 → judged m o ≡ refused k → (o ≡ refused k → OneToSix k) → OneToSix k
+    by-judge : (m : ℕ) (o : Answer Tables) → ((m ≡ 0 → ⊥) → (4 < m) × (m ≤ 6)) → judged m o ≡ refused k → (o ≡ refused k → Numbered k) → Numbered k
     by-judge zero o l q again = again q
-    by-judge (suc m) o l q again = let e : suc m ≡ k = cc in (omega arith, omega arith)
+    by-judge (suc m) o l q again =
+        let e : suc m ≡ k = cc in
+        let w = l (λ z. omega (arith, z)) in
+        (omega arith, omega (arith, w .1), λ z. omega (arith, z, w .0))
 
     go : (b : Bool) (x : RecordAnswer) → recordAt s at ≡ x → cond b (onRecord (λ size U. recordsFrom n s (at + size) U) T x) (accepted T) ≡ refused k
-        → ((m : ℕ) (U : Tables) → recordsFrom n s m U ≡ refused k → OneToSix k) → OneToSix k
-    go true (a.Refused m) e q again = let z : m ≡ k = cc in ⊎-elim (λ w. (omega arith, omega arith)) (λ w. (omega arith, omega arith)) (record-refusal s at m e)
-    go true (a.Read r) e q again = by-judge (judge T r) _ (judge-most T r) q (again (at + sizeOf r) (added T r))
+        → ((m : ℕ) (U : Tables) → recordsFrom n s m U ≡ refused k → Numbered k) → Numbered k
+    go true (a.Refused m) e q again =
+        let z : m ≡ k = cc in
+        ⊎-elim (λ w. (omega arith, omega arith, λ y. omega (arith, y))) (λ w. (omega arith, omega arith, λ y. omega (arith, y))) (record-refusal s at m e)
+    go true (a.Read r) e q again = by-judge (judge T r) _ (judge-numbers T r) q (again (at + sizeOf r) (added T r))
     go false x e q again = absurd (let y : _≡_ {A = ℕ} 0 1 = cc in omega arith)
 
--- tables are refused by a number from 1 to 6
-pub check-numbers : (s : List ℕ) (k : ℕ) → readTables s ≡ refused k → (0 < k) × (k ≤ 6)
+-- tables are refused by a number from 1 to 6, and never by 4
+pub check-numbers : (s : List ℕ) (k : ℕ) → readTables s ≡ refused k → (0 < k) × (k ≤ 6) × (k ≡ NAME → ⊥)
 unfolding readTables
 check-numbers s k h = go (sized (length s)) h
   where
-    go : (b : Bool) → cond b (recordsFrom (length s) s 0 unread) (refused LENGTH) ≡ refused k → OneToSix k
+    go : (b : Bool) → cond b (recordsFrom (length s) s 0 unread) (refused LENGTH) ≡ refused k → Numbered k
     go true q = from-numbers (length s) s 0 unread k q
-    go false q = let e : 1 ≡ k = cc in (omega arith, omega arith)
+    go false q = let e : 1 ≡ k = cc in (omega arith, omega arith, λ y. omega (arith, y))

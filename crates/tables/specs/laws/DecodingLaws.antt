@@ -16,6 +16,7 @@ use Rattle.word.specs.laws.Bools.{and-parts}
 use Rattle.class.specs.declared.Name.{Name}
 use Rattle.class.specs.Names.{classOf}
 use Rattle.class.specs.Typing.{credentialNumber}
+use Rattle.class.specs.laws.Listed.{suits-unlisted}
 use Rattle.record.specs.declared.Pair.{Pair}
 use Rattle.record.specs.declared.Record.{Record}
 use Rattle.record.specs.declared.Record.the-variants.{Own, Named, IssuerStored, SubjectStored, Sensitive, Access}
@@ -27,6 +28,7 @@ use Rattle.tables.specs.declared.OwnAnswer.{OwnAnswer}
 use Rattle.tables.specs.declared.OwnAnswer.the-variants as o
 use Rattle.tables.specs.declared.Decoded.{Decoded}
 use Rattle.tables.specs.Tables.{Tables, unread, withPairs}
+use Rattle.tables.specs.Lookup.{holds}
 use Rattle.tables.specs.laws.Tables.{tablesOf}
 use Rattle.tables.specs.Check.{orElse, storedNumber, pairNumber, classNumber, inOrder, above, room, orderNumber, judge, readTables, recordsFrom, sized}
 use Rattle.tables.specs.Check.{checkOf}
@@ -52,14 +54,34 @@ outcome-refused d k h z =
 
 -- The first record
 
+-- no name is listed before it: its names are subject-all
+pub first-named : (n : Name) → judge unread (Named n) ≡ 6
+unfolding judge classNumber orderNumber inOrder
+first-named n = refl
+
+pub first-issuer : (c : Credential) → judge unread (IssuerStored c) ≡ 5
+unfolding judge classNumber storedNumber credentialNumber classOf
+first-issuer c = ap (λ (b : Bool). orElse (orElse (cond b 0 5) 5) (orderNumber unread (IssuerStored c))) (suits-unlisted (c .body))
+
+pub first-subject : (c : Credential) → judge unread (SubjectStored c) ≡ 6
+unfolding judge classNumber storedNumber credentialNumber classOf orderNumber inOrder
+first-subject c = ap (λ (b : Bool). orElse (orElse (cond b 0 5) 0) 6) (suits-unlisted (c .body))
+
+pub first-sensitive : (p : Pair) → judge unread (Sensitive p) ≡ 6
+unfolding judge classNumber pairNumber classOf orderNumber inOrder
+first-sensitive p = refl
+
+pub first-access : (p : Pair) → judge unread (Access p) ≡ 5
+unfolding judge classNumber pairNumber holds
+first-access p = refl
+
 first-numbers : (r : Record) (k : ℕ) → firstRecord (a.Read r) ≡ o.Refused k → (judge unread r ≡ k) × (k ≡ 0 → ⊥)
-unfolding judge classNumber storedNumber pairNumber credentialNumber classOf orderNumber inOrder
 first-numbers (Own e) k h = absurd (let z : _≡_ {A = ℕ} 0 1 = cc in omega arith)
-first-numbers (Named n) k h = let q : _≡_ {A = ℕ} 6 k = cc in (q, λ e. omega arith)
-first-numbers (IssuerStored c) k h = let q : _≡_ {A = ℕ} 4 k = cc in (q, λ e. omega arith)
-first-numbers (SubjectStored c) k h = let q : _≡_ {A = ℕ} 4 k = cc in (q, λ e. omega arith)
-first-numbers (Sensitive p) k h = let q : _≡_ {A = ℕ} 4 k = cc in (q, λ e. omega arith)
-first-numbers (Access p) k h = let q : _≡_ {A = ℕ} 4 k = cc in (q, λ e. omega arith)
+first-numbers (Named n) k h = let q : judge unread (Named n) ≡ k = cc in (q, λ e. omega (arith, first-named n))
+first-numbers (IssuerStored c) k h = let q : judge unread (IssuerStored c) ≡ k = cc in (q, λ e. omega (arith, first-issuer c))
+first-numbers (SubjectStored c) k h = let q : judge unread (SubjectStored c) ≡ k = cc in (q, λ e. omega (arith, first-subject c))
+first-numbers (Sensitive p) k h = let q : judge unread (Sensitive p) ≡ k = cc in (q, λ e. omega (arith, first-sensitive p))
+first-numbers (Access p) k h = let q : judge unread (Access p) ≡ k = cc in (q, λ e. omega (arith, first-access p))
 
 first-own-only : (r : Record) (e : ℕ) → firstRecord (a.Read r) ≡ o.Read e → r ≡ Own e
 first-own-only (Own d) e h = let q : d ≡ e = cc in ap Own q

@@ -6,6 +6,7 @@ use mathlib.Core.List.{List, []}
 use native.Mathlib.Omega.{arith}
 use lib.Dec.{eqb}
 use lib.ListN.{length}
+use Rattle.expression.specs.declared.Role.{Role}
 use Rattle.expression.specs.declared.Credential.{Credential}
 use Rattle.expression.specs.Form.{ascends}
 use Rattle.word.specs.laws.Bools.{false-true}
@@ -29,43 +30,27 @@ use Rattle.tables.specs.laws.Groups.{pickPair, pairs, pairsMost, pairs-l
 use Rattle.tables.specs.laws.Columns.{PairsSized, PairsStored, pairs-length}
 use Rattle.tables.specs.laws.Reading.{pairStep, tablesFor, PairsGone}
 
--- Whether a role may stand
+module _ (own : ℕ) (ns : List Name) (C : List Credential) (P : List Pair) where
+  -- Whether a role may stand
 
--- in 0x14 its class decides
-pub suits-sensitive : (access b q : Bool) → not access ≡ true → q ≡ cond access b q
-suits-sensitive true b q h = absurd (false-true h)
-suits-sensitive false b q h = refl
+  module _ (r : Role) where
+    -- in 0x14 its class decides
+    pub suits-sensitive : (access : Bool) {k : ℕ} → not access ≡ true → k ≡ classOf ns (r .name) → eqb k 3 ≡ suitsPair access (tablesFor own ns C P) r
+    suits-sensitive true n h = absurd (false-true n)
+    suits-sensitive false n h = ap (λ (k : ℕ). eqb k 3) h
 
--- in 0x15 we hold it, and it is sensitive
-pub suits-access : (access q : Bool) {h s u v : Bool} → not access ≡ false → u ≡ h → v ≡ s → (u && v) ≡ cond access (h && s) q
-suits-access true q n e f = λ i. e i && f i
-suits-access false q n e f = absurd (false-true (sym n))
+    -- in 0x15 we hold it, and it is sensitive
+    pub suits-access : (access : Bool) {u v : Bool} → not access ≡ false → u ≡ holds own C r → v ≡ isSensitive P r
+        → (u && v) ≡ suitsPair access (tablesFor own ns C P) r
+    suits-access true n e f = λ i. e i && f i
+    suits-access false n e f = absurd (false-true (sym n))
 
--- The class rules for a pair, by the classes k and m of its roles
+  -- The class rules for a pair
 
-module _ (access : Bool) (own : ℕ) (ns : List Name) (C : List Credential) (P : List Pair) (x : Pair) {k m : ℕ} (hk : k ≡ classOf ns (x .role .name))
-    (hm : m ≡ classOf ns (x .other .name)) where
-  tests : (eqb k 0 || eqb m 0) ≡ (eqb (classOf ns (x .role .name)) 0 || eqb (classOf ns (x .other .name)) 0)
-  tests = λ i. eqb (hk i) 0 || eqb (hm i) 0
-
-  -- a name has no class
-  pub pair-unnamed : (eqb k 0 || eqb m 0) ≡ true → 4 ≡ pairNumber access (tablesFor own ns C P) x
-  unfolding pairNumber
-  pair-unnamed h = sym (ap (λ (b : Bool). cond b 4 (cond (suitsPair access (tablesFor own ns C P) (x .role)) 0 5)) (sym tests ∙ h))
-
-  suits : {b : Bool} → b ≡ cond access (holds own C (x .role) && isSensitive P (x .role)) (eqb k 3) → b ≡ suitsPair access (tablesFor own ns C P) (x .role)
-  suits {b} h = go access h
-    where
-      go : (a : Bool) → b ≡ cond a (holds own C (x .role) && isSensitive P (x .role)) (eqb k 3) → b ≡ suitsPair a (tablesFor own ns C P) (x .role)
-      go true e = e
-      go false e = e ∙ ap (λ (n : ℕ). eqb n 3) hk
-
-  module _ (named : (eqb k 0 || eqb m 0) ≡ false) {b : Bool} (h : b ≡ cond access (holds own C (x .role) && isSensitive P (x .role)) (eqb k 3)) where
+  module _ (access : Bool) (x : Pair) {b : Bool} (h : b ≡ suitsPair access (tablesFor own ns C P) (x .role)) where
     judged-by : (v : Bool) → b ≡ v → cond v 0 5 ≡ pairNumber access (tablesFor own ns C P) x
     unfolding pairNumber
-    judged-by v e =
-        sym (ap (λ (t : Bool). cond t 4 (cond (suitsPair access (tablesFor own ns C P) (x .role)) 0 5)) (sym tests ∙ named)
-        ∙ ap (λ (t : Bool). cond t 0 5) (sym (suits h) ∙ e))
+    judged-by v e = λ i. cond ((sym e ∙ h) i) 0 5
 
     -- the role suits
     pub pair-kept : b ≡ true → 0 ≡ pairNumber access (tablesFor own ns C P) x

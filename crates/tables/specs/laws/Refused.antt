@@ -24,7 +24,7 @@ use Rattle.tables.specs.laws.Fit.{judge-reason, breaks-number, breaks-ra
 use Rattle.tables.specs.laws.Group.{judged-refused}
 use Rattle.numbers.specs.Answer.{Answer, refused, accepted}
 use Rattle.numbers.specs.Sizes.{MOST-TABLES-BYTES}
-use Rattle.numbers.specs.Refusals.{LENGTH}
+use Rattle.numbers.specs.Refusals.{LENGTH, NAME}
 
 sized-exactly : (n : ℕ) → (sized n ≡ true) ↔ Sized n
 unfolding sized
@@ -33,12 +33,12 @@ sized-exactly n = (
   λ w. and-both (ltb 0 n) (leb n MOST-TABLES-BYTES) (lt-ltb 0 n (w .some)) (le-leb n MOST-TABLES-BYTES (w .most)),
 )
 
--- the numbers are 1 to 6
-pub refused-range : {s : List ℕ} {k : ℕ} → CheckRefused s k → (0 < k) × (k ≤ 6)
-refused-range (size n e) = (omega arith, omega arith)
-refused-range (stopped i w m (unreadable (cut n e))) = (omega arith, omega arith)
-refused-range (stopped i w m (unreadable (malformed v n e))) = (omega arith, omega arith)
-refused-range (stopped {T = T} i w m (breaks {r} v b)) = let o = breaks-range T r b in (omega (arith, o .0), o .1)
+-- the numbers are 1 to 6, but not 4
+pub refused-range : {s : List ℕ} {k : ℕ} → CheckRefused s k → (0 < k) × (k ≤ 6) × (k ≡ NAME → ⊥)
+refused-range (size n e) = (omega arith, omega arith, λ z. omega (arith, z))
+refused-range (stopped i w m (unreadable (cut n e))) = (omega arith, omega arith, λ z. omega (arith, z))
+refused-range (stopped i w m (unreadable (malformed v n e))) = (omega arith, omega arith, λ z. omega (arith, z))
+refused-range (stopped {T = T} i w m (breaks {r} v b)) = let o = breaks-range T r b in (omega (arith, o .0), o .1, λ z. omega (arith, z, o .0))
 
 module _ (s : List ℕ) (bytes : (i : ℕ) → getD s i 0 < 256) where
   -- what an answer says of the bytes

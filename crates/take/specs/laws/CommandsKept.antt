@@ -134,7 +134,7 @@ module _ (ns : List Name) (m : List ℕ) (S : State) (side : S .header .side ≡
   behind-open : (f at : ℕ) (v : Bool) (T : State) (w : Bool) (o : Opening) → Behind f at v T w (Open o)
   behind-open f at v T w o e l q =
       let k = commands-led ns 0 m f T w (at + sizeOf (Open o)) (stepped S 0 (Open o)) (v || true)
-      (open-kept ns S o side no-node no-edge no-shown own (command-formed m at (Open o) e) l) (opened-some o)
+      (open-kept ns S o side no-node no-edge no-shown own (command-formed m at (Open o) e)) (opened-some o)
       (step-within S wi 0 (Open o) (legal-room S ns 0 (Open o) l)) q in
       (follows ns 0 m S v (Open o) T w k, k .moves (or-true v))
 

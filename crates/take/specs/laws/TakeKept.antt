@@ -63,7 +63,7 @@ module _ (T : Tables) (S : State) (h : sound T S ≡ true) where
         first : length (S .nodes) ≡ 0 → Led (T .names) S false U moved × (length (S .nodes) ≡ 0 → moved ≡ true)
         first z =
             let e = empty-parts (S .header) (length (S .edges)) (length (S .shown)) (no-nodes T S h z) in
-            let p = header-parts (T .own) (T .names) (S .header) (by-nodes T S h) in
+            let p = header-parts (T .own) (S .header) (by-nodes T S h) in
             let f : senderTo S ≡ 0 = first-side (senderTo S) (S .header .messages) turn (e .0) in
             let l = opening-led (T .names) m S (first-sender (S .header .side) (p .0) f) (λ y. omega (arith, own, p .1)) z (e .2) (e .3) wi (length m)
             0 false U moved (sym (ap (λ (s : ℕ). C.commandsFrom (length m) (T .names) s m 0 S false) f) ∙ q) in
@@ -127,7 +127,7 @@ module _ (T : Tables) (S : State) (h : sound T S ≡ true) (wi : within S ≡ tr
       let l = by-led .0 in
       let v : ℕ = senderTo S in
       ap (sound T) (was .after)
-      ∙ after-sound T v (was .led) (was .moved) false (ap (headerSound (T .own) (T .names)) (l .header) ∙ by-nodes T S h) (l .graph) (l .some)
+      ∙ after-sound T v (was .led) (was .moved) false (ap (headerSound (T .own)) (l .header) ∙ by-nodes T S h) (l .graph) (l .some)
       (ap (λ (x : Header). countsAgree (counted v (x .messages))) (l .header)
       ∙ agree-next v (S .header .messages) (was .turn) (sound-parts T S h .1))
       (subst (λ (x : Header). messageCount (x .messages) < MOST-MESSAGES) (sym (l .header)) few) unmoved
