@@ -16,7 +16,7 @@
 
 static const char honest[] = "self 2\nclass 1 issuer-def\nclass 2 issuer-all\nclass 3 subject-all\n"
                              "issued 2.1 <- 2.2.3\nissued 2.1 <- 2.2 & 3.3 # comment\nstored 4.3 <- 2\n"
-                             "sensitive 4.3 ack 1.2\naccess 4.3 2.1\n";
+                             "stored 4.3 <- 5.6\nsensitive 4.3 ack 1.2\naccess 4.3 2.1\n";
 
 /* The end of what is read lies against the end of its memory, so that a byte too far is found. */
 static char *copy(const char *from, size_t length)
@@ -113,13 +113,14 @@ static void put_line(char *to, size_t size, unsigned self)
     snprintf(to, size, forms[kind], number[0], number[1], number[2], number[3], number[4], number[5]);
 }
 
-/* Random tables: lines that do not fit those before are left out. */
+/* Random tables: lines that do not fit those before are left out. Names 3 and 4 are subject-all, listed or not. */
 static void draw_house(unsigned self, struct house *house)
 {
     char text[4096];
     struct text_error error;
-    int length = snprintf(text, sizeof text, "self %u\nclass 1 issuer-def\nclass 2 %s\nclass 3 subject-all\n"
-                          "class 4 subject-all\n", self, rand() % 2 ? "issuer-all" : "subject-all");
+    int length = snprintf(text, sizeof text, "self %u\nclass 1 issuer-def\nclass 2 %s\n%s%s", self,
+                          rand() % 2 ? "issuer-all" : "subject-all", rand() % 2 ? "class 3 subject-all\n" : "",
+                          rand() % 2 ? "class 4 subject-all\n" : "");
     for (int i = 0; i < 20; i++) {
         put_line(text + length, sizeof text - (size_t)length, self);
         struct house trial;
