@@ -282,12 +282,13 @@ static int carry(struct side *from, struct side *to, struct run *run)
                           run->lengths[run->count], scratch, sizeof scratch) == 0;
 }
 
-/* Runs a negotiation about 3.1 to its end. House's Ack role is 1.901. */
-static void play(const char *what, const char *studio, const char *house, struct run *run)
+/* Runs a negotiation about this role to its end. House's Ack role is 1.901. */
+static void play_for(const char *what, const char *studio, const char *house, uint16_t entity, uint16_t name,
+                     struct run *run)
 {
     static struct side sides[2];
     memset(run, 0, sizeof *run);
-    int right = start(&sides[0], studio, 2, 3, 1) && start(&sides[1], house, 3, 0, 0);
+    int right = start(&sides[0], studio, 2, entity, name) && start(&sides[1], house, 3, 0, 0);
     while (right && run->end == LAVUTREMO_END_NONE && run->count < MOST_RUN) {
         struct side *from = &sides[run->count % 2], *to = &sides[1 - run->count % 2];
         right = carry(from, to, run);
@@ -295,6 +296,11 @@ static void play(const char *what, const char *studio, const char *house, struct
         run->acknowledged[run->count++] = acknowledged(&sides[1], 1, 901);
     }
     count(what, right && run->end != LAVUTREMO_END_NONE, run->count);
+}
+
+static void play(const char *what, const char *studio, const char *house, struct run *run)
+{
+    play_for(what, studio, house, 3, 1, run);
 }
 
 static int same_message(const struct run *one, const struct run *other, unsigned i)
@@ -321,17 +327,40 @@ static void alike_until_acknowledged(const char *what, const struct run *one, co
     count(what, satisfied && i >= 4 && same_message(one, other, i) && !same_message(one, other, i + 1), i);
 }
 
+#define LISTED_900 "class 900 subject-all\nclass 901 subject-all\n"
+#define PROVING "stored 1.901 <- 3\n"
+#define ASKING_FIRST "sensitive 4.900 ack 1.901\n"
+
+/* A wanted role that neither end lists, 4.900, sensitive and held or not: as if it were listed. */
+static void wanted(void)
+{
+    static struct run run, listed;
+    play_for("an unlisted role, held", "self 3\n" PROVING, "self 2\nstored 4.900 <- 2\n" ASKING_FIRST, 4, 900, &run);
+    count("an unlisted role, held", run.end == LAVUTREMO_END_SUCCESS, run.end);
+    play_for("a listed role, held", "self 3\n" LISTED_900 PROVING,
+             "self 2\n" LISTED_900 "stored 4.900 <- 2\n" ASKING_FIRST, 4, 900, &listed);
+    same_run("a wanted role, held, listed or not", &run, &listed);
+    play_for("an unlisted role, not held", "self 3\n" PROVING, "self 2\n" ASKING_FIRST, 4, 900, &run);
+    count("an unlisted role, not held", run.end == LAVUTREMO_END_FAILED, run.end);
+    play_for("a listed role, not held", "self 3\n" LISTED_900 PROVING, "self 2\n" LISTED_900 ASKING_FIRST, 4, 900,
+             &listed);
+    same_run("a wanted role, not held, listed or not", &run, &listed);
+}
+
+#define ALL_LISTED \
+    "class 1 issuer-def\nclass 900 subject-all\nclass 901 subject-all\nclass 902 subject-all\n" \
+    "class 903 subject-all\nclass 904 subject-all\n"
+#define ASKING \
+    "issued 3.1 <- 4.900 & 5.902\nissued 3.1 <- 3.903.900\nstored 1.901 <- 3\nstored 7.902 <- 3\n" \
+    "sensitive 1.901 ack 6.904\n"
+#define ASKED "stored 5.902 <- 2\nstored 6.904 <- 2\nsensitive 4.900 ack 1.901\nsensitive 8.900 ack 1.901\n"
+
 /*
- * A sensitive role of an unlisted name, 4.900, held or not. Studio's proof of its Ack role, 1.901, is sensitive too, so that
- * House replies twice before it; beside it stand a linked role and an intersection of unlisted names.
+ * A sensitive role of an unlisted name, 4.900, held or not. Studio's proof of its Ack role, 1.901, is sensitive too, so
+ * that House replies twice before it; a linked role and an intersection of unlisted names are asked for beside it.
  */
 static void hidden(void)
 {
-#define ALL_LISTED "class 1 issuer-def\nclass 900 subject-all\nclass 901 subject-all\nclass 902 subject-all\n" \
-    "class 903 subject-all\nclass 904 subject-all\n"
-#define ASKING "issued 3.1 <- 4.900 & 5.902\nissued 3.1 <- 3.903.900\nstored 1.901 <- 3\nsensitive 1.901 ack 6.904\n" \
-    "stored 7.902 <- 3\n"
-#define ASKED "stored 5.902 <- 2\nstored 6.904 <- 2\nsensitive 4.900 ack 1.901\nsensitive 8.900 ack 1.901\n"
     static struct run without, with, listed, access;
     play("not held", "self 3\n" ONE_LISTED ASKING, "self 2\n" ASKED, &without);
     play("held", "self 3\n" ONE_LISTED ASKING, "self 2\n" ASKED "stored 4.900 <- 2\n", &with);
@@ -478,6 +507,7 @@ int main(void)
     wrong_tables();
     turns();
     marked_cases();
+    wanted();
     hidden();
     wrong_counts();
     counts_alone();
