@@ -18,7 +18,7 @@ const char *refusal_words(unsigned number)
     static const char *const input[] = {"a length outside the sizes",
                                         "a command that is unknown or cut, a missing end, or bytes after the end",
                                         "an operand of wrong form, or an illegal initial state",
-                                        "a name without class",
+                                        "returned by no call",
                                         "a class rule broken",
                                         "tables out of order, repeated, self missing, or a size passed",
                                         "the other end is zero or self"};

@@ -39,7 +39,7 @@ static const char help[] =
     "Whoever connects is taken for OTHER and every credential for signed: the peer and the credentials are taken for\n"
     "checked, by a transport that has to stand between.\n"
     "SIGTERM, SIGINT and SIGHUP end all negotiations, and then serve exits with 0. Otherwise it exits with 2 for a wrong\n"
-    "argument, 5 for tables or a role that are refused, 6 if it cannot listen, 7 if FILE or FOLDER cannot be used.\n";
+    "argument, 5 if the tables or OTHER are refused, 6 if it cannot listen, 7 if FILE or FOLDER cannot be used.\n";
 
 #define MOST_CONNECTIONS 1000
 

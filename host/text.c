@@ -148,7 +148,8 @@ static int no_repeats(const struct records *records, struct text_error *error)
 const char *record_refusal_words(unsigned number, uint8_t command)
 {
     if (number == LAVUTREMO_CLASS && command == LAVUTREMO_RECORD_ISSUED)
-        return "a class rule is broken: an issued credential's head is issuer-def or issuer-all, and its body fits";
+        return "a class rule is broken: an issued credential's head is listed as issuer-def or issuer-all, and its body "
+               "fits";
     if (number == LAVUTREMO_CLASS && command == LAVUTREMO_RECORD_STORED)
         return "a class rule is broken: a stored credential's head is subject-all, and so is its body";
     if (number == LAVUTREMO_CLASS && command == LAVUTREMO_RECORD_SENSITIVE)

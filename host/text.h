@@ -3,7 +3,7 @@
  * The text form of house tables, a record a line:
  *
  *   self 2
- *   class 3 subject-all              or issuer-def, issuer-all
+ *   class 1 issuer-def               or issuer-all, subject-all; a name without such a line is subject-all
  *   issued 3.1 <- 4.3                0x12, an issuer-stored credential
  *   stored 4.3 <- 2                  0x13, a subject-stored credential
  *   sensitive 4.3 ack 1.2

@@ -26,7 +26,8 @@
  *
  * House tables are records one after another, in this order, without an end:
  *   0x10 self, 3 bytes: one number; the first record, and once.
- *   0x11 name, 4 bytes: a role name and its class byte, 1 issuer-def, 2 issuer-all, 3 subject-all.
+ *   0x11 name, 4 bytes: a role name and its class byte, 1 issuer-def, 2 issuer-all, 3 subject-all. A name that no 0x11
+ *        record lists is subject-all, in tables and messages alike: only names of class 1 and 2 need such a record.
  *   0x12 issuer-stored and 0x13 subject-stored credential, 23 bytes: as 0x01.
  *   0x14 sensitive role, 9 bytes: the role and its Ack role, entity and name each.
  *   0x15 access control, 9 bytes: a sensitive role and its AC role.
@@ -49,7 +50,7 @@
 #include <stdint.h>
 
 /* The version of this header and of the library that comes with it. */
-#define LAVUTREMO_VERSION "2.0.0"
+#define LAVUTREMO_VERSION "2.1.0"
 
 /* The first byte of a message's command. */
 enum {
@@ -80,7 +81,7 @@ enum {
     LAVUTREMO_KIND_GOAL = 5 /* in a graph only */
 };
 
-/* The class of a role name. */
+/* The class of a role name. One that the tables do not list is subject-all. */
 enum { LAVUTREMO_CLASS_ISSUER_DEF = 1, LAVUTREMO_CLASS_ISSUER_ALL = 2, LAVUTREMO_CLASS_SUBJECT_ALL = 3 };
 
 /* The kind of an edge. */
@@ -97,7 +98,7 @@ enum {
 #define LAVUTREMO_LENGTH 1u   /* a lent length outside the sizes */
 #define LAVUTREMO_COMMAND 2u  /* an unknown or cut command, a missing end, bytes after the end */
 #define LAVUTREMO_OPERAND 3u  /* an operand of wrong form */
-#define LAVUTREMO_NAME 4u     /* a name without class */
+#define LAVUTREMO_NAME 4u     /* returned by no call: a name that no 0x11 record lists counts as subject-all */
 #define LAVUTREMO_CLASS 5u    /* a class rule broken */
 #define LAVUTREMO_ORDER 6u    /* tables out of order, repeated, self missing, or a size passed */
 #define LAVUTREMO_OTHER 7u    /* at begin: the other end is zero or self */
@@ -161,8 +162,7 @@ extern "C" {
  * call with the first of these that applies; a rule that looks at other records looks at earlier ones only:
  *   LAVUTREMO_COMMAND  it is unknown or cut,
  *   LAVUTREMO_OPERAND  an operand has a wrong form: a zero number, a class byte outside 1 to 3, a wrong credential,
- *   LAVUTREMO_NAME     a name in it has no class,
- *   LAVUTREMO_CLASS    it breaks a class rule,
+ *   LAVUTREMO_CLASS    it breaks a class rule; a name that no 0x11 record before it lists is subject-all,
  *   LAVUTREMO_ORDER    it is out of order, repeated or one too many, or it is the first and not self.
  *
  * The buffer may have any content and any length. The caller sees to the pointer as below.
@@ -184,9 +184,8 @@ uint64_t lavutremo_check(const uint8_t *tables, size_t tables_len);
  *
  * Returns 0 if the call is accepted, else a number alone, the first of these that applies, and then no byte changes:
  *   LAVUTREMO_LENGTH   a length is outside the sizes,
- *   LAVUTREMO_COMMAND, LAVUTREMO_OPERAND, LAVUTREMO_NAME, LAVUTREMO_CLASS, LAVUTREMO_ORDER   the tables, as above,
+ *   LAVUTREMO_COMMAND, LAVUTREMO_OPERAND, LAVUTREMO_CLASS, LAVUTREMO_ORDER   the tables, as above,
  *   LAVUTREMO_OPERAND  just one of entity and name is zero,
- *   LAVUTREMO_NAME     the wanted name has no class,
  *   LAVUTREMO_OTHER    the other end is zero or self.
  *
  * The buffers may have any content and any length. They must not overlap.
@@ -211,7 +210,7 @@ uint64_t lavutremo_begin(const uint8_t *tables, size_t tables_len, uint8_t *nego
  * Returns 0 if the message is accepted, else a number alone, the first of these that applies, and then no byte changes, of
  * the scratch neither:
  *   LAVUTREMO_LENGTH   a length is outside the sizes,
- *   LAVUTREMO_COMMAND, LAVUTREMO_OPERAND, LAVUTREMO_NAME, LAVUTREMO_CLASS, LAVUTREMO_ORDER   the tables, as above,
+ *   LAVUTREMO_COMMAND, LAVUTREMO_OPERAND, LAVUTREMO_CLASS, LAVUTREMO_ORDER   the tables, as above,
  *   LAVUTREMO_DAMAGED  the bytes are not those of a sound negotiation of these tables' house,
  *   LAVUTREMO_ENDED    the negotiation has ended,
  *   LAVUTREMO_TURN     it is our side's turn to send: the mediator sends when the sum of both message counts is even;
@@ -219,7 +218,7 @@ uint64_t lavutremo_begin(const uint8_t *tables, size_t tables_len, uint8_t *nego
  * ends the call with the first of these that applies:
  *   LAVUTREMO_COMMAND, LAVUTREMO_OPERAND   it is unknown or cut, bytes follow the end or there is no end; a wrong operand
  *                      or state,
- *   LAVUTREMO_NAME, LAVUTREMO_CLASS   a name in it has no class; it breaks a class rule,
+ *   LAVUTREMO_CLASS    it breaks a class rule; a name that the tables do not list is subject-all,
  *   LAVUTREMO_OPENING  no node stands, and it is no open; or it is an open, and one stands,
  *   LAVUTREMO_ABSENT   a node that it names does not stand,
  *   LAVUTREMO_PRESENT  the edge has not the form of its kind; the credential, the child or the edge is there already,
@@ -250,7 +249,7 @@ uint64_t lavutremo_take(const uint8_t *tables, size_t tables_len, uint8_t *negot
  * Returns 256 times the message's length if the call is accepted; lavutremo_length gives it. A refused call returns its
  * number alone, the first of these that applies, and then no byte changes, of the reply and the scratch neither:
  *   LAVUTREMO_LENGTH   a length is outside the sizes,
- *   LAVUTREMO_COMMAND, LAVUTREMO_OPERAND, LAVUTREMO_NAME, LAVUTREMO_CLASS, LAVUTREMO_ORDER   the tables, as above,
+ *   LAVUTREMO_COMMAND, LAVUTREMO_OPERAND, LAVUTREMO_CLASS, LAVUTREMO_ORDER   the tables, as above,
  *   LAVUTREMO_DAMAGED  the bytes are not those of a sound negotiation of these tables' house,
  *   LAVUTREMO_ENDED    the negotiation has ended,
  *   LAVUTREMO_TURN     it is the other side's turn to send.
@@ -275,7 +274,7 @@ uint64_t lavutremo_reply(const uint8_t *tables, size_t tables_len, uint8_t *nego
  * 10, of the requester 10.
  * A refused call returns its number alone, the first of these that applies:
  *   LAVUTREMO_LENGTH   a length is outside the sizes,
- *   LAVUTREMO_COMMAND, LAVUTREMO_OPERAND, LAVUTREMO_NAME, LAVUTREMO_CLASS, LAVUTREMO_ORDER   the tables, as above,
+ *   LAVUTREMO_COMMAND, LAVUTREMO_OPERAND, LAVUTREMO_CLASS, LAVUTREMO_ORDER   the tables, as above,
  *   LAVUTREMO_DAMAGED  the bytes are not those of a sound negotiation of these tables' house,
  *   LAVUTREMO_ABSENT   there is no such node.
  *

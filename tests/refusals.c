@@ -10,6 +10,13 @@
 #define YES 256u
 #define NO 0u
 
+/* Expressions of one-byte numbers. */
+#define ENTITY(entity) 1, 0, 0, entity, 0, 0, 0, 0, 0, 0, 0, 0, 0, 0, 0, 0, 0, 0
+#define ROLE(entity, name) 2, 0, 0, entity, 0, name, 0, 0, 0, 0, 0, 0, 0, 0, 0, 0, 0, 0
+#define LINKED(entity, first, second) 3, 0, 0, entity, 0, first, 0, second, 0, 0, 0, 0, 0, 0, 0, 0, 0, 0
+#define BOTH(a, name, b, other) 4, 2, 0, a, 0, name, 0, b, 0, other, 0, 0, 0, 0, 0, 0, 0, 0
+#define GOAL(name) 5, 0, 0, name, 0, 0, 0, 0, 0, 0, 0, 0, 0, 0, 0, 0, 0, 0
+
 /* 1.1 <- 2, as a command. */
 static const uint8_t credential[LAVUTREMO_CREDENTIAL_BYTES] = {0x01, 0, 1, 0, 1, 1, 0, 0, 2};
 /* The role 1.1, the entity 2 and the goal 1; one byte more than an expression has. */
@@ -171,7 +178,8 @@ static void table_records(void)
     expect_tables("class 4", LAVUTREMO_OPERAND, tables_len);
     put_house();
     tables[15 + 4] = 9;
-    expect_tables("a name without class", LAVUTREMO_NAME, tables_len);
+    expect_tables("a credential of an unlisted name", 0, tables_len - 9);
+    expect_tables("an AC record without its direct credential", LAVUTREMO_CLASS, tables_len);
     put_house();
     tables[15] = 0x12;
     expect_tables("subject-all in 0x12", LAVUTREMO_CLASS, tables_len);
@@ -182,6 +190,74 @@ static void table_records(void)
     tables_len = 0;
     put_name(1, 1);
     expect_tables("self missing", LAVUTREMO_ORDER, tables_len);
+}
+
+/* Records of one-byte numbers. */
+#define SELF 0x10, 0, 2
+#define NAME(name, class) 0x11, 0, name, class
+#define ISSUED(issuer, name, ...) 0x12, 0, issuer, 0, name, __VA_ARGS__
+#define STORED(issuer, name, ...) 0x13, 0, issuer, 0, name, __VA_ARGS__
+#define PAIR(command, entity, name, other, other_name) command, 0, entity, 0, name, 0, other, 0, other_name
+
+#define EXPECT_RECORDS(what, expected, ...) \
+    expect_records(what, expected, (const uint8_t[]){__VA_ARGS__}, sizeof((const uint8_t[]){__VA_ARGS__}))
+
+static void expect_records(const char *what, uint64_t expected, const uint8_t *records, size_t size)
+{
+    tables_len = 0;
+    put(records, size);
+    expect_tables(what, expected, tables_len);
+}
+
+/* A name that no 0x11 record lists is subject-all. */
+static void unlisted_names(void)
+{
+    EXPECT_RECORDS("a stored entity", 0, SELF, STORED(4, 3, ENTITY(2)));
+    EXPECT_RECORDS("a stored role", 0, SELF, STORED(4, 3, ROLE(5, 9)));
+    EXPECT_RECORDS("a stored linked role", 0, SELF, STORED(4, 3, LINKED(4, 8, 9)));
+    EXPECT_RECORDS("a stored intersection", 0, SELF, STORED(4, 3, BOTH(4, 9, 5, 8)));
+    EXPECT_RECORDS("a listed second name", 0, SELF, NAME(9, 3), STORED(4, 3, LINKED(4, 8, 9)));
+    EXPECT_RECORDS("a listed head", 0, SELF, NAME(3, 3), STORED(4, 3, BOTH(4, 3, 4, 9)));
+    EXPECT_RECORDS("a sensitive role with Ack and AC roles", 0, SELF, STORED(4, 3, ENTITY(2)), PAIR(0x14, 4, 3, 1, 2),
+                   PAIR(0x15, 4, 3, 5, 7));
+    EXPECT_RECORDS("Ack and AC roles of class 1", 0, SELF, NAME(1, 1), STORED(4, 3, ENTITY(2)), PAIR(0x14, 4, 3, 1, 1),
+                   PAIR(0x15, 4, 3, 5, 1));
+    EXPECT_RECORDS("a body below class 1", 0, SELF, NAME(1, 1), ISSUED(2, 1, ROLE(4, 9)));
+    EXPECT_RECORDS("class 1 before it", 0, SELF, NAME(1, 1), ISSUED(2, 1, LINKED(2, 1, 9)));
+    EXPECT_RECORDS("class 2 before it", 0, SELF, NAME(1, 1), NAME(2, 2), ISSUED(2, 1, LINKED(2, 2, 9)));
+    EXPECT_RECORDS("an entity below class 2", 0, SELF, NAME(2, 2), ISSUED(2, 2, ENTITY(4)));
+
+    EXPECT_RECORDS("a head of 0x12", LAVUTREMO_CLASS, SELF, ISSUED(2, 9, ENTITY(4)));
+    EXPECT_RECORDS("a head of 0x12 beside class 1", LAVUTREMO_CLASS, SELF, NAME(1, 1), ISSUED(2, 9, ROLE(4, 1)));
+    EXPECT_RECORDS("a head of 0x12 listed later", LAVUTREMO_CLASS, SELF, ISSUED(2, 1, ENTITY(4)), NAME(1, 1));
+    EXPECT_RECORDS("a body below class 2", LAVUTREMO_CLASS, SELF, NAME(2, 2), ISSUED(2, 2, ROLE(4, 9)));
+    EXPECT_RECORDS("a linked body below class 2", LAVUTREMO_CLASS, SELF, NAME(2, 2), ISSUED(2, 2, LINKED(2, 2, 9)));
+    EXPECT_RECORDS("ill-typed, class 1 behind it", LAVUTREMO_CLASS, SELF, NAME(1, 1), ISSUED(2, 1, LINKED(2, 9, 1)));
+    EXPECT_RECORDS("ill-typed, class 2 behind it", LAVUTREMO_CLASS, SELF, NAME(1, 1), NAME(2, 2),
+                   ISSUED(2, 1, LINKED(2, 9, 2)));
+    EXPECT_RECORDS("ill-typed below it", LAVUTREMO_CLASS, SELF, NAME(1, 1), STORED(4, 9, LINKED(4, 9, 1)));
+    EXPECT_RECORDS("a body of class 1 below it", LAVUTREMO_CLASS, SELF, NAME(1, 1), STORED(4, 9, ROLE(5, 1)));
+    EXPECT_RECORDS("a part of class 2 below it", LAVUTREMO_CLASS, SELF, NAME(2, 2), STORED(4, 9, BOTH(4, 9, 5, 2)));
+    EXPECT_RECORDS("an AC record without a direct credential", LAVUTREMO_CLASS, SELF, PAIR(0x14, 4, 9, 1, 2),
+                   PAIR(0x15, 4, 9, 1, 2));
+    EXPECT_RECORDS("an AC record of a role that is not sensitive", LAVUTREMO_CLASS, SELF, STORED(4, 9, ENTITY(2)),
+                   PAIR(0x15, 4, 9, 1, 2));
+    EXPECT_RECORDS("listed after its credential", LAVUTREMO_ORDER, SELF, STORED(4, 3, ENTITY(2)), NAME(3, 1));
+    EXPECT_RECORDS("credentials out of order", LAVUTREMO_ORDER, SELF, STORED(4, 9, ENTITY(2)), STORED(4, 8, ENTITY(2)));
+}
+
+/* A first record other than self is judged by its own rules first, no name being listed. */
+static void self_missing(void)
+{
+    EXPECT_RECORDS("0x11 first", LAVUTREMO_ORDER, NAME(1, 1), SELF);
+    EXPECT_RECORDS("0x12 first", LAVUTREMO_CLASS, ISSUED(2, 1, ENTITY(4)), SELF);
+    EXPECT_RECORDS("0x13 first", LAVUTREMO_ORDER, STORED(4, 3, ENTITY(2)), SELF);
+    EXPECT_RECORDS("0x14 first", LAVUTREMO_ORDER, PAIR(0x14, 4, 3, 1, 2), SELF);
+    EXPECT_RECORDS("0x15 first", LAVUTREMO_CLASS, PAIR(0x15, 4, 3, 1, 2), SELF);
+    EXPECT_RECORDS("0x12 alone", LAVUTREMO_CLASS, ISSUED(2, 1, LINKED(2, 1, 1)));
+    EXPECT_RECORDS("0x13 alone", LAVUTREMO_ORDER, STORED(4, 3, LINKED(4, 1, 1)));
+    EXPECT_RECORDS("0x12 first, of wrong form", LAVUTREMO_OPERAND, ISSUED(2, 0, ENTITY(4)), SELF);
+    EXPECT_RECORDS("0x15 first, of wrong form", LAVUTREMO_OPERAND, PAIR(0x15, 4, 3, 1, 0), SELF);
 }
 
 static void table_sizes(void)
@@ -210,6 +286,10 @@ static void table_sizes(void)
     expect_tables("32 AC records", 0, tables_len);
     put_pair(0x15, 33);
     expect_tables("an AC record of a role that is not sensitive", LAVUTREMO_CLASS, tables_len);
+    put_self();
+    for (unsigned name = 1; name <= LAVUTREMO_MOST_STORED; name++)
+        put((const uint8_t[23]){STORED(4, (uint8_t)name, BOTH(4, (uint8_t)(name + 64), 5, (uint8_t)(name + 128)))}, 23);
+    expect_tables("192 names, none of them listed", 0, tables_len);
 }
 
 /* Begins with these arguments; the negotiation must hold the fresh one, or what it held before. */
@@ -255,9 +335,13 @@ static void begins(void)
     expect_begin("cut tables, and one zero", LAVUTREMO_COMMAND, tables_len - 1, size, 3, 1, 0);
     expect_begin("an entity of zero", LAVUTREMO_OPERAND, tables_len, size, 3, 0, 1);
     expect_begin("a name of zero, and no other end", LAVUTREMO_OPERAND, tables_len, size, 0, 1, 0);
-    expect_begin("a name without class, and no other end", LAVUTREMO_NAME, tables_len, size, 0, 1, 9);
     expect_begin("no other end", LAVUTREMO_OTHER, tables_len, size, 0, 1, 1);
     expect_begin("self as the other end", LAVUTREMO_OTHER, tables_len, size, 2, 0, 0);
+    expect_begin("an unlisted name", 0, tables_len, size, 3, 300, 9);
+    expect_begin("an unlisted name, and no other end", LAVUTREMO_OTHER, tables_len, size, 0, 1, 9);
+    expect_begin("an unlisted name, and self as the other end", LAVUTREMO_OTHER, tables_len, size, 2, 1, 9);
+    put_self();
+    expect_begin("no name listed", 0, tables_len, size, 3, 300, 65535);
 }
 
 /* Asks for a report; no byte of the negotiation may change. */
@@ -277,15 +361,27 @@ static uint64_t expect_report(const char *what, uint64_t expected, size_t tables
     return answer;
 }
 
-/* One node, the role 300.1 wanted of entity 3, in state 3: failed, after one message of the mediator. */
-static void put_primary(uint8_t *negotiation)
+/* One node, the role 300.name wanted of entity 3, in state 3: failed, after one message of the mediator. */
+static void put_primary_of(uint8_t *negotiation, uint8_t name)
 {
-    static const uint8_t node[22] = {2, 0, 300 >> 8, 300 & 255, 0, 1, [18] = 0, 3, 0, 3};
-    lavutremo_begin(tables, tables_len, negotiation, LAVUTREMO_NEGOTIATION_BYTES, 3, 300, 1);
+    const uint8_t node[22] = {2, 0, 300 >> 8, 300 & 255, 0, name, [18] = 0, 3, 0, 3};
+    lavutremo_begin(tables, tables_len, negotiation, LAVUTREMO_NEGOTIATION_BYTES, 3, 300, name);
     memcpy(negotiation + 128, node, sizeof node);
     negotiation[10] = 2;
     negotiation[13] = 1;
     negotiation[16] = 1;
+}
+
+static void put_primary(uint8_t *negotiation)
+{
+    put_primary_of(negotiation, 1);
+}
+
+/* The one credential shown: the 22 bytes after a command's first. */
+static void put_shown(uint8_t *negotiation, const uint8_t *operands)
+{
+    memcpy(negotiation + 3712, operands, LAVUTREMO_CREDENTIAL_BYTES - 1);
+    negotiation[19] = 1;
 }
 
 static void reports(void)
@@ -315,6 +411,18 @@ static void reports(void)
     expect_report("one message of each", (value | one << 31 | one << 41) << 8, tables_len, n, size, 0);
     memcpy(n + 12, (const uint8_t[]){514 >> 8, 514 & 255, 513 >> 8, 513 & 255}, 4);
     expect_report("514 and 513", (value | 514 * one << 31 | 513 * one << 41) << 8, tables_len, n, size, 0);
+    put_primary_of(n, 9);
+    expect_report("a primary of an unlisted name", (value | one << 31) << 8, tables_len, n, size, 0);
+    put_shown(n, (const uint8_t[]){0, 4, 0, 9, ROLE(5, 8)});
+    expect_report("a credential of unlisted names", (value | one << 24 | one << 31) << 8, tables_len, n, size, 0);
+    put_shown(n, (const uint8_t[]){0, 4, 0, 9, LINKED(4, 8, 9)});
+    expect_report("an unlisted linked role", (value | one << 24 | one << 31) << 8, tables_len, n, size, 0);
+    put_shown(n, (const uint8_t[]){0, 4, 0, 1, LINKED(4, 1, 9)});
+    expect_report("class 1 and an unlisted name", (value | one << 24 | one << 31) << 8, tables_len, n, size, 0);
+    put_shown(n, (const uint8_t[]){0, 4, 0, 9, ROLE(5, 1)});
+    expect_report("an unlisted head, a body of class 1", LAVUTREMO_DAMAGED, tables_len, n, size, 0);
+    put_shown(n, (const uint8_t[]){0, 4, 0, 1, LINKED(4, 9, 1)});
+    expect_report("ill-typed by an unlisted name", LAVUTREMO_DAMAGED, tables_len, n, size, 0);
 }
 
 /* Each of these bytes, changed alone, damages a negotiation. */
@@ -368,9 +476,6 @@ static void put_command(const uint8_t *bytes, size_t size)
 }
 
 #define COMMAND(...) put_command((const uint8_t[]){__VA_ARGS__}, sizeof((const uint8_t[]){__VA_ARGS__}))
-
-/* A role of one-byte numbers, as an expression. */
-#define ROLE(entity, name) 2, 0, 0, entity, 0, name, 0, 0, 0, 0, 0, 0, 0, 0, 0, 0, 0, 0
 
 /* Takes the message. An accepted one leaves zeros in the scratch, a refused one every byte as it was. */
 static void expect_take(const char *what, uint64_t expected, size_t tables_size, size_t size, size_t message_size,
@@ -446,8 +551,16 @@ static void takes(void)
         {"a zero in a role", LAVUTREMO_OPERAND, {0x02, 0, 0, 0, 1, 2, 0x06}, 7},
         {"state 4", LAVUTREMO_OPERAND, {0x02, 0, 3, 0, 1, 4, 0x06}, 7},
         {"edge kind 7", LAVUTREMO_OPERAND, {0x04, 7, 0, 0, 0x06}, 5},
-        {"a name without class", LAVUTREMO_NAME, {0x02, 0, 3, 0, 9, 2, 0x06}, 7},
+        {"a second open, of an unlisted name", LAVUTREMO_OPENING, {0x02, 0, 3, 0, 9, 2, 0x06}, 7},
         {"a class rule broken", LAVUTREMO_CLASS, {0x01, 0, 4, 0, 2, ROLE(3, 1), 0x06}, 24},
+        {"an unlisted head, a body of class 1", LAVUTREMO_CLASS, {0x01, 0, 4, 0, 9, ROLE(3, 1), 0x06}, 24},
+        {"ill-typed by an unlisted name", LAVUTREMO_CLASS, {0x01, 0, 3, 0, 1, LINKED(3, 9, 1), 0x06}, 24},
+        {"a child ill-typed by an unlisted name", LAVUTREMO_CLASS, {0x03, 1, 0, LINKED(3, 9, 1), 0, 2, 1, 0x06}, 25},
+        {"a credential of unlisted names", 0, {0x01, 0, 4, 0, 9, ROLE(5, 8), 0x06}, 24},
+        {"an unlisted linked role", 0, {0x01, 0, 4, 0, 9, LINKED(4, 8, 7), 0x06}, 24},
+        {"an unlisted intersection", 0, {0x01, 0, 4, 0, 2, BOTH(4, 8, 5, 9), 0x06}, 24},
+        {"class 1 and an unlisted name", 0, {0x01, 0, 3, 0, 1, LINKED(3, 1, 9), 0x06}, 24},
+        {"an unlisted child without credentials", LAVUTREMO_UNJUSTIFIED, {0x03, 1, 0, ROLE(4, 9), 0, 2, 1, 0x06}, 25},
         {"a second open", LAVUTREMO_OPENING, {0x02, 0, 3, 0, 1, 2, 0x06}, 7},
         {"a mark of no node", LAVUTREMO_ABSENT, {0x05, 1, 0x06}, 3},
         {"a node joined to itself", LAVUTREMO_PRESENT, {0x04, 1, 0, 0, 0x06}, 5},
@@ -492,17 +605,115 @@ static void takes(void)
         failed++;
 }
 
+/* Takes a message that must be accepted, and counts what the negotiation then has. */
+static void expect_graph(const char *what, unsigned nodes, unsigned edges, unsigned shown)
+{
+    expect_message(what, 0);
+    uint64_t answer = lavutremo_report(tables, tables_len, taken, LAVUTREMO_NEGOTIATION_BYTES, 0);
+    if (lavutremo_number(answer) == 0 && lavutremo_nodes(answer) == nodes && lavutremo_edges(answer) == edges &&
+        lavutremo_shown(answer) == shown) {
+        passed++;
+        return;
+    }
+    failed++;
+    printf("%s: report %llu\n", what, (unsigned long long)answer);
+}
+
+/* Messages with names that the tables do not list. */
+static void unlisted_messages(void)
+{
+    put_requester(0);
+    COMMAND(0x02, 0, 3, 0, 9, 2);
+    COMMAND(0x06);
+    expect_graph("an open of an unlisted name", 1, 0, 0);
+    put_requester(0);
+    COMMAND(0x02, 0, 3, 0, 9, 2);
+    COMMAND(0x01, 0, 3, 0, 9, LINKED(3, 8, 7));
+    COMMAND(0x03, 1, 0, LINKED(3, 8, 7), 0, 2, 0);
+    COMMAND(0x03, 2, 1, GOAL(7), 0, 2, 1);
+    COMMAND(0x06);
+    expect_graph("an unlisted linked role and its goal", 3, 2, 1);
+    put_requester(0);
+    put_self();
+    lavutremo_begin(tables, tables_len, taken, LAVUTREMO_NEGOTIATION_BYTES, 3, 0, 0);
+    COMMAND(0x02, 0, 3, 0, 1, 2);
+    COMMAND(0x01, 0, 3, 0, 1, BOTH(4, 3, 5, 2));
+    COMMAND(0x03, 1, 0, BOTH(4, 3, 5, 2), 0, 2, 2);
+    COMMAND(0x03, 5, 1, ROLE(4, 3), 0, 2, 0);
+    COMMAND(0x03, 5, 1, ROLE(5, 2), 0, 2, 0);
+    COMMAND(0x06);
+    expect_graph("tables that list no name", 4, 3, 1);
+}
+
+static void not_four(const char *what, size_t at, unsigned value, uint64_t answer)
+{
+    if (answer != LAVUTREMO_NAME)
+        return;
+    failed++;
+    printf("%s: 4 with byte %zu being %u\n", what, at, value);
+}
+
+/* Each call with these tables, the negotiation and the message; the negotiation is left as it was. */
+static void all_calls(size_t at, unsigned value)
+{
+    static uint8_t fresh[LAVUTREMO_NEGOTIATION_BYTES], kept[sizeof fresh], reply[LAVUTREMO_LEAST_REPLY_BYTES];
+    const size_t size = sizeof fresh;
+    not_four("check", at, value, lavutremo_check(tables, tables_len));
+    not_four("begin", at, value, lavutremo_begin(tables, tables_len, fresh, size, 3, 300, (uint16_t)value));
+    not_four("report", at, value, lavutremo_report(tables, tables_len, taken, size, 0));
+    memcpy(kept, taken, size);
+    not_four("take", at, value,
+             lavutremo_take(tables, tables_len, taken, size, message, message_len, scratch, LAVUTREMO_SCRATCH_BYTES));
+    not_four("reply", at, value,
+             lavutremo_reply(tables, tables_len, taken, size, reply, sizeof reply, scratch, LAVUTREMO_SCRATCH_BYTES));
+    memcpy(taken, kept, size);
+}
+
+/* No call returns 4 where one of these bytes has another value; counts once. */
+static void change_each(uint8_t *bytes, size_t from, size_t to)
+{
+    const int before_failed = failed;
+    for (size_t at = from; at < to; at++) {
+        const uint8_t before = bytes[at];
+        for (unsigned value = 0; value < 256; value++) {
+            bytes[at] = (uint8_t)value;
+            all_calls(at, value);
+        }
+        bytes[at] = before;
+    }
+    passed += failed == before_failed;
+}
+
+/* The same with every byte of the tables and the message, and with those of the negotiation that are in use. */
+static void never_four(void)
+{
+    put_requester(1);
+    COMMAND(0x01, 0, 3, 0, 1, LINKED(3, 2, 3));
+    COMMAND(0x03, 1, 0, LINKED(3, 2, 3), 0, 2, 0);
+    COMMAND(0x06);
+    change_each(tables, 0, tables_len);
+    change_each(message, 0, message_len);
+    expect_message("a linked role", 0);
+    change_each(taken, 0, 20);
+    change_each(taken, 128, 128 + 2 * 22);
+    change_each(taken, 3712, 3712 + 22);
+}
+
 int main(void)
 {
     lengths();
     commands();
     order();
     table_records();
+    unlisted_names();
+    self_missing();
     table_sizes();
     begins();
     reports();
     damaged_bytes();
     takes();
+    unlisted_messages();
+    never_four();
     printf("%d passed, %d failed\n", passed, failed);
     return failed > 0;
 }

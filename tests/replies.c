@@ -1,6 +1,6 @@
 /*
- * Replies through the C interface: what is refused and in which order, which bytes change, and how messages are counted.
- * The other end's messages are those of marked case (i).
+ * Replies through the C interface: what is refused and in which order, which bytes change, how messages are counted, and
+ * that a name that the tables do not list is subject-all. The other end's messages are those of the marked cases.
  */
 #include <stdio.h>
 #include <string.h>
@@ -8,20 +8,28 @@
 #include "layout.h"
 #include "text.h"
 
-#define CLASSES "class 1 issuer-def\nclass 2 subject-all\nclass 3 subject-all\n"
+/* The classes of marked case (i), all listed or name 1 alone. */
+#define LISTED "class 1 issuer-def\nclass 2 subject-all\nclass 3 subject-all\n"
+#define ONE_LISTED "class 1 issuer-def\n"
+#define STUDIO(classes) "self 3\n" classes "issued 3.1 <- 4.3\nstored 1.2 <- 3\n"
+#define HOUSE(classes) "self 2\n" classes "sensitive 4.3 ack 1.2\n"
+#define HELD "stored 4.3 <- 2\n"
+
 #define ROLE(entity, name) 2, 0, 0, entity, 0, name, 0, 0, 0, 0, 0, 0, 0, 0, 0, 0, 0, 0
 #define ENTITY(entity) 1, 0, 0, entity, 0, 0, 0, 0, 0, 0, 0, 0, 0, 0, 0, 0, 0, 0
 
-static const uint8_t messages[4][56] = {
+/* The four messages of case (i), and the last of case (j), which has the first three as well. */
+static const uint8_t messages[5][56] = {
     {0x02, 0, 3, 0, 1, 2, 0x01, 0, 3, 0, 1, ROLE(4, 3), 0x03, 1, 0, ROLE(4, 3), 0, 2, 1, 0x05, 0, 0x06},
     {0x03, 6, 1, ROLE(1, 2), 0, 3, 1, 0x06},
     {0x01, 0, 1, 0, 2, ENTITY(3), 0x03, 1, 2, ENTITY(3), 0, 3, 3, 0x05, 2, 0x06},
     {0x01, 0, 4, 0, 3, ENTITY(2), 0x03, 1, 1, ENTITY(2), 0, 2, 3, 0x06},
+    {0x05, 1, 0x06},
 };
-static const size_t lengths[4] = {56, 25, 50, 48};
+static const size_t lengths[5] = {56, 25, 50, 48, 3};
 
 /* After each of them: the messages of the mediator and of the requester. */
-static const unsigned counts[4][2] = {{1, 0}, {1, 1}, {2, 1}, {2, 2}};
+static const unsigned counts[5][2] = {{1, 0}, {1, 1}, {2, 1}, {2, 2}, {2, 2}};
 
 /* The buffers of one end, each with room for a length that is too great. */
 static struct lent {
@@ -110,12 +118,12 @@ static void begin(const char *text, uint16_t other, uint16_t entity, uint16_t na
 
 static void begin_studio(void)
 {
-    begin("self 3\n" CLASSES "issued 3.1 <- 4.3\nstored 1.2 <- 3\n", 2, 3, 1);
+    begin(STUDIO(LISTED), 2, 3, 1);
 }
 
 static void begin_house(void)
 {
-    begin("self 2\n" CLASSES "stored 4.3 <- 2\nsensitive 4.3 ack 1.2\n", 3, 0, 0);
+    begin(HOUSE(LISTED) HELD, 3, 0, 0);
 }
 
 static void outside_the_sizes(void)
@@ -144,9 +152,12 @@ static void wrong_tables(void)
         size_t at;
         uint8_t value;
         uint64_t number;
-    } changes[] = {{"an unknown record", 38, 0x16, LAVUTREMO_COMMAND}, {"class 4", 6, 4, LAVUTREMO_OPERAND},
-                   {"a name without class", 19, 9, LAVUTREMO_NAME},    {"subject-all in 0x12", 38, 0x12, LAVUTREMO_CLASS},
-                   {"a name twice", 9, 1, LAVUTREMO_ORDER},            {"another self", 2, 9, LAVUTREMO_DAMAGED}};
+    } changes[] = {{"an unknown record", 38, 0x16, LAVUTREMO_COMMAND},
+                   {"class 4", 6, 4, LAVUTREMO_OPERAND},
+                   {"an unlisted head in 0x12", 19, 9, LAVUTREMO_CLASS},
+                   {"subject-all in 0x12", 38, 0x12, LAVUTREMO_CLASS},
+                   {"a name twice", 9, 1, LAVUTREMO_ORDER},
+                   {"another self", 2, 9, LAVUTREMO_DAMAGED}};
     for (size_t i = 0; i < sizeof changes / sizeof changes[0]; i++) {
         begin_studio();
         lent.tables[changes[i].at] = changes[i].value;
@@ -176,6 +187,195 @@ static void turns(void)
     taken("the third message", 2);
     given("the fourth", 3, LAVUTREMO_LEAST_REPLY_BYTES);
     refused_now("after success, not the requester's turn", LAVUTREMO_ENDED);
+}
+
+/* How the negotiation has ended. */
+static void ended(const char *what, unsigned end)
+{
+    uint64_t answer = lavutremo_report(lent.tables, tables_len, lent.negotiation, LAVUTREMO_NEGOTIATION_BYTES, 0);
+    count(what, lavutremo_number(answer) == 0 && lavutremo_end(answer) == end, answer);
+}
+
+/* Marked case (i), or (j) without the credential, from each end, with these tables: the messages are those above. */
+static void marked(const char *what, const char *studio, const char *house, int held)
+{
+    const int last = held ? 3 : 4;
+    const unsigned end = held ? LAVUTREMO_END_SUCCESS : LAVUTREMO_END_FAILED;
+    begin(studio, 2, 3, 1);
+    given(what, 0, LAVUTREMO_LEAST_REPLY_BYTES);
+    taken(what, 1);
+    given(what, 2, LAVUTREMO_LEAST_REPLY_BYTES);
+    ended(what, LAVUTREMO_END_NONE);
+    taken(what, last);
+    ended(what, end);
+    begin(house, 3, 0, 0);
+    taken(what, 0);
+    given(what, 1, LAVUTREMO_LEAST_REPLY_BYTES);
+    taken(what, 2);
+    ended(what, LAVUTREMO_END_NONE);
+    given(what, last, LAVUTREMO_LEAST_REPLY_BYTES);
+    ended(what, end);
+}
+
+/* The marked cases with all names listed, with name 1 alone, and with a House that lists none. */
+static void marked_cases(void)
+{
+    marked("case (i), all names listed", STUDIO(LISTED), HOUSE(LISTED) HELD, 1);
+    marked("case (j), all names listed", STUDIO(LISTED), HOUSE(LISTED), 0);
+    marked("case (i), name 1 listed", STUDIO(ONE_LISTED), HOUSE(ONE_LISTED) HELD, 1);
+    marked("case (j), name 1 listed", STUDIO(ONE_LISTED), HOUSE(ONE_LISTED), 0);
+    marked("case (i), no name listed by House", STUDIO(ONE_LISTED), HOUSE("") HELD, 1);
+    marked("case (j), no name listed by House", STUDIO(ONE_LISTED), HOUSE(""), 0);
+}
+
+/* A whole negotiation between Studio and House: its messages, and whether House's Ack target was satisfied after each. */
+#define MOST_RUN 16
+struct run {
+    uint8_t messages[MOST_RUN][LAVUTREMO_MOST_MESSAGE_BYTES];
+    size_t lengths[MOST_RUN];
+    int acknowledged[MOST_RUN];
+    unsigned count, end;
+};
+
+struct side {
+    struct house house;
+    uint8_t negotiation[LAVUTREMO_NEGOTIATION_BYTES];
+};
+
+static uint64_t report_of(const struct side *side, unsigned node)
+{
+    return lavutremo_report(side->house.bytes, side->house.length, side->negotiation, sizeof side->negotiation,
+                            (uint8_t)node);
+}
+
+/* Whether the target that House, 2, asks of Studio, 3, for this role stands and is satisfied. */
+static int acknowledged(const struct side *house, unsigned entity, unsigned name)
+{
+    for (unsigned i = 0; i < house->negotiation[NODE_COUNT_AT]; i++) {
+        const uint8_t *node = house->negotiation + NODES_AT + NODE_BYTES * i;
+        if (node[0] == LAVUTREMO_KIND_ROLE && number_at(node + 2) == entity && number_at(node + 4) == name &&
+            number_at(node + NODE_SUBJECT_AT) == 3 && node[NODE_VERIFIER_AT] == 1)
+            return lavutremo_propagated(report_of(house, i)) == LAVUTREMO_SATISFIED;
+    }
+    return 0;
+}
+
+static int start(struct side *side, const char *text, uint16_t other, uint16_t entity, uint16_t name)
+{
+    struct text_error error;
+    return text_to_house(text, strlen(text), &side->house, &error) &&
+           lavutremo_begin(side->house.bytes, side->house.length, side->negotiation, sizeof side->negotiation, other,
+                           entity, name) == 0;
+}
+
+/* Carries one message from one end to the other. Returns 1, or 0 if a call refuses. */
+static int carry(struct side *from, struct side *to, struct run *run)
+{
+    static uint8_t scratch[LAVUTREMO_SCRATCH_BYTES];
+    uint8_t *message = run->messages[run->count];
+    uint64_t answer = lavutremo_reply(from->house.bytes, from->house.length, from->negotiation, sizeof from->negotiation,
+                                      message, LAVUTREMO_MOST_MESSAGE_BYTES, scratch, sizeof scratch);
+    if (lavutremo_number(answer) != 0)
+        return 0;
+    run->lengths[run->count] = lavutremo_length(answer);
+    return lavutremo_take(to->house.bytes, to->house.length, to->negotiation, sizeof to->negotiation, message,
+                          run->lengths[run->count], scratch, sizeof scratch) == 0;
+}
+
+/* Runs a negotiation about this role to its end. House's Ack role is 1.901. */
+static void play_for(const char *what, const char *studio, const char *house, uint16_t entity, uint16_t name,
+                     struct run *run)
+{
+    static struct side sides[2];
+    memset(run, 0, sizeof *run);
+    int right = start(&sides[0], studio, 2, entity, name) && start(&sides[1], house, 3, 0, 0);
+    while (right && run->end == LAVUTREMO_END_NONE && run->count < MOST_RUN) {
+        struct side *from = &sides[run->count % 2], *to = &sides[1 - run->count % 2];
+        right = carry(from, to, run);
+        run->end = lavutremo_end(report_of(to, 0));
+        run->acknowledged[run->count++] = acknowledged(&sides[1], 1, 901);
+    }
+    count(what, right && run->end != LAVUTREMO_END_NONE, run->count);
+}
+
+static void play(const char *what, const char *studio, const char *house, struct run *run)
+{
+    play_for(what, studio, house, 3, 1, run);
+}
+
+static int same_message(const struct run *one, const struct run *other, unsigned i)
+{
+    return one->lengths[i] == other->lengths[i] && memcmp(one->messages[i], other->messages[i], one->lengths[i]) == 0;
+}
+
+static void same_run(const char *what, const struct run *one, const struct run *other)
+{
+    int same = one->count == other->count && one->end == other->end;
+    for (unsigned i = 0; same && i < one->count; i++)
+        same = same_message(one, other, i);
+    count(what, same, one->count);
+}
+
+/* Alike as far as the Ack target is unsatisfied in both; House replied twice before, and otherwise afterwards. */
+static void alike_until_acknowledged(const char *what, const struct run *one, const struct run *other)
+{
+    unsigned i = 0;
+    while (i < one->count && i < other->count && same_message(one, other, i) && !one->acknowledged[i] &&
+           !other->acknowledged[i])
+        i++;
+    int satisfied = i + 1 < one->count && i + 1 < other->count && one->acknowledged[i] && other->acknowledged[i];
+    count(what, satisfied && i >= 4 && same_message(one, other, i) && !same_message(one, other, i + 1), i);
+}
+
+#define LISTED_900 "class 900 subject-all\nclass 901 subject-all\n"
+#define PROVING "stored 1.901 <- 3\n"
+#define ASKING_FIRST "sensitive 4.900 ack 1.901\n"
+
+/* A wanted role that neither end lists, 4.900, sensitive and held or not: as if it were listed. */
+static void wanted(void)
+{
+    static struct run run, listed;
+    play_for("an unlisted role, held", "self 3\n" PROVING, "self 2\nstored 4.900 <- 2\n" ASKING_FIRST, 4, 900, &run);
+    count("an unlisted role, held", run.end == LAVUTREMO_END_SUCCESS, run.end);
+    play_for("a listed role, held", "self 3\n" LISTED_900 PROVING,
+             "self 2\n" LISTED_900 "stored 4.900 <- 2\n" ASKING_FIRST, 4, 900, &listed);
+    same_run("a wanted role, held, listed or not", &run, &listed);
+    play_for("an unlisted role, not held", "self 3\n" PROVING, "self 2\n" ASKING_FIRST, 4, 900, &run);
+    count("an unlisted role, not held", run.end == LAVUTREMO_END_FAILED, run.end);
+    play_for("a listed role, not held", "self 3\n" LISTED_900 PROVING, "self 2\n" LISTED_900 ASKING_FIRST, 4, 900,
+             &listed);
+    same_run("a wanted role, not held, listed or not", &run, &listed);
+}
+
+#define ALL_LISTED \
+    "class 1 issuer-def\nclass 900 subject-all\nclass 901 subject-all\nclass 902 subject-all\n" \
+    "class 903 subject-all\nclass 904 subject-all\n"
+#define ASKING \
+    "issued 3.1 <- 4.900 & 5.902\nissued 3.1 <- 3.903.900\nstored 1.901 <- 3\nstored 7.902 <- 3\n" \
+    "sensitive 1.901 ack 6.904\n"
+#define ASKED "stored 5.902 <- 2\nstored 6.904 <- 2\nsensitive 4.900 ack 1.901\nsensitive 8.900 ack 1.901\n"
+
+/*
+ * A sensitive role of an unlisted name, 4.900, held or not. Studio's proof of its Ack role, 1.901, is sensitive too, so
+ * that House replies twice before it; a linked role and an intersection of unlisted names are asked for beside it.
+ */
+static void hidden(void)
+{
+    static struct run without, with, listed, access;
+    play("not held", "self 3\n" ONE_LISTED ASKING, "self 2\n" ASKED, &without);
+    play("held", "self 3\n" ONE_LISTED ASKING, "self 2\n" ASKED "stored 4.900 <- 2\n", &with);
+    play("held, with an AC role", "self 3\n" ONE_LISTED ASKING,
+         "self 2\n" ASKED "stored 4.900 <- 2\naccess 4.900 7.902\n", &access);
+    count("held", with.end == LAVUTREMO_END_SUCCESS, with.end);
+    count("held, with an AC role", access.end == LAVUTREMO_END_SUCCESS, access.end);
+    count("not held", without.end == LAVUTREMO_END_FAILED, without.end);
+    alike_until_acknowledged("held or not", &without, &with);
+    alike_until_acknowledged("held with an AC role, or not", &without, &access);
+    alike_until_acknowledged("held with an AC role, or without one", &with, &access);
+    play("not held, listed", "self 3\n" ALL_LISTED ASKING, "self 2\n" ALL_LISTED ASKED, &listed);
+    same_run("not held, listed or not", &without, &listed);
+    play("held, listed", "self 3\n" ALL_LISTED ASKING, "self 2\n" ALL_LISTED ASKED "stored 4.900 <- 2\n", &listed);
+    same_run("held, listed or not", &with, &listed);
 }
 
 /* The negotiation is damaged: reply, take and report say so, whoever's turn it is, and no byte changes. */
@@ -306,6 +506,9 @@ int main(void)
     outside_the_sizes();
     wrong_tables();
     turns();
+    marked_cases();
+    wanted();
+    hidden();
     wrong_counts();
     counts_alone();
     most_counts();

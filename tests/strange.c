@@ -1,8 +1,8 @@
 /*
  * strange COUNT: texts of tables with changes at random, from a fixed seed, random bytes to be printed, and a hundredth as
  * many random negotiations and refused messages. Built with sanitizers. Exits with 1 if a text that is accepted does not
- * come back as it was, a node's state is not the one that was printed last, a message is not counted for its sender, or
- * another command was refused than is told.
+ * come back as it was, a node's state is not the one that was printed last, a message is not counted for its sender,
+ * another command was refused than is told, or a negotiation is another where subject-all names are not listed.
  */
 #define _POSIX_C_SOURCE 200809L
 #include <stdio.h>
@@ -16,7 +16,7 @@
 
 static const char honest[] = "self 2\nclass 1 issuer-def\nclass 2 issuer-all\nclass 3 subject-all\n"
                              "issued 2.1 <- 2.2.3\nissued 2.1 <- 2.2 & 3.3 # comment\nstored 4.3 <- 2\n"
-                             "sensitive 4.3 ack 1.2\naccess 4.3 2.1\n";
+                             "stored 4.3 <- 5.6\nsensitive 4.3 ack 1.2\naccess 4.3 2.1\n";
 
 /* The end of what is read lies against the end of its memory, so that a byte too far is found. */
 static char *copy(const char *from, size_t length)
@@ -113,13 +113,14 @@ static void put_line(char *to, size_t size, unsigned self)
     snprintf(to, size, forms[kind], number[0], number[1], number[2], number[3], number[4], number[5]);
 }
 
-/* Random tables: lines that do not fit those before are left out. */
+/* Random tables: lines that do not fit those before are left out. Names 3 and 4 are subject-all, listed or not. */
 static void draw_house(unsigned self, struct house *house)
 {
     char text[4096];
     struct text_error error;
-    int length = snprintf(text, sizeof text, "self %u\nclass 1 issuer-def\nclass 2 %s\nclass 3 subject-all\n"
-                          "class 4 subject-all\n", self, rand() % 2 ? "issuer-all" : "subject-all");
+    int length = snprintf(text, sizeof text, "self %u\nclass 1 issuer-def\nclass 2 %s\n%s%s", self,
+                          rand() % 2 ? "issuer-all" : "subject-all", rand() % 2 ? "class 3 subject-all\n" : "",
+                          rand() % 2 ? "class 4 subject-all\n" : "");
     for (int i = 0; i < 20; i++) {
         put_line(text + length, sizeof text - (size_t)length, self);
         struct house trial;
@@ -187,6 +188,59 @@ static int try_refused(const struct end *before, const uint8_t *message, size_t 
     return number == 0 || refused_right(&trial, number);
 }
 
+/* The same tables without the records of subject-all names. */
+static void leave_unlisted(const struct house *from, struct house *to)
+{
+    to->length = 0;
+    for (size_t at = 0, size; at < from->length; at += size) {
+        const uint8_t *record = from->bytes + at;
+        size = record_size(record[0]);
+        if (record[0] == LAVUTREMO_RECORD_NAME && record[3] == LAVUTREMO_CLASS_SUBJECT_ALL)
+            continue;
+        memcpy(to->bytes + to->length, record, size);
+        to->length += size;
+    }
+}
+
+/* One message from one end to the other. Returns the number of the call that refuses, or 0. */
+static unsigned pass(struct end *from, struct end *other)
+{
+    unsigned number = end_reply(from);
+    if (number != 0)
+        return number;
+    memcpy(other->message, from->message, from->length);
+    other->length = from->length;
+    return end_take(other);
+}
+
+static int same_end(const struct end *one, const struct end *other)
+{
+    return one->length == other->length && memcmp(one->message, other->message, one->length) == 0 &&
+           memcmp(one->negotiation, other->negotiation, sizeof one->negotiation) == 0;
+}
+
+/* Whether tables that do not list their subject-all names give the same messages, refusals and negotiations. */
+static int unlisted_alike(const struct house houses[2])
+{
+    static struct house shorter[2];
+    static struct end listed[2], unlisted[2];
+    for (int i = 0; i < 2; i++) {
+        leave_unlisted(&houses[i], &shorter[i]);
+        if (end_begin(&listed[i], &houses[i], i == 0 ? 2 : 3, i == 0 ? 3 : 0, i == 0) != 0 ||
+            end_begin(&unlisted[i], &shorter[i], i == 0 ? 2 : 3, i == 0 ? 3 : 0, i == 0) != 0)
+            return 0;
+    }
+    for (int i = 0; i < 64; i++) {
+        unsigned number = pass(&listed[i % 2], &listed[1 - i % 2]);
+        if (pass(&unlisted[i % 2], &unlisted[1 - i % 2]) != number || !same_end(&listed[0], &unlisted[0]) ||
+            !same_end(&listed[1], &unlisted[1]))
+            return 0;
+        if (number != 0)
+            break;
+    }
+    return 1;
+}
+
 /* A random negotiation: each message is printed at the end that takes it, after one with changes was tried there. */
 static int try_negotiation(FILE *to, int *refused, int *ends)
 {
@@ -195,6 +249,8 @@ static int try_negotiation(FILE *to, int *refused, int *ends)
     struct lavutremo_printed printed[2] = {{0}, {0}};
     draw_house(3, &houses[0]);
     draw_house(2, &houses[1]);
+    if (!unlisted_alike(houses))
+        return 0;
     if (end_begin(&sides[0], &houses[0], 2, 3, 1) != 0 || end_begin(&sides[1], &houses[1], 3, 0, 0) != 0)
         return 0;
     for (int i = 0; i < 64; i++) {
@@ -223,7 +279,7 @@ static int negotiations(FILE *to, int count)
     int refused = 0, ends[5] = {0};
     for (int i = 0; i < count; i++)
         if (!try_negotiation(to, &refused, ends)) {
-            printf("negotiation %d is printed or counted wrong\n", i);
+            printf("negotiation %d is printed or counted wrong, or another where names are not listed\n", i);
             return 0;
         }
     printf("%d negotiations, %d messages refused; ends %d %d %d %d %d\n", count, refused, ends[0], ends[1], ends[2],

@@ -32,12 +32,13 @@ static void marked(int with)
     add(studio_text, "issued 3.1 <- 4.3\nstored 1.2 <- 3\n", 0, 0, 0, 0);
 }
 
-/* The same draws whether with or without: only the direct credentials of sensitive roles are left out. */
+/*
+ * The same draws whether with or without: only the direct credentials of sensitive roles are left out. Name 4 is not listed,
+ * and so subject-all as name 3 is.
+ */
 static void draw(int with)
 {
     unsigned count = 1 + (unsigned)rand() % 12;
-    add(house_text, "class 4 subject-all\n", 0, 0, 0, 0);
-    add(studio_text, "class 4 subject-all\n", 0, 0, 0, 0);
     for (unsigned i = 0; i < count; i++) {
         unsigned entity = 10 + i, name = 3 + (unsigned)rand() % 2, other = 40 + (unsigned)rand() % 8;
         int is_sensitive = rand() % 4 != 0, held = rand() % 2, wanted = rand() % 2, chained = rand() % 3 == 0;
