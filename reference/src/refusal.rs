@@ -9,8 +9,6 @@ pub enum Refusal {
     Command = 2,
     /// An operand of wrong form.
     Operand = 3,
-    /// A name without class.
-    Name = 4,
     /// A class rule broken.
     Class = 5,
     /// Tables out of order, repeated, self missing, or a size passed.

@@ -5,7 +5,7 @@ use crate::message::*;
 use crate::refusal::Refusal;
 use std::collections::BTreeMap;
 
-const NUMBERS: [u64; 16] = [0, 1, 2, 3, 4, 5, 6, 20, 21, 22, 23, 24, 25, 26, 27, 28];
+const NUMBERS: [u64; 15] = [0, 1, 2, 3, 5, 6, 20, 21, 22, 23, 24, 25, 26, 27, 28];
 
 #[derive(Default)]
 pub struct TakeCounts {
@@ -41,9 +41,9 @@ fn command_name(command: &Command) -> &'static str {
 /// The refusals that a command of this sort can get, those before it is read aside.
 fn refusals(command: &str) -> &'static [u64] {
     match command {
-        "credential" => &[4, 5, 23, 25, 28],
-        "open" => &[4, 23],
-        "new child" => &[4, 5, 23, 24, 25, 26, 27, 28],
+        "credential" => &[5, 23, 25, 28],
+        "open" => &[23],
+        "new child" => &[5, 23, 24, 25, 26, 27, 28],
         "join" => &[23, 24, 25, 26, 27, 28],
         "mark" => &[23, 24, 27],
         _ => &[23],

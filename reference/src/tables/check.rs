@@ -19,8 +19,9 @@ pub struct Tables {
 }
 
 impl Tables {
-    pub fn class(&self, name: u16) -> Option<Class> {
-        self.names.iter().find(|(known, _)| *known == name).map(|&(_, class)| class)
+    /// The class that the name's 0x11 record gives it; a name without one is subject-all.
+    pub fn class(&self, name: u16) -> Class {
+        self.names.iter().find(|(known, _)| *known == name).map_or(Class::SubjectAll, |&(_, class)| class)
     }
 
     /// Whether 0x13 has the role's direct credential, role from self.
@@ -44,9 +45,9 @@ impl Tables {
     }
 }
 
-/// Whether a record keeps the class rules, where every name in it has a class.
+/// Whether a record keeps the class rules, by the records before it.
 fn class_rules_kept(tables: &Tables, record: &Record) -> bool {
-    let class_of = |name| tables.class(name).unwrap();
+    let class_of = |name| tables.class(name);
     let stored = |credential: &Credential, heads: &[Class]| {
         let head = class_of(credential.head.name);
         heads.contains(&head) && takes(head, &credential.body, class_of)
@@ -99,9 +100,6 @@ pub fn decode(bytes: &[u8]) -> Result<Tables, Refusal> {
     while !rest.is_empty() {
         let own_bytes = next_record(rest).ok_or(Refusal::Command)?;
         let record = decode_record(own_bytes).ok_or(Refusal::Operand)?;
-        if names_used(&record).into_iter().any(|name| tables.class(name).is_none()) {
-            return Err(Refusal::Name);
-        }
         if !class_rules_kept(&tables, &record) {
             return Err(Refusal::Class);
         }
