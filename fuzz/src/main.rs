@@ -18,6 +18,7 @@ use reference::rules::question::{self, Lent};
 use reference::rules::shapes;
 use reference::tables;
 use reference::tables::bytes::each_fault_of_each_size;
+use reference::tables::counts::TableCounts;
 use replies::{ask_adversarial, ask_honest, ask_two_runs};
 use std::process::exit;
 use takes::ask_takes;
@@ -123,21 +124,19 @@ fn check_engine(random: &mut Random, bytes: &[u8]) -> (u64, bool) {
     (answer, buffer.bytes == copy)
 }
 
-/// How often each number occurred.
+/// Checks and what they answered.
 #[derive(Default)]
-struct TableCounts {
+struct Checks {
     passed: u64,
     failed: u64,
-    numbers: [u64; 7],
+    counts: TableCounts,
 }
 
-/// The numbers that a check can answer.
-const CHECK_NUMBERS: [usize; 6] = [0, 1, 2, 3, 5, 6];
-
-impl TableCounts {
+impl Checks {
     fn ask(&mut self, random: &mut Random, bytes: &[u8]) {
-        let expected = tables::check(bytes);
-        self.numbers[expected as usize] += 1;
+        let decoded = tables::decode(bytes);
+        self.counts.checked(&decoded);
+        let expected = decoded.err().map_or(0, |refusal| refusal as u64);
         let (answer, kept) = check_engine(random, bytes);
         if answer == expected && kept {
             self.passed += 1;
@@ -157,23 +156,21 @@ impl TableCounts {
 /// Returns how many tables passed and failed.
 fn ask_tables(seed: u64, count: u64) -> (u64, u64) {
     let (mut random, mut guards) = (Random::new(seed), Random::new(!seed));
-    let mut counts = TableCounts::default();
+    let mut all = Checks::default();
     for _ in 0..count {
         let bytes = random.tables();
-        counts.ask(&mut guards, &bytes);
+        all.ask(&mut guards, &bytes);
     }
-    each_fault_of_each_size(&mut random, |bytes| counts.ask(&mut guards, bytes));
+    each_fault_of_each_size(&mut random, |bytes| all.ask(&mut guards, bytes));
 
-    let TableCounts { passed, mut failed, numbers } = counts;
-    println!("{count} random tables, {} with each fault at each place", passed + failed - count);
-    let refused: Vec<String> =
-        CHECK_NUMBERS[1..].iter().map(|&number| format!("refused {number} {}", numbers[number])).collect();
-    println!("tables: accepted {}, {}", numbers[0], refused.join(", "));
-    if CHECK_NUMBERS.iter().any(|&number| numbers[number] == 0) {
-        println!("a number never occurred: check more tables");
-        failed += 1;
+    println!("{count} random tables, {} with each fault at each place", all.passed + all.failed - count);
+    all.counts.print();
+    let missing = all.counts.missing();
+    if !missing.is_empty() {
+        println!("never occurred: {}", missing.join(", "));
+        all.failed += 1;
     }
-    (passed, failed)
+    (all.passed, all.failed)
 }
 
 fn hex(bytes: &[u8]) -> String {

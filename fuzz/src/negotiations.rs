@@ -47,7 +47,7 @@ impl Negotiations {
         let Lent { tables, negotiation } = lent;
         let judged = judge(tables, negotiation);
         self.counts.lent(negotiation);
-        self.counts.judged(&judged);
+        self.counts.judged(tables, &judged);
         let count = negotiation.get(NODE_COUNT_AT).copied().unwrap_or(0);
         let mut buffers = [tables, negotiation].map(|content| Guarded::new(random, content));
         let copies = buffers.each_ref().map(|buffer| buffer.bytes.clone());
@@ -98,7 +98,7 @@ impl Negotiations {
 fn begin_arguments(random: &mut Random, grown: &Grown) -> (u16, Role) {
     let house = &grown.tables.house;
     let other = [0, house.own, random.entity(house.world), random.entity(house.world)][random.below(4)];
-    // A world has two names more than the house.
+    // Of a name that is listed or not.
     let mut wanted = random.role(house.world);
     match random.below(8) {
         0 => wanted.entity = 0,

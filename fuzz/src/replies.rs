@@ -11,6 +11,7 @@ use reference::random::Random;
 use reference::reply::leak::{Leak, LEAKS};
 use reference::rules::expression::Role;
 use reference::runs::compare::{compare, Outcome};
+use reference::runs::counts::RunCounts;
 use reference::runs::sample::TwoRuns;
 
 /// The engine. Each buffer is lent with random bytes beside it.
@@ -271,11 +272,13 @@ struct Compared {
     /// Lists after a call of which an end's count was not that of its messages.
     miscounted: u64,
     calls: usize,
+    counts: RunCounts,
 }
 
 impl Compared {
     fn note(&mut self, two: &TwoRuns, outcome: Option<Outcome>) {
         self.calls += two.list.calls.len();
+        self.counts.compared(two.tables.each_ref().map(Vec::as_slice), outcome);
         match outcome {
             Some(Outcome::Alike) => self.alike += 1,
             Some(Outcome::Parted(_)) => self.parted += 1,
@@ -311,12 +314,19 @@ pub fn ask_two_runs(seed: u64, count: u64) -> (u64, u64) {
         let outcome = compare_by(&mut engine, &two);
         compared.note(&two, outcome);
     }
-    let Compared { alike, parted, leaks, miscounted, calls } = compared;
+    let Compared { alike, parted, leaks, miscounted, calls, counts } = compared;
     println!("{count} lists for two runs, {calls} calls: alike to the end {alike}, parted after an Ack target was satisfied {parted}");
     println!("  lists in which an end's count was not that of its messages: {miscounted}");
+    counts.print();
+    let missing = counts.missing();
+    let lacks = count >= ENOUGH_LISTS && !missing.is_empty();
+    if lacks {
+        println!("never occurred: {}", missing.join(", "));
+    }
     let found = LEAKS.map(|leak| (leak, found_by(seed, count, leak)));
     found.iter().for_each(|(leak, list)| println!("  planted leak {leak:?}: found by list {list:?}"));
     let missed = found.iter().filter(|(_, list)| list.is_none()).count() as u64;
     let missed = if count >= ENOUGH_LISTS { missed } else { 0 };
-    (alike + parted + LEAKS.len() as u64 - missed, leaks + miscounted + missed + (engine.strays > 0) as u64)
+    let failed = leaks + miscounted + missed + (engine.strays > 0) as u64 + lacks as u64;
+    (alike + parted + LEAKS.len() as u64 - missed, failed)
 }

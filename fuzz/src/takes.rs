@@ -47,7 +47,7 @@ impl Takes {
     /// What the reference judged, after the engine's answer was compared with it.
     fn ask(&mut self, guards: &mut Random, lent: &Lent) -> Result<Accepted, Refused> {
         let judged = judge(&lent.tables, &lent.negotiation, &lent.message, &lent.scratch);
-        self.counts.taken(&lent.message, &judged);
+        self.counts.taken(lent, &judged);
         let (expected, negotiation, scratch) = match &judged {
             Ok(accepted) => (0, encode(&accepted.after), vec![0; lent.scratch.len()]),
             Err(refused) => (refused.refusal as u64, lent.negotiation.clone(), lent.scratch.clone()),

@@ -1,4 +1,4 @@
-//! Random tables of two ends that can negotiate with each other: one world, one set of names with classes.
+//! Random tables of two ends that can negotiate with each other: one world, one class for each name, listed or not.
 //!
 //! A proof of the wanted role is laid out over both ends: each credential is stored where its class asks for, and some
 //! roles that an end proves of itself are sensitive, with Ack and AC roles that the other end proves in turn. Then
@@ -97,7 +97,7 @@ impl Draft {
     }
 
     fn class(&self, name: u16) -> Class {
-        self.houses[0].names.iter().find(|(known, _)| *known == name).map_or(SubjectAll, |&(_, class)| class)
+        self.houses[0].class(name)
     }
 
     /// Stores a credential where a proof to this verifier needs it.
@@ -133,17 +133,17 @@ impl Random {
         }
     }
 
-    /// Two houses of one world.
+    /// Two houses of one world. The requester may leave out subject-all names that the mediator lists.
     fn begun_draft(&mut self, most_entities: usize, name_count: usize) -> Draft {
         let mediator = self.house_among(most_entities, name_count);
         let mut requester = mediator.clone();
         while requester.own == mediator.own {
             requester.own = self.entity(mediator.world);
         }
-        // A house has at least three names.
+        let left_out = [0, 0, 50, 100][self.below(4)];
+        requester.names.retain(|(_, class)| *class != SubjectAll || !self.percent(left_out));
         let classes = if self.percent(85) { &ALL_CLASSES[..1] } else { &ALL_CLASSES };
-        let wanted = self.role_of(&mediator, classes).or(self.role_of(&mediator, &ALL_CLASSES));
-        let wanted = wanted.unwrap_or(Role { entity: 1, name: 1 });
+        let wanted = self.role_of(&mediator, classes).or(self.role_of(&mediator, &ALL_CLASSES)).unwrap();
         let entity = if self.percent(70) { mediator.own } else { wanted.entity };
         let guarded = [0, 60, 80, 95][self.below(4)];
         let wanted = Role { entity, ..wanted };
@@ -151,7 +151,7 @@ impl Random {
     }
 
     fn proof_draft(&mut self, most_entities: usize, most_names: usize, depth: usize) -> Draft {
-        let name_count = self.between(3, most_names);
+        let name_count = if self.percent(4) { 0 } else { self.between(3, most_names) };
         let mut draft = self.begun_draft(most_entities, name_count);
         let (wanted, requesting) = (draft.wanted, draft.own(Side::Requester));
         for _ in 0..[1, 1, 1, 2, 3][self.below(5)] {

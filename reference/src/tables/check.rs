@@ -24,6 +24,11 @@ impl Tables {
         self.names.iter().find(|(known, _)| *known == name).map_or(Class::SubjectAll, |&(_, class)| class)
     }
 
+    /// Whether one of the names has no 0x11 record.
+    pub fn has_unlisted(&self, names: &[u16]) -> bool {
+        names.iter().any(|&name| self.names.iter().all(|&(known, _)| known != name))
+    }
+
     /// Whether 0x13 has the role's direct credential, role from self.
     pub fn holds(&self, role: Role) -> bool {
         self.subject_stored.contains(&Credential { head: role, body: Expression::Entity(self.own) })
