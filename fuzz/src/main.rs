@@ -5,12 +5,14 @@
 //! and against ends that do as they like, and lists of calls to compare on two tables each. What has a count of 0 is
 //! left out. The large questions of `rules::shapes` are asked besides, each whole and without each one of its
 //! credentials, some tables are checked with each fault at each place, and the messages of the marked cases and those
-//! at the sizes are taken.
+//! at the sizes are taken. Where `before` has a library of before, every request is lent to it too.
 
+mod before;
 mod negotiations;
 mod replies;
 mod takes;
 
+use before::Request;
 use engine::{lavutremo_check, lavutremo_question};
 use negotiations::ask_negotiations;
 use reference::random::Random;
@@ -23,6 +25,9 @@ use replies::{ask_adversarial, ask_honest, ask_two_runs};
 use std::process::exit;
 use takes::ask_takes;
 
+/// How many random bytes stand after a buffer.
+const AFTER: usize = 32;
+
 /// A buffer to lend, with random bytes before and after it.
 struct Guarded {
     bytes: Vec<u8>,
@@ -33,7 +38,7 @@ impl Guarded {
     fn new(random: &mut Random, content: &[u8]) -> Guarded {
         // The start varies so that the buffer is aligned in every way.
         let start = random.between(32, 47);
-        let bytes = [&random.bytes(start), content, &random.bytes(32)].concat();
+        let bytes = [&random.bytes(start), content, &random.bytes(AFTER)].concat();
         Guarded { bytes, start }
     }
 
@@ -41,6 +46,10 @@ impl Guarded {
     /// that is what is checked here.
     fn pointer(&mut self) -> *mut u8 {
         self.bytes[self.start..].as_mut_ptr()
+    }
+
+    fn content(&self) -> &[u8] {
+        &self.bytes[self.start..self.bytes.len() - AFTER]
     }
 
     /// All bytes as they must be if the content became this.
@@ -52,11 +61,13 @@ impl Guarded {
 
 /// The engine's answer, and whether all bytes are still the same.
 fn ask_engine(random: &mut Random, lent: &Lent) -> (u64, bool) {
-    let mut buffers = [&lent.credentials, &lent.f, &lent.e].map(|content| Guarded::new(random, content));
+    let contents: [&[u8]; 3] = [&lent.credentials, &lent.f, &lent.e];
+    let mut buffers = contents.map(|content| Guarded::new(random, content));
     let copies = buffers.each_ref().map(|buffer| buffer.bytes.clone());
     let [credentials, f, e] = buffers.each_mut().map(Guarded::pointer);
     // Each pointer goes with the length of what it points to, and the engine keeps none.
     let answer = unsafe { lavutremo_question(credentials, lent.credentials.len(), f, lent.f.len(), e, lent.e.len()) };
+    before::compare(Request::Question, &contents, answer, &buffers);
     let kept = buffers.iter().map(|buffer| &buffer.bytes).eq(&copies);
     (answer, kept)
 }
@@ -121,6 +132,7 @@ fn check_engine(random: &mut Random, bytes: &[u8]) -> (u64, bool) {
     let copy = buffer.bytes.clone();
     // As above.
     let answer = unsafe { lavutremo_check(buffer.pointer(), bytes.len()) };
+    before::compare(Request::Check, &[bytes], answer, std::slice::from_ref(&buffer));
     (answer, buffer.bytes == copy)
 }
 
@@ -243,6 +255,7 @@ fn main() {
             count => results.push(ask(seed, count)),
         }
     }
+    results.extend(before::compared());
     let passed: u64 = results.iter().map(|(passed, _)| passed).sum();
     let failed: u64 = results.iter().map(|(_, failed)| failed).sum();
     println!("{passed} passed, {failed} failed");

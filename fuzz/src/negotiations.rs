@@ -1,5 +1,6 @@
 //! Begins and reports, the engine's beside the reference's.
 
+use crate::before::{self, Request};
 use crate::{hex, Guarded};
 use engine::{lavutremo_begin, lavutremo_report};
 use reference::negotiation::begin::begin;
@@ -57,6 +58,7 @@ impl Negotiations {
             let [tables_at, negotiation_at] = buffers.each_mut().map(Guarded::pointer);
             // Each pointer goes with the length of what it points to, and the engine keeps none.
             let got = unsafe { lavutremo_report(tables_at, tables.len(), negotiation_at, negotiation.len(), node) };
+            before::compare(Request::Report { node }, &[tables, negotiation], got, &buffers);
             let kept = buffers.iter().map(|buffer| &buffer.bytes).eq(&copies);
             self.note(got == expected && kept, || {
                 let why = judged.as_ref().err();
@@ -82,6 +84,7 @@ impl Negotiations {
         // Each pointer goes with the length of what it points to, and the engine keeps none.
         let got =
             unsafe { lavutremo_begin(tables_at, tables.len(), negotiation_at, negotiation.len(), other, entity, name) };
+        before::compare(Request::Begin { other, wanted }, &[tables, negotiation], got, &buffers);
         let same_bytes = buffers.iter().map(|buffer| &buffer.bytes).eq(&copies);
         self.note(got == expected && same_bytes, || {
             let tables = hex(tables);

@@ -1,6 +1,7 @@
 //! Whole negotiations by the engine beside the reference: honest ones, ones against ends that do as they like, and the
 //! check of two runs by the engine alone.
 
+use crate::before::{self, Request};
 use crate::{hex, Guarded};
 use engine::{lavutremo_begin, lavutremo_reply, lavutremo_report, lavutremo_take};
 use reference::ends::adversary::against_adversaries;
@@ -46,6 +47,7 @@ impl Engine {
     /// Lends the buffers to a call, which is given where they are, and brings back what was written.
     fn lend<const N: usize>(
         &mut self,
+        request: Request,
         mut buffers: [Buffer; N],
         call: impl FnOnce([(*mut u8, usize); N]) -> u64,
     ) -> u64 {
@@ -53,6 +55,7 @@ impl Engine {
         let before = guarded.each_ref().map(|buffer| buffer.bytes.clone());
         let mut lengths = buffers.each_ref().map(|buffer| buffer.content().len()).into_iter();
         let answer = call(guarded.each_mut().map(|buffer| (buffer.pointer(), lengths.next().unwrap_or(0))));
+        before::compare(request, &buffers.each_ref().map(Buffer::content), answer, &guarded);
         for ((buffer, guarded), before) in buffers.iter_mut().zip(&guarded).zip(before) {
             let start = guarded.start;
             let expected = match buffer {
@@ -74,23 +77,28 @@ impl Engine {
 impl Calls for Engine {
     fn begin(&mut self, tables: &[u8], negotiation: &mut [u8], other: u16, wanted: Role) -> u64 {
         let Role { entity, name } = wanted;
-        self.lend([Read(tables), Written(negotiation)], |[tables, negotiation]| unsafe {
+        let request = Request::Begin { other, wanted };
+        self.lend(request, [Read(tables), Written(negotiation)], |[tables, negotiation]| unsafe {
             lavutremo_begin(tables.0, tables.1, negotiation.0, negotiation.1, other, entity, name)
         })
     }
 
     fn take(&mut self, tables: &[u8], negotiation: &mut [u8], message: &[u8], scratch: &mut [u8]) -> u64 {
         let buffers = [Read(tables), Written(negotiation), Read(message), Written(scratch)];
-        self.lend(buffers, |[a, b, c, d]| unsafe { lavutremo_take(a.0, a.1, b.0, b.1, c.0, c.1, d.0, d.1) })
+        self.lend(Request::Take, buffers, |[a, b, c, d]| unsafe {
+            lavutremo_take(a.0, a.1, b.0, b.1, c.0, c.1, d.0, d.1)
+        })
     }
 
     fn reply(&mut self, tables: &[u8], negotiation: &mut [u8], reply: &mut [u8], scratch: &mut [u8]) -> u64 {
         let buffers = [Read(tables), Written(negotiation), Written(reply), Written(scratch)];
-        self.lend(buffers, |[a, b, c, d]| unsafe { lavutremo_reply(a.0, a.1, b.0, b.1, c.0, c.1, d.0, d.1) })
+        self.lend(Request::Reply, buffers, |[a, b, c, d]| unsafe {
+            lavutremo_reply(a.0, a.1, b.0, b.1, c.0, c.1, d.0, d.1)
+        })
     }
 
     fn report(&mut self, tables: &[u8], negotiation: &[u8], node: u8) -> u64 {
-        self.lend([Read(tables), Read(negotiation)], |[tables, negotiation]| unsafe {
+        self.lend(Request::Report { node }, [Read(tables), Read(negotiation)], |[tables, negotiation]| unsafe {
             lavutremo_report(tables.0, tables.1, negotiation.0, negotiation.1, node)
         })
     }

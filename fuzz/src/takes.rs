@@ -1,5 +1,6 @@
 //! Takes, the engine's beside the reference's.
 
+use crate::before::{self, Request};
 use crate::{hex, Guarded};
 use engine::lavutremo_take;
 use reference::message::bytes::many;
@@ -40,6 +41,7 @@ fn take_engine(random: &mut Random, lent: &Lent, negotiation: &[u8], scratch: &[
             scratch_len,
         )
     };
+    before::compare(Request::Take, &contents.map(Vec::as_slice), answer, &buffers);
     (answer, [0, 1, 2, 3].map(|i| buffers[i].bytes == expected[i]))
 }
 

@@ -1,6 +1,6 @@
 //! Why a call is refused.
 
-/// The value is the number that the call returns.
+/// The value is the number that the call returns. No call returns 4.
 #[derive(Clone, Copy, Debug, PartialEq, Eq, PartialOrd, Ord)]
 pub enum Refusal {
     /// A lent length outside the sizes.

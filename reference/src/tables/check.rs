@@ -89,9 +89,9 @@ fn in_order(earlier: &[&[u8]], record: &[u8]) -> bool {
     command_in_order && ascending && !repeated && room
 }
 
-/// The next record, or None if its command is unknown or cut.
-fn next_record(bytes: &[u8]) -> Option<&[u8]> {
-    bytes.get(..record_bytes(bytes[0])?)
+/// The next record, or None if there is none, or its command is unknown or cut.
+pub fn next_record(bytes: &[u8]) -> Option<&[u8]> {
+    bytes.get(..record_bytes(*bytes.first()?)?)
 }
 
 /// The tables, or why they are refused. Each record is judged by rising number before the next one is read.

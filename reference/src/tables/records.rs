@@ -28,6 +28,17 @@ pub enum Record {
     Access(Guard),
 }
 
+impl Record {
+    /// Every name in it but the one that it lists.
+    pub fn names(&self) -> Vec<u16> {
+        match self {
+            Record::Own(_) | Record::Name(..) => vec![],
+            Record::IssuerStored(stored) | Record::SubjectStored(stored) => stored.names(),
+            Record::Sensitive(guard) | Record::Access(guard) => vec![guard.role.name, guard.by.name],
+        }
+    }
+}
+
 /// The bytes of a record, its command among them; None: there is no such command in tables.
 pub fn record_bytes(command: u8) -> Option<usize> {
     match command {
