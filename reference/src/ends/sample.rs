@@ -286,8 +286,10 @@ impl Random {
         let house = draft.houses[0].clone();
         draft.wanted.name = self.name_of(&house, &[IssuerDef]).unwrap_or(draft.wanted.name);
         let wide_count = self.between(9, 16);
+        // An issuer-all head takes no roles of another class.
+        let class = if draft.class(draft.wanted.name) == IssuerAll { IssuerAll } else { SubjectAll };
         for _ in 0..20 * MOST_STORED {
-            let parts: BTreeSet<Role> = (0..4).filter_map(|_| self.role_of(&house, &[SubjectAll])).collect();
+            let parts: BTreeSet<Role> = (0..4).filter_map(|_| self.role_of(&house, &[class])).collect();
             let parts: Vec<Role> = parts.into_iter().collect();
             let wide = draft.holdings[0].issuer_stored.len() < wide_count;
             let body = match parts.len() {
@@ -345,6 +347,11 @@ mod tests {
             }
         }
         assert!(guards > 2000 && access > 500 && most == MOST_STORED, "{guards}, {access}, {most}");
+        // The rarer ones as well, in houses whose listed names have one class too.
+        for _ in 0..1000 {
+            let drafts = [random.heavy_draft(), random.wide_draft(30, 9)];
+            drafts.iter().flat_map(|draft| draft.pair().tables()).for_each(|tables| assert_eq!(check(&tables), 0));
+        }
     }
 
     /// A direct credential of a sensitive role is sent only after credentials that prove, of the other end, the Ack role
