@@ -10,6 +10,8 @@
 # make fuzz    compares the engine with the reference on many questions, tables, negotiations, messages and replies, and
 #              on lists of calls for two runs (SEED, RANDOM_COUNT, DAMAGED_COUNT, TABLES_COUNT, NEGOTIATIONS_COUNT,
 #              TAKES_COUNT, HONEST_COUNT, ADVERSARIAL_COUNT, TWO_RUNS_COUNT)
+# make beside  the same, and lends each request to BEFORE too, a liblavutremo.a of before: where every name is listed,
+#              answers and bytes must be the same
 # make bench   times the engine beside the reference
 # make count   counts the instructions of every row of the benchmark, and the bytes that it copies
 # make reading writes docs/READING.md, the definitions that the promises rest on
@@ -29,6 +31,8 @@ TAKES_COUNT = 1000000
 HONEST_COUNT = 100000
 ADVERSARIAL_COUNT = 50000
 TWO_RUNS_COUNT = 100000
+FUZZ_COUNTS = $(RANDOM_COUNT) $(DAMAGED_COUNT) $(TABLES_COUNT) $(NEGOTIATIONS_COUNT) $(TAKES_COUNT) $(HONEST_COUNT) \
+	$(ADVERSARIAL_COUNT) $(TWO_RUNS_COUNT)
 
 # PROVED is the library that is proved and built here. ENGINE is what C programs get: dist/'s library while the sources
 # are the same as those that it was proved from, else PROVED; the tests set it to PROVED. LIB is a copy, made when ENGINE
@@ -68,8 +72,8 @@ PROGRAM_PREFIX = lavutremo-
 PROGRAMS = tables serve fetch graph ask
 VERSION := $(shell sed -n 's/.*define LAVUTREMO_VERSION "\(.*\)".*/\1/p' include/lavutremo.h)
 
-.PHONY: lib host demo stack twins test fuzz bench count reading picture dist install uninstall clean FORCE rt gcc g++ cargo \
-	libmd valgrind graphviz pkg-config man
+.PHONY: lib host demo stack twins test fuzz beside bench count reading picture dist install uninstall clean FORCE rt gcc \
+	g++ cargo libmd valgrind graphviz pkg-config man
 
 lib: $(LIB) $(HOST_LIB)
 
@@ -88,8 +92,10 @@ test:
 	@exec tests/run
 
 fuzz: build/fuzz
-	build/fuzz $(SEED) $(RANDOM_COUNT) $(DAMAGED_COUNT) $(TABLES_COUNT) $(NEGOTIATIONS_COUNT) $(TAKES_COUNT) \
-		$(HONEST_COUNT) $(ADVERSARIAL_COUNT) $(TWO_RUNS_COUNT)
+	build/fuzz $(SEED) $(FUZZ_COUNTS)
+
+beside: build/fuzz build/before.so
+	LAVUTREMO_BEFORE=build/before.so build/fuzz $(SEED) $(FUZZ_COUNTS)
 
 bench: build/bench
 	@build/bench
@@ -226,6 +232,12 @@ build/forkless.so: tests/forkless.c | gcc
 build/fuzz: $(REFERENCE) $(CALLS) $(FUZZ) $(PROVED) | cargo
 	cargo build --quiet --release --locked --manifest-path fuzz/Cargo.toml
 	@cp $(CARGO_TARGET_DIR)/release/fuzz $@
+
+# Its functions call each other, and not those of the same name in the program that opens it.
+build/before.so: FORCE | gcc
+	@test -f '$(BEFORE)' || { echo 'BEFORE=FILE is missing: a liblavutremo.a of before' >&2; exit 1; }
+	@mkdir -p build
+	gcc -shared -Wl,-Bsymbolic -Wl,--whole-archive $(BEFORE) -Wl,--no-whole-archive -o $@
 
 build/bench: $(REFERENCE) $(CALLS) $(BENCH) $(PROVED) $(MEASURE) | cargo
 	cargo build --quiet --release --locked --manifest-path bench/Cargo.toml

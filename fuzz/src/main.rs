@@ -5,12 +5,14 @@
 //! and against ends that do as they like, and lists of calls to compare on two tables each. What has a count of 0 is
 //! left out. The large questions of `rules::shapes` are asked besides, each whole and without each one of its
 //! credentials, some tables are checked with each fault at each place, and the messages of the marked cases and those
-//! at the sizes are taken.
+//! at the sizes are taken. Where `before` has a library of before, every request is lent to it too.
 
+mod before;
 mod negotiations;
 mod replies;
 mod takes;
 
+use before::Request;
 use engine::{lavutremo_check, lavutremo_question};
 use negotiations::ask_negotiations;
 use reference::random::Random;
@@ -18,9 +20,13 @@ use reference::rules::question::{self, Lent};
 use reference::rules::shapes;
 use reference::tables;
 use reference::tables::bytes::each_fault_of_each_size;
+use reference::tables::counts::TableCounts;
 use replies::{ask_adversarial, ask_honest, ask_two_runs};
 use std::process::exit;
 use takes::ask_takes;
+
+/// How many random bytes stand after a buffer.
+const AFTER: usize = 32;
 
 /// A buffer to lend, with random bytes before and after it.
 struct Guarded {
@@ -32,7 +38,7 @@ impl Guarded {
     fn new(random: &mut Random, content: &[u8]) -> Guarded {
         // The start varies so that the buffer is aligned in every way.
         let start = random.between(32, 47);
-        let bytes = [&random.bytes(start), content, &random.bytes(32)].concat();
+        let bytes = [&random.bytes(start), content, &random.bytes(AFTER)].concat();
         Guarded { bytes, start }
     }
 
@@ -40,6 +46,10 @@ impl Guarded {
     /// that is what is checked here.
     fn pointer(&mut self) -> *mut u8 {
         self.bytes[self.start..].as_mut_ptr()
+    }
+
+    fn content(&self) -> &[u8] {
+        &self.bytes[self.start..self.bytes.len() - AFTER]
     }
 
     /// All bytes as they must be if the content became this.
@@ -51,11 +61,13 @@ impl Guarded {
 
 /// The engine's answer, and whether all bytes are still the same.
 fn ask_engine(random: &mut Random, lent: &Lent) -> (u64, bool) {
-    let mut buffers = [&lent.credentials, &lent.f, &lent.e].map(|content| Guarded::new(random, content));
+    let contents: [&[u8]; 3] = [&lent.credentials, &lent.f, &lent.e];
+    let mut buffers = contents.map(|content| Guarded::new(random, content));
     let copies = buffers.each_ref().map(|buffer| buffer.bytes.clone());
     let [credentials, f, e] = buffers.each_mut().map(Guarded::pointer);
     // Each pointer goes with the length of what it points to, and the engine keeps none.
     let answer = unsafe { lavutremo_question(credentials, lent.credentials.len(), f, lent.f.len(), e, lent.e.len()) };
+    before::compare(Request::Question, &contents, answer, &buffers);
     let kept = buffers.iter().map(|buffer| &buffer.bytes).eq(&copies);
     (answer, kept)
 }
@@ -120,21 +132,23 @@ fn check_engine(random: &mut Random, bytes: &[u8]) -> (u64, bool) {
     let copy = buffer.bytes.clone();
     // As above.
     let answer = unsafe { lavutremo_check(buffer.pointer(), bytes.len()) };
+    before::compare(Request::Check, &[bytes], answer, std::slice::from_ref(&buffer));
     (answer, buffer.bytes == copy)
 }
 
-/// How often each number 0 to 6 occurred.
+/// Checks and what they answered.
 #[derive(Default)]
-struct TableCounts {
+struct Checks {
     passed: u64,
     failed: u64,
-    numbers: [u64; 7],
+    counts: TableCounts,
 }
 
-impl TableCounts {
+impl Checks {
     fn ask(&mut self, random: &mut Random, bytes: &[u8]) {
-        let expected = tables::check(bytes);
-        self.numbers[expected as usize] += 1;
+        let decoded = tables::decode(bytes);
+        self.counts.checked(&decoded);
+        let expected = decoded.err().map_or(0, |refusal| refusal as u64);
         let (answer, kept) = check_engine(random, bytes);
         if answer == expected && kept {
             self.passed += 1;
@@ -154,23 +168,21 @@ impl TableCounts {
 /// Returns how many tables passed and failed.
 fn ask_tables(seed: u64, count: u64) -> (u64, u64) {
     let (mut random, mut guards) = (Random::new(seed), Random::new(!seed));
-    let mut counts = TableCounts::default();
+    let mut all = Checks::default();
     for _ in 0..count {
         let bytes = random.tables();
-        counts.ask(&mut guards, &bytes);
+        all.ask(&mut guards, &bytes);
     }
-    each_fault_of_each_size(&mut random, |bytes| counts.ask(&mut guards, bytes));
+    each_fault_of_each_size(&mut random, |bytes| all.ask(&mut guards, bytes));
 
-    let TableCounts { passed, mut failed, numbers } = counts;
-    println!("{count} random tables, {} with each fault at each place", passed + failed - count);
-    let [accepted, refused @ ..] = numbers;
-    let refused: Vec<String> = (1..).zip(refused).map(|(number, count)| format!("refused {number} {count}")).collect();
-    println!("tables: accepted {accepted}, {}", refused.join(", "));
-    if numbers.contains(&0) {
-        println!("a number never occurred: check more tables");
-        failed += 1;
+    println!("{count} random tables, {} with each fault at each place", all.passed + all.failed - count);
+    all.counts.print();
+    let missing = all.counts.missing();
+    if !missing.is_empty() {
+        println!("never occurred: {}", missing.join(", "));
+        all.failed += 1;
     }
-    (passed, failed)
+    (all.passed, all.failed)
 }
 
 fn hex(bytes: &[u8]) -> String {
@@ -243,6 +255,7 @@ fn main() {
             count => results.push(ask(seed, count)),
         }
     }
+    results.extend(before::compared());
     let passed: u64 = results.iter().map(|(passed, _)| passed).sum();
     let failed: u64 = results.iter().map(|(_, failed)| failed).sum();
     println!("{passed} passed, {failed} failed");

@@ -1,5 +1,6 @@
 //! Begins and reports, the engine's beside the reference's.
 
+use crate::before::{self, Request};
 use crate::{hex, Guarded};
 use engine::{lavutremo_begin, lavutremo_report};
 use reference::negotiation::begin::begin;
@@ -47,7 +48,7 @@ impl Negotiations {
         let Lent { tables, negotiation } = lent;
         let judged = judge(tables, negotiation);
         self.counts.lent(negotiation);
-        self.counts.judged(&judged);
+        self.counts.judged(tables, &judged);
         let count = negotiation.get(NODE_COUNT_AT).copied().unwrap_or(0);
         let mut buffers = [tables, negotiation].map(|content| Guarded::new(random, content));
         let copies = buffers.each_ref().map(|buffer| buffer.bytes.clone());
@@ -57,6 +58,7 @@ impl Negotiations {
             let [tables_at, negotiation_at] = buffers.each_mut().map(Guarded::pointer);
             // Each pointer goes with the length of what it points to, and the engine keeps none.
             let got = unsafe { lavutremo_report(tables_at, tables.len(), negotiation_at, negotiation.len(), node) };
+            before::compare(Request::Report { node }, &[tables, negotiation], got, &buffers);
             let kept = buffers.iter().map(|buffer| &buffer.bytes).eq(&copies);
             self.note(got == expected && kept, || {
                 let why = judged.as_ref().err();
@@ -82,6 +84,7 @@ impl Negotiations {
         // Each pointer goes with the length of what it points to, and the engine keeps none.
         let got =
             unsafe { lavutremo_begin(tables_at, tables.len(), negotiation_at, negotiation.len(), other, entity, name) };
+        before::compare(Request::Begin { other, wanted }, &[tables, negotiation], got, &buffers);
         let same_bytes = buffers.iter().map(|buffer| &buffer.bytes).eq(&copies);
         self.note(got == expected && same_bytes, || {
             let tables = hex(tables);
@@ -98,7 +101,7 @@ impl Negotiations {
 fn begin_arguments(random: &mut Random, grown: &Grown) -> (u16, Role) {
     let house = &grown.tables.house;
     let other = [0, house.own, random.entity(house.world), random.entity(house.world)][random.below(4)];
-    // A world has two names more than the house.
+    // Of a name that is listed or not.
     let mut wanted = random.role(house.world);
     match random.below(8) {
         0 => wanted.entity = 0,

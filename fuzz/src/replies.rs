@@ -1,6 +1,7 @@
 //! Whole negotiations by the engine beside the reference: honest ones, ones against ends that do as they like, and the
 //! check of two runs by the engine alone.
 
+use crate::before::{self, Request};
 use crate::{hex, Guarded};
 use engine::{lavutremo_begin, lavutremo_reply, lavutremo_report, lavutremo_take};
 use reference::ends::adversary::against_adversaries;
@@ -11,6 +12,7 @@ use reference::random::Random;
 use reference::reply::leak::{Leak, LEAKS};
 use reference::rules::expression::Role;
 use reference::runs::compare::{compare, Outcome};
+use reference::runs::counts::RunCounts;
 use reference::runs::sample::TwoRuns;
 
 /// The engine. Each buffer is lent with random bytes beside it.
@@ -45,6 +47,7 @@ impl Engine {
     /// Lends the buffers to a call, which is given where they are, and brings back what was written.
     fn lend<const N: usize>(
         &mut self,
+        request: Request,
         mut buffers: [Buffer; N],
         call: impl FnOnce([(*mut u8, usize); N]) -> u64,
     ) -> u64 {
@@ -52,6 +55,7 @@ impl Engine {
         let before = guarded.each_ref().map(|buffer| buffer.bytes.clone());
         let mut lengths = buffers.each_ref().map(|buffer| buffer.content().len()).into_iter();
         let answer = call(guarded.each_mut().map(|buffer| (buffer.pointer(), lengths.next().unwrap_or(0))));
+        before::compare(request, &buffers.each_ref().map(Buffer::content), answer, &guarded);
         for ((buffer, guarded), before) in buffers.iter_mut().zip(&guarded).zip(before) {
             let start = guarded.start;
             let expected = match buffer {
@@ -73,23 +77,28 @@ impl Engine {
 impl Calls for Engine {
     fn begin(&mut self, tables: &[u8], negotiation: &mut [u8], other: u16, wanted: Role) -> u64 {
         let Role { entity, name } = wanted;
-        self.lend([Read(tables), Written(negotiation)], |[tables, negotiation]| unsafe {
+        let request = Request::Begin { other, wanted };
+        self.lend(request, [Read(tables), Written(negotiation)], |[tables, negotiation]| unsafe {
             lavutremo_begin(tables.0, tables.1, negotiation.0, negotiation.1, other, entity, name)
         })
     }
 
     fn take(&mut self, tables: &[u8], negotiation: &mut [u8], message: &[u8], scratch: &mut [u8]) -> u64 {
         let buffers = [Read(tables), Written(negotiation), Read(message), Written(scratch)];
-        self.lend(buffers, |[a, b, c, d]| unsafe { lavutremo_take(a.0, a.1, b.0, b.1, c.0, c.1, d.0, d.1) })
+        self.lend(Request::Take, buffers, |[a, b, c, d]| unsafe {
+            lavutremo_take(a.0, a.1, b.0, b.1, c.0, c.1, d.0, d.1)
+        })
     }
 
     fn reply(&mut self, tables: &[u8], negotiation: &mut [u8], reply: &mut [u8], scratch: &mut [u8]) -> u64 {
         let buffers = [Read(tables), Written(negotiation), Written(reply), Written(scratch)];
-        self.lend(buffers, |[a, b, c, d]| unsafe { lavutremo_reply(a.0, a.1, b.0, b.1, c.0, c.1, d.0, d.1) })
+        self.lend(Request::Reply, buffers, |[a, b, c, d]| unsafe {
+            lavutremo_reply(a.0, a.1, b.0, b.1, c.0, c.1, d.0, d.1)
+        })
     }
 
     fn report(&mut self, tables: &[u8], negotiation: &[u8], node: u8) -> u64 {
-        self.lend([Read(tables), Read(negotiation)], |[tables, negotiation]| unsafe {
+        self.lend(Request::Report { node }, [Read(tables), Read(negotiation)], |[tables, negotiation]| unsafe {
             lavutremo_report(tables.0, tables.1, negotiation.0, negotiation.1, node)
         })
     }
@@ -271,11 +280,13 @@ struct Compared {
     /// Lists after a call of which an end's count was not that of its messages.
     miscounted: u64,
     calls: usize,
+    counts: RunCounts,
 }
 
 impl Compared {
     fn note(&mut self, two: &TwoRuns, outcome: Option<Outcome>) {
         self.calls += two.list.calls.len();
+        self.counts.compared(two.tables.each_ref().map(Vec::as_slice), outcome);
         match outcome {
             Some(Outcome::Alike) => self.alike += 1,
             Some(Outcome::Parted(_)) => self.parted += 1,
@@ -311,12 +322,19 @@ pub fn ask_two_runs(seed: u64, count: u64) -> (u64, u64) {
         let outcome = compare_by(&mut engine, &two);
         compared.note(&two, outcome);
     }
-    let Compared { alike, parted, leaks, miscounted, calls } = compared;
+    let Compared { alike, parted, leaks, miscounted, calls, counts } = compared;
     println!("{count} lists for two runs, {calls} calls: alike to the end {alike}, parted after an Ack target was satisfied {parted}");
     println!("  lists in which an end's count was not that of its messages: {miscounted}");
+    counts.print();
+    let missing = counts.missing();
+    let lacks = count >= ENOUGH_LISTS && !missing.is_empty();
+    if lacks {
+        println!("never occurred: {}", missing.join(", "));
+    }
     let found = LEAKS.map(|leak| (leak, found_by(seed, count, leak)));
     found.iter().for_each(|(leak, list)| println!("  planted leak {leak:?}: found by list {list:?}"));
     let missed = found.iter().filter(|(_, list)| list.is_none()).count() as u64;
     let missed = if count >= ENOUGH_LISTS { missed } else { 0 };
-    (alike + parted + LEAKS.len() as u64 - missed, leaks + miscounted + missed + (engine.strays > 0) as u64)
+    let failed = leaks + miscounted + missed + (engine.strays > 0) as u64 + lacks as u64;
+    (alike + parted + LEAKS.len() as u64 - missed, failed)
 }

@@ -1,5 +1,6 @@
 //! Takes, the engine's beside the reference's.
 
+use crate::before::{self, Request};
 use crate::{hex, Guarded};
 use engine::lavutremo_take;
 use reference::message::bytes::many;
@@ -40,6 +41,7 @@ fn take_engine(random: &mut Random, lent: &Lent, negotiation: &[u8], scratch: &[
             scratch_len,
         )
     };
+    before::compare(Request::Take, &contents.map(Vec::as_slice), answer, &buffers);
     (answer, [0, 1, 2, 3].map(|i| buffers[i].bytes == expected[i]))
 }
 
@@ -47,7 +49,7 @@ impl Takes {
     /// What the reference judged, after the engine's answer was compared with it.
     fn ask(&mut self, guards: &mut Random, lent: &Lent) -> Result<Accepted, Refused> {
         let judged = judge(&lent.tables, &lent.negotiation, &lent.message, &lent.scratch);
-        self.counts.taken(&lent.message, &judged);
+        self.counts.taken(lent, &judged);
         let (expected, negotiation, scratch) = match &judged {
             Ok(accepted) => (0, encode(&accepted.after), vec![0; lent.scratch.len()]),
             Err(refused) => (refused.refusal as u64, lent.negotiation.clone(), lent.scratch.clone()),

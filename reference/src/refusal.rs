@@ -1,6 +1,6 @@
 //! Why a call is refused.
 
-/// The value is the number that the call returns.
+/// The value is the number that the call returns. No call returns 4.
 #[derive(Clone, Copy, Debug, PartialEq, Eq, PartialOrd, Ord)]
 pub enum Refusal {
     /// A lent length outside the sizes.
@@ -9,8 +9,6 @@ pub enum Refusal {
     Command = 2,
     /// An operand of wrong form.
     Operand = 3,
-    /// A name without class.
-    Name = 4,
     /// A class rule broken.
     Class = 5,
     /// Tables out of order, repeated, self missing, or a size passed.

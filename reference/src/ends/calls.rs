@@ -31,7 +31,7 @@ impl Calls for Reference {
 
     fn reply(&mut self, tables: &[u8], negotiation: &mut [u8], reply: &mut [u8], scratch: &mut [u8]) -> u64 {
         let judged = reply::judge(tables, negotiation, reply, scratch, self.leak);
-        self.counts.replied(&judged);
+        self.counts.replied(tables, &judged);
         reply::answer(judged.map(|given| reply::write(&given, negotiation, reply, scratch)))
     }
 

@@ -1,4 +1,4 @@
-//! Random tables of two ends that can negotiate with each other: one world, one set of names with classes.
+//! Random tables of two ends that can negotiate with each other: one world, one class for each name, listed or not.
 //!
 //! A proof of the wanted role is laid out over both ends: each credential is stored where its class asks for, and some
 //! roles that an end proves of itself are sensitive, with Ack and AC roles that the other end proves in turn. Then
@@ -97,7 +97,7 @@ impl Draft {
     }
 
     fn class(&self, name: u16) -> Class {
-        self.houses[0].names.iter().find(|(known, _)| *known == name).map_or(SubjectAll, |&(_, class)| class)
+        self.houses[0].class(name)
     }
 
     /// Stores a credential where a proof to this verifier needs it.
@@ -133,17 +133,17 @@ impl Random {
         }
     }
 
-    /// Two houses of one world.
+    /// Two houses of one world. The requester may leave out subject-all names that the mediator lists.
     fn begun_draft(&mut self, most_entities: usize, name_count: usize) -> Draft {
         let mediator = self.house_among(most_entities, name_count);
         let mut requester = mediator.clone();
         while requester.own == mediator.own {
             requester.own = self.entity(mediator.world);
         }
-        // A house has at least three names.
+        let left_out = [0, 0, 50, 100][self.below(4)];
+        requester.names.retain(|(_, class)| *class != SubjectAll || !self.percent(left_out));
         let classes = if self.percent(85) { &ALL_CLASSES[..1] } else { &ALL_CLASSES };
-        let wanted = self.role_of(&mediator, classes).or(self.role_of(&mediator, &ALL_CLASSES));
-        let wanted = wanted.unwrap_or(Role { entity: 1, name: 1 });
+        let wanted = self.role_of(&mediator, classes).or(self.role_of(&mediator, &ALL_CLASSES)).unwrap();
         let entity = if self.percent(70) { mediator.own } else { wanted.entity };
         let guarded = [0, 60, 80, 95][self.below(4)];
         let wanted = Role { entity, ..wanted };
@@ -151,7 +151,7 @@ impl Random {
     }
 
     fn proof_draft(&mut self, most_entities: usize, most_names: usize, depth: usize) -> Draft {
-        let name_count = self.between(3, most_names);
+        let name_count = if self.percent(4) { 0 } else { self.between(3, most_names) };
         let mut draft = self.begun_draft(most_entities, name_count);
         let (wanted, requesting) = (draft.wanted, draft.own(Side::Requester));
         for _ in 0..[1, 1, 1, 2, 3][self.below(5)] {
@@ -286,8 +286,10 @@ impl Random {
         let house = draft.houses[0].clone();
         draft.wanted.name = self.name_of(&house, &[IssuerDef]).unwrap_or(draft.wanted.name);
         let wide_count = self.between(9, 16);
+        // An issuer-all head takes no roles of another class.
+        let class = if draft.class(draft.wanted.name) == IssuerAll { IssuerAll } else { SubjectAll };
         for _ in 0..20 * MOST_STORED {
-            let parts: BTreeSet<Role> = (0..4).filter_map(|_| self.role_of(&house, &[SubjectAll])).collect();
+            let parts: BTreeSet<Role> = (0..4).filter_map(|_| self.role_of(&house, &[class])).collect();
             let parts: Vec<Role> = parts.into_iter().collect();
             let wide = draft.holdings[0].issuer_stored.len() < wide_count;
             let body = match parts.len() {
@@ -345,6 +347,11 @@ mod tests {
             }
         }
         assert!(guards > 2000 && access > 500 && most == MOST_STORED, "{guards}, {access}, {most}");
+        // The rarer ones as well, in houses whose listed names have one class too.
+        for _ in 0..1000 {
+            let drafts = [random.heavy_draft(), random.wide_draft(30, 9)];
+            drafts.iter().flat_map(|draft| draft.pair().tables()).for_each(|tables| assert_eq!(check(&tables), 0));
+        }
     }
 
     /// A direct credential of a sensitive role is sent only after credentials that prove, of the other end, the Ack role

@@ -135,7 +135,7 @@ mod tests {
         let mut counts = TakeCounts::default();
         many(&mut Random::new(4), 60_000, |lent| {
             let judged = judge(&lent.tables, &lent.negotiation, &lent.message, &lent.scratch);
-            counts.taken(&lent.message, &judged);
+            counts.taken(lent, &judged);
             judged
         });
         counts.print();

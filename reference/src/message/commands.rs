@@ -34,6 +34,18 @@ pub enum Command {
     End,
 }
 
+impl Command {
+    /// Every name in it.
+    pub fn names(&self) -> Vec<u16> {
+        match self {
+            Command::Credential(credential) => credential.names(),
+            Command::Open(role, _) => vec![role.name],
+            Command::Child(child) => child.form.names(),
+            Command::Join(_) | Command::Mark(_) | Command::End => vec![],
+        }
+    }
+}
+
 /// The kind of the edge that a command adds.
 pub fn edge_kind(command: &Command) -> Option<u8> {
     match command {

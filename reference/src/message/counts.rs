@@ -1,11 +1,14 @@
 //! What occurred among many takes, by the reference's answers, and what never did.
 
-use crate::message::take::{Accepted, Refused};
+use crate::message::take::{Accepted, Lent, Refused};
 use crate::message::*;
+use crate::negotiation::Form;
 use crate::refusal::Refusal;
-use std::collections::BTreeMap;
+use crate::rules::expression::Expression;
+use crate::tables::{self, Tables};
+use std::collections::{BTreeMap, BTreeSet};
 
-const NUMBERS: [u64; 16] = [0, 1, 2, 3, 4, 5, 6, 20, 21, 22, 23, 24, 25, 26, 27, 28];
+const NUMBERS: [u64; 15] = [0, 1, 2, 3, 5, 6, 20, 21, 22, 23, 24, 25, 26, 27, 28];
 
 #[derive(Default)]
 pub struct TakeCounts {
@@ -17,6 +20,8 @@ pub struct TakeCounts {
     /// The refused commands that could be read, with their numbers; and the edges among them.
     refused: BTreeMap<(&'static str, u64), u64>,
     refused_edges: BTreeMap<(u8, u64), u64>,
+    /// Accepted messages with a name that is not listed, by the place of it.
+    unlisted: BTreeMap<&'static str, u64>,
     /// The greatest counts of nodes, edges and credentials after a message, and its bytes.
     most: [usize; 4],
 }
@@ -38,12 +43,34 @@ fn command_name(command: &Command) -> &'static str {
     }
 }
 
+/// Where commands can have a name that the tables do not list.
+pub const UNLISTED: [&str; 6] = ["credential", "open", "role", "linked role", "intersection", "goal"];
+
+/// The place of such a name in a command.
+fn place_of_names(command: &Command) -> &'static str {
+    match command {
+        Command::Open(..) => "open",
+        Command::Child(NewChild { form: Form::Goal(_), .. }) => "goal",
+        Command::Child(NewChild { form: Form::Target(expression), .. }) => match expression {
+            Expression::Linked(..) => "linked role",
+            Expression::Intersection(_) => "intersection",
+            _ => "role",
+        },
+        _ => "credential",
+    }
+}
+
+/// The places of such names in the commands, each once.
+pub fn unlisted_in(tables: &Tables, commands: &[Command]) -> BTreeSet<&'static str> {
+    commands.iter().filter(|command| tables.has_unlisted(&command.names())).map(place_of_names).collect()
+}
+
 /// The refusals that a command of this sort can get, those before it is read aside.
 fn refusals(command: &str) -> &'static [u64] {
     match command {
-        "credential" => &[4, 5, 23, 25, 28],
-        "open" => &[4, 23],
-        "new child" => &[4, 5, 23, 24, 25, 26, 27, 28],
+        "credential" => &[5, 23, 25, 28],
+        "open" => &[23],
+        "new child" => &[5, 23, 24, 25, 26, 27, 28],
         "join" => &[23, 24, 25, 26, 27, 28],
         "mark" => &[23, 24, 27],
         _ => &[23],
@@ -65,11 +92,13 @@ fn line<K: std::fmt::Debug>(counts: &BTreeMap<K, u64>, name: impl Fn(&K) -> Stri
 }
 
 impl TakeCounts {
-    pub fn taken(&mut self, message: &[u8], judged: &Result<Accepted, Refused>) {
+    pub fn taken(&mut self, lent: &Lent, judged: &Result<Accepted, Refused>) {
         match judged {
             Ok(accepted) => {
                 count(&mut self.numbers, 0);
-                self.accepted(message, accepted);
+                let tables = tables::decode(&lent.tables).unwrap();
+                unlisted_in(&tables, &accepted.commands).into_iter().for_each(|place| count(&mut self.unlisted, place));
+                self.accepted(&lent.message, accepted);
             }
             Err(Refused { refusal, command }) => {
                 count(&mut self.numbers, *refusal as u64);
@@ -115,6 +144,7 @@ impl TakeCounts {
         println!("accepted edges, by kind: {}", line(&self.edges, |(name, kind)| format!("{name} {kind}:")));
         println!("refused commands: {}", line(&self.refused, |(name, number)| format!("{name} by {number}:")));
         println!("refused edges: {}", line(&self.refused_edges, |(kind, number)| format!("kind {kind} by {number}:")));
+        println!("accepted with a name that is not listed: {}", line(&self.unlisted, |place| place.to_string()));
         let [nodes, edges, shown, bytes] = self.most;
         println!("at most {nodes} nodes, {edges} edges, {shown} credentials, {bytes} bytes in an accepted message");
     }
@@ -129,6 +159,9 @@ impl TakeCounts {
         };
         NUMBERS.iter().for_each(|number| note(self.numbers.contains_key(number), format!("take {number}")));
         (0..=3).for_each(|end| note(self.ends.contains_key(&end), format!("end {end}")));
+        for place in UNLISTED {
+            note(self.unlisted.contains_key(place), format!("a name that is not listed: {place}"));
+        }
         for name in COMMANDS {
             note(self.commands.contains_key(name), format!("{name} accepted"));
             for &number in refusals(name) {

@@ -3,7 +3,6 @@
 use crate::message::legal::carry_out;
 use crate::message::plan::Plan;
 use crate::message::*;
-use crate::negotiation::faults::nameless;
 use crate::negotiation::graph::{is_standard, legal_state};
 use crate::negotiation::sample::ALL_CLASSES;
 use crate::negotiation::*;
@@ -28,7 +27,7 @@ impl Random {
         }
         let command = match self.below(if now.nodes.is_empty() { 5 } else { 17 }) {
             0..=1 => self.wrong_operand(house, now),
-            2 => self.nameless_command(house, now),
+            2 => self.unlisted_command(house, now),
             3 => self.ill_typed(house, now),
             4 => self.opening_again(house, now),
             5..=6 => self.absent(house, now),
@@ -119,17 +118,23 @@ impl Random {
         })
     }
 
-    /// 4
-    fn nameless_command(&mut self, house: &House, now: &Negotiation) -> Option<Command> {
-        let role = Role { entity: self.entity(house.world), name: nameless(house) };
+    /// A name that is not listed: 5 where the class does not fit, or what else there is.
+    fn unlisted_command(&mut self, house: &House, now: &Negotiation) -> Option<Command> {
+        let role = Role { entity: self.entity(house.world), name: self.unlisted_name(house) };
         let mut child = self.some_child(house, now)?;
         let issued = self.role_of(house, &ALL_CLASSES)?;
-        Some(match self.below(5) {
+        Some(match self.below(7) {
             0 => Command::Open(role, 0),
             1 => Command::Credential(Credential { head: role, body: Expression::Entity(role.entity) }),
             2 => Command::Credential(Credential { head: issued, body: Expression::Role(role) }),
-            3 => {
+            3 => Command::Credential(Credential { head: role, body: Expression::Role(issued) }),
+            4 => {
                 child.form = Form::Target(Expression::Linked(issued, role.name));
+                child.state = 0;
+                Command::Child(child)
+            }
+            5 => {
+                child.form = Form::Target(Expression::Linked(role, issued.name));
                 child.state = 0;
                 Command::Child(child)
             }

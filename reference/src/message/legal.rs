@@ -1,28 +1,18 @@
 //! One command of a message, judged by rising number and then carried out: one function for each number.
 
 use crate::message::*;
-use crate::negotiation::damage::{have_classes, is_linking_implication_justified, is_well_typed, names_of};
+use crate::negotiation::damage::{is_linking_implication_justified, is_well_typed};
 use crate::negotiation::graph::edge_form;
 use crate::negotiation::*;
 use crate::refusal::Refusal;
-use crate::rules::classes::{names, takes};
+use crate::rules::classes::takes;
 use crate::rules::expression::*;
 use crate::rules::relation::from;
 use crate::tables::Tables;
 
-/// Every name in a command.
-fn names_in(command: &Command) -> Vec<u16> {
-    match command {
-        Command::Credential(Credential { head, body }) => [vec![head.name], names(body)].concat(),
-        Command::Open(role, _) => vec![role.name],
-        Command::Child(child) => names_of(&child.form),
-        Command::Join(_) | Command::Mark(_) | Command::End => vec![],
-    }
-}
-
-/// A credential's head takes its body, and a node's linked role is well typed. Every name has a class.
+/// A credential's head takes its body, and a node's linked role is well typed.
 fn class_rules_kept(tables: &Tables, command: &Command) -> bool {
-    let class_of = |name| tables.class(name).unwrap();
+    let class_of = |name| tables.class(name);
     match command {
         Command::Credential(Credential { head, body }) => takes(class_of(head.name), body, class_of),
         Command::Child(NewChild { form: Form::Target(linked @ Expression::Linked(..)), .. }) => {
@@ -149,7 +139,6 @@ fn has_room(negotiation: &Negotiation, command: &Command) -> bool {
 fn judge(tables: &Tables, negotiation: &Negotiation, sender: Side, command: &Command) -> Result<(), Refusal> {
     let demand = |holds: bool, refusal| if holds { Ok(()) } else { Err(refusal) };
     let stands = |node: usize| node < negotiation.nodes.len();
-    demand(have_classes(tables, &names_in(command)), Refusal::Name)?;
     demand(class_rules_kept(tables, command), Refusal::Class)?;
     demand(opens_first(negotiation, command), Refusal::Opening)?;
     demand(nodes_named(command).into_iter().all(stands), Refusal::Absent)?;

@@ -154,7 +154,7 @@ impl Random {
     /// Targets of both sides in turn, about roles of entities that are not known otherwise: the requester's under the
     /// primary, the mediator's under the requester's before it.
     fn fill_nodes(&mut self, plan: &mut Plan, count: usize) {
-        let name = plan.tables.house.names[0].0;
+        let name = self.name_of(&plan.tables.house, &ALL_CLASSES).unwrap();
         let ends = [Side::Mediator, Side::Requester].map(|side| (side, plan.now.entity(side)));
         let mut of_requester = None;
         for entity in 1000.. {

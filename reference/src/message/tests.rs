@@ -146,8 +146,10 @@ fn before_the_message() {
     assert_eq!(lend(&opened, &tables), 2);
     assert_eq!(lend(&opened, &[0xff]), 2);
     assert_eq!(lend(&opened, &[0x10, 0, 0]), 3);
-    assert_eq!(lend(&opened, &[0x10, 0, 2, 0x14, 0, 1, 0, 1, 0, 1, 0, 1]), 4);
     assert_eq!(lend(&opened, &[0x10, 0, 2, 0x11, 0, 1, 1, 0x14, 0, 1, 0, 1, 0, 1, 0, 1]), 5);
+    // No name is listed: the same record is right, and the negotiation is sound.
+    assert_eq!(lend(&opened, &[0x10, 0, 2, 0x14, 0, 1, 0, 1, 0, 1, 0, 1]), 2);
+    assert_eq!(lend(&opened, &[0x10, 0, 2]), 2);
     assert_eq!(lend(&opened, &[0x10, 0, 2, 0x10, 0, 2]), 6);
     let ended = Negotiation { end: 4, messages: Messages::in_turn(3), ..opened.clone() };
     assert_eq!(lend(&Negotiation { messages: Messages::in_turn(0), ..ended.clone() }, &tables), 20);
@@ -181,7 +183,7 @@ fn what_cannot_be_read() {
 }
 
 #[test]
-fn operands_and_names() {
+fn operands_and_classes() {
     let opened = opened();
     let to = |command: Command| answer_to(&opened, &[command]);
     let entity = |entity| Form::Target(Expression::Entity(entity));
@@ -199,11 +201,6 @@ fn operands_and_names() {
     assert_eq!(to(join(7, 9, 9)), 3);
     assert_eq!(to(Command::Open(role(1, 0), 0)), 3);
     assert_eq!(to(Command::Open(role(1, 1), 4)), 3);
-    assert_eq!(to(Command::Open(role(1, 9), 0)), 4);
-    assert_eq!(to(credential(role(1, 9), Expression::Entity(1))), 4);
-    assert_eq!(to(credential(role(1, 1), Expression::Role(role(1, 9)))), 4);
-    assert_eq!(to(child(6, 9, role_target(1, 9), 1, 0)), 4);
-    assert_eq!(to(child(2, 9, Form::Goal(9), 2, 1)), 4);
     // Class 3 does not take a body of class 1, and a linked role of classes 3 and 1 is ill-typed.
     assert_eq!(to(credential(role(1, 1), Expression::Role(role(1, 3)))), 5);
     assert_eq!(to(child(6, 9, linked(1, 3), 1, 0)), 5);
@@ -213,13 +210,53 @@ fn operands_and_names() {
     assert_eq!(to(credential(role(1, 1), Expression::Entity(1))), 0);
 }
 
+/// Name 9 is not listed: it is subject-all, and what is left to judge is judged.
+#[test]
+fn unlisted_names() {
+    let opened = opened();
+    let to = |command: Command| answer_to(&opened, &[command]);
+    let linked = |first, second| Expression::Linked(role(1, first), second);
+    let both = |a, b| Expression::Intersection(vec![role(1, a), role(2, b)]);
+    let issued = |name, body| to(credential(role(1, name), body));
+    assert_eq!([9, 1, 3].map(|name| issued(name, Expression::Entity(1))), [0; 3]);
+    assert_eq!([9, 1, 3].map(|name| issued(name, Expression::Role(role(1, 9)))), [0; 3]);
+    assert_eq!([9, 1, 3].map(|name| issued(9, Expression::Role(role(1, name)))), [0, 0, 5]);
+    assert_eq!([9, 1, 3].map(|name| issued(name, linked(9, 8))), [0; 3]);
+    assert_eq!([9, 1, 3].map(|name| issued(name, linked(9, 3))), [5; 3]);
+    assert_eq!([9, 1, 3].map(|name| issued(name, linked(3, 9))), [5, 5, 0]);
+    assert_eq!([9, 1, 3].map(|name| issued(name, both(9, 1))), [0; 3]);
+    assert_eq!([9, 1, 3].map(|name| issued(name, both(9, 3))), [5, 5, 0]);
+    // A node's only class rule is that its linked role is well typed.
+    assert_eq!(to(child(6, 0, role_target(1, 9), 1, 0)), 0);
+    assert_eq!(to(child(6, 9, role_target(1, 9), 1, 0)), 24);
+    for (first, second) in [(9, 9), (9, 8), (9, 1), (1, 9), (3, 9)] {
+        assert_eq!(to(child(6, 0, Form::Target(linked(first, second)), 1, 0)), 0);
+    }
+    assert_eq!(to(child(6, 0, Form::Target(linked(9, 3)), 1, 0)), 5);
+    assert_eq!(to(child(2, 9, Form::Goal(9), 2, 1)), 24);
+    let monitored = [child(6, 0, Form::Target(linked(9, 8)), 1, 0), child(2, 1, Form::Goal(8), 1, 1)];
+    assert_eq!(answer_to(&opened, &monitored), 0);
+    assert_eq!(after(&opened, &monitored).nodes.len(), 3);
+    // With a proof: 1.1 from 1.9, 1.9 from 2.
+    let proof = [
+        credential(role(1, 1), Expression::Role(role(1, 9))),
+        credential(role(1, 9), Expression::Entity(2)),
+        child(1, 0, role_target(1, 9), 2, 0),
+        child(1, 1, Form::Target(Expression::Entity(2)), 2, 3),
+    ];
+    assert_eq!(after(&opened, &proof).end, 1);
+}
+
 #[test]
 fn opening_comes_first() {
     let to_fresh = |commands: &[Command]| answer_to(&fresh(), commands);
     assert_eq!(to_fresh(&[]), 23);
     assert_eq!(answer(&lent(&fresh(), vec![END, END])), 2);
     assert_eq!(to_fresh(&[credential(role(1, 1), Expression::Entity(1))]), 23);
-    assert_eq!(to_fresh(&[credential(role(1, 9), Expression::Entity(1))]), 4);
+    assert_eq!(to_fresh(&[credential(role(1, 9), Expression::Entity(1))]), 23);
+    assert_eq!(to_fresh(&[credential(role(1, 9), Expression::Role(role(1, 3)))]), 5);
+    assert_eq!(to_fresh(&[Command::Open(role(7, 9), 1)]), 0);
+    assert_eq!(answer_to(&opened(), &[Command::Open(role(1, 9), 0)]), 23);
     assert_eq!(to_fresh(&[child(6, 0, role_target(1, 2), 1, 0)]), 23);
     assert_eq!(to_fresh(&[join(1, 0, 0)]), 23);
     assert_eq!(to_fresh(&[Command::Mark(0)]), 23);

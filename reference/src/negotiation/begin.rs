@@ -21,9 +21,6 @@ fn fresh(tables: &[u8], negotiation: &[u8], other: u16, wanted: Role) -> Result<
         (0, _) | (_, 0) => return Err(Refusal::Operand),
         _ => Side::Mediator,
     };
-    if side == Side::Mediator && tables.class(wanted.name).is_none() {
-        return Err(Refusal::Name);
-    }
     if other == 0 || other == tables.own {
         return Err(Refusal::Other);
     }

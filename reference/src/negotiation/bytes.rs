@@ -145,16 +145,17 @@ impl Random {
         }
     }
 
-    /// Self and the names alone, one of them taken out or of another class; sometimes another self.
+    /// Self and the names alone, one or all of them taken out, or one of another class; sometimes another self.
     fn other_classes(&mut self, grown: &Grown) -> Vec<u8> {
         let house = &grown.tables.house;
         let mut names: Vec<(u16, Class)> = house.names.clone();
-        let at = self.below(names.len());
+        let at = self.below(names.len().max(1));
         let mut own = house.own;
         match self.below(10) {
             0 => own = self.entity(house.world),
-            1..=4 => names[at].1 = ALL_CLASSES[self.below(3)],
-            5..=8 => drop(names.remove(at)),
+            1 => names.clear(),
+            2..=5 if !names.is_empty() => names[at].1 = ALL_CLASSES[self.below(3)],
+            6..=8 if !names.is_empty() => drop(names.remove(at)),
             _ => {}
         }
         let mut records: Vec<Vec<u8>> =
@@ -226,8 +227,8 @@ mod tests {
     use crate::negotiation::counts::NegotiationCounts;
     use crate::negotiation::report::{judge, Refused};
 
-    /// Every clause is the first to find damage in some, all that is wrong with counts occurs, and what is read is
-    /// written back.
+    /// Every clause is the first to find damage in some, all that is wrong with counts occurs, sound ones have names that
+    /// are not listed at each place, and what is read is written back.
     #[test]
     fn every_damage_occurs() {
         let mut random = Random::new(9);
@@ -242,11 +243,12 @@ mod tests {
                     }
                 }
                 counts.lent(&lent.negotiation);
-                counts.judged(&judge(&lent.tables, &lent.negotiation));
+                counts.judged(&lent.tables, &judge(&lent.tables, &lent.negotiation));
                 in_old_layout += (lent.negotiation == in_layout_1(&encode(&grown.negotiation))) as u64;
             }
         }
         assert_eq!(counts.missing_damage(), [""; 0]);
+        assert_eq!(counts.missing_unlisted(), [""; 0]);
         assert!(in_old_layout > 50, "{in_old_layout} in layout number 1");
     }
 

@@ -27,15 +27,12 @@ pub enum Clause {
     OtherEnd,
     /// A wanted role where we are the requester, or none or half of one where we are the mediator.
     Wanted,
-    /// The wanted name has no class.
-    WantedName,
     /// The messages of the two ends are neither equally many nor the mediator's one more.
     CountsDisagree,
     /// A message, an end, an idle message, an edge or a credential without a node.
     NotFresh,
     /// No message, or more than 1,027, with a node.
     Messages,
-    NodeName,
     /// A node's linked role is ill-typed.
     NodeClass,
     /// A state that is illegal for the node's form.
@@ -45,7 +42,6 @@ pub enum Clause {
     RepeatedNode,
     /// A primary other than begun.
     Primary,
-    CredentialName,
     CredentialClass,
     RepeatedCredential,
     /// An edge names a node that does not stand.
@@ -72,7 +68,7 @@ pub enum Clause {
 
 use Clause::*;
 
-pub const CLAUSES: [Clause; 36] = [
+pub const CLAUSES: [Clause; 33] = [
     Layout,
     Side,
     EndByte,
@@ -85,17 +81,14 @@ pub const CLAUSES: [Clause; 36] = [
     OtherSelf,
     OtherEnd,
     Wanted,
-    WantedName,
     CountsDisagree,
     NotFresh,
     Messages,
-    NodeName,
     NodeClass,
     IllegalState,
     EntitySubject,
     RepeatedNode,
     Primary,
-    CredentialName,
     CredentialClass,
     RepeatedCredential,
     AbsentNode,

@@ -5,10 +5,11 @@ use crate::negotiation::damage::MOST_MESSAGES;
 use crate::negotiation::report::{Refused, Sound};
 use crate::negotiation::*;
 use crate::rules::expression::Expression;
-use std::collections::BTreeMap;
+use crate::tables::{self, Tables};
+use std::collections::{BTreeMap, BTreeSet};
 
-const BEGIN_NUMBERS: [u64; 8] = [0, 1, 2, 3, 4, 5, 6, 7];
-const REPORT_NUMBERS: [u64; 9] = [0, 1, 2, 3, 4, 5, 6, 20, 24];
+const BEGIN_NUMBERS: [u64; 7] = [0, 1, 2, 3, 5, 6, 7];
+const REPORT_NUMBERS: [u64; 8] = [0, 1, 2, 3, 5, 6, 20, 24];
 
 /// The propagated states that nodes of each form can have.
 const STATES: [(&str, &[u64]); 7] = [
@@ -29,6 +30,25 @@ fn form_name(form: &Form) -> &'static str {
         Form::Target(Expression::Intersection(parts)) => STATES[parts.len() + 1].0,
         Form::Goal(_) => "goal",
     }
+}
+
+/// Where a sound negotiation can have a name that the tables do not list.
+const UNLISTED: [&str; 6] = ["wanted role", "role", "linked role", "intersection", "goal", "credential"];
+
+/// The places of such names, each once.
+fn unlisted_in(tables: &Tables, negotiation: &Negotiation) -> BTreeSet<&'static str> {
+    let Negotiation { side, wanted, nodes, shown, .. } = negotiation;
+    let wanted = (*side == Side::Mediator).then_some(("wanted role", vec![wanted.name]));
+    let in_nodes = nodes.iter().map(|node| {
+        let place = match &node.form {
+            Form::Target(Expression::Intersection(_)) => "intersection",
+            form => form_name(form),
+        };
+        (place, node.form.names())
+    });
+    let in_shown = shown.iter().map(|credential| ("credential", credential.names()));
+    let all = wanted.into_iter().chain(in_nodes).chain(in_shown);
+    all.filter(|(_, names)| tables.has_unlisted(names)).map(|(place, _)| place).collect()
 }
 
 /// Whether counts of messages are wrong in some way, given whether a node stands.
@@ -56,6 +76,8 @@ pub struct NegotiationCounts {
     states: BTreeMap<(&'static str, u64), u64>,
     ends: BTreeMap<u8, u64>,
     kinds: BTreeMap<u8, u64>,
+    /// Sound negotiations with a name that is not listed, by the place of it.
+    unlisted: BTreeMap<&'static str, u64>,
     /// The greatest counts of nodes, edges and credentials.
     most: [usize; 3],
 }
@@ -100,17 +122,18 @@ impl NegotiationCounts {
         }
     }
 
-    pub fn judged(&mut self, judged: &Result<Sound, Refused>) {
+    pub fn judged(&mut self, tables: &[u8], judged: &Result<Sound, Refused>) {
         match judged {
             Err(Refused::Input(_)) => {}
             Err(Refused::Damaged(clause)) => count(&mut self.clauses, *clause),
-            Ok(sound) => self.sound(sound),
+            Ok(sound) => self.sound(&tables::decode(tables).unwrap(), sound),
         }
     }
 
-    fn sound(&mut self, sound: &Sound) {
+    fn sound(&mut self, tables: &Tables, sound: &Sound) {
         let Negotiation { end, nodes, edges, shown, .. } = &sound.negotiation;
         count(&mut self.ends, *end);
+        unlisted_in(tables, &sound.negotiation).into_iter().for_each(|place| count(&mut self.unlisted, place));
         for (node, &state) in nodes.iter().zip(&sound.propagated) {
             count(&mut self.states, (form_name(&node.form), state as u64));
         }
@@ -136,6 +159,9 @@ impl NegotiationCounts {
             println!("states of {form} nodes: {}", states.iter().map(times).collect::<Vec<_>>().join(", "));
         }
         println!("edges, by kind: {}", lines(&self.kinds));
+        let times = |place: &&str| format!("{place} {}", self.unlisted.get(place).unwrap_or(&0));
+        let places = UNLISTED.iter().map(times).collect::<Vec<_>>().join(", ");
+        println!("sound negotiations with a name that is not listed: {places}");
         let [nodes, edges, shown] = self.most;
         println!("at most {nodes} nodes, {edges} edges, {shown} credentials");
     }
@@ -148,9 +174,15 @@ impl NegotiationCounts {
         clauses.map(|clause| format!("damage {clause:?}")).chain(of_messages).collect()
     }
 
+    /// Where sound negotiations must have had a name that is not listed and did not.
+    pub fn missing_unlisted(&self) -> Vec<String> {
+        let places = UNLISTED.iter().filter(|place| !self.unlisted.contains_key(*place));
+        places.map(|place| format!("a name that is not listed: {place}")).collect()
+    }
+
     /// What a large run must have met and did not.
     pub fn missing(&self) -> Vec<String> {
-        let mut missing = self.missing_damage();
+        let mut missing = [self.missing_damage(), self.missing_unlisted()].concat();
         let mut note = |occurred: bool, what: String| {
             if !occurred {
                 missing.push(what);

@@ -5,7 +5,7 @@ use crate::negotiation::clause::Clause;
 use crate::negotiation::graph::{edge_form, legal_state};
 use crate::negotiation::states::{children, propagated, satisfied, Propagated};
 use crate::negotiation::*;
-use crate::rules::classes::{names, takes, Class};
+use crate::rules::classes::{takes, Class};
 use crate::rules::expression::*;
 use crate::rules::relation::Relation;
 use crate::tables::Tables;
@@ -28,10 +28,7 @@ fn header(tables: &Tables, negotiation: &Negotiation) -> Result<(), Clause> {
     demand(negotiation.other != 0 && negotiation.other != negotiation.own, Clause::OtherEnd)?;
     let Role { entity, name } = negotiation.wanted;
     match negotiation.side {
-        Side::Mediator => {
-            demand(entity != 0 && name != 0, Clause::Wanted)?;
-            demand(tables.class(name).is_some(), Clause::WantedName)
-        }
+        Side::Mediator => demand(entity != 0 && name != 0, Clause::Wanted),
         Side::Requester => demand(entity == 0 && name == 0, Clause::Wanted),
     }
 }
@@ -50,26 +47,13 @@ fn counts(negotiation: &Negotiation) -> Result<(), Clause> {
     }
 }
 
-pub fn names_of(form: &Form) -> Vec<u16> {
-    match form {
-        Form::Target(expression) => names(expression),
-        Form::Goal(name) => vec![*name],
-    }
-}
-
-/// Each of these names has a class.
-pub fn have_classes(tables: &Tables, names: &[u16]) -> bool {
-    names.iter().all(|&name| tables.class(name).is_some())
-}
-
 /// An issuer-def head takes any well-typed body.
 pub fn is_well_typed(tables: &Tables, expression: &Expression) -> bool {
-    takes(Class::IssuerDef, expression, |name| tables.class(name).unwrap())
+    takes(Class::IssuerDef, expression, |name| tables.class(name))
 }
 
 /// What a node must be by itself.
 fn node(tables: &Tables, node: &Node) -> Result<(), Clause> {
-    demand(have_classes(tables, &names_of(&node.form)), Clause::NodeName)?;
     if let Form::Target(linked @ Expression::Linked(..)) = &node.form {
         demand(is_well_typed(tables, linked), Clause::NodeClass)?;
     }
@@ -98,12 +82,11 @@ fn primary(negotiation: &Negotiation) -> Result<(), Clause> {
     demand(role_begun && ends_begun, Clause::Primary)
 }
 
-/// Names with classes, class rules and no repeat. The rules of storage are not for credentials shown.
+/// Class rules and no repeat. The rules of storage are not for credentials shown.
 fn shown(tables: &Tables, shown: &[Credential]) -> Result<(), Clause> {
     for (i, credential) in shown.iter().enumerate() {
         let Credential { head, body } = credential;
-        demand(have_classes(tables, &[vec![head.name], names(body)].concat()), Clause::CredentialName)?;
-        let class_of = |name| tables.class(name).unwrap();
+        let class_of = |name| tables.class(name);
         demand(takes(class_of(head.name), body, class_of), Clause::CredentialClass)?;
         demand(!shown[..i].contains(credential), Clause::RepeatedCredential)?;
     }

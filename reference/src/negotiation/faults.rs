@@ -59,11 +59,6 @@ pub const NEGOTIATION_FAULTS: [NegotiationFault; 43] = [
     circle,
 ];
 
-/// A name that the tables do not have.
-pub fn nameless(house: &House) -> u16 {
-    house.world.number(house.names.len() + 1)
-}
-
 /// One of the items, unless there is none.
 pub fn one<'a, T>(random: &mut Random, items: &'a mut [T]) -> Option<&'a mut T> {
     let at = random.below(items.len().max(1));
@@ -92,7 +87,7 @@ fn wanted(random: &mut Random, house: &House, negotiation: &mut Negotiation) {
     match random.below(5) {
         0 => wanted.entity = 0,
         1 => wanted.name = 0,
-        2 => wanted.name = nameless(house),
+        2 => wanted.name = random.unlisted_name(house),
         3 => *wanted = Role { entity: 0, name: 0 },
         _ => *wanted = random.role_of(house, &ALL_CLASSES).unwrap(),
     }
@@ -201,7 +196,7 @@ fn credential_replaced(random: &mut Random, house: &House, negotiation: &mut Neg
         0 => kept.unwrap_or(loose),
         1 => loose,
         _ => {
-            // Any two names that have classes, in a link of the issuer.
+            // Any two names in a link of the issuer.
             let [name, first, second] = [0; 3].map(|_| random.name_of(house, &ALL_CLASSES).unwrap());
             let entity = loose.head.entity;
             let body = Expression::Linked(Role { entity, name: first }, second);

@@ -59,7 +59,7 @@ impl<'a> Growth<'a> {
     pub fn new(random: &'a mut Random, house: &House, mut negotiation: Negotiation, primary: Node) -> Growth<'a> {
         let pool = pool(random, house, &negotiation, &primary);
         // Roles that solve goals are asked about too.
-        let names: Vec<u16> = house.names.iter().map(|&(name, _)| name).take(10).collect();
+        let names: Vec<u16> = house.names_of(&ALL_CLASSES).into_iter().take(10).collect();
         let entities: BTreeSet<u16> = (0..12).map(|_| random.entity(house.world)).collect();
         let solutions = entities.iter().flat_map(|&entity| names.iter().map(move |&name| Role { entity, name }));
         let pool: Vec<Expression> =

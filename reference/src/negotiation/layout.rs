@@ -47,6 +47,16 @@ pub enum Form {
     Goal(u16),
 }
 
+impl Form {
+    /// Every name in it.
+    pub fn names(&self) -> Vec<u16> {
+        match self {
+            Form::Target(expression) => expression.names(),
+            Form::Goal(name) => vec![*name],
+        }
+    }
+}
+
 #[derive(Clone, Debug, PartialEq, Eq)]
 pub struct Node {
     pub form: Form,

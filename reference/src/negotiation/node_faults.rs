@@ -1,6 +1,6 @@
 //! Faults in the nodes of a negotiation. A few of the results are sound.
 
-use crate::negotiation::faults::{nameless, one, two_places};
+use crate::negotiation::faults::{one, two_places};
 use crate::negotiation::sample::ALL_CLASSES;
 use crate::negotiation::*;
 use crate::random::Random;
@@ -8,12 +8,12 @@ use crate::rules::classes::Class::*;
 use crate::rules::expression::*;
 use crate::tables::sample::House;
 
-/// Any form, with classes or without.
+/// Any form, well typed or not.
 pub fn any_form(random: &mut Random, house: &House) -> Form {
     let issuer = random.entity(house.world);
     let loose = random.credential(house.world).body;
     match random.below(4) {
-        0 => Form::Goal(house.names[0].0),
+        0 => Form::Goal(random.name_of(house, &ALL_CLASSES).unwrap()),
         1 => Form::Target(Expression::Entity(issuer)),
         2 => Form::Target(loose),
         _ => Form::Target(random.body_for(house, issuer, IssuerDef).unwrap_or(Expression::Entity(issuer))),
@@ -36,15 +36,15 @@ pub fn node_field(random: &mut Random, house: &House, negotiation: &mut Negotiat
     }
 }
 
-/// A name without class, or a linked role of any two names.
+/// A name that is not listed, or a linked role of any two names.
 pub fn node_names(random: &mut Random, house: &House, negotiation: &mut Negotiation) {
     let [first, second] = [0; 2].map(|_| random.name_of(house, &ALL_CLASSES).unwrap());
-    let without = random.percent(30);
+    let (unlisted, in_place) = (random.unlisted_name(house), random.percent(30));
     let Some(node) = one(random, &mut negotiation.nodes) else { return };
     match &mut node.form {
-        Form::Goal(name) => *name = nameless(house),
-        Form::Target(Expression::Role(role)) if without => role.name = nameless(house),
-        Form::Target(Expression::Linked(_, name)) if without => *name = nameless(house),
+        Form::Goal(name) => *name = unlisted,
+        Form::Target(Expression::Role(role)) if in_place => role.name = unlisted,
+        Form::Target(Expression::Linked(_, name)) if in_place => *name = unlisted,
         form => *form = Form::Target(Expression::Linked(Role { entity: node.subject, name: first }, second)),
     }
 }

@@ -63,7 +63,11 @@ impl Random {
 
     /// Tables of few entities and names, so that credentials and nodes meet.
     fn negotiation_tables(&mut self) -> Sample {
-        let name_count = if self.percent(10) { self.between(10, 64) } else { self.between(3, 9) };
+        let name_count = match self.below(20) {
+            0 => 0,
+            1..=2 => self.between(10, 64),
+            _ => self.between(3, 9),
+        };
         let most_entities = if self.percent(5) { 40 } else { 6 };
         let house = self.house_among(most_entities, name_count);
         let sizes = if self.percent(20) { [name_count, 3, 6, 3, 2] } else { [name_count, 0, 0, 0, 0] };
@@ -77,7 +81,6 @@ impl Random {
                 break other;
             }
         };
-        // A house has at least three names.
         let wanted = self.role_of(house, &ALL_CLASSES).unwrap();
         if self.percent(50) {
             Negotiation::fresh(Side::Mediator, house.own, other, wanted)

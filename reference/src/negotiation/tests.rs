@@ -225,6 +225,53 @@ fn implications() {
     assert_eq!(damage(&house(), &opened(entity(), &[], &[direct])), Some(Clause::NotBrought));
 }
 
+/// Self 1; name 1 has class 1, 2 class 2, 3 class 3; others are not listed.
+fn typed_house() -> Tables {
+    tables::decode(&[0x10, 0, 1, 0x11, 0, 1, 1, 0x11, 0, 2, 2, 0x11, 0, 3, 3]).unwrap()
+}
+
+/// The same negotiation with tables that list its names, some of them or none.
+#[test]
+fn unlisted_names_are_no_damage() {
+    let self_alone = tables::decode(&[0x10, 0, 1]).unwrap();
+    for tables in [&house(), &typed_house(), &self_alone] {
+        let wanted = Negotiation::fresh(Side::Mediator, 1, 2, Role { entity: 1, name: 9 });
+        assert_eq!(damage(tables, &wanted), None);
+        let whole = both((1, 9), (2, 8));
+        let nodes = vec![target(whole.clone(), 1), target(role(1, 9), 0), target(Expression::Entity(2), 3)];
+        let shown = [(1, 1, whole), (1, 9, Expression::Entity(2)), (5, 9, role(6, 8)), (5, 9, linked(5, 8, 7))];
+        assert_eq!(damage(tables, &opened(nodes, &[(1, 0, 1), (5, 1, 2), (1, 2, 3)], &shown)), None);
+    }
+    // Where no name is listed, all of them are subject-all.
+    assert_eq!(damage(&self_alone, &linking()), None);
+}
+
+/// A target of the requester under the primary, with the goal of its second name.
+fn controlled(first: u16, second: u16) -> Negotiation {
+    let other_side = |node: Node| Node { subject: 1, verifier: Side::Requester, ..node };
+    let nodes = vec![other_side(target(linked(1, first, second), 0)), other_side(goal(second, 1))];
+    opened(nodes, &[(6, 0, 1), (2, 1, 2)], &[])
+}
+
+/// A class rule that an unlisted name breaks is damage.
+#[test]
+fn classes_of_unlisted_names() {
+    for (first, second) in [(9, 9), (9, 8), (9, 3), (3, 9), (1, 9), (2, 9)] {
+        assert_eq!(damage(&typed_house(), &controlled(first, second)), None, "{first} {second}");
+    }
+    for (first, second) in [(9, 1), (9, 2), (3, 1), (3, 2)] {
+        assert_eq!(damage(&typed_house(), &controlled(first, second)), Some(Clause::NodeClass), "{first} {second}");
+    }
+    let shown = |name, body| damage(&typed_house(), &opened(vec![], &[], &[(1, name, body)]));
+    let wrong = Some(Clause::CredentialClass);
+    assert_eq!([1, 2, 3, 9].map(|name| shown(name, role(5, 9))), [None, wrong, None, None]);
+    assert_eq!([1, 2, 3, 9].map(|name| shown(9, role(5, name))), [wrong, wrong, None, None]);
+    assert_eq!([1, 2, 3, 9].map(|name| shown(name, linked(1, 9, 8))), [None, wrong, None, None]);
+    assert_eq!([1, 2, 3, 9].map(|name| shown(name, linked(1, 9, 1))), [wrong; 4]);
+    assert_eq!([1, 2, 3, 9].map(|name| shown(name, both((5, 3), (6, 9)))), [None, wrong, None, None]);
+    assert_eq!([1, 2, 3, 9].map(|name| shown(name, Expression::Entity(5))), [None; 4]);
+}
+
 /// Ends and idle bytes beside an unknown, a satisfied and a failed primary.
 #[test]
 fn ends() {
@@ -344,7 +391,11 @@ fn begins() {
     let numbers = [(5120, 2, 9, 1), (5120, 2, 0, 0), (5119, 0, 1, 0), (5120, 0, 1, 0), (5120, 0, 0, 1)];
     assert_eq!(numbers.map(|(length, other, entity, name)| try_one(length, other, entity, name).0), [0, 0, 1, 3, 3]);
     let numbers = [(0, 1, 2), (0, 1, 1), (1, 1, 1), (1, 0, 0)];
-    assert_eq!(numbers.map(|(other, entity, name)| try_one(5120, other, entity, name).0), [4, 7, 7, 7]);
+    assert_eq!(numbers.map(|(other, entity, name)| try_one(5120, other, entity, name).0), [7; 4]);
+    // A wanted name that is not listed.
+    let (answer, unlisted) = try_one(5120, 2, 9, 2);
+    assert_eq!((answer, &unlisted[..12]), (0, &[2, 0, 0, 1, 0, 2, 0, 9, 0, 2, 0, 0][..]));
+    assert_eq!([0, 1].map(|name| try_one(5120, 2, 0, name).0), [0, 3]);
     let (_, bytes) = try_one(5120, 0x203, 0x905, 1);
     assert_eq!(bytes[..10], [2, 0, 0, 1, 2, 3, 9, 5, 0, 1]);
     assert!(bytes[10..].iter().all(|&byte| byte == 0));

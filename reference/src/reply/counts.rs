@@ -1,8 +1,10 @@
 //! What occurred among many replies, by the reference's answers, and what never did.
 
+use crate::message::counts::{unlisted_in, UNLISTED};
 use crate::message::*;
 use crate::refusal::Refusal;
 use crate::reply::{Given, Size, Stop};
+use crate::tables;
 use std::collections::BTreeMap;
 
 /// Every rule that adds an edge, and the marks.
@@ -46,6 +48,8 @@ pub struct ReplyCounts {
     /// Kind 1 edges by the number of credentials before them, at most 4.
     needed: BTreeMap<usize, u64>,
     joins: u64,
+    /// Replies with a name that is not listed, by the place of it.
+    unlisted: BTreeMap<&'static str, u64>,
     /// The greatest counts of nodes, edges and credentials after a reply, and its bytes.
     most: [usize; 4],
 }
@@ -59,10 +63,12 @@ fn line<K>(counts: &BTreeMap<K, u64>, name: impl Fn(&K) -> String) -> String {
 }
 
 impl ReplyCounts {
-    pub fn replied(&mut self, judged: &Result<Given, Refusal>) {
+    pub fn replied(&mut self, tables: &[u8], judged: &Result<Given, Refusal>) {
         match judged {
             Ok(given) => {
                 count(&mut self.numbers, 0);
+                let tables = tables::decode(tables).unwrap();
+                unlisted_in(&tables, &given.commands).into_iter().for_each(|place| count(&mut self.unlisted, place));
                 self.given(given);
             }
             Err(refusal) => count(&mut self.numbers, *refusal as u64),
@@ -118,6 +124,7 @@ impl ReplyCounts {
         println!("commands in a reply: {}", line(&self.commands, |count| format!("{count}:")));
         println!("credentials before a kind 1 edge: {}", line(&self.needed, |count| format!("{count}:")));
         println!("edges between old nodes: {}", self.joins);
+        println!("replies with a name that is not listed: {}", line(&self.unlisted, |place| place.to_string()));
         for rule in RULES {
             println!("  {rule}: {}", self.times(rule));
         }
@@ -139,6 +146,9 @@ impl ReplyCounts {
         (0..=4).for_each(|end| note(self.ends.contains_key(&end), format!("end {end}")));
         (0..=4).for_each(|count| note(self.needed.contains_key(&count), format!("{count} credentials before an edge")));
         note(self.joins > 0, "an edge between old nodes".into());
+        for place in UNLISTED {
+            note(self.unlisted.contains_key(place), format!("a name that is not listed: {place}"));
+        }
         missing
     }
 }

@@ -138,7 +138,7 @@ impl View<'_> {
 
     /// The state of a new node by section 5.2.
     pub fn initial_state(&self, form: &Form, verifier: Side) -> u8 {
-        let subject_all = |name| self.tables.class(name) == Some(Class::SubjectAll);
+        let subject_all = |name| self.tables.class(name) == Class::SubjectAll;
         let verifier_processed = match form {
             Form::Target(Expression::Entity(_)) => return 3,
             Form::Target(Expression::Role(role)) => subject_all(role.name),

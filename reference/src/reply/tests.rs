@@ -42,7 +42,7 @@ struct House {
 }
 
 impl House {
-    /// Tables with names 1 to 9: 1 to 3 of class 1, 4 to 6 of class 2, 7 to 9 of class 3.
+    /// Tables with names 1 to 9: 1 to 3 of class 1, 4 to 6 of class 2, 7 to 9 of class 3. Names from 10 on are not listed.
     fn tables(&self) -> Vec<u8> {
         self.tables_with(&|name| (name - 1) / 3 + 1, 9)
     }
@@ -108,8 +108,8 @@ fn commands(house: &House, negotiation: Negotiation) -> Vec<Command> {
     commands
 }
 
-/// Cases (i) and (j).
-fn marked(held: bool) -> (TwoEnds, u8) {
+/// Cases (i) and (j), with tables that list the first so many of the three names.
+fn marked(held: bool, listed: u16) -> (TwoEnds, u8) {
     let class = |name: u16| if name == 1 { 1 } else { 3 };
     let studio = House {
         own: 3,
@@ -121,7 +121,7 @@ fn marked(held: bool) -> (TwoEnds, u8) {
     if held {
         house.subject.push((role(4, 3), entity(2)));
     }
-    let tables = [studio, house].map(|house| house.tables_with(&class, 3));
+    let tables = [studio, house].map(|house| house.tables_with(&class, listed));
     let mut reference = Reference::default();
     let mut ends = TwoEnds::begun(&mut reference, tables, role(3, 1));
     let end = ends.run(&mut reference);
@@ -130,8 +130,8 @@ fn marked(held: bool) -> (TwoEnds, u8) {
 
 #[test]
 fn marked_cases() {
-    let (i, success) = marked(true);
-    let (j, failed) = marked(false);
+    let (i, success) = marked(true, 3);
+    let (j, failed) = marked(false, 3);
     assert_eq!((success, failed), (1, 2));
     let lengths: Vec<usize> = i.messages.iter().map(Vec::len).collect();
     assert_eq!(lengths, [56, 25, 50, 48]);
@@ -144,6 +144,11 @@ fn marked_cases() {
         .map(|commands| encode_message(&[commands, vec![Command::End]].concat()))
         .collect();
     assert_eq!(i.messages, expected);
+    // Names 2 and 3 have the class that they have without a record.
+    for listed in [1, 2] {
+        assert_eq!(marked(true, listed).0.messages, i.messages);
+        assert_eq!(marked(false, listed).0.messages, j.messages);
+    }
 }
 
 #[test]
@@ -186,6 +191,7 @@ fn first_reply() {
     assert_eq!(open(1), [Command::Open(role(100, 1), 2), Command::Mark(0)]);
     assert_eq!(open(4), [Command::Open(role(100, 4), 2), Command::Mark(0)]);
     assert_eq!(open(7), [Command::Open(role(100, 7), 1)]);
+    assert_eq!(open(10), [Command::Open(role(100, 10), 1)]);
 }
 
 fn primary(name: u16, state: u8) -> Node {
@@ -248,6 +254,50 @@ fn verifier_stops_at_success() {
     assert_eq!(
         given.commands,
         [credential(role(100, 1), entity(REQUESTER)), target(1, 0, entity(REQUESTER), REQUESTER, 3), Command::End]
+    );
+}
+
+/// The search stops at roles with names that are not listed, and new nodes have the states of their classes.
+#[test]
+fn verifier_stops_at_unlisted_roles() {
+    let parts = both(role(1, 10), role(2, 1));
+    let house = House {
+        own: MEDIATOR,
+        issuer: vec![
+            (role(100, 1), to_role(100, 2)),
+            (role(100, 1), to_role(5, 11)),
+            (role(100, 1), linked(100, 1, 10)),
+            (role(100, 1), linked(100, 10, 11)),
+            (role(100, 1), parts.clone()),
+            (role(100, 2), to_role(4, 10)),
+        ],
+        // Not looked at by the verifier.
+        subject: vec![(role(4, 10), entity(REQUESTER)), (role(5, 11), to_role(6, 10))],
+        ..House::default()
+    };
+    let made = commands(&house, graph(MEDIATOR, Side::Mediator, vec![primary(1, 2)]));
+    let first = |body| credential(role(100, 1), body);
+    assert_eq!(
+        made,
+        [
+            first(to_role(100, 2)),
+            credential(role(100, 2), to_role(4, 10)),
+            target(1, 0, to_role(4, 10), REQUESTER, 1),
+            first(to_role(5, 11)),
+            target(1, 0, to_role(5, 11), REQUESTER, 1),
+            first(linked(100, 1, 10)),
+            target(1, 0, linked(100, 1, 10), REQUESTER, 2),
+            first(linked(100, 10, 11)),
+            target(1, 0, linked(100, 10, 11), REQUESTER, 1),
+            first(parts.clone()),
+            target(1, 0, parts, REQUESTER, 2),
+            Command::Mark(0),
+            goal(3, 10, REQUESTER),
+            target(5, 5, to_role(1, 10), REQUESTER, 1),
+            target(5, 5, to_role(2, 1), REQUESTER, 2),
+            Command::Mark(5),
+            Command::Mark(8),
+        ]
     );
 }
 
@@ -358,6 +408,24 @@ fn subject_all_first_name() {
     assert_eq!(
         commands(&house(REQUESTER), start(REQUESTER, Side::Requester))[..3],
         [goal(1, 7, REQUESTER), target(3, 2, to_role(5, 7), REQUESTER, 1), Command::Mark(2),]
+    );
+}
+
+/// A first name that is not listed is subject-all; a second one is no obstacle to other first names.
+#[test]
+fn linked_roles_of_unlisted_names() {
+    let house = House { own: MEDIATOR, issuer: vec![(role(100, 4), entity(7))], ..House::default() };
+    let made = |first, second| commands(&house, linked_graph(MEDIATOR, Side::Mediator, linked(100, first, second), 0));
+    for (first, second) in [(10, 7), (10, 10), (10, 11), (8, 10)] {
+        assert_eq!(made(first, second), [Command::Mark(1)]);
+    }
+    assert_eq!(made(1, 10), [goal(1, 10, REQUESTER)]);
+    let member = [credential(role(100, 4), entity(7)), target(1, 1, to_role(7, 10), REQUESTER, 1), Command::Mark(1)];
+    assert_eq!(made(4, 10), member);
+    let house = House { own: REQUESTER, subject: vec![(role(5, 11), to_role(6, 9))], ..House::default() };
+    assert_eq!(
+        commands(&house, linked_graph(REQUESTER, Side::Requester, linked(100, 10, 11), 0))[..3],
+        [goal(1, 11, REQUESTER), target(3, 2, to_role(5, 11), REQUESTER, 1), Command::Mark(2)]
     );
 }
 
@@ -485,6 +553,58 @@ fn opponent_of_a_goal() {
         let solution = |entity| target(3, 2, to_role(entity, 7), subject, 1);
         assert_eq!(made[..5], [solution(1), solution(2), solution(3), solution(5), Command::Mark(2)]);
     }
+}
+
+/// Roles with names that are not listed: proved by 0x13, sensitive, solutions of a goal.
+#[test]
+fn opponent_of_unlisted_roles() {
+    let mut house = House {
+        own: REQUESTER,
+        subject: vec![(role(1, 10), to_role(2, 11)), (role(2, 11), entity(REQUESTER)), (role(4, 10), entity(300))],
+        ..House::default()
+    };
+    let way = credential(role(1, 10), to_role(2, 11));
+    let direct = credential(role(2, 11), entity(REQUESTER));
+    let own = target(1, 1, entity(REQUESTER), REQUESTER, 3);
+    assert_eq!(answers(&house, to_role(1, 10), REQUESTER), [way.clone(), direct.clone(), own, Command::Mark(1)]);
+    // Sensitive, held or not: the search stops there, and the Ack role with another such name is asked for.
+    house.sensitive = vec![(role(2, 11), role(100, 12))];
+    let mut not_held = house.clone();
+    not_held.subject.remove(1);
+    for house in [&house, &not_held] {
+        assert_eq!(
+            answers(house, to_role(1, 10), REQUESTER),
+            [
+                way.clone(),
+                target(1, 1, to_role(2, 11), REQUESTER, 1),
+                Command::Mark(1),
+                target(6, 2, to_role(100, 12), MEDIATOR, 1),
+            ]
+        );
+    }
+    // Satisfied by the mediator's trivial target, the Ack target lets the direct credential go, or the mark.
+    let nodes = vec![
+        primary(1, 3),
+        node(to_role(2, 11), REQUESTER, Side::Mediator, 1),
+        node(to_role(100, 12), MEDIATOR, Side::Requester, 3),
+        node(entity(MEDIATOR), MEDIATOR, Side::Requester, 3),
+    ];
+    let mut met = graph(REQUESTER, Side::Requester, nodes);
+    met.edges = vec![Edge { kind: CONTROL, parent: 1, child: 2 }, Edge { kind: IMPLICATION, parent: 2, child: 3 }];
+    assert_eq!(
+        commands(&house, met.clone()),
+        [direct, target(1, 1, entity(REQUESTER), REQUESTER, 3), Command::Mark(1)]
+    );
+    assert_eq!(commands(&not_held, met.clone()), [Command::Mark(1)]);
+    met.edges.pop();
+    assert_eq!([&house, &not_held].map(|house| commands(house, met.clone())), [vec![], vec![]]);
+    // Solutions: a sensitive role is one whether it is held or not.
+    house.sensitive.push((role(3, 10), role(100, 12)));
+    let mut nodes = vec![primary(1, 3), node(linked(100, 1, 10), REQUESTER, Side::Mediator, 3)];
+    nodes.push(Node { form: Form::Goal(10), subject: REQUESTER, verifier: Side::Mediator, state: 1 });
+    let made = commands(&house, graph(REQUESTER, Side::Requester, nodes));
+    let solution = |entity| target(3, 2, to_role(entity, 10), REQUESTER, 1);
+    assert_eq!(made[..4], [solution(1), solution(3), solution(4), Command::Mark(2)]);
 }
 
 /// The requester's sensitive role 1.7 with Ack role 100.9 and perhaps AC role 100.8, and the edges of the answer.

@@ -14,10 +14,10 @@ pub fn work(view: &View, number: usize) -> Work {
     match &node.form {
         Form::Target(Expression::Role(role)) => of_role(view, node, *role),
         Form::Target(Expression::Linked(base, second)) => match view.tables.class(base.name) {
-            Some(Class::IssuerAll) => of_linked_all(view, node, *base, *second),
-            Some(Class::IssuerDef) => of_linked_def(view, number, *base, *second),
+            Class::IssuerAll => of_linked_all(view, node, *base, *second),
+            Class::IssuerDef => of_linked_def(view, number, *base, *second),
             // Marked at once.
-            _ => Work { wishes: vec![], may_mark: true },
+            Class::SubjectAll => Work { wishes: vec![], may_mark: true },
         },
         Form::Target(Expression::Intersection(parts)) => {
             Work { wishes: part_edges("verifier, intersection (1)", node, parts), may_mark: true }
@@ -30,7 +30,7 @@ pub fn work(view: &View, number: usize) -> Work {
 /// The frontier over 0x12 that stops at all that the opponent can process, and at all but roles.
 fn oppo_frontier(view: &View, start: &Expression) -> Vec<Expression> {
     let stops = |e: &Expression| match e {
-        Expression::Role(role) => view.tables.class(role.name) == Some(Class::SubjectAll),
+        Expression::Role(role) => view.tables.class(role.name) == Class::SubjectAll,
         _ => true,
     };
     frontier(&view.tables.issuer_stored, stops, start)

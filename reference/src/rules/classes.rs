@@ -56,16 +56,6 @@ pub fn takes(head: Class, body: &Expression, class_of: impl Fn(u16) -> Class) ->
     }
 }
 
-/// Every name in an expression.
-pub fn names(expression: &Expression) -> Vec<u16> {
-    match expression {
-        Expression::Entity(_) => vec![],
-        Expression::Role(role) => vec![role.name],
-        Expression::Linked(base, second) => vec![base.name, *second],
-        Expression::Intersection(parts) => parts.iter().map(|part| part.name).collect(),
-    }
-}
-
 #[cfg(test)]
 mod tests {
     use super::*;

@@ -17,11 +17,30 @@ pub enum Expression {
     Intersection(Vec<Role>),
 }
 
+impl Expression {
+    /// Every name in it.
+    pub fn names(&self) -> Vec<u16> {
+        match self {
+            Expression::Entity(_) => vec![],
+            Expression::Role(role) => vec![role.name],
+            Expression::Linked(base, second) => vec![base.name, *second],
+            Expression::Intersection(parts) => parts.iter().map(|part| part.name).collect(),
+        }
+    }
+}
+
 /// head <- body
 #[derive(Clone, Debug, PartialEq, Eq)]
 pub struct Credential {
     pub head: Role,
     pub body: Expression,
+}
+
+impl Credential {
+    /// Every name in it.
+    pub fn names(&self) -> Vec<u16> {
+        [vec![self.head.name], self.body.names()].concat()
+    }
 }
 
 pub const EXPRESSION_BYTES: usize = 18;

@@ -22,6 +22,10 @@ impl World {
         World { entities, names, spread }
     }
 
+    pub fn names(self) -> impl Iterator<Item = u16> {
+        (1..=self.names).map(move |i| self.number(i))
+    }
+
     /// The i-th number, low or high, or different from its neighbours in its high byte alone.
     pub fn number(self, i: usize) -> u16 {
         let sort = if self.spread == 4 { i % 4 } else { self.spread };

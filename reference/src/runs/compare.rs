@@ -141,14 +141,14 @@ impl Run {
     }
 }
 
-/// The Ack roles of the sensitive roles whose direct credential or AC record the two tables do not share.
-fn differing_acks(tables: [&Tables; 2]) -> Vec<Role> {
+/// The sensitive roles, with their Ack roles, whose direct credential or AC record the two tables do not share.
+pub fn differing(tables: [&Tables; 2]) -> Vec<Guard> {
     let policy = |tables: &Tables, role| tables.access.iter().find(|guard| guard.role == role).map(|guard| guard.by);
     let differs = |role| {
         let [a, b] = tables.map(|tables| (tables.holds(role), policy(tables, role)));
         a != b
     };
-    tables[0].sensitive.iter().filter(|guard| differs(guard.role)).map(|guard: &Guard| guard.by).collect()
+    tables[0].sensitive.iter().filter(|guard| differs(guard.role)).copied().collect()
 }
 
 /// Whether the two are equal but for direct credentials of sensitive roles and AC records.
@@ -173,7 +173,7 @@ pub fn compare(calls: &mut impl Calls, tables: [&[u8]; 2], list: &List) -> Optio
     if seen_a.answer != 0 {
         return Some(Outcome::Alike);
     }
-    let acks = differing_acks([&a.tables, &b.tables]);
+    let acks: Vec<Role> = differing([&a.tables, &b.tables]).iter().map(|guard| guard.by).collect();
     for (number, call) in (1..).zip(&list.calls) {
         let (seen_a, seen_b) = (a.call(calls, call), b.call(calls, call));
         if !a.is_counted(call, &seen_a) || !b.is_counted(call, &seen_b) {

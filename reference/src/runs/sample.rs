@@ -189,28 +189,36 @@ mod tests {
     use crate::reply::leak::{Leak, LEAKS};
     use crate::rules::classes::Class::IssuerDef;
     use crate::runs::compare::{compare, Outcome};
+    use crate::runs::counts::RunCounts;
     use crate::tables::records::Guard;
+    use std::slice::from_ref;
 
-    fn outcome(random: &mut Random, leak: Leak) -> Outcome {
-        let TwoRuns { tables, list } = random.two_runs();
+    fn outcome(two: &TwoRuns, leak: Leak) -> Outcome {
         let mut reference = Reference { leak, ..Reference::default() };
-        compare(&mut reference, tables.each_ref().map(Vec::as_slice), &list).expect("tables that may be compared")
+        let tables = two.tables.each_ref().map(Vec::as_slice);
+        compare(&mut reference, tables, &two.list).expect("tables that may be compared")
     }
 
-    /// Lists run to their ends or part after an Ack target is satisfied; no call tells anything before.
+    /// Lists run to their ends or part after an Ack target is satisfied; no call tells anything before. That goes for
+    /// roles with names that are not listed too.
     #[test]
     fn nothing_leaks() {
-        let mut random = Random::new(5);
+        let (mut random, mut counts) = (Random::new(5), RunCounts::default());
         let (mut alike, mut parted) = (0, 0);
-        for i in 0..300 {
-            match outcome(&mut random, Leak::None) {
+        for i in 0..600 {
+            let two = random.two_runs();
+            let outcome = outcome(&two, Leak::None);
+            match outcome {
                 Outcome::Alike => alike += 1,
                 Outcome::Parted(_) => parted += 1,
                 wrong => panic!("list {i}: {wrong:?}"),
             }
+            counts.compared(two.tables.each_ref().map(Vec::as_slice), Some(outcome));
         }
         println!("alike {alike}, parted {parted}");
-        assert!(alike > 150 && parted > 10, "{alike}, {parted}");
+        assert!(alike > 300 && parted > 20, "{alike}, {parted}");
+        counts.print();
+        assert_eq!(counts.missing(), [""; 0]);
     }
 
     /// Each planted leak is found.
@@ -218,7 +226,7 @@ mod tests {
     fn leaks_are_found() {
         for leak in LEAKS {
             let mut random = Random::new(5);
-            let found = (1..=2000).find(|_| matches!(outcome(&mut random, leak), Outcome::Leak(_)));
+            let found = (1..=2000).find(|_| matches!(outcome(&random.two_runs(), leak), Outcome::Leak(_)));
             println!("{leak:?}: found by list {found:?}");
             assert!(found.is_some(), "{leak:?}");
         }
@@ -228,11 +236,11 @@ mod tests {
         Role { entity, name }
     }
 
-    /// House's tables in cases (i) and (j), with these records of what it holds.
-    fn house_tables(held: &[Record]) -> Vec<u8> {
+    /// House's tables in cases (i) and (j), with the first so many of the three names and these records of what it holds.
+    fn house_tables(listed: usize, held: &[Record]) -> Vec<u8> {
         let names = [(1, IssuerDef), (2, SubjectAll), (3, SubjectAll)].map(|(name, class)| Record::Name(name, class));
         let sensitive = Record::Sensitive(Guard { role: role(4, 3), by: role(1, 2) });
-        let records = [&[Record::Own(2)][..], &names, held, &[sensitive]].concat();
+        let records = [&[Record::Own(2)][..], &names[..listed], held, &[sensitive]].concat();
         records.iter().flat_map(encode_record).collect()
     }
 
@@ -246,23 +254,30 @@ mod tests {
     }
 
     /// Cases (i) and (j) as two runs of House: they part when it has taken Studio's proof of the Ack role. With a leak
-    /// they differ in the first reply, before that.
+    /// they differ in the first reply, before that. The sensitive role and its Ack role are hidden whether their names are
+    /// listed or not.
     #[test]
     fn marked_cases() {
         let direct = Record::SubjectStored(Credential { head: role(4, 3), body: Expression::Entity(2) });
-        let (held, not_held, list) = (house_tables(&[direct]), house_tables(&[]), house_list());
-        for (leak, expected) in [
-            (Leak::None, Outcome::Parted(5)),
-            (Leak::Possession, Outcome::Leak(2)),
-            (Leak::Mark, Outcome::Leak(2)),
-            (Leak::Needed, Outcome::Parted(5)),
-        ] {
-            let mut reference = Reference { leak, ..Reference::default() };
-            assert_eq!(compare(&mut reference, [&held, &not_held], &list), Some(expected), "{leak:?}");
+        let list = house_list();
+        for listed in 1..=3 {
+            let (held, not_held) = (house_tables(listed, from_ref(&direct)), house_tables(listed, &[]));
+            for (leak, expected) in [
+                (Leak::None, Outcome::Parted(5)),
+                (Leak::Possession, Outcome::Leak(2)),
+                (Leak::Mark, Outcome::Leak(2)),
+                (Leak::Needed, Outcome::Parted(5)),
+            ] {
+                let mut reference = Reference { leak, ..Reference::default() };
+                assert_eq!(compare(&mut reference, [&held, &not_held], &list), Some(expected), "{leak:?}");
+            }
+            let mut reference = Reference::default();
+            assert_eq!(compare(&mut reference, [&held, &held], &list), Some(Outcome::Alike));
+            assert_eq!(compare(&mut reference, [&held, &house_tables(listed, &[Record::Own(3)])], &list), None);
         }
-        let mut reference = Reference::default();
-        assert_eq!(compare(&mut reference, [&held, &held], &list), Some(Outcome::Alike));
-        assert_eq!(compare(&mut reference, [&held, &house_tables(&[Record::Own(3)])], &list), None);
+        // Tables that list other names may not be compared.
+        let tables = [2, 3].map(|listed| house_tables(listed, &[]));
+        assert_eq!(compare(&mut Reference::default(), tables.each_ref().map(Vec::as_slice), &list), None);
     }
 
     /// The reference with wrong counts: in the negotiation after a reply, or in reports.
@@ -294,7 +309,7 @@ mod tests {
 
     #[test]
     fn wrong_counts_are_found() {
-        let (tables, list) = (house_tables(&[]), house_list());
+        let (tables, list) = (house_tables(3, &[]), house_list());
         for (in_reports, number) in [(false, 2), (true, 3)] {
             let mut miscounting = Miscounting { reference: Reference::default(), in_reports };
             assert_eq!(compare(&mut miscounting, [&tables, &tables], &list), Some(Outcome::Miscounted(number)));

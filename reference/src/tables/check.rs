@@ -19,8 +19,14 @@ pub struct Tables {
 }
 
 impl Tables {
-    pub fn class(&self, name: u16) -> Option<Class> {
-        self.names.iter().find(|(known, _)| *known == name).map(|&(_, class)| class)
+    /// The class that the name's 0x11 record gives it; a name without one is subject-all.
+    pub fn class(&self, name: u16) -> Class {
+        self.names.iter().find(|(known, _)| *known == name).map_or(Class::SubjectAll, |&(_, class)| class)
+    }
+
+    /// Whether one of the names has no 0x11 record.
+    pub fn has_unlisted(&self, names: &[u16]) -> bool {
+        names.iter().any(|&name| self.names.iter().all(|&(known, _)| known != name))
     }
 
     /// Whether 0x13 has the role's direct credential, role from self.
@@ -44,9 +50,9 @@ impl Tables {
     }
 }
 
-/// Whether a record keeps the class rules, where every name in it has a class.
+/// Whether a record keeps the class rules, by the records before it.
 fn class_rules_kept(tables: &Tables, record: &Record) -> bool {
-    let class_of = |name| tables.class(name).unwrap();
+    let class_of = |name| tables.class(name);
     let stored = |credential: &Credential, heads: &[Class]| {
         let head = class_of(credential.head.name);
         heads.contains(&head) && takes(head, &credential.body, class_of)
@@ -83,9 +89,9 @@ fn in_order(earlier: &[&[u8]], record: &[u8]) -> bool {
     command_in_order && ascending && !repeated && room
 }
 
-/// The next record, or None if its command is unknown or cut.
-fn next_record(bytes: &[u8]) -> Option<&[u8]> {
-    bytes.get(..record_bytes(bytes[0])?)
+/// The next record, or None if there is none, or its command is unknown or cut.
+pub fn next_record(bytes: &[u8]) -> Option<&[u8]> {
+    bytes.get(..record_bytes(*bytes.first()?)?)
 }
 
 /// The tables, or why they are refused. Each record is judged by rising number before the next one is read.
@@ -99,9 +105,6 @@ pub fn decode(bytes: &[u8]) -> Result<Tables, Refusal> {
     while !rest.is_empty() {
         let own_bytes = next_record(rest).ok_or(Refusal::Command)?;
         let record = decode_record(own_bytes).ok_or(Refusal::Operand)?;
-        if names_used(&record).into_iter().any(|name| tables.class(name).is_none()) {
-            return Err(Refusal::Name);
-        }
         if !class_rules_kept(&tables, &record) {
             return Err(Refusal::Class);
         }

@@ -22,7 +22,8 @@ pub enum Fault {
     OtherNumber,
     /// The class byte, or the class of a name in it.
     ClassByte,
-    NameWithoutClass,
+    /// A name that is not listed in place of one in it.
+    UnlistedName,
     OtherName,
     /// A byte of the expression, or one that is unused.
     Form,
@@ -52,7 +53,7 @@ pub const FAULTS: [Fault; 20] = [
     Fault::ZeroNumber,
     Fault::OtherNumber,
     Fault::ClassByte,
-    Fault::NameWithoutClass,
+    Fault::UnlistedName,
     Fault::OtherName,
     Fault::Form,
     Fault::Link,
@@ -131,11 +132,11 @@ impl Random {
     }
 
     fn any_name(&mut self, sample: &Sample) -> u16 {
-        self.name_of(&sample.house, &[IssuerDef, IssuerAll, SubjectAll]).unwrap_or(1)
+        self.name_of(&sample.house, &[IssuerDef, IssuerAll, SubjectAll]).unwrap()
     }
 
-    /// A number that no name of the house has.
-    fn unknown_name(&mut self, sample: &Sample) -> u16 {
+    /// A number of no name that is listed.
+    fn unlisted_number(&mut self, sample: &Sample) -> u16 {
         loop {
             let number = self.any_number(sample);
             if number != 0 && sample.house.names.iter().all(|&(name, _)| name != number) {
@@ -231,8 +232,8 @@ impl Random {
     }
 
     fn change_operands(&mut self, sample: &mut Sample, fault: Fault, at: usize) {
-        let (any_number, any_name, no_name) =
-            (self.any_number(sample), self.any_name(sample), self.unknown_name(sample));
+        let (any_number, any_name, unlisted) =
+            (self.any_number(sample), self.any_name(sample), self.unlisted_number(sample));
         let record = &mut sample.records[at];
         let (numbers, names) = (number_places(record), name_places(record));
         match fault {
@@ -240,7 +241,7 @@ impl Random {
             Fault::Command => record[0] = self.byte(),
             Fault::ZeroNumber => self.change_number(record, &numbers, 0),
             Fault::OtherNumber => self.change_number(record, &numbers, any_number),
-            Fault::NameWithoutClass => self.change_number(record, &names, no_name),
+            Fault::UnlistedName => self.change_number(record, &names, unlisted),
             Fault::OtherName => self.change_number(record, &names, any_name),
             Fault::ClassByte => self.change_class(sample, at),
             Fault::Link => self.link(sample, at, false),

@@ -2,6 +2,7 @@
 
 pub mod bytes;
 mod check;
+pub mod counts;
 pub mod faults;
 pub mod records;
 pub mod sample;

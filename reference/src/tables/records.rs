@@ -1,6 +1,6 @@
 //! The records of house tables, and their bytes.
 
-use crate::rules::classes::{decode_class, names, Class};
+use crate::rules::classes::{decode_class, Class};
 use crate::rules::expression::*;
 
 /// The commands, in the order in which they stand.
@@ -26,6 +26,17 @@ pub enum Record {
     SubjectStored(Credential),
     Sensitive(Guard),
     Access(Guard),
+}
+
+impl Record {
+    /// Every name in it but the one that it lists.
+    pub fn names(&self) -> Vec<u16> {
+        match self {
+            Record::Own(_) | Record::Name(..) => vec![],
+            Record::IssuerStored(stored) | Record::SubjectStored(stored) => stored.names(),
+            Record::Sensitive(guard) | Record::Access(guard) => vec![guard.role.name, guard.by.name],
+        }
+    }
 }
 
 /// The bytes of a record, its command among them; None: there is no such command in tables.
@@ -90,16 +101,5 @@ pub fn encode_record(record: &Record) -> Vec<u8> {
         Record::SubjectStored(stored) => credential(SUBJECT_STORED, stored),
         Record::Sensitive(guard) => encode_guard(SENSITIVE, guard),
         Record::Access(guard) => encode_guard(ACCESS, guard),
-    }
-}
-
-/// The names in a record that need a class.
-pub fn names_used(record: &Record) -> Vec<u16> {
-    match record {
-        Record::Own(_) | Record::Name(..) => vec![],
-        Record::IssuerStored(Credential { head, body }) | Record::SubjectStored(Credential { head, body }) => {
-            [vec![head.name], names(body)].concat()
-        }
-        Record::Sensitive(guard) | Record::Access(guard) => vec![guard.role.name, guard.by.name],
     }
 }

@@ -15,10 +15,30 @@ pub const FULL_BYTES: usize = 3779;
 /// What the records of one sample draw from: few entities and names, so that records meet.
 #[derive(Clone)]
 pub struct House {
-    /// Two names more than the tables have.
+    /// Its names are those that the tables list, and often some more.
     pub world: World,
     pub own: u16,
+    /// The names that are listed, with their classes.
     pub names: Vec<(u16, Class)>,
+}
+
+impl House {
+    /// The names of the world that are not listed.
+    pub fn unlisted(&self) -> Vec<u16> {
+        self.world.names().filter(|name| self.names.iter().all(|(listed, _)| listed != name)).collect()
+    }
+
+    /// The class of a name; one that is not listed is subject-all.
+    pub fn class(&self, name: u16) -> Class {
+        self.names.iter().find(|(listed, _)| *listed == name).map_or(SubjectAll, |&(_, class)| class)
+    }
+
+    /// The names of these classes, those that are not listed first.
+    pub fn names_of(&self, classes: &[Class]) -> Vec<u16> {
+        let unlisted = if classes.contains(&SubjectAll) { self.unlisted() } else { vec![] };
+        let listed = self.names.iter().filter(|(_, class)| classes.contains(class)).map(|&(name, _)| name);
+        unlisted.into_iter().chain(listed).collect()
+    }
 }
 
 /// Tables as their records' bytes.
@@ -50,22 +70,30 @@ impl Random {
         self.house_among(most, name_count)
     }
 
-    /// A house in a world of two entities to so many.
+    /// A house in a world of two entities to so many, that lists so many names.
     pub fn house_among(&mut self, most_entities: usize, name_count: usize) -> House {
-        let world = World::spread(self.between(2, most_entities), name_count + 2, self.below(5));
+        // A world has two names or more.
+        let unlisted_count = [0, 0, 1, 2, 4][self.below(5)].max(2usize.saturating_sub(name_count));
+        let world = World::spread(self.between(2, most_entities), name_count + unlisted_count, self.below(5));
         let only = [IssuerDef, IssuerAll, SubjectAll][self.below(3)];
         let one_class = name_count < 60 && self.percent(5);
         let class = |i| if one_class { only } else { [IssuerDef, IssuerAll, SubjectAll][i % 3] };
-        let mut places: Vec<usize> = (1..=name_count).collect();
-        self.shuffle(&mut places);
-        let names = places.iter().enumerate().map(|(i, &place)| (world.number(place), class(i))).collect();
+        let mut names: Vec<u16> = world.names().collect();
+        self.shuffle(&mut names);
+        let names = names.into_iter().take(name_count).enumerate().map(|(i, name)| (name, class(i))).collect();
         House { world, own: self.entity(world), names }
     }
 
     pub fn name_of(&mut self, house: &House, classes: &[Class]) -> Option<u16> {
-        let names: Vec<u16> =
-            house.names.iter().filter(|(_, class)| classes.contains(class)).map(|&(name, _)| name).collect();
+        let names = house.names_of(classes);
         (!names.is_empty()).then(|| names[self.below(names.len())])
+    }
+
+    /// A name that is not listed: one of the world, or the next one where all of those are listed.
+    pub fn unlisted_name(&mut self, house: &House) -> u16 {
+        let next = house.world.number(house.names.len() + 1);
+        let names = house.unlisted();
+        names.get(self.below(names.len().max(1))).copied().unwrap_or(next)
     }
 
     pub fn role_of(&mut self, house: &House, classes: &[Class]) -> Option<Role> {
@@ -99,8 +127,7 @@ impl Random {
     /// A credential whose head has one of these classes.
     pub fn stored(&mut self, house: &House, heads: &[Class]) -> Option<Credential> {
         let head = self.role_of(house, heads)?;
-        let (_, class) = house.names.iter().find(|(name, _)| *name == head.name)?;
-        Some(Credential { head, body: self.body_for(house, head.entity, *class)? })
+        Some(Credential { head, body: self.body_for(house, head.entity, house.class(head.name))? })
     }
 
     /// Makes items until the group has so many, if that many can be found.
@@ -129,7 +156,7 @@ impl Random {
         (held, records)
     }
 
-    /// A record for each of the roles, with any role that has a class.
+    /// A record for each of the roles, with any role.
     fn guards(&mut self, house: &House, roles: BTreeSet<Role>, record: fn(Guard) -> Record) -> Vec<Vec<u8>> {
         let by = |random: &mut Random| random.role_of(house, &[IssuerDef, IssuerAll, SubjectAll]);
         roles.into_iter().filter_map(|role| Some(encode_record(&record(Guard { role, by: by(self)? })))).collect()
@@ -183,9 +210,11 @@ impl Random {
             1..=2 => self.between(0, most),
             _ => [0, 5, 5, 10][self.below(4)].min(self.below(most + 1)),
         });
-        // Without a name there is little else.
-        if self.percent(90) {
-            sizes[0] = sizes[0].max(3);
+        // Where no name is listed, all are subject-all.
+        match self.below(10) {
+            0 => sizes[0] = 0,
+            1 => {}
+            _ => sizes[0] = sizes[0].max(3),
         }
         sizes
     }

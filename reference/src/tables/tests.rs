@@ -1,4 +1,5 @@
-//! Hand-written tables for each refusal and each rule. Self is 9; name 1 has class 1, 2 class 2, 3 class 3.
+//! Hand-written tables for each refusal and each rule. Self is 9; name 1 has class 1, 2 class 2, 3 class 3; others are not
+//! listed.
 
 use crate::rules::classes::decode_class;
 use crate::rules::expression::*;
@@ -83,7 +84,7 @@ fn tables_are_read() {
     .concat();
     let tables = decode(&bytes).unwrap();
     assert_eq!(tables.own, 9);
-    assert_eq!((1..=4).map(|n| tables.class(n)).collect::<Vec<_>>(), [1, 2, 3, 0].map(decode_class));
+    assert_eq!([1, 2, 3, 4, 65535].map(|name| tables.class(name) as u8), [1, 2, 3, 3, 3]);
     assert_eq!(tables.issuer_stored, [Credential { head: role(9, 1), body: of(4, 3) }]);
     assert_eq!(tables.subject_stored, [Credential { head: role(4, 3), body: entity(9) }]);
     assert_eq!(tables.sensitive, [Guard { role: role(4, 3), by: role(5, 1) }]);
@@ -196,29 +197,105 @@ fn credential_forms() {
     assert_eq!(after_start(&[stored(parts(&[(1, 1), (1, 2), (2, 1), (2, 3)]))]), 0);
 }
 
+/// A head that is not listed is subject-all, whatever the body.
 #[test]
-fn names_without_class() {
-    let records = [
-        issuer_stored(9, 4, entity(2)),
-        subject_stored(9, 4, entity(9)),
-        issuer_stored(9, 1, of(2, 4)),
-        issuer_stored(9, 1, linked(9, 4, 3)),
-        issuer_stored(9, 1, linked(9, 1, 4)),
-        issuer_stored(9, 1, parts(&[(1, 4), (2, 2), (3, 2)])),
-        issuer_stored(9, 1, parts(&[(1, 1), (2, 4), (3, 2)])),
-        issuer_stored(9, 1, parts(&[(1, 1), (2, 2), (3, 2), (3, 4)])),
-        sensitive((5, 4), (5, 3)),
-        sensitive((5, 3), (5, 4)),
-        access((5, 4), (5, 3)),
-        access((5, 3), (5, 4)),
+fn unlisted_heads() {
+    let bodies = [
+        (entity(9), 0),
+        (entity(4), 0),
+        (of(2, 4), 0),
+        (of(2, 5), 0),
+        (of(2, 3), 0),
+        (of(2, 1), 5),
+        (of(2, 2), 5),
+        (linked(9, 4, 4), 0),
+        (linked(9, 4, 5), 0),
+        (linked(9, 4, 3), 0),
+        (linked(9, 3, 4), 0),
+        (linked(9, 3, 3), 0),
+        // Issuer-def, issuer-all, ill-typed.
+        (linked(9, 1, 4), 5),
+        (linked(9, 2, 4), 5),
+        (linked(9, 2, 2), 5),
+        (linked(9, 4, 1), 5),
+        (linked(9, 4, 2), 5),
+        (parts(&[(1, 4), (2, 5)]), 0),
+        (parts(&[(1, 4), (2, 3)]), 0),
+        (parts(&[(1, 3), (2, 4), (3, 5), (4, 3)]), 0),
+        (parts(&[(1, 4), (2, 1)]), 5),
+        (parts(&[(1, 4), (2, 2)]), 5),
+        (parts(&[(1, 2), (2, 2)]), 5),
+        (parts(&[(1, 4), (2, 4), (3, 4), (4, 1)]), 5),
     ];
-    for record in records {
-        assert_eq!(after_start(from_ref(&record)), 4, "{record:?}");
-        // A later record does not help.
-        assert_eq!(after_start(&[record, name(4, 3)]), 4);
+    for (body, answer) in bodies {
+        assert_eq!(after_start(&[subject_stored(9, 4, body.clone())]), answer, "{body:?}");
+        assert_eq!(after_start(&[issuer_stored(9, 4, body)]), 5);
     }
-    // Entities need no class.
-    assert_eq!(after_start(&[issuer_stored(4, 1, entity(4)), sensitive((4, 3), (4, 3))]), 0);
+}
+
+/// A body with a name that is not listed, under listed heads.
+#[test]
+fn unlisted_bodies() {
+    assert_eq!(heads(of(2, 4)), [1, 3]);
+    for (first, second) in [(4, 4), (4, 5), (4, 3), (3, 4)] {
+        assert_eq!(heads(linked(9, first, second)), [1, 3]);
+    }
+    for (first, second) in [(1, 4), (2, 4)] {
+        assert_eq!(heads(linked(9, first, second)), [1]);
+    }
+    for (first, second) in [(4, 1), (4, 2)] {
+        assert_eq!(heads(linked(9, first, second)), []);
+    }
+    assert_eq!(heads(parts(&[(1, 4), (2, 4)])), [1, 3]);
+    assert_eq!(heads(parts(&[(1, 3), (2, 4), (3, 5), (4, 6)])), [1, 3]);
+    assert_eq!(heads(parts(&[(1, 2), (2, 4)])), [1]);
+    assert_eq!(heads(parts(&[(1, 1), (2, 4), (3, 3)])), [1]);
+}
+
+#[test]
+fn unlisted_sensitive_roles() {
+    for class in 1..=4 {
+        assert_eq!(after_start(&[sensitive((5, 4), (5, class))]), 0);
+    }
+    assert_eq!(after_start(&[sensitive((5, 3), (5, 4))]), 0);
+    assert_eq!(after_start(&[sensitive((5, 1), (5, 4))]), 5);
+    // The AC role may be unlisted, and so may the role itself; it needs the same records as any.
+    for role in [(4, 3), (4, 4)] {
+        let direct = subject_stored(role.0, role.1, entity(9));
+        let set = sensitive(role, (6, 5));
+        assert_eq!(after_start(&[direct.clone(), set.clone(), access(role, (7, 5))]), 0);
+        assert_eq!(after_start(&[set, access(role, (7, 5))]), 5);
+        assert_eq!(after_start(&[direct, access(role, (7, 5))]), 5);
+    }
+}
+
+/// The class is that of a record before: one that comes later gives none, and is out of order.
+#[test]
+fn names_listed_later() {
+    assert_eq!(after_start(&[issuer_stored(9, 4, entity(2)), name(4, 1)]), 5);
+    assert_eq!(after_start(&[subject_stored(9, 4, entity(2)), name(4, 1)]), 6);
+    assert_eq!(after_start(&[sensitive((9, 4), (1, 1)), name(4, 1)]), 6);
+    assert_eq!(after_start(&[name(4, 1), subject_stored(9, 4, entity(2))]), 5);
+    assert_eq!(after_start(&[name(4, 1), issuer_stored(9, 4, entity(2))]), 0);
+}
+
+/// Without a listed name there is no issuer-stored credential, and all else.
+#[test]
+fn no_name_listed() {
+    let records = [
+        own(9),
+        subject_stored(4, 1, entity(9)),
+        subject_stored(4, 1, of(5, 2)),
+        subject_stored(4, 1, linked(4, 2, 3)),
+        subject_stored(4, 1, parts(&[(5, 2), (6, 3)])),
+        sensitive((4, 1), (5, 2)),
+        access((4, 1), (6, 3)),
+    ];
+    for count in 1..=records.len() {
+        assert_eq!(alone(&records[..count]), 0);
+    }
+    assert_eq!(alone(&[own(9), issuer_stored(9, 1, entity(2))]), 5);
+    assert_eq!(alone(&[own(9), access((4, 1), (6, 3))]), 5);
 }
 
 #[test]
@@ -318,13 +395,20 @@ fn own_record() {
     assert_eq!(alone(&[own(9), own(9)]), 6);
     assert_eq!(alone(&[own(9), own(10)]), 6);
     assert_eq!(after_start(&[own(10)]), 6);
-    // Missing: it shows at the first record, after that one's own 2 to 5.
+    // Missing: it shows at the first record, after that one's own 2 to 5. No name is listed there.
     assert_eq!(alone(&[name(1, 1)]), 6);
     assert_eq!(alone(&[name(1, 1), vec![0]]), 6);
     assert_eq!(alone(&[vec![0x11, 0, 1]]), 2);
     assert_eq!(alone(&[vec![0x11, 0, 1, 0], own(9)]), 3);
-    assert_eq!(alone(&[issuer_stored(9, 1, entity(2)), own(9)]), 4);
-    assert_eq!(alone(&[access((4, 3), (5, 3))]), 4);
+    assert_eq!(alone(&[issuer_stored(9, 1, entity(2)), own(9)]), 5);
+    assert_eq!(alone(&[access((4, 3), (5, 3))]), 5);
+    for body in [entity(2), of(2, 1), linked(9, 1, 2), parts(&[(1, 1), (2, 2)])] {
+        assert_eq!(alone(&[subject_stored(9, 1, body.clone()), own(9)]), 6);
+        assert_eq!(alone(&[issuer_stored(9, 1, body)]), 5);
+    }
+    assert_eq!(alone(&[subject_stored(9, 1, linked(8, 1, 2))]), 3);
+    assert_eq!(alone(&[sensitive((4, 3), (5, 3))]), 6);
+    assert_eq!(alone(&[sensitive((4, 3), (5, 3)), access((4, 3), (5, 3))]), 6);
 }
 
 #[test]
@@ -388,11 +472,17 @@ fn sizes() {
         before.extend(records[..most].concat());
         assert_eq!(check(&before), 0);
         assert_eq!(check(&[&before[..], &records[most]].concat()), 6);
-        // Its own 2 to 5 come first; class 2 breaks a rule of the last two groups only.
+        // Its own 2 to 5 come first; class 2 breaks a rule of the last two groups only, a name that is not listed one of
+        // the first group.
         let last = &records[most];
-        let class_2 = if last[0] == ISSUER_STORED { 6 } else { 5 };
-        let wrong = [(2, last[..8].to_vec()), (3, with(last.clone(), 4, 0)), (4, with(last.clone(), 4, 7))];
-        for (number, record) in [&wrong[..], &[(class_2, with(last.clone(), 4, 2))]].concat() {
+        let (class_2, unlisted) = if last[0] == ISSUER_STORED { (6, 5) } else { (5, 6) };
+        let wrong = [
+            (2, last[..8].to_vec()),
+            (3, with(last.clone(), 4, 0)),
+            (class_2, with(last.clone(), 4, 2)),
+            (unlisted, with(last.clone(), 4, 7)),
+        ];
+        for (number, record) in wrong {
             assert_eq!(check(&[before.clone(), record].concat()), number);
         }
     }
@@ -408,7 +498,7 @@ fn first_record_decides() {
     let wrong = [
         (2, vec![0x06]),
         (3, issuer_stored(0, 1, entity(2))),
-        (4, issuer_stored(9, 7, entity(2))),
+        (5, issuer_stored(9, 7, entity(2))),
         (5, subject_stored(9, 1, entity(2))),
         (6, name(1, 1)),
     ];
@@ -417,14 +507,13 @@ fn first_record_decides() {
             assert_eq!(after_start(&[first.clone(), second.clone()]), *first_number);
         }
     }
-    // Within one record the lowest number: all of 3, 4, 5, 6 apply to the first, each next one less.
+    // Within one record the lowest number: all of 3, 5, 6 apply to the first, each next one less.
     let records = [
-        issuer_stored(9, 3, linked(8, 7, 1)),
-        issuer_stored(9, 3, linked(9, 7, 1)),
-        issuer_stored(9, 3, linked(9, 3, 1)),
-        issuer_stored(9, 1, linked(9, 3, 3)),
+        (issuer_stored(9, 3, linked(8, 7, 1)), 3),
+        (issuer_stored(9, 3, linked(9, 7, 1)), 5),
+        (issuer_stored(9, 1, linked(9, 3, 3)), 6),
     ];
-    for (record, number) in records.into_iter().zip(3..) {
+    for (record, number) in records {
         assert_eq!(after_start(&[subject_stored(9, 3, entity(2)), record]), number);
     }
 }
