@@ -16,7 +16,7 @@ use Rattle.tables.specs.Accepted.{Rising, rising-none, rising-cons, Soun
 use Rattle.tables.specs.Public.{keep}
 
 -- names without those that are subject-all
-abbrev pub lessSubjectAll : List Name → List Name
+abbrev lessSubjectAll : List Name → List Name
 lessSubjectAll ns = keep (λ (n : Name). not (eqb (n .class) 3)) ns
 
 less-class : (ns : List Name) → Rising (λ m n. ltb (m .name) (n .name)) ns → (m : ℕ) → classOf (lessSubjectAll ns) m ≡ classOf ns m
@@ -34,5 +34,5 @@ less-class (n ∷ ns) (rising-cons above rest) m = go (eqb (n .class) 3) (eqb (n
     go false b p q ih = (λ i. cond (q i) (n .class) (classOf (lessSubjectAll ns) m)) ∙ ap (cond b (n .class)) ih
 
 -- no name of accepted tables has another class where the records of subject-all names are left out
-pub subject-all-unlisted : (T : Tables) → Sound T → (m : ℕ) → classOf (lessSubjectAll (T .names)) m ≡ classOf (T .names) m
+pub subject-all-unlisted : (T : Tables) → Sound T → (m : ℕ) → classOf (keep (λ (n : Name). not (eqb (n .class) 3)) (T .names)) m ≡ classOf (T .names) m
 subject-all-unlisted T t m = less-class (T .names) (t .names .ascend) m
