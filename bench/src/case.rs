@@ -61,18 +61,13 @@ fn records(mut tables: &[u8]) -> Vec<Record> {
     records
 }
 
-/// The names of tables with their classes; one where there is none.
+/// The names that tables list, with their classes.
 pub fn names_of(records: &[Record]) -> Vec<(u16, Class)> {
     let name = |record: &Record| match record {
         Record::Name(name, class) => Some((*name, *class)),
         _ => None,
     };
-    let names: Vec<(u16, Class)> = records.iter().filter_map(name).collect();
-    if names.is_empty() {
-        vec![(1, Class::SubjectAll)]
-    } else {
-        names
-    }
+    records.iter().filter_map(name).collect()
 }
 
 fn commands(mut message: &[u8]) -> Vec<Command> {
