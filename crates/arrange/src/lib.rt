@@ -1,4 +1,5 @@
 // House tables from records in any order: they are split, sorted by bytes, written once each, and checked.
+#![tactic(auto)]
 ghost use Rattle.std.specs.Prelude.{◌≡◌, ◌<◌, ◌≤◌, length, take};
 ghost use Rattle.numbers.specs.Answer.{answer_of};
 ghost use Rattle.arrange.specs.Arrange.{checked_in, arrange_of, tables_left};
@@ -17,7 +18,7 @@ mod sort;
 mod write;
 
 // The records laid out, so many bytes, or one is unknown or cut.
-#[derive(Drop)]
+#[derive(Clone, Copy)]
 pub enum Laid {
     Bytes(usize),
     Unread,

@@ -1,4 +1,5 @@
 // The edges that a rule may add to a node: the first in order that is not done.
+#![tactic(auto)]
 pub use all::{all_edges, next_flagged};
 pub use done::{better, or_else};
 use expression::Role;
@@ -19,7 +20,7 @@ mod reach;
 mod subject;
 
 // The credentials found for the linked role of these names, once one is known.
-#[derive(Drop)]
+#[derive(Clone, Copy)]
 pub struct LinkReach {
     pub known: bool,
     pub role: Role,

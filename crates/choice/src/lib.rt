@@ -1,4 +1,5 @@
 // Which move comes next. What it is stands in moves/specs.
+#![tactic(auto)]
 use candidates::LinkReach;
 use moves::Found;
 pub use next::{is_nothing, next_choice};
@@ -11,7 +12,7 @@ mod sensitive;
 mod waiting;
 
 // A move, and what was found for the linked target visited last.
-#[derive(Drop)]
+#[derive(Clone, Copy)]
 pub struct Turn {
     pub found: Found,
     pub reach: LinkReach,

@@ -1,4 +1,5 @@
 // Classes of role names, and what class an expression has by them.
+#![tactic(auto)]
 ghost use Rattle.std.specs.Prelude.{◌≡◌, cond, [], ◌∷◌, ◌<◌, ◌+◌, ◌-◌, ◌≤◌, ltb, get_or};
 ghost use Rattle.class.specs.laws.Names.{names_from, names_of, Ascending, Between, Placed};
 ghost use Rattle.class.specs.Names.{class_of};
@@ -9,14 +10,14 @@ use expression::{Credential, Expression, Parts};
 use numbers::{CLASS, MOST_NAMES};
 
 // A role name and its class: 1 issuer-def, 2 issuer-all, 3 subject-all.
-#[derive(Drop)]
+#[derive(Clone, Copy)]
 pub struct Name {
     pub name: u16,
     pub class: u8,
 }
 
 // Names in ascending order, and their classes.
-#[derive(Drop)]
+#[derive(Clone, Copy)]
 pub struct Names {
     pub count: usize,
     pub name: [u16; 64],
@@ -24,7 +25,7 @@ pub struct Names {
 }
 
 // What an expression is by its names: it is ill-typed, it suits every class, or it has a class.
-#[derive(Drop)]
+#[derive(Clone, Copy)]
 pub enum Typing {
     Ill,
     Any,

@@ -2,6 +2,7 @@
 //
 // Rule i adds to row head[i]: the bits that the rows part[4 i] to part[4 i + 3] share; and, for each j in named[i] whose bit src[j] is in the
 // membership row first[i], the bits of row j. A row is two words of 64 bits. Rows 0 to 127 are those of the rules, two more are spare.
+#![tactic(auto)]
 ghost use Rattle.std.specs.Prelude.{◌≡◌, ◌<◌, length};
 ghost use Rattle.closure.specs.laws.Rules.{rules_of, bits, Fits, Grown, Closed, Marked};
 
@@ -20,7 +21,7 @@ mod single;
 mod word_worklist;
 mod worklist;
 
-#[derive(Drop)]
+#[derive(Clone, Copy)]
 pub struct Rules {
     pub count: usize,
     // Words of a row in use: 1 where each bit is below 64, else 2.
@@ -33,14 +34,14 @@ pub struct Rules {
 }
 
 // Rules or rows to look at: those below 64, and those from 64 on.
-#[derive(Drop)]
+#[derive(Clone, Copy)]
 pub struct Dirty {
     pub lo: u64,
     pub hi: u64,
 }
 
 // Rules to be run in this round and in the next, rows that grew in the round before, and rows that grew in this one.
-#[derive(Drop)]
+#[derive(Clone, Copy)]
 pub struct Work {
     pub now: Dirty,
     pub later: Dirty,

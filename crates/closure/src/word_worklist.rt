@@ -7,7 +7,7 @@ use crate::rounds::{links, rule};
 use word::{lowest, one, others, test};
 
 // Rules to be run in this round and in the next, rows that grew in the round before, and rows that grew in this one.
-#[derive(Drop)]
+#[derive(Clone, Copy)]
 struct Round {
     now: u64,
     later: u64,

@@ -1,4 +1,5 @@
 // Expressions of RT0, their 18 bytes and their equality. Credentials, the kinds and the order by bytes are in modules of their own.
+#![tactic(auto)]
 ghost use Rattle.std.specs.Prelude.{◌≡◌, ◌+◌, ◌≤◌, ◌<◌, length};
 ghost use Rattle.expression.specs.Bytes.{number_at, raw_at, raw_bytes, pasted};
 ghost use Rattle.expression.specs.Form.{raw_of, well_formed, same_raw, form_of, read_of, ascends, is_role, is_empty, tail_formed, parts_formed};
@@ -18,14 +19,14 @@ mod kinds;
 mod order;
 
 // A role's entity and name; both zero where a field is unused.
-#[derive(Drop)]
+#[derive(Clone, Copy)]
 pub struct Role {
     pub entity: u16,
     pub name: u16,
 }
 
 // Two to four roles; those past count are zero.
-#[derive(Drop)]
+#[derive(Clone, Copy)]
 pub struct Parts {
     pub count: u8,
     pub first: Role,
@@ -35,7 +36,7 @@ pub struct Parts {
 }
 
 // Kinds 1 to 5.
-#[derive(Drop)]
+#[derive(Clone, Copy)]
 pub enum Expression {
     Entity(u16),
     Role(Role),
@@ -44,27 +45,27 @@ pub enum Expression {
     Goal(u16),
 }
 
-#[derive(Drop)]
+#[derive(Clone, Copy)]
 pub enum ExpressionAnswer {
     Read(Expression),
     Wrong,
 }
 
 // head <- body; the head's entity is the issuer.
-#[derive(Drop)]
+#[derive(Clone, Copy)]
 pub struct Credential {
     pub head: Role,
     pub body: Expression,
 }
 
-#[derive(Drop)]
+#[derive(Clone, Copy)]
 pub enum CredentialAnswer {
     Read(Credential),
     Wrong,
 }
 
 // The 18 bytes as numbers, of right form or not: kind, part count, eight numbers.
-#[derive(Drop)]
+#[derive(Clone, Copy)]
 pub struct Raw {
     pub kind: u8,
     pub count: u8,

@@ -1,4 +1,5 @@
 // The trust target graph: nodes and edges in columns.
+#![tactic(auto)]
 ghost use Rattle.std.specs.Prelude.{◌≡◌, [], ◌∷◌, ◌++◌, ◌≤◌, ◌<◌, set};
 ghost use Rattle.graph.specs.laws.Columns.{NodesSized, EdgesSized};
 ghost use Rattle.graph.specs.laws.Graph.{nodes_of, edges_of};
@@ -19,7 +20,7 @@ mod processed;
 
 // A target, or a linking goal: what its verifier (0 mediator, 1 requester) wants to see proved of its subject. Bit 0 of its
 // state says that the verifier has processed it, bit 1 that the opponent has.
-#[derive(Drop)]
+#[derive(Clone, Copy)]
 pub struct Node {
     pub expression: Expression,
     pub subject: u16,
@@ -28,7 +29,7 @@ pub struct Node {
 }
 
 // An edge of kinds 1 to 6, from its child to its parent.
-#[derive(Drop)]
+#[derive(Clone, Copy)]
 pub struct Edge {
     pub kind: u8,
     pub parent: u8,
@@ -36,7 +37,7 @@ pub struct Edge {
 }
 
 // Nodes in the order in which they were added. Their expressions stand as in a pool: the kind and part count at 2 i, the eight numbers at 8 i.
-#[derive(Drop)]
+#[derive(Clone, Copy)]
 pub struct Nodes {
     pub count: usize,
     pub kind: [u8; 256],
@@ -47,7 +48,7 @@ pub struct Nodes {
 }
 
 // Edges in the order in which they were added.
-#[derive(Drop)]
+#[derive(Clone, Copy)]
 pub struct Edges {
     pub count: usize,
     pub kind: [u8; 256],

@@ -1,4 +1,5 @@
 // Which commands are legal.
+#![tactic(auto)]
 ghost use Rattle.std.specs.Prelude.{◌≡◌, true, ◌≤◌};
 ghost use Rattle.class.specs.laws.Names.{names_of, Ascending};
 ghost use Rattle.negotiation.specs.laws.State.{state_of};
@@ -23,7 +24,7 @@ mod edges;
 mod justify;
 
 // What the credentials of a pool prove: made once, asked many times.
-#[derive(Drop)]
+#[derive(Clone, Copy)]
 pub struct Proved {
     pub pool: Pool,
     pub rules: Rules,
@@ -32,7 +33,7 @@ pub struct Proved {
 }
 
 // What an implication edge asks: whether the parent is from the child.
-#[derive(Drop)]
+#[derive(Clone, Copy)]
 pub struct Implication {
     parent: Expression,
     child: Expression,

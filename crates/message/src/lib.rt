@@ -1,4 +1,5 @@
 // The commands of a message and their bytes.
+#![tactic(auto)]
 ghost use Rattle.std.specs.Prelude.{◌≡◌};
 ghost use Rattle.message.specs.Command.{size_of};
 
@@ -14,14 +15,14 @@ mod decode;
 mod encode;
 
 // The primary target's role and state.
-#[derive(Drop)]
+#[derive(Clone, Copy)]
 pub struct Opening {
     pub role: Role,
     pub state: u8,
 }
 
 // An edge and the child that it brings.
-#[derive(Drop)]
+#[derive(Clone, Copy)]
 pub struct NewEdge {
     pub kind: u8,
     pub parent: u8,
@@ -31,7 +32,7 @@ pub struct NewEdge {
 }
 
 // 0x01 to 0x06.
-#[derive(Drop)]
+#[derive(Clone, Copy)]
 pub enum Command {
     Show(Credential),
     Open(Opening),
@@ -41,7 +42,7 @@ pub enum Command {
     End,
 }
 
-#[derive(Drop)]
+#[derive(Clone, Copy)]
 pub enum CommandAnswer {
     Read(Command),
     Refused(u64),

@@ -1,6 +1,7 @@
 // The credentials that an edge needs, of those of a pool: the first ones are shown, the others are the own ones in table order. "Drop each,
 // first to last, without which the edge is still justified" is done from the end: own credentials are added, the last first, until the edge
 // is justified; the one that made it so is kept; then the same again with it, for those after it.
+#![tactic(auto)]
 ghost use Rattle.std.specs.Prelude.{◌≡◌, ℕ, ◌<◌, ◌≤◌, length};
 ghost use Rattle.rt0.specs.Decide.{from? as from_of};
 ghost use Rattle.rt0.specs.laws.Pool.{pool_of, credentials};
@@ -23,7 +24,7 @@ mod asked;
 mod next;
 
 // Whether an edge holds over a pool, and the own credentials of the pool that it needs, 1 for each.
-#[derive(Drop)]
+#[derive(Clone, Copy)]
 pub struct Kept {
     pub holds: bool,
     pub own: [u8; 128],

@@ -1,4 +1,5 @@
 // The state of one end of a negotiation.
+#![tactic(auto)]
 ghost use Rattle.std.specs.Prelude.{◌≡◌, ◌≤◌, ◌<◌};
 ghost use Rattle.negotiation.specs.laws.State.{state_of};
 ghost use Rattle.negotiation.specs.State.{fresh_state, with_node, with_edge, with_shown, with_mark, with_header};
@@ -20,7 +21,7 @@ mod ends;
 
 // Our side (0 mediator, 1 requester), self and the other end, the wanted role (zeros for the requester, who is not told it), the end,
 // whether the last message had no open, edge or mark, and the messages of each end.
-#[derive(Drop)]
+#[derive(Clone, Copy)]
 pub struct Header {
     pub side: u8,
     pub own: u16,
@@ -32,14 +33,14 @@ pub struct Header {
 }
 
 // How many messages of the mediator and of the requester were accepted or given.
-#[derive(Drop)]
+#[derive(Clone, Copy)]
 pub struct Messages {
     pub mediator: u16,
     pub requester: u16,
 }
 
 // The graph, and the credentials shown so far by either end.
-#[derive(Drop)]
+#[derive(Clone, Copy)]
 pub struct Negotiation {
     pub header: Header,
     pub nodes: Nodes,
@@ -143,7 +144,7 @@ impl Negotiation {
 }
 
 // The negotiation counts only where ok.
-#[derive(Drop)]
+#[derive(Clone, Copy)]
 pub struct Reading {
     pub ok: bool,
     pub negotiation: Negotiation,

@@ -244,7 +244,7 @@ fn touched<'a>(
     r
 }
 
-#[derive(Drop)]
+#[derive(Clone, Copy)]
 struct Sweep {
     failed: [u8; 128],
     added: usize,

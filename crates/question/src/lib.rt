@@ -1,4 +1,5 @@
 // RT0 questions on bytes.
+#![tactic(auto)]
 ghost use Rattle.std.specs.Prelude.{◌≡◌, ◌*◌, length};
 ghost use Rattle.numbers.specs.Bytes.{EXPRESSION-BYTES};
 ghost use Rattle.question.specs.Question.{sized as sized_of, operand_of, yes_or_no, question_of};
@@ -13,7 +14,7 @@ use rt0::Pool;
 mod credentials;
 
 // What stands next in a credential list: a credential, the end, or a command that is refused with a number.
-#[derive(Drop)]
+#[derive(Clone, Copy)]
 pub enum Step {
     Taken(Credential),
     End,
@@ -21,7 +22,7 @@ pub enum Step {
 }
 
 // The credentials of a list where the refusal is 0; else the pool does not count.
-#[derive(Drop)]
+#[derive(Clone, Copy)]
 pub struct Listing {
     pub refusal: u64,
     pub pool: Pool,

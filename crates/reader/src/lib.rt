@@ -1,4 +1,5 @@
 // A message is read one command after another from the lent bytes.
+#![tactic(auto)]
 ghost use Rattle.std.specs.Prelude.{◌≡◌, length};
 ghost use Rattle.message.specs.Command.{command_at};
 ghost use Rattle.reader.specs.laws.Position.{behind_in, position_after};
@@ -6,14 +7,14 @@ ghost use Rattle.reader.specs.laws.Position.{behind_in, position_after};
 use message::{CommandAnswer, read_command, size_of};
 
 // A message, and the index of the next command in it.
-#[derive(Drop)]
+#[derive(Clone, Copy)]
 pub struct Reader<'a> {
     pub message: &'a [u8],
     pub at: usize,
 }
 
 // What was read, and the index behind it.
-#[derive(Drop)]
+#[derive(Clone, Copy)]
 pub struct Next {
     pub answer: CommandAnswer,
     pub at: usize,

@@ -1,4 +1,5 @@
 // The records of the house tables and their bytes.
+#![tactic(auto)]
 ghost use Rattle.std.specs.Prelude.{◌≡◌, ◌<◌, ◌+◌, length};
 ghost use Rattle.record.specs.Record.{size_by, formed_name, formed_pair, stored as stored_in, paired as paired_in, own_at, name_at, stored_at, pair_at, record_at};
 ghost use Rattle.record.specs.laws.Record.{stored_code, begins_stored};
@@ -10,14 +11,14 @@ use expression::{
 use numbers::{COMMAND, CREDENTIAL_BYTES, NAME_BYTES, OPERAND, PAIR_BYTES, SELF_BYTES};
 
 // A sensitive role with its Ack role, or with its AC role.
-#[derive(Drop)]
+#[derive(Clone, Copy)]
 pub struct Pair {
     pub role: Role,
     pub other: Role,
 }
 
 // 0x10 to 0x15.
-#[derive(Drop)]
+#[derive(Clone, Copy)]
 pub enum Record {
     Own(u16),
     Named(Name),
@@ -27,7 +28,7 @@ pub enum Record {
     Access(Pair),
 }
 
-#[derive(Drop)]
+#[derive(Clone, Copy)]
 pub enum RecordAnswer {
     Read(Record),
     Refused(u64),

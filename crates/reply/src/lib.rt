@@ -1,4 +1,5 @@
 // The reply.
+#![tactic(auto)]
 pub use call::reply;
 use negotiation::Negotiation;
 
@@ -8,7 +9,7 @@ mod turns;
 
 // The negotiation that a reply has led to so far, how many bytes it has, and whether it stopped on a size, where the refusal is 0; else they do not
 // count.
-#[derive(Drop)]
+#[derive(Clone, Copy)]
 pub struct Replying {
     pub refusal: u64,
     pub negotiation: Negotiation,

@@ -1,4 +1,5 @@
 // RT0: credentials in columns.
+#![tactic(auto)]
 ghost use Rattle.std.specs.Prelude.{◌≡◌, false, [], ◌∷◌, ◌++◌, ◌≤◌, ◌<◌, ◌+◌, ◌*◌};
 ghost use Rattle.expression.specs.Same.{same_role};
 ghost use Rattle.expression.specs.laws.Key.{KeyOf};
@@ -12,7 +13,7 @@ pub use shown::{is_at, is_shown, same_expression};
 mod shown;
 
 // Credentials one after the other: head i at 2 i, the body's kind and part count at 2 i, its eight numbers at 8 i.
-#[derive(Drop)]
+#[derive(Clone, Copy)]
 pub struct Pool {
     pub count: usize,
     pub heads: [u16; 256],

@@ -2,6 +2,7 @@
 //
 // A role's row is the index of the first credential with that head, or 128; an entity's bit is the index of the first credential with that
 // body, or 128. Row 128 stays empty, and row 129 is that of a role asked about which no credential has as its head.
+#![tactic(auto)]
 ghost use Rattle.std.specs.Prelude.{◌≡◌, ◌<◌, ◌≤◌, ◌*◌};
 ghost use Rattle.rt0.specs.laws.Pool.{pool_of};
 ghost use Rattle.rules.specs.laws.Table.{row_of, row_in, third, fourth};
@@ -23,7 +24,7 @@ mod linking;
 mod rows;
 
 // The four rows whose shared bits a rule takes in.
-#[derive(Drop)]
+#[derive(Clone, Copy)]
 pub struct Four {
     pub a: usize,
     pub b: usize,
@@ -32,7 +33,7 @@ pub struct Four {
 }
 
 // The heads that links can go by (able is 1), and the bits of their entities.
-#[derive(Drop)]
+#[derive(Clone, Copy)]
 pub struct Links {
     pub src: [usize; 128],
     pub able: [u8; 128],

@@ -1,1 +1,2 @@
 // The calls of a run: their definition, in specs/.
+#![tactic(auto)]

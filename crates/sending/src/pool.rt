@@ -11,7 +11,7 @@ use expression::Credential;
 use rt0::{Pool, expression_at, head_at, store};
 
 // A pool, the first credentials of which are shown.
-#[derive(Drop)]
+#[derive(Clone, Copy)]
 pub struct Part {
     pub pool: Pool,
     pub shown: usize,

@@ -1,4 +1,5 @@
 // What a call finds in its tables and its negotiation, and whose turn it is.
+#![tactic(auto)]
 ghost use Rattle.std.specs.Prelude.{◌≡◌};
 ghost use Rattle.standing.specs.laws.Standing.{standing_of, Usable};
 ghost use Rattle.standing.specs.Standing.{restore_of};
@@ -13,7 +14,7 @@ pub use turn::{other_side, sends};
 mod turn;
 
 // The tables and the negotiation of a call, where the refusal is 0; else they do not count.
-#[derive(Drop)]
+#[derive(Clone, Copy)]
 pub struct Restored {
     pub refusal: u64,
     pub house: House,

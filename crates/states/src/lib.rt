@@ -1,4 +1,5 @@
 // Propagated states: the columns of propagation, filled from a graph, and the state of a node.
+#![tactic(auto)]
 ghost use Rattle.std.specs.Prelude.{◌≡◌, ◌≤◌, ◌<◌};
 ghost use Rattle.rt0.specs.Lists.{any};
 ghost use Rattle.graph.specs.laws.Graph.{nodes_from, edges_from, edge_from, nodes_of, edges_of};
@@ -15,14 +16,14 @@ use word::wide;
 mod fill;
 
 // Edge j leads from node from[j] into slot slot[j]; with from[j] = 128 it brings no child.
-#[derive(Drop)]
+#[derive(Clone, Copy)]
 pub struct EdgeColumns {
     pub from: [u8; 256],
     pub slot: [u16; 256],
 }
 
 // By node number, 1 for each that is satisfied, and for each that has failed.
-#[derive(Drop)]
+#[derive(Clone, Copy)]
 pub struct NodeStates {
     pub satisfied: [u8; 128],
     pub failed: [u8; 128],

@@ -1,4 +1,5 @@
 // The house tables: their check, what they hold, and what is looked up in them.
+#![tactic(auto)]
 ghost use Rattle.std.specs.Prelude.{◌≡◌};
 ghost use Rattle.tables.specs.Check.{or_else};
 ghost use Rattle.tables.specs.laws.Decoding.{Housed};
@@ -22,7 +23,7 @@ mod sensitive;
 mod stored;
 
 // Pairs of roles one after the other: sensitive role i at 2 i, and its Ack or AC role at 2 i.
-#[derive(Drop)]
+#[derive(Clone, Copy)]
 pub struct Pairs {
     pub count: usize,
     pub roles: [u16; 64],
@@ -30,7 +31,7 @@ pub struct Pairs {
 }
 
 // The tables, decoded: self, names and classes, the credentials of each storage, sensitive roles with Ack roles, AC records.
-#[derive(Drop)]
+#[derive(Clone, Copy)]
 pub struct House {
     pub own: u16,
     pub names: Names,
@@ -41,13 +42,13 @@ pub struct House {
 }
 
 // A house where the refusal is 0; else it does not count.
-#[derive(Drop)]
+#[derive(Clone, Copy)]
 pub struct Decoded {
     pub refusal: u64,
     pub house: House,
 }
 
-#[derive(Drop)]
+#[derive(Clone, Copy)]
 pub enum RoleAnswer {
     Found(Role),
     Absent,
@@ -55,33 +56,33 @@ pub enum RoleAnswer {
 
 // What stands next where the records of a command are read: one of them, or a stop, with a refusal number or with 0 where another
 // command's record stands.
-#[derive(Drop)]
+#[derive(Clone, Copy)]
 pub enum NameStep {
     Taken(Name),
     Stop(u64),
 }
 
-#[derive(Drop)]
+#[derive(Clone, Copy)]
 pub enum StoredStep {
     Taken(Credential),
     Stop(u64),
 }
 
-#[derive(Drop)]
+#[derive(Clone, Copy)]
 pub enum PairStep {
     Taken(Pair),
     Stop(u64),
 }
 
 // Self, or the number of another first record.
-#[derive(Drop)]
+#[derive(Clone, Copy)]
 pub enum OwnAnswer {
     Read(u16),
     Refused(u64),
 }
 
 // How many records of a command were read, the index behind them, and why the reading stopped there.
-#[derive(Drop)]
+#[derive(Clone, Copy)]
 pub struct Reached {
     pub refusal: u64,
     pub at: usize,
@@ -89,7 +90,7 @@ pub struct Reached {
 }
 
 // How many pairs were read, where the refusal is 0.
-#[derive(Drop)]
+#[derive(Clone, Copy)]
 pub struct PairCounts {
     pub refusal: u64,
     pub sensitive: usize,
@@ -97,7 +98,7 @@ pub struct PairCounts {
 }
 
 // How many credentials and pairs were read, where the refusal is 0.
-#[derive(Drop)]
+#[derive(Clone, Copy)]
 pub struct StoredCounts {
     pub refusal: u64,
     pub issuer: usize,
@@ -107,7 +108,7 @@ pub struct StoredCounts {
 }
 
 // How many records of each command were read, where the refusal is 0.
-#[derive(Drop)]
+#[derive(Clone, Copy)]
 pub struct Counts {
     pub refusal: u64,
     pub names: usize,
