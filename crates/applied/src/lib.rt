@@ -1,5 +1,6 @@
 // What a legal command does, and what a message leaves.
 #![tactic(auto)]
+
 ghost use Rattle.std.specs.Prelude.{◌≡◌, true, ℕ, ◌≤◌, ◌<◌};
 ghost use Rattle.message.specs.declared.Command.TheVariants as C;
 ghost use Rattle.negotiation.specs.laws.State.{state_of};

@@ -1,5 +1,6 @@
 // House tables from records in any order: they are split, sorted by bytes, written once each, and checked.
 #![tactic(auto)]
+
 ghost use Rattle.std.specs.Prelude.{◌≡◌, ◌<◌, ◌≤◌, length, take};
 ghost use Rattle.numbers.specs.Answer.{answer_of};
 ghost use Rattle.arrange.specs.Arrange.{checked_in, arrange_of, tables_left};

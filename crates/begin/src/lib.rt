@@ -1,5 +1,6 @@
 // Begin: a fresh negotiation for the tables of a house.
 #![tactic(auto)]
+
 ghost use Rattle.std.specs.Prelude.{◌≡◌};
 ghost use Rattle.begin.specs.Begin.{is_requester, role_number, other_number, side_of, begin_of};
 ghost use Rattle.numbers.specs.Answer.{buffer_after, answer_of, no_value};

@@ -1,5 +1,6 @@
 // The edges that a rule may add to a node: the first in order that is not done.
 #![tactic(auto)]
+
 pub use all::{all_edges, next_flagged};
 pub use done::{better, or_else};
 use expression::Role;

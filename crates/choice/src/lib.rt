@@ -1,5 +1,6 @@
 // Which move comes next. What it is stands in moves/specs.
 #![tactic(auto)]
+
 use candidates::LinkReach;
 use moves::Found;
 pub use next::{is_nothing, next_choice};

@@ -1,5 +1,6 @@
 // Classes of role names, and what class an expression has by them.
 #![tactic(auto)]
+
 ghost use Rattle.std.specs.Prelude.{◌≡◌, cond, [], ◌∷◌, ◌<◌, ◌+◌, ◌-◌, ◌≤◌, ltb, get_or};
 ghost use Rattle.class.specs.laws.Names.{names_from, names_of, Ascending, Between, Placed};
 ghost use Rattle.class.specs.Names.{class_of};

@@ -3,6 +3,7 @@
 // Rule i adds to row head[i]: the bits that the rows part[4 i] to part[4 i + 3] share; and, for each j in named[i] whose bit src[j] is in the
 // membership row first[i], the bits of row j. A row is two words of 64 bits. Rows 0 to 127 are those of the rules, two more are spare.
 #![tactic(auto)]
+
 ghost use Rattle.std.specs.Prelude.{◌≡◌, ◌<◌, length};
 ghost use Rattle.closure.specs.laws.Rules.{rules_of, bits, Fits, Grown, Closed, Marked};
 

@@ -1,5 +1,6 @@
 // Whether a negotiation is damaged.
 #![tactic(auto)]
+
 ghost use Rattle.std.specs.Prelude.{◌≡◌, true, List, ◌≤◌, ◌<◌};
 ghost use Rattle.rt0.specs.laws.Pool.{pool_of, credentials};
 ghost use Rattle.class.specs.laws.Names.{names_from, names_of, Ascending};

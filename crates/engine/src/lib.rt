@@ -1,5 +1,6 @@
 // The calls for a host in C. Each answers one number, 256 times a value plus a refusal number.
 #![tactic(auto)]
+
 ghost use Rattle.std.specs.Prelude.{◌≡◌, length};
 ghost use Rattle.arrange.specs.Arrange.{arrange_of, tables_left};
 ghost use Rattle.begin.specs.Begin.{begin_of};

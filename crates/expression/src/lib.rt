@@ -1,5 +1,6 @@
 // Expressions of RT0, their 18 bytes and their equality. Credentials, the kinds and the order by bytes are in modules of their own.
 #![tactic(auto)]
+
 ghost use Rattle.std.specs.Prelude.{◌≡◌, ◌+◌, ◌≤◌, ◌<◌, length};
 ghost use Rattle.expression.specs.Bytes.{number_at, raw_at, raw_bytes, pasted};
 ghost use Rattle.expression.specs.Form.{raw_of, well_formed, same_raw, form_of, read_of, ascends, is_role, is_empty, tail_formed, parts_formed};

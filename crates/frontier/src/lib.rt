@@ -4,6 +4,7 @@
 // their head. The frontier has the stops among the bodies of what is found. Each credential joins a queue once, and once the pool is looked
 // through for those that follow it.
 #![tactic(auto)]
+
 ghost use Rattle.std.specs.Prelude.{◌≡◌, List, ℕ, ◌<◌, ◌≤◌};
 ghost use Rattle.expression.specs.declared.Expression.TheVariants as E;
 ghost use Rattle.expression.specs.laws.Key.{KeyOf};

@@ -1,5 +1,6 @@
 // The trust target graph: nodes and edges in columns.
 #![tactic(auto)]
+
 ghost use Rattle.std.specs.Prelude.{◌≡◌, [], ◌∷◌, ◌++◌, ◌≤◌, ◌<◌, set};
 ghost use Rattle.graph.specs.laws.Columns.{NodesSized, EdgesSized};
 ghost use Rattle.graph.specs.laws.Graph.{nodes_of, edges_of};

@@ -1,5 +1,6 @@
 // Which edges are justified.
 #![tactic(auto)]
+
 pub use implied::edges_implied;
 pub use linked::links_justified;
 pub use monitors::is_monitored_for;

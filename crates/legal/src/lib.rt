@@ -1,5 +1,6 @@
 // Which commands are legal.
 #![tactic(auto)]
+
 ghost use Rattle.std.specs.Prelude.{◌≡◌, true, ◌≤◌};
 ghost use Rattle.class.specs.laws.Names.{names_of, Ascending};
 ghost use Rattle.negotiation.specs.laws.State.{state_of};

@@ -1,5 +1,6 @@
 // A question asked many times over one relation, to time the asking apart from the making of the relation.
 #![tactic(auto)]
+
 ghost use Rattle.std.specs.Prelude.{◌≡◌, ℕ, ◌*◌, ◌≤◌};
 ghost use Rattle.rt0.specs.Decide.{from? as from_of};
 ghost use Rattle.rt0.specs.laws.Pool.{pool_of, credentials as credentials_of};

@@ -1,5 +1,6 @@
 // The commands of a message and their bytes.
 #![tactic(auto)]
+
 ghost use Rattle.std.specs.Prelude.{◌≡◌};
 ghost use Rattle.message.specs.Command.{size_of};
 

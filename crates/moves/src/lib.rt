@@ -1,5 +1,6 @@
 // The moves of a reply. What they are stands in specs/.
 #![tactic(auto)]
+
 use expression::{Expression, Role};
 pub use initial::initial_state;
 use message::Command;

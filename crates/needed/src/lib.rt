@@ -2,6 +2,7 @@
 // first to last, without which the edge is still justified" is done from the end: own credentials are added, the last first, until the edge
 // is justified; the one that made it so is kept; then the same again with it, for those after it.
 #![tactic(auto)]
+
 ghost use Rattle.std.specs.Prelude.{◌≡◌, ℕ, ◌<◌, ◌≤◌, length};
 ghost use Rattle.rt0.specs.Decide.{from? as from_of};
 ghost use Rattle.rt0.specs.laws.Pool.{pool_of, credentials};

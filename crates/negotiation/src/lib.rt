@@ -1,5 +1,6 @@
 // The state of one end of a negotiation.
 #![tactic(auto)]
+
 ghost use Rattle.std.specs.Prelude.{◌≡◌, ◌≤◌, ◌<◌};
 ghost use Rattle.negotiation.specs.laws.State.{state_of};
 ghost use Rattle.negotiation.specs.State.{fresh_state, with_node, with_edge, with_shown, with_mark, with_header};

@@ -1,5 +1,6 @@
 // The numbers of document 01 that more than one room needs: sizes and refusal numbers, named as in include/lavutremo.h.
 #![tactic(auto)]
+
 pub use bytes::{
     CREDENTIAL_BYTES, END_BYTES, EXPRESSION_BYTES, MARK_BYTES, NAME_BYTES, NEW_EDGE_BYTES,
     OLD_EDGE_BYTES, OPEN_BYTES, PAIR_BYTES, SELF_BYTES,

@@ -1,5 +1,6 @@
 // RT0 questions on bytes.
 #![tactic(auto)]
+
 ghost use Rattle.std.specs.Prelude.{◌≡◌, ◌*◌, length};
 ghost use Rattle.numbers.specs.Bytes.{EXPRESSION-BYTES};
 ghost use Rattle.question.specs.Question.{sized as sized_of, operand_of, yes_or_no, question_of};

@@ -1,5 +1,6 @@
 // A message is read one command after another from the lent bytes.
 #![tactic(auto)]
+
 ghost use Rattle.std.specs.Prelude.{◌≡◌, length};
 ghost use Rattle.message.specs.Command.{command_at};
 ghost use Rattle.reader.specs.laws.Position.{behind_in, position_after};

@@ -1,5 +1,6 @@
 // The records of the house tables and their bytes.
 #![tactic(auto)]
+
 ghost use Rattle.std.specs.Prelude.{◌≡◌, ◌<◌, ◌+◌, length};
 ghost use Rattle.record.specs.Record.{size_by, formed_name, formed_pair, stored as stored_in, paired as paired_in, own_at, name_at, stored_at, pair_at, record_at};
 ghost use Rattle.record.specs.laws.Record.{stored_code, begins_stored};

@@ -1,6 +1,7 @@
 // Which roles hold which entities over the credentials of a pool, and whether one expression is from another. The crate rules says what rows
 // and bits stand for.
 #![tactic(auto)]
+
 ghost use Rattle.std.specs.Prelude.{◌≡◌, ℕ, ◌-◌, ◌<◌, ◌≤◌, List, length, set};
 ghost use Rattle.rt0.specs.Decide.{from? as from_of};
 ghost use Rattle.rt0.specs.laws.Pool.{pool_of, credentials as credentials_of};

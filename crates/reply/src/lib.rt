@@ -1,5 +1,6 @@
 // The reply.
 #![tactic(auto)]
+
 pub use call::reply;
 use negotiation::Negotiation;
 

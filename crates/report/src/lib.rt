@@ -1,5 +1,6 @@
 // The report on a node of a negotiation.
 #![tactic(auto)]
+
 ghost use Rattle.std.specs.Prelude.{◌≡◌, ◌*◌, ◌≤◌, ◌<◌};
 ghost use Rattle.graph.specs.laws.Graph.{nodes_of, edges_of};
 ghost use Rattle.states.specs.laws.Brings.{NodesFormed, EdgesFormed};

@@ -1,5 +1,6 @@
 // RT0: credentials in columns.
 #![tactic(auto)]
+
 ghost use Rattle.std.specs.Prelude.{◌≡◌, false, [], ◌∷◌, ◌++◌, ◌≤◌, ◌<◌, ◌+◌, ◌*◌};
 ghost use Rattle.expression.specs.Same.{same_role};
 ghost use Rattle.expression.specs.laws.Key.{KeyOf};

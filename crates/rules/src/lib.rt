@@ -3,6 +3,7 @@
 // A role's row is the index of the first credential with that head, or 128; an entity's bit is the index of the first credential with that
 // body, or 128. Row 128 stays empty, and row 129 is that of a role asked about which no credential has as its head.
 #![tactic(auto)]
+
 ghost use Rattle.std.specs.Prelude.{◌≡◌, ◌<◌, ◌≤◌, ◌*◌};
 ghost use Rattle.rt0.specs.laws.Pool.{pool_of};
 ghost use Rattle.rules.specs.laws.Table.{row_of, row_in, third, fourth};

@@ -1,5 +1,6 @@
 // What a call finds in its tables and its negotiation, and whose turn it is.
 #![tactic(auto)]
+
 ghost use Rattle.std.specs.Prelude.{◌≡◌};
 ghost use Rattle.standing.specs.laws.Standing.{standing_of, Usable};
 ghost use Rattle.standing.specs.Standing.{restore_of};

@@ -1,5 +1,6 @@
 // Propagated states: the columns of propagation, filled from a graph, and the state of a node.
 #![tactic(auto)]
+
 ghost use Rattle.std.specs.Prelude.{◌≡◌, ◌≤◌, ◌<◌};
 ghost use Rattle.rt0.specs.Lists.{any};
 ghost use Rattle.graph.specs.laws.Graph.{nodes_from, edges_from, edge_from, nodes_of, edges_of};

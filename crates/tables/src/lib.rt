@@ -1,5 +1,6 @@
 // The house tables: their check, what they hold, and what is looked up in them.
 #![tactic(auto)]
+
 ghost use Rattle.std.specs.Prelude.{◌≡◌};
 ghost use Rattle.tables.specs.Check.{or_else};
 ghost use Rattle.tables.specs.laws.Decoding.{Housed};

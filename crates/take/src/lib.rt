@@ -1,5 +1,6 @@
 // Take a message.
 #![tactic(auto)]
+
 pub use call::take;
 pub use commands::take_commands;
 use negotiation::Negotiation;

@@ -1,0 +1,11 @@
+use native.Mathlib.Omega.{arith}
+use borrow.Author.Tests.{ltb-true, ltb-false}
+use Rattle.closure.specs.laws.Rules.{rules_of}
+use Rattle.closure.specs.laws.Laws.{CloseTo, left, close-start, close-pass, close-less, close-all}
+use Rattle.closure.proofs.close.Given as goal
+
+abbrev pub invariant-loop-more : goal.invariant-loop-more
+invariant-loop-more l = CloseTo (rules_of l.n l.words l.head l.part l.first l.named l.src) l.on l.own l.mem l.initial.rows l.rows l.more
+
+abbrev pub decreases-loop-more : goal.decreases-loop-more
+decreases-loop-more l = left l.rows l.more

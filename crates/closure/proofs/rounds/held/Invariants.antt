@@ -1,0 +1,12 @@
+use Prim.Native.Nat.{ℕ, ◌≤◌, ◌-◌}
+use native.Mathlib.Omega.{arith}
+use mathlib.Core.Path.{subst, ◌≡◌}
+use Rattle.closure.specs.laws.Words.{HeldOf}
+use Rattle.closure.specs.laws.Laws.{held_next}
+use Rattle.closure.proofs.rounds.held.Given as goal
+
+abbrev pub invariant-loop-r : goal.invariant-loop-r
+invariant-loop-r l = HeldOf l.h l.r l.rows l.w × (l.r ≤ 130)
+
+abbrev pub decreases-loop-r : goal.decreases-loop-r
+decreases-loop-r l = 130 - l.r

@@ -1,0 +1,33 @@
+use Prim.Native.Nat.{◌-◌}
+use mathlib.Core.Logic.{⊎_elim}
+use Rattle.closure.specs.laws.Rules.{rules_of, bits, Within}
+use Rattle.closure.specs.laws.Words.{level}
+use Rattle.closure.specs.laws.Laws.{PassTo, pass-start, pass-more, pass-unchanged, pass_all, level-start, level-grown}
+use native.Mathlib.Omega.{arith}
+use Rattle.closure.proofs.rounds.pass.Goals as goal
+
+pub loop-i-init : goal.loop-i-init
+loop-i-init c = (pass-start (rules_of _ _ _ _ _ _ _) _ _ _ _ c.requires.1, level-start _ _ _ c.requires.1 c.held-lo.ensures c.held-hi.ensures)
+
+pub rule_below-requires : goal.rule_below-requires
+rule_below-requires c = (
+  omega (arith, c.requires.0.count, c.loop-i-test.true),
+  c.requires.0,
+  c.loop-i.invariant.0.grown.sized,
+  c.loop-i.invariant.1,
+)
+
+pub overflow_add-added : goal.overflow_add-added
+overflow_add-added c = omega (arith, c.loop-i.invariant.0.few)
+
+pub loop-i-preserved : goal.loop-i-preserved
+loop-i-preserved c = (
+  ⊎_elim (λ w. rw w.1 (pass-more (rules_of _ _ _ _ _ _ _) _ _ _ c.loop-i-test.true w.0.taken
+      c.rule_below.ensures c.loop-i.invariant.0))
+      (λ w. rw w.1 (pass-unchanged (rules_of _ _ _ _ _ _ _) _ _ _ c.loop-i-test.true w.0.left
+      c.rule_below.ensures c.loop-i.invariant.0)) c.if-rule_below.branch,
+  (level-grown _ _ c.rule_below.ensures.grown c.loop-i.invariant.1),
+)
+
+pub returns : goal.returns
+returns c = pass_all (rules_of _ _ _ _ _ _ _) _ _ _ c.loop-i-test.false c.loop-i.invariant.0

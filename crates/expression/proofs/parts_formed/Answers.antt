@@ -1,0 +1,4 @@
+use Rattle.expression.proofs.parts_formed.Goals as goal
+
+pub returns : goal.returns
+returns c = cc

@@ -1,0 +1,23 @@
+use Prim.Native.Nat.{ℕ, ◌-◌}
+use mathlib.Core.List.{List, []}
+use native.Mathlib.Omega.{arith}
+use Rattle.expression.specs.declared.Role.{Role}
+use Rattle.expression.specs.declared.Expression.TheVariants as E
+use Rattle.expression.specs.laws.Key.{KeyOf}
+use Rattle.rt0.specs.laws.Pool.{pool_of}
+use Rattle.frontier.specs.laws.Queue.{work, Entered}
+use Rattle.frontier.specs.laws.QueueLaws.{enter-start, enter-next, enter-all}
+use Rattle.frontier.proofs.enter.Goals as goal
+
+pub loop-i-init : goal.loop-i-init
+loop-i-init c = λ p k K N. enter-start _ _ _ _ c.requires.1
+
+pub join-t-requires : goal.join-t-requires
+join-t-requires c = (omega (arith, c.loop-i-test.true, c.requires.0), (c.loop-i.invariant c.args.p c.key_of-key.ensures [] []).base)
+
+pub loop-i-preserved : goal.loop-i-preserved
+loop-i-preserved c = λ p k K N. enter-next _ (c.loop-i.invariant p k K N)
+    (c.join-t.ensures p k _ K N c.loop-i-test.true)
+
+pub returns : goal.returns
+returns c = λ K N. enter-all _ c.loop-i-test.false (c.loop-i.invariant c.args.p c.key_of-key.ensures K N)

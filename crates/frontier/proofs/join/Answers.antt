@@ -1,0 +1,21 @@
+use native.Mathlib.Omega.{arith}
+use mathlib.Core.Path.{sym, ◌∙◌}
+use borrow.Author.Tests.{not-true, not-false}
+use Rattle.frontier.specs.laws.QueueLaws.{join_stands, join-not, join-room, join-new}
+use Rattle.frontier.proofs.join.Goals as goal
+
+pub returns-then-not-is_next : goal.returns-then-not-is_next
+returns-then-not-is_next c = λ p k n K N l. join-not _ _ _ _ _ c.requires.1 (sym (c.is_next.ensures p k) ∙ not-true _ c.if-not-is_next.true)
+
+pub returns-then-found-i-eq1 : goal.returns-then-found-i-eq1
+returns-then-found-i-eq1 c = λ p k n K N l. join_stands _ _ _ _ _ c.requires.1 c.if-found-i-eq1.true
+
+pub bounds-queue-tail : goal.bounds-queue-tail
+bounds-queue-tail c = join-room _ _ c.requires.1 (omega arith) c.if-found-i-eq1.false
+
+pub overflow_add-result : goal.overflow_add-result
+overflow_add-result c = omega (arith, join-room _ _ c.requires.1 (omega arith) c.if-found-i-eq1.false)
+
+pub returns : goal.returns
+returns c = λ p k n K N l. join-new _ _ _ _ _ c.requires.1 l c.requires.0 c.if-found-i-eq1.false
+    (sym (c.is_next.ensures p k) ∙ not-false _ c.if-not-is_next.false)

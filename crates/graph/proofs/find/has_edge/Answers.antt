@@ -1,0 +1,16 @@
+use Prim.Native.Nat.{◌-◌, ◌≤◌}
+use mathlib.Core.Path.{◌≡◌, refl}
+use native.Mathlib.Omega.{arith}
+use Rattle.graph.specs.laws.Graph.{edges_from}
+use Rattle.graph.specs.laws.Find.{has_edge_to, edge_more, edge-all}
+use Rattle.graph.proofs.find.has_edge.Goals as goal
+
+pub loop-j-init : goal.loop-j-init
+unfolding has_edge_to
+loop-j-init c = (omega arith, refl)
+
+pub loop-j-preserved : goal.loop-j-preserved
+loop-j-preserved c = (omega arith, edge_more _ _ _ c.loop-j.invariant.1 c.is_edge-found.ensures)
+
+pub returns : goal.returns
+returns c = edge-all _ _ c.loop-j.j c.loop-j.invariant.1 (omega (arith, c.loop-j.invariant.0, c.loop-j-test.false))

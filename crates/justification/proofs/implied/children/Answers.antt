@@ -1,0 +1,28 @@
+use Prim.Native.Nat.{◌≤◌, ◌-◌}
+use mathlib.Core.Logic.{⊎_elim}
+use native.Mathlib.Omega.{arith}
+use Rattle.justification.specs.laws.Implied.{Children}
+use Rattle.justification.specs.laws.ImpliedLaws.{children-none, children-add, children-skip, children-all}
+use Rattle.justification.proofs.implied.children.Goals as goal
+
+pub loop-j-init : goal.loop-j-init
+loop-j-init c = (omega arith, children-none _ _)
+
+pub bounds-r-wide : goal.bounds-r-wide
+bounds-r-wide c = omega (
+  arith,
+  c.wide.ensures,
+  c.requires.1 _
+      c.loop-j-test.true,
+)
+
+pub loop-j-preserved : goal.loop-j-preserved
+loop-j-preserved c = (
+  omega arith,
+  ⊎_elim (λ w. children-add _ _ c.loop-j.invariant.1 w.2.ensures
+      (omega (arith, w.2.ensures, c.requires.1 _ c.loop-j-test.true)) w.3)
+      (λ w. children-skip _ _ c.loop-j.invariant.1 w.0.left w.1) c.if-edge-j-eq-IMPLICATION.branch,
+)
+
+pub returns : goal.returns
+returns c = children-all _ _ c.loop-j.invariant.1 _ c.loop-j.invariant.0 c.loop-j-test.false

@@ -1,0 +1,29 @@
+use native.Mathlib.Omega.{arith}
+use Prim.Native.Nat.{ℕ, ◌-◌}
+use mathlib.Core.List.{List}
+use Rattle.rules.specs.laws.Table.{chosen}
+use Rattle.rt0.specs.laws.Pool.{pool_of, expression_in}
+use Rattle.relation.specs.laws.Relation.{Relation, Answers}
+use Rattle.graph.specs.laws.Graph.{edges_from}
+use Rattle.justification.specs.laws.ImpliedLaws.{From, from_start, from_next, from-stop, from-done}
+use Rattle.justification.proofs.implied.implied_from.Goals as goal
+
+pub loop-j-init : goal.loop-j-init
+loop-j-init c on m h = from_start _ _ _ _
+
+pub implied_at-requires : goal.implied_at-requires
+implied_at-requires c = (
+  omega (arith, c.loop-j-test.true, c.requires.0),
+  c.requires.1.parent _ c.loop-j-test.true,
+  c.requires.2,
+  c.requires.3,
+)
+
+pub returns-then-not-implied_at : goal.returns-then-not-implied_at
+returns-then-not-implied_at c on m h = from-stop _ _ _ _ (c.loop-j.invariant on m h) c.loop-j-test.true (c.implied_at.ensures on m h) c.if-not-implied_at.true
+
+pub loop-j-preserved : goal.loop-j-preserved
+loop-j-preserved c on m h = from_next _ _ _ _ (c.loop-j.invariant on m h) c.loop-j-test.true (c.implied_at.ensures on m h) c.if-not-implied_at.false
+
+pub returns : goal.returns
+returns c on m h = from-done _ _ _ _ (c.loop-j.invariant on m h) c.loop-j-test.false

@@ -1,0 +1,30 @@
+use native.Mathlib.Omega.{arith}
+use Prim.Native.Nat.{◌-◌}
+use Rattle.rules.specs.laws.Table.{chosen}
+use Rattle.rt0.specs.laws.Pool.{pool_of, expression_in}
+use Rattle.graph.specs.laws.Graph.{edges_from}
+use Rattle.justification.specs.laws.ImpliedLaws.{Below, below_none, below_next, below-stop, below-done}
+use Rattle.justification.proofs.implied.nodes_implied.Goals as goal
+
+pub loop-c-init : goal.loop-c-init
+loop-c-init c = below_none _ _ _ _
+
+pub node_implied-requires : goal.node_implied-requires
+node_implied-requires c = (
+  omega arith,
+  c.requires.2,
+  c.requires.3,
+  c.requires.4,
+  c.requires.5,
+  c.requires.6,
+  c.requires.7,
+)
+
+pub returns-then-not-node_implied : goal.returns-then-not-node_implied
+returns-then-not-node_implied c = below-stop _ _ _ c.loop-c.invariant c.node_implied.ensures c.if-not-node_implied.true
+
+pub loop-c-preserved : goal.loop-c-preserved
+loop-c-preserved c = below_next _ _ _ c.loop-c.invariant c.loop-c-test.true c.node_implied.ensures c.if-not-node_implied.false
+
+pub returns : goal.returns
+returns c = below-done _ _ _ c.loop-c.invariant c.requires.1 c.loop-c-test.false

@@ -1,0 +1,22 @@
+use Rattle.justification.specs.Justified.{solves}
+use Rattle.justification.specs.laws.Justified.{Says, solved-at, solved-none}
+use native.Mathlib.Omega.{arith}
+use Prim.Native.Nat.{◌-◌}
+use Rattle.graph.specs.declared.Nodes.{Nodes}
+use Rattle.graph.specs.laws.Graph.{nodes_from, edges_from, nodes_of, edges_of, edge_at}
+use Rattle.rt0.specs.laws.Find.{Missed, missed-start, missed_more}
+use Rattle.justification.proofs.monitors.is_solved.Goals as goal
+
+pub loop-j-init : goal.loop-j-init
+loop-j-init c o says = missed-start _ _
+
+pub returns-then-solves_at : goal.returns-then-solves_at
+returns-then-solves_at c o says =
+    solved-at _ _ _ _ _ (c.loop-j.invariant o says) c.loop-j-test.true (c.solves_at.ensures o _ says)
+    c.if-solves_at.true
+
+pub loop-j-preserved : goal.loop-j-preserved
+loop-j-preserved c o says = missed_more (c.loop-j.invariant o says) (c.solves_at.ensures o _ says) c.if-solves_at.false
+
+pub returns : goal.returns
+returns c o says = solved-none _ _ _ _ _ (c.loop-j.invariant o says) c.loop-j-test.false

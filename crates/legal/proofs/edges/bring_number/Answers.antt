@@ -1,0 +1,87 @@
+use native.Mathlib.Omega.{arith}
+use Prim.Native.Nat.{ℕ, ◌<◌}
+use mathlib.Core.Path.{◌≡◌, refl, sym, ◌∙◌, ap}
+use mathlib.Core.Bool.{◌||◌}
+use lib.Dec.{leb}
+use lib.ListN.{length}
+use Rattle.negotiation.specs.laws.State.{state_of}
+use Rattle.graph.specs.Graph.{node_in}
+use Rattle.numbers.specs.Sizes.{MOST-NODES, MOST-EDGES}
+use Rattle.numbers.specs.Refusals.{PRESENT}
+use Rattle.class.specs.laws.Names.{names_of}
+use Rattle.legal.specs.Number.{refuse, type_number, bring_wrong, bring_number}
+use Rattle.legal.specs.laws.Edge.{added_number}
+use Rattle.legal.specs.laws.Number.{first_stops, first_passes, stops, passes, fresh-yes, fresh-no, absent-yes, absent-no, sizes-same}
+use borrow.Author.Rules.{rules}
+use Rattle.legal.proofs.edges.bring_number.Goals as goal
+
+-- the parent stands
+abbrev start : goal.Else-nodes-wide → goal.Start
+start c = c
+
+parent-stands : (c : goal.Else-nodes-wide) → (start c).args.b.parent < (start c).args.n.nodes.count
+parent-stands c = omega (arith, c.wide.ensures, c.if-nodes-wide.false)
+
+abbrev stand : goal.After-bring_wrong → goal.Else-nodes-wide
+stand c = c
+
+wrong : (c : goal.After-bring_wrong)
+    → c.bring_wrong.result ≡ bring_wrong (state_of (start (stand c)).args.n) (start (stand c)).args.b
+unfolding state_of
+wrong c =
+    c.bring_wrong.ensures (start (stand c)).args.n.nodes.state _
+    (record { header = refl; nodes = refl; c = c.node_at-parent.ensures _ (parent-stands (stand c)) })
+
+-- what the rules behind the form say
+abbrev behind : goal.After-bring_wrong → ℕ
+behind c =
+    let s = start (stand c) in
+    added_number s.args.side (node_in (state_of s.args.n).nodes s.args.b.parent) s.args.justified
+    (leb MOST-NODES (length (state_of s.args.n).nodes) || leb MOST-EDGES (length (state_of s.args.n).edges))
+
+-- no rule before the form refuses the edge
+unrefused : (c : goal.After-bring_wrong) {r : ℕ}
+    → r ≡ refuse (bring_wrong (state_of (start (stand c)).args.n) (start (stand c)).args.b) PRESENT (behind c)
+    → r ≡ bring_number (names_of (start (stand c)).args.t1) (start (stand c)).args.side (state_of (start (stand c)).args.n) (start (stand c)).args.b
+    (start (stand c)).args.justified
+unfolding bring_number state_of
+unrefused c last =
+    let opened = (stand c).before.before in
+    let typed = opened.before.before.before in
+    let n = (start (stand c)).args.n in
+    first_passes _ _ _ (typed.before.type-number.ensures ∙ ap type_number typed.before.before.type-of.ensures) typed.if1.left
+    (passes _ _ _ (fresh-no n opened.if2.left)
+    (passes _ _ _ (absent-no n _ (parent-stands (stand c))) last))
+
+pub returns-then-k-ne0 : goal.returns-then-k-ne0
+unfolding bring_number state_of
+returns-then-k-ne0 c = first_stops _ _ _ (c.type_number-k.ensures ∙ ap type_number c.type_of.ensures) c.if-k-ne0.true
+
+pub returns-then-nodes-eq0 : goal.returns-then-nodes-eq0
+unfolding bring_number state_of
+returns-then-nodes-eq0 c =
+    first_passes _ _ _ (c.type_number-k.ensures ∙ ap type_number c.type_of.ensures) c.if-k-ne0.false
+    (stops _ _ _ (fresh-yes c.args.n c.if-nodes-eq0.true))
+
+pub returns-then-nodes-wide : goal.returns-then-nodes-wide
+unfolding bring_number state_of
+returns-then-nodes-wide c =
+    first_passes _ _ _ (c.type_number-k.ensures ∙ ap type_number c.type_of.ensures) c.if-k-ne0.false
+    (passes _ _ _ (fresh-no c.args.n c.if-nodes-eq0.false)
+    (stops _ _ _ (absent-yes c.args.n _ (omega (arith, c.wide.ensures, c.if-nodes-wide.true)))))
+
+pub node_at-parent-requires : goal.node_at-parent-requires
+node_at-parent-requires c = omega (arith, parent-stands c, (start c).requires.2)
+
+pub bring_wrong-requires : goal.bring_wrong-requires
+bring_wrong-requires c = (start c).requires.2
+
+pub returns-then-bring_wrong : goal.returns-then-bring_wrong
+returns-then-bring_wrong c = unrefused c (stops _ _ _ (sym (wrong c) ∙ c.if-bring_wrong.true))
+
+pub returns : goal.returns
+unfolding state_of
+returns c = let s = start (stand c) in
+    unrefused c (passes _ _ _ (sym (wrong c) ∙ c.if-bring_wrong.false)
+    (c.added_number.ensures
+    ∙ (λ i. added_number s.args.side (c.node_at-parent.ensures _ (parent-stands (stand c)) i) s.args.justified (sizes-same s.args.n i))))

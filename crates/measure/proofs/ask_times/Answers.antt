@@ -1,0 +1,36 @@
+use mathlib.Core.Path.{◌≡◌, ◌∙◌, ap}
+use mathlib.Core.Logic.{⊎_elim}
+use mathlib.Core.Bool.{Bool}
+use Prim.Native.Nat.{◌-◌, ◌≤◌}
+use native.Mathlib.Omega.{arith}
+use Rattle.rt0.specs.Decide.{from?}
+use Rattle.rt0.specs.laws.Pool.{pool_of}
+use Rattle.rules.specs.laws.Table.{chosen}
+use Rattle.measure.specs.laws.Repeated.{count_of}
+use Rattle.measure.specs.laws.RepeatedLaws.{count-start, count_yes, count_no, count_most}
+use Rattle.measure.proofs.ask_times.Goals as goal
+
+abbrev answer : (c : goal.Start) → Bool
+answer c = from? (chosen (pool_of c.args.n c.args.heads.now c.args.kinds.now c.args.numbers.now) c.args.on.now) c.args.f c.args.e
+
+pub loop-k-init : goal.loop-k-init
+loop-k-init c = (omega arith, count-start _)
+
+pub ask-requires : goal.ask-requires
+ask-requires c = c.requires
+
+pub overflow_add-yes : goal.overflow_add-yes
+overflow_add-yes c = omega (arith, count_most _ _ _ c.loop-k.invariant.1)
+
+pub loop-k-preserved : goal.loop-k-preserved
+loop-k-preserved c = (
+  omega arith,
+  ⊎_elim
+      (λ w. w.1 ∙ count_yes (answer c) _ _ _ c.loop-k.invariant.1 c.ask.ensures
+      w.0.taken)
+      (λ w. w.1 ∙ count_no (answer c) _ _ _ c.loop-k.invariant.1 c.ask.ensures w.0.left)
+      c.if-ask.branch,
+)
+
+pub returns : goal.returns
+returns c = c.loop-k.invariant.1 ∙ ap (count_of (answer c)) (omega arith)

@@ -1,0 +1,17 @@
+use mathlib.Core.Path.{◌≡◌, ◌∙◌, ap}
+use mathlib.Core.Logic.{⊎_elim}
+use mathlib.Core.Bool.{Bool}
+use Prim.Native.Nat.{◌-◌, ◌≤◌}
+use native.Mathlib.Omega.{arith}
+use Rattle.rt0.specs.Decide.{from?}
+use Rattle.rt0.specs.laws.Pool.{pool_of}
+use Rattle.rules.specs.laws.Table.{chosen}
+use Rattle.measure.specs.laws.Repeated.{count_of}
+use Rattle.measure.specs.laws.RepeatedLaws.{count-start, count_yes, count_no, count_most}
+use Rattle.measure.proofs.ask_times.Given as goal
+
+abbrev pub invariant-loop-k : goal.invariant-loop-k
+invariant-loop-k l = (l.k ≤ l.times) × (l.yes ≡ count_of (from? (chosen (pool_of l.n l.heads l.kinds l.numbers) l.on) l.f l.e) l.k)
+
+abbrev pub decreases-loop-k : goal.decreases-loop-k
+decreases-loop-k l = l.times - l.k

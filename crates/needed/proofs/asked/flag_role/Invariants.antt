@@ -1,0 +1,12 @@
+use Prim.Native.Nat.{◌-◌}
+use native.Mathlib.Omega.{arith}
+use Rattle.expression.specs.Same.{same_role}
+use Rattle.needed.specs.laws.Flag.{marked_start}
+use Rattle.needed.specs.laws.Flags.{Marked}
+use Rattle.needed.proofs.asked.flag_role.Given as goal
+
+abbrev pub invariant-loop-i : goal.invariant-loop-i
+invariant-loop-i l = Marked l.heads (same_role l.p) l.i l.initial.flags l.flags
+
+abbrev pub decreases-loop-i : goal.decreases-loop-i
+decreases-loop-i l = l.n - l.i

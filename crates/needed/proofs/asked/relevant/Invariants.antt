@@ -1,0 +1,15 @@
+use Prim.Native.Nat.{◌-◌}
+use native.Mathlib.Omega.{arith}
+use mathlib.Core.Bool.{true}
+use mathlib.Core.Path.{refl}
+use borrow.Author.Tests.{not-true}
+use Rattle.rt0.specs.laws.Pool.{pool_of}
+use Rattle.needed.specs.laws.Flag.{work_start, pass-start, pass-again, pass-closed, all_closed}
+use Rattle.needed.specs.laws.Flags.{Swept}
+use Rattle.needed.proofs.asked.relevant.Given as goal
+
+abbrev pub invariant-loop-k : goal.invariant-loop-k
+invariant-loop-k l = Swept (pool_of l.n l.heads l.kinds l.numbers) l.initial.flags l.flags l.done true 0
+
+abbrev pub decreases-loop-k : goal.decreases-loop-k
+decreases-loop-k l = 129 - l.k

@@ -1,0 +1,14 @@
+use Prim.Native.Nat.{ℕ, ◌-◌, ◌/◌, ◌≤◌}
+use mathlib.Core.List.{List, []}
+use native.Mathlib.Omega.{arith}
+use mathlib.Core.Logic.{⊎_elim}
+use Rattle.propagation.specs.laws.FailingLaws.{tally-start, tally-add, tally-skip, tally-all, tally-low}
+use Rattle.propagation.specs.laws.Satisfied.{Graph, graph}
+use Rattle.propagation.specs.laws.Failing.{Tallied}
+use Rattle.propagation.proofs.failing.tally.Given as goal
+
+abbrev pub invariant-loop-j : goal.invariant-loop-j
+invariant-loop-j l = (l.j ≤ l.m) × ((W : List ℕ) → Tallied l.j (graph l.from l.slot W) l.left)
+
+abbrev pub decreases-loop-j : goal.decreases-loop-j
+decreases-loop-j l = l.m - l.j

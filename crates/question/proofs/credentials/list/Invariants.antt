@@ -1,0 +1,14 @@
+use mathlib.Core.Path.{refl, sym, ◌∙◌}
+use Prim.Native.Nat.{ℕ, ◌-◌}
+use lib.ListN.{length, length-replicate}
+use Rattle.rt0.specs.laws.Pool.{pool_of, credentials}
+use Rattle.rt0.specs.laws.Added.{Sized}
+use Rattle.question.specs.laws.Credentials.{Reading, reading-start, reading-few, reading-next, list-end, list-refused, list-past}
+use native.Mathlib.Omega.{arith}
+use Rattle.question.proofs.credentials.list.Given as goal
+
+abbrev pub invariant-loop-at : goal.invariant-loop-at
+invariant-loop-at l = Reading l.s (pool_of l.count l.heads l.kinds l.numbers) l.at × Sized (pool_of l.count l.heads l.kinds l.numbers)
+
+abbrev pub decreases-loop-at : goal.decreases-loop-at
+decreases-loop-at l = length l.s - l.at

@@ -1,0 +1,12 @@
+use mathlib.Core.Path.{refl, ◌∙◌}
+use Rattle.question.specs.laws.Credentials.{at_code, unknown}
+use Rattle.question.proofs.credentials.step.Goals as goal
+
+pub returns-in-1 : goal.returns-in-1
+returns-in-1 c = c.credential_step.ensures ∙ at_code _ _ 1 c.requires c.in-1.is
+
+pub returns-in-6 : goal.returns-in-6
+returns-in-6 c = c.end_step.ensures ∙ at_code _ _ 6 c.requires c.in-6.is
+
+pub returns-in_default : goal.returns-in_default
+returns-in_default c = unknown _ _ _ c.in-1.rest.0.1 c.in-1.rest.1 ∙ at_code _ _ _ c.requires refl

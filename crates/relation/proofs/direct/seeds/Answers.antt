@@ -1,0 +1,43 @@
+use Prim.Native.Nat.{ℕ, ◌-◌, ◌≤◌}
+use native.Mathlib.Omega.{arith}
+use mathlib.Core.Path.{◌≡◌}
+use mathlib.Core.List.{List}
+use mathlib.Core.Logic.{⊎_elim}
+use lib.ListN.{length, length-replicate}
+use Rattle.rt0.specs.declared.Pool.{Pool}
+use Rattle.rt0.specs.laws.Pool.{pool_of}
+use Rattle.rules.specs.laws.Columns.{Column, head_row_in}
+use Rattle.relation.specs.laws.Question.{StartTo}
+use Rattle.relation.specs.laws.QuestionLaws.{start-start, start-add, start-skip, start-end}
+use Rattle.relation.proofs.direct.seeds.Goals as goal
+
+abbrev pool : (c : goal.Start) → List ℕ → Pool
+pool c H = pool_of c.args.n H c.args.kinds.now c.args.numbers.now
+
+pub note_bodies-requires : goal.note_bodies-requires
+note_bodies-requires c = (c.requires.0, length-replicate {A = ℕ} 260 0)
+
+pub loop-i-init : goal.loop-i-init
+loop-i-init c = (
+  length-replicate {A = ℕ} 260 0,
+  λ H h. start-start (pool c H) c.args.on.now c.requires.0,
+  omega arith,
+)
+
+pub seed-requires : goal.seed-requires
+seed-requires c = (c.requires.0, c.loop-i-test.true, c.requires.1, c.note_bodies.ensures, c.loop-i.invariant.0)
+
+pub loop-i-preserved : goal.loop-i-preserved
+loop-i-preserved c = let here = c.loop-i-test.true in (
+  ⊎_elim (λ w. rw w.4 w.3.ensures.0) (λ w. rw w.1 c.loop-i.invariant.0) c.if-on-i-eq1.branch,
+  λ H h.
+      ⊎_elim
+      (λ w. rw w.4 (start-add (pool c H) c.args.on.now c.requires.0 c.loop-i.i c.loop-i.rows _ here w.0.taken
+      (w.3.ensures.1 H (h.upto c.loop-i.i here)) (c.loop-i.invariant.1 H h)))
+      (λ w. rw w.1 (start-skip (pool c H) c.args.on.now c.requires.0 c.loop-i.i c.loop-i.rows w.0.left (c.loop-i.invariant.1 H h)))
+      c.if-on-i-eq1.branch,
+  omega arith,
+)
+
+pub returns : goal.returns
+returns c H h = start-end (pool c H) c.args.on.now c.requires.0 c.loop-i.i c.loop-i.rows c.loop-i-test.false (c.loop-i.invariant.1 H h)

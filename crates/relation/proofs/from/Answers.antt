@@ -1,0 +1,17 @@
+use mathlib.Core.Path.{◌∙◌, ap}
+use mathlib.Core.List.{List}
+use Rattle.expression.specs.declared.Credential.{Credential}
+use Rattle.rt0.specs.Decide.{from?}
+use Rattle.rules.specs.laws.Ruled.{by-columns, ruled-fits}
+use Rattle.relation.specs.laws.Reached.{all-on}
+use Rattle.relation.proofs.from.Goals as goal
+
+pub relation-mem-requires : goal.relation-mem-requires
+relation-mem-requires c = ruled-fits c.args.t1 c.requires _ (by-columns c.args.t1 c.rules_of-x.result c.rules_of-x.ensures)
+
+pub ask-requires : goal.ask-requires
+ask-requires c = let ruled = by-columns c.args.t1 c.rules_of-x.result c.rules_of-x.ensures in
+    (c.requires, (_, ruled), c.relation-mem.ensures _ ruled)
+
+pub returns : goal.returns
+returns c = c.ask.ensures ∙ ap (λ (C : List Credential). from? C c.args.f c.args.e) (all-on c.args.t1 c.requires)

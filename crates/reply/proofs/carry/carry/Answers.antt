@@ -1,0 +1,35 @@
+use Rattle.negotiation.specs.laws.State.{state_of}
+use Rattle.reply.specs.laws.Carry.{carry-room, carry-fits, carry-within, carry-step, carry-behind, carry-led}
+use Rattle.reply.proofs.carry.carry.Goals as goal
+
+pub show_all-m-requires : goal.show_all-m-requires
+show_all-m-requires c = (
+  c.requires.1,
+  carry-room c.args.n.header.side (state_of c.args.n) c.args.out c.args.s.now c.args.at c.requires.2
+      c.requires.3 c.requires.4,
+  carry-fits c.args.n.header.side (state_of c.args.n) c.args.out c.args.s.now c.args.at
+      c.requires.2 c.requires.3 c.requires.4,
+  c.requires.4,
+)
+
+pub count_on-requires : goal.count_on-requires
+count_on-requires c = c.requires.1
+
+pub write_command-requires : goal.write_command-requires
+write_command-requires c =
+    carry-behind c.args.n.header.side (state_of c.args.n) c.args.out c.args.s.now c.args.at c.requires.2
+    c.requires.3 c.requires.4 c.show_all-m.ensures.0 c.show_all-m.ensures.1 c.count_on.ensures.0
+
+pub step-requires : goal.step-requires
+step-requires c = (
+  carry-within c.args.n.header.side (state_of c.args.n) c.args.out c.args.s.now c.args.at c.requires.2
+      c.requires.3 c.requires.4 c.show_all-m.ensures.0 c.show_all-m.ensures.1 c.requires.0,
+  carry-step c.args.n.header.side
+      (state_of c.args.n) c.args.out c.args.s.now c.args.at c.requires.2 c.requires.3 c.requires.4
+      c.show_all-m.ensures.0 c.show_all-m.ensures.1,
+)
+
+pub returns : goal.returns
+returns c =
+    carry-led c.args.n.header.side (state_of c.args.n) c.args.out c.args.s.now c.args.at c.requires.2 c.requires.3
+    c.requires.4 c.show_all-m.ensures.0 c.show_all-m.ensures.1 c.count_on.ensures.0 c.write_command.ensures c.step.ensures

@@ -1,0 +1,151 @@
+use native.Mathlib.Omega.{arith}
+use mathlib.Core.Path.{◌≡◌}
+use lib.ListN.{length}
+use Rattle.tables.specs.laws.Tables.{tables_of}
+use Rattle.negotiation.specs.laws.State.{state_of}
+use Rattle.moves.specs.laws.Own.{commands_of}
+use Rattle.rt0.specs.laws.Pool.{credentials}
+use Rattle.candidates.specs.laws.Reach.{Recalls, recalls-none}
+use Rattle.sending.specs.laws.Fresh.{Fresh, fresh_start}
+use Rattle.choice.specs.laws.Exhausted.{Exhausted, exhausted-none}
+use Rattle.choice.specs.laws.Waits.{Waits}
+use Rattle.reply.specs.laws.Fresh.{fresh-next}
+use Rattle.reply.specs.laws.Turn.{going-ready, something, next-satisfied, next-none, next-full, next-long, next-goes}
+use Rattle.reply.specs.laws.Writing.{Writing, writing_start, writing-length, writing-past, writing-stops, writing-room, writing-next, exhausted-next}
+use Rattle.reply.specs.laws.Writing.{waits_start, waits-next, waits-now}
+use borrow.Author.Rules.{rules}
+use Rattle.reply.proofs.turns.reply_from.Goals as goal
+
+visible-length : (s : goal.Start) → length s.args.own.visible ≡ 128
+visible-length s = search (rules, s.well-formed)
+
+pub loop-left-init : goal.loop-left-init
+loop-left-init c = (
+  writing_start _ _ _ _ c.requires.1 c.requires.2 c.requires.3,
+  exhausted-none _ _,
+  waits_start _ _ _ _ c.requires.1,
+  recalls-none _ _ c.no_reach-reach.ensures,
+  fresh_start _ _ (visible-length c),
+)
+
+pub node_states-states-requires : goal.node_states-states-requires
+node_states-states-requires c = let g = going-ready (tables_of c.args.own.house) c.loop-left.n c.loop-left.invariant.0.going in (g.1, g.2, g.3, g.4)
+
+pub shape_of-s-then-sat-eq1 : goal.shape_of-s-then-sat-eq1
+shape_of-s-then-sat-eq1 c = writing-length _ _ _ _ c.loop-left.n c.loop-left.invariant.0
+
+pub returns-then-sat-eq1 : goal.returns-then-sat-eq1
+returns-then-sat-eq1 c =
+    writing-stops _ _ _ _ c.loop-left.n c.loop-left.invariant.0 c.loop-left-test.true
+    (next-satisfied (tables_of c.args.own.house) c.loop-left.n c.loop-left.at c.node_states-states.ensures c.if-sat-eq1.true)
+    c.replying.result c.replying.ensures.1 c.replying.ensures.2 c.replying.ensures.3
+
+pub resting-rests-requires : goal.resting-rests-requires
+resting-rests-requires c = (going-ready (tables_of c.args.own.house) c.loop-left.n c.loop-left.invariant.0.going).2
+
+pub next_choice-turn-requires : goal.next_choice-turn-requires
+next_choice-turn-requires c = let g = going-ready (tables_of c.args.own.house) c.loop-left.n c.loop-left.invariant.0.going in (
+  c.requires.0,
+  c.loop-left.invariant.0.going.sizes,
+  g.0,
+  g.3,
+  g.4,
+  c.node_states-states.ensures,
+  c.loop-left.invariant.1,
+  waits-now (tables_of c.args.own.house) c.loop-left.n c.loop-left.invariant.0.going c.node_states-states.ensures c.loop-left.invariant.2
+      c.resting-rests.ensures,
+  c.loop-left.invariant.3,
+)
+
+pub shape_of-s-then-is_nothing : goal.shape_of-s-then-is_nothing
+shape_of-s-then-is_nothing c = writing-length _ _ _ _ c.loop-left.n c.loop-left.invariant.0
+
+pub returns-then-is_nothing : goal.returns-then-is_nothing
+returns-then-is_nothing c =
+    writing-stops _ _ _ _ c.loop-left.n c.loop-left.invariant.0 c.loop-left-test.true
+    (next-none (tables_of c.args.own.house) c.loop-left.n c.loop-left.at c.node_states-states.ensures c.loop-left.invariant.0.going
+    c.if-sat-eq1.false c.next_choice-turn.result.found c.next_choice-turn.ensures.0 c.is_nothing.ensures c.if-is_nothing.true)
+    c.replying-then-is_nothing.result c.replying-then-is_nothing.ensures.1 c.replying-then-is_nothing.ensures.2 c.replying-then-is_nothing.ensures.3
+
+pub outgoing-out-requires : goal.outgoing-out-requires
+outgoing-out-requires c = let found = c.next_choice-turn.result.found in (
+  c.requires.0,
+  c.loop-left.invariant.0.going.sizes,
+  c.next_choice-turn.ensures.1.0,
+  something found.choice c.is_nothing.ensures c.if-is_nothing.false,
+  c.loop-left.invariant.4,
+)
+
+pub room_for-requires : goal.room_for-requires
+room_for-requires c = (c.loop-left.invariant.0.going.sizes, c.outgoing-out.ensures.1.0)
+
+pub shape_of-s-then-not-room_for : goal.shape_of-s-then-not-room_for
+shape_of-s-then-not-room_for c = writing-length _ _ _ _ c.loop-left.n c.loop-left.invariant.0
+
+pub returns-then-not-room_for : goal.returns-then-not-room_for
+returns-then-not-room_for c =
+    writing-stops _ _ _ _ c.loop-left.n c.loop-left.invariant.0 c.loop-left-test.true
+    (next-full (tables_of c.args.own.house) c.loop-left.n c.loop-left.at c.node_states-states.ensures c.loop-left.invariant.0.going
+    c.if-sat-eq1.false c.next_choice-turn.result.found c.next_choice-turn.ensures.0 c.outgoing-out.result c.outgoing-out.ensures.0
+    c.room_for.ensures c.if-not-room_for.true)
+    c.replying-then-not-room_for.result c.replying-then-not-room_for.ensures.1 c.replying-then-not-room_for.ensures.2 c.replying-then-not-room_for.ensures.3
+
+pub size_of_outgoing-size-requires : goal.size_of_outgoing-size-requires
+size_of_outgoing-size-requires c = c.outgoing-out.ensures.1.0
+
+pub overflow_add-at : goal.overflow_add-at
+overflow_add-at c = omega (arith, c.size_of_outgoing-size.ensures.1, c.loop-left.invariant.0.most)
+
+pub overflow_add-at-in-loop-left : goal.overflow_add-at-in-loop-left
+overflow_add-at-in-loop-left c = omega (arith, c.size_of_outgoing-size.ensures.1, c.loop-left.invariant.0.most)
+
+pub shape_of-s-then-at-size-gt-MOST_MESSAGE_BYTES : goal.shape_of-s-then-at-size-gt-MOST_MESSAGE_BYTES
+shape_of-s-then-at-size-gt-MOST_MESSAGE_BYTES c = writing-length _ _ _ _ c.loop-left.n c.loop-left.invariant.0
+
+pub returns-then-at-size-gt-MOST_MESSAGE_BYTES : goal.returns-then-at-size-gt-MOST_MESSAGE_BYTES
+returns-then-at-size-gt-MOST_MESSAGE_BYTES c =
+    writing-stops _ _ _ _ c.loop-left.n c.loop-left.invariant.0 c.loop-left-test.true
+    (next-long (tables_of c.args.own.house) c.loop-left.n c.loop-left.at c.node_states-states.ensures c.loop-left.invariant.0.going
+    c.if-sat-eq1.false c.next_choice-turn.result.found c.next_choice-turn.ensures.0 c.outgoing-out.result c.outgoing-out.ensures.0
+    c.room_for.ensures c.if-not-room_for.false c.size_of_outgoing-size.ensures.0 c.if-at-size-gt-MOST_MESSAGE_BYTES.true)
+    c.replying-then-at-size-gt-MOST_MESSAGE_BYTES.result c.replying-then-at-size-gt-MOST_MESSAGE_BYTES.ensures.1 c.replying-then-at-size-gt-MOST_MESSAGE_BYTES.ensures.2 c.replying-then-at-size-gt-MOST_MESSAGE_BYTES.ensures.3
+
+pub carry-next-requires : goal.carry-next-requires
+carry-next-requires c = let w = writing-room _ _ _ _ c.loop-left.n c.loop-left.invariant.0 c.loop-left-test.true
+    (next-goes (tables_of c.args.own.house) c.loop-left.n c.loop-left.at c.node_states-states.ensures c.loop-left.invariant.0.going
+    c.if-sat-eq1.false c.next_choice-turn.result.found c.next_choice-turn.ensures.0 c.outgoing-out.result c.outgoing-out.ensures.0
+    c.room_for.ensures c.if-not-room_for.false c.size_of_outgoing-size.ensures.0 c.if-at-size-gt-MOST_MESSAGE_BYTES.false) in
+    (c.loop-left.invariant.0.going.sizes, c.outgoing-out.ensures.1.0, w.0, w.1, w.2)
+
+pub overflow_add-at-in-loop-left-2 : goal.overflow_add-at-in-loop-left-2
+overflow_add-at-in-loop-left-2 c = omega (arith, c.size_of_outgoing-size.ensures.1, c.loop-left.invariant.0.most)
+
+pub overflow_sub-left : goal.overflow_sub-left
+overflow_sub-left c = omega (arith, c.loop-left-test.true)
+
+pub loop-left-smaller : goal.loop-left-smaller
+loop-left-smaller c = omega (arith, c.loop-left-test.true)
+
+pub loop-left-preserved : goal.loop-left-preserved
+loop-left-preserved c = let g = c.loop-left.invariant.0.going in (
+  writing-next _ _ _ _ c.loop-left.n c.loop-left.invariant.0 c.loop-left-test.true
+      (next-goes (tables_of c.args.own.house) c.loop-left.n c.loop-left.at c.node_states-states.ensures c.loop-left.invariant.0.going
+      c.if-sat-eq1.false c.next_choice-turn.result.found c.next_choice-turn.ensures.0 c.outgoing-out.result c.outgoing-out.ensures.0
+      c.room_for.ensures c.if-not-room_for.false c.size_of_outgoing-size.ensures.0 c.if-at-size-gt-MOST_MESSAGE_BYTES.false)
+      c.carry-next.result c.carry-next.ensures.0 c.carry-next.ensures.1 c.size_of_outgoing-size.ensures.0,
+  exhausted-next (tables_of c.args.own.house) c.loop-left.n c.carry-next.result (commands_of c.outgoing-out.result) g
+      c.carry-next.ensures.0 c.loop-left.invariant.1 c.next_choice-turn.ensures.1.0 c.next_choice-turn.ensures.1.1.0 c.wide-waiting.ensures c.larger-passed.ensures,
+  waits-next (tables_of c.args.own.house) c.loop-left.n c.carry-next.result c.next_choice-turn.result.found g c.outgoing-out.ensures.0
+      c.carry-next.ensures.0 c.node_states-states.ensures c.next_choice-turn.ensures.1.0 c.next_choice-turn.ensures.1.1.0
+      c.wide-waiting.ensures,
+  c.next_choice-turn.ensures.1.1.1,
+  fresh-next c.loop-left.n c.carry-next.result _ (commands_of c.outgoing-out.result) c.carry-next.ensures.0 c.outgoing-out.ensures.1.1,
+)
+
+pub shape_of-s : goal.shape_of-s
+shape_of-s c = writing-length _ _ _ _ c.loop-left.n c.loop-left.invariant.0
+
+pub returns : goal.returns
+returns c =
+    writing-past _ _ _ _ c.loop-left.n c.loop-left.invariant.0 c.loop-left-test.false c.replying-2.result
+    c.replying-2.ensures.1 c.replying-2.ensures.2 c.replying-2.ensures.3

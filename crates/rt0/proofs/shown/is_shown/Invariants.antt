@@ -1,0 +1,17 @@
+use Prim.Native.Nat.{◌-◌}
+use native.Mathlib.Omega.{arith}
+use mathlib.Core.Path.{◌≡◌}
+use Rattle.expression.specs.declared.Credential.{Credential}
+use Rattle.expression.specs.Form.{raw_of}
+use Rattle.expression.specs.Same.{same_credential}
+use Rattle.expression.specs.laws.Key.{KeyOf}
+use Rattle.rt0.specs.laws.Pool.{pool_of, credential_at}
+use Rattle.rt0.specs.laws.Shown.{shown-at, shown-none}
+use Rattle.rt0.specs.laws.Find.{Missed, missed-start, missed_more}
+use Rattle.rt0.proofs.shown.is_shown.Given as goal
+
+abbrev pub invariant-loop-i : goal.invariant-loop-i
+invariant-loop-i l = (c : Credential) → KeyOf c.head l.key → l.raw ≡ raw_of c.body → Missed (λ d. same_credential d c) (credential_at (pool_of l.n l.heads l.kinds l.numbers)) l.i
+
+abbrev pub decreases-loop-i : goal.decreases-loop-i
+decreases-loop-i l = l.n - l.i

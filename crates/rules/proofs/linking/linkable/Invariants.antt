@@ -1,0 +1,16 @@
+use Prim.Native.Nat.{ℕ, ◌-◌, ◌≤◌}
+use lib.ListN.{length-replicate}
+use native.Mathlib.Omega.{arith}
+use mathlib.Core.Logic.{⊎_elim}
+use borrow.Author.Tests.{not-true}
+use Rattle.rt0.specs.declared.Pool.{Pool}
+use Rattle.rt0.specs.laws.Pool.{pool_of}
+use Rattle.rules.specs.laws.Columns.{Able}
+use Rattle.rules.specs.laws.Column.{able-start, able-off, able-add, able-skip, able-end}
+use Rattle.rules.proofs.linking.linkable.Given as goal
+
+abbrev pub invariant-loop-j : goal.invariant-loop-j
+invariant-loop-j l = Able (pool_of l.n l.heads l.kinds l.numbers) l.lit l.j l.src l.able × (l.j ≤ l.n)
+
+abbrev pub decreases-loop-j : goal.decreases-loop-j
+decreases-loop-j l = l.n - l.j

@@ -1,0 +1,32 @@
+use Prim.Native.Nat.{◌-◌, ◌≤◌, ◌<◌}
+use mathlib.Core.Path.{sym, ◌∙◌}
+use mathlib.Core.Logic.{⊎_elim}
+use Rattle.rt0.specs.laws.Pool.{pool_of}
+use Rattle.rules.specs.laws.Columns.{NamesTo}
+use Rattle.rules.specs.laws.Column.{names-start, names-skip, names-end}
+use native.Mathlib.Omega.{arith}
+use Rattle.rules.proofs.linking.names.Goals as goal
+
+pub loop-i-init : goal.loop-i-init
+loop-i-init c = (names-start (pool_of c.args.n c.args.heads.now c.args.kinds.now c.args.numbers.now) c.args.able.now, omega arith, omega arith)
+
+pub name_next-requires : goal.name_next-requires
+name_next-requires c = (c.requires, c.loop-i-test.true, c.loop-i.invariant.2, sym c.has_link.ensures ∙ c.if-has_link.true, c.loop-i.invariant.0)
+
+pub loop-i-preserved : goal.loop-i-preserved
+loop-i-preserved c =
+    ⊎_elim (λ w. rw (w.3, w.4) (w.2.ensures, omega arith, omega arith))
+    (λ w. rw (w.1, w.2) (
+      names-skip (pool_of c.args.n c.args.heads.now
+          c.args.kinds.now c.args.numbers.now)
+          c.args.able.now c.loop-i.i c.loop-i.named
+          (sym c.has_link.ensures ∙ w.0.left) c.loop-i.invariant.0,
+      omega arith,
+      c.loop-i.invariant.2,
+    )) c.if-has_link.branch
+
+pub returns : goal.returns
+returns c =
+    names-end (pool_of c.args.n c.args.heads.now c.args.kinds.now
+    c.args.numbers.now) c.args.able.now c.loop-i.i c.args.n
+    c.loop-i.named c.loop-i.invariant.1 c.loop-i-test.false c.loop-i.invariant.0

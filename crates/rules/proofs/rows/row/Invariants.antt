@@ -1,0 +1,16 @@
+use Prim.Native.Nat.{◌-◌, ◌≤◌}
+use native.Mathlib.Omega.{arith}
+use mathlib.Core.Path.{◌≡◌, refl}
+use mathlib.Core.Bool.{false}
+use Rattle.expression.specs.declared.Role.{Role}
+use Rattle.expression.specs.laws.Key.{KeyOf}
+use Rattle.word.specs.laws.Search.{any_to}
+use Rattle.rules.specs.laws.Table.{is_head_in, row_in}
+use Rattle.rules.specs.laws.Search.{first-at, first-nowhere, not_at}
+use Rattle.rules.proofs.rows.row.Given as goal
+
+abbrev pub invariant-loop-j : goal.invariant-loop-j
+invariant-loop-j l = (l.j ≤ l.n) × ((p : Role) → KeyOf p l.key → any_to l.j (is_head_in l.heads p) ≡ false)
+
+abbrev pub decreases-loop-j : goal.decreases-loop-j
+decreases-loop-j l = l.n - l.j

@@ -1,0 +1,14 @@
+use Prim.Native.Nat.{◌-◌, ◌≤◌}
+use native.Mathlib.Omega.{arith}
+use mathlib.Core.Path.{refl}
+use Rattle.graph.specs.declared.Nodes.{Nodes}
+use Rattle.graph.specs.laws.Graph.{nodes_from}
+use Rattle.states.specs.laws.Brings.{need_of}
+use Rattle.states.specs.laws.Filled.{NodeColumn, needs-start, needs-add, needs-all}
+use Rattle.states.proofs.fill.needs.Given as goal
+
+abbrev pub invariant-loop-i : goal.invariant-loop-i
+invariant-loop-i l = (l.i ≤ l.n) × ((o : Nodes) → NodeColumn (nodes_from l.n l.kind o.number o.subject o.verifier l.state) need_of l.i l.r)
+
+abbrev pub decreases-loop-i : goal.decreases-loop-i
+decreases-loop-i l = l.n - l.i

@@ -1,0 +1,22 @@
+use Prim.Native.Nat.{◌-◌}
+use native.Mathlib.Omega.{arith}
+use Rattle.expression.specs.declared.Credential.{Credential}
+use Rattle.rt0.specs.laws.Pool.{pool_of, credential_at, credentials}
+use Rattle.rt0.specs.laws.Find.{Missed, missed-start, missed_more, any_at, any_none}
+use Rattle.tables.specs.Lookup.{direct_of, holds}
+use Rattle.expression.specs.Same.{same_credential}
+use Rattle.tables.proofs.lookup.holds.Goals as goal
+
+pub loop-i-init : goal.loop-i-init
+loop-i-init c = missed-start _ _
+
+pub returns-then-is_direct_at : goal.returns-then-is_direct_at
+unfolding holds credentials
+returns-then-is_direct_at c = any_at c.args.n c.loop-i.invariant c.loop-i-test.true c.is_direct_at.ensures c.if-is_direct_at.true
+
+pub loop-i-preserved : goal.loop-i-preserved
+loop-i-preserved c = missed_more c.loop-i.invariant c.is_direct_at.ensures c.if-is_direct_at.false
+
+pub returns : goal.returns
+unfolding holds credentials
+returns c = any_none c.args.n c.loop-i.invariant c.loop-i-test.false
