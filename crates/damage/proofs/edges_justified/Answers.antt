@@ -1,3 +1,5 @@
+use mathlib.Core.Path.{ap}
+use mathlib.Core.Bool.{not}
 use Rattle.graph.specs.declared.Nodes.{Nodes}
 use Rattle.graph.specs.laws.Graph.{nodes_from}
 use Rattle.damage.specs.laws.Damage.{not-implied, both-justified}
@@ -12,10 +14,10 @@ pub edges_implied-requires : goal.edges_implied-requires
 edges_implied-requires c = (c.requires.0, c.requires.1, c.requires.2, c.requires.4)
 
 pub returns-then-not-edges_implied : goal.returns-then-not-edges_implied
-returns-then-not-edges_implied c h = not-implied _ (c.edges_implied.ensures (N c)) c.if-not-edges_implied.true
+returns-then-not-edges_implied c h = not-implied _ (c.edges_implied.ensures (N c)) (ap not c.if-not-edges_implied.true)
 
 pub links_justified-requires : goal.links_justified-requires
 links_justified-requires c = (c.requires.0, c.requires.1, c.requires.3, c.requires.4)
 
 pub returns : goal.returns
-returns c h = both-justified _ (c.edges_implied.ensures (N c)) c.if-not-edges_implied.false c.links_justified.ensures
+returns c h = both-justified _ (c.edges_implied.ensures (N c)) (ap not c.if-not-edges_implied.false) c.links_justified.ensures

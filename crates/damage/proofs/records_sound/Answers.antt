@@ -1,17 +1,19 @@
+use mathlib.Core.Path.{ap}
+use mathlib.Core.Bool.{not}
 use native.Mathlib.Omega.{arith}
 use Rattle.damage.specs.laws.Damage.{records-nodes, records-primary, records-shown}
 use Rattle.damage.proofs.records_sound.Goals as goal
 
 pub returns-then-not-nodes_fit : goal.returns-then-not-nodes_fit
-returns-then-not-nodes_fit c = λ es. records-nodes _ _ c.nodes_fit.ensures c.if-not-nodes_fit.true
+returns-then-not-nodes_fit c = λ es. records-nodes _ _ c.nodes_fit.ensures (ap not c.if-not-nodes_fit.true)
 
 pub returns-then-not-primary_sound : goal.returns-then-not-primary_sound
-returns-then-not-primary_sound c = λ es. records-primary _ _ c.nodes_fit.ensures c.if-not-nodes_fit.false (c.node_at-primary.ensures _ c.requires.2)
-    c.primary_sound.ensures c.if-not-primary_sound.true
+returns-then-not-primary_sound c = λ es. records-primary _ _ c.nodes_fit.ensures (ap not c.if-not-nodes_fit.false) (c.node_at-primary.ensures _ c.requires.2)
+    c.primary_sound.ensures (ap not c.if-not-primary_sound.true)
 
 pub shown_fit-requires : goal.shown_fit-requires
 shown_fit-requires c = (c.requires.0, c.requires.1, c.requires.4)
 
 pub returns : goal.returns
-returns c = λ es. records-shown _ _ c.nodes_fit.ensures c.if-not-nodes_fit.false (c.node_at-primary.ensures _ c.requires.2)
-    c.primary_sound.ensures c.if-not-primary_sound.false c.shown_fit.ensures
+returns c = λ es. records-shown _ _ c.nodes_fit.ensures (ap not c.if-not-nodes_fit.false) (c.node_at-primary.ensures _ c.requires.2)
+    c.primary_sound.ensures (ap not c.if-not-primary_sound.false) c.shown_fit.ensures

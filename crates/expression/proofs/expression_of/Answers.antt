@@ -12,12 +12,3 @@ returns-in-3 c = simp c.in-3.is
 
 pub returns-in-4 : goal.returns-in-4
 returns-in-4 c = simp c.in-4.is
-
-pub returns-in_default : goal.returns-in_default
-returns-in_default c =
-    simp (
-      ne_eqb _ _ c.in-1.rest.0.0.0.1,
-      ne_eqb _ _ c.in-1.rest.0.0.1,
-      ne_eqb _ _ c.in-1.rest.0.1,
-      ne_eqb _ _ c.in-1.rest.1,
-    )

@@ -17,13 +17,3 @@ returns-in-4 c = simp (c.in-4.is, eqb_refl)
 
 pub returns-in-5 : goal.returns-in-5
 returns-in-5 c = simp (c.in-5.is, c.same_raw-in-5.ensures, c.plain-in-5.ensures)
-
-pub returns-in_default : goal.returns-in_default
-returns-in_default c =
-    simp (
-      ne_eqb _ _ c.in-1.rest.0.0.0.0.1,
-      ne_eqb _ _ c.in-1.rest.0.0.0.1,
-      ne_eqb _ _ c.in-1.rest.0.0.1,
-      ne_eqb _ _ c.in-1.rest.0.1,
-      ne_eqb 5 _ (λ e. c.in-1.rest.1 (sym e)),
-    )

@@ -16,6 +16,3 @@ returns-in-4 c =
       c.is_role-in-4-2.ensures,
       c.ascending-in-4-2.ensures,
     )
-
-pub returns-in_default : goal.returns-in_default
-returns-in_default c = simp (ne_eqb _ _ c.in-2.rest.0.0.1, ne_eqb _ _ c.in-2.rest.0.1, ne_eqb _ _ c.in-2.rest.1)

@@ -1,3 +1,5 @@
+use mathlib.Core.Path.{ap}
+use mathlib.Core.Bool.{not}
 use native.Mathlib.Omega.{arith}
 use mathlib.Core.Path.{sym, ◌∙◌}
 use borrow.Author.Tests.{not-true, not-false}
@@ -5,7 +7,7 @@ use Rattle.frontier.specs.laws.QueueLaws.{join_stands, join-not, join-room, join
 use Rattle.frontier.proofs.join.Goals as goal
 
 pub returns-then-not-is_next : goal.returns-then-not-is_next
-returns-then-not-is_next c = λ p k n K N l. join-not _ _ _ _ _ c.requires.1 (sym (c.is_next.ensures p k) ∙ not-true _ c.if-not-is_next.true)
+returns-then-not-is_next c = λ p k n K N l. join-not _ _ _ _ _ c.requires.1 (sym (c.is_next.ensures p k) ∙ not-true _ (ap not c.if-not-is_next.true))
 
 pub returns-then-found-i-eq1 : goal.returns-then-found-i-eq1
 returns-then-found-i-eq1 c = λ p k n K N l. join_stands _ _ _ _ _ c.requires.1 c.if-found-i-eq1.true
@@ -18,4 +20,4 @@ overflow_add-result c = omega (arith, join-room _ _ c.requires.1 (omega arith) c
 
 pub returns : goal.returns
 returns c = λ p k n K N l. join-new _ _ _ _ _ c.requires.1 l c.requires.0 c.if-found-i-eq1.false
-    (sym (c.is_next.ensures p k) ∙ not-false _ c.if-not-is_next.false)
+    (sym (c.is_next.ensures p k) ∙ not-false _ (ap not c.if-not-is_next.false))

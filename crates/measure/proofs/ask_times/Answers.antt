@@ -9,6 +9,7 @@ use Rattle.rules.specs.laws.Table.{chosen}
 use Rattle.measure.specs.laws.Repeated.{count_of}
 use Rattle.measure.specs.laws.RepeatedLaws.{count-start, count_yes, count_no, count_most}
 use Rattle.measure.proofs.ask_times.Goals as goal
+use Rattle.measure.proofs.ask_times.Goals.{then-ask, else-ask}
 
 abbrev answer : (c : goal.Start) → Bool
 answer c = from? (chosen (pool_of c.args.n c.args.heads.now c.args.kinds.now c.args.numbers.now) c.args.on.now) c.args.f c.args.e
@@ -25,11 +26,11 @@ overflow_add-yes c = omega (arith, count_most _ _ _ c.loop-k.invariant.1)
 pub loop-k-preserved : goal.loop-k-preserved
 loop-k-preserved c = (
   omega arith,
-  ⊎_elim
-      (λ w. w.1 ∙ count_yes (answer c) _ _ _ c.loop-k.invariant.1 c.ask.ensures
-      w.0.taken)
-      (λ w. w.1 ∙ count_no (answer c) _ _ _ c.loop-k.invariant.1 c.ask.ensures w.0.left)
-      c.if-ask.branch,
+  elim c.if-ask.branch [
+    | then-ask w ↦ w.yes-is ∙ count_yes (answer c) _ _ _ c.loop-k.invariant.1 c.ask.ensures
+        w.if-ask.true
+    | else-ask w ↦ w.yes-is ∙ count_no (answer c) _ _ _ c.loop-k.invariant.1 c.ask.ensures w.if-ask.false
+  ],
 )
 
 pub returns : goal.returns

@@ -1,3 +1,5 @@
+use mathlib.Core.Path.{ap}
+use mathlib.Core.Bool.{not}
 use mathlib.Core.Path.{◌≡◌, refl, sym, ◌∙◌}
 use mathlib.Core.Logic.{inl, inr}
 use mathlib.Core.Bool.{true}
@@ -23,7 +25,7 @@ answer_at s = answer_of yes_or_no (question_of s.args.credentials.now s.args.f.n
 
 -- the lengths are within the sizes
 inside : (c : goal.Else-not-sized) → Inside c
-inside c = sym c.sized.ensures ∙ not-false _ c.if-not-sized.false
+inside c = sym c.sized.ensures ∙ not-false _ (ap not c.if-not-sized.false)
 
 -- the credentials were read
 with-list : (c : goal.Else-refusal-ne0) {p q : ExpressionAnswer} → operand_of c.args.f.now ≡ p
@@ -41,7 +43,7 @@ with_first : (c : goal.In-Read) {q : ExpressionAnswer}
 with_first c k = with-list c (sym c.operand.ensures ∙ c.in-Read.is) k
 
 pub returns-then-not-sized : goal.returns-then-not-sized
-returns-then-not-sized c = repeated-refused _ _ _ (inl refl) (question-outside _ _ _ (sym c.sized.ensures ∙ not-true _ c.if-not-sized.true))
+returns-then-not-sized c = repeated-refused _ _ _ (inl refl) (question-outside _ _ _ (sym c.sized.ensures ∙ not-true _ (ap not c.if-not-sized.true)))
 
 pub list-listing-requires : goal.list-listing-requires
 list-listing-requires c = (true-sized _ _ _ (inside c)).most

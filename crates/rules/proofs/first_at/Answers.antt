@@ -1,3 +1,4 @@
+use mathlib.Core.Bool.{not}
 use mathlib.Core.Path.{sym, ◌∙◌, ap}
 use Rattle.rt0.specs.declared.Pool.{Pool}
 use Rattle.rt0.specs.laws.Pool.{pool_of}
@@ -13,7 +14,7 @@ pool c = pool_of c.args.n c.args.heads.now c.args.kinds.now c.args.numbers.now
 pub returns-then-not-has_link : goal.returns-then-not-has_link
 returns-then-not-has_link c =
     first-none (pool c) c.args.i
-    (sym c.has_link.ensures ∙ not-true c.has_link.result c.if-not-has_link.true)
+    (sym c.has_link.ensures ∙ not-true c.has_link.result (ap not c.if-not-has_link.true))
 
 pub returns : goal.returns
 returns c = c.first_of.ensures ∙ ap (first_row (row_of (pool c))) c.expression_at.ensures

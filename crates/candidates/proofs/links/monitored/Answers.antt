@@ -4,6 +4,7 @@ use native.Mathlib.Omega.{arith}
 use mathlib.Core.Logic.{⊎_elim}
 use Rattle.graph.specs.laws.Graph.{edges_from}
 use Rattle.candidates.proofs.links.monitored.Goals as goal
+use Rattle.candidates.proofs.links.monitored.Goals.{then-kind-j, else-kind-j}
 
 pub loop-j-init : goal.loop-j-init
 loop-j-init c = (monitoring-start _ _, omega arith)
@@ -27,9 +28,12 @@ loop-j-smaller c = omega (arith, c.loop-j-test.true)
 
 pub loop-j-preserved : goal.loop-j-preserved
 loop-j-preserved c = (
-  ⊎_elim (λ w. monitoring-hit _ _ c.loop-j.invariant.0 c.wide-c.ensures
-      w.0.taken w.1) (λ w. monitoring-miss _ _ c.loop-j.invariant.0
-      c.wide-c.ensures w.0.left w.1) c.if-kind-j.branch,
+  elim c.if-kind-j.branch [
+    | then-kind-j w ↦ monitoring-hit _ _ c.loop-j.invariant.0 c.wide-c.ensures
+        w.if-kind-j.true w.r-is
+    | else-kind-j w ↦ monitoring-miss _ _ c.loop-j.invariant.0
+        c.wide-c.ensures w.if-kind-j.false w.r-is
+  ],
   omega (arith, c.loop-j-test.true),
 )
 

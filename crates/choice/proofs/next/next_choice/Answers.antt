@@ -1,3 +1,5 @@
+use mathlib.Core.Path.{ap}
+use mathlib.Core.Bool.{not}
 use Prim.Native.Nat.{◌-◌, ◌≤◌}
 use native.Mathlib.Omega.{arith}
 use mathlib.Core.Path.{refl, sym, subst}
@@ -12,6 +14,7 @@ use Rattle.candidates.specs.laws.Reach.{Recalls}
 use Rattle.choice.specs.laws.Ready.{ready_of}
 use Rattle.choice.specs.laws.Next.{NothingBefore, nothing-start, nothing-next, nothing-begins, nothing-processed, found_here, found_nothing}
 use Rattle.choice.proofs.next.next_choice.Goals as goal
+use Rattle.choice.proofs.next.next_choice.Goals.{then-is_unprocessed, else-is_unprocessed}
 
 pub begins_at-i-requires : goal.begins_at-i-requires
 unfolding state_of
@@ -44,7 +47,7 @@ pub returns-then-not-is_nothing : goal.returns-then-not-is_nothing
 unfolding end_in state_of
 returns-then-not-is_nothing c = let taken = c.loop-i-test.true in (
   found_here (end_in (tables_of c.args.own.house) (state_of c.args.n)) c.loop-i.invariant.0 (c.node_at-x.ensures _ taken)
-      c.choice_at-choice.ensures c.is_nothing.ensures c.if-not-is_nothing.true
+      c.choice_at-choice.ensures c.is_nothing.ensures (ap not c.if-not-is_nothing.true)
       (omega (arith, nodes-length c.args.n.nodes, taken)) refl,
   (taken, (c.loop-i.invariant.0, c.reach_at-visit.ensures.0)),
 )
@@ -58,16 +61,14 @@ loop-i-smaller c = omega (arith, c.loop-i-test.true)
 pub loop-i-preserved : goal.loop-i-preserved
 unfolding end_in state_of
 loop-i-preserved c = (
-  ⊎_elim
-      (λ w. nothing-next (end_in (tables_of c.args.own.house) (state_of c.args.n)) c.loop-i.invariant.0
-      (w.7.ensures _ c.loop-i-test.true) w.11.ensures w.12.ensures w.13.left)
-      (λ w. nothing-processed (tables_of c.args.own.house) c.args.n c.loop-i.invariant.0 c.loop-i-test.true
-      c.is_unprocessed.ensures w.0.left)
-      c.if-is_unprocessed.branch,
+  elim c.if-is_unprocessed.branch [
+    | then-is_unprocessed w ↦ nothing-next (end_in (tables_of c.args.own.house) (state_of c.args.n)) c.loop-i.invariant.0
+        (w.node_at-x.ensures _ c.loop-i-test.true) w.choice_at-choice.ensures w.is_nothing.ensures (ap not w.if-not-is_nothing.false)
+    | else-is_unprocessed w ↦ nothing-processed (tables_of c.args.own.house) c.args.n c.loop-i.invariant.0 c.loop-i-test.true
+        c.is_unprocessed.ensures w.if-is_unprocessed.false
+  ],
   omega (arith, c.loop-i-test.true),
-  ⊎_elim (λ w. subst (λ (l : LinkReach). Recalls c.args.own l) (sym w.14) w.8.ensures.0)
-      (λ w. subst (λ (l : LinkReach). Recalls c.args.own l) (sym w.1) c.loop-i.invariant.2)
-      c.if-is_unprocessed.branch,
+  elim c.if-is_unprocessed.branch [ then-is_unprocessed w ↦ subst (λ (l : LinkReach). Recalls c.args.own l) (sym w.reach-is) w.reach_at-visit.ensures.0 | else-is_unprocessed w ↦ subst (λ (l : LinkReach). Recalls c.args.own l) (sym w.reach-is) c.loop-i.invariant.2 ],
 )
 
 pub returns : goal.returns

@@ -1,3 +1,5 @@
+use mathlib.Core.Path.{ap}
+use mathlib.Core.Bool.{not}
 use mathlib.Core.Path.{sym, ◌∙◌}
 use native.Mathlib.Omega.{arith}
 use Rattle.closure.specs.laws.Rules.{rules_of}
@@ -29,5 +31,5 @@ add_row-requires c = (
 )
 
 pub returns : goal.returns
-returns c = λ P. link-grown {X = rules_of _ _ _ _ _ _ _} c.if-n-i.false c.if-state-ne1.false (sym c.bit.ensures ∙ not_left _ c.if-not-bit.false)
-    (sym c.member.ensures ∙ not_left _ c.if-not-member.false) c.add_row.ensures
+returns c = λ P. link-grown {X = rules_of _ _ _ _ _ _ _} c.if-n-i.false c.if-state-ne1.false (sym c.bit.ensures ∙ not_left _ (ap not c.if-not-bit.false))
+    (sym c.member.ensures ∙ not_left _ (ap not c.if-not-member.false)) c.add_row.ensures

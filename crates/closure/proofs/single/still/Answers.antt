@@ -1,3 +1,5 @@
+use mathlib.Core.Path.{ap}
+use mathlib.Core.Bool.{not}
 use Prim.Native.Nat.{◌-◌}
 use native.Mathlib.Omega.{arith}
 use Rattle.closure.specs.laws.Rules.{rules_of}
@@ -34,7 +36,7 @@ overflow_add-i c = omega (arith, c.requires.0.count)
 pub loop-i-preserved : goal.loop-i-preserved
 loop-i-preserved c =
     still-next (rules_of _ _ _ _ _ _ _) _ _ _ _ c.loop-i.i c.loop-i-test.true
-    (c.rests.ensures _ _ c.if-words-ne1.false) c.if-not-rests.false c.loop-i.invariant
+    (c.rests.ensures _ _ c.if-words-ne1.false) (ap not c.if-not-rests.false) c.loop-i.invariant
 
 pub returns : goal.returns
 returns c = still-all (rules_of _ _ _ _ _ _ _) _ _ _ _ c.loop-i.i c.loop-i-test.false c.loop-i.invariant

@@ -1,3 +1,5 @@
+use mathlib.Core.Path.{ap}
+use mathlib.Core.Bool.{not}
 use Rattle.class.specs.laws.Names.{names_of, names_from}
 use Rattle.rt0.specs.laws.Pool.{pool_of, credential_at}
 use Rattle.damage.specs.Records.{credential_fits}
@@ -10,10 +12,10 @@ pub loop-i-init : goal.loop-i-init
 loop-i-init c = judged-none _ _ _
 
 pub returns-then-not-credential_fits : goal.returns-then-not-credential_fits
-returns-then-not-credential_fits c = shown-stop _ _ c.loop-i.invariant c.loop-i-test.true c.credential_fits.ensures c.if-not-credential_fits.true
+returns-then-not-credential_fits c = shown-stop _ _ c.loop-i.invariant c.loop-i-test.true c.credential_fits.ensures (ap not c.if-not-credential_fits.true)
 
 pub loop-i-preserved : goal.loop-i-preserved
-loop-i-preserved c = shown-next _ _ c.loop-i.invariant c.loop-i-test.true c.credential_fits.ensures c.if-not-credential_fits.false
+loop-i-preserved c = shown-next _ _ c.loop-i.invariant c.loop-i-test.true c.credential_fits.ensures (ap not c.if-not-credential_fits.false)
 
 pub returns : goal.returns
 returns c = shown-done _ _ c.loop-i.invariant c.loop-i-test.false

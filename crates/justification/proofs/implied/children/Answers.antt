@@ -4,6 +4,7 @@ use native.Mathlib.Omega.{arith}
 use Rattle.justification.specs.laws.Implied.{Children}
 use Rattle.justification.specs.laws.ImpliedLaws.{children-none, children-add, children-skip, children-all}
 use Rattle.justification.proofs.implied.children.Goals as goal
+use Rattle.justification.proofs.implied.children.Goals.{then-edge-j-eq-IMPLICATION, else-edge-j-eq-IMPLICATION}
 
 pub loop-j-init : goal.loop-j-init
 loop-j-init c = (omega arith, children-none _ _)
@@ -19,9 +20,11 @@ bounds-r-wide c = omega (
 pub loop-j-preserved : goal.loop-j-preserved
 loop-j-preserved c = (
   omega arith,
-  ⊎_elim (λ w. children-add _ _ c.loop-j.invariant.1 w.2.ensures
-      (omega (arith, w.2.ensures, c.requires.1 _ c.loop-j-test.true)) w.3)
-      (λ w. children-skip _ _ c.loop-j.invariant.1 w.0.left w.1) c.if-edge-j-eq-IMPLICATION.branch,
+  elim c.if-edge-j-eq-IMPLICATION.branch [
+    | then-edge-j-eq-IMPLICATION w ↦ children-add _ _ c.loop-j.invariant.1 w.wide.ensures
+        (omega (arith, w.wide.ensures, c.requires.1 _ c.loop-j-test.true)) w.r-is
+    | else-edge-j-eq-IMPLICATION w ↦ children-skip _ _ c.loop-j.invariant.1 w.if-edge-j-eq-IMPLICATION.false w.r-is
+  ],
 )
 
 pub returns : goal.returns

@@ -1,3 +1,5 @@
+use mathlib.Core.Path.{ap}
+use mathlib.Core.Bool.{not}
 use native.Mathlib.Omega.{arith}
 use Prim.Native.Nat.{ℕ, ◌-◌}
 use mathlib.Core.List.{List}
@@ -20,10 +22,10 @@ implied_at-requires c = (
 )
 
 pub returns-then-not-implied_at : goal.returns-then-not-implied_at
-returns-then-not-implied_at c on m h = from-stop _ _ _ _ (c.loop-j.invariant on m h) c.loop-j-test.true (c.implied_at.ensures on m h) c.if-not-implied_at.true
+returns-then-not-implied_at c on m h = from-stop _ _ _ _ (c.loop-j.invariant on m h) c.loop-j-test.true (c.implied_at.ensures on m h) (ap not c.if-not-implied_at.true)
 
 pub loop-j-preserved : goal.loop-j-preserved
-loop-j-preserved c on m h = from_next _ _ _ _ (c.loop-j.invariant on m h) c.loop-j-test.true (c.implied_at.ensures on m h) c.if-not-implied_at.false
+loop-j-preserved c on m h = from_next _ _ _ _ (c.loop-j.invariant on m h) c.loop-j-test.true (c.implied_at.ensures on m h) (ap not c.if-not-implied_at.false)
 
 pub returns : goal.returns
 returns c on m h = from-done _ _ _ _ (c.loop-j.invariant on m h) c.loop-j-test.false

@@ -1,3 +1,5 @@
+use mathlib.Core.Path.{ap}
+use mathlib.Core.Bool.{not}
 use native.Mathlib.Omega.{arith}
 use Prim.Native.Nat.{◌-◌}
 use Rattle.rules.specs.laws.Table.{chosen}
@@ -21,10 +23,10 @@ node_implied-requires c = (
 )
 
 pub returns-then-not-node_implied : goal.returns-then-not-node_implied
-returns-then-not-node_implied c = below-stop _ _ _ c.loop-c.invariant c.node_implied.ensures c.if-not-node_implied.true
+returns-then-not-node_implied c = below-stop _ _ _ c.loop-c.invariant c.node_implied.ensures (ap not c.if-not-node_implied.true)
 
 pub loop-c-preserved : goal.loop-c-preserved
-loop-c-preserved c = below_next _ _ _ c.loop-c.invariant c.loop-c-test.true c.node_implied.ensures c.if-not-node_implied.false
+loop-c-preserved c = below_next _ _ _ c.loop-c.invariant c.loop-c-test.true c.node_implied.ensures (ap not c.if-not-node_implied.false)
 
 pub returns : goal.returns
 returns c = below-done _ _ _ c.loop-c.invariant c.requires.1 c.loop-c-test.false

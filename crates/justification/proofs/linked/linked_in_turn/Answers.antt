@@ -1,3 +1,5 @@
+use mathlib.Core.Path.{ap}
+use mathlib.Core.Bool.{not}
 use Rattle.graph.specs.laws.Graph.{nodes_from, edges_from}
 use native.Mathlib.Omega.{arith}
 use Prim.Native.Nat.{◌-◌}
@@ -19,7 +21,7 @@ is_monitored_if-requires c = let inside = edge-inside _ _ c.requires.3 c.loop-j-
 pub returns-then-not-is_monitored_if : goal.returns-then-not-is_monitored_if
 returns-then-not-is_monitored_if c =
     monitoring-stop _ _ _ _ _ c.loop-j.invariant c.loop-j-test.true (c.edge_at-e.ensures _ c.loop-j-test.true)
-    c.is_monitored_if.ensures c.if-not-is_monitored_if.true
+    c.is_monitored_if.ensures (ap not c.if-not-is_monitored_if.true)
 
 pub insert-t-requires : goal.insert-t-requires
 insert-t-requires c = (omega (arith, c.loop-j-test.true, c.requires.1), c.loop-j.invariant.chained, c.loop-j.invariant.done)
@@ -33,7 +35,7 @@ loop-j-smaller c = omega (arith, c.loop-j-test.true)
 pub loop-j-preserved : goal.loop-j-preserved
 loop-j-preserved c =
     monitoring-next _ _ _ _ _ c.loop-j.invariant c.loop-j-test.true (c.edge_at-e.ensures _ c.loop-j-test.true)
-    c.is_monitored_if.ensures c.if-not-is_monitored_if.false c.insert-t.ensures.0 c.insert-t.ensures.1
+    c.is_monitored_if.ensures (ap not c.if-not-is_monitored_if.false) c.insert-t.ensures.0 c.insert-t.ensures.1
 
 pub returns : goal.returns
 returns c = monitoring-done _ _ _ _ _ c.loop-j.invariant c.loop-j-test.false

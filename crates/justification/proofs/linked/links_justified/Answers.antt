@@ -1,3 +1,5 @@
+use mathlib.Core.Path.{ap}
+use mathlib.Core.Bool.{not}
 use Rattle.graph.specs.declared.Nodes.{Nodes}
 use Rattle.graph.specs.declared.Edges.{Edges}
 use Rattle.graph.specs.laws.Graph.{nodes_from, edges_from}
@@ -19,7 +21,7 @@ pub has_linking-requires : goal.has_linking-requires
 has_linking-requires c = c.requires.1
 
 pub returns-then-not-has_linking : goal.returns-then-not-has_linking
-returns-then-not-has_linking c = none-linking _ (E c) c.has_linking.ensures c.if-not-has_linking.true
+returns-then-not-has_linking c = none-linking _ (E c) c.has_linking.ensures (ap not c.if-not-has_linking.true)
 
 pub needs-need-requires : goal.needs-need-requires
 needs-need-requires c = c.requires.0

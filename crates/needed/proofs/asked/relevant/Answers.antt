@@ -1,3 +1,5 @@
+use mathlib.Core.Path.{ap}
+use mathlib.Core.Bool.{not}
 use Prim.Native.Nat.{◌-◌}
 use native.Mathlib.Omega.{arith}
 use mathlib.Core.Bool.{true}
@@ -18,7 +20,7 @@ pub pass-requires : goal.pass-requires
 pass-requires c = (c.requires, c.loop-k.invariant.work)
 
 pub returns-then-not-pass : goal.returns-then-not-pass
-returns-then-not-pass c = pass-closed _ c.flag_asked.ensures c.loop-k.invariant c.pass.ensures (not-true _ c.if-not-pass.true)
+returns-then-not-pass c = pass-closed _ c.flag_asked.ensures c.loop-k.invariant c.pass.ensures (not-true _ (ap not c.if-not-pass.true))
 
 pub overflow_add-k : goal.overflow_add-k
 overflow_add-k c = omega (arith, c.requires)

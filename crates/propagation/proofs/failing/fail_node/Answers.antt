@@ -1,3 +1,5 @@
+use mathlib.Core.Path.{ap}
+use mathlib.Core.Bool.{not}
 use native.Mathlib.Omega.{arith}
 use mathlib.Core.Path.{sym, ◌∙◌}
 use borrow.Author.Tests.{not-false}
@@ -17,5 +19,5 @@ pub returns : goal.returns
 returns c = (
   omega arith,
   λ m F S G k w. failing-node _ _ _ _ _ w _ _ c.requires.0 k
-      (sym c.fails.ensures ∙ not-false _ c.if-not-fails.false),
+      (sym c.fails.ensures ∙ not-false _ (ap not c.if-not-fails.false)),
 )

@@ -6,6 +6,7 @@ use Rattle.propagation.specs.laws.FailingLaws.{tally-start, tally-add, tally-ski
 use Rattle.propagation.specs.laws.Satisfied.{Graph, graph}
 use Rattle.propagation.specs.laws.Failing.{Tallied}
 use Rattle.propagation.proofs.failing.tally.Goals as goal
+use Rattle.propagation.proofs.failing.tally.Goals.{then-from-j-lt128, else-from-j-lt128}
 
 pub loop-j-init : goal.loop-j-init
 loop-j-init c = (omega arith, λ W. tally-start _)
@@ -45,8 +46,7 @@ pub loop-j-preserved : goal.loop-j-preserved
 loop-j-preserved c = let p = c.wide16-p in
     let g : List ℕ → Graph = λ W. graph c.args.from.now c.args.slot.now W in (
       omega arith,
-      λ W. ⊎_elim (λ w. tally-add c.loop-j.j (g W) c.loop-j.left _ p.result p.ensures (c.requires.1 _) w.0.taken w.1 (c.loop-j.invariant.1 W))
-          (λ w. tally-skip c.loop-j.j (g W) c.loop-j.left _ w.0.left w.1 (c.loop-j.invariant.1 W)) c.if-from-j-lt128.branch,
+      λ W. elim c.if-from-j-lt128.branch [ then-from-j-lt128 w ↦ tally-add c.loop-j.j (g W) c.loop-j.left _ p.result p.ensures (c.requires.1 _) w.if-from-j-lt128.true w.left-is (c.loop-j.invariant.1 W) | else-from-j-lt128 w ↦ tally-skip c.loop-j.j (g W) c.loop-j.left _ w.if-from-j-lt128.false w.left-is (c.loop-j.invariant.1 W) ],
     )
 
 pub returns : goal.returns

@@ -6,6 +6,7 @@ use Rattle.propagation.specs.laws.Satisfied.{Graph, graph}
 use Rattle.propagation.specs.laws.Failed.{Touched}
 use Rattle.propagation.specs.laws.FailedLaws.{touch-start, touch-add-at, touch-skip-at, touch-all}
 use Rattle.propagation.proofs.failing.touched.Goals as goal
+use Rattle.propagation.proofs.failing.touched.Goals.{then-is_at, else-is_at}
 
 pub loop-j-init : goal.loop-j-init
 loop-j-init c = (omega arith, λ W. touch-start _ _ _)
@@ -33,11 +34,12 @@ loop-j-preserved c = let p = c.wide16-p in
     let t = c.is_at in
     let g : List ℕ → Graph = λ W. graph c.args.from.now c.args.slot.now W in (
       omega arith,
-      λ W. ⊎_elim
-          (λ w. touch-add-at c.loop-j.j (g W) c.args.failed.now c.args.on _ _ p.result f.result _ p.ensures (c.requires.1 _) f.ensures.0
-          t.ensures w.0.taken w.1 (c.loop-j.invariant.1 W))
-          (λ w. touch-skip-at c.loop-j.j (g W) c.args.failed.now c.args.on _ _ f.result _ f.ensures.0 t.ensures w.0.left w.1
-          (c.loop-j.invariant.1 W)) c.if-is_at.branch,
+      λ W. elim c.if-is_at.branch [
+        | then-is_at w ↦ touch-add-at c.loop-j.j (g W) c.args.failed.now c.args.on _ _ p.result f.result _ p.ensures (c.requires.1 _) f.ensures.0
+            t.ensures w.if-is_at.true w.r-is (c.loop-j.invariant.1 W)
+        | else-is_at w ↦ touch-skip-at c.loop-j.j (g W) c.args.failed.now c.args.on _ _ f.result _ f.ensures.0 t.ensures w.if-is_at.false w.r-is
+            (c.loop-j.invariant.1 W)
+      ],
     )
 
 pub returns : goal.returns

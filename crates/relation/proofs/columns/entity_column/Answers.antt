@@ -8,6 +8,7 @@ use Rattle.relation.specs.laws.Answer.{Moved}
 use Rattle.relation.specs.laws.QuestionLaws.{moved-start, moved-add, moved-skip}
 use Rattle.relation.specs.laws.Reached.{no-column, entity-column}
 use Rattle.relation.proofs.columns.entity_column.Goals as goal
+use Rattle.relation.proofs.columns.entity_column.Goals.{then-bit, else-bit}
 
 abbrev pool : (c : goal.Start) → List ℕ → Pool
 pool c H = pool_of c.args.n H c.args.kinds.now c.args.numbers.now
@@ -27,14 +28,14 @@ mark-requires c = (omega (arith, c.requires), omega arith, c.loop-r.invariant.0.
 
 pub loop-r-preserved : goal.loop-r-preserved
 loop-r-preserved c = (
-  ⊎_elim
-      (λ w. rw w.3 (moved-add c.args.mem.now
-      c.source-s.result c.loop-r.r c.loop-r.rows _
-      c.bit.ensures w.0.taken w.2.ensures c.loop-r.invariant.0))
-      (λ w. rw w.1 (moved-skip c.args.mem.now
-      c.source-s.result c.loop-r.r c.loop-r.rows
-      c.bit.ensures w.0.left c.loop-r.invariant.0))
-      c.if-bit.branch,
+  elim c.if-bit.branch [
+    | then-bit w ↦ rw w.rows-is (moved-add c.args.mem.now
+        c.source-s.result c.loop-r.r c.loop-r.rows _
+        c.bit.ensures w.if-bit.true w.mark.ensures c.loop-r.invariant.0)
+    | else-bit w ↦ rw w.rows-is (moved-skip c.args.mem.now
+        c.source-s.result c.loop-r.r c.loop-r.rows
+        c.bit.ensures w.if-bit.false c.loop-r.invariant.0)
+  ],
   omega arith,
 )
 

@@ -10,6 +10,7 @@ use Rattle.rules.specs.laws.Columns.{Column, head_row_in}
 use Rattle.relation.specs.laws.Question.{StartTo}
 use Rattle.relation.specs.laws.QuestionLaws.{start-start, start-add, start-skip, start-end}
 use Rattle.relation.proofs.direct.seeds.Goals as goal
+use Rattle.relation.proofs.direct.seeds.Goals.{then-on-i-eq1, else-on-i-eq1}
 
 abbrev pool : (c : goal.Start) → List ℕ → Pool
 pool c H = pool_of c.args.n H c.args.kinds.now c.args.numbers.now
@@ -29,13 +30,13 @@ seed-requires c = (c.requires.0, c.loop-i-test.true, c.requires.1, c.note_bodies
 
 pub loop-i-preserved : goal.loop-i-preserved
 loop-i-preserved c = let here = c.loop-i-test.true in (
-  ⊎_elim (λ w. rw w.4 w.3.ensures.0) (λ w. rw w.1 c.loop-i.invariant.0) c.if-on-i-eq1.branch,
+  elim c.if-on-i-eq1.branch [ then-on-i-eq1 w ↦ rw w.rows-is w.seed.ensures.0 | else-on-i-eq1 w ↦ rw w.rows-is c.loop-i.invariant.0 ],
   λ H h.
-      ⊎_elim
-      (λ w. rw w.4 (start-add (pool c H) c.args.on.now c.requires.0 c.loop-i.i c.loop-i.rows _ here w.0.taken
-      (w.3.ensures.1 H (h.upto c.loop-i.i here)) (c.loop-i.invariant.1 H h)))
-      (λ w. rw w.1 (start-skip (pool c H) c.args.on.now c.requires.0 c.loop-i.i c.loop-i.rows w.0.left (c.loop-i.invariant.1 H h)))
-      c.if-on-i-eq1.branch,
+      elim c.if-on-i-eq1.branch [
+        | then-on-i-eq1 w ↦ rw w.rows-is (start-add (pool c H) c.args.on.now c.requires.0 c.loop-i.i c.loop-i.rows _ here w.if-on-i-eq1.true
+            (w.seed.ensures.1 H (h.upto c.loop-i.i here)) (c.loop-i.invariant.1 H h))
+        | else-on-i-eq1 w ↦ rw w.rows-is (start-skip (pool c H) c.args.on.now c.requires.0 c.loop-i.i c.loop-i.rows w.if-on-i-eq1.false (c.loop-i.invariant.1 H h))
+      ],
   omega arith,
 )
 

@@ -1,3 +1,5 @@
+use mathlib.Core.Path.{ap}
+use mathlib.Core.Bool.{not}
 use Rattle.rt0.specs.declared.Pool.{Pool}
 use Rattle.rt0.specs.laws.Pool.{pool_of}
 use Rattle.relation.specs.laws.Reached.{leads-name, leads-bit, leads-source, leads-is}
@@ -14,7 +16,7 @@ returns-then-heads-j c =
 pub returns-then-not-bit : goal.returns-then-not-bit
 returns-then-not-bit c =
     leads-bit (pool (c)) c.args.mem.now c.args.vals.now c.args.z c.args.r c.args.m c.args.j c.bit.ensures
-    c.if-not-bit.true
+    (ap not c.if-not-bit.true)
 
 pub returns-then-s-ge128 : goal.returns-then-s-ge128
 returns-then-s-ge128 c =
@@ -24,4 +26,4 @@ returns-then-s-ge128 c =
 pub returns : goal.returns
 returns c =
     leads-is (pool (c)) c.args.mem.now c.args.vals.now c.args.z c.args.r c.args.m c.args.j
-    c.find_source-s.result c.if-heads-j.false c.bit.ensures c.if-not-bit.false c.find_source-s.ensures c.bit-2.ensures
+    c.find_source-s.result c.if-heads-j.false c.bit.ensures (ap not c.if-not-bit.false) c.find_source-s.ensures c.bit-2.ensures

@@ -1,3 +1,4 @@
+use mathlib.Core.Bool.{not}
 use Prim.Native.Nat.{ℕ}
 use mathlib.Core.List.{List}
 use mathlib.Core.Path.{sym, ◌∙◌, ap, subst}
@@ -21,23 +22,23 @@ returns-then-same c K N on h =
 pub returns-then-not-role_from : goal.returns-then-not-role_from
 returns-then-not-role_from c K N on h =
     meet-no (chosen (pool c K N) on) c.args.p c.args.e c.same.ensures c.if-same.false
-    c.args.p.first (λ G q. q.0) (c.role_from.ensures K N on h) c.if-not-role_from.true
+    c.args.p.first (λ G q. q.0) (c.role_from.ensures K N on h) (ap not c.if-not-role_from.true)
 
 pub returns-then-not-role_from-2 : goal.returns-then-not-role_from-2
 returns-then-not-role_from-2 c K N on h =
     meet-no (chosen (pool c K N) on) c.args.p c.args.e c.same.ensures c.if-same.false c.args.p.second
-    (λ G q. q.1) (c.role_from-2.ensures K N on h) c.if-not-role_from-2.true
+    (λ G q. q.1) (c.role_from-2.ensures K N on h) (ap not c.if-not-role_from-2.true)
 
 pub returns-then-not-role_from-3 : goal.returns-then-not-role_from-3
 returns-then-not-role_from-3 c K N on h =
     meet-no (chosen (pool c K N) on) c.args.p c.args.e c.same.ensures c.if-same.false
     c.third_of-c.result (λ G q. subst G (sym c.third_of-c.ensures) q.2) (c.role_from-3.ensures K N on h)
-    c.if-not-role_from-3.true
+    (ap not c.if-not-role_from-3.true)
 
 pub returns : goal.returns
 returns c K N on h =
     meet_all (chosen (pool c K N) on) c.args.p c.args.e c.same.ensures c.if-same.false (c.role_from.ensures K N on h)
-    c.if-not-role_from.false (c.role_from-2.ensures K N on h) c.if-not-role_from-2.false
+    (ap not c.if-not-role_from.false) (c.role_from-2.ensures K N on h) (ap not c.if-not-role_from-2.false)
     (c.role_from-3.ensures K N on h ∙ ap (λ (o : Role). from? (chosen (pool c K N) on) (E.Role o) c.args.e)
-    c.third_of-c.ensures) c.if-not-role_from-3.false
+    c.third_of-c.ensures) (ap not c.if-not-role_from-3.false)
     (c.role_from-4.ensures K N on h ∙ ap (λ (o : Role). from? (chosen (pool c K N) on) (E.Role o) c.args.e) c.fourth_of-d.ensures)

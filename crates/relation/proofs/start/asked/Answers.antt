@@ -11,6 +11,7 @@ use Rattle.rt0.specs.laws.Pool.{pool_of}
 use Rattle.relation.specs.laws.Question.{AskedTo}
 use Rattle.relation.specs.laws.QuestionLaws.{by-raw, asked-start, asked-add, asked-skip, asked-end}
 use Rattle.relation.proofs.start.asked.Goals as goal
+use Rattle.relation.proofs.start.asked.Goals.{then-starts, else-starts}
 
 abbrev pool : (c : goal.Start) → Pool
 pool c = pool_of c.args.n c.args.heads.now c.args.kinds.now c.args.numbers.now
@@ -57,12 +58,12 @@ loop-i-preserved c = let here = c.loop-i-test.true in
     let q = c.raw_of-raw.ensures in
     let starts = c.starts.ensures c.args.n c.args.heads.now c.args.e q (c.requires.2.upto c.loop-i.i here)
     c.own_source-s.ensures in (
-      by-raw (λ e. AskedTo (pool c) c.args.on.now c.args.mem.now e (c.loop-i.i + 1) c.if-starts.rows) c.args.e q (⊎_elim
-          (λ w. rw w.5 (asked-add (pool c) c.args.on.now c.args.mem.now c.requires.0 c.requires.3 c.args.e c.loop-i.i _
-          c.loop-i.rows _ here starts w.0.taken (c.requires.1.upto c.loop-i.i here) w.3.ensures (c.loop-i.invariant.0 c.args.e q)))
-          (λ w. rw w.1 (asked-skip (pool c) c.args.on.now c.args.mem.now c.requires.0 c.requires.3 c.args.e c.loop-i.i
-          c.loop-i.rows starts w.0.left (c.loop-i.invariant.0 c.args.e q)))
-          c.if-starts.branch),
+      by-raw (λ e. AskedTo (pool c) c.args.on.now c.args.mem.now e (c.loop-i.i + 1) c.if-starts.rows) c.args.e q (elim c.if-starts.branch [
+        | then-starts w ↦ rw w.rows-is (asked-add (pool c) c.args.on.now c.args.mem.now c.requires.0 c.requires.3 c.args.e c.loop-i.i _
+            c.loop-i.rows _ here starts w.if-starts.true (c.requires.1.upto c.loop-i.i here) w.mark.ensures (c.loop-i.invariant.0 c.args.e q))
+        | else-starts w ↦ rw w.rows-is (asked-skip (pool c) c.args.on.now c.args.mem.now c.requires.0 c.requires.3 c.args.e c.loop-i.i
+            c.loop-i.rows starts w.if-starts.false (c.loop-i.invariant.0 c.args.e q))
+      ]),
       omega arith,
     )
 

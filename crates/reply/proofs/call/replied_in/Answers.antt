@@ -1,3 +1,5 @@
+use mathlib.Core.Path.{ap}
+use mathlib.Core.Bool.{not}
 use Rattle.tables.specs.laws.Tables.{tables_of}
 use Rattle.negotiation.specs.laws.State.{state_of}
 use Rattle.reply.specs.laws.Reply.{turn-of, own-going, own-gives, begun-ready, begun-gives, replied-ended, replied-turn, in-turn, after-ready}
@@ -10,47 +12,47 @@ returns-then-h-ne0 c = replied-ended (tables_of c.args.house) c.args.n c.args.s.
 pub returns-then-not-sends : goal.returns-then-not-sends
 returns-then-not-sends c =
     replied-turn (tables_of c.args.house) c.args.n c.if-h-ne0.false c.sends.ensures c.args.s.now
-    c.replying-then-not-sends.result c.if-not-sends.true c.replying-then-not-sends.ensures.0
+    c.replying-then-not-sends.result (ap not c.if-not-sends.true) c.replying-then-not-sends.ensures.0
 
 pub reply_from-r-requires : goal.reply_from-r-requires
 reply_from-r-requires c = let b = begun-ready (tables_of c.args.house) c.requires.1 (state_of c.args.n) c.requires.2 c.requires.3
-    (turn-of c.args.n (in-turn (tables_of c.args.house) c.args.n c.if-h-ne0.false c.sends.ensures c.if-not-sends.false))
+    (turn-of c.args.n (in-turn (tables_of c.args.house) c.args.n c.if-h-ne0.false c.sends.ensures (ap not c.if-not-sends.false)))
     c.begun-b.result c.begun-b.ensures c.requires.4 in
     (c.prepare-own.ensures.0, own-going c.prepare-own.ensures.1 (state_of c.begun-b.result.negotiation) b.0, b.1, b.2)
 
 pub after_message-after-requires : goal.after_message-after-requires
 after_message-after-requires c =
-    after-ready (tables_of c.args.house) c.args.n c.if-h-ne0.false c.sends.ensures c.if-not-sends.false c.requires.1 c.requires.2
+    after-ready (tables_of c.args.house) c.args.n c.if-h-ne0.false c.sends.ensures (ap not c.if-not-sends.false) c.requires.1 c.requires.2
     c.requires.3 c.reply_from-r.result (begun-gives (tables_of c.args.house) c.requires.1 (state_of c.args.n) c.requires.2
     c.requires.3 (turn-of c.args.n (in-turn (tables_of c.args.house) c.args.n c.if-h-ne0.false c.sends.ensures
-    c.if-not-sends.false)) c.begun-b.result c.begun-b.ensures c.requires.4 c.reply_from-r.result
+    (ap not c.if-not-sends.false))) c.begun-b.result c.begun-b.ensures c.requires.4 c.reply_from-r.result
     (own-gives c.prepare-own.ensures.1 (state_of c.begun-b.result.negotiation) c.begun-b.result.at c.reply_from-r.result
     c.reply_from-r.ensures))
 
 pub write_command-requires : goal.write_command-requires
 write_command-requires c =
-    end_fits (tables_of c.args.house) c.args.n c.if-h-ne0.false c.sends.ensures c.if-not-sends.false c.requires.1 c.requires.2
+    end_fits (tables_of c.args.house) c.args.n c.if-h-ne0.false c.sends.ensures (ap not c.if-not-sends.false) c.requires.1 c.requires.2
     c.requires.3 c.reply_from-r.result (begun-gives (tables_of c.args.house) c.requires.1 (state_of c.args.n) c.requires.2
     c.requires.3 (turn-of c.args.n (in-turn (tables_of c.args.house) c.args.n c.if-h-ne0.false c.sends.ensures
-    c.if-not-sends.false)) c.begun-b.result c.begun-b.ensures c.requires.4 c.reply_from-r.result
+    (ap not c.if-not-sends.false))) c.begun-b.result c.begun-b.ensures c.requires.4 c.reply_from-r.result
     (own-gives c.prepare-own.ensures.1 (state_of c.begun-b.result.negotiation) c.begun-b.result.at c.reply_from-r.result
     c.reply_from-r.ensures)) c.requires.4
 
 pub shape_of-s : goal.shape_of-s
 shape_of-s c =
-    end-length (tables_of c.args.house) c.args.n c.if-h-ne0.false c.sends.ensures c.if-not-sends.false c.requires.1 c.requires.2
+    end-length (tables_of c.args.house) c.args.n c.if-h-ne0.false c.sends.ensures (ap not c.if-not-sends.false) c.requires.1 c.requires.2
     c.requires.3 c.reply_from-r.result (begun-gives (tables_of c.args.house) c.requires.1 (state_of c.args.n) c.requires.2
     c.requires.3 (turn-of c.args.n (in-turn (tables_of c.args.house) c.args.n c.if-h-ne0.false c.sends.ensures
-    c.if-not-sends.false)) c.begun-b.result c.begun-b.ensures c.requires.4 c.reply_from-r.result
+    (ap not c.if-not-sends.false))) c.begun-b.result c.begun-b.ensures c.requires.4 c.reply_from-r.result
     (own-gives c.prepare-own.ensures.1 (state_of c.begun-b.result.negotiation) c.begun-b.result.at c.reply_from-r.result
     c.reply_from-r.ensures)) c.requires.4 c.write_command.ensures
 
 pub returns : goal.returns
 returns c =
-    replied-given (tables_of c.args.house) c.args.n c.if-h-ne0.false c.sends.ensures c.if-not-sends.false c.requires.1 c.requires.2
+    replied-given (tables_of c.args.house) c.args.n c.if-h-ne0.false c.sends.ensures (ap not c.if-not-sends.false) c.requires.1 c.requires.2
     c.requires.3 c.reply_from-r.result (begun-gives (tables_of c.args.house) c.requires.1 (state_of c.args.n) c.requires.2
     c.requires.3 (turn-of c.args.n (in-turn (tables_of c.args.house) c.args.n c.if-h-ne0.false c.sends.ensures
-    c.if-not-sends.false)) c.begun-b.result c.begun-b.ensures c.requires.4 c.reply_from-r.result
+    (ap not c.if-not-sends.false))) c.begun-b.result c.begun-b.ensures c.requires.4 c.reply_from-r.result
     (own-gives c.prepare-own.ensures.1 (state_of c.begun-b.result.negotiation) c.begun-b.result.at c.reply_from-r.result
     c.reply_from-r.ensures)) c.requires.4 c.after_message-after.result c.replying-2.result c.after_message-after.ensures
     c.write_command.ensures c.replying-2.ensures.0 c.replying-2.ensures.1 c.replying-2.ensures.2

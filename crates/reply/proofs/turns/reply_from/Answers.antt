@@ -1,3 +1,5 @@
+use mathlib.Core.Path.{ap}
+use mathlib.Core.Bool.{not}
 use native.Mathlib.Omega.{arith}
 use mathlib.Core.Path.{◌≡◌}
 use lib.ListN.{length}
@@ -87,7 +89,7 @@ returns-then-not-room_for c =
     writing-stops _ _ _ _ c.loop-left.n c.loop-left.invariant.0 c.loop-left-test.true
     (next-full (tables_of c.args.own.house) c.loop-left.n c.loop-left.at c.node_states-states.ensures c.loop-left.invariant.0.going
     c.if-sat-eq1.false c.next_choice-turn.result.found c.next_choice-turn.ensures.0 c.outgoing-out.result c.outgoing-out.ensures.0
-    c.room_for.ensures c.if-not-room_for.true)
+    c.room_for.ensures (ap not c.if-not-room_for.true))
     c.replying-then-not-room_for.result c.replying-then-not-room_for.ensures.1 c.replying-then-not-room_for.ensures.2 c.replying-then-not-room_for.ensures.3
 
 pub size_of_outgoing-size-requires : goal.size_of_outgoing-size-requires
@@ -107,14 +109,14 @@ returns-then-at-size-gt-MOST_MESSAGE_BYTES c =
     writing-stops _ _ _ _ c.loop-left.n c.loop-left.invariant.0 c.loop-left-test.true
     (next-long (tables_of c.args.own.house) c.loop-left.n c.loop-left.at c.node_states-states.ensures c.loop-left.invariant.0.going
     c.if-sat-eq1.false c.next_choice-turn.result.found c.next_choice-turn.ensures.0 c.outgoing-out.result c.outgoing-out.ensures.0
-    c.room_for.ensures c.if-not-room_for.false c.size_of_outgoing-size.ensures.0 c.if-at-size-gt-MOST_MESSAGE_BYTES.true)
+    c.room_for.ensures (ap not c.if-not-room_for.false) c.size_of_outgoing-size.ensures.0 c.if-at-size-gt-MOST_MESSAGE_BYTES.true)
     c.replying-then-at-size-gt-MOST_MESSAGE_BYTES.result c.replying-then-at-size-gt-MOST_MESSAGE_BYTES.ensures.1 c.replying-then-at-size-gt-MOST_MESSAGE_BYTES.ensures.2 c.replying-then-at-size-gt-MOST_MESSAGE_BYTES.ensures.3
 
 pub carry-next-requires : goal.carry-next-requires
 carry-next-requires c = let w = writing-room _ _ _ _ c.loop-left.n c.loop-left.invariant.0 c.loop-left-test.true
     (next-goes (tables_of c.args.own.house) c.loop-left.n c.loop-left.at c.node_states-states.ensures c.loop-left.invariant.0.going
     c.if-sat-eq1.false c.next_choice-turn.result.found c.next_choice-turn.ensures.0 c.outgoing-out.result c.outgoing-out.ensures.0
-    c.room_for.ensures c.if-not-room_for.false c.size_of_outgoing-size.ensures.0 c.if-at-size-gt-MOST_MESSAGE_BYTES.false) in
+    c.room_for.ensures (ap not c.if-not-room_for.false) c.size_of_outgoing-size.ensures.0 c.if-at-size-gt-MOST_MESSAGE_BYTES.false) in
     (c.loop-left.invariant.0.going.sizes, c.outgoing-out.ensures.1.0, w.0, w.1, w.2)
 
 pub overflow_add-at-in-loop-left-2 : goal.overflow_add-at-in-loop-left-2
@@ -131,7 +133,7 @@ loop-left-preserved c = let g = c.loop-left.invariant.0.going in (
   writing-next _ _ _ _ c.loop-left.n c.loop-left.invariant.0 c.loop-left-test.true
       (next-goes (tables_of c.args.own.house) c.loop-left.n c.loop-left.at c.node_states-states.ensures c.loop-left.invariant.0.going
       c.if-sat-eq1.false c.next_choice-turn.result.found c.next_choice-turn.ensures.0 c.outgoing-out.result c.outgoing-out.ensures.0
-      c.room_for.ensures c.if-not-room_for.false c.size_of_outgoing-size.ensures.0 c.if-at-size-gt-MOST_MESSAGE_BYTES.false)
+      c.room_for.ensures (ap not c.if-not-room_for.false) c.size_of_outgoing-size.ensures.0 c.if-at-size-gt-MOST_MESSAGE_BYTES.false)
       c.carry-next.result c.carry-next.ensures.0 c.carry-next.ensures.1 c.size_of_outgoing-size.ensures.0,
   exhausted-next (tables_of c.args.own.house) c.loop-left.n c.carry-next.result (commands_of c.outgoing-out.result) g
       c.carry-next.ensures.0 c.loop-left.invariant.1 c.next_choice-turn.ensures.1.0 c.next_choice-turn.ensures.1.1.0 c.wide-waiting.ensures c.larger-passed.ensures,

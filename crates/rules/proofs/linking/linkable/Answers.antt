@@ -1,3 +1,5 @@
+use mathlib.Core.Path.{ap}
+use mathlib.Core.Bool.{not}
 use Prim.Native.Nat.{ℕ, ◌-◌, ◌≤◌}
 use lib.ListN.{length-replicate}
 use native.Mathlib.Omega.{arith}
@@ -8,12 +10,13 @@ use Rattle.rt0.specs.laws.Pool.{pool_of}
 use Rattle.rules.specs.laws.Columns.{Able}
 use Rattle.rules.specs.laws.Column.{able-start, able-off, able-add, able-skip, able-end}
 use Rattle.rules.proofs.linking.linkable.Goals as goal
+use Rattle.rules.proofs.linking.linkable.Goals.{then-s-lt128, else-s-lt128}
 
 abbrev pool : (c : goal.Start) → Pool
 pool c = pool_of c.args.n c.args.heads.now c.args.kinds.now c.args.numbers.now
 
 pub returns-then-not-lit : goal.returns-then-not-lit
-returns-then-not-lit c = able-off (pool c) c.args.lit c.args.n (not-true c.args.lit c.if-not-lit.true)
+returns-then-not-lit c = able-off (pool c) c.args.lit c.args.n (not-true c.args.lit (ap not c.if-not-lit.true))
 
 pub note_bodies-requires : goal.note_bodies-requires
 note_bodies-requires c = (c.requires.0, length-replicate {A = ℕ} 260 0)
@@ -26,18 +29,18 @@ link_source-s-requires c = (c.requires.0, c.loop-j-test.true, c.requires.1, c.no
 
 pub loop-j-preserved : goal.loop-j-preserved
 loop-j-preserved c = (
-  ⊎_elim
-      (λ w. rw (w.1, w.2) (able-add (pool c)
-      c.requires.0
-      c.args.lit c.loop-j.src
-      c.loop-j.able c.loop-j.j c.link_source-s.result
-      c.loop-j-test.true c.link_source-s.ensures w.0.taken c.loop-j.invariant.0))
-      (λ w. rw (w.1, w.2) (able-skip (pool c)
-      c.args.lit c.loop-j.src
-      c.loop-j.able c.loop-j.j c.link_source-s.result
-      c.link_source-s.ensures c.requires.0 w.0.left
-      c.loop-j.invariant.0))
-      c.if-s-lt128.branch,
+  elim c.if-s-lt128.branch [
+    | then-s-lt128 w ↦ rw (w.src-is, w.able-is) (able-add (pool c)
+        c.requires.0
+        c.args.lit c.loop-j.src
+        c.loop-j.able c.loop-j.j c.link_source-s.result
+        c.loop-j-test.true c.link_source-s.ensures w.if-s-lt128.true c.loop-j.invariant.0)
+    | else-s-lt128 w ↦ rw (w.src-is, w.able-is) (able-skip (pool c)
+        c.args.lit c.loop-j.src
+        c.loop-j.able c.loop-j.j c.link_source-s.result
+        c.link_source-s.ensures c.requires.0 w.if-s-lt128.false
+        c.loop-j.invariant.0)
+  ],
   omega arith,
 )
 

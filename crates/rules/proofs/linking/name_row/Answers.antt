@@ -7,6 +7,7 @@ use Rattle.rt0.specs.laws.Pool.{pool_of}
 use Rattle.rules.specs.laws.Columns.{NamedRow}
 use Rattle.rules.specs.laws.Column.{name-start, name-add, name-skip, name-end}
 use Rattle.rules.proofs.linking.name_row.Goals as goal
+use Rattle.rules.proofs.linking.name_row.Goals.{then-is_named, else-is_named}
 
 abbrev pool : (c : goal.Start) → List ℕ → List ℕ → Pool
 pool c K N = pool_of c.args.n c.args.heads.now K N
@@ -19,16 +20,16 @@ mark-requires c = (omega arith, omega arith, (c.loop-j.invariant.0 [] []).sized)
 
 pub loop-j-preserved : goal.loop-j-preserved
 loop-j-preserved c = (
-  λ K N. ⊎_elim
-      (λ w. rw w.3 (name-add (pool c K N) c.args.able.now
-      c.args.i c.args.m
-      c.args.named.now c.loop-j.j c.loop-j.named _
-      c.is_named.ensures w.0.taken (c.loop-j.invariant.0 K N) w.2.ensures))
-      (λ w. rw w.1 (name-skip (pool c K N) c.args.able.now
-      c.args.i c.args.m
-      c.args.named.now c.loop-j.j c.loop-j.named
-      c.is_named.ensures w.0.left (c.loop-j.invariant.0 K N)))
-      c.if-is_named.branch,
+  λ K N. elim c.if-is_named.branch [
+    | then-is_named w ↦ rw w.named-is (name-add (pool c K N) c.args.able.now
+        c.args.i c.args.m
+        c.args.named.now c.loop-j.j c.loop-j.named _
+        c.is_named.ensures w.if-is_named.true (c.loop-j.invariant.0 K N) w.mark.ensures)
+    | else-is_named w ↦ rw w.named-is (name-skip (pool c K N) c.args.able.now
+        c.args.i c.args.m
+        c.args.named.now c.loop-j.j c.loop-j.named
+        c.is_named.ensures w.if-is_named.false (c.loop-j.invariant.0 K N))
+  ],
   omega arith,
 )
 

@@ -6,6 +6,7 @@ use Rattle.rules.specs.laws.Columns.{NamesTo}
 use Rattle.rules.specs.laws.Column.{names-start, names-skip, names-end}
 use native.Mathlib.Omega.{arith}
 use Rattle.rules.proofs.linking.names.Goals as goal
+use Rattle.rules.proofs.linking.names.Goals.{then-has_link, else-has_link}
 
 pub loop-i-init : goal.loop-i-init
 loop-i-init c = (names-start (pool_of c.args.n c.args.heads.now c.args.kinds.now c.args.numbers.now) c.args.able.now, omega arith, omega arith)
@@ -15,15 +16,17 @@ name_next-requires c = (c.requires, c.loop-i-test.true, c.loop-i.invariant.2, sy
 
 pub loop-i-preserved : goal.loop-i-preserved
 loop-i-preserved c =
-    ⊎_elim (λ w. rw (w.3, w.4) (w.2.ensures, omega arith, omega arith))
-    (λ w. rw (w.1, w.2) (
-      names-skip (pool_of c.args.n c.args.heads.now
-          c.args.kinds.now c.args.numbers.now)
-          c.args.able.now c.loop-i.i c.loop-i.named
-          (sym c.has_link.ensures ∙ w.0.left) c.loop-i.invariant.0,
-      omega arith,
-      c.loop-i.invariant.2,
-    )) c.if-has_link.branch
+    elim c.if-has_link.branch [
+      | then-has_link w ↦ rw (w.named-is, w.k-is) (w.name_next.ensures, omega arith, omega arith)
+      | else-has_link w ↦ rw (w.named-is, w.k-is) (
+        names-skip (pool_of c.args.n c.args.heads.now
+            c.args.kinds.now c.args.numbers.now)
+            c.args.able.now c.loop-i.i c.loop-i.named
+            (sym c.has_link.ensures ∙ w.if-has_link.false) c.loop-i.invariant.0,
+        omega arith,
+        c.loop-i.invariant.2,
+      )
+    ]
 
 pub returns : goal.returns
 returns c =

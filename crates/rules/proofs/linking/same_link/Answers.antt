@@ -1,3 +1,5 @@
+use mathlib.Core.Path.{ap}
+use mathlib.Core.Bool.{not}
 use mathlib.Core.Path.{sym, ◌∙◌}
 use borrow.Author.Tests.{eqb-true}
 use Rattle.word.specs.laws.Bools.{false-true}
@@ -15,6 +17,6 @@ pub returns : goal.returns
 returns c = record {
   before = λ q. omega (arith, c.if-i-k.false);
   link = λ q. sym c.has_link.ensures
-      ∙ not_left _ c.if-not-has_link.false;
+      ∙ not_left _ (ap not c.if-not-has_link.false);
   name = λ q. eqb-true _ _ q;
 }

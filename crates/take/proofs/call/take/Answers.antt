@@ -1,15 +1,17 @@
+use mathlib.Core.Path.{ap}
+use mathlib.Core.Bool.{not}
 use native.Mathlib.Omega.{arith}
 use Rattle.standing.specs.laws.Standing.{restored-own, restored-length}
 use Rattle.take.specs.laws.Take.{take-size, size-parts, take-unrestored, take-refused, take-accepted}
 use Rattle.take.proofs.call.take.Goals as goal
 
 pub returns-then-not-fits : goal.returns-then-not-fits
-returns-then-not-fits c = take-size c.args.tables.now c.args.negotiation.now c.args.message.now c.args.scratch.now c.fits2.ensures c.if-not-fits.true
+returns-then-not-fits c = take-size c.args.tables.now c.args.negotiation.now c.args.message.now c.args.scratch.now c.fits2.ensures (ap not c.if-not-fits.true)
 
 pub returns-then-r-ne0 : goal.returns-then-r-ne0
 returns-then-r-ne0 c =
     take-unrestored c.args.tables.now c.args.negotiation.now c.args.message.now c.args.scratch.now c.fits2.ensures
-    c.if-not-fits.false _ c.restore-r.ensures.0 c.if-r-ne0.true
+    (ap not c.if-not-fits.false) _ c.restore-r.ensures.0 c.if-r-ne0.true
 
 pub taken_in-t-requires : goal.taken_in-t-requires
 taken_in-t-requires c = (
@@ -22,7 +24,7 @@ taken_in-t-requires c = (
 pub returns-then-t-ne0 : goal.returns-then-t-ne0
 returns-then-t-ne0 c =
     take-refused c.args.tables.now c.args.negotiation.now c.args.message.now c.args.scratch.now c.fits2.ensures
-    c.if-not-fits.false _ c.restore-r.ensures.0 c.if-r-ne0.false _ c.taken_in-t.ensures.0 c.if-t-ne0.true
+    (ap not c.if-not-fits.false) _ c.restore-r.ensures.0 c.if-r-ne0.false _ c.taken_in-t.ensures.0 c.if-t-ne0.true
 
 pub write-requires : goal.write-requires
 write-requires c = (c.taken_in-t.ensures.1.sizes c.if-t-ne0.false, restored-length _ _ _ c.restore-r.ensures.0 c.if-r-ne0.false)
@@ -33,12 +35,12 @@ write_zeros-requires c = (
   omega (
     arith,
     (size-parts c.args.tables.now c.args.negotiation.now c.args.message.now c.args.scratch.now
-        c.fits2.ensures c.if-not-fits.false).2,
+        c.fits2.ensures (ap not c.if-not-fits.false)).2,
   ),
 )
 
 pub returns : goal.returns
 returns c =
     take-accepted c.args.tables.now c.args.negotiation.now c.args.message.now c.args.scratch.now c.fits2.ensures
-    c.if-not-fits.false _ c.restore-r.ensures.0 c.if-r-ne0.false _ c.taken_in-t.ensures.0 c.if-t-ne0.false c.write.ensures
+    (ap not c.if-not-fits.false) _ c.restore-r.ensures.0 c.if-r-ne0.false _ c.taken_in-t.ensures.0 c.if-t-ne0.false c.write.ensures
     c.write_zeros.ensures
