@@ -9,9 +9,10 @@ use Rattle.rules.specs.laws.Table.{chosen}
 use Rattle.measure.specs.laws.Repeated.{count_of}
 use Rattle.measure.specs.laws.RepeatedLaws.{count-start, count_yes, count_no, count_most}
 use Rattle.measure.proofs.ask_times.Goals as goal
+use Rattle.measure.proofs.ask_times.Goals.{Start}
 use Rattle.measure.proofs.ask_times.Goals.{then-ask, else-ask}
 
-abbrev answer : (c : goal.Start) → Bool
+abbrev answer : (c : Start) → Bool
 answer c = from? (chosen (pool_of c.args.n c.args.heads.now c.args.kinds.now c.args.numbers.now) c.args.on.now) c.args.f c.args.e
 
 pub loop-k-init : goal.loop-k-init
@@ -27,11 +28,11 @@ pub loop-k-preserved : goal.loop-k-preserved
 loop-k-preserved c = (
   omega arith,
   elim c.if-ask.branch [
-    | then-ask w ↦ w.yes-is ∙ count_yes (answer c) _ _ _ c.loop-k.invariant.1 c.ask.ensures
+    | then-ask w ↦ w.yes-is ∙ count_yes (answer c.before.before.before.before) _ _ _ c.loop-k.invariant.1 c.ask.ensures
         w.if-ask.true
-    | else-ask w ↦ w.yes-is ∙ count_no (answer c) _ _ _ c.loop-k.invariant.1 c.ask.ensures w.if-ask.false
+    | else-ask w ↦ w.yes-is ∙ count_no (answer c.before.before.before.before) _ _ _ c.loop-k.invariant.1 c.ask.ensures w.if-ask.false
   ],
 )
 
 pub returns : goal.returns
-returns c = c.loop-k.invariant.1 ∙ ap (count_of (answer c)) (omega arith)
+returns c = c.loop-k.invariant.1 ∙ ap (count_of (answer c.before.before)) (omega arith)

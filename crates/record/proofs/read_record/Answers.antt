@@ -1,3 +1,4 @@
+use Rattle.std.proofs.Common.{arith, get_or}
 use mathlib.Core.Path.{refl, ◌∙◌}
 use Rattle.record.specs.laws.Record.{at_code, unknown}
 use Rattle.record.proofs.read_record.Goals as goal
@@ -21,4 +22,7 @@ pub returns-in-21 : goal.returns-in-21
 returns-in-21 c = c.pair_at-in-21.ensures ∙ at_code _ _ 21 c.in-21.is
 
 pub returns-in_default : goal.returns-in_default
-returns-in_default c = let n = c.in-16.rest in unknown _ _ _ n.0.0.0.0.0.1 n.0.0.0.0.1 n.0.0.0.1 n.0.0.1 n.0.1 n.1 ∙ at_code _ _ _ refl
+returns-in_default c =
+    let code = get_or c.args.s.now c.args.at 0 in
+    unknown c.args.s.now c.args.at code (λ e. omega arith) (λ e. omega arith) (λ e. omega arith) (λ e. omega arith) (λ e. omega arith)
+    (λ e. omega arith) ∙ at_code _ _ _ refl

@@ -1,6 +1,6 @@
 -- How many bytes a record has, by its command. Assumes nothing.
 use Rattle.std.specs.Prelude.{ℕ, ◌<◌, ◌≤◌, ◌≡◌, refl, Bool, true, false, cond, ◌||◌, eqb}
-use Rattle.std.proofs.Common.{sym, ap, ◌∙◌, ⊎_elim, arith, eqb-true, ne_eqb}
+use Rattle.std.proofs.Common.{get_or, sym, ap, ◌∙◌, ⊎_elim, arith, eqb-true, ne_eqb}
 use Rattle.expression.specs.declared.Role.{Role}
 use Rattle.expression.specs.declared.Credential.{Credential}
 use Rattle.expression.specs.declared.Expression.TheVariants as E
@@ -9,7 +9,21 @@ use Rattle.record.specs.declared.Pair.{Pair}
 use Rattle.record.specs.declared.Record.{Record}
 use Rattle.record.specs.declared.Record.TheVariants.{Own, Named, IssuerStored, SubjectStored, Sensitive, Access}
 use Rattle.record.specs.Record.{record_bytes, size_of, size_by}
-use Rattle.record.specs.laws.RecordExact.{code_of, size-by, some_size}
+use Rattle.record.specs.laws.RecordExact.{some_size}
+
+-- the first byte of a record
+abbrev pub code_of : Record → ℕ
+code_of r = get_or (record_bytes r) 0 0
+
+-- a record has as many bytes as its command says
+pub size-by : (r : Record) → size_by (code_of r) ≡ size_of r
+unfolding record_bytes size_by
+size-by (Own n) = refl
+size-by (Named n) = refl
+size-by (IssuerStored c) = refl
+size-by (SubjectStored c) = refl
+size-by (Sensitive p) = refl
+size-by (Access p) = refl
 
 pub size-stored : (c : ℕ) → (eqb c 18 || eqb c 19) ≡ true → 23 ≡ size_by c
 unfolding size_by

@@ -7,11 +7,11 @@ use Rattle.relation.specs.laws.Reached.{all-on}
 use Rattle.relation.proofs.from.Goals as goal
 
 pub relation-mem-requires : goal.relation-mem-requires
-relation-mem-requires c = ruled-fits c.args.t1 c.requires _ (by-columns c.args.t1 c.rules_of-x.result c.rules_of-x.ensures)
+relation-mem-requires c = ruled-fits c.args.pool c.requires _ (by-columns c.args.pool c.rules_of-x.result c.rules_of-x.ensures)
 
 pub ask-requires : goal.ask-requires
-ask-requires c = let ruled = by-columns c.args.t1 c.rules_of-x.result c.rules_of-x.ensures in
+ask-requires c = let ruled = by-columns c.args.pool c.rules_of-x.result c.rules_of-x.ensures in
     (c.requires, (_, ruled), c.relation-mem.ensures _ ruled)
 
 pub returns : goal.returns
-returns c = c.ask.ensures ∙ ap (λ (C : List Credential). from? C c.args.f c.args.e) (all-on c.args.t1 c.requires)
+returns c = c.ask.ensures ∙ ap (λ (C : List Credential). from? C c.args.f c.args.e) (all-on c.args.pool c.requires)

@@ -9,14 +9,15 @@ use Rattle.rules.specs.laws.Ruled.{compiled-plain}
 use Rattle.relation.specs.laws.Answer.{related}
 use borrow.Author.Rules.{rules}
 use Rattle.relation.proofs.relation.Goals as goal
+use Rattle.relation.proofs.relation.Goals.{Start}
 
-abbrev pool : (c : goal.Start) → List ℕ → Pool
+abbrev pool : (c : Start) → List ℕ → Pool
 pool c H = pool_of c.args.n H c.args.kinds.now c.args.numbers.now
 
-abbrev rules : (c : goal.Start) → Rules
+abbrev rules : (c : Start) → Rules
 rules c = rules_of c.args.n c.args.words c.args.head.now c.args.part.now c.args.first.now c.args.named.now c.args.src.now
 
 pub returns : goal.returns
 returns c H ruled =
-    related (pool c H) c.args.on.now c.requires.count (E.Entity 0) (rules c) (compiled-plain (pool c H) c.requires.count (rules c) ruled)
+    related (pool c.before.before.before.before.before.before H) c.args.on.now c.requires.count (E.Entity 0) (rules c.before.before.before.before.before.before) (compiled-plain (pool c.before.before.before.before.before.before H) c.requires.count (rules c.before.before.before.before.before.before) ruled)
     ruled.wide _ c.seeds-rows.result _ (c.seeds-rows.ensures H ruled.head) c.close.ensures

@@ -15,14 +15,15 @@ use Rattle.relation.specs.laws.Relation.{Relation, Start, switched}
 use Rattle.relation.specs.laws.QuestionLaws.{switched-none, switched-next, switched-end, start-related, start-more}
 use borrow.Author.Rules.{rules}
 use Rattle.relation.proofs.switch_all.Goals as goal
+use Rattle.relation.proofs.switch_all.Goals.{In-loop-i, Start}
 
-abbrev pool : (c : goal.Start) → List ℕ → Pool
+abbrev pool : (c : Start) → List ℕ → Pool
 pool c H = pool_of c.args.n H c.args.kinds.now c.args.numbers.now
 
-abbrev rules : (c : goal.Start) → Rules
+abbrev rules : (c : Start) → Rules
 rules c = rules_of c.args.n c.args.words c.args.head.now c.args.part.now c.args.first.now c.args.named.now c.args.src.now
 
-below : (c : goal.In-loop-i) → c.loop-i.i < 128
+below : (c : In-loop-i) → c.loop-i.i < 128
 below c = omega (arith, c.loop-i-test.true, c.requires.0, c.requires.1.count)
 
 pub returns-then-high-low : goal.returns-then-high-low
@@ -35,11 +36,11 @@ loop-i-init c = (
   c.requires.2,
   c.requires.3,
   switched-none c.args.low c.args.low _ (omega arith),
-  λ H ruled before. start-related (pool c H) _ c.requires.1.count _ before,
+  λ H ruled before. start-related (pool c.before.before H) _ c.requires.1.count _ before,
 )
 
 pub readers_of_row-todo-requires : goal.readers_of_row-todo-requires
-readers_of_row-todo-requires c = (c.requires.1.head.under c.loop-i.i, below c)
+readers_of_row-todo-requires c = (c.requires.1.head.under c.loop-i.i, below c.before.before.before)
 
 pub seed-requires : goal.seed-requires
 seed-requires c = (
@@ -51,10 +52,10 @@ seed-requires c = (
 )
 
 pub bounds-on-i : goal.bounds-on-i
-bounds-on-i c = omega (arith, below c)
+bounds-on-i c = omega (arith, below c.before.before.before.before.before.before.before.before.before.before)
 
 pub overflow_add-i : goal.overflow_add-i
-overflow_add-i c = omega (arith, below c)
+overflow_add-i c = omega (arith, below c.before.before.before.before.before.before.before.before.before.before)
 
 pub loop-i-smaller : goal.loop-i-smaller
 loop-i-smaller c = omega (arith, c.loop-i-test.true)
@@ -68,7 +69,7 @@ loop-i-preserved c = let inv = c.loop-i.invariant in
       c.seed.ensures.0,
       switched-next c.args.low c.loop-i.i _ _ _ inv.0 inv.4 refl,
       λ H ruled before.
-          start-more (pool c H) _ c.requires.1.count _ _ _ c.loop-i.i l (omega (arith, l, c.requires.1.count, inv.2)) refl (inv.5 H ruled before)
+          start-more (pool c.before.before.before.before.before.before.before.before.before.before.before.before.before.before H) _ c.requires.1.count _ _ _ c.loop-i.i l (omega (arith, l, c.requires.1.count, inv.2)) refl (inv.5 H ruled before)
           (c.seed.ensures.1 H (ruled.head.upto c.loop-i.i l)),
     )
 
@@ -76,7 +77,7 @@ pub returns : goal.returns
 returns c = let inv = c.loop-i.invariant in (
   switched-end c.args.low c.loop-i.i c.args.high _ _ inv.1 c.loop-i-test.false inv.4,
   λ H ruled before.
-      related (pool c H) _ c.requires.1.count (E.Entity 0) (rules c) (compiled-plain (pool c H) c.requires.1.count (rules c) ruled) ruled.wide
+      related (pool c.before.before.before.before.before.before H) _ c.requires.1.count (E.Entity 0) (rules c.before.before.before.before.before.before) (compiled-plain (pool c.before.before.before.before.before.before H) c.requires.1.count (rules c.before.before.before.before.before.before) ruled) ruled.wide
       _ _ _ (inv.5 H ruled before) c.close.ensures,
 )
 
@@ -84,4 +85,4 @@ pub offset_bounds-head-i : goal.offset_bounds-head-i
 offset_bounds-head-i c = omega (arith, below c)
 
 pub bounds-head-i : goal.bounds-head-i
-bounds-head-i c = omega (arith, below c)
+bounds-head-i c = omega (arith, below c.before.before)

@@ -7,14 +7,15 @@ use Rattle.rules.specs.laws.Table.{row_of}
 use Rattle.rules.specs.laws.Columns.{first_row}
 use Rattle.rules.specs.laws.Column.{first-none}
 use Rattle.rules.proofs.first_at.Goals as goal
+use Rattle.rules.proofs.first_at.Goals.{Start}
 
-abbrev pool : (c : goal.Start) → Pool
+abbrev pool : (c : Start) → Pool
 pool c = pool_of c.args.n c.args.heads.now c.args.kinds.now c.args.numbers.now
 
 pub returns-then-not-has_link : goal.returns-then-not-has_link
 returns-then-not-has_link c =
-    first-none (pool c) c.args.i
+    first-none (pool c.before.before) c.args.i
     (sym c.has_link.ensures ∙ not-true c.has_link.result (ap not c.if-not-has_link.true))
 
 pub returns : goal.returns
-returns c = c.first_of.ensures ∙ ap (first_row (row_of (pool c))) c.expression_at.ensures
+returns c = c.first_of.ensures ∙ ap (first_row (row_of (pool c.before.before.before.before))) c.expression_at.ensures

@@ -5,8 +5,9 @@ use Rattle.rules.specs.laws.Columns.{Column, body_first}
 use Rattle.rules.specs.laws.Column.{column-start, column-add, column-end, first_small}
 use native.Mathlib.Omega.{arith}
 use Rattle.rules.proofs.first_rows.Goals as goal
+use Rattle.rules.proofs.first_rows.Goals.{Start}
 
-abbrev pool : (c : goal.Start) → Pool
+abbrev pool : (c : Start) → Pool
 pool c = pool_of c.args.n c.args.heads.now c.args.kinds.now c.args.numbers.now
 
 pub loop-i-init : goal.loop-i-init
@@ -20,10 +21,10 @@ bounds-first-i c = omega (arith, c.loop-i.invariant.0.sized)
 
 pub loop-i-preserved : goal.loop-i-preserved
 loop-i-preserved c = (
-  column-add (body_first (pool c)) 128 130 c.loop-i.i c.first_at-r.result
+  column-add (body_first (pool c.before.before.before)) 128 130 c.loop-i.i c.first_at-r.result
       c.loop-i.first (omega arith) c.first_at-r.ensures
-      (rw c.first_at-r.ensures (first_small (pool c) c.requires.0
-      (body_at (pool c) c.loop-i.i))) c.loop-i.invariant.0,
+      (rw c.first_at-r.ensures (first_small (pool c.before.before.before) c.requires.0
+      (body_at (pool c.before.before.before) c.loop-i.i))) c.loop-i.invariant.0,
   omega arith,
 )
 

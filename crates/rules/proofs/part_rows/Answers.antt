@@ -7,8 +7,9 @@ use Rattle.rules.specs.laws.Table.{row_of}
 use Rattle.rules.specs.laws.Columns.{PartsTo, four_rows}
 use Rattle.rules.specs.laws.Column.{parts-start, parts_add, parts-end, row_small}
 use Rattle.rules.proofs.part_rows.Goals as goal
+use Rattle.rules.proofs.part_rows.Goals.{Start}
 
-abbrev pool : (c : goal.Start) → Pool
+abbrev pool : (c : Start) → Pool
 pool c = pool_of c.args.n c.args.heads.now c.args.kinds.now c.args.numbers.now
 
 pub loop-i-init : goal.loop-i-init
@@ -22,8 +23,8 @@ bounds-part-at c = omega (arith, c.loop-i.invariant.0.sized)
 
 pub loop-i-preserved : goal.loop-i-preserved
 loop-i-preserved c = (
-  parts_add (row_of (pool c)) (pool c) (row_small c.args.n c.args.heads.now c.requires.0) c.loop-i.i c.loop-i.part c.rows_of_lem.result
-      (omega arith) (c.rows_of_lem.ensures ∙ ap (four_rows (row_of (pool c))) c.expression_at-x.ensures) c.loop-i.invariant.0,
+  parts_add (row_of (pool c.before.before.before.before)) (pool c.before.before.before.before) (row_small c.args.n c.args.heads.now c.requires.0) c.loop-i.i c.loop-i.part c.rows_of-r.result
+      (omega arith) (c.rows_of-r.ensures ∙ ap (four_rows (row_of (pool c.before.before.before.before))) c.expression_at-x.ensures) c.loop-i.invariant.0,
   omega arith,
 )
 

@@ -55,7 +55,7 @@ module _ {A : Type 0} (f : A → Bool) where
       go false h n ih = let r = ih n in (Memᴰ.tail r.0, r.1)
 
   -- an element that passes is kept
-  pub keep-mem : {L : List A} {x : A} → Memᴰ x L → f x ≡ true → Memᴰ x (keep f L)
+  pub keep-mem : {x : A} {L : List A} → Memᴰ x L → f x ≡ true → Memᴰ x (keep f L)
   keep-mem (Memᴰ.head e) h = rw (sym (ap f e) ∙ h) (Memᴰ.head e)
   keep-mem {x = x} (Memᴰ.tail {x = y} {xs = L} m) h = go (f y) (keep-mem m h)
     where

@@ -68,5 +68,5 @@ module _ {A : Type 0} {before : A → A → Bool} where
     rising-same {L = x ∷ L} {M = []} r s h k = absurd (Memᴰ.not-nil (h x (Memᴰ.head refl)))
     rising-same {L = x ∷ L} {M = y ∷ M} r s h k =
         let e = first r s (h x (Memᴰ.head refl)) (k y (Memᴰ.head refl)) in
-        let q = rising-same (rising-parts r).1 (rising-parts s).1 (rest e r h) (rest (sym e) s k) in
+        let q = rising-same {L = L} {M = M} (rising-parts r).1 (rising-parts s).1 (rest e r h) (rest (sym e) s k) in
         λ i. e i ∷ q i

@@ -4,11 +4,11 @@ use borrow.Author.Rules.{rules}
 use Rattle.candidates.proofs.all.members.Goals as goal
 
 pub relation-rows-requires : goal.relation-rows-requires
-relation-rows-requires c = ruled-fits c.args.t1 c.requires _ (by-columns c.args.t1 c.rules_of-rules.result c.rules_of-rules.ensures)
+relation-rows-requires c = ruled-fits c.args.pool c.requires _ (by-columns c.args.pool c.rules_of-rules.result c.rules_of-rules.ensures)
 
 pub flagged-requires : goal.flagged-requires
-flagged-requires c = let ruled = by-columns c.args.t1 c.rules_of-rules.result c.rules_of-rules.ensures in
+flagged-requires c = let ruled = by-columns c.args.pool c.rules_of-rules.result c.rules_of-rules.ensures in
     (c.requires, (_, ruled), c.relation-rows.ensures _ ruled)
 
 pub returns : goal.returns
-returns c = told-on c.args.t1 c.args.a c.requires c.flagged.ensures
+returns c = told-on c.args.pool c.args.a c.requires c.flagged.ensures

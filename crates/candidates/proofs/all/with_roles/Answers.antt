@@ -51,4 +51,4 @@ pub returns : goal.returns
 returns c H =
     folded-all _ _ (c.loop-k.invariant.0 H) c.loop-k-test.false c.loop-k.invariant.1
     ∙ ap (λ (d : Candidate → Bool). folded c.args.m (offer_roles d (pool_of c.args.m H c.args.kinds.now c.args.numbers.now)
-    c.args.flags.now c.args.n c.args.r) C.Nothing) (done-columns c.args.t5 c.args.t6 c.args.i)
+    c.args.flags.now c.args.n c.args.r) C.Nothing) (done-columns c.args.nodes c.args.edges c.args.i)

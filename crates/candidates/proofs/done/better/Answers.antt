@@ -6,4 +6,4 @@ use Rattle.candidates.specs.laws.Done.{done-columns}
 use Rattle.candidates.proofs.done.better.Goals as goal
 
 pub returns : goal.returns
-returns c = c.lesser.ensures ∙ ap (λ (d : Candidate → Bool). better d c.args.best c.args.w) (done-columns c.args.t1 c.args.t2 c.args.i)
+returns c = c.lesser.ensures ∙ ap (λ (d : Candidate → Bool). better d c.args.best c.args.w) (done-columns c.args.nodes c.args.edges c.args.i)

@@ -22,16 +22,16 @@ bounds-edges-j c = omega (arith, c.requires.1, c.loop-j-test.true)
 
 pub is_complete-requires : goal.is_complete-requires
 is_complete-requires c = (
-  child-inside c.args.t1 c.args.t2 c.requires.2 c.loop-j.j c.loop-j-test.true c.wide-goal.ensures,
+  child-inside c.args.nodes c.args.edges c.requires.2 c.loop-j.j c.loop-j-test.true c.wide-goal.ensures,
   c.requires.0,
   c.requires.1,
 )
 
 pub returns-then-is_complete : goal.returns-then-is_complete
 returns-then-is_complete c =
-    any_at c.args.t2.count c.loop-j.invariant.0 c.loop-j-test.true
+    any_at c.args.edges.count c.loop-j.invariant.0 c.loop-j-test.true
     (complete-goal _ _ _ _ (c.loop-j.invariant.2 c.loop-j-test.true) c.wide-goal.ensures
-    (c.is_complete.ensures c.args.t1 c.requires.3)) c.if-is_complete.true
+    (c.is_complete.ensures c.args.nodes c.requires.3)) c.if-is_complete.true
 
 pub overflow_add-j : goal.overflow_add-j
 overflow_add-j c = omega (arith, c.loop-j-test.true, c.requires.1)
@@ -46,10 +46,10 @@ pub loop-j-preserved : goal.loop-j-preserved
 loop-j-preserved c = let s = c.next_monitor-j-in-loop-j.ensures in (
   missed-skip _
       (missed_more c.loop-j.invariant.0 (complete-goal _ _ _ _ (c.loop-j.invariant.2 c.loop-j-test.true) c.wide-goal.ensures
-      (c.is_complete.ensures c.args.t1 c.requires.3)) c.if-is_complete.false) (λ j l h. complete-skip _ _ _ j (s.skipped.none j l h)),
+      (c.is_complete.ensures c.args.nodes c.requires.3)) c.if-is_complete.false) (λ j l h. complete-skip _ _ _ j (s.skipped.none j l h)),
   s.skipped.within,
   s.passes,
 )
 
 pub returns : goal.returns
-returns c = any_none c.args.t2.count c.loop-j.invariant.0 c.loop-j-test.false
+returns c = any_none c.args.edges.count c.loop-j.invariant.0 c.loop-j-test.false

@@ -6,14 +6,14 @@ use Rattle.candidates.specs.laws.Links.{goal-done, goal-edge, goal-stands, link-
 use Rattle.candidates.proofs.links.link_rules.Goals as goal
 
 pub returns-then-not-is_done : goal.returns-then-not-is_done
-returns-then-not-is_done c = goal-edge c.child_for-goal.ensures (c.is_done.ensures ∙ done-same c.args.t1 c.args.t2 c.args.i _) (ap not c.if-not-is_done.true)
+returns-then-not-is_done c = goal-edge c.child_for-goal.ensures (c.is_done.ensures ∙ done-same c.args.nodes c.args.edges c.args.i _) (ap not c.if-not-is_done.true)
 
 pub any_complete-marks-requires : goal.any_complete-marks-requires
 any_complete-marks-requires c = c.requires
 
 pub returns : goal.returns
 returns c =
-    goal-done (goal-stands c.args.t1 c.args.t2 c.args.i c.args.n c.child_for-goal.ensures
-    (c.is_done.ensures ∙ done-same c.args.t1 c.args.t2 c.args.i _) (ap not c.if-not-is_done.false)) _ c.monitored-monitors.ensures
-    (link-parts (folded-done c.args.t1 c.args.t2 c.args.i _ _ _ (c.with_solutions-best.ensures _)) c.any_complete-marks.ensures
+    goal-done (goal-stands c.args.nodes c.args.edges c.args.i c.args.n c.child_for-goal.ensures
+    (c.is_done.ensures ∙ done-same c.args.nodes c.args.edges c.args.i _) (ap not c.if-not-is_done.false)) _ c.monitored-monitors.ensures
+    (link-parts (folded-done c.args.nodes c.args.edges c.args.i _ _ _ (c.with_solutions-best.ensures _)) c.any_complete-marks.ensures
     c.mark_if.ensures c.or_else.ensures)

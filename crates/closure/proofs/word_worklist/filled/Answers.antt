@@ -12,7 +12,7 @@ loop-r-init c = (filled-start _, omega arith)
 pub loop-r-preserved : goal.loop-r-preserved
 loop-r-preserved c = (
   elim c.if-rows-r-ne0.branch [
-    | then-rows-r-ne0 w ↦ rw w.w-is (filled-add _ c.loop-r.r c.loop-r.w w.one.result w.one.ensures
+    | then-rows-r-ne0 w ↦ rw w.w-is (filled-add _ c.loop-r.r c.loop-r.w w.one-w.result w.one-w.ensures
         c.loop-r.invariant.0)
     | else-rows-r-ne0 w ↦ rw w.w-is (filled-skip _ c.loop-r.r c.loop-r.w w.if-rows-r-ne0.false
         c.loop-r.invariant.0)

@@ -5,12 +5,13 @@ use Rattle.graph.specs.laws.Graph.{nodes_of}
 use Rattle.graph.specs.laws.Columns.{NodesSized, node-columns, add-node}
 use borrow.Author.Rules.{rules}
 use Rattle.graph.proofs.Nodes.add.Goals as goal
+use Rattle.graph.proofs.Nodes.add.Goals.{Start}
 
-sized : (s : goal.Start) → NodesSized s.args.t1
+sized : (s : Start) → NodesSized s.args.self
 sized s = record { kind = search rules; number = search rules; subject = search rules; verifier = search rules; state = search rules }
 
 pub returns : goal.returns
 returns c =
-    ap nodes_of (node-columns c.args.t1 c.args.x c.raw_of-r.result c.store_kind.ensures c.store_numbers.ensures refl refl refl)
-    ∙ add-node c.args.t1 c.args.x c.raw_of-r.result (sized c) c.requires
+    ap nodes_of (node-columns c.args.self c.args.x c.raw_of-r.result c.store_kind.ensures c.store_numbers.ensures refl refl refl)
+    ∙ add-node c.args.self c.args.x c.raw_of-r.result (sized c.before.before.before.before.before) c.requires
     (ap expression_of c.raw_of-r.ensures ∙ expression-raw c.args.x.expression)

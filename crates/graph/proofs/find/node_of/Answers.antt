@@ -7,5 +7,5 @@ use Rattle.graph.proofs.find.node_of.Goals as goal
 
 pub returns : goal.returns
 returns c =
-    c.node_at.ensures c.args.t1.count (omega (arith, c.wide.ensures, c.requires.0))
-    ∙ ap (λ (i : ℕ). node_in (nodes_of c.args.t1) i) c.wide.ensures
+    c.node_at.ensures c.args.nodes.count (omega (arith, c.wide.ensures, c.requires.0))
+    ∙ ap (λ (i : ℕ). node_in (nodes_of c.args.nodes) i) c.wide.ensures

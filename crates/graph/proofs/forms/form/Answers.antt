@@ -1,3 +1,4 @@
+use Rattle.std.proofs.Common.{arith}
 use borrow.Author.Tests.{ne_eqb}
 use Rattle.graph.specs.Form.{form}
 use Rattle.graph.proofs.forms.form.Goals as goal
@@ -30,11 +31,10 @@ pub returns-in_default : goal.returns-in_default
 unfolding form
 returns-in_default c =
     simp (
-      ne_eqb _ _ c.in-1.rest.0.0.0.0.0.1,
-      ne_eqb _ _ c.in-1.rest.0.0.0.0.1,
-      ne_eqb _ _ c.in-1.rest.0.0.0.1,
-      ne_eqb _
-          _ c.in-1.rest.0.0.1,
-      ne_eqb _ _ c.in-1.rest.0.1,
-      ne_eqb _ _ c.in-1.rest.1,
+      ne_eqb c.args.k 1 (λ e. omega arith),
+      ne_eqb c.args.k 2 (λ e. omega arith),
+      ne_eqb c.args.k 3 (λ e. omega arith),
+      ne_eqb c.args.k 4 (λ e. omega arith),
+      ne_eqb c.args.k 5 (λ e. omega arith),
+      ne_eqb c.args.k 6 (λ e. omega arith),
     )

@@ -6,9 +6,10 @@ use Rattle.rules.specs.laws.Ruled.{by-columns, ruled-fits}
 use Rattle.justification.specs.laws.Inside.{inside-more}
 use Rattle.justification.specs.laws.ImpliedLaws.{implied-nodes}
 use Rattle.justification.proofs.implied.edges_implied.Goals as goal
+use Rattle.justification.proofs.implied.edges_implied.Goals.{Start}
 
 -- the credentials of the columns
-abbrev P : goal.Start → Pool
+abbrev P : Start → Pool
 P s = pool_of s.args.q s.args.heads.now s.args.kinds.now s.args.numbers.now
 
 pub children-used-requires : goal.children-used-requires
@@ -18,10 +19,10 @@ pub rules_of-x-requires : goal.rules_of-x-requires
 rules_of-x-requires c = c.requires.2
 
 pub relation-mem-requires : goal.relation-mem-requires
-relation-mem-requires c = ruled-fits (P c) c.requires.2 _ (by-columns (P c) c.rules_of-x.result c.rules_of-x.ensures)
+relation-mem-requires c = ruled-fits (P c.before.before.before.before.before.before.before.before.before.before.before.before.before) c.requires.2 _ (by-columns (P c.before.before.before.before.before.before.before.before.before.before.before.before.before) c.rules_of-x.result c.rules_of-x.ensures)
 
 pub nodes_implied-requires : goal.nodes_implied-requires
-nodes_implied-requires c = let ruled = by-columns (P c) c.rules_of-x.result c.rules_of-x.ensures in (
+nodes_implied-requires c = let ruled = by-columns (P c.before.before.before.before.before.before.before.before.before.before.before.before.before.before.before.before.before.before.before.before.before.before.before) c.rules_of-x.result c.rules_of-x.ensures in (
   c.requires.0,
   c.requires.3,
   c.requires.1,
@@ -34,4 +35,4 @@ nodes_implied-requires c = let ruled = by-columns (P c) c.rules_of-x.result c.ru
 
 pub returns : goal.returns
 returns c = λ o. implied-nodes _ (nodes_from c.args.n c.args.kind.now c.args.number.now o.subject o.verifier
-    o.state) _ c.requires.3 (all-on (P c) c.requires.2) c.nodes_implied.ensures
+    o.state) _ c.requires.3 (all-on (P c.before.before.before.before.before.before.before.before.before.before.before.before.before.before.before.before.before.before.before.before.before.before.before.before) c.requires.2) c.nodes_implied.ensures

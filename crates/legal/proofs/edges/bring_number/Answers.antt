@@ -14,18 +14,19 @@ use Rattle.legal.specs.laws.Edge.{added_number}
 use Rattle.legal.specs.laws.Number.{first_stops, first_passes, stops, passes, fresh-yes, fresh-no, absent-yes, absent-no, sizes-same}
 use borrow.Author.Rules.{rules}
 use Rattle.legal.proofs.edges.bring_number.Goals as goal
+use Rattle.legal.proofs.edges.bring_number.Goals.{After-bring_wrong, Else-nodes-wide, Start}
 
 -- the parent stands
-abbrev start : goal.Else-nodes-wide → goal.Start
+abbrev start : Else-nodes-wide → Start
 start c = c
 
-parent-stands : (c : goal.Else-nodes-wide) → (start c).args.b.parent < (start c).args.n.nodes.count
+parent-stands : (c : Else-nodes-wide) → (start c).args.b.parent < (start c).args.n.nodes.count
 parent-stands c = omega (arith, c.wide.ensures, c.if-nodes-wide.false)
 
-abbrev stand : goal.After-bring_wrong → goal.Else-nodes-wide
+abbrev stand : After-bring_wrong → Else-nodes-wide
 stand c = c
 
-wrong : (c : goal.After-bring_wrong)
+wrong : (c : After-bring_wrong)
     → c.bring_wrong.result ≡ bring_wrong (state_of (start (stand c)).args.n) (start (stand c)).args.b
 unfolding state_of
 wrong c =
@@ -33,16 +34,16 @@ wrong c =
     (record { header = refl; nodes = refl; c = c.node_at-parent.ensures _ (parent-stands (stand c)) })
 
 -- what the rules behind the form say
-abbrev behind : goal.After-bring_wrong → ℕ
+abbrev behind : After-bring_wrong → ℕ
 behind c =
     let s = start (stand c) in
     added_number s.args.side (node_in (state_of s.args.n).nodes s.args.b.parent) s.args.justified
     (leb MOST-NODES (length (state_of s.args.n).nodes) || leb MOST-EDGES (length (state_of s.args.n).edges))
 
 -- no rule before the form refuses the edge
-unrefused : (c : goal.After-bring_wrong) {r : ℕ}
+unrefused : (c : After-bring_wrong) {r : ℕ}
     → r ≡ refuse (bring_wrong (state_of (start (stand c)).args.n) (start (stand c)).args.b) PRESENT (behind c)
-    → r ≡ bring_number (names_of (start (stand c)).args.t1) (start (stand c)).args.side (state_of (start (stand c)).args.n) (start (stand c)).args.b
+    → r ≡ bring_number (names_of (start (stand c)).args.names) (start (stand c)).args.side (state_of (start (stand c)).args.n) (start (stand c)).args.b
     (start (stand c)).args.justified
 unfolding bring_number state_of
 unrefused c last =
@@ -71,17 +72,17 @@ returns-then-nodes-wide c =
     (stops _ _ _ (absent-yes c.args.n _ (omega (arith, c.wide.ensures, c.if-nodes-wide.true)))))
 
 pub node_at-parent-requires : goal.node_at-parent-requires
-node_at-parent-requires c = omega (arith, parent-stands c, (start c).requires.2)
+node_at-parent-requires c = omega (arith, parent-stands c.before.before.before.before.before.before, (start c.before.before.before.before.before.before).requires.2)
 
 pub bring_wrong-requires : goal.bring_wrong-requires
-bring_wrong-requires c = (start c).requires.2
+bring_wrong-requires c = (start c.before.before.before.before.before.before.before.before.before.before.before).requires.2
 
 pub returns-then-bring_wrong : goal.returns-then-bring_wrong
-returns-then-bring_wrong c = unrefused c (stops _ _ _ (sym (wrong c) ∙ c.if-bring_wrong.true))
+returns-then-bring_wrong c = unrefused c.before (stops _ _ _ (sym (wrong c.before) ∙ c.if-bring_wrong.true))
 
 pub returns : goal.returns
 unfolding state_of
-returns c = let s = start (stand c) in
-    unrefused c (passes _ _ _ (sym (wrong c) ∙ c.if-bring_wrong.false)
+returns c = let s = start (stand c.before.before.before) in
+    unrefused c.before.before.before (passes _ _ _ (sym (wrong c.before.before.before) ∙ c.if-bring_wrong.false)
     (c.added_number.ensures
-    ∙ (λ i. added_number s.args.side (c.node_at-parent.ensures _ (parent-stands (stand c)) i) s.args.justified (sizes-same s.args.n i))))
+    ∙ (λ i. added_number s.args.side (c.node_at-parent.ensures _ (parent-stands (stand c.before.before.before)) i) s.args.justified (sizes-same s.args.n i))))

@@ -12,21 +12,22 @@ use Rattle.legal.specs.laws.Edge.{added_number}
 use Rattle.legal.specs.laws.Number.{stops, passes, fresh-yes, fresh-no, both-present, parent-absent, child-absent, edges-same}
 use borrow.Author.Rules.{rules}
 use Rattle.legal.proofs.edges.join_number.Goals as goal
+use Rattle.legal.proofs.edges.join_number.Goals.{After-join_wrong, Else-nodes-wide-2, Start}
 
 -- both ends stand
-abbrev start : goal.Else-nodes-wide-2 → goal.Start
+abbrev start : Else-nodes-wide-2 → Start
 start c = c
 
-parent-stands : (c : goal.Else-nodes-wide-2) → (start c).args.e.parent < (start c).args.n.nodes.count
+parent-stands : (c : Else-nodes-wide-2) → (start c).args.e.parent < (start c).args.n.nodes.count
 parent-stands c = omega (arith, c.wide.ensures, c.if-nodes-wide.false)
 
-child-stands : (c : goal.Else-nodes-wide-2) → (start c).args.e.child < (start c).args.n.nodes.count
+child-stands : (c : Else-nodes-wide-2) → (start c).args.e.child < (start c).args.n.nodes.count
 child-stands c = omega (arith, c.wide-2.ensures, c.if-nodes-wide-2.false)
 
-abbrev stand : goal.After-join_wrong → goal.Else-nodes-wide-2
+abbrev stand : After-join_wrong → Else-nodes-wide-2
 stand c = c
 
-wrong : (c : goal.After-join_wrong)
+wrong : (c : After-join_wrong)
     → c.join_wrong.result ≡ join_wrong (state_of (start (stand c)).args.n) (start (stand c)).args.e
 unfolding state_of
 wrong c =
@@ -39,14 +40,14 @@ wrong c =
     })
 
 -- what the rules behind the form say
-abbrev behind : goal.After-join_wrong → ℕ
+abbrev behind : After-join_wrong → ℕ
 behind c =
     let s = start (stand c) in
     added_number s.args.side (node_in (state_of s.args.n).nodes s.args.e.parent) s.args.justified
     (leb MOST-EDGES (length (state_of s.args.n).edges))
 
 -- no rule before the form refuses the edge
-unrefused : (c : goal.After-join_wrong) {r : ℕ}
+unrefused : (c : After-join_wrong) {r : ℕ}
     → r ≡ refuse (join_wrong (state_of (start (stand c)).args.n) (start (stand c)).args.e) PRESENT (behind c)
     → r ≡ join_number (start (stand c)).args.side (state_of (start (stand c)).args.n) (start (stand c)).args.e
     (start (stand c)).args.justified
@@ -74,20 +75,20 @@ returns-then-nodes-wide-2 c =
     (omega (arith, c.wide.ensures, c.if-nodes-wide.false)) (omega (arith, c.wide-2.ensures, c.if-nodes-wide-2.true))))
 
 pub node_at-p-requires : goal.node_at-p-requires
-node_at-p-requires c = omega (arith, parent-stands c, (start c).requires.0)
+node_at-p-requires c = omega (arith, parent-stands c.before.before.before.before.before.before, (start c.before.before.before.before.before.before).requires.0)
 
 pub node_at-c-requires : goal.node_at-c-requires
-node_at-c-requires c = omega (arith, child-stands c, (start c).requires.0)
+node_at-c-requires c = omega (arith, child-stands c.before.before.before.before.before.before.before.before.before.before.before.before.before, (start c.before.before.before.before.before.before.before.before.before.before.before.before.before).requires.0)
 
 pub join_wrong-requires : goal.join_wrong-requires
-join_wrong-requires c = (start c).requires.1
+join_wrong-requires c = (start c.before.before.before.before.before.before.before.before.before.before.before.before.before.before).requires.1
 
 pub returns-then-join_wrong : goal.returns-then-join_wrong
-returns-then-join_wrong c = unrefused c (stops _ _ _ (sym (wrong c) ∙ c.if-join_wrong.true))
+returns-then-join_wrong c = unrefused c.before (stops _ _ _ (sym (wrong c.before) ∙ c.if-join_wrong.true))
 
 pub returns : goal.returns
 unfolding state_of
-returns c = let s = start (stand c) in
-    unrefused c (passes _ _ _ (sym (wrong c) ∙ c.if-join_wrong.false)
+returns c = let s = start (stand c.before.before.before) in
+    unrefused c.before.before.before (passes _ _ _ (sym (wrong c.before.before.before) ∙ c.if-join_wrong.false)
     (c.added_number.ensures
-    ∙ (λ i. added_number s.args.side (c.node_at-p.ensures _ (parent-stands (stand c)) i) s.args.justified (edges-same s.args.n i))))
+    ∙ (λ i. added_number s.args.side (c.node_at-p.ensures _ (parent-stands (stand c.before.before.before)) i) s.args.justified (edges-same s.args.n i))))

@@ -1,3 +1,5 @@
+use Rattle.std.proofs.Common.{get_or}
+use Rattle.std.proofs.Common.{arith}
 use mathlib.Core.Path.{refl, ◌∙◌}
 use Rattle.message.specs.laws.Command.{nothing, at_code, unknown}
 use Rattle.message.proofs.decode.read_command.Goals as goal
@@ -24,5 +26,7 @@ pub returns-in-6 : goal.returns-in-6
 returns-in-6 c = c.end_at.ensures ∙ at_code _ _ 6 c.if-s-at.false c.in-6.is
 
 pub returns-in_default : goal.returns-in_default
-returns-in_default c = let n = c.in-1.rest in unknown _ _ _ n.0.0.0.0.0.1 n.0.0.0.0.1 n.0.0.0.1 n.0.0.1 n.0.1 n.1
-    ∙ at_code _ _ _ c.if-s-at.false refl
+returns-in_default c =
+    let code = get_or c.args.s.now c.args.at 0 in
+    unknown c.args.s.now c.args.at code (λ e. omega arith) (λ e. omega arith) (λ e. omega arith) (λ e. omega arith) (λ e. omega arith)
+    (λ e. omega arith) ∙ at_code _ _ _ c.if-s-at.false refl

@@ -4,12 +4,13 @@ use Rattle.rt0.specs.laws.Pool.{pool_of}
 use Rattle.rules.specs.laws.Ruled.{ruled-fits}
 use Rattle.needed.specs.laws.Keeping.{switched-holds}
 use Rattle.needed.proofs.next.holds_from.Goals as goal
+use Rattle.needed.proofs.next.holds_from.Goals.{Start}
 
-abbrev pool : (c : goal.Start) → Pool
+abbrev pool : (c : Start) → Pool
 pool c = pool_of c.args.n c.args.heads.now c.args.kinds.now c.args.numbers.now
 
 pub switch_all-requires : goal.switch_all-requires
-switch_all-requires c = (omega arith, ruled-fits (pool c) c.requires.0 _ c.requires.2, c.requires.3, c.requires.4.sized)
+switch_all-requires c = (omega arith, ruled-fits (pool c.before.before.before.before) c.requires.0 _ c.requires.2, c.requires.3, c.requires.4.sized)
 
 pub ask-requires : goal.ask-requires
 ask-requires c = (
@@ -20,5 +21,5 @@ ask-requires c = (
 
 pub returns : goal.returns
 returns c =
-    switched-holds (pool (c)) c.args.was.now c.args.f c.args.e c.requires.0 c.requires.3 c.args.k c.requires.1 _
+    switched-holds (pool c.before.before.before.before.before.before.before.before) c.args.was.now c.args.f c.args.e c.requires.0 c.requires.3 c.args.k c.requires.1 _
     c.switch_all.ensures.0 c.ask.ensures

@@ -7,11 +7,12 @@ use Rattle.needed.specs.laws.Columns.{holds_from}
 use Rattle.needed.specs.laws.Halves.{Halves, halves-start, halves-up, halves-down}
 use Rattle.needed.specs.laws.Keeping.{halves-needed}
 use Rattle.needed.proofs.next.last_needed.Goals as goal
+use Rattle.needed.proofs.next.last_needed.Goals.{Start}
 
-abbrev pool : (c : goal.Start) → Pool
+abbrev pool : (c : Start) → Pool
 pool c = pool_of c.args.n c.args.heads.now c.args.kinds.now c.args.numbers.now
 
-abbrev holds : (c : goal.Start) → ℕ → Bool
+abbrev holds : (c : Start) → ℕ → Bool
 holds c = holds_from (pool c) c.args.was.now c.args.f c.args.e
 
 pub loop-low-init : goal.loop-low-init
@@ -31,7 +32,7 @@ loop-low-smaller-then-holds_from c = omega (arith, c.next_tried-k.ensures.0, c.n
 
 pub loop-low-preserved-then-holds_from : goal.loop-low-preserved-then-holds_from
 loop-low-preserved-then-holds_from c =
-    halves-up (holds (c)) c.args.a c.args.n c.loop-low.low c.loop-low.high c.loop-low.last c.next_tried-k.result c.next_tried-k.ensures.0
+    halves-up (holds c.before.before.before.before.before) c.args.a c.args.n c.loop-low.low c.loop-low.high c.loop-low.last c.next_tried-k.result c.next_tried-k.ensures.0
     c.next_tried-k.ensures.1 c.loop-low.invariant c.holds_from.ensures c.if-holds_from.true
 
 pub loop-low-smaller : goal.loop-low-smaller
@@ -39,12 +40,12 @@ loop-low-smaller c = omega (arith, c.next_tried-k.ensures.0, c.next_tried-k.ensu
 
 pub loop-low-preserved : goal.loop-low-preserved
 loop-low-preserved c =
-    halves-down (holds (c)) c.args.a c.args.n c.loop-low.low c.loop-low.high c.loop-low.last c.next_tried-k.result c.next_tried-k.ensures.0
+    halves-down (holds c.before.before.before.before.before) c.args.a c.args.n c.loop-low.low c.loop-low.high c.loop-low.last c.next_tried-k.result c.next_tried-k.ensures.0
     c.next_tried-k.ensures.1 c.loop-low.invariant c.holds_from.ensures c.if-holds_from.false
 
 pub returns : goal.returns
 returns c =
-    halves-needed (pool (c)) c.args.was.now c.args.f c.args.e c.requires.0 c.args.a c.requires.1 c.loop-low.low c.loop-low.high
+    halves-needed (pool c.before.before) c.args.was.now c.args.f c.args.e c.requires.0 c.args.a c.requires.1 c.loop-low.low c.loop-low.high
     c.loop-low.last c.loop-low-test.false c.loop-low.invariant
 
 pub overflow_add-high : goal.overflow_add-high

@@ -4,23 +4,23 @@ use Rattle.negotiation.specs.laws.Layout.{counts, negotiation-written}
 use Rattle.negotiation.proofs.encode.write.Goals as goal
 
 pub header_bytes-b-requires : goal.header_bytes-b-requires
-header_bytes-b-requires c = counts c.args.t1 c.requires.0
+header_bytes-b-requires c = counts c.args.n c.requires.0
 
 pub write_nodes-requires : goal.write_nodes-requires
 write_nodes-requires c = (
-  (counts c.args.t1 c.requires.0).0,
+  (counts c.args.n c.requires.0).0,
   omega (arith, c.write_zeros.auto.0, c.copy_in.auto.0, c.requires.1),
 )
 
 pub write_edges-requires : goal.write_edges-requires
 write_edges-requires c = (
-  (counts c.args.t1 c.requires.0).1,
+  (counts c.args.n c.requires.0).1,
   omega (arith, c.write_nodes.auto.0, c.write_zeros.auto.0, c.copy_in.auto.0, c.requires.1),
 )
 
 pub write_shown-requires : goal.write_shown-requires
 write_shown-requires c = (
-  (counts c.args.t1 c.requires.0).2,
+  (counts c.args.n c.requires.0).2,
   omega (
     arith,
     c.write_edges.auto.0,
@@ -38,5 +38,5 @@ shape_of-buf c =
 
 pub returns : goal.returns
 returns c =
-    negotiation-written c.args.t1 c.requires.0 c.args.buf.now _ _ _ _ _ _ c.requires.1 c.header_bytes-b.ensures c.copy_in.ensures
+    negotiation-written c.args.n c.requires.0 c.args.buf.now _ _ _ _ _ _ c.requires.1 c.header_bytes-b.ensures c.copy_in.ensures
     c.write_zeros.ensures c.write_nodes.ensures c.write_edges.ensures c.write_shown.ensures

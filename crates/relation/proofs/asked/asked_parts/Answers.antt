@@ -9,8 +9,9 @@ use Rattle.rules.specs.laws.Columns.{PartsTo}
 use Rattle.rules.specs.laws.Table.{row_in, row_for}
 use Rattle.rules.specs.laws.Column.{put-length, parts-start, parts_add, parts-end, row-for-small}
 use Rattle.relation.proofs.asked.asked_parts.Goals as goal
+use Rattle.relation.proofs.asked.asked_parts.Goals.{Start}
 
-abbrev pool : (c : goal.Start) → List ℕ → Pool
+abbrev pool : (c : Start) → List ℕ → Pool
 pool c H = pool_of c.args.n H c.args.kinds.now c.args.numbers.now
 
 pub loop-i-init : goal.loop-i-init
@@ -23,7 +24,7 @@ pub loop-i-preserved : goal.loop-i-preserved
 loop-i-preserved c = (
   put-length c.loop-i.next (c.loop-i.i * 4) c.asked_body-r.result ∙ c.loop-i.invariant.0,
   λ H h.
-      parts_add (row_for (pool c H) c.args.e) (pool c H) (row-for-small (pool c H) c.requires c.args.e) c.loop-i.i c.loop-i.next
+      parts_add (row_for (pool c.before.before.before.before.before.before.before.before.before H) c.args.e) (pool c.before.before.before.before.before.before.before.before.before H) (row-for-small (pool c.before.before.before.before.before.before.before.before.before H) c.requires c.args.e) c.loop-i.i c.loop-i.next
       c.asked_body-r.result (omega arith) (c.asked_body-r.ensures c.args.n H (h.four c.loop-i.i c.loop-i-test.true)) (c.loop-i.invariant.1 H h),
   omega arith,
 )

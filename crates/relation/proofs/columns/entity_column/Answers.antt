@@ -8,13 +8,14 @@ use Rattle.relation.specs.laws.Answer.{Moved}
 use Rattle.relation.specs.laws.QuestionLaws.{moved-start, moved-add, moved-skip}
 use Rattle.relation.specs.laws.Reached.{no-column, entity-column}
 use Rattle.relation.proofs.columns.entity_column.Goals as goal
+use Rattle.relation.proofs.columns.entity_column.Goals.{Start}
 use Rattle.relation.proofs.columns.entity_column.Goals.{then-bit, else-bit}
 
-abbrev pool : (c : goal.Start) → List ℕ → Pool
+abbrev pool : (c : Start) → List ℕ → Pool
 pool c H = pool_of c.args.n H c.args.kinds.now c.args.numbers.now
 
 pub returns-then-s-ge128 : goal.returns-then-s-ge128
-returns-then-s-ge128 c = λ H on h. no-column (pool c H) on c.requires c.args.mem.now
+returns-then-s-ge128 c = λ H on h. no-column (pool c.before.before H) on c.requires c.args.mem.now
     h c.args.b c.source-s.result c.source-s.ensures c.if-s-ge128.true
 
 pub loop-r-init : goal.loop-r-init
@@ -40,5 +41,5 @@ loop-r-preserved c = (
 )
 
 pub returns : goal.returns
-returns c = λ H on h. entity-column (pool c H) on c.requires c.args.mem.now h c.args.b c.source-s.result
+returns c = λ H on h. entity-column (pool c.before.before.before.before H) on c.requires c.args.mem.now h c.args.b c.source-s.result
     c.source-s.ensures c.if-s-ge128.false c.loop-r.r c.loop-r-test.false c.loop-r.rows c.loop-r.invariant.0

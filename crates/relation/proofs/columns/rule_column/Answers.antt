@@ -7,14 +7,15 @@ use Rattle.closure.specs.laws.Rules.{rules_of}
 use Rattle.relation.specs.laws.Reached.{column-of}
 use borrow.Author.Rules.{rules}
 use Rattle.relation.proofs.columns.rule_column.Goals as goal
+use Rattle.relation.proofs.columns.rule_column.Goals.{Start}
 
-abbrev pool : (c : goal.Start) → Pool
+abbrev pool : (c : Start) → Pool
 pool c = pool_of c.args.n c.args.heads.now c.args.kinds.now c.args.numbers.now
 
-abbrev rules : (c : goal.Start) → Rules
+abbrev rules : (c : Start) → Rules
 rules c = rules_of c.args.n c.requires.1.0 c.args.head.now c.requires.1.1 c.args.first.now c.args.named.now c.args.src.now
 
-abbrev aimed : (c : goal.Start) → Rules
+abbrev aimed : (c : Start) → Rules
 aimed c = rules_of c.args.n 1 c.args.head.now c.args.part.now c.args.first.now c.args.named.now c.args.src.now
 
 pub close-requires : goal.close-requires
@@ -32,5 +33,5 @@ close-requires c = let ruled = c.requires.1.2 in (
 
 pub returns : goal.returns
 returns c =
-    column-of (pool c) c.args.on.now c.requires.0 c.args.mem.now c.requires.3 c.args.e (rules c) (aimed c) c.requires.1.2
+    column-of (pool c.before.before.before.before) c.args.on.now c.requires.0 c.args.mem.now c.requires.3 c.args.e (rules c.before.before.before.before) (aimed c.before.before.before.before) c.requires.1.2
     refl refl refl refl refl refl c.requires.2 _ _ c.asked-todo.ensures c.close.ensures

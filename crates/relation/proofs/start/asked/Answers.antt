@@ -11,9 +11,10 @@ use Rattle.rt0.specs.laws.Pool.{pool_of}
 use Rattle.relation.specs.laws.Question.{AskedTo}
 use Rattle.relation.specs.laws.QuestionLaws.{by-raw, asked-start, asked-add, asked-skip, asked-end}
 use Rattle.relation.proofs.start.asked.Goals as goal
+use Rattle.relation.proofs.start.asked.Goals.{Start}
 use Rattle.relation.proofs.start.asked.Goals.{then-starts, else-starts}
 
-abbrev pool : (c : goal.Start) → Pool
+abbrev pool : (c : Start) → Pool
 pool c = pool_of c.args.n c.args.heads.now c.args.kinds.now c.args.numbers.now
 
 pub raw_of-raw-requires : goal.raw_of-raw-requires
@@ -38,8 +39,8 @@ read_too-todo-requires c = (c.own_row-r.ensures [] []).small
 
 pub loop-i-init : goal.loop-i-init
 loop-i-init c = (
-  by-raw (λ e. AskedTo (pool c) c.args.on.now c.args.mem.now e 0 _) c.args.e c.raw_of-raw.ensures
-      (asked-start (pool c) c.args.on.now c.args.mem.now c.requires.0 c.requires.3 c.args.e c.own_row-r.result _ _ c.requires.4
+  by-raw (λ e. AskedTo (pool c.before.before.before.before.before.before) c.args.on.now c.args.mem.now e 0 _) c.args.e c.raw_of-raw.ensures
+      (asked-start (pool c.before.before.before.before.before.before) c.args.on.now c.args.mem.now c.requires.0 c.requires.3 c.args.e c.own_row-r.result _ _ c.requires.4
       (c.own_row-r.ensures _ _) c.mark.ensures),
   omega arith,
 )
@@ -58,10 +59,10 @@ loop-i-preserved c = let here = c.loop-i-test.true in
     let q = c.raw_of-raw.ensures in
     let starts = c.starts.ensures c.args.n c.args.heads.now c.args.e q (c.requires.2.upto c.loop-i.i here)
     c.own_source-s.ensures in (
-      by-raw (λ e. AskedTo (pool c) c.args.on.now c.args.mem.now e (c.loop-i.i + 1) c.if-starts.rows) c.args.e q (elim c.if-starts.branch [
-        | then-starts w ↦ rw w.rows-is (asked-add (pool c) c.args.on.now c.args.mem.now c.requires.0 c.requires.3 c.args.e c.loop-i.i _
+      by-raw (λ e. AskedTo (pool c.before.before.before.before.before.before.before.before.before.before) c.args.on.now c.args.mem.now e (c.loop-i.i + 1) c.if-starts.rows) c.args.e q (elim c.if-starts.branch [
+        | then-starts w ↦ rw w.rows-is (asked-add (pool c.before.before.before.before.before.before.before.before.before.before) c.args.on.now c.args.mem.now c.requires.0 c.requires.3 c.args.e c.loop-i.i _
             c.loop-i.rows _ here starts w.if-starts.true (c.requires.1.upto c.loop-i.i here) w.mark.ensures (c.loop-i.invariant.0 c.args.e q))
-        | else-starts w ↦ rw w.rows-is (asked-skip (pool c) c.args.on.now c.args.mem.now c.requires.0 c.requires.3 c.args.e c.loop-i.i
+        | else-starts w ↦ rw w.rows-is (asked-skip (pool c.before.before.before.before.before.before.before.before.before.before) c.args.on.now c.args.mem.now c.requires.0 c.requires.3 c.args.e c.loop-i.i
             c.loop-i.rows starts w.if-starts.false (c.loop-i.invariant.0 c.args.e q))
       ]),
       omega arith,
@@ -69,5 +70,5 @@ loop-i-preserved c = let here = c.loop-i-test.true in
 
 pub returns : goal.returns
 returns c =
-    asked-end (pool c) c.args.on.now c.args.mem.now c.requires.0 c.requires.3 c.args.e c.loop-i.i
+    asked-end (pool c.before.before.before.before.before.before.before.before) c.args.on.now c.args.mem.now c.requires.0 c.requires.3 c.args.e c.loop-i.i
     c.loop-i.rows c.loop-i-test.false (c.loop-i.invariant.0 c.args.e c.raw_of-raw.ensures)

@@ -17,8 +17,9 @@ use Rattle.reply.specs.laws.Writing.{Writing, writing_start, writing-length, wri
 use Rattle.reply.specs.laws.Writing.{waits_start, waits-next, waits-now}
 use borrow.Author.Rules.{rules}
 use Rattle.reply.proofs.turns.reply_from.Goals as goal
+use Rattle.reply.proofs.turns.reply_from.Goals.{Start}
 
-visible-length : (s : goal.Start) → length s.args.own.visible ≡ 128
+visible-length : (s : Start) → length s.args.own.visible ≡ 128
 visible-length s = search (rules, s.well-formed)
 
 pub loop-left-init : goal.loop-left-init
@@ -27,7 +28,7 @@ loop-left-init c = (
   exhausted-none _ _,
   waits_start _ _ _ _ c.requires.1,
   recalls-none _ _ c.no_reach-reach.ensures,
-  fresh_start _ _ (visible-length c),
+  fresh_start _ _ (visible-length c.before.before.before.before),
 )
 
 pub node_states-states-requires : goal.node_states-states-requires

@@ -14,12 +14,12 @@ pub returns-then-is_body : goal.returns-then-is_body
 unfolding bit_in
 returns-then-is_body c =
     first-at c.args.n (is_body_in c.args.kinds.now c.args.numbers.now c.args.b) c.loop-s.s c.loop-s-test.true
-    c.loop-s.invariant.1 c.is_IsBody.ensures c.if-is_body.true
+    c.loop-s.invariant.1 c.is_body.ensures c.if-is_body.true
 
 pub loop-s-preserved : goal.loop-s-preserved
 loop-s-preserved c = (
   omega arith,
-  not_at (is_body_in c.args.kinds.now c.args.numbers.now c.args.b) c.loop-s.s c.loop-s.invariant.1 c.is_IsBody.ensures c.if-is_body.false,
+  not_at (is_body_in c.args.kinds.now c.args.numbers.now c.args.b) c.loop-s.s c.loop-s.invariant.1 c.is_body.ensures c.if-is_body.false,
 )
 
 pub returns : goal.returns

@@ -15,5 +15,5 @@ own_pool-requires c = (c.requires.0, c.requires.1)
 pub returns : goal.returns
 returns c = let r = c.refresh.ensures in (
   c.own_pool.ensures.0,
-  (r.0, λ on h. (r.1 on h, c.own_pool.ensures.1 ∙ ap (λ (l : List Credential). credentials c.args.t1 ++ l) (unshown-chosen (r.1 on h)))),
+  (r.0, λ on h. (r.1 on h, c.own_pool.ensures.1 ∙ ap (λ (l : List Credential). credentials c.args.shown ++ l) (unshown-chosen (r.1 on h)))),
 )

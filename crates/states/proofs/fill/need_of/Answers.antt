@@ -1,3 +1,4 @@
+use Rattle.std.proofs.Common.{arith}
 use borrow.Author.Tests.{eq-eqb, ne_eqb}
 use Rattle.states.specs.laws.Fields.{need_by}
 use Rattle.states.proofs.fill.need_of.Goals as goal
@@ -24,4 +25,10 @@ returns-else-state-eq3 c = simp (c.in-4.is, ne_eqb _ _ c.if-state-eq3.false)
 
 pub returns-in_default : goal.returns-in_default
 unfolding need_by
-returns-in_default c = simp (ne_eqb _ _ c.in-1.rest.0.0.0.1, ne_eqb _ _ c.in-1.rest.0.0.1, ne_eqb _ _ c.in-1.rest.0.1, ne_eqb _ _ c.in-1.rest.1)
+returns-in_default c =
+    simp (
+      ne_eqb c.args.kind 1 (λ e. omega arith),
+      ne_eqb c.args.kind 2 (λ e. omega arith),
+      ne_eqb c.args.kind 3 (λ e. omega arith),
+      ne_eqb c.args.kind 4 (λ e. omega arith),
+    )

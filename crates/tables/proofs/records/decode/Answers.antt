@@ -10,13 +10,13 @@ pub own_of-requires : goal.own_of-requires
 own_of-requires c = some_bytes c.args.s.now c.sized.ensures (ap not c.if-not-sized.false)
 
 pub decode_own-requires : goal.decode_own-requires
-decode_own-requires c = passed_first _ c.sized.ensures (ap not c.if-not-sized.false) c.own_of_lem.ensures c.in-Read.is
+decode_own-requires c = passed_first _ c.sized.ensures (ap not c.if-not-sized.false) c.own_of.ensures c.in-Read.is
 
 pub returns-in-Refused : goal.returns-in-Refused
 returns-in-Refused c = (
-  tables-refused _ c.sized.ensures (ap not c.if-not-sized.false) _ c.own_of_lem.ensures c.in-Refused.is c.refused-in-Refused.ensures.0,
+  tables-refused _ c.sized.ensures (ap not c.if-not-sized.false) _ c.own_of.ensures c.in-Refused.is c.refused-in-Refused.ensures.0,
   c.refused-in-Refused.ensures.1,
 )
 
 pub returns-in-Read : goal.returns-in-Read
-returns-in-Read c = tables-own _ c.sized.ensures (ap not c.if-not-sized.false) c.own_of_lem.ensures c.in-Read.is c.decode_own.ensures
+returns-in-Read c = tables-own _ c.sized.ensures (ap not c.if-not-sized.false) c.own_of.ensures c.in-Read.is c.decode_own.ensures
