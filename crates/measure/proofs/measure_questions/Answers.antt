@@ -41,7 +41,7 @@ with_first : (c : In-Read) {q : ExpressionAnswer}
     → operand_of c.args.e.now ≡ q
     → answer_of yes_or_no (answered (accepted (credentials c.list-listing.result.pool))
     (Read c.in-Read.x) q) ≡ answer_at c
-with_first c k = with-list c.before.before.before.before (sym c.operand.ensures ∙ c.in-Read.is) k
+with_first c k = with-list c.before.before (sym c.operand.ensures ∙ c.in-Read.is) k
 
 pub returns-then-not-sized : goal.returns-then-not-sized
 returns-then-not-sized c = repeated-refused _ _ _ (inl refl) (question-outside _ _ _ (sym c.sized.ensures ∙ not-true _ (ap not c.if-not-sized.true)))
@@ -69,4 +69,4 @@ pub overflow_mul-result : goal.overflow_mul-result
 overflow_mul-result c = omega (arith, count_most _ _ _ c.from_times.ensures)
 
 pub returns : goal.returns
-returns c = repeated-answer _ _ _ _ c.from_times.ensures (with_first c.before.before.before.before.before.before (sym c.operand-2.ensures ∙ c.in-Read-operand.is))
+returns c = repeated-answer _ _ _ _ c.from_times.ensures (with_first c.before.before.before.before (sym c.operand-2.ensures ∙ c.in-Read-operand.is))

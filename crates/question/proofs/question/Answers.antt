@@ -37,7 +37,7 @@ with_first : (c : In-Read) {q : ExpressionAnswer}
     → operand_of c.args.e.now ≡ q
     → answer_of yes_or_no (answered (accepted (credentials c.list-listing.result.pool))
     (Read c.in-Read.x) q) ≡ answer_at c
-with_first c k = with-list c.before.before.before.before (sym c.operand.ensures ∙ c.in-Read.is) k
+with_first c k = with-list c.before.before (sym c.operand.ensures ∙ c.in-Read.is) k
 
 pub returns-then-not-sized : goal.returns-then-not-sized
 returns-then-not-sized c = question-outside _ _ _ (sym c.sized.ensures ∙ not-true _ (ap not c.if-not-sized.true))
@@ -63,4 +63,4 @@ pub returns-in_default-operand : goal.returns-in_default-operand
 returns-in_default-operand c = with_first c.before.before.before (sym c.operand-2.ensures ∙ c.in_default-operand.is)
 
 pub returns : goal.returns
-returns c = c.answer.ensures ∙ ap (λ (b : Bool). yes_or_no b * 256) c.from.ensures ∙ with_first c.before.before.before.before.before.before.before (sym c.operand-2.ensures ∙ c.in-Read-operand.is)
+returns c = c.answer.ensures ∙ ap (λ (b : Bool). yes_or_no b * 256) c.from.ensures ∙ with_first c.before.before.before.before.before (sym c.operand-2.ensures ∙ c.in-Read-operand.is)

@@ -3,34 +3,14 @@ use Rattle.graph.specs.laws.Graph.{nodes_of, edges_of}
 use Rattle.states.specs.laws.Filled.{needs-beyond, ways-beyond}
 use Rattle.states.specs.laws.Complete.{StateColumns, satisfied-read, settled-read, state-satisfied, state-complete, state-failed, state-none}
 use Rattle.states.proofs.state_of.Goals as goal
-use Rattle.states.proofs.state_of.Goals.{After-fail-1, After-failed-fail, After-links-e, After-needs-need, After-satisfied-sat, After-ways-way, Start}
-
--- the places behind the calls of failed, ways, satisfied, links and needs, and the start
-abbrev failing : After-fail-1 → After-failed-fail
-failing c = c
-
-abbrev ways_of : After-fail-1 → After-ways-way
-ways_of c = (failing c).before.before.before.before.before
-
-abbrev satisfying : After-fail-1 → After-satisfied-sat
-satisfying c = (ways_of c).before.before.before.before.before
-
-abbrev links_of : After-fail-1 → After-links-e
-links_of c = (satisfying c).before.before.before.before.before
-
-abbrev needs_of : After-fail-1 → After-needs-need
-needs_of c = (links_of c).before.before.before.before.before.before.before.before
-
-abbrev start : After-fail-1 → Start
-start c = (needs_of c).before.before.before.before
+use Rattle.states.proofs.state_of.Goals.{After-fail-1}
 
 -- the columns of satisfied and failed nodes
 settled : (c : After-fail-1)
-    → StateColumns (nodes_of (start c).args.nodes) (edges_of (start c).args.edges) (satisfying c).satisfied.result (failing c).failed.result
+    → StateColumns (nodes_of c.args.nodes) (edges_of c.args.edges) c.satisfied-sat.result c.failed-fail.result
 settled c =
-    let s = start c in
-    settled-read s.args.nodes s.args.edges _ _ s.pre.3 ((links_of c).links.ensures s.args.nodes) _ _ s.pre.4
-    ((needs_of c).needs.ensures s.args.nodes) ((ways_of c).ways.ensures s.args.nodes) (satisfying c).satisfied.ensures (failing c).failed.ensures
+    settled-read c.args.nodes c.args.edges _ _ c.requires.3 (c.links-e.ensures c.args.nodes) _ _ c.requires.4
+    (c.needs-need.ensures c.args.nodes) (c.ways-way.ensures c.args.nodes) c.satisfied-sat.ensures c.failed-fail.ensures
 
 pub satisfied-sat-requires : goal.satisfied-sat-requires
 satisfied-sat-requires c = (c.requires.1, c.requires.2, (c.links-e.ensures c.args.nodes).slots, needs-beyond c.args.nodes _ (c.needs-need.ensures c.args.nodes))

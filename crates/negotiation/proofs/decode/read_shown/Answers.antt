@@ -22,7 +22,7 @@ loop-k-preserved c = let k : ℕ = c.loop-k.k in (
   omega arith,
   c.store.ensures.sized,
   up_to-next (credentials (pool_of k c.loop-k.heads c.loop-k.kinds c.loop-k.numbers))
-      (credentials (pool_of (k + 1) c.store.new.0 c.store.new.1.0 c.store.new.1.1.0)) k
+      (credentials (pool_of (k + 1) c.store.new.heads c.store.new.kinds c.store.new.numbers)) k
       (λ (i : ℕ). credential_from c.args.s.now (3712 + i * 22)) c.credential_from-c.result c.loop-k.invariant.2
       c.credential_from-c.ensures c.store.ensures.all,
 )

@@ -9,13 +9,13 @@ header_bytes-b-requires c = counts c.args.n c.requires.0
 pub write_nodes-requires : goal.write_nodes-requires
 write_nodes-requires c = (
   (counts c.args.n c.requires.0).0,
-  omega (arith, c.write_zeros.auto.0, c.copy_in.auto.0, c.requires.1),
+  omega (arith, c.write_zeros.auto.buf, c.copy_in.auto.dst, c.requires.1),
 )
 
 pub write_edges-requires : goal.write_edges-requires
 write_edges-requires c = (
   (counts c.args.n c.requires.0).1,
-  omega (arith, c.write_nodes.auto.0, c.write_zeros.auto.0, c.copy_in.auto.0, c.requires.1),
+  omega (arith, c.write_nodes.auto.buf, c.write_zeros.auto.buf, c.copy_in.auto.dst, c.requires.1),
 )
 
 pub write_shown-requires : goal.write_shown-requires
@@ -23,18 +23,18 @@ write_shown-requires c = (
   (counts c.args.n c.requires.0).2,
   omega (
     arith,
-    c.write_edges.auto.0,
-    c.write_nodes.auto.0,
-    c.write_zeros.auto.0,
-    c.copy_in.auto.0,
+    c.write_edges.auto.buf,
+    c.write_nodes.auto.buf,
+    c.write_zeros.auto.buf,
+    c.copy_in.auto.dst,
     c.requires.1,
   ),
 )
 
 pub shape_of-buf : goal.shape_of-buf
 shape_of-buf c =
-    c.write_shown.auto.0 ∙ c.write_edges.auto.0 ∙ c.write_nodes.auto.0 ∙ c.write_zeros.auto.0
-    ∙ c.copy_in.auto.0
+    c.write_shown.auto.buf ∙ c.write_edges.auto.buf ∙ c.write_nodes.auto.buf ∙ c.write_zeros.auto.buf
+    ∙ c.copy_in.auto.dst
 
 pub returns : goal.returns
 returns c =

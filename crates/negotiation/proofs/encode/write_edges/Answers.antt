@@ -20,7 +20,7 @@ pub loop-j-preserved : goal.loop-j-preserved
 loop-j-preserved c = let E : Edges = edges_from c.args.m c.args.kind.now c.args.parent.now c.args.child.now in
     let j : ℕ = c.loop-j.j in (
       omega arith,
-      c.write_edge.auto.0 ∙ c.loop-j.invariant.1,
+      c.write_edge.auto.buf ∙ c.loop-j.invariant.1,
       c.write_edge.ensures
           ∙ ap (λ (l : List ℕ). pasted l (2944 + j * 3) (edge_bytes (edge_at E j))) c.loop-j.invariant.2
           ∙ record-next edge_bytes 3 edge-size c.args.buf.now 2944 j (edge_at E) (omega arith),
@@ -30,7 +30,7 @@ pub write_zeros-requires : goal.write_zeros-requires
 write_zeros-requires c = (omega arith, omega arith)
 
 pub shape_of-buf : goal.shape_of-buf
-shape_of-buf c = c.write_zeros.auto.0 ∙ c.loop-j.invariant.1
+shape_of-buf c = c.write_zeros.auto.buf ∙ c.loop-j.invariant.1
 
 pub returns : goal.returns
 unfolding edges_of

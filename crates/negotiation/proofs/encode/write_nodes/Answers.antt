@@ -26,9 +26,9 @@ loop-i-preserved c = let N : Nodes = nodes_from c.args.n c.args.kind.now c.args.
     let x : Expression → Node = λ (y : Expression).
     record { expression = y; subject = (node_at N i).subject; verifier = (node_at N i).verifier; state = (node_at N i).state } in (
       next,
-      c.write_node.auto.0 ∙ c.loop-i.invariant.1,
+      c.write_node.auto.buf ∙ c.loop-i.invariant.1,
       c.write_node.ensures
-          ∙ (λ c. pasted (c.loop-i.invariant.2 c) (128 + i * 22) (node_bytes (x (c.expression_at.ensures c))))
+          ∙ (λ t. pasted (c.loop-i.invariant.2 t) (128 + i * 22) (node_bytes (x (c.expression_at.ensures t))))
           ∙ record-next node_bytes 22 node-size c.args.buf.now 128 i (node_at N) room,
     )
 
@@ -36,7 +36,7 @@ pub write_zeros-requires : goal.write_zeros-requires
 write_zeros-requires c = (omega arith, omega arith)
 
 pub shape_of-buf : goal.shape_of-buf
-shape_of-buf c = c.write_zeros.auto.0 ∙ c.loop-i.invariant.1
+shape_of-buf c = c.write_zeros.auto.buf ∙ c.loop-i.invariant.1
 
 pub returns : goal.returns
 unfolding nodes_of

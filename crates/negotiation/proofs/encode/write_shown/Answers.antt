@@ -21,7 +21,7 @@ pub loop-k-preserved : goal.loop-k-preserved
 loop-k-preserved c = let P : Pool = pool_of c.args.count c.args.heads.now c.args.kinds.now c.args.numbers.now in
     let k : ℕ = c.loop-k.k in (
       omega arith,
-      c.write_credential.auto.0 ∙ c.loop-k.invariant.1,
+      c.write_credential.auto.s ∙ c.loop-k.invariant.1,
       c.write_credential.ensures
           ∙ (λ t. pasted (c.loop-k.invariant.2 t) (3712 + k * 22) (credential_bytes (record { head = c.head_at.ensures t; body = c.expression_at.ensures t })))
           ∙ record-next credential_bytes 22 credential-size c.args.buf.now 3712 k (credential_at P) (omega arith),
@@ -31,7 +31,7 @@ pub write_zeros-requires : goal.write_zeros-requires
 write_zeros-requires c = (omega arith, omega arith)
 
 pub shape_of-buf : goal.shape_of-buf
-shape_of-buf c = c.write_zeros.auto.0 ∙ c.loop-k.invariant.1
+shape_of-buf c = c.write_zeros.auto.buf ∙ c.loop-k.invariant.1
 
 pub returns : goal.returns
 unfolding credentials

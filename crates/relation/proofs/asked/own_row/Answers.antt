@@ -16,9 +16,9 @@ returns-in-Entity c K N = own-none (pool c.before K N) c.args.e (ap is_role_expr
 
 pub returns-in-Role : goal.returns-in-Role
 returns-in-Role c K N =
-    own-role (pool c.before.before.before.before.before K N) c.requires
+    own-role (pool c.before.before.before K N) c.requires
     c.args.e _ c.asked_row.result c.in-Role.is
-    (rw c.in-Role.is (c.asked_row.ensures (pool c.before.before.before.before.before K N) c.row.ensures))
+    (rw c.in-Role.is (c.asked_row.ensures (pool c.before.before.before K N) c.row.ensures))
 
 pub returns-in-Linked : goal.returns-in-Linked
 returns-in-Linked c K N = own-none (pool c.before K N) c.args.e (ap is_role_expression c.in-Linked.is)

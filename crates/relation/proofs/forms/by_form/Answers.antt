@@ -9,7 +9,7 @@ abbrev pool : (c : Start) → Pool
 pool c = pool_of c.args.n c.args.heads.now c.args.kinds.now c.args.numbers.now
 
 pub returns-in-Entity : goal.returns-in-Entity
-returns-in-Entity c on m h = entity-from (chosen (pool c.before.before.before) on) c.args.f _ c.args.e c.in-Entity.is c.same.ensures
+returns-in-Entity c on m h = entity-from (chosen (pool c.before.before) on) c.args.f _ c.args.e c.in-Entity.is c.same.ensures
 
 pub returns-in-Role : goal.returns-in-Role
 returns-in-Role c on m h = rw c.in-Role.is (c.role_from.ensures _ _ on h)
@@ -21,4 +21,4 @@ pub returns-in-Intersection : goal.returns-in-Intersection
 returns-in-Intersection c on m h = rw c.in-Intersection.is (c.meet_from.ensures _ _ on h)
 
 pub returns-in-Goal : goal.returns-in-Goal
-returns-in-Goal c on m h = goal-from (chosen (pool c.before.before.before) on) c.args.f _ c.args.e c.in-Goal.is c.same-in-Goal.ensures
+returns-in-Goal c on m h = goal-from (chosen (pool c.before.before) on) c.args.f _ c.args.e c.in-Goal.is c.same-in-Goal.ensures

@@ -22,7 +22,7 @@ returns-in-Role c = λ K N. link-none (pool c.before K N) c.args.able.now c.args
     (not-linked c.args.x (ap is_linked c.in-Role.is))
 
 pub returns-in-Linked : goal.returns-in-Linked
-returns-in-Linked c = λ K N. link_row (pool c.before.before.before.before.before K N) c.args.able.now c.args.i c.args.n c.args.x c.args.named.now _ _ _
+returns-in-Linked c = λ K N. link_row (pool c.before.before.before K N) c.args.able.now c.args.i c.args.n c.args.x c.args.named.now _ _ _
     c.in-Linked.is (c.name_row.ensures K N)
 
 pub returns-in-Intersection : goal.returns-in-Intersection

@@ -30,7 +30,7 @@ is_proved-proved-requires c = (
   (
     _,
     proved-for _ _ _ _
-        (current-by c.if-kept-is_implication.known c.loop-at.auto.stale c.in-Read.c c.loop-at.n.shown
+        (current-by c.if-kept-is_implication.known c.loop-at.kept.stale c.in-Read.c c.loop-at.n.shown
         (λ w. current-made _ _ _ _ _ w.1.ensures.0 w.1.ensures.1 w.2)
         (λ w. current-left _ _ _ _ _ c.loop-at.invariant.1.current c.is_implication.ensures w.0.left w.1) c.if-kept-is_implication.branch),
   ),
@@ -60,7 +60,7 @@ loop-at-preserved c = (
       (stop-left _ _ c.if-k-is_end.false).0 c.is_end.ensures (stop-left c.judge-k.result _ c.if-k-is_end.false).1
       c.step-n.ensures (moved-next _ _ c.ready-held.ensures c.carried-kept.ensures) c.next_command-next.ensures.1,
   keeps-next _ _ _ _
-      (current-by c.if-kept-is_implication.known c.loop-at.auto.stale c.in-Read.c c.loop-at.n.shown
+      (current-by c.if-kept-is_implication.known c.loop-at.kept.stale c.in-Read.c c.loop-at.n.shown
       (λ w. current-made _ _ _ _ _ w.1.ensures.0 w.1.ensures.1 w.2)
       (λ w. current-left _ _ _ _ _ c.loop-at.invariant.1.current c.is_implication.ensures w.0.left w.1) c.if-kept-is_implication.branch)
       c.ready-held.ensures c.step-n.ensures c.carried-kept.ensures,
