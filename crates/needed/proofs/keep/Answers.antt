@@ -26,11 +26,11 @@ with_rest-requires c = (c.requires.0, c.loop-f.invariant.0.within, c.loop-f.inva
 pub returns-then-k-n : goal.returns-then-k-n
 returns-then-k-n c =
     keep_all (pool c.before.before.before.before.before.before) c.requires.0 c.args.s c.args.f c.args.e _ _ _ c.loop-f.invariant.0 _ _
-    c.next_kept-k.ensures.0 c.if-k-n.true c.with_rest.ensures
+    c.next_kept-k.ensures.last c.if-k-n.true c.with_rest.ensures
 
 pub returns-then-k-n-2 : goal.returns-then-k-n-2
 returns-then-k-n-2 c =
-    keep-done (pool c.before.before.before.before.before.before) c.requires.0 c.args.s c.args.f c.args.e _ _ _ c.loop-f.invariant.0 _ c.next_kept-k.ensures.0
+    keep-done (pool c.before.before.before.before.before.before) c.requires.0 c.args.s c.args.f c.args.e _ _ _ c.loop-f.invariant.0 _ c.next_kept-k.ensures.last
     c.if-k-n-2.true
 
 pub bounds-r-k : goal.bounds-r-k
@@ -40,17 +40,17 @@ pub overflow_add-k : goal.overflow_add-k
 overflow_add-k c = omega (arith, below c, c.requires.0)
 
 pub returns-then-k-n-3 : goal.returns-then-k-n-3
-returns-then-k-n-3 c = keep-last (pool c.before.before.before.before.before.before.before) c.requires.0 c.args.s c.args.f c.args.e _ _ _ c.loop-f.invariant.0 _ c.next_kept-k.ensures.0 c.if-k-n-3.true
+returns-then-k-n-3 c = keep-last (pool c.before.before.before.before.before.before.before) c.requires.0 c.args.s c.args.f c.args.e _ _ _ c.loop-f.invariant.0 _ c.next_kept-k.ensures.last c.if-k-n-3.true
 
 pub overflow_add-a : goal.overflow_add-a
 overflow_add-a c = omega (arith, below c.before, c.requires.0)
 
 pub loop-f-smaller : goal.loop-f-smaller
-loop-f-smaller c = omega (arith, below c.before, (c.next_kept-k.ensures.0.found c.if-k-n.false).0)
+loop-f-smaller c = omega (arith, below c.before, (c.next_kept-k.ensures.last.found c.if-k-n.false).0)
 
 pub loop-f-preserved : goal.loop-f-preserved
 loop-f-preserved c = (
-  keep-next (pool c.before.before.before.before.before.before.before) c.requires.0 c.args.s c.args.f c.args.e _ _ _ c.loop-f.invariant.0 _ _ c.next_kept-k.ensures.0
-      (below c.before) (c.next_kept-k.ensures.1.0 (below c.before)),
-  c.next_kept-k.ensures.1.1 (below c.before),
+  keep-next (pool c.before.before.before.before.before.before.before) c.requires.0 c.args.s c.args.f c.args.e _ _ _ c.loop-f.invariant.0 _ _ c.next_kept-k.ensures.last
+      (below c.before) (c.next_kept-k.ensures.switched (below c.before)),
+  c.next_kept-k.ensures.related (below c.before),
 )

@@ -15,4 +15,4 @@ keep-requires c = let ruled = by-columns (pool c.before.before.before.before.bef
     (c.requires.0, c.requires.1, ruled, c.first_on-on.ensures, c.relation-rows.ensures _ ruled)
 
 pub returns : goal.returns
-returns c = (c.keep.ensures.holds, (c.keep.ensures.own, c.keep.ensures.all))
+returns c = record { holds = c.keep.ensures.holds; own = c.keep.ensures.own; all = c.keep.ensures.all }

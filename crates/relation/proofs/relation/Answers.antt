@@ -7,7 +7,6 @@ use Rattle.closure.specs.declared.Rules.{Rules}
 use Rattle.closure.specs.laws.Rules.{rules_of}
 use Rattle.rules.specs.laws.Ruled.{compiled-plain}
 use Rattle.relation.specs.laws.Answer.{related}
-use borrow.Author.Rules.{rules}
 use Rattle.relation.proofs.relation.Goals as goal
 use Rattle.relation.proofs.relation.Goals.{Start}
 

@@ -13,21 +13,20 @@ use Rattle.rules.specs.laws.Ruled.{Ruled, compiled-plain}
 use Rattle.relation.specs.laws.Answer.{related}
 use Rattle.relation.specs.laws.Relation.{Relation, Start, switched}
 use Rattle.relation.specs.laws.QuestionLaws.{switched-none, switched-next, switched-end, start-related, start-more}
-use borrow.Author.Rules.{rules}
 use Rattle.relation.proofs.switch_all.Goals as goal
-use Rattle.relation.proofs.switch_all.Goals.{In-loop-i, Start}
+use Rattle.relation.proofs.switch_all.Goals.{In-loop-i, Start as Entered}
 
-abbrev pool : (c : Start) → List ℕ → Pool
+abbrev pool : (c : Entered) → List ℕ → Pool
 pool c H = pool_of c.args.n H c.args.kinds.now c.args.numbers.now
 
-abbrev rules : (c : Start) → Rules
+abbrev rules : (c : Entered) → Rules
 rules c = rules_of c.args.n c.args.words c.args.head.now c.args.part.now c.args.first.now c.args.named.now c.args.src.now
 
 below : (c : In-loop-i) → c.loop-i.i < 128
 below c = omega (arith, c.loop-i-test.true, c.requires.0, c.requires.1.count)
 
 pub returns-then-high-low : goal.returns-then-high-low
-returns-then-high-low c = (switched-none _ _ _ c.if-high-low.true, λ H ruled before. before)
+returns-then-high-low c = record { switched = switched-none _ _ _ c.if-high-low.true; related = λ H ruled before. before }
 
 pub loop-i-init : goal.loop-i-init
 loop-i-init c = (
@@ -66,20 +65,17 @@ loop-i-preserved c = let inv = c.loop-i.invariant in
       omega (arith, inv.0),
       omega (arith, c.loop-i-test.true),
       length-set c.loop-i.on c.loop-i.i 1 ∙ inv.2,
-      c.seed.ensures.0,
+      c.seed.ensures.sized,
       switched-next c.args.low c.loop-i.i _ _ _ inv.0 inv.4 refl,
       λ H ruled before.
           start-more (pool c.before.before.before.before.before.before.before.before.before.before.before.before.before.before H) _ c.requires.1.count _ _ _ c.loop-i.i l (omega (arith, l, c.requires.1.count, inv.2)) refl (inv.5 H ruled before)
-          (c.seed.ensures.1 H (ruled.head.upto c.loop-i.i l)),
+          (c.seed.ensures.seeded H (ruled.head.upto c.loop-i.i l)),
     )
 
 pub returns : goal.returns
-returns c = let inv = c.loop-i.invariant in (
-  switched-end c.args.low c.loop-i.i c.args.high _ _ inv.1 c.loop-i-test.false inv.4,
-  λ H ruled before.
+returns c = let inv = c.loop-i.invariant in record { switched = switched-end c.args.low c.loop-i.i c.args.high _ _ inv.1 c.loop-i-test.false inv.4; related = λ H ruled before.
       related (pool c.before.before.before.before.before.before H) _ c.requires.1.count (E.Entity 0) (rules c.before.before.before.before.before.before) (compiled-plain (pool c.before.before.before.before.before.before H) c.requires.1.count (rules c.before.before.before.before.before.before) ruled) ruled.wide
-      _ _ _ (inv.5 H ruled before) c.close.ensures,
-)
+      _ _ _ (inv.5 H ruled before) c.close.ensures }
 
 pub offset_bounds-head-i : goal.offset_bounds-head-i
 offset_bounds-head-i c = omega (arith, below c)

@@ -41,16 +41,13 @@ reach_at-visit-requires c = (c.requires.0, c.loop-i.invariant.2)
 
 pub choice_at-choice-requires : goal.choice_at-choice-requires
 choice_at-choice-requires c = let taken = c.loop-i-test.true in
-    (ready_of c.requires.0 c.requires.1 c.requires.4 c.requires.5, taken, c.requires.6, c.node_at-x.ensures _ taken, c.reach_at-visit.ensures.1)
+    (ready_of c.requires.0 c.requires.1 c.requires.4 c.requires.5, taken, c.requires.6, c.node_at-x.ensures _ taken, c.reach_at-visit.ensures.found)
 
 pub returns-then-not-is_nothing : goal.returns-then-not-is_nothing
 unfolding end_in state_of
-returns-then-not-is_nothing c = let taken = c.loop-i-test.true in (
-  found_here (end_in (tables_of c.args.own.house) (state_of c.args.n)) c.loop-i.invariant.0 (c.node_at-x.ensures _ taken)
+returns-then-not-is_nothing c = let taken = c.loop-i-test.true in record { found = found_here (end_in (tables_of c.args.own.house) (state_of c.args.n)) c.loop-i.invariant.0 (c.node_at-x.ensures _ taken)
       c.choice_at-choice.ensures c.is_nothing.ensures (ap not c.if-not-is_nothing.true)
-      (omega (arith, nodes-length c.args.n.nodes, taken)) refl,
-  (taken, (c.loop-i.invariant.0, c.reach_at-visit.ensures.0)),
-)
+      (omega (arith, nodes-length c.args.n.nodes, taken)) refl; standing = taken; idle = c.loop-i.invariant.0; recalls = c.reach_at-visit.ensures.recalls }
 
 pub overflow_add-i : goal.overflow_add-i
 overflow_add-i c = omega (arith, c.loop-i-test.true, (within-few _ c.requires.1).0)
@@ -68,13 +65,10 @@ loop-i-preserved c = (
         c.is_unprocessed.ensures w.if-is_unprocessed.false
   ],
   omega (arith, c.loop-i-test.true),
-  elim c.if-is_unprocessed.branch [ then-is_unprocessed w ↦ subst (λ (l : LinkReach). Recalls c.args.own l) (sym w.reach-is) w.reach_at-visit.ensures.0 | else-is_unprocessed w ↦ subst (λ (l : LinkReach). Recalls c.args.own l) (sym w.reach-is) c.loop-i.invariant.2 ],
+  elim c.if-is_unprocessed.branch [ then-is_unprocessed w ↦ subst (λ (l : LinkReach). Recalls c.args.own l) (sym w.reach-is) w.reach_at-visit.ensures.recalls | else-is_unprocessed w ↦ subst (λ (l : LinkReach). Recalls c.args.own l) (sym w.reach-is) c.loop-i.invariant.2 ],
 )
 
 pub returns : goal.returns
 unfolding end_in state_of
-returns c = (
-  found_nothing (end_in (tables_of c.args.own.house) (state_of c.args.n)) c.loop-i.invariant.0
-      (omega (arith, nodes-length c.args.n.nodes, c.loop-i-test.false)),
-  (c.requires.2, (nothing-start _, c.loop-i.invariant.2)),
-)
+returns c = record { found = found_nothing (end_in (tables_of c.args.own.house) (state_of c.args.n)) c.loop-i.invariant.0
+      (omega (arith, nodes-length c.args.n.nodes, c.loop-i-test.false)); standing = c.requires.2; idle = nothing-start _; recalls = c.loop-i.invariant.2 }

@@ -8,4 +8,4 @@ relation-rows-requires c = ruled-fits c.args.n.shown c.requires _ (by-columns c.
 
 pub returns : goal.returns
 returns c = let ruled = by-columns c.args.n.shown c.rules_of-rules.result c.rules_of-rules.ensures in
-    (record { few = c.requires; ruled = c.rules_of-rules.ensures; related = c.relation-rows.ensures _ ruled }, refl)
+    record { known = record { few = c.requires; ruled = c.rules_of-rules.ensures; related = c.relation-rows.ensures _ ruled }; same = refl }

@@ -16,10 +16,10 @@ pub ask-requires : goal.ask-requires
 ask-requires c = (
   c.requires.0,
   (_, c.requires.2),
-  c.switch_all.ensures.1 _ c.requires.2 c.requires.4,
+  c.switch_all.ensures.related _ c.requires.2 c.requires.4,
 )
 
 pub returns : goal.returns
 returns c =
     switched-holds (pool c.before.before.before.before.before.before.before.before) c.args.was.now c.args.f c.args.e c.requires.0 c.requires.3 c.args.k c.requires.1 _
-    c.switch_all.ensures.0 c.ask.ensures
+    c.switch_all.ensures.switched c.ask.ensures

@@ -5,7 +5,6 @@ use Rattle.rt0.specs.laws.Pool.{pool_of}
 use Rattle.closure.specs.declared.Rules.{Rules}
 use Rattle.closure.specs.laws.Rules.{rules_of}
 use Rattle.relation.specs.laws.Reached.{column-of}
-use borrow.Author.Rules.{rules}
 use Rattle.relation.proofs.columns.rule_column.Goals as goal
 use Rattle.relation.proofs.columns.rule_column.Goals.{Start}
 

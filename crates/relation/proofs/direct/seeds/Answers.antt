@@ -31,11 +31,11 @@ seed-requires c = (c.requires.0, c.loop-i-test.true, c.requires.1, c.note_bodies
 
 pub loop-i-preserved : goal.loop-i-preserved
 loop-i-preserved c = let here = c.loop-i-test.true in (
-  elim c.if-on-i-eq1.branch [ then-on-i-eq1 w ↦ rw w.rows-is w.seed.ensures.0 | else-on-i-eq1 w ↦ rw w.rows-is c.loop-i.invariant.0 ],
+  elim c.if-on-i-eq1.branch [ then-on-i-eq1 w ↦ rw w.rows-is w.seed.ensures.sized | else-on-i-eq1 w ↦ rw w.rows-is c.loop-i.invariant.0 ],
   λ H h.
       elim c.if-on-i-eq1.branch [
         | then-on-i-eq1 w ↦ rw w.rows-is (start-add (pool c.before.before.before.before.before.before.before.before H) c.args.on.now c.requires.0 c.loop-i.i c.loop-i.rows _ here w.if-on-i-eq1.true
-            (w.seed.ensures.1 H (h.upto c.loop-i.i here)) (c.loop-i.invariant.1 H h))
+            (w.seed.ensures.seeded H (h.upto c.loop-i.i here)) (c.loop-i.invariant.1 H h))
         | else-on-i-eq1 w ↦ rw w.rows-is (start-skip (pool c.before.before.before.before.before.before.before.before H) c.args.on.now c.requires.0 c.loop-i.i c.loop-i.rows w.if-on-i-eq1.false (c.loop-i.invariant.1 H h))
       ],
   omega arith,

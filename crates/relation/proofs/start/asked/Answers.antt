@@ -61,7 +61,7 @@ loop-i-preserved c = let here = c.loop-i-test.true in
     c.own_source-s.ensures in (
       by-raw (λ e. AskedTo (pool c.before.before.before.before.before.before.before.before.before.before) c.args.on.now c.args.mem.now e (c.loop-i.i + 1) c.if-starts.rows) c.args.e q (elim c.if-starts.branch [
         | then-starts w ↦ rw w.rows-is (asked-add (pool c.before.before.before.before.before.before.before.before.before.before) c.args.on.now c.args.mem.now c.requires.0 c.requires.3 c.args.e c.loop-i.i _
-            c.loop-i.rows _ here starts w.if-starts.true (c.requires.1.upto c.loop-i.i here) w.mark.ensures (c.loop-i.invariant.0 c.args.e q))
+            c.loop-i.rows _ here starts w.if-starts.true (c.requires.1.upto c.loop-i.i here) w.mark-then-starts.ensures (c.loop-i.invariant.0 c.args.e q))
         | else-starts w ↦ rw w.rows-is (asked-skip (pool c.before.before.before.before.before.before.before.before.before.before) c.args.on.now c.args.mem.now c.requires.0 c.requires.3 c.args.e c.loop-i.i
             c.loop-i.rows starts w.if-starts.false (c.loop-i.invariant.0 c.args.e q))
       ]),

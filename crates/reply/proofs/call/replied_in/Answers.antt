@@ -18,7 +18,7 @@ pub reply_from-r-requires : goal.reply_from-r-requires
 reply_from-r-requires c = let b = begun-ready (tables_of c.args.house) c.requires.1 (state_of c.args.n) c.requires.2 c.requires.3
     (turn-of c.args.n (in-turn (tables_of c.args.house) c.args.n c.if-h-ne0.false c.sends.ensures (ap not c.if-not-sends.false)))
     c.begun-b.result c.begun-b.ensures c.requires.4 in
-    (c.prepare-own.ensures.0, own-going c.prepare-own.ensures.1 (state_of c.begun-b.result.negotiation) b.0, b.1, b.2)
+    (c.prepare-own.ensures.prepared, own-going c.prepare-own.ensures.same (state_of c.begun-b.result.negotiation) b.0, b.1, b.2)
 
 pub after_message-after-requires : goal.after_message-after-requires
 after_message-after-requires c =
@@ -26,7 +26,7 @@ after_message-after-requires c =
     c.requires.3 c.reply_from-r.result (begun-gives (tables_of c.args.house) c.requires.1 (state_of c.args.n) c.requires.2
     c.requires.3 (turn-of c.args.n (in-turn (tables_of c.args.house) c.args.n c.if-h-ne0.false c.sends.ensures
     (ap not c.if-not-sends.false))) c.begun-b.result c.begun-b.ensures c.requires.4 c.reply_from-r.result
-    (own-gives c.prepare-own.ensures.1 (state_of c.begun-b.result.negotiation) c.begun-b.result.at c.reply_from-r.result
+    (own-gives c.prepare-own.ensures.same (state_of c.begun-b.result.negotiation) c.begun-b.result.at c.reply_from-r.result
     c.reply_from-r.ensures))
 
 pub write_command-requires : goal.write_command-requires
@@ -35,7 +35,7 @@ write_command-requires c =
     c.requires.3 c.reply_from-r.result (begun-gives (tables_of c.args.house) c.requires.1 (state_of c.args.n) c.requires.2
     c.requires.3 (turn-of c.args.n (in-turn (tables_of c.args.house) c.args.n c.if-h-ne0.false c.sends.ensures
     (ap not c.if-not-sends.false))) c.begun-b.result c.begun-b.ensures c.requires.4 c.reply_from-r.result
-    (own-gives c.prepare-own.ensures.1 (state_of c.begun-b.result.negotiation) c.begun-b.result.at c.reply_from-r.result
+    (own-gives c.prepare-own.ensures.same (state_of c.begun-b.result.negotiation) c.begun-b.result.at c.reply_from-r.result
     c.reply_from-r.ensures)) c.requires.4
 
 pub shape_of-s : goal.shape_of-s
@@ -44,7 +44,7 @@ shape_of-s c =
     c.requires.3 c.reply_from-r.result (begun-gives (tables_of c.args.house) c.requires.1 (state_of c.args.n) c.requires.2
     c.requires.3 (turn-of c.args.n (in-turn (tables_of c.args.house) c.args.n c.if-h-ne0.false c.sends.ensures
     (ap not c.if-not-sends.false))) c.begun-b.result c.begun-b.ensures c.requires.4 c.reply_from-r.result
-    (own-gives c.prepare-own.ensures.1 (state_of c.begun-b.result.negotiation) c.begun-b.result.at c.reply_from-r.result
+    (own-gives c.prepare-own.ensures.same (state_of c.begun-b.result.negotiation) c.begun-b.result.at c.reply_from-r.result
     c.reply_from-r.ensures)) c.requires.4 c.write_command.ensures
 
 pub returns : goal.returns
@@ -53,6 +53,6 @@ returns c =
     c.requires.3 c.reply_from-r.result (begun-gives (tables_of c.args.house) c.requires.1 (state_of c.args.n) c.requires.2
     c.requires.3 (turn-of c.args.n (in-turn (tables_of c.args.house) c.args.n c.if-h-ne0.false c.sends.ensures
     (ap not c.if-not-sends.false))) c.begun-b.result c.begun-b.ensures c.requires.4 c.reply_from-r.result
-    (own-gives c.prepare-own.ensures.1 (state_of c.begun-b.result.negotiation) c.begun-b.result.at c.reply_from-r.result
+    (own-gives c.prepare-own.ensures.same (state_of c.begun-b.result.negotiation) c.begun-b.result.at c.reply_from-r.result
     c.reply_from-r.ensures)) c.requires.4 c.after_message-after.result c.replying-2.result c.after_message-after.ensures
     c.write_command.ensures c.replying-2.ensures.0 c.replying-2.ensures.1 c.replying-2.ensures.2

@@ -11,16 +11,16 @@ returns-then-not-fits c = reply-size c.args.tables.now c.args.negotiation.now c.
 pub returns-then-r-ne0 : goal.returns-then-r-ne0
 returns-then-r-ne0 c =
     reply-unrestored c.args.tables.now c.args.negotiation.now c.args.reply.now c.args.scratch.now c.fits2.ensures
-    (ap not c.if-not-fits.false) c.restore-r.result c.restore-r.ensures.0 c.if-r-ne0.true
+    (ap not c.if-not-fits.false) c.restore-r.result c.restore-r.ensures.found c.if-r-ne0.true
 
 pub replied_in-t-requires : goal.replied_in-t-requires
 replied_in-t-requires c = (
-  c.restore-r.ensures.1.housed c.if-r-ne0.false,
+  c.restore-r.ensures.kept.housed c.if-r-ne0.false,
   restored-sound c.args.tables.now c.args.negotiation.now
-      c.args.reply.now c.args.scratch.now c.fits2.ensures (ap not c.if-not-fits.false) c.restore-r.result c.restore-r.ensures.0
+      c.args.reply.now c.args.scratch.now c.fits2.ensures (ap not c.if-not-fits.false) c.restore-r.result c.restore-r.ensures.found
       c.if-r-ne0.false,
-  c.restore-r.ensures.1.is-sound c.if-r-ne0.false,
-  c.restore-r.ensures.1.within-sizes
+  c.restore-r.ensures.kept.is-sound c.if-r-ne0.false,
+  c.restore-r.ensures.kept.within-sizes
       c.if-r-ne0.false,
   (size-parts c.args.tables.now c.args.negotiation.now c.args.reply.now c.args.scratch.now
       c.fits2.ensures (ap not c.if-not-fits.false)).0,
@@ -29,10 +29,10 @@ replied_in-t-requires c = (
 pub returns-then-t-ne0 : goal.returns-then-t-ne0
 returns-then-t-ne0 c =
     reply-refused c.args.tables.now c.args.negotiation.now c.args.reply.now c.args.scratch.now c.fits2.ensures
-    (ap not c.if-not-fits.false) c.restore-r.result c.restore-r.ensures.0 c.if-r-ne0.false c.replied_in-t.result c.replied_in-t.ensures c.if-t-ne0.true
+    (ap not c.if-not-fits.false) c.restore-r.result c.restore-r.ensures.found c.if-r-ne0.false c.replied_in-t.result c.replied_in-t.ensures c.if-t-ne0.true
 
 pub write-requires : goal.write-requires
-write-requires c = (c.replied_in-t.ensures.sizes c.if-t-ne0.false, restored-length _ _ _ c.restore-r.ensures.0 c.if-r-ne0.false)
+write-requires c = (c.replied_in-t.ensures.sizes c.if-t-ne0.false, restored-length _ _ _ c.restore-r.ensures.found c.if-r-ne0.false)
 
 pub write_zeros-requires : goal.write_zeros-requires
 write_zeros-requires c = let sizes = size-parts c.args.tables.now c.args.negotiation.now c.args.reply.now c.args.scratch.now c.fits2.ensures (ap not c.if-not-fits.false) in
@@ -48,5 +48,5 @@ overflow_mul-result c = omega (
 pub returns : goal.returns
 returns c =
     reply-given c.args.tables.now c.args.negotiation.now c.args.reply.now c.args.scratch.now c.fits2.ensures
-    (ap not c.if-not-fits.false) c.restore-r.result c.restore-r.ensures.0 c.if-r-ne0.false c.replied_in-t.result c.replied_in-t.ensures
+    (ap not c.if-not-fits.false) c.restore-r.result c.restore-r.ensures.found c.if-r-ne0.false c.replied_in-t.result c.replied_in-t.ensures
     c.if-t-ne0.false c.write.ensures c.write_zeros.ensures

@@ -18,18 +18,18 @@ count_on-requires c = c.requires.1
 pub write_command-requires : goal.write_command-requires
 write_command-requires c =
     carry-behind c.args.n.header.side (state_of c.args.n) c.args.out c.args.s.now c.args.at c.requires.2
-    c.requires.3 c.requires.4 c.show_all-m.ensures.0 c.show_all-m.ensures.1 c.count_on.ensures.0
+    c.requires.3 c.requires.4 c.show_all-m.ensures.shown c.show_all-m.ensures.written c.count_on.ensures.counted
 
 pub step-requires : goal.step-requires
 step-requires c = (
   carry-within c.args.n.header.side (state_of c.args.n) c.args.out c.args.s.now c.args.at c.requires.2
-      c.requires.3 c.requires.4 c.show_all-m.ensures.0 c.show_all-m.ensures.1 c.requires.0,
+      c.requires.3 c.requires.4 c.show_all-m.ensures.shown c.show_all-m.ensures.written c.requires.0,
   carry-step c.args.n.header.side
       (state_of c.args.n) c.args.out c.args.s.now c.args.at c.requires.2 c.requires.3 c.requires.4
-      c.show_all-m.ensures.0 c.show_all-m.ensures.1,
+      c.show_all-m.ensures.shown c.show_all-m.ensures.written,
 )
 
 pub returns : goal.returns
 returns c =
     carry-led c.args.n.header.side (state_of c.args.n) c.args.out c.args.s.now c.args.at c.requires.2 c.requires.3
-    c.requires.4 c.show_all-m.ensures.0 c.show_all-m.ensures.1 c.count_on.ensures.0 c.write_command.ensures c.step.ensures
+    c.requires.4 c.show_all-m.ensures.shown c.show_all-m.ensures.written c.count_on.ensures.counted c.write_command.ensures c.step.ensures

@@ -12,7 +12,7 @@ bounds-on-k c = omega (arith, c.loop-k-test.true, c.requires)
 pub overflow_add-n : goal.overflow_add-n
 overflow_add-n c = omega (
   arith,
-  c.one_if-n.ensures.1,
+  c.one_if-n.ensures.few,
   c.loop-k-test.true,
   c.loop-k.invariant.few,
   c.requires,
@@ -25,11 +25,8 @@ pub loop-k-smaller : goal.loop-k-smaller
 loop-k-smaller c = omega (arith, c.loop-k-test.true)
 
 pub loop-k-preserved : goal.loop-k-preserved
-loop-k-preserved c = counted_next _ _ c.loop-k.invariant c.loop-k-test.true c.one_if-n.ensures.0
+loop-k-preserved c = counted_next _ _ c.loop-k.invariant c.loop-k-test.true c.one_if-n.ensures.counted
 
 pub returns : goal.returns
-returns c = (
-  counted-end _ _ c.loop-k.invariant c.loop-k-test.false,
-  omega
-      (arith, c.loop-k.invariant.few, c.loop-k.invariant.inside, c.requires),
-)
+returns c = record { counted = counted-end _ _ c.loop-k.invariant c.loop-k-test.false; few = omega
+      (arith, c.loop-k.invariant.few, c.loop-k.invariant.inside, c.requires) }

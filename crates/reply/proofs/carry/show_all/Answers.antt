@@ -23,13 +23,13 @@ show_at-next-requires c = (
 )
 
 pub overflow_mul-at : goal.overflow_mul-at
-overflow_mul-at c = omega (arith, c.one_if.ensures.1)
+overflow_mul-at c = omega (arith, c.one_if.ensures.few)
 
 pub overflow_add-at : goal.overflow_add-at
 overflow_add-at c = omega (
   arith,
   showing-inside _ _ _ _ _ c.loop-k.invariant
-      c.loop-k-test.true c.one_if.ensures.0,
+      c.loop-k-test.true c.one_if.ensures.counted,
 )
 
 pub overflow_add-k : goal.overflow_add-k
@@ -51,8 +51,8 @@ loop-k-smaller c = let q = c.next_flagged-k-in-loop-k.ensures.0 in omega (arith,
 
 pub loop-k-preserved : goal.loop-k-preserved
 loop-k-preserved c =
-    showing-skip _ _ _ _ _ (showing-next _ _ _ _ _ c.loop-k.invariant c.loop-k-test.true c.show_at-next.ensures.0 c.show_at-next.ensures.1
-    c.one_if.ensures.0) c.next_flagged-k-in-loop-k.ensures.0
+    showing-skip _ _ _ _ _ (showing-next _ _ _ _ _ c.loop-k.invariant c.loop-k-test.true c.show_at-next.ensures.shown c.show_at-next.ensures.written
+    c.one_if.ensures.counted) c.next_flagged-k-in-loop-k.ensures.0
 
 pub shape_of-s : goal.shape_of-s
 shape_of-s c = showing-length _ _ _ _ _ c.loop-k.invariant

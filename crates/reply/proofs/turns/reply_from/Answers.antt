@@ -67,20 +67,20 @@ pub returns-then-is_nothing : goal.returns-then-is_nothing
 returns-then-is_nothing c =
     writing-stops _ _ _ _ c.loop-left.n c.loop-left.invariant.0 c.loop-left-test.true
     (next-none (tables_of c.args.own.house) c.loop-left.n c.loop-left.at c.node_states-states.ensures c.loop-left.invariant.0.going
-    c.if-sat-eq1.false c.next_choice-turn.result.found c.next_choice-turn.ensures.0 c.is_nothing.ensures c.if-is_nothing.true)
+    c.if-sat-eq1.false c.next_choice-turn.result.found c.next_choice-turn.ensures.found c.is_nothing.ensures c.if-is_nothing.true)
     c.replying-then-is_nothing.result c.replying-then-is_nothing.ensures.1 c.replying-then-is_nothing.ensures.2 c.replying-then-is_nothing.ensures.3
 
 pub outgoing-out-requires : goal.outgoing-out-requires
 outgoing-out-requires c = let found = c.next_choice-turn.result.found in (
   c.requires.0,
   c.loop-left.invariant.0.going.sizes,
-  c.next_choice-turn.ensures.1.0,
+  c.next_choice-turn.ensures.standing,
   something found.choice c.is_nothing.ensures c.if-is_nothing.false,
   c.loop-left.invariant.4,
 )
 
 pub room_for-requires : goal.room_for-requires
-room_for-requires c = (c.loop-left.invariant.0.going.sizes, c.outgoing-out.ensures.1.0)
+room_for-requires c = (c.loop-left.invariant.0.going.sizes, c.outgoing-out.ensures.few)
 
 pub shape_of-s-then-not-room_for : goal.shape_of-s-then-not-room_for
 shape_of-s-then-not-room_for c = writing-length _ _ _ _ c.loop-left.n c.loop-left.invariant.0
@@ -89,18 +89,18 @@ pub returns-then-not-room_for : goal.returns-then-not-room_for
 returns-then-not-room_for c =
     writing-stops _ _ _ _ c.loop-left.n c.loop-left.invariant.0 c.loop-left-test.true
     (next-full (tables_of c.args.own.house) c.loop-left.n c.loop-left.at c.node_states-states.ensures c.loop-left.invariant.0.going
-    c.if-sat-eq1.false c.next_choice-turn.result.found c.next_choice-turn.ensures.0 c.outgoing-out.result c.outgoing-out.ensures.0
+    c.if-sat-eq1.false c.next_choice-turn.result.found c.next_choice-turn.ensures.found c.outgoing-out.result c.outgoing-out.ensures.sent
     c.room_for.ensures (ap not c.if-not-room_for.true))
     c.replying-then-not-room_for.result c.replying-then-not-room_for.ensures.1 c.replying-then-not-room_for.ensures.2 c.replying-then-not-room_for.ensures.3
 
 pub size_of_outgoing-size-requires : goal.size_of_outgoing-size-requires
-size_of_outgoing-size-requires c = c.outgoing-out.ensures.1.0
+size_of_outgoing-size-requires c = c.outgoing-out.ensures.few
 
 pub overflow_add-at : goal.overflow_add-at
-overflow_add-at c = omega (arith, c.size_of_outgoing-size.ensures.1, c.loop-left.invariant.0.most)
+overflow_add-at c = omega (arith, c.size_of_outgoing-size.ensures.few, c.loop-left.invariant.0.most)
 
 pub overflow_add-at-in-loop-left : goal.overflow_add-at-in-loop-left
-overflow_add-at-in-loop-left c = omega (arith, c.size_of_outgoing-size.ensures.1, c.loop-left.invariant.0.most)
+overflow_add-at-in-loop-left c = omega (arith, c.size_of_outgoing-size.ensures.few, c.loop-left.invariant.0.most)
 
 pub shape_of-s-then-at-size-gt-MOST_MESSAGE_BYTES : goal.shape_of-s-then-at-size-gt-MOST_MESSAGE_BYTES
 shape_of-s-then-at-size-gt-MOST_MESSAGE_BYTES c = writing-length _ _ _ _ c.loop-left.n c.loop-left.invariant.0
@@ -109,19 +109,19 @@ pub returns-then-at-size-gt-MOST_MESSAGE_BYTES : goal.returns-then-at-size-gt-MO
 returns-then-at-size-gt-MOST_MESSAGE_BYTES c =
     writing-stops _ _ _ _ c.loop-left.n c.loop-left.invariant.0 c.loop-left-test.true
     (next-long (tables_of c.args.own.house) c.loop-left.n c.loop-left.at c.node_states-states.ensures c.loop-left.invariant.0.going
-    c.if-sat-eq1.false c.next_choice-turn.result.found c.next_choice-turn.ensures.0 c.outgoing-out.result c.outgoing-out.ensures.0
-    c.room_for.ensures (ap not c.if-not-room_for.false) c.size_of_outgoing-size.ensures.0 c.if-at-size-gt-MOST_MESSAGE_BYTES.true)
+    c.if-sat-eq1.false c.next_choice-turn.result.found c.next_choice-turn.ensures.found c.outgoing-out.result c.outgoing-out.ensures.sent
+    c.room_for.ensures (ap not c.if-not-room_for.false) c.size_of_outgoing-size.ensures.size c.if-at-size-gt-MOST_MESSAGE_BYTES.true)
     c.replying-then-at-size-gt-MOST_MESSAGE_BYTES.result c.replying-then-at-size-gt-MOST_MESSAGE_BYTES.ensures.1 c.replying-then-at-size-gt-MOST_MESSAGE_BYTES.ensures.2 c.replying-then-at-size-gt-MOST_MESSAGE_BYTES.ensures.3
 
 pub carry-next-requires : goal.carry-next-requires
 carry-next-requires c = let w = writing-room _ _ _ _ c.loop-left.n c.loop-left.invariant.0 c.loop-left-test.true
     (next-goes (tables_of c.args.own.house) c.loop-left.n c.loop-left.at c.node_states-states.ensures c.loop-left.invariant.0.going
-    c.if-sat-eq1.false c.next_choice-turn.result.found c.next_choice-turn.ensures.0 c.outgoing-out.result c.outgoing-out.ensures.0
-    c.room_for.ensures (ap not c.if-not-room_for.false) c.size_of_outgoing-size.ensures.0 c.if-at-size-gt-MOST_MESSAGE_BYTES.false) in
-    (c.loop-left.invariant.0.going.sizes, c.outgoing-out.ensures.1.0, w.0, w.1, w.2)
+    c.if-sat-eq1.false c.next_choice-turn.result.found c.next_choice-turn.ensures.found c.outgoing-out.result c.outgoing-out.ensures.sent
+    c.room_for.ensures (ap not c.if-not-room_for.false) c.size_of_outgoing-size.ensures.size c.if-at-size-gt-MOST_MESSAGE_BYTES.false) in
+    (c.loop-left.invariant.0.going.sizes, c.outgoing-out.ensures.few, w.0, w.1, w.2)
 
 pub overflow_add-at-in-loop-left-2 : goal.overflow_add-at-in-loop-left-2
-overflow_add-at-in-loop-left-2 c = omega (arith, c.size_of_outgoing-size.ensures.1, c.loop-left.invariant.0.most)
+overflow_add-at-in-loop-left-2 c = omega (arith, c.size_of_outgoing-size.ensures.few, c.loop-left.invariant.0.most)
 
 pub overflow_sub-left : goal.overflow_sub-left
 overflow_sub-left c = omega (arith, c.loop-left-test.true)
@@ -133,16 +133,16 @@ pub loop-left-preserved : goal.loop-left-preserved
 loop-left-preserved c = let g = c.loop-left.invariant.0.going in (
   writing-next _ _ _ _ c.loop-left.n c.loop-left.invariant.0 c.loop-left-test.true
       (next-goes (tables_of c.args.own.house) c.loop-left.n c.loop-left.at c.node_states-states.ensures c.loop-left.invariant.0.going
-      c.if-sat-eq1.false c.next_choice-turn.result.found c.next_choice-turn.ensures.0 c.outgoing-out.result c.outgoing-out.ensures.0
-      c.room_for.ensures (ap not c.if-not-room_for.false) c.size_of_outgoing-size.ensures.0 c.if-at-size-gt-MOST_MESSAGE_BYTES.false)
-      c.carry-next.result c.carry-next.ensures.0 c.carry-next.ensures.1 c.size_of_outgoing-size.ensures.0,
+      c.if-sat-eq1.false c.next_choice-turn.result.found c.next_choice-turn.ensures.found c.outgoing-out.result c.outgoing-out.ensures.sent
+      c.room_for.ensures (ap not c.if-not-room_for.false) c.size_of_outgoing-size.ensures.size c.if-at-size-gt-MOST_MESSAGE_BYTES.false)
+      c.carry-next.result c.carry-next.ensures.led c.carry-next.ensures.written c.size_of_outgoing-size.ensures.size,
   exhausted-next (tables_of c.args.own.house) c.loop-left.n c.carry-next.result (commands_of c.outgoing-out.result) g
-      c.carry-next.ensures.0 c.loop-left.invariant.1 c.next_choice-turn.ensures.1.0 c.next_choice-turn.ensures.1.1.0 c.wide-waiting.ensures c.larger-passed.ensures,
-  waits-next (tables_of c.args.own.house) c.loop-left.n c.carry-next.result c.next_choice-turn.result.found g c.outgoing-out.ensures.0
-      c.carry-next.ensures.0 c.node_states-states.ensures c.next_choice-turn.ensures.1.0 c.next_choice-turn.ensures.1.1.0
+      c.carry-next.ensures.led c.loop-left.invariant.1 c.next_choice-turn.ensures.standing c.next_choice-turn.ensures.idle c.wide-waiting.ensures c.larger-passed.ensures,
+  waits-next (tables_of c.args.own.house) c.loop-left.n c.carry-next.result c.next_choice-turn.result.found g c.outgoing-out.ensures.sent
+      c.carry-next.ensures.led c.node_states-states.ensures c.next_choice-turn.ensures.standing c.next_choice-turn.ensures.idle
       c.wide-waiting.ensures,
-  c.next_choice-turn.ensures.1.1.1,
-  fresh-next c.loop-left.n c.carry-next.result _ (commands_of c.outgoing-out.result) c.carry-next.ensures.0 c.outgoing-out.ensures.1.1,
+  c.next_choice-turn.ensures.recalls,
+  fresh-next c.loop-left.n c.carry-next.result _ (commands_of c.outgoing-out.result) c.carry-next.ensures.led c.outgoing-out.ensures.fresh,
 )
 
 pub shape_of-s : goal.shape_of-s

@@ -9,11 +9,8 @@ use Rattle.sending.specs.laws.Unshown.{unshown_of}
 use Rattle.sending.proofs.credentials.needed_for.Goals as goal
 
 pub needed_of-requires : goal.needed_of-requires
-needed_of-requires c = (behind-count _ _ _ c.side_pool-pool.ensures.1.0, c.side_pool-pool.ensures.0)
+needed_of-requires c = (behind-count _ _ _ c.side_pool-pool.ensures.all, c.side_pool-pool.ensures.few)
 
 pub returns : goal.returns
 returns c = let l = credentials c.args.shown in
-    let set = side-chosen c.args.own c.requires.0 _ c.args.side c.args.x refl in (
-      sends-whole c.args.shown _ _ _ _ (c.side_pool-pool.ensures.1.0 ∙ ap (λ (cs : List Credential). l ++ unshown_of l cs) set) c.needed_of.ensures,
-      c.side_pool-pool.ensures.1.1,
-    )
+    let set = side-chosen c.args.own c.requires.0 _ c.args.side c.args.x refl in record { sent = sends-whole c.args.shown _ _ _ _ (c.side_pool-pool.ensures.all ∙ ap (λ (cs : List Credential). l ++ unshown_of l cs) set) c.needed_of.ensures; fresh = c.side_pool-pool.ensures.fresh }

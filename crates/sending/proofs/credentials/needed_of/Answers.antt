@@ -11,13 +11,13 @@ needed-kept-requires c = (c.part_of-part.ensures.few, c.part_of-part.ensures.wit
 
 pub returns-then-enough : goal.returns-then-enough
 returns-then-enough c =
-    sends-part _ _ _ _ c.requires.0 c.relevant-flags.ensures c.part_of-part.ensures c.needed-kept.ensures.0 _
-    c.if-enough.true c.needed-kept.ensures.1.1
+    sends-part _ _ _ _ c.requires.0 c.relevant-flags.ensures c.part_of-part.ensures c.needed-kept.ensures.holds _
+    c.if-enough.true c.needed-kept.ensures.all
 
 pub with_rest-all-requires : goal.with_rest-all-requires
 with_rest-all-requires c = (c.requires.1, c.requires.0, length-replicate {A = ℕ} 128 0)
 
 pub returns : goal.returns
 returns c =
-    sends-all _ _ _ _ c.requires.0 c.relevant-flags.ensures c.part_of-part.ensures c.needed-kept.ensures.0 _
+    sends-all _ _ _ _ c.requires.0 c.relevant-flags.ensures c.part_of-part.ensures c.needed-kept.ensures.holds _
     c.if-enough.false c.requires.1 c.with_rest-all.ensures

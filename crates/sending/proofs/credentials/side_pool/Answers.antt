@@ -24,7 +24,7 @@ returns-then-ours c = let shown = c.args.shown in
     let told = r.1.1 _ c.requires.2.issuers in
     let side = sym c.if-ours.true in
     let all = told.1 ∙ ap (λ (b : Bool). credentials shown ++ unshown_of (credentials shown) (side_chosen c.args.own b)) side in
-    (r.0, (all, fresh-issuer shown c.requires.2 r.1.0 told.0))
+    record { few = r.0; all = all; fresh = fresh-issuer shown c.requires.2 r.1.0 told.0 }
 
 pub bounds-seen-1 : goal.bounds-seen-1
 bounds-seen-1 c = omega (arith, c.requires.2.pair)
@@ -42,4 +42,4 @@ returns c = let shown = c.args.shown in
     let told = r.1.1 _ c.requires.2.subjects in
     let side = sym c.if-ours.false in
     let all = told.1 ∙ ap (λ (b : Bool). credentials shown ++ unshown_of (credentials shown) (side_chosen c.args.own b)) side in
-    (r.0, (all, fresh-subject shown c.requires.2 r.1.0 told.0))
+    record { few = r.0; all = all; fresh = fresh-subject shown c.requires.2 r.1.0 told.0 }

@@ -19,7 +19,4 @@ pub loop-i-preserved : goal.loop-i-preserved
 loop-i-preserved c = behind-next _ _ _ c.loop-i.invariant c.loop-i-test.true c.store_flagged-count.ensures
 
 pub returns : goal.returns
-returns c = (
-  omega (arith, c.loop-i.invariant.few, c.loop-i.invariant.within, c.requires.0, c.requires.1),
-  behind-all _ _ _ c.loop-i.invariant c.loop-i-test.false,
-)
+returns c = record { few = omega (arith, c.loop-i.invariant.few, c.loop-i.invariant.within, c.requires.0, c.requires.1); all = behind-all _ _ _ c.loop-i.invariant c.loop-i-test.false }

@@ -11,7 +11,7 @@ edge_command-command-requires c = (c.requires.0.housed.names, c.requires.0.house
 
 pub returns-then-w-ne-IMPLICATION : goal.returns-then-w-ne-IMPLICATION
 unfolding end_in public_of tables_of state_of
-returns-then-w-ne-IMPLICATION c = (edge_other _ _ _ c.edge_command-command.ensures c.if-w-ne-IMPLICATION.true c.alone.ensures, c.requires.3)
+returns-then-w-ne-IMPLICATION c = record { sent = edge_other _ _ _ c.edge_command-command.ensures c.if-w-ne-IMPLICATION.true c.alone.ensures; fresh = c.requires.3 }
 
 pub node_of-x-requires : goal.node_of-x-requires
 node_of-x-requires c = (c.requires.2, (within-few c.args.n c.requires.1).0)
@@ -23,7 +23,7 @@ pub returns-then-w : goal.returns-then-w
 unfolding end_in public_of tables_of state_of
 returns-then-w c = let sent = edge-direct _ _ _ c.edge_command-command.ensures c.node_of-x.ensures c.if-w-ne-IMPLICATION.false c.if-w.true
     c.direct_for.ensures in
-    (sent, c.requires.3)
+    record { sent = sent; fresh = c.requires.3 }
 
 pub needed_for-requires : goal.needed_for-requires
 needed_for-requires c = (c.requires.0, (within-few c.args.n c.requires.1).2, c.requires.3)
@@ -31,5 +31,5 @@ needed_for-requires c = (c.requires.0, (within-few c.args.n c.requires.1).2, c.r
 pub returns : goal.returns
 unfolding end_in public_of tables_of state_of
 returns c = let sent = edge-needed _ _ _ c.edge_command-command.ensures c.node_of-x.ensures c.if-w-ne-IMPLICATION.false c.if-w.false
-    c.needed_for.ensures.0 in
-    (sent, c.needed_for.ensures.1)
+    c.needed_for.ensures.sent in
+    record { sent = sent; fresh = c.needed_for.ensures.fresh }

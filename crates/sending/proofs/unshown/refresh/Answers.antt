@@ -6,7 +6,7 @@ use Rattle.sending.specs.laws.Fresh.{Refreshed, refreshed-start, refreshed-next,
 use Rattle.sending.proofs.unshown.refresh.Goals as goal
 
 pub returns-then-a-b : goal.returns-then-a-b
-returns-then-a-b c = (c.requires.3, λ on h. fresh-now _ _ h c.if-a-b.true)
+returns-then-a-b c = record { sized = c.requires.3; flags = λ on h. fresh-now _ _ h c.if-a-b.true }
 
 pub loop-i-init : goal.loop-i-init
 loop-i-init c = refreshed-start c.requires.3
@@ -35,4 +35,4 @@ loop-i-preserved c =
     c.flag_after.ensures
 
 pub returns : goal.returns
-returns c = (c.loop-i.invariant.sized, λ on h. fresh-after _ _ h c.loop-i.invariant c.loop-i-test.false)
+returns c = record { sized = c.loop-i.invariant.sized; flags = λ on h. fresh-after _ _ h c.loop-i.invariant c.loop-i-test.false }

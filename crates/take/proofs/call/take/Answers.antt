@@ -11,23 +11,23 @@ returns-then-not-fits c = take-size c.args.tables.now c.args.negotiation.now c.a
 pub returns-then-r-ne0 : goal.returns-then-r-ne0
 returns-then-r-ne0 c =
     take-unrestored c.args.tables.now c.args.negotiation.now c.args.message.now c.args.scratch.now c.fits2.ensures
-    (ap not c.if-not-fits.false) _ c.restore-r.ensures.0 c.if-r-ne0.true
+    (ap not c.if-not-fits.false) _ c.restore-r.ensures.found c.if-r-ne0.true
 
 pub taken_in-t-requires : goal.taken_in-t-requires
 taken_in-t-requires c = (
-  c.restore-r.ensures.1.housed c.if-r-ne0.false,
-  restored-own _ _ _ c.restore-r.ensures.0 c.if-r-ne0.false,
-  c.restore-r.ensures.1.within-sizes c.if-r-ne0.false,
-  c.restore-r.ensures.1.is-sound c.if-r-ne0.false,
+  c.restore-r.ensures.kept.housed c.if-r-ne0.false,
+  restored-own _ _ _ c.restore-r.ensures.found c.if-r-ne0.false,
+  c.restore-r.ensures.kept.within-sizes c.if-r-ne0.false,
+  c.restore-r.ensures.kept.is-sound c.if-r-ne0.false,
 )
 
 pub returns-then-t-ne0 : goal.returns-then-t-ne0
 returns-then-t-ne0 c =
     take-refused c.args.tables.now c.args.negotiation.now c.args.message.now c.args.scratch.now c.fits2.ensures
-    (ap not c.if-not-fits.false) _ c.restore-r.ensures.0 c.if-r-ne0.false _ c.taken_in-t.ensures.0 c.if-t-ne0.true
+    (ap not c.if-not-fits.false) _ c.restore-r.ensures.found c.if-r-ne0.false _ c.taken_in-t.ensures.taken c.if-t-ne0.true
 
 pub write-requires : goal.write-requires
-write-requires c = (c.taken_in-t.ensures.1.sizes c.if-t-ne0.false, restored-length _ _ _ c.restore-r.ensures.0 c.if-r-ne0.false)
+write-requires c = (c.taken_in-t.ensures.sized.sizes c.if-t-ne0.false, restored-length _ _ _ c.restore-r.ensures.found c.if-r-ne0.false)
 
 pub write_zeros-requires : goal.write_zeros-requires
 write_zeros-requires c = (
@@ -42,5 +42,5 @@ write_zeros-requires c = (
 pub returns : goal.returns
 returns c =
     take-accepted c.args.tables.now c.args.negotiation.now c.args.message.now c.args.scratch.now c.fits2.ensures
-    (ap not c.if-not-fits.false) _ c.restore-r.ensures.0 c.if-r-ne0.false _ c.taken_in-t.ensures.0 c.if-t-ne0.false c.write.ensures
+    (ap not c.if-not-fits.false) _ c.restore-r.ensures.found c.if-r-ne0.false _ c.taken_in-t.ensures.taken c.if-t-ne0.false c.write.ensures
     c.write_zeros.ensures

@@ -16,14 +16,14 @@ take_commands-t-requires c = (c.requires.0.names, c.requires.0.ascending, c.requ
 pub returns-then-t-ne0 : goal.returns-then-t-ne0
 returns-then-t-ne0 c =
     taken_refused _ _ _ c.if-h-ne0.false c.other_side-sender.ensures c.sends.ensures (ap not c.if-not-sends.false) _
-    c.take_commands-t.ensures.0 _ refl c.if-t-ne0.true
+    c.take_commands-t.ensures.taken _ refl c.if-t-ne0.true
 
 pub after_message-after-requires : goal.after_message-after-requires
 after_message-after-requires c =
     led-ready c.args.message.now _ _ c.if-h-ne0.false c.other_side-sender.ensures c.sends.ensures (ap not c.if-not-sends.false) _
-    c.take_commands-t.ensures.0 c.if-t-ne0.false c.requires.3 c.requires.2 c.requires.1 c.take_commands-t.ensures.1
+    c.take_commands-t.ensures.taken c.if-t-ne0.false c.requires.3 c.requires.2 c.requires.1 c.take_commands-t.ensures.sized
 
 pub returns : goal.returns
 returns c =
-    taken-after _ _ _ c.if-h-ne0.false c.other_side-sender.ensures c.sends.ensures (ap not c.if-not-sends.false) _ c.take_commands-t.ensures.0
-    c.if-t-ne0.false _ _ c.take_commands-t.ensures.1 c.after_message-after.ensures c.taking-2.ensures.0 c.taking-2.ensures.2
+    taken-after _ _ _ c.if-h-ne0.false c.other_side-sender.ensures c.sends.ensures (ap not c.if-not-sends.false) _ c.take_commands-t.ensures.taken
+    c.if-t-ne0.false _ _ c.take_commands-t.ensures.sized c.after_message-after.ensures c.taking-2.ensures.0 c.taking-2.ensures.2
