@@ -12,55 +12,33 @@ use Rattle.question.specs.Question.{sized, operand_of, yes_or_no, answered, ques
 use Rattle.question.specs.laws.Question.{true-sized, question-outside, question-inside}
 use Rattle.numbers.specs.Answer.{accepted, answer_of}
 use Rattle.question.proofs.question.Goals as goal
-use Rattle.question.proofs.question.Goals.{Else-not-sized, Else-refusal-ne0, In-Read, Start}
 
-abbrev Inside : Start → Type 0
-Inside s = sized (length s.args.credentials.now) (length s.args.f.now) (length s.args.e.now) ≡ true
-
-abbrev answer_at : Start → ℕ
-answer_at s = answer_of yes_or_no (question_of s.args.credentials.now s.args.f.now s.args.e.now)
-
--- the lengths are within the sizes
-inside : (c : Else-not-sized) → Inside c
-inside c = sym c.sized.ensures ∙ not-false _ (ap not c.if-not-sized.false)
-
--- the credentials were read
-with-list : (c : Else-refusal-ne0) {p q : ExpressionAnswer} → operand_of c.args.f.now ≡ p
-    → operand_of c.args.e.now ≡ q
-    → answer_of yes_or_no (answered (accepted (credentials c.list-listing.result.pool)) p q)
-    ≡ answer_at c
-with-list c h k =
-    question-inside _ _ _ _ _ _ (inside c.before.before.before) (sym c.list-listing.ensures.0 ∙ listed-all c.list-listing.result c.if-refusal-ne0.false) h k
-
--- and f
-with_first : (c : In-Read) {q : ExpressionAnswer}
-    → operand_of c.args.e.now ≡ q
-    → answer_of yes_or_no (answered (accepted (credentials c.list-listing.result.pool))
-    (Read c.in-Read.x) q) ≡ answer_at c
-with_first c k = with-list c.before.before (sym c.operand.ensures ∙ c.in-Read.is) k
+-- a test that holds
+inside : {b t : Bool} → b ≡ t → b ≡ true → t ≡ true
+inside e h = sym e ∙ h
 
 pub returns-then-not-sized : goal.returns-then-not-sized
 returns-then-not-sized c = question-outside _ _ _ (sym c.sized.ensures ∙ not-true _ (ap not c.if-not-sized.true))
 
 pub list-listing-requires : goal.list-listing-requires
-list-listing-requires c = (true-sized _ _ _ (inside c.before)).most
+list-listing-requires c = (true-sized _ _ _ (inside c.sized.ensures c.if-not-sized.false)).most
 
 pub returns-then-refusal-ne0 : goal.returns-then-refusal-ne0
 returns-then-refusal-ne0 c =
-    question-inside _ _ _ _ _ _ (inside c.before.before.before.before) (sym c.list-listing.ensures.0
+    question-inside _ _ _ _ _ _ (inside c.sized.ensures c.if-not-sized.false) (sym c.list-listing.ensures.0
     ∙ listed-refused c.list-listing.result c.if-refusal-ne0.true) refl refl
 
 pub operand-requires : goal.operand-requires
-operand-requires c = (true-sized _ _ _ (inside c.before.before.before.before)).first
+operand-requires c = (true-sized _ _ _ (inside c.sized.ensures c.if-not-sized.false)).first
 
 pub returns-in_default : goal.returns-in_default
-returns-in_default c = with-list c.before.before.before (sym c.operand.ensures ∙ c.in_default.is) refl
+returns-in_default c = question-inside _ _ _ _ _ _ (inside c.sized.ensures c.if-not-sized.false) (sym c.list-listing.ensures.0 ∙ listed-all c.list-listing.result c.if-refusal-ne0.false) (sym c.operand.ensures ∙ c.in_default.is) refl
 
 pub operand-requires-2 : goal.operand-requires-2
-operand-requires-2 c = (true-sized _ _ _ (inside c.before.before.before.before.before.before)).second
+operand-requires-2 c = (true-sized _ _ _ (inside c.sized.ensures c.if-not-sized.false)).second
 
 pub returns-in_default-operand : goal.returns-in_default-operand
-returns-in_default-operand c = with_first c.before.before.before (sym c.operand-2.ensures ∙ c.in_default-operand.is)
+returns-in_default-operand c = question-inside _ _ _ _ _ _ (inside c.sized.ensures c.if-not-sized.false) (sym c.list-listing.ensures.0 ∙ listed-all c.list-listing.result c.if-refusal-ne0.false) (sym c.operand.ensures ∙ c.in-Read.is) (sym c.operand-2.ensures ∙ c.in_default-operand.is)
 
 pub returns : goal.returns
-returns c = c.answer.ensures ∙ ap (λ (b : Bool). yes_or_no b * 256) c.from.ensures ∙ with_first c.before.before.before.before.before (sym c.operand-2.ensures ∙ c.in-Read-operand.is)
+returns c = c.answer.ensures ∙ ap (λ (b : Bool). yes_or_no b * 256) c.from.ensures ∙ question-inside _ _ _ _ _ _ (inside c.sized.ensures c.if-not-sized.false) (sym c.list-listing.ensures.0 ∙ listed-all c.list-listing.result c.if-refusal-ne0.false) (sym c.operand.ensures ∙ c.in-Read.is) (sym c.operand-2.ensures ∙ c.in-Read-operand.is)
