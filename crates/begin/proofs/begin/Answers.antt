@@ -2,23 +2,31 @@ use Rattle.begin.specs.laws.Begin.{begin-outside, begin-tables, begin-role, begi
 use Rattle.begin.proofs.begin.Goals as goal
 
 pub returns-then-negotiation-ne-BYTES : goal.returns-then-negotiation-ne-BYTES
-returns-then-negotiation-ne-BYTES c = begin-outside _ _ _ _ _ c.if-negotiation-ne-BYTES.true
+returns-then-negotiation-ne-BYTES c =
+    let t = begin-outside c.args.tables.now c.args.negotiation.now c.args.other c.args.entity c.args.name c.if-negotiation-ne-BYTES.true in
+    record { answered = t.0; left = t.1 }
 
 pub returns-then-d-ne0 : goal.returns-then-d-ne0
-returns-then-d-ne0 c = begin-tables _ _ _ _ _ _ c.if-negotiation-ne-BYTES.false c.decode-d.ensures.0 c.if-d-ne0.true
+returns-then-d-ne0 c =
+    let t = begin-tables c.args.tables.now c.args.negotiation.now c.args.other c.args.entity c.args.name c.decode-d.result c.if-negotiation-ne-BYTES.false c.decode-d.ensures.0 c.if-d-ne0.true in
+    record { answered = t.0; left = t.1 }
 
 pub returns-then-k-ne0 : goal.returns-then-k-ne0
-returns-then-k-ne0 c = begin-role _ _ _ _ _ _ c.if-negotiation-ne-BYTES.false c.decode-d.ensures.0 c.if-d-ne0.false c.role_number-k.ensures c.if-k-ne0.true
+returns-then-k-ne0 c =
+    let t = begin-role c.args.tables.now c.args.negotiation.now c.args.other c.args.entity c.args.name c.decode-d.result c.if-negotiation-ne-BYTES.false c.decode-d.ensures.0 c.if-d-ne0.false c.role_number-k.ensures c.if-k-ne0.true in
+    record { answered = t.0; left = t.1 }
 
 pub returns-then-m-ne0 : goal.returns-then-m-ne0
 returns-then-m-ne0 c =
-    begin-other _ _ _ _ _ _ c.if-negotiation-ne-BYTES.false c.decode-d.ensures.0 c.if-d-ne0.false c.role_number-k.ensures c.if-k-ne0.false
-    c.other_number-m.ensures c.if-m-ne0.true
+    let t = begin-other c.args.tables.now c.args.negotiation.now c.args.other c.args.entity c.args.name c.decode-d.result c.if-negotiation-ne-BYTES.false c.decode-d.ensures.0 c.if-d-ne0.false c.role_number-k.ensures c.if-k-ne0.false
+    c.other_number-m.ensures c.if-m-ne0.true in
+    record { answered = t.0; left = t.1 }
 
 pub write-requires : goal.write-requires
 write-requires c = (within-fresh _ _ _ _ _ c.fresh-fresh.ensures, c.if-negotiation-ne-BYTES.false)
 
 pub returns : goal.returns
 returns c =
-    begin-fresh _ _ _ _ _ _ c.if-negotiation-ne-BYTES.false c.decode-d.ensures.0 c.if-d-ne0.false c.role_number-k.ensures c.if-k-ne0.false
-    c.other_number-m.ensures c.if-m-ne0.false c.side_of.ensures c.fresh-fresh.ensures c.write.ensures
+    let t = begin-fresh c.args.tables.now c.args.negotiation.now c.args.other c.args.entity c.args.name c.decode-d.result c.if-negotiation-ne-BYTES.false c.decode-d.ensures.0 c.if-d-ne0.false c.role_number-k.ensures c.if-k-ne0.false
+    c.other_number-m.ensures c.if-m-ne0.false c.side_of.ensures c.fresh-fresh.ensures c.write.ensures in
+    record { answered = t.0; left = t.1 }

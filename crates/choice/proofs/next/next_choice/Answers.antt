@@ -14,7 +14,7 @@ use Rattle.candidates.specs.laws.Reach.{Recalls}
 use Rattle.choice.specs.laws.Ready.{ready_of}
 use Rattle.choice.specs.laws.Next.{NothingBefore, nothing-start, nothing-next, nothing-begins, nothing-processed, found_here, found_nothing}
 use Rattle.choice.proofs.next.next_choice.Goals as goal
-use Rattle.choice.proofs.next.next_choice.Goals.{then-is_unprocessed, else-is_unprocessed}
+use Rattle.choice.proofs.next.next_choice.Goals.{then-is_unprocessed+else-not-is_nothing, else-is_unprocessed}
 
 pub begins_at-i-requires : goal.begins_at-i-requires
 unfolding state_of
@@ -59,13 +59,13 @@ pub loop-i-preserved : goal.loop-i-preserved
 unfolding end_in state_of
 loop-i-preserved c = (
   elim c.if-is_unprocessed.branch [
-    | then-is_unprocessed w ↦ nothing-next (end_in (tables_of c.args.own.house) (state_of c.args.n)) c.loop-i.invariant.0
+    | then-is_unprocessed+else-not-is_nothing w ↦ nothing-next (end_in (tables_of c.args.own.house) (state_of c.args.n)) c.loop-i.invariant.0
         (w.node_at-x.ensures _ c.loop-i-test.true) w.choice_at-choice.ensures w.is_nothing.ensures (ap not w.if-not-is_nothing.false)
     | else-is_unprocessed w ↦ nothing-processed (tables_of c.args.own.house) c.args.n c.loop-i.invariant.0 c.loop-i-test.true
         c.is_unprocessed.ensures w.if-is_unprocessed.false
   ],
   omega (arith, c.loop-i-test.true),
-  elim c.if-is_unprocessed.branch [ then-is_unprocessed w ↦ subst (λ (l : LinkReach). Recalls c.args.own l) (sym w.reach-is) w.reach_at-visit.ensures.recalls | else-is_unprocessed w ↦ subst (λ (l : LinkReach). Recalls c.args.own l) (sym w.reach-is) c.loop-i.invariant.2 ],
+  elim c.if-is_unprocessed.branch [ then-is_unprocessed+else-not-is_nothing w ↦ subst (λ (l : LinkReach). Recalls c.args.own l) (sym w.reach-is) w.reach_at-visit.ensures.recalls | else-is_unprocessed w ↦ subst (λ (l : LinkReach). Recalls c.args.own l) (sym w.reach-is) c.loop-i.invariant.2 ],
 )
 
 pub returns : goal.returns

@@ -14,45 +14,33 @@ use Rattle.legal.specs.laws.Edge.{added_number}
 use Rattle.legal.specs.laws.Number.{first_stops, first_passes, stops, passes, fresh-yes, fresh-no, absent-yes, absent-no, sizes-same}
 use borrow.Author.Rules.{rules}
 use Rattle.legal.proofs.edges.bring_number.Goals as goal
-use Rattle.legal.proofs.edges.bring_number.Goals.{After-bring_wrong, Else-nodes-wide, Start}
+use Rattle.legal.proofs.edges.bring_number.Goals.{After-bring_wrong, Else-nodes-wide}
 
 -- the parent stands
-abbrev start : Else-nodes-wide → Start
-start c = c
-
-parent-stands : (c : Else-nodes-wide) → (start c).args.b.parent < (start c).args.n.nodes.count
+parent-stands : (c : Else-nodes-wide) → c.args.b.parent < c.args.n.nodes.count
 parent-stands c = omega (arith, c.wide.ensures, c.if-nodes-wide.false)
 
-abbrev stand : After-bring_wrong → Else-nodes-wide
-stand c = c
-
-wrong : (c : After-bring_wrong)
-    → c.bring_wrong.result ≡ bring_wrong (state_of (start (stand c)).args.n) (start (stand c)).args.b
+wrong : (c : After-bring_wrong) → c.bring_wrong.result ≡ bring_wrong (state_of c.args.n) c.args.b
 unfolding state_of
 wrong c =
-    c.bring_wrong.ensures (start (stand c)).args.n.nodes.state _
-    (record { header = refl; nodes = refl; c = c.node_at-parent.ensures _ (parent-stands (stand c)) })
+    c.bring_wrong.ensures c.args.n.nodes.state _
+    (record { header = refl; nodes = refl; parent = c.node_at-parent.ensures _ (parent-stands c.before.before.before.before.before.before.before.before.before.before.before.before) })
 
 -- what the rules behind the form say
 abbrev behind : After-bring_wrong → ℕ
 behind c =
-    let s = start (stand c) in
-    added_number s.args.side (node_in (state_of s.args.n).nodes s.args.b.parent) s.args.justified
-    (leb MOST-NODES (length (state_of s.args.n).nodes) || leb MOST-EDGES (length (state_of s.args.n).edges))
+    added_number c.args.side (node_in (state_of c.args.n).nodes c.args.b.parent) c.args.justified
+    (leb MOST-NODES (length (state_of c.args.n).nodes) || leb MOST-EDGES (length (state_of c.args.n).edges))
 
 -- no rule before the form refuses the edge
 unrefused : (c : After-bring_wrong) {r : ℕ}
-    → r ≡ refuse (bring_wrong (state_of (start (stand c)).args.n) (start (stand c)).args.b) PRESENT (behind c)
-    → r ≡ bring_number (names_of (start (stand c)).args.names) (start (stand c)).args.side (state_of (start (stand c)).args.n) (start (stand c)).args.b
-    (start (stand c)).args.justified
+    → r ≡ refuse (bring_wrong (state_of c.args.n) c.args.b) PRESENT (behind c)
+    → r ≡ bring_number (names_of c.args.names) c.args.side (state_of c.args.n) c.args.b c.args.justified
 unfolding bring_number state_of
 unrefused c last =
-    let opened = (stand c).before.before in
-    let typed = opened.before.before.before in
-    let n = (start (stand c)).args.n in
-    first_passes _ _ _ (typed.before.type-number.ensures ∙ ap type_number typed.before.before.type-of.ensures) typed.if1.left
-    (passes _ _ _ (fresh-no n opened.if2.left)
-    (passes _ _ _ (absent-no n _ (parent-stands (stand c))) last))
+    first_passes _ _ _ (c.type_number-k.ensures ∙ ap type_number c.type_of.ensures) c.if-k-ne0.false
+    (passes _ _ _ (fresh-no c.args.n c.if-nodes-eq0.false)
+    (passes _ _ _ (absent-no c.args.n _ (parent-stands c.before.before.before.before.before.before.before.before.before.before.before.before)) last))
 
 pub returns-then-k-ne0 : goal.returns-then-k-ne0
 unfolding bring_number state_of
@@ -72,17 +60,16 @@ returns-then-nodes-wide c =
     (stops _ _ _ (absent-yes c.args.n _ (omega (arith, c.wide.ensures, c.if-nodes-wide.true)))))
 
 pub node_at-parent-requires : goal.node_at-parent-requires
-node_at-parent-requires c = omega (arith, parent-stands c.before.before.before.before.before.before, (start c.before.before.before.before.before.before).requires.2)
+node_at-parent-requires c = omega (arith, parent-stands c.before.before.before.before.before.before, c.requires.2)
 
 pub bring_wrong-requires : goal.bring_wrong-requires
-bring_wrong-requires c = (start c.before.before.before.before.before.before.before.before.before.before.before).requires.2
+bring_wrong-requires c = c.requires.2
 
 pub returns-then-bring_wrong : goal.returns-then-bring_wrong
 returns-then-bring_wrong c = unrefused c.before (stops _ _ _ (sym (wrong c.before) ∙ c.if-bring_wrong.true))
 
 pub returns : goal.returns
 unfolding state_of
-returns c = let s = start (stand c.before.before.before) in
-    unrefused c.before.before.before (passes _ _ _ (sym (wrong c.before.before.before) ∙ c.if-bring_wrong.false)
+returns c = unrefused c.before.before.before (passes _ _ _ (sym (wrong c.before.before.before) ∙ c.if-bring_wrong.false)
     (c.added_number.ensures
-    ∙ (λ i. added_number s.args.side (c.node_at-parent.ensures _ (parent-stands (stand c.before.before.before)) i) s.args.justified (sizes-same s.args.n i))))
+    ∙ (λ i. added_number c.args.side (c.node_at-parent.ensures _ (parent-stands c.before.before.before.before.before.before.before.before.before.before.before.before.before.before.before) i) c.args.justified (sizes-same c.args.n i))))

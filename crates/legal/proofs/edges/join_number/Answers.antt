@@ -12,50 +12,40 @@ use Rattle.legal.specs.laws.Edge.{added_number}
 use Rattle.legal.specs.laws.Number.{stops, passes, fresh-yes, fresh-no, both-present, parent-absent, child-absent, edges-same}
 use borrow.Author.Rules.{rules}
 use Rattle.legal.proofs.edges.join_number.Goals as goal
-use Rattle.legal.proofs.edges.join_number.Goals.{After-join_wrong, Else-nodes-wide-2, Start}
+use Rattle.legal.proofs.edges.join_number.Goals.{After-join_wrong, Else-nodes-wide-2}
 
 -- both ends stand
-abbrev start : Else-nodes-wide-2 → Start
-start c = c
-
-parent-stands : (c : Else-nodes-wide-2) → (start c).args.e.parent < (start c).args.n.nodes.count
+parent-stands : (c : Else-nodes-wide-2) → c.args.e.parent < c.args.n.nodes.count
 parent-stands c = omega (arith, c.wide.ensures, c.if-nodes-wide.false)
 
-child-stands : (c : Else-nodes-wide-2) → (start c).args.e.child < (start c).args.n.nodes.count
+child-stands : (c : Else-nodes-wide-2) → c.args.e.child < c.args.n.nodes.count
 child-stands c = omega (arith, c.wide-2.ensures, c.if-nodes-wide-2.false)
 
-abbrev stand : After-join_wrong → Else-nodes-wide-2
-stand c = c
-
-wrong : (c : After-join_wrong)
-    → c.join_wrong.result ≡ join_wrong (state_of (start (stand c)).args.n) (start (stand c)).args.e
+wrong : (c : After-join_wrong) → c.join_wrong.result ≡ join_wrong (state_of c.args.n) c.args.e
 unfolding state_of
 wrong c =
     c.join_wrong.ensures _
     (record {
       header = refl;
       edges = refl;
-      c = c.node_at-p.ensures _ (parent-stands (stand c));
-      c = c.node_at-c.ensures _ (child-stands (stand c));
+      parent = c.node_at-p.ensures _ (parent-stands c.before.before.before.before.before.before.before.before.before.before.before.before.before.before.before);
+      child = c.node_at-c.ensures _ (child-stands c.before.before.before.before.before.before.before.before.before.before.before.before.before.before.before);
     })
 
 -- what the rules behind the form say
 abbrev behind : After-join_wrong → ℕ
 behind c =
-    let s = start (stand c) in
-    added_number s.args.side (node_in (state_of s.args.n).nodes s.args.e.parent) s.args.justified
-    (leb MOST-EDGES (length (state_of s.args.n).edges))
+    added_number c.args.side (node_in (state_of c.args.n).nodes c.args.e.parent) c.args.justified
+    (leb MOST-EDGES (length (state_of c.args.n).edges))
 
 -- no rule before the form refuses the edge
 unrefused : (c : After-join_wrong) {r : ℕ}
-    → r ≡ refuse (join_wrong (state_of (start (stand c)).args.n) (start (stand c)).args.e) PRESENT (behind c)
-    → r ≡ join_number (start (stand c)).args.side (state_of (start (stand c)).args.n) (start (stand c)).args.e
-    (start (stand c)).args.justified
+    → r ≡ refuse (join_wrong (state_of c.args.n) c.args.e) PRESENT (behind c)
+    → r ≡ join_number c.args.side (state_of c.args.n) c.args.e c.args.justified
 unfolding join_number state_of
 unrefused c last =
-    let n = (start (stand c)).args.n in
-    passes _ _ _ (fresh-no n (stand c).before.before.before.before.if1.false)
-    (passes _ _ _ (both-present n _ _ (parent-stands (stand c)) (child-stands (stand c))) last)
+    passes _ _ _ (fresh-no c.args.n c.if-nodes-eq0.false)
+    (passes _ _ _ (both-present c.args.n _ _ (parent-stands c.before.before.before.before.before.before.before.before.before.before.before.before.before.before.before) (child-stands c.before.before.before.before.before.before.before.before.before.before.before.before.before.before.before)) last)
 
 pub returns-then-nodes-eq0 : goal.returns-then-nodes-eq0
 unfolding join_number state_of
@@ -75,20 +65,19 @@ returns-then-nodes-wide-2 c =
     (omega (arith, c.wide.ensures, c.if-nodes-wide.false)) (omega (arith, c.wide-2.ensures, c.if-nodes-wide-2.true))))
 
 pub node_at-p-requires : goal.node_at-p-requires
-node_at-p-requires c = omega (arith, parent-stands c.before.before.before.before.before.before, (start c.before.before.before.before.before.before).requires.0)
+node_at-p-requires c = omega (arith, parent-stands c.before.before.before.before.before.before, c.requires.0)
 
 pub node_at-c-requires : goal.node_at-c-requires
-node_at-c-requires c = omega (arith, child-stands c.before.before.before.before.before.before.before.before.before.before.before.before.before, (start c.before.before.before.before.before.before.before.before.before.before.before.before.before).requires.0)
+node_at-c-requires c = omega (arith, child-stands c.before.before.before.before.before.before.before.before.before.before.before.before.before, c.requires.0)
 
 pub join_wrong-requires : goal.join_wrong-requires
-join_wrong-requires c = (start c.before.before.before.before.before.before.before.before.before.before.before.before.before.before).requires.1
+join_wrong-requires c = c.requires.1
 
 pub returns-then-join_wrong : goal.returns-then-join_wrong
 returns-then-join_wrong c = unrefused c.before (stops _ _ _ (sym (wrong c.before) ∙ c.if-join_wrong.true))
 
 pub returns : goal.returns
 unfolding state_of
-returns c = let s = start (stand c.before.before.before) in
-    unrefused c.before.before.before (passes _ _ _ (sym (wrong c.before.before.before) ∙ c.if-join_wrong.false)
+returns c = unrefused c.before.before.before (passes _ _ _ (sym (wrong c.before.before.before) ∙ c.if-join_wrong.false)
     (c.added_number.ensures
-    ∙ (λ i. added_number s.args.side (c.node_at-p.ensures _ (parent-stands (stand c.before.before.before)) i) s.args.justified (edges-same s.args.n i))))
+    ∙ (λ i. added_number c.args.side (c.node_at-p.ensures _ (parent-stands c.before.before.before.before.before.before.before.before.before.before.before.before.before.before.before.before.before.before) i) c.args.justified (edges-same c.args.n i))))

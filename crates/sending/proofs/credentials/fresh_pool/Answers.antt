@@ -13,4 +13,4 @@ pub own_pool-requires : goal.own_pool-requires
 own_pool-requires c = (c.requires.0, c.requires.1)
 
 pub returns : goal.returns
-returns c = let r = c.refresh.ensures in record { few = c.own_pool.ensures.few; sized = r.0; flags = λ on h. (r.1 on h, c.own_pool.ensures.all ∙ ap (λ (l : List Credential). credentials c.args.shown ++ l) (unshown-chosen (r.1 on h))) }
+returns c = let r = c.refresh.ensures in record { few = c.own_pool.ensures.few; sized = r.sized; flags = λ on h. (r.flags on h, c.own_pool.ensures.all ∙ ap (λ (l : List Credential). credentials c.args.shown ++ l) (unshown-chosen (r.flags on h))) }

@@ -21,10 +21,10 @@ pub returns-then-ours : goal.returns-then-ours
 unfolding side_chosen
 returns-then-ours c = let shown = c.args.shown in
     let r = c.fresh_pool.ensures in
-    let told = r.1.1 _ c.requires.2.issuers in
+    let told = r.flags _ c.requires.2.issuers in
     let side = sym c.if-ours.true in
     let all = told.1 ∙ ap (λ (b : Bool). credentials shown ++ unshown_of (credentials shown) (side_chosen c.args.own b)) side in
-    record { few = r.0; all = all; fresh = fresh-issuer shown c.requires.2 r.1.0 told.0 }
+    record { few = r.few; all = all; fresh = fresh-issuer shown c.requires.2 r.sized told.0 }
 
 pub bounds-seen-1 : goal.bounds-seen-1
 bounds-seen-1 c = omega (arith, c.requires.2.pair)
@@ -39,7 +39,7 @@ pub returns : goal.returns
 unfolding side_chosen
 returns c = let shown = c.args.shown in
     let r = c.fresh_pool-2.ensures in
-    let told = r.1.1 _ c.requires.2.subjects in
+    let told = r.flags _ c.requires.2.subjects in
     let side = sym c.if-ours.false in
     let all = told.1 ∙ ap (λ (b : Bool). credentials shown ++ unshown_of (credentials shown) (side_chosen c.args.own b)) side in
-    record { few = r.0; all = all; fresh = fresh-subject shown c.requires.2 r.1.0 told.0 }
+    record { few = r.few; all = all; fresh = fresh-subject shown c.requires.2 r.sized told.0 }
