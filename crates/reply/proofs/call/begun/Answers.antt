@@ -16,5 +16,5 @@ step-next-requires c = (c.requires.1, open-room (tables_of c.args.house) c.args.
 pub returns : goal.returns
 returns c =
     begins-open (tables_of c.args.house) c.args.n c.first_open-c.ensures c.if-n-ne0.false c.step-next.result
-    c.replying-2.result c.write_command.ensures c.step-next.ensures c.type_size.ensures
+    c.replying-2.result c.write_command.ensures c.step-next.ensures c.size_of.ensures
     c.replying-2.ensures.1 c.replying-2.ensures.2

@@ -31,5 +31,6 @@ step-requires c = (
 
 pub returns : goal.returns
 returns c =
-    carry-led c.args.n.header.side (state_of c.args.n) c.args.out c.args.s.now c.args.at c.requires.2 c.requires.3
-    c.requires.4 c.show_all-m.ensures.shown c.show_all-m.ensures.written c.count_on.ensures.counted c.write_command.ensures c.step.ensures
+    let t = carry-led c.args.n.header.side (state_of c.args.n) c.args.out c.args.s.now c.args.at c.requires.2 c.requires.3
+    c.requires.4 c.show_all-m.ensures.shown c.show_all-m.ensures.written c.count_on.ensures.counted c.write_command.ensures c.step.ensures in
+    record { led = t.0; written = t.1 }

@@ -58,4 +58,6 @@ pub shape_of-s : goal.shape_of-s
 shape_of-s c = showing-length _ _ _ _ _ c.loop-k.invariant
 
 pub returns : goal.returns
-returns c = showing-end _ _ _ _ _ c.loop-k.invariant c.loop-k-test.false
+returns c =
+    let t = showing-end c.args.pool c.args.on (state_of c.args.start) c.args.s.now c.args.from c.loop-k.invariant c.loop-k-test.false in
+    record { shown = t.0; written = t.1 }

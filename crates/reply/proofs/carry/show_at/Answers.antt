@@ -4,8 +4,9 @@ use Rattle.reply.proofs.carry.show_at.Goals as goal
 
 pub returns-then-flag-ne1 : goal.returns-then-flag-ne1
 returns-then-flag-ne1 c =
-    show-off c.args.pool c.args.k (state_of c.args.n) c.args.s.now
-    c.args.at c.args.flag c.if-flag-ne1.true
+    let t = show-off c.args.pool c.args.k (state_of c.args.n) c.args.s.now
+    c.args.at c.args.flag c.if-flag-ne1.true in
+    record { shown = t.0; written = t.1 }
 
 pub write_command-requires : goal.write_command-requires
 write_command-requires c =
@@ -17,5 +18,6 @@ show-requires c = show-free c.args.pool c.args.k c.args.n c.args.flag c.if-flag-
 
 pub returns : goal.returns
 returns c =
-    show-on c.args.pool c.args.k (state_of c.args.n) c.args.s.now c.args.at c.args.flag c.if-flag-ne1.false
-    c.credential_of-c.ensures c.write_command.ensures c.show.ensures
+    let t = show-on c.args.pool c.args.k (state_of c.args.n) c.args.s.now c.args.at c.args.flag c.if-flag-ne1.false
+    c.credential_of-c.ensures c.write_command.ensures c.show.ensures in
+    record { shown = t.0; written = t.1 }

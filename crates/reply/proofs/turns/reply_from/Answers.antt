@@ -20,7 +20,7 @@ use Rattle.reply.proofs.turns.reply_from.Goals as goal
 use Rattle.reply.proofs.turns.reply_from.Goals.{Start}
 
 visible-length : (s : Start) → length s.args.own.visible ≡ 128
-visible-length s = search (rules, s.well-formed)
+visible-length s = search (rules, s.well_formed)
 
 pub loop-left-init : goal.loop-left-init
 loop-left-init c = (

@@ -6,12 +6,15 @@ use Rattle.take.specs.laws.Take.{take-size, size-parts, take-unrestored, take-re
 use Rattle.take.proofs.call.take.Goals as goal
 
 pub returns-then-not-fits : goal.returns-then-not-fits
-returns-then-not-fits c = take-size c.args.tables.now c.args.negotiation.now c.args.message.now c.args.scratch.now c.fits2.ensures (ap not c.if-not-fits.true)
+returns-then-not-fits c =
+    let t = take-size c.args.tables.now c.args.negotiation.now c.args.message.now c.args.scratch.now c.fits.ensures (ap not c.if-not-fits.true) in
+    record { answered = t.0; left = t.1.0; cleared = t.1.1 }
 
 pub returns-then-r-ne0 : goal.returns-then-r-ne0
 returns-then-r-ne0 c =
-    take-unrestored c.args.tables.now c.args.negotiation.now c.args.message.now c.args.scratch.now c.fits2.ensures
-    (ap not c.if-not-fits.false) _ c.restore-r.ensures.found c.if-r-ne0.true
+    let t = take-unrestored c.args.tables.now c.args.negotiation.now c.args.message.now c.args.scratch.now c.fits.ensures
+    (ap not c.if-not-fits.false) c.restore-r.result c.restore-r.ensures.found c.if-r-ne0.true in
+    record { answered = t.0; left = t.1.0; cleared = t.1.1 }
 
 pub taken_in-t-requires : goal.taken_in-t-requires
 taken_in-t-requires c = (
@@ -23,8 +26,9 @@ taken_in-t-requires c = (
 
 pub returns-then-t-ne0 : goal.returns-then-t-ne0
 returns-then-t-ne0 c =
-    take-refused c.args.tables.now c.args.negotiation.now c.args.message.now c.args.scratch.now c.fits2.ensures
-    (ap not c.if-not-fits.false) _ c.restore-r.ensures.found c.if-r-ne0.false _ c.taken_in-t.ensures.taken c.if-t-ne0.true
+    let t = take-refused c.args.tables.now c.args.negotiation.now c.args.message.now c.args.scratch.now c.fits.ensures
+    (ap not c.if-not-fits.false) c.restore-r.result c.restore-r.ensures.found c.if-r-ne0.false c.taken_in-t.result c.taken_in-t.ensures.taken c.if-t-ne0.true in
+    record { answered = t.0; left = t.1.0; cleared = t.1.1 }
 
 pub write-requires : goal.write-requires
 write-requires c = (c.taken_in-t.ensures.sized.sizes c.if-t-ne0.false, restored-length _ _ _ c.restore-r.ensures.found c.if-r-ne0.false)
@@ -35,12 +39,13 @@ write_zeros-requires c = (
   omega (
     arith,
     (size-parts c.args.tables.now c.args.negotiation.now c.args.message.now c.args.scratch.now
-        c.fits2.ensures (ap not c.if-not-fits.false)).2,
+        c.fits.ensures (ap not c.if-not-fits.false)).2,
   ),
 )
 
 pub returns : goal.returns
 returns c =
-    take-accepted c.args.tables.now c.args.negotiation.now c.args.message.now c.args.scratch.now c.fits2.ensures
-    (ap not c.if-not-fits.false) _ c.restore-r.ensures.found c.if-r-ne0.false _ c.taken_in-t.ensures.taken c.if-t-ne0.false c.write.ensures
-    c.write_zeros.ensures
+    let t = take-accepted c.args.tables.now c.args.negotiation.now c.args.message.now c.args.scratch.now c.fits.ensures
+    (ap not c.if-not-fits.false) c.restore-r.result c.restore-r.ensures.found c.if-r-ne0.false c.taken_in-t.result c.taken_in-t.ensures.taken c.if-t-ne0.false c.write.ensures
+    c.write_zeros.ensures in
+    record { answered = t.0; left = t.1.0; cleared = t.1.1 }
