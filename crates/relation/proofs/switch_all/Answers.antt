@@ -73,9 +73,12 @@ loop-i-preserved c = let inv = c.loop-i.invariant in
     )
 
 pub returns : goal.returns
-returns c = let inv = c.loop-i.invariant in record { switched = switched-end c.args.low c.loop-i.i c.args.high _ _ inv.1 c.loop-i-test.false inv.4; related = λ H ruled before.
+returns c = let inv = c.loop-i.invariant in record {
+  switched = switched-end c.args.low c.loop-i.i c.args.high _ _ inv.1 c.loop-i-test.false inv.4;
+  related = λ H ruled before.
       related (pool c.before.before.before.before.before.before H) _ c.requires.1.count (E.Entity 0) (rules c.before.before.before.before.before.before) (compiled-plain (pool c.before.before.before.before.before.before H) c.requires.1.count (rules c.before.before.before.before.before.before) ruled) ruled.wide
-      _ _ _ (inv.5 H ruled before) c.close.ensures }
+      _ _ _ (inv.5 H ruled before) c.close.ensures;
+}
 
 pub offset_bounds-head-i : goal.offset_bounds-head-i
 offset_bounds-head-i c = omega (arith, below c)

@@ -45,9 +45,14 @@ choice_at-choice-requires c = let taken = c.loop-i-test.true in
 
 pub returns-then-not-is_nothing : goal.returns-then-not-is_nothing
 unfolding end_in state_of
-returns-then-not-is_nothing c = let taken = c.loop-i-test.true in record { found = found_here (end_in (tables_of c.args.own.house) (state_of c.args.n)) c.loop-i.invariant.0 (c.node_at-x.ensures _ taken)
+returns-then-not-is_nothing c = let taken = c.loop-i-test.true in record {
+  found = found_here (end_in (tables_of c.args.own.house) (state_of c.args.n)) c.loop-i.invariant.0 (c.node_at-x.ensures _ taken)
       c.choice_at-choice.ensures c.is_nothing.ensures (ap not c.if-not-is_nothing.true)
-      (omega (arith, nodes-length c.args.n.nodes, taken)) refl; standing = taken; idle = c.loop-i.invariant.0; recalls = c.reach_at-visit.ensures.recalls }
+      (omega (arith, nodes-length c.args.n.nodes, taken)) refl;
+  standing = taken;
+  idle = c.loop-i.invariant.0;
+  recalls = c.reach_at-visit.ensures.recalls;
+}
 
 pub overflow_add-i : goal.overflow_add-i
 overflow_add-i c = omega (arith, c.loop-i-test.true, (within-few _ c.requires.1).0)
@@ -70,5 +75,10 @@ loop-i-preserved c = (
 
 pub returns : goal.returns
 unfolding end_in state_of
-returns c = record { found = found_nothing (end_in (tables_of c.args.own.house) (state_of c.args.n)) c.loop-i.invariant.0
-      (omega (arith, nodes-length c.args.n.nodes, c.loop-i-test.false)); standing = c.requires.2; idle = nothing-start _; recalls = c.loop-i.invariant.2 }
+returns c = record {
+  found = found_nothing (end_in (tables_of c.args.own.house) (state_of c.args.n)) c.loop-i.invariant.0
+      (omega (arith, nodes-length c.args.n.nodes, c.loop-i-test.false));
+  standing = c.requires.2;
+  idle = nothing-start _;
+  recalls = c.loop-i.invariant.2;
+}

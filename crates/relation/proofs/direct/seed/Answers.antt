@@ -11,9 +11,12 @@ abbrev pool : (c : Start) → List ℕ → Pool
 pool c H = pool_of c.args.n H c.args.kinds.now c.args.numbers.now
 
 pub returns-then-kinds-i-ne1 : goal.returns-then-kinds-i-ne1
-returns-then-kinds-i-ne1 c = record { sized = c.requires.4; seeded = λ H h.
+returns-then-kinds-i-ne1 c = record {
+  sized = c.requires.4;
+  seeded = λ H h.
       seed-none (pool c.before.before.before.before H) c.requires.0 c.args.i c.args.rows.now
-      c.requires.4 c.if-kinds-i-ne1.true }
+      c.requires.4 c.if-kinds-i-ne1.true;
+}
 
 pub find_source-s-requires : goal.find_source-s-requires
 find_source-s-requires c = (c.requires.0, c.requires.3)
@@ -27,6 +30,9 @@ mark-requires c = (
 )
 
 pub returns : goal.returns
-returns c = record { sized = c.mark.ensures.sized; seeded = λ H h.
+returns c = record {
+  sized = c.mark.ensures.sized;
+  seeded = λ H h.
       seed-mark (pool c.before.before.before.before.before.before.before.before.before.before.before H) c.args.i c.args.rows.now _ _ c.find_source-s.result _
-      (body-one (pool c.before.before.before.before.before.before.before.before.before.before.before H) c.requires.0 c.args.i c.if-kinds-i-ne1.false) h c.find_source-s.ensures c.mark.ensures }
+      (body-one (pool c.before.before.before.before.before.before.before.before.before.before.before H) c.requires.0 c.args.i c.if-kinds-i-ne1.false) h c.find_source-s.ensures c.mark.ensures;
+}

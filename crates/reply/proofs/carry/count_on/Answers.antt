@@ -28,5 +28,8 @@ pub loop-k-preserved : goal.loop-k-preserved
 loop-k-preserved c = counted_next _ _ c.loop-k.invariant c.loop-k-test.true c.one_if-n.ensures.counted
 
 pub returns : goal.returns
-returns c = record { counted = counted-end _ _ c.loop-k.invariant c.loop-k-test.false; few = omega
-      (arith, c.loop-k.invariant.few, c.loop-k.invariant.inside, c.requires) }
+returns c = record {
+  counted = counted-end _ _ c.loop-k.invariant c.loop-k-test.false;
+  few = omega
+      (arith, c.loop-k.invariant.few, c.loop-k.invariant.inside, c.requires);
+}

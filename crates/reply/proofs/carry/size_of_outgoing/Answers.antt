@@ -6,5 +6,8 @@ pub overflow_add-result : goal.overflow_add-result
 overflow_add-result c = omega (arith, size_few c.args.out.command c.count_on.ensures.few c.size_of.ensures)
 
 pub returns : goal.returns
-returns c = record { size = size-outgoing c.args.out c.count_on.ensures.counted c.size_of.ensures; few = size_few c.args.out.command
-      c.count_on.ensures.few c.size_of.ensures }
+returns c = record {
+  size = size-outgoing c.args.out c.count_on.ensures.counted c.size_of.ensures;
+  few = size_few c.args.out.command
+      c.count_on.ensures.few c.size_of.ensures;
+}

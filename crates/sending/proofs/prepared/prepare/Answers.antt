@@ -9,10 +9,13 @@ stops-sens-requires c = (c.requires.names, c.requires.ascending, c.requires.sens
 
 pub returns : goal.returns
 unfolding tables_of public_of
-returns c = record { prepared = record {
+returns c = record {
+  prepared = record {
     housed = c.requires;
     visible = c.visible_of-visible.ensures;
     oppo = c.stops-oppo.ensures _;
     simp = c.stops-simp.ensures _;
     sens = c.stops-sens.ensures _;
-  }; same = refl }
+  };
+  same = refl;
+}

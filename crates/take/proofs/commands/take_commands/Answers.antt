@@ -28,9 +28,9 @@ ready-held-requires c = (c.loop-at.invariant.0.sizes, c.loop-at.invariant.0.form
 
 pub is_proved-proved-requires : goal.is_proved-proved-requires
 is_proved-proved-requires c = let current : CurrentFor c.loop-at.kept.stale c.in-Read.c c.if-kept-is_implication.known c.loop-at.n.shown = elim c.if-kept-is_implication.branch [
-      then-kept-is_implication w ↦ current-made _ _ _ _ _ w.proved_by-known.ensures.known w.proved_by-known.ensures.same w.known-is
-    | else-kept-is_implication w ↦ current-left _ _ _ _ _ c.loop-at.invariant.1.current c.is_implication.ensures w.if-kept-is_implication.false w.known-is
-    ] in (
+  | then-kept-is_implication w ↦ current-made _ _ _ _ _ w.proved_by-known.ensures.known w.proved_by-known.ensures.same w.known-is
+  | else-kept-is_implication w ↦ current-left _ _ _ _ _ c.loop-at.invariant.1.current c.is_implication.ensures w.if-kept-is_implication.false w.known-is
+] in (
   (within-few _ c.loop-at.invariant.0.sizes).0,
   (
     _,
@@ -60,9 +60,9 @@ loop-at-smaller c = fewer-left _ _ c.next_command-next.ensures.0 c.in-Read.is c.
 
 pub loop-at-preserved : goal.loop-at-preserved
 loop-at-preserved c = let current : CurrentFor c.loop-at.kept.stale c.in-Read.c c.if-kept-is_implication.known c.loop-at.n.shown = elim c.if-kept-is_implication.branch [
-      then-kept-is_implication w ↦ current-made _ _ _ _ _ w.proved_by-known.ensures.known w.proved_by-known.ensures.same w.known-is
-    | else-kept-is_implication w ↦ current-left _ _ _ _ _ c.loop-at.invariant.1.current c.is_implication.ensures w.if-kept-is_implication.false w.known-is
-    ] in (
+  | then-kept-is_implication w ↦ current-made _ _ _ _ _ w.proved_by-known.ensures.known w.proved_by-known.ensures.same w.known-is
+  | else-kept-is_implication w ↦ current-left _ _ _ _ _ c.loop-at.invariant.1.current c.is_implication.ensures w.if-kept-is_implication.false w.known-is
+] in (
   reading-next _ _ _ c.loop-at.invariant.0 c.loop-at-test.true c.next_command-next.ensures.0 c.in-Read.is c.judge-k.ensures
       (stop-left _ _ c.if-k-is_end.false).0 c.is_end.ensures (stop-left c.judge-k.result _ c.if-k-is_end.false).1
       c.step-n.ensures (moved-next _ _ c.ready-held.ensures c.carried-kept.ensures) c.next_command-next.ensures.1,
