@@ -1,8 +1,5 @@
-pub mod Known
-pub mod KnownStays
 pub mod Initial
 pub mod FrontiersExact
-pub mod Alike
 pub mod Stops
 pub mod Own
 pub mod Candidates

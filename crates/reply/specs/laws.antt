@@ -4,9 +4,5 @@ pub mod Carry
 pub mod Turns
 pub mod Turn
 pub mod Writing
-pub mod Moved
-pub mod Cases
-pub mod ReplyLength
-pub mod ReplyLegal
 pub mod Call
 pub mod Fresh

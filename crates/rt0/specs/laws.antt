@@ -1,5 +1,4 @@
 pub mod Lists
-pub mod Laws
 pub mod Pool
 pub mod Added
 pub mod Find

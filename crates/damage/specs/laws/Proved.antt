@@ -22,7 +22,7 @@ use Rattle.rt0.specs.Lists.{any}
 use Rattle.rt0.specs.laws.Lists.{any-find, any_here}
 use Rattle.word.specs.laws.Bools.{false-true, or_cases, and_parts, and_both}
 use Rattle.rt0.specs.From.{role_of, roles_of, From, reflexive, transitive, linking, intersection as intersection-from}
-use Rattle.rt0.specs.laws.Laws.{from-exact}
+use Rattle.rt0.proofs.laws.Laws.{from-exact}
 use Rattle.class.specs.declared.Name.{Name}
 use Rattle.propagation.specs.Flags.{at}
 use Rattle.propagation.specs.laws.Flags.{decided}

@@ -18,7 +18,7 @@ use Rattle.standing.specs.Turn.{sends}
 use Rattle.standing.specs.Holds.{Holds}
 use Rattle.standing.specs.laws.Exactly.{restored-exactly}
 use Rattle.reply.specs.Reply.{reply_in, replied_state, reply_bytes, replied_in, behind_standing, reply_size, reply_of}
-use Rattle.reply.specs.laws.ReplyLegal.{reply-updates}
+use Rattle.reply.proofs.laws.ReplyLegal.{reply-updates}
 use Rattle.exchange.specs.Given.{ReplyGiven}
 
 module _ (tables negotiation reply scratch m : List ℕ) (A : State) where

@@ -31,7 +31,7 @@ use Rattle.legality.specs.laws.Mirror.{mirror-state}
 use Rattle.reply.specs.Reply.{reply_in, replied_state, reply_bytes}
 use Rattle.exchange.specs.Mirror.{other_after}
 use Rattle.exchange.specs.laws.SameClasses.{commands-same}
-use Rattle.reply.specs.laws.ReplyLegal.{reply-going, reply-updates, reply-mirrored}
+use Rattle.reply.proofs.laws.ReplyLegal.{reply-going, reply-updates, reply-mirrored}
 use Rattle.numbers.specs.Answer.{Answer, refused, accepted}
 use Rattle.numbers.specs.Refusals.{TURN, ENDED}
 

@@ -29,17 +29,17 @@ pub record Says (ns : List Node) (es : List Edge) (sat : List ℕ) : Type 0 wher
   pub says : (i : ℕ) → flag sat i ≡ at (satisfied_b ns es) i
 
 -- the tests of an edge's kind, parent and child, made one after the other
-other : (p q : Bool) → (not p || not q) ≡ true → (p && q) ≡ false
+pub other : (p q : Bool) → (not p || not q) ≡ true → (p && q) ≡ false
 other true true h = absurd (false-true h)
 other true false h = refl
 other false q h = refl
 
-same-both : (p q : Bool) → (not p || not q) ≡ false → (p && q) ≡ true
+pub same-both : (p q : Bool) → (not p || not q) ≡ false → (p && q) ≡ true
 same-both true true h = refl
 same-both true false h = absurd (false-true (sym h))
 same-both false q h = absurd (false-true (sym h))
 
-second : (a b c : Bool) → false ≡ (a && false && b && c)
+pub second : (a b c : Bool) → false ≡ (a && false && b && c)
 second true b c = refl
 second false b c = refl
 
@@ -47,50 +47,15 @@ second-of : (a b : Bool) → false ≡ (a && false && b)
 second-of true b = refl
 second-of false b = refl
 
-last : (a : Bool) → false ≡ (a && false)
+pub last : (a : Bool) → false ≡ (a && false)
 last a = sym (and-false a)
 
 module _ (N : Nodes) (es : List Edge) (x : Expression) (b p : ℕ) (d : Edge) where
-  inside : {c : ℕ} → c ≡ d.child → c < N.count → ltb d.child (length (nodes_of N)) ≡ true
+  pub inside : {c : ℕ} → c ≡ d.child → c < N.count → ltb d.child (length (nodes_of N)) ≡ true
   inside e l = lt-ltb d.child (length (nodes_of N)) (omega (arith, nodes-length N))
 
-  past : {c : ℕ} → c ≡ d.child → N.count ≤ c → ltb d.child (length (nodes_of N)) ≡ false
+  pub past : {c : ℕ} → c ≡ d.child → N.count ≤ c → ltb d.child (length (nodes_of N)) ≡ false
   past e l = le-ltb d.child (length (nodes_of N)) (omega (arith, nodes-length N))
-
-  by-solves : (u v w z : Bool) → u ≡ (eqb d.kind 3 && eqb d.parent p) → v ≡ ltb d.child (length (nodes_of N))
-      → w ≡ is_solution_for x b (node_in (nodes_of N) d.child).expression → z ≡ at (satisfied_b (nodes_of N) es) d.child
-      → (u && v && w && z) ≡ solves (nodes_of N) es x b p d
-  unfolding solves
-  by-solves u v w z e f g h = λ i. e i && f i && g i && h i
-
-  -- another kind, or another parent
-  pub solves-other : (not (eqb d.kind 3) || not (eqb d.parent p)) ≡ true → false ≡ solves (nodes_of N) es x b p d
-  solves-other h = by-solves false _ _ _ (sym (other (eqb d.kind 3) (eqb d.parent p) h)) refl refl refl
-
-  -- no child
-  pub solves-past : {c : ℕ} → c ≡ d.child → N.count ≤ c → false ≡ solves (nodes_of N) es x b p d
-  solves-past e l =
-      let u : Bool = eqb d.kind 3 && eqb d.parent p in
-      let w : Bool = is_solution_for x b (node_in (nodes_of N) d.child).expression in
-      let z : Bool = at (satisfied_b (nodes_of N) es) d.child in
-      second u w z ∙ by-solves u false w z refl (sym (past e l)) refl refl
-
-  -- a child that is not satisfied
-  pub solves-not : {c : ℕ} {sat : List ℕ} → c ≡ d.child → Says (nodes_of N) es sat → (get_or sat c 0 ≡ 1 → ⊥) → false ≡ solves (nodes_of N) es x b p d
-  solves-not {c} {sat} e s h =
-      let u : Bool = eqb d.kind 3 && eqb d.parent p in
-      let v : Bool = ltb d.child (length (nodes_of N)) in
-      let w : Bool = is_solution_for x b (node_in (nodes_of N) d.child).expression in
-      last (u && v && w) ∙ by-solves u v w false refl refl refl (sym (ne_eqb (get_or sat c 0) 1 h) ∙ s.says c ∙ ap (at (satisfied_b (nodes_of N) es)) e)
-
-  -- a satisfied child, by its expression
-  pub solves-is : {c : ℕ} {sat : List ℕ} {r : Bool} → (not (eqb d.kind 3) || not (eqb d.parent p)) ≡ false → c ≡ d.child → c < N.count
-      → Says (nodes_of N) es sat → get_or sat c 0 ≡ 1
-      → r ≡ is_solution_for x b (node_at N c).expression → r ≡ solves (nodes_of N) es x b p d
-  solves-is {c} {sat} {r} h e l s o q =
-      sym (and-true r) ∙ by-solves true true r true (sym (same-both (eqb d.kind 3) (eqb d.parent p) h)) (sym (inside e l))
-      (q ∙ ap (λ (n : Node). is_solution_for x b n.expression) (sym (node_in_lem N c l) ∙ ap (node_in (nodes_of N)) e))
-      (sym (eq-eqb (get_or sat c 0) 1 o) ∙ s.says c ∙ ap (at (satisfied_b (nodes_of N) es)) e)
 
   by-monitors : (u v w : Bool) → u ≡ (eqb d.kind 2 && eqb d.parent p) → v ≡ ltb d.child (length (nodes_of N))
       → w ≡ solved (nodes_of N) es x b d.child → (u && v && w) ≡ monitors (nodes_of N) es x b p d

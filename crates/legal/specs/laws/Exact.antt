@@ -18,7 +18,7 @@ use Rattle.rt0.specs.laws.Lists.{any-find, any_here}
 use Rattle.word.specs.laws.Bools.{false-true, and_parts, and_both, or_cases, or_left, or_right, or-neither, not-of}
 use Rattle.rt0.specs.From.{role_of}
 use Rattle.rt0.specs.Decide.{from? as from_of}
-use Rattle.rt0.specs.laws.Laws.{from-exact}
+use Rattle.rt0.proofs.laws.Laws.{from-exact}
 use Rattle.class.specs.declared.Name.{Name}
 use Rattle.class.specs.declared.Typing.{Typing}
 use Rattle.class.specs.declared.Typing.TheVariants.{Ill, Any, Class}

@@ -10,7 +10,7 @@ use borrow.Author.Tests.{ne_eqb, eq-eqb, eqb-true, leb-false, not-false}
 use Rattle.expression.specs.declared.Credential.{Credential}
 use Rattle.expression.specs.Credential.{well_formed_credential}
 use Rattle.word.specs.laws.Bools.{and_parts, and_both, or_cases, or_left, or_right, or-neither}
-use Rattle.rt0.specs.laws.Laws.{from?-grows}
+use Rattle.rt0.proofs.laws.Laws.{from?-grows}
 use Rattle.class.specs.declared.Name.{Name}
 use Rattle.class.specs.Typing.{credential_number}
 use Rattle.graph.specs.declared.Node.{Node}

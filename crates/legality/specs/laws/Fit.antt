@@ -10,7 +10,7 @@ use Rattle.std.proofs.lemmas.Bool.{eqb-false}
 use Rattle.expression.specs.declared.Credential.{Credential}
 use Rattle.expression.specs.declared.Expression.{Expression}
 use Rattle.rt0.specs.From.{From}
-use Rattle.rt0.specs.laws.Laws.{more, sound, complete}
+use Rattle.rt0.proofs.laws.Laws.{more, sound, complete}
 use Rattle.propagation.specs.laws.Flags.{decided}
 use Rattle.tables.specs.Tables.{Tables}
 use Rattle.tables.specs.Public.{keep}

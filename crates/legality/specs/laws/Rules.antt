@@ -22,7 +22,7 @@ use Rattle.expression.specs.laws.Same.{same-eq, eq-same, same_role-eq}
 use Rattle.expression.specs.Kinds.{is_entity}
 use Rattle.rt0.specs.From.{From, reflexive, credential, linking, role_of, roles_of}
 use Rattle.rt0.specs.Decide.{from? as from_of}
-use Rattle.rt0.specs.laws.Laws.{sound}
+use Rattle.rt0.proofs.laws.Laws.{sound}
 use Rattle.rt0.specs.Lists.{any}
 use Rattle.rt0.specs.laws.Lists.{any-find, map-find}
 use Rattle.word.specs.laws.Bools.{and_parts}

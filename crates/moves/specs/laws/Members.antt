@@ -8,7 +8,7 @@ use Rattle.expression.specs.declared.Expression.{Expression}
 use Rattle.expression.specs.declared.Expression.TheVariants as E
 use Rattle.rt0.specs.From.{From, reflexive, transitive, credential, linking, intersection}
 use Rattle.rt0.specs.Decide.{from? as from_of}
-use Rattle.rt0.specs.laws.Laws.{from-exact}
+use Rattle.rt0.proofs.laws.Laws.{from-exact}
 use Rattle.tables.specs.laws.Public.{keep-find, keep-mem}
 use Rattle.moves.specs.Frontiers.{gather}
 use Rattle.moves.specs.Rules.{End, entities_in, members_of}

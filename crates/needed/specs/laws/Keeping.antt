@@ -10,7 +10,7 @@ use Rattle.expression.specs.declared.Credential.{Credential}
 use Rattle.expression.specs.declared.Expression.{Expression}
 use Rattle.rt0.specs.declared.Pool.{Pool}
 use Rattle.rt0.specs.Decide.{from?}
-use Rattle.rt0.specs.laws.Laws.{same_set}
+use Rattle.rt0.proofs.laws.Laws.{same_set}
 use Rattle.rt0.specs.Pool.{up_to}
 use Rattle.rt0.specs.laws.Pool.{credential_at, credentials}
 use Rattle.closure.specs.laws.Rules.{el}

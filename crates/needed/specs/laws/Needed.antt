@@ -13,7 +13,7 @@ use Rattle.rt0.specs.laws.Pool.{credential_at}
 use Rattle.std.proofs.Math.Path.{refl, sym, ap, subst}
 use Rattle.std.proofs.Common.{◌∙◌}
 use Rattle.std.proofs.Math.Logic.{⊎_elim}
-use Rattle.rt0.specs.laws.Laws.{more, sound, complete}
+use Rattle.rt0.proofs.laws.Laws.{more, sound, complete}
 use Rattle.word.specs.laws.Bools.{false-true, bool_iff, not-of}
 use Rattle.needed.specs.Needed.{kept, enough, needed, Each, last, next}
 

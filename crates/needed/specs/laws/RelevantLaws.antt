@@ -15,7 +15,7 @@ use Rattle.rt0.specs.From.{role_of, roles_of}
 use Rattle.rt0.specs.laws.Lists.{any_here}
 use Rattle.word.specs.laws.Bools.{or_left, or_right, bool_iff}
 use Rattle.rt0.specs.Decide.{from?}
-use Rattle.rt0.specs.laws.Laws.{Reach, here, step, link, each, reach, more, sound, complete}
+use Rattle.rt0.proofs.laws.Laws.{Reach, here, step, link, each, reach, more, sound, complete}
 use Rattle.rt0.specs.laws.Pool.{head_at, credential_at, credentials}
 use Rattle.rules.specs.laws.Exact.{unreach}
 use Rattle.needed.specs.Needed.{kept, enough, needed}

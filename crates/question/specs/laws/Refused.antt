@@ -10,7 +10,7 @@ use Rattle.expression.specs.declared.ExpressionAnswer.TheVariants.{Read, Wrong}
 use Rattle.question.specs.Credentials.{credentials_of}
 use Rattle.question.specs.Question.{sized, operand_of, answered, question_of}
 use Rattle.rt0.specs.Decide.{from?}
-use Rattle.rt0.specs.laws.Laws.{from-exact}
+use Rattle.rt0.proofs.laws.Laws.{from-exact}
 use Rattle.question.specs.Asked.{Sized, Answered}
 use Rattle.question.specs.Refused.{QuestionRefused, size, list, operand}
 use Rattle.question.specs.laws.CredentialsExact.{list_back, Rest, list-says, list-only, list-stopped}

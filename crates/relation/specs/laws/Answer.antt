@@ -14,7 +14,7 @@ use Rattle.rt0.specs.declared.Pool.{Pool}
 use Rattle.rt0.specs.From.{role_of, From, reflexive, linking}
 use Rattle.word.specs.laws.Bools.{false-true, or_cases, or_left, or_right, and_parts, and_both}
 use Rattle.rt0.specs.Decide.{from?}
-use Rattle.rt0.specs.laws.Laws.{Reach, reach, ends, role-ends, role-entity, decides}
+use Rattle.rt0.proofs.laws.Laws.{Reach, reach, ends, role-ends, role-entity, decides}
 use Rattle.rt0.specs.laws.Pool.{head_at, body_at}
 use Rattle.closure.specs.declared.Rules.{Rules}
 use Rattle.closure.specs.laws.Rules.{el, bits, Used, Within, Closed}

@@ -21,7 +21,7 @@ use Rattle.expression.specs.Kinds.{is_role_expression}
 use Rattle.rt0.specs.declared.Pool.{Pool}
 use Rattle.rt0.specs.From.{From, reflexive, transitive, credential}
 use Rattle.word.specs.laws.Bools.{false-true, and_parts, and_both}
-use Rattle.rt0.specs.laws.Laws.{more}
+use Rattle.rt0.proofs.laws.Laws.{more}
 use Rattle.rt0.specs.laws.Pool.{head_at, body_at, expression_in}
 use Rattle.closure.specs.laws.Rules.{el, bits, Marked}
 use Rattle.rules.specs.laws.Table.{row_of, row_in, bit_of, row_for, chosen, third, fourth}

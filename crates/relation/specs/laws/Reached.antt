@@ -18,8 +18,8 @@ use Rattle.rt0.specs.declared.Pool.{Pool}
 use Rattle.rt0.specs.From.{role_of, roles_of, From, reflexive, transitive, credential, linking, intersection}
 use Rattle.word.specs.laws.Bools.{false-true, and_parts, and_both, no-and}
 use Rattle.rt0.specs.Decide.{from?}
-use Rattle.rt0.specs.laws.Laws as R
-use Rattle.rt0.specs.laws.Laws.{Reach, reach, sound, complete, decides}
+use Rattle.rt0.proofs.laws.Laws as R
+use Rattle.rt0.proofs.laws.Laws.{Reach, reach, sound, complete, decides}
 use Rattle.rt0.specs.laws.Pool.{head_at, credentials}
 use Rattle.closure.specs.declared.Rules.{Rules}
 use Rattle.closure.specs.laws.Rules.{bits, Closed}

@@ -42,11 +42,9 @@ use Rattle.reply.specs.declared.Replying.{Replying}
 use Rattle.reply.specs.Reply.{Replied, opening, reply_in, replied_state, reply_bytes, replied_in}
 use Rattle.reply.specs.laws.Outgoing.{bytes-append, one-length}
 use Rattle.reply.specs.laws.Carry.{paste-length, pasted-behind}
-use Rattle.reply.specs.laws.Turns.{behind, rest_from, from-rest, bytes-behind}
+use Rattle.reply.specs.laws.Turns.{behind, rest_from, bytes-behind}
 use Rattle.reply.specs.laws.Turn.{going-ready}
 use Rattle.reply.specs.laws.Writing.{Gives}
-use Rattle.reply.specs.laws.Moved.{reply-moved}
-use Rattle.reply.specs.laws.ReplyLegal.{opens-first, reply-updates}
 use Rattle.numbers.specs.Answer.{refused, accepted}
 use Rattle.numbers.specs.Refusals.{TURN, ENDED}
 
@@ -123,56 +121,6 @@ module _ {K H : House} (e : K ≡ H) where
       → Gives (tables_of H) (rest_from 4096 (tables_of H) S at) at d₀ r d
   own-gives S at {d₀} {d} r g = subst (λ (X : House). Gives (tables_of X) (rest_from 4096 (tables_of X) S at) at d₀ r d) e g
 
-module _ (T : Tables) (t : Sound T) (S : State) (h : sound T S ≡ true) (w : within S ≡ true) (turn : sends S.header.side S.header.messages ≡ true) where
-  begun-going : Going T (carried S.header.side S (opening T S))
-  begun-going = go (eqb (length S.nodes) 0) refl
-    where
-      go : (b : Bool) → eqb (length S.nodes) 0 ≡ b → Going T (carried S.header.side S (cond b (first_open T.names S.header.wanted ∷ []) []))
-      go true e =
-          let z : length S.nodes ≡ 0 = eqb-true (length S.nodes) 0 e in opening-going T t S h w (opens-first T t S h w turn z) z
-      go false e = sound-going T t S h w (eqb-false (length S.nodes) 0 e)
-
-  module _ {d₀ d₁ : List ℕ} (b : Replying) (g : Begins T S d₀ b d₁) (long : 4096 ≤ length d₀) where
-    -- what going on from there asks
-    pub begun-ready : Going T (state_of b.negotiation) × (b.at + 1 ≤ 4096) × (4096 ≤ length d₁)
-    begun-ready = (
-      subst (Going T) (sym g.state) begun-going,
-      omega (arith, g.few),
-      omega (arith, long, ap length g.bytes, paste-length d₀ 0 (bytes_of (opening T S)) (omega (arith, g.size, g.few, long))),
-    )
-
-    pub begun-gives : {d : List ℕ} (r : Replying) → Gives T (rest_from 4096 T (state_of b.negotiation) b.at) b.at d₁ r d → Gives T (reply_in T S) 0 d₀ r d
-    unfolding reply_in
-    begun-gives {d} r k =
-        let rest : Replied = rest_from 4096 T (state_of b.negotiation) b.at in
-        let all : reply_in T S ≡ behind (opening T S) rest = from-rest 4096 T (carried S.header.side S (opening T S)) (opening T S)
-        ∙ (λ i. behind (opening T S) (rest_from 4096 T (sym g.state i) (sym g.size i))) in
-        let cs : opening T S ++ rest.commands ≡ (reply_in T S).commands = sym (ap (λ (x : Replied). x.commands) all) in
-        let end : b.at ≡ 0 + length (bytes_of (opening T S)) = omega (arith, g.size) in
-        record {
-          state = k.state ∙ sym (ap (λ (x : Replied). x.state) all);
-          full = k.full ∙ sym (ap (λ (x : Replied). x.full) all);
-          size = omega (arith, k.size, g.size, bytes-behind (opening T S) rest.commands) ∙ ap (λ (l : List Command). 0 + length (bytes_of l)) cs;
-          bytes =
-              k.bytes ∙ pasted-behind d₀ d₁ 0 b.at (opening T S) rest.commands g.bytes end (omega (arith, k.size, k.most, g.size, long))
-              ∙ ap (λ (l : List Command). pasted d₀ 0 (bytes_of l)) cs;
-          most = k.most;
-          going = k.going;
-        }
-
--- The end
-
-after-within : (v : ℕ) (S : State) (m f : Bool) {U : State} → U ≡ after_message v S m f → within S ≡ true → within U ≡ true
-unfolding after_message with_header within
-after-within v S m f e w = ap within e ∙ w
-
-message-end : (cs : List Command) → message_bytes cs ≡ bytes_of cs ++ command_bytes End
-message-end cs = bytes-append cs (End ∷ []) ∙ ap (λ (l : List ℕ). bytes_of cs ++ l) (append-nil (command_bytes End))
-
--- written from the start
-pasted-front : (d xs : List ℕ) → pasted d 0 xs ≡ xs ++ drop (length xs) d
-pasted-front d xs = let z : 0 + length xs ≡ length xs = omega arith in λ i. take-length xs i ++ drop (z i) d
-
 -- the code's answer is what a reply in this state comes to
 pub record Replies (T : Tables) (S : State) (d₀ : List ℕ) (r : Replying) (d : List ℕ) : Type 0 where
   pub refuses : (r.refusal ≡ 0 → ⊥) → (replied_in T S ≡ refused r.refusal) × (d ≡ d₀)
@@ -181,95 +129,3 @@ pub record Replies (T : Tables) (S : State) (d₀ : List ℕ) (r : Replying) (d 
   pub size : r.refusal ≡ 0 → r.at ≡ length (reply_bytes (reply_in T S))
   pub few : r.refusal ≡ 0 → r.at ≤ 4096
   pub sizes : r.refusal ≡ 0 → within (state_of r.negotiation) ≡ true
-
-module _ (T : Tables) (n : Negotiation) where
-  by_tests_lem : (a b : Bool) → not (eqb n.header.end 0) ≡ a → not (sends n.header.side n.header.messages) ≡ b
-      → replied_in T (state_of n) ≡ cond a (refused ENDED)
-      (cond b (refused TURN) (accepted (reply_bytes (reply_in T (state_of n)), replied_state (reply_in T (state_of n)))))
-  unfolding replied_in state_of
-  by_tests_lem a b x y =
-      λ i. cond (x i) (refused ENDED) (cond (y i) (refused TURN) (accepted (reply_bytes (reply_in T (state_of n)), replied_state (reply_in T (state_of n)))))
-
-  not-given : (d : List ℕ) (r : Replying) (k : ℕ) → replied_in T (state_of n) ≡ refused k → (k ≡ 0 → ⊥) → r.refusal ≡ k → Replies T (state_of n) d r d
-  not-given d r k q z e =
-      record {
-        refuses = λ h. (q ∙ ap refused (sym e), refl);
-        gives = λ h. absurd (z (sym e ∙ h));
-        written = λ h. absurd (z (sym e ∙ h));
-        size = λ h. absurd (z (sym e ∙ h));
-        few = λ h. absurd (z (sym e ∙ h));
-        sizes = λ h. absurd (z (sym e ∙ h));
-      }
-
-  -- already ended
-  pub replied-ended : (d : List ℕ) (r : Replying) → (n.header.end ≡ 0 → ⊥) → r.refusal ≡ 22 → Replies T (state_of n) d r d
-  replied-ended d r h e = not-given d r 22 (by_tests_lem true _ (ap not (ne_eqb n.header.end 0 h)) refl) (λ z. omega (arith, z)) e
-
-  module _ (z : n.header.end ≡ 0) {b : Bool} (be : b ≡ sends n.header.side n.header.messages) where
-    -- not that side's turn
-    pub replied-turn : (d : List ℕ) (r : Replying) → not b ≡ true → r.refusal ≡ 21 → Replies T (state_of n) d r d
-    replied-turn d r h e = not-given d r 21 (by_tests_lem false true (ap not (eq-eqb n.header.end 0 z)) (ap not (sym be) ∙ h)) (λ y. omega (arith, y)) e
-
-    module _ (h : not b ≡ false) where
-      pub in-turn : sends n.header.side n.header.messages ≡ true
-      in-turn = sym be ∙ not-false b h
-
-      module _ (t : Sound T) (s : sound T (state_of n) ≡ true) (w : within (state_of n) ≡ true) {d₀ d₁ : List ℕ} (q : Replying)
-          (g : Gives T (reply_in T (state_of n)) 0 d₀ q d₁) where
-        same-header : q.negotiation.header ≡ n.header
-        unfolding state_of
-        same-header = ap (λ (S : State). S.header) g.state ∙ updates-header (reply-updates T t (state_of n) s w in-turn)
-
-        same-side : n.header.side ≡ (state_of q.negotiation).header.side
-        unfolding state_of
-        same-side = ap (λ (x : Header). x.side) (sym same-header)
-
-        -- what judging the end asks
-        pub after-ready : (within (state_of q.negotiation) ≡ true) × (0 < q.negotiation.nodes.count)
-            × (message_count q.negotiation.header.messages < 65535)
-            × NodesFormed (nodes_of q.negotiation.nodes) × EdgesFormed (nodes_of q.negotiation.nodes) (edges_of q.negotiation.edges)
-        unfolding state_of
-        after-ready =
-            let r = going-ready T q.negotiation g.going in
-            (g.going.sizes, r.0, omega (arith, ap (λ (x : Header). message_count x.messages) same-header, sound-count T (state_of n) s), r.3, r.4)
-
-        module _ (long : 4096 ≤ length d₀) where
-          same_length : length d₁ ≡ length d₀
-          same_length = ap length g.bytes ∙ paste-length d₀ 0 (bytes_of (reply_in T (state_of n)).commands) (omega (arith, g.size, g.most, long))
-
-          pub end_fits : q.at + 1 ≤ length d₁
-          end_fits = omega (arith, same_length, g.most, long)
-
-          -- as long as before
-          pub end-length : {d : List ℕ} → d ≡ pasted d₁ q.at (command_bytes End) → length d ≡ length d₀
-          end-length de = ap length de ∙ paste-length d₁ q.at (command_bytes End) (omega (arith, end_fits, command-length End)) ∙ same_length
-
-          pub replied-given : {d : List ℕ} (a : Negotiation) (r : Replying)
-              → state_of a ≡ after_message n.header.side (state_of q.negotiation) (not (eqb q.at 0)) q.full → d ≡ pasted d₁ q.at (command_bytes End)
-              → r.refusal ≡ 0 → r.negotiation ≡ a → r.at ≡ q.at + 1
-              → Replies T (state_of n) d₀ r d
-          unfolding reply_bytes replied_state
-          replied-given {d} a r ae de e ne se =
-              let A : Replied = reply_in T (state_of n) in
-              let size : q.at ≡ length (bytes_of A.commands) = omega (arith, g.size) in
-              let behindBytes : q.at ≡ 0 + length (bytes_of A.commands) = g.size in
-              let state : state_of r.negotiation ≡ replied_state A = ap state_of ne ∙ ae
-              ∙ ap (λ (v : ℕ). after_message v (state_of q.negotiation) (not (eqb q.at 0)) q.full) same-side
-              ∙ (λ i. after_message (g.state i).header.side (g.state i) (reply-moved T (state_of n) size i) (g.full i)) in
-              let all : length (message_bytes A.commands) ≡ length (bytes_of A.commands) + 1 = ap length (message-end A.commands)
-              ∙ length-append (bytes_of A.commands) (command_bytes End) ∙ ap (λ (k : ℕ). length (bytes_of A.commands) + k) (command-length End) in
-              let written : d ≡ pasted d₀ 0 (message_bytes A.commands)
-              = de ∙ ap (pasted d₁ q.at) (sym (append-nil (command_bytes End)))
-              ∙ pasted-behind d₀ d₁ 0 q.at A.commands (End ∷ []) g.bytes behindBytes (omega (arith, size, one-length End, g.most, long))
-              ∙ ap (pasted d₀ 0) (bytes-append A.commands (End ∷ [])
-              ∙ ap (λ (l : List ℕ). bytes_of A.commands ++ l) (append-nil (command_bytes End)) ∙ sym (message-end A.commands)) in
-              record {
-                refuses = λ h. absurd (h e);
-                gives =
-                    λ h. by_tests_lem false false (ap not (eq-eqb n.header.end 0 z)) (ap not in-turn)
-                    ∙ ap (λ (x : State). accepted (reply_bytes A, x)) (sym state);
-                written = λ h. written ∙ pasted-front d₀ (message_bytes A.commands);
-                size = λ h. omega (arith, se, size, all);
-                few = λ h. omega (arith, se, g.most);
-                sizes = λ h. after-within n.header.side (state_of q.negotiation) (not (eqb q.at 0)) q.full (ap state_of ne ∙ ae) g.going.sizes;
-              }

@@ -21,7 +21,7 @@ use Rattle.rt0.specs.declared.Pool.{Pool}
 use Rattle.rt0.specs.From.{role_of, roles_of, From, reflexive, transitive, credential, linking, intersection}
 use Rattle.word.specs.laws.Bools.{false-true, and_parts, and_both}
 use Rattle.rt0.specs.Decide.{from?}
-use Rattle.rt0.specs.laws.Laws.{Reach, here, step, link, each, role-ends, sound, complete}
+use Rattle.rt0.proofs.laws.Laws.{Reach, here, step, link, each, role-ends, sound, complete}
 use Rattle.rt0.specs.laws.Pool.{head_at, body_at, expression_in, credential_at}
 use Rattle.rt0.specs.Pool.{up_to}
 use Rattle.closure.specs.declared.Rules.{Rules}

@@ -16,12 +16,12 @@ use Rattle.message.specs.declared.Command.{Command}
 use Rattle.message.specs.declared.Command.TheVariants.{Open}
 use Rattle.negotiation.specs.State.{State, within}
 use Rattle.message.specs.Message.{bytes_of}
-use Rattle.moves.specs.laws.Known.{is_disclosed}
+use Rattle.moves.proofs.laws.Known.{is_disclosed}
 use Rattle.moves.specs.Initial.{initial_state}
 use Rattle.moves.specs.Rules.{end_in}
 use Rattle.moves.specs.Move.{Move, next_move}
 use Rattle.moves.specs.Carried.{carried, has_room_for}
-use Rattle.moves.specs.laws.Alike.{move-alike}
+use Rattle.moves.proofs.laws.Alike.{move-alike}
 use Rattle.reply.specs.Reply.{Replied, stopped, with_move, reply_from, opening, reply_in}
 use Rattle.runs.specs.laws.Stays.{within-kept, carried-stays, opening-stays, disclosed-stays}
 

@@ -1,7 +1,7 @@
 use Rattle.justification.specs.Justified.{is_solution_for}
 use Rattle.expression.specs.declared.Expression.{Expression}
 use mathlib.Core.Path.{◌∙◌, ap}
-use Rattle.justification.specs.laws.Justified.{solves-other, solves-past, solves-not, solves-is}
+use Rattle.justification.proofs.laws.Solves.{solves-other, solves-past, solves-not, solves-is}
 use Rattle.justification.proofs.monitors.solves_at.Goals as goal
 
 pub returns-then-edge-j : goal.returns-then-edge-j

@@ -2,8 +2,9 @@ use mathlib.Core.Path.{ap}
 use mathlib.Core.Bool.{not}
 use Rattle.tables.specs.laws.Tables.{tables_of}
 use Rattle.negotiation.specs.laws.State.{state_of}
-use Rattle.reply.specs.laws.Reply.{turn-of, own-going, own-gives, begun-ready, begun-gives, replied-ended, replied-turn, in-turn, after-ready}
-use Rattle.reply.specs.laws.Reply.{end_fits, end-length, replied-given}
+use Rattle.reply.specs.laws.Reply.{turn-of, own-going, own-gives}
+use Rattle.reply.proofs.laws.Reply.{begun-ready, begun-gives, replied-ended, replied-turn, in-turn, after-ready}
+use Rattle.reply.proofs.laws.Reply.{begun-ready, end_fits, end-length, replied-given}
 use Rattle.reply.proofs.call.replied_in.Goals as goal
 
 pub returns-then-h-ne0 : goal.returns-then-h-ne0

@@ -20,7 +20,7 @@ use Rattle.tables.specs.laws.Sound.{accepted-public}
 use Rattle.negotiation.specs.State.{State, within}
 use Rattle.negotiation.specs.Layout.{state_bytes}
 use Rattle.take.specs.laws.TakePublic.{take-public}
-use Rattle.moves.specs.laws.Known.{Differs, holding-alike, is_disclosed, Disclosed, disclosed-exact}
+use Rattle.moves.proofs.laws.Known.{Differs, holding-alike, is_disclosed, Disclosed, disclosed-exact}
 use Rattle.reply.specs.Reply as A
 use Rattle.runs.specs.laws.ReplyPublic.{Undisclosed, reply-public}
 use Rattle.report.specs.laws.ReportPublic.{report-public}
@@ -28,7 +28,7 @@ use Rattle.begin.specs.Begin.{begin_of}
 use Rattle.begin.specs.laws.Kept.{begin-alike}
 use Rattle.runs.specs.Runs.{Call, take, reply, report, left_by_take, left_by_reply, left_by_report, left_by, run, taken_to, given_to, after_call, after}
 use Rattle.runs.specs.Runs.{Differing, held, policy, NoneSatisfied}
-use Rattle.runs.specs.laws.Runs.{left_after}
+use Rattle.runs.proofs.laws.Runs.{left_after}
 use Rattle.runs.specs.laws.Acknowledged.{acknowledged-stands}
 use Rattle.runs.specs.laws.RunsKept.{call-keeps, calls-keep, keeps-sizes, keeps-disclosed, begun-within}
 use Rattle.numbers.specs.Answer.{Answer, refused, accepted}

@@ -40,7 +40,7 @@ use Rattle.reply.specs.Cases.{house, first_message, second_message, third_messag
 use Rattle.runs.specs.Runs.{Call, take, reply, left_by, left_by_take, left_by_reply, run, taken_to, given_to, after_call, after}
 use Rattle.runs.specs.Runs.{Differing, held, NoneSatisfied, AckSatisfied}
 use Rattle.runs.specs.Cases.{holding, lacking, sensitive_role, ack_role, begun, to_second, to_third, to_fourth, answers, Parted}
-use Rattle.runs.specs.laws.Runs.{left_after}
+use Rattle.runs.proofs.laws.Runs.{left_after}
 use Rattle.runs.specs.laws.Acknowledged.{acknowledged-stands, stands-acknowledged}
 use Rattle.expression.specs.Credential.{well_formed_credential, read_credential}
 use Rattle.expression.specs.Same.{same_role, same}

@@ -29,7 +29,7 @@ use Rattle.numbers.specs.Answer.{Answer, refused, accepted}
 use Rattle.runs.specs.Runs.{Call, take, reply, report, run, last_of, taken_to, given_to, after_call, after}
 use Rattle.runs.specs.Built.{Message, by_take, by_reply, message_of, messages_of}
 use Rattle.runs.specs.Counted.{sent_by, Counted}
-use Rattle.runs.specs.laws.Runs.{run-after}
+use Rattle.runs.proofs.laws.Runs.{run-after}
 use Rattle.runs.specs.laws.Stays.{header-kept, commands-stay, reply-stays}
 use Rattle.runs.specs.laws.ReplyPublic.{Gave, gave}
 use Rattle.runs.specs.laws.RunsKept.{take_found, reply-found, call-keeps, calls-keep, keeps-sizes, begun-within}

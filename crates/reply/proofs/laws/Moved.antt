@@ -23,7 +23,8 @@ use Rattle.moves.specs.Rules.{End as OurEnd, end_in}
 use Rattle.moves.specs.Move.{Move, credentials_for, edge_command, move_for, choice_at, or_next, moves_from, next_move}
 use Rattle.moves.specs.Carried.{carried}
 use Rattle.reply.specs.Reply.{Replied, opening, reply_in}
-use Rattle.reply.specs.laws.Turns.{Next, stops, goes, next_in, behind, go_on, rest_from, from-rest}
+use Rattle.reply.specs.laws.Turns.{Next, stops, goes, next_in, behind, go_on, rest_from}
+use Rattle.reply.proofs.laws.Turns.{from-rest}
 use Rattle.reply.specs.laws.Writing.{next_fits}
 use Rattle.message.specs.laws.Command.{size-some}
 

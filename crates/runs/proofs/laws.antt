@@ -1,0 +1,4 @@
+pub mod Runs
+pub mod Cases
+pub mod Counted
+pub mod TwoRuns
