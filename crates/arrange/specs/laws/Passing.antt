@@ -1,6 +1,6 @@
 -- What passes the check of the tables is its own arrangement: of all arrangements of records without exact repeats, only the one in the order of
 -- their bytes can pass. Assumes nothing.
-use Rattle.std.specs.Prelude.{ℕ, zero, suc, ◌+◌, ◌/◌, ◌%◌, ◌<◌, ◌≤◌, ◌≡◌, refl, ◌⊎◌, Bool, true, false, ltb, length}
+use Rattle.std.specs.Prelude.{ℕ, zero, suc, ◌/◌, ◌%◌, ◌<◌, ◌≤◌, ◌≡◌, refl, ◌⊎◌, Bool, true, false, ltb, length}
 use Rattle.std.proofs.Common.{sym, ap, ◌∙◌, subst, ⊎_elim, arith, ltb-true}
 use mathlib.Core.List.Memᴰ
 use mathlib.Core.List.{List, [], ◌∷◌, ◌++◌, map, append_assoc, append-nil, Memᴰ}
@@ -23,7 +23,8 @@ use Rattle.record.specs.declared.Pair.{Pair}
 use Rattle.record.specs.declared.Record.{Record}
 use Rattle.record.specs.declared.Record.TheVariants.{Own, Named, IssuerStored, SubjectStored, Sensitive, Access}
 use Rattle.record.specs.Record.{record_bytes}
-use Rattle.record.specs.laws.RecordExact.{record-length, size-by, some_size}
+use Rattle.record.specs.laws.RecordExact.{record-length, some_size}
+use Rattle.record.specs.laws.Size.{size-by}
 use Rattle.tables.specs.Accepted.{Rising, rising_none, rising-cons, Sound}
 use Rattle.tables.specs.Tables.{Tables}
 use Rattle.tables.specs.Bytes.{bytes_of, tables_bytes}

@@ -1,5 +1,5 @@
 -- The records of bytes: the bytes are these records one after another, or behind some of them one is unknown or cut. Assumes nothing.
-use Rattle.std.specs.Prelude.{ℕ, zero, suc, ◌+◌, ◌<◌, ◌≤◌, ◌↔◌, ◌≡◌, refl, Bool, true, false, cond, ◌&&◌, ltb, leb, eqb, length, get_or, take, drop}
+use Rattle.std.specs.Prelude.{ℕ, zero, suc, ◌<◌, ◌≤◌, ◌↔◌, ◌≡◌, refl, Bool, true, false, cond, ◌&&◌, ltb, leb, eqb, length, get_or, take, drop}
 use Rattle.std.proofs.Common.{sym, ap, ◌∙◌, subst, arith, lt-ltb, ltb-true, le-leb, leb-true, leb-false, eq-eqb, eqb-true, length-append, length-drop, take-append-drop, take_at, drop_at, length-take-le, get_or-take}
 use mathlib.Core.List.{List, [], ◌∷◌, ◌++◌, append_assoc, Memᴰ}
 use Rattle.std.proofs.Math.ListN.{get_or-append}
@@ -10,8 +10,8 @@ use Rattle.rt0.specs.laws.Lists.{all-each, all_of}
 use Rattle.rt0.specs.Lists.{all}
 use Rattle.record.specs.Record.{size_of, size_by}
 use Rattle.record.specs.Unreadable.{Whole}
-use Rattle.record.specs.laws.RecordExact.{size-by, whole-size, some_size}
-use Rattle.record.specs.laws.Size.{size-like}
+use Rattle.record.specs.laws.RecordExact.{some_size}
+use Rattle.record.specs.laws.Size.{size-by, whole-size, size-like}
 use Rattle.arrange.specs.Arrangement.{Readable, ReadAs}
 use Rattle.arrange.specs.Records.{first_size, behind, cut_by, split_of, records_of, joined}
 

@@ -1,5 +1,5 @@
 -- How many bytes a record has, by its command. Assumes nothing.
-use Rattle.std.specs.Prelude.{ℕ, ◌<◌, ◌≤◌, ◌≡◌, refl, Bool, true, false, cond, ◌||◌, eqb}
+use Rattle.std.specs.Prelude.{ℕ, ◌<◌, ◌≤◌, ◌≡◌, refl, Bool, true, false, cond, ◌||◌, List, eqb}
 use Rattle.std.proofs.Common.{get_or, sym, ap, ◌∙◌, ⊎_elim, arith, eqb-true, ne_eqb}
 use Rattle.expression.specs.declared.Role.{Role}
 use Rattle.expression.specs.declared.Credential.{Credential}
@@ -9,6 +9,7 @@ use Rattle.record.specs.declared.Pair.{Pair}
 use Rattle.record.specs.declared.Record.{Record}
 use Rattle.record.specs.declared.Record.TheVariants.{Own, Named, IssuerStored, SubjectStored, Sensitive, Access}
 use Rattle.record.specs.Record.{record_bytes, size_of, size_by}
+use Rattle.record.specs.Unreadable.{Whole}
 use Rattle.record.specs.laws.RecordExact.{some_size}
 
 -- the first byte of a record
@@ -24,6 +25,11 @@ size-by (IssuerStored c) = refl
 size-by (SubjectStored c) = refl
 size-by (Sensitive p) = refl
 size-by (Access p) = refl
+
+-- the first byte of a whole record says its size
+module _ (s : List ℕ) (at : ℕ) (w : Whole s at) where
+  pub whole-size : size_by (get_or s at 0) ≡ size_of w.like
+  whole-size = ap size_by w.code ∙ size-by w.like
 
 pub size-stored : (c : ℕ) → (eqb c 18 || eqb c 19) ≡ true → 23 ≡ size_by c
 unfolding size_by

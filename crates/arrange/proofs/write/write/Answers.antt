@@ -1,11 +1,7 @@
--- The loop's invariant: the records of the first i entries are written, each once.
-use Prim.Native.Nat.{◌≤◌, ◌-◌}
 use mathlib.Core.Path.{◌≡◌, refl}
 use native.Mathlib.Omega.{arith}
 use lib.ListN.{length}
-use Rattle.tables.specs.Accepted.{Rising}
-use Rattle.arrange.specs.laws.Entries.{Entries, in_order}
-use Rattle.arrange.specs.laws.Writing.{Writing, writing_start, writing-all}
+use Rattle.arrange.specs.laws.Writing.{writing_start, writing-all}
 use borrow.Author.Rules.{rules}
 use Rattle.arrange.proofs.write.write.Goals as goal
 
@@ -18,11 +14,8 @@ write_next-at-requires c = let v = c.loop-i.invariant in (c.loop-i-test.true, v.
 pub loop-i-preserved : goal.loop-i-preserved
 loop-i-preserved c = let v = c.loop-i.invariant in
     let w = c.write_next-at in
-    let e : length w.new.1.1.1.0 ≡ length c.args.out.now = omega (arith, w.auto) in
+    let e : length w.new.out ≡ length c.args.out.now = omega (arith, w.auto.out) in
     (search rules, e, v.2, v.3, w.ensures)
 
-pub shape_of-out : goal.shape_of-out
-shape_of-out c = c.loop-i.invariant.1
-
 pub returns : goal.returns
-returns c = let w = writing-all _ _ c.loop-i-test.false c.loop-i.invariant.4 in (omega arith, w.1)
+returns c = let w = writing-all _ _ c.loop-i-test.false c.loop-i.invariant.4 in record { room = omega arith; written = w.1 }

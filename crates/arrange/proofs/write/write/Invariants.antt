@@ -1,10 +1,10 @@
+-- The loop's invariant: the records of the first i entries are written, each once.
 use Prim.Native.Nat.{◌≤◌, ◌-◌}
-use mathlib.Core.Path.{◌≡◌, refl}
-use native.Mathlib.Omega.{arith}
+use mathlib.Core.Path.{◌≡◌}
 use lib.ListN.{length}
 use Rattle.tables.specs.Accepted.{Rising}
 use Rattle.arrange.specs.laws.Entries.{Entries, in_order}
-use Rattle.arrange.specs.laws.Writing.{Writing, writing_start, writing-all}
+use Rattle.arrange.specs.laws.Writing.{Writing}
 use Rattle.arrange.proofs.write.write.Given as goal
 
 abbrev pub invariant-loop-i : goal.invariant-loop-i

@@ -18,4 +18,4 @@ returns c = let r = c.write_record.ensures in
     writing-next c.requires.0 c.requires.3 c.requires.2
     (subst (Fresh c.args.s.now c.args.entries.now c.args.i) (not-false _ (ap not c.if-not-is_fresh.false))
     c.is_fresh.ensures)
-    _ c.place_of.ensures _ _ r.1 r.0
+    _ c.place_of.ensures _ _ r.written r.behind
