@@ -1,4 +1,4 @@
-//! The files of crates/*/specs as items: definitions and laws with their names, and what a file imports.
+//! The files of crates/*/specs and crates/*/proofs/laws as items: definitions and laws with their names, and what a file imports.
 use std::collections::HashMap;
 use std::fs;
 use std::path::{Path, PathBuf};
@@ -45,13 +45,11 @@ fn indent(line: &str) -> usize {
     line.len() - line.trim_start().len()
 }
 
-/// The file that an import path names, as `Rattle·tables.specs.laws.Check`.
+/// The file that an import path names, as `Rattle.tables.specs.laws.Check`.
 fn target(path: &str) -> Option<PathBuf> {
-    let rest = path.strip_prefix("Rattle·")?;
-    let (owner, module) = rest.split_once(".specs.")?;
-    let owner = owner.split('·').next()?;
-    let file = format!("crates/{owner}/specs/{}.antt", module.replace('.', "/"));
-    Some(PathBuf::from(file))
+    let (owner, module) = path.strip_prefix("Rattle.")?.split_once('.')?;
+    let file = format!("crates/{owner}/{}.antt", module.replace('.', "/"));
+    (module.starts_with("specs.") || module.starts_with("proofs.laws.")).then(|| PathBuf::from(file))
 }
 
 /// Adds what a line `use PATH.{a, b as c}` or `use PATH as c` imports.

@@ -100,9 +100,12 @@ fn misplaced(specs: &Specs, traced: &HashSet<Place>) -> Vec<String> {
 
 fn main() {
     let names = fs::read_to_string("crates.txt").expect("crates.txt in this folder");
-    let crates: Vec<String> = names.lines().filter_map(|l| l.split_once(':')).map(|l| l.0.trim().to_string()).collect();
+    let crates: Vec<String> = names.lines().filter_map(|l| l.split_once(':')).filter_map(|l| l.0.split_whitespace().next()).map(String::from).collect();
     let mut paths = Vec::new();
-    crates.iter().for_each(|c| files_below(&PathBuf::from(format!("crates/{c}/specs")), &mut paths));
+    for name in &crates {
+        files_below(&PathBuf::from(format!("crates/{name}/specs")), &mut paths);
+        files_below(&PathBuf::from(format!("crates/{name}/proofs/laws")), &mut paths);
+    }
     let files = paths.iter().map(|p| (p.clone(), items::read(p))).collect();
     let specs = Specs { files };
     let promises = fs::read_to_string("docs/PROOFS.md").expect("docs/PROOFS.md");

@@ -20,7 +20,7 @@ impl Specs {
     fn named(&self, file: &PathBuf, name: &str) -> Option<Place> {
         let items = &self.files.get(file)?.items;
         let here = |i: &Item| (i.name == name && name.chars().count() > 1) || i.inner.iter().any(|n| n == name);
-        let operator = |i: &Item| i.name.contains('_') && i.name.split('_').any(|p| !p.is_empty() && p == name);
+        let operator = |i: &Item| i.name.contains('◌') && i.name.split('◌').any(|p| !p.is_empty() && p == name);
         let at = items.iter().position(here).or_else(|| items.iter().position(operator))?;
         Some((file.clone(), at))
     }
@@ -37,7 +37,7 @@ impl Specs {
             return self.named(from, name);
         }
         for (here, from) in &file.imports {
-            if here.contains('_') && here.split('_').any(|p| !p.is_empty() && p == first) {
+            if here.contains('◌') && here.split('◌').any(|p| !p.is_empty() && p == first) {
                 return self.named(&from.0, from.1.as_ref()?);
             }
         }
@@ -76,7 +76,8 @@ impl Specs {
         text.lines().filter(|l| l.starts_with("ghost use ")).for_each(|l| import(l, &mut imports));
         let path = PathBuf::from("crates/engine/src/lib.rt");
         let calls = File { path, head: String::new(), items: Vec::new(), imports };
-        let clauses: Vec<String> = text.lines().filter(|l| l.contains("⌜")).map(String::from).collect();
+        let clause = |l: &&str| l.starts_with("    ensures ") || l.starts_with("    requires ") || l.starts_with("        ");
+        let clauses: Vec<String> = text.lines().filter(clause).map(String::from).collect();
         self.mentioned(&calls, &clauses)
     }
 

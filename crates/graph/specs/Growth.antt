@@ -1,7 +1,6 @@
 -- A graph that has grown by a node, an edge or a mark. Assumes nothing.
 use Rattle.std.specs.Prelude.{ℕ, ◌≤◌, ◌<◌, ◌≡◌, Bool, true, ◌||◌, eqb, length}
 use mathlib.Core.List.{List, ◌++◌, Memᴰ}
-use Rattle.expression.specs.Same.{same}
 use Rattle.graph.specs.declared.Node.{Node}
 use Rattle.graph.specs.declared.Edge.{Edge}
 use Rattle.graph.specs.Graph.{node_in, in_state}

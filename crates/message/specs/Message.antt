@@ -1,5 +1,5 @@
 -- The bytes of a message (document 01, "Bytes"). Assumes nothing.
-use Rattle.std.specs.Prelude.{ℕ, ◌+◌, Bool, true, false, List, [], ◌∷◌, ◌++◌}
+use Rattle.std.specs.Prelude.{ℕ, Bool, true, false, List, [], ◌∷◌, ◌++◌}
 use Rattle.message.specs.declared.Command.{Command}
 use Rattle.message.specs.declared.Command.TheVariants.{Show, Open, Bring, Join, Mark, End}
 use Rattle.message.specs.Command.{command_bytes}

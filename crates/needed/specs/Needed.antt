@@ -1,5 +1,5 @@
 -- The credentials that an edge needs (document 01, "The reply"). Assumes nothing.
-use Rattle.std.specs.Prelude.{◌+◌, Bool, cond, false, List, [], ◌∷◌, ◌++◌, ◌≡◌}
+use Rattle.std.specs.Prelude.{Bool, cond, false, List, [], ◌∷◌, ◌++◌, ◌≡◌}
 use Rattle.expression.specs.declared.Credential.{Credential}
 use Rattle.expression.specs.declared.Expression.{Expression}
 use Rattle.rt0.specs.Decide.{from?}

@@ -1,5 +1,5 @@
 -- The house tables as lists of their records (document 01, "Bytes"). Assumes nothing.
-use Rattle.std.specs.Prelude.{ℕ, ◌+◌, Bool, true, false, List, [], ◌∷◌, ◌++◌}
+use Rattle.std.specs.Prelude.{ℕ, Bool, true, false, List, [], ◌∷◌, ◌++◌}
 use Rattle.expression.specs.declared.Credential.{Credential}
 use Rattle.class.specs.declared.Name.{Name}
 use Rattle.record.specs.declared.Pair.{Pair}

@@ -1,6 +1,6 @@
 use Prim.Native.Nat.{◌/◌}
 use native.Mathlib.Omega.{arith}
-use Rattle.class.specs.laws.Names.{Searched, searched-all, searched-half, searched-one}
+use Rattle.class.specs.laws.Names.{searched-all, searched-half, searched-one}
 use Rattle.class.proofs.place_among.Goals as goal
 
 pub loop-size-init : goal.loop-size-init

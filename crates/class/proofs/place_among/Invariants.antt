@@ -1,6 +1,4 @@
-use Prim.Native.Nat.{◌/◌}
-use native.Mathlib.Omega.{arith}
-use Rattle.class.specs.laws.Names.{Searched, searched-all, searched-half, searched-one}
+use Rattle.class.specs.laws.Names.{Searched}
 use Rattle.class.proofs.place_among.Given as goal
 
 abbrev pub invariant-loop-size : goal.invariant-loop-size

@@ -1,7 +1,7 @@
 use native.Mathlib.Omega.{arith}
 use borrow.Author.Tests.{ltb-true, ltb-false}
 use Rattle.closure.specs.laws.Rules.{rules_of}
-use Rattle.closure.specs.laws.Laws.{CloseTo, left, close-start, close-pass, close-less, close-all}
+use Rattle.closure.specs.laws.Laws.{close-start, close-pass, close-less, close-all}
 use Rattle.closure.proofs.close.Goals as goal
 
 pub run_worklist-requires : goal.run_worklist-requires

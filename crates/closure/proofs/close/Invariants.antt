@@ -1,7 +1,5 @@
-use native.Mathlib.Omega.{arith}
-use borrow.Author.Tests.{ltb-true, ltb-false}
 use Rattle.closure.specs.laws.Rules.{rules_of}
-use Rattle.closure.specs.laws.Laws.{CloseTo, left, close-start, close-pass, close-less, close-all}
+use Rattle.closure.specs.laws.Laws.{CloseTo, left}
 use Rattle.closure.proofs.close.Given as goal
 
 abbrev pub invariant-loop-more : goal.invariant-loop-more

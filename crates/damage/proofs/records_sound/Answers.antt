@@ -1,6 +1,5 @@
 use mathlib.Core.Path.{ap}
 use mathlib.Core.Bool.{not}
-use native.Mathlib.Omega.{arith}
 use Rattle.damage.specs.laws.Damage.{records-nodes, records-primary, records-shown}
 use Rattle.damage.proofs.records_sound.Goals as goal
 

@@ -3,7 +3,6 @@ use Prim.Native.Nat.{ℕ, zero, suc, ◌≤◌, ◌<◌}
 use Rattle.std.specs.Prelude.{Bool, ◌&&◌, not, ltb, ◌≡◌}
 use Rattle.std.proofs.Math.Bool.{cond, true, false}
 use mathlib.Core.List.{List, []}
-use Rattle.std.proofs.Math.Option.{some}
 use Rattle.std.proofs.Math.Dec.{eqb}
 use Rattle.std.proofs.Math.ListN.{length}
 use Rattle.expression.specs.declared.Credential.{Credential}

@@ -1,4 +1,3 @@
-use borrow.Author.Tests.{ne_eqb}
 use Rattle.expression.proofs.expression_of.Goals as goal
 
 pub returns-in-1 : goal.returns-in-1

@@ -1,5 +1,3 @@
-use mathlib.Core.Path.{sym}
-use borrow.Author.Tests.{ne_eqb}
 use Rattle.expression.specs.laws.Laws.{eqb_refl}
 use Rattle.expression.proofs.is_exact.Goals as goal
 

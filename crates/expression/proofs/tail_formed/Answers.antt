@@ -1,4 +1,3 @@
-use borrow.Author.Tests.{ne_eqb}
 use Rattle.expression.proofs.tail_formed.Goals as goal
 
 pub returns-in-2 : goal.returns-in-2

@@ -1,5 +1,5 @@
 -- What is read from an index where certain bytes stand. Assumes nothing.
-use Rattle.std.specs.Prelude.{ℕ, ◌+◌, ◌≤◌, ◌-◌, ◌*◌, ◌/◌, ◌%◌, ◌<◌, ◌≡◌, refl, true, Bool, false, List, ◌∷◌, ◌++◌, length, get_or, take, drop}
+use Rattle.std.specs.Prelude.{ℕ, ◌+◌, ◌≤◌, ◌*◌, ◌/◌, ◌%◌, ◌<◌, ◌≡◌, refl, true, Bool, false, List, ◌∷◌, ◌++◌, length, get_or, take, drop}
 use Rattle.std.proofs.Common.{sym, ap, ◌∙◌, arith, add-zero, div-add-mod', length-append, length-drop, take-append-drop, take-add, take_at, get_or-drop, drop-drop}
 use Rattle.std.proofs.Math.Seq.{take-length}
 use Rattle.expression.specs.declared.Credential.{Credential}

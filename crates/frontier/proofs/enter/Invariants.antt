@@ -1,12 +1,10 @@
 use Prim.Native.Nat.{ℕ, ◌-◌}
-use mathlib.Core.List.{List, []}
-use native.Mathlib.Omega.{arith}
+use mathlib.Core.List.{List}
 use Rattle.expression.specs.declared.Role.{Role}
 use Rattle.expression.specs.declared.Expression.TheVariants as E
 use Rattle.expression.specs.laws.Key.{KeyOf}
 use Rattle.rt0.specs.laws.Pool.{pool_of}
 use Rattle.frontier.specs.laws.Queue.{work, Entered}
-use Rattle.frontier.specs.laws.QueueLaws.{enter-start, enter-next, enter-all}
 use Rattle.frontier.proofs.enter.Given as goal
 
 abbrev pub invariant-loop-i : goal.invariant-loop-i

@@ -1,8 +1,5 @@
-use Prim.Native.Nat.{◌-◌}
 use mathlib.Core.List.{[]}
 use native.Mathlib.Omega.{arith}
-use Rattle.rt0.specs.laws.Pool.{pool_of}
-use Rattle.frontier.specs.laws.Queue.{work, Running}
 use Rattle.frontier.specs.laws.QueueLaws.{empty, tail-few, run-start, run-next, run_end, queue-read}
 use Rattle.frontier.proofs.reached.Goals as goal
 

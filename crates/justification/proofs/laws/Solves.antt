@@ -1,23 +1,17 @@
 -- An edge from a satisfied child solves its parent: test by test. Assumes nothing.
 use Rattle.std.specs.Prelude.{ℕ, ◌≤◌, ◌<◌, ◌≡◌, refl, Bool, true, false, not, ◌&&◌, ◌||◌, List, eqb, ltb, get_or, length}
-use Rattle.std.proofs.Common.{sym, ◌∙◌, ap, arith, eq-eqb, ne_eqb, lt-ltb, le-ltb}
-use Rattle.std.proofs.Math.Bool.{and-true, and-false}
+use Rattle.std.proofs.Common.{sym, ◌∙◌, ap, eq-eqb, ne_eqb}
+use Rattle.std.proofs.Math.Bool.{and-true}
 use Rattle.expression.specs.declared.Expression.{Expression}
-use Rattle.expression.specs.declared.Expression.TheVariants as E
-use Rattle.rt0.specs.Lists.{any}
 use Rattle.graph.specs.declared.Node.{Node}
 use Rattle.graph.specs.declared.Edge.{Edge}
 use Rattle.graph.specs.Graph.{node_in}
 use Rattle.graph.specs.Propagated.{satisfied_b}
 use Rattle.propagation.specs.Flags.{at}
-use Rattle.propagation.specs.laws.Flags.{flag}
-use Rattle.word.specs.laws.Bools.{false-true}
-use Rattle.rt0.specs.laws.Find.{Missed, any_at, any_none}
 use Rattle.graph.specs.declared.Nodes.{Nodes}
-use Rattle.graph.specs.declared.Edges.{Edges}
-use Rattle.graph.specs.laws.Graph.{nodes_of, edges_of, node_at, edge_at}
-use Rattle.graph.specs.laws.Columns.{nodes-length, node_in_lem}
-use Rattle.justification.specs.Justified.{is_solution_for, solves, solved, monitors, monitored}
+use Rattle.graph.specs.laws.Graph.{nodes_of, node_at}
+use Rattle.graph.specs.laws.Columns.{node_in_lem}
+use Rattle.justification.specs.Justified.{is_solution_for, solves}
 use Rattle.justification.specs.laws.Justified.{Says, other, same-both, second, last, inside, past}
 
 module _ (N : Nodes) (es : List Edge) (x : Expression) (b p : ℕ) (d : Edge) where

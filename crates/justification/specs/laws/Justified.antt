@@ -1,9 +1,8 @@
 -- Justification, by its tests. Assumes nothing.
-use Rattle.std.specs.Prelude.{ℕ, ◌≤◌, ◌<◌, ◌≡◌, refl, Bool, true, false, not, ◌&&◌, ◌||◌, List, eqb, ltb, get_or, length}
-use Rattle.std.proofs.Common.{sym, ◌∙◌, ap, arith, eq-eqb, ne_eqb, lt-ltb, le-ltb}
-use Rattle.std.proofs.Math.Bool.{and-true, and-false}
+use Rattle.std.specs.Prelude.{ℕ, ◌≤◌, ◌<◌, ◌≡◌, refl, Bool, true, false, not, ◌&&◌, ◌||◌, List, eqb, ltb, length}
+use Rattle.std.proofs.Common.{sym, ◌∙◌, ap, arith, lt-ltb, le-ltb}
+use Rattle.std.proofs.Math.Bool.{and-false}
 use Rattle.expression.specs.declared.Expression.{Expression}
-use Rattle.expression.specs.declared.Expression.TheVariants as E
 use Rattle.rt0.specs.Lists.{any}
 use Rattle.graph.specs.declared.Node.{Node}
 use Rattle.graph.specs.declared.Edge.{Edge}
@@ -15,9 +14,9 @@ use Rattle.word.specs.laws.Bools.{false-true}
 use Rattle.rt0.specs.laws.Find.{Missed, any_at, any_none}
 use Rattle.graph.specs.declared.Nodes.{Nodes}
 use Rattle.graph.specs.declared.Edges.{Edges}
-use Rattle.graph.specs.laws.Graph.{nodes_of, edges_of, node_at, edge_at}
-use Rattle.graph.specs.laws.Columns.{nodes-length, node_in_lem}
-use Rattle.justification.specs.Justified.{is_solution_for, solves, solved, monitors, monitored}
+use Rattle.graph.specs.laws.Graph.{nodes_of, edges_of, edge_at}
+use Rattle.graph.specs.laws.Columns.{nodes-length}
+use Rattle.justification.specs.Justified.{solves, solved, monitors, monitored}
 
 abbrev pub linking_kind : ℕ → Bool
 linking_kind k = eqb k 4

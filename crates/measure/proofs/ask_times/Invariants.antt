@@ -1,13 +1,9 @@
-use mathlib.Core.Path.{◌≡◌, ◌∙◌, ap}
-use mathlib.Core.Logic.{⊎_elim}
-use mathlib.Core.Bool.{Bool}
+use mathlib.Core.Path.{◌≡◌}
 use Prim.Native.Nat.{◌-◌, ◌≤◌}
-use native.Mathlib.Omega.{arith}
 use Rattle.rt0.specs.Decide.{from?}
 use Rattle.rt0.specs.laws.Pool.{pool_of}
 use Rattle.rules.specs.laws.Table.{chosen}
 use Rattle.measure.specs.laws.Repeated.{count_of}
-use Rattle.measure.specs.laws.RepeatedLaws.{count-start, count_yes, count_no, count_most}
 use Rattle.measure.proofs.ask_times.Given as goal
 
 abbrev pub invariant-loop-k : goal.invariant-loop-k

@@ -4,17 +4,10 @@ use mathlib.Core.Path.{◌≡◌, refl, sym, ◌∙◌}
 use mathlib.Core.Logic.{inl, inr}
 use mathlib.Core.Bool.{Bool, true}
 use native.Mathlib.Omega.{arith}
-use borrow.Author.Tests.{not-true, not-false}
-use Prim.Native.Nat.{ℕ}
-use lib.ListN.{length}
-use Rattle.rt0.specs.laws.Pool.{credentials}
-use Rattle.expression.specs.declared.ExpressionAnswer.{ExpressionAnswer}
-use Rattle.expression.specs.declared.ExpressionAnswer.TheVariants.{Read}
+use borrow.Author.Tests.{not-true}
 use Rattle.question.specs.laws.Credentials.{listed-all, listed-refused, list-refusal}
-use Rattle.question.specs.Question.{sized, operand_of, yes_or_no, answered, question_of}
 use Rattle.question.specs.laws.Question.{true-sized, question-outside, question-inside}
 use Rattle.measure.specs.laws.RepeatedLaws.{count_most, repeated-refused, repeated-answer}
-use Rattle.numbers.specs.Answer.{accepted, answer_of}
 use Rattle.measure.proofs.measure_questions.Goals as goal
 
 -- a test that holds

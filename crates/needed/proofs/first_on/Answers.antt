@@ -1,6 +1,4 @@
-use Prim.Native.Nat.{◌-◌, ◌≤◌}
 use native.Mathlib.Omega.{arith}
-use Rattle.needed.specs.laws.Columns.{FirstOn}
 use Rattle.needed.specs.laws.Column.{first-start, first-add, first-end}
 use Rattle.needed.proofs.first_on.Goals as goal
 

@@ -1,7 +1,5 @@
 use Prim.Native.Nat.{◌-◌, ◌≤◌}
-use native.Mathlib.Omega.{arith}
 use Rattle.needed.specs.laws.Columns.{FirstOn}
-use Rattle.needed.specs.laws.Column.{first-start, first-add, first-end}
 use Rattle.needed.proofs.first_on.Given as goal
 
 abbrev pub invariant-loop-i : goal.invariant-loop-i

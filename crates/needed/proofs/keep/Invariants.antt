@@ -1,10 +1,7 @@
-use Prim.Native.Nat.{◌-◌, ◌<◌}
-use native.Mathlib.Omega.{arith}
-use Rattle.rt0.specs.declared.Pool.{Pool}
+use Prim.Native.Nat.{◌-◌}
 use Rattle.rt0.specs.laws.Pool.{pool_of}
 use Rattle.relation.specs.laws.Relation.{Relation}
 use Rattle.needed.specs.laws.Columns.{Keeping}
-use Rattle.needed.specs.laws.Keeping.{keep-start, keep-done, keep_all, keep-next, keep-last}
 use Rattle.needed.proofs.keep.Given as goal
 
 abbrev pub invariant-loop-f : goal.invariant-loop-f

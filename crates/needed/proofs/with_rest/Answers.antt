@@ -1,6 +1,4 @@
-use Prim.Native.Nat.{◌-◌, ◌≤◌}
 use native.Mathlib.Omega.{arith}
-use Rattle.needed.specs.laws.Columns.{WithRest}
 use Rattle.needed.specs.laws.Column.{rest-start, rest-add, rest_end}
 use Rattle.needed.proofs.with_rest.Goals as goal
 

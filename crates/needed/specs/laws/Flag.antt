@@ -19,7 +19,7 @@ use Rattle.rt0.specs.laws.Heads.{NoHead}
 use Rattle.rules.specs.laws.Table.{third, fourth}
 use Rattle.rules.specs.laws.Exact.{four-all}
 use Rattle.closure.specs.laws.Rules.{el}
-use Rattle.needed.specs.laws.Column.{came, stays}
+use Rattle.needed.specs.laws.Column.{came}
 use Rattle.needed.specs.laws.Relevant.{asks, ClosedFor}
 use Rattle.needed.specs.laws.Flags.{is_named, Raised, Marked, Work, Followed, Swept}
 use Rattle.word.specs.laws.Search.{zeros}

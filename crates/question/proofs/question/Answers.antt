@@ -1,16 +1,11 @@
 use mathlib.Core.Bool.{not}
 use mathlib.Core.Path.{◌≡◌, refl, sym, ap, ◌∙◌}
 use mathlib.Core.Bool.{Bool, true}
-use borrow.Author.Tests.{not-true, not-false}
-use Prim.Native.Nat.{ℕ, ◌*◌}
-use lib.ListN.{length}
-use Rattle.rt0.specs.laws.Pool.{credentials}
-use Rattle.expression.specs.declared.ExpressionAnswer.{ExpressionAnswer}
-use Rattle.expression.specs.declared.ExpressionAnswer.TheVariants.{Read}
+use borrow.Author.Tests.{not-true}
+use Prim.Native.Nat.{◌*◌}
 use Rattle.question.specs.laws.Credentials.{listed-all, listed-refused}
-use Rattle.question.specs.Question.{sized, operand_of, yes_or_no, answered, question_of}
+use Rattle.question.specs.Question.{yes_or_no}
 use Rattle.question.specs.laws.Question.{true-sized, question-outside, question-inside}
-use Rattle.numbers.specs.Answer.{accepted, answer_of}
 use Rattle.question.proofs.question.Goals as goal
 
 -- a test that holds

@@ -1,6 +1,6 @@
 -- The reader that is passed on has the message and the index that were lent.
-use Rattle.std.specs.Prelude.{ℕ, length}
-use Rattle.std.proofs.Common.{◌∙◌, sym, ap, ap₂}
+use Rattle.std.specs.Prelude.{length}
+use Rattle.std.proofs.Common.{◌∙◌}
 use Rattle.message.specs.Command.{command_at}
 use Rattle.reader.specs.laws.Position.{behind_in}
 use Rattle.reader.specs.laws.PositionLaws.{behind-read}

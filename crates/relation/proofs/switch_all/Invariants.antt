@@ -1,18 +1,11 @@
-use Prim.Native.Nat.{ℕ, ◌-◌, ◌<◌, ◌≤◌}
-use native.Mathlib.Omega.{arith}
-use mathlib.Core.Path.{◌≡◌, refl, ◌∙◌}
+use Prim.Native.Nat.{ℕ, ◌-◌, ◌≤◌}
+use mathlib.Core.Path.{◌≡◌}
 use mathlib.Core.List.{List}
-use lib.ListN.{length, length-set}
-use Rattle.expression.specs.declared.Expression.TheVariants as E
-use Rattle.rt0.specs.declared.Pool.{Pool}
+use lib.ListN.{length}
 use Rattle.rt0.specs.laws.Pool.{pool_of}
-use Rattle.closure.specs.declared.Rules.{Rules}
 use Rattle.closure.specs.laws.Rules.{rules_of}
-use Rattle.rules.specs.laws.Digit.{open-bodies}
-use Rattle.rules.specs.laws.Ruled.{Ruled, compiled-plain}
-use Rattle.relation.specs.laws.Answer.{related}
+use Rattle.rules.specs.laws.Ruled.{Ruled}
 use Rattle.relation.specs.laws.Relation.{Relation, Start, switched}
-use Rattle.relation.specs.laws.QuestionLaws.{switched-none, switched-next, switched-end, start-related, start-more}
 use Rattle.relation.proofs.switch_all.Given as goal
 
 -- the credentials from low to i are on, and the rows are a start with them, whatever the heads with these rules

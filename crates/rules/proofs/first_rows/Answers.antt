@@ -1,7 +1,6 @@
-use Prim.Native.Nat.{◌-◌, ◌≤◌}
 use Rattle.rt0.specs.declared.Pool.{Pool}
 use Rattle.rt0.specs.laws.Pool.{pool_of, body_at}
-use Rattle.rules.specs.laws.Columns.{Column, body_first}
+use Rattle.rules.specs.laws.Columns.{body_first}
 use Rattle.rules.specs.laws.Column.{column-start, column-add, column-end, first_small}
 use native.Mathlib.Omega.{arith}
 use Rattle.rules.proofs.first_rows.Goals as goal

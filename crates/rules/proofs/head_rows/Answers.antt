@@ -1,8 +1,7 @@
-use Prim.Native.Nat.{◌-◌, ◌≤◌}
 use native.Mathlib.Omega.{arith}
 use mathlib.Core.Path.{◌∙◌, ap}
 use Rattle.rules.specs.laws.Table.{row_in}
-use Rattle.rules.specs.laws.Columns.{Column, head_row_in}
+use Rattle.rules.specs.laws.Columns.{head_row_in}
 use Rattle.rules.specs.laws.Column.{column-start, column-add, column-end, row_small}
 use Rattle.rules.proofs.head_rows.Goals as goal
 

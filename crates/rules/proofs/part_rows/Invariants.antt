@@ -1,11 +1,7 @@
 use Prim.Native.Nat.{◌-◌, ◌≤◌}
-use native.Mathlib.Omega.{arith}
-use mathlib.Core.Path.{◌∙◌, ap}
-use Rattle.rt0.specs.declared.Pool.{Pool}
 use Rattle.rt0.specs.laws.Pool.{pool_of}
 use Rattle.rules.specs.laws.Table.{row_of}
-use Rattle.rules.specs.laws.Columns.{PartsTo, four_rows}
-use Rattle.rules.specs.laws.Column.{parts-start, parts_add, parts-end, row_small}
+use Rattle.rules.specs.laws.Columns.{PartsTo}
 use Rattle.rules.proofs.part_rows.Given as goal
 
 abbrev pub invariant-loop-i : goal.invariant-loop-i

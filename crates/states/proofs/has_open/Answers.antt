@@ -1,8 +1,6 @@
-use Prim.Native.Nat.{◌-◌}
 use native.Mathlib.Omega.{arith}
-use Rattle.rt0.specs.laws.Find.{Missed, missed-start, missed_more, any_at, any_none}
-use Rattle.graph.specs.laws.Graph.{edges_from, edge_at, edges_of}
-use Rattle.states.specs.laws.Complete.{is_unknown}
+use Rattle.rt0.specs.laws.Find.{missed-start, missed_more, any_at, any_none}
+use Rattle.graph.specs.laws.Graph.{edges_of}
 use Rattle.states.proofs.has_open.Goals as goal
 
 pub loop-j-init : goal.loop-j-init

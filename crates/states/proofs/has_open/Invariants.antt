@@ -1,7 +1,6 @@
 use Prim.Native.Nat.{◌-◌}
-use native.Mathlib.Omega.{arith}
-use Rattle.rt0.specs.laws.Find.{Missed, missed-start, missed_more, any_at, any_none}
-use Rattle.graph.specs.laws.Graph.{edges_from, edge_at, edges_of}
+use Rattle.rt0.specs.laws.Find.{Missed}
+use Rattle.graph.specs.laws.Graph.{edges_from, edge_at}
 use Rattle.states.specs.laws.Complete.{is_unknown}
 use Rattle.states.proofs.has_open.Given as goal
 

@@ -2,7 +2,6 @@
 use Rattle.std.specs.Prelude.{ℕ, ◌≡◌, refl, Bool, true, false, not, cond, eqb, ltb}
 use Rattle.std.proofs.Common.{arith, sym, ap, ◌∙◌, eqb-true, ltb-true}
 use mathlib.Core.List.{List, [], ◌∷◌, Memᴰ}
-use Rattle.rt0.specs.Lists.{all}
 use Rattle.rt0.specs.laws.Lists.{all-each}
 use Rattle.class.specs.declared.Name.{Name}
 use Rattle.class.specs.Names.{class_of}

@@ -1,7 +1,6 @@
 use native.Mathlib.Omega.{arith}
-use Prim.Native.Nat.{◌-◌, ◌≤◌}
 use Rattle.word.specs.laws.Bools.{false-true}
-use Rattle.applied.specs.laws.KeepsStates.{InsideTo, inside-start, inside-add, inside-all}
+use Rattle.applied.specs.laws.KeepsStates.{inside-start, inside-add, inside-all}
 use Rattle.applied.proofs.keeps.is_inside.Goals as goal
 
 pub loop-j-init : goal.loop-j-init

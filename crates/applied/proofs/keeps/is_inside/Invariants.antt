@@ -1,7 +1,5 @@
-use native.Mathlib.Omega.{arith}
 use Prim.Native.Nat.{◌-◌, ◌≤◌}
-use Rattle.word.specs.laws.Bools.{false-true}
-use Rattle.applied.specs.laws.KeepsStates.{InsideTo, inside-start, inside-add, inside-all}
+use Rattle.applied.specs.laws.KeepsStates.{InsideTo}
 use Rattle.applied.proofs.keeps.is_inside.Given as goal
 
 abbrev pub invariant-loop-j : goal.invariant-loop-j

@@ -1,7 +1,6 @@
-use Prim.Native.Nat.{ℕ}
-use mathlib.Core.List.{List, []}
+use mathlib.Core.List.{[]}
 use native.Mathlib.Omega.{arith}
-use Rattle.closure.specs.laws.Rules.{rules_of, Grown}
+use Rattle.closure.specs.laws.Rules.{rules_of}
 use Rattle.closure.specs.laws.Laws.{grow-start, grow-more}
 use Rattle.closure.proofs.linked_rules.follow.Goals as goal
 

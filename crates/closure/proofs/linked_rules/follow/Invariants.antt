@@ -1,8 +1,6 @@
 use Prim.Native.Nat.{ℕ}
-use mathlib.Core.List.{List, []}
-use native.Mathlib.Omega.{arith}
+use mathlib.Core.List.{List}
 use Rattle.closure.specs.laws.Rules.{rules_of, Grown}
-use Rattle.closure.specs.laws.Laws.{grow-start, grow-more}
 use Rattle.closure.proofs.linked_rules.follow.Given as goal
 
 abbrev pub invariant-loop-fuel : goal.invariant-loop-fuel

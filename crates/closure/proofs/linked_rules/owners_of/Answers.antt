@@ -1,7 +1,4 @@
 use native.Mathlib.Omega.{arith}
-use Prim.Native.Nat.{◌-◌}
-use lib.ListN.{length}
-use mathlib.Core.Path.{◌≡◌}
 use Rattle.closure.proofs.linked_rules.owners_of.Goals as goal
 
 pub mark-requires : goal.mark-requires

@@ -1,7 +1,5 @@
 use native.Mathlib.Omega.{arith}
-use lib.ListN.{length}
-use mathlib.Core.Path.{◌≡◌}
-use Rattle.closure.specs.laws.Rules.{rules_of, Grown}
+use Rattle.closure.specs.laws.Rules.{rules_of}
 use Rattle.closure.specs.laws.Laws.{grow-start, grow-more}
 use borrow.Author.Rules.{rules}
 use Rattle.closure.proofs.linked_rules.run_linked.Goals as goal

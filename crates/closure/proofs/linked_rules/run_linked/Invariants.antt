@@ -1,8 +1,6 @@
-use native.Mathlib.Omega.{arith}
 use lib.ListN.{length}
 use mathlib.Core.Path.{◌≡◌}
 use Rattle.closure.specs.laws.Rules.{rules_of, Grown}
-use Rattle.closure.specs.laws.Laws.{grow-start, grow-more}
 use Rattle.closure.proofs.linked_rules.run_linked.Given as goal
 
 abbrev pub invariant-loop-fuel : goal.invariant-loop-fuel

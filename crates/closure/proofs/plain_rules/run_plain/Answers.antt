@@ -1,5 +1,5 @@
 use native.Mathlib.Omega.{arith}
-use Rattle.closure.specs.laws.Rules.{rules_of, Grown}
+use Rattle.closure.specs.laws.Rules.{rules_of}
 use Rattle.closure.specs.laws.Laws.{grow-start, grow-more}
 use Rattle.closure.proofs.plain_rules.run_plain.Goals as goal
 

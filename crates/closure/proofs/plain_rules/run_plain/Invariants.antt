@@ -1,6 +1,4 @@
-use native.Mathlib.Omega.{arith}
 use Rattle.closure.specs.laws.Rules.{rules_of, Grown}
-use Rattle.closure.specs.laws.Laws.{grow-start, grow-more}
 use Rattle.closure.proofs.plain_rules.run_plain.Given as goal
 
 abbrev pub invariant-loop-fuel : goal.invariant-loop-fuel

@@ -1,8 +1,5 @@
-use Prim.Native.Nat.{ℕ, ◌≤◌, ◌-◌}
-use native.Mathlib.Omega.{arith}
-use mathlib.Core.Path.{subst, ◌≡◌}
+use Prim.Native.Nat.{◌≤◌, ◌-◌}
 use Rattle.closure.specs.laws.Words.{HeldOf}
-use Rattle.closure.specs.laws.Laws.{held_next}
 use Rattle.closure.proofs.rounds.held.Given as goal
 
 abbrev pub invariant-loop-r : goal.invariant-loop-r

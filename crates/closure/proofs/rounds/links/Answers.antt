@@ -1,7 +1,6 @@
 use mathlib.Core.Path.{sym, ◌∙◌, ap}
 use Rattle.word.specs.laws.Bit.{without, without-less}
-use Rattle.closure.specs.laws.Laws.{LinksTo, links-start, links-next, links-all}
-use native.Mathlib.Omega.{arith}
+use Rattle.closure.specs.laws.Laws.{links-start, links-next, links-all}
 use Rattle.closure.proofs.rounds.links.Goals as goal
 
 pub loop-m-init : goal.loop-m-init

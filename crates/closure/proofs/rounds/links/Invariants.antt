@@ -1,7 +1,4 @@
-use mathlib.Core.Path.{sym, ◌∙◌, ap}
-use Rattle.word.specs.laws.Bit.{without, without-less}
-use Rattle.closure.specs.laws.Laws.{LinksTo, links-start, links-next, links-all}
-use native.Mathlib.Omega.{arith}
+use Rattle.closure.specs.laws.Laws.{LinksTo}
 use Rattle.closure.proofs.rounds.links.Given as goal
 
 abbrev pub invariant-loop-m : goal.invariant-loop-m

@@ -1,8 +1,5 @@
-use Prim.Native.Nat.{◌-◌}
-use mathlib.Core.Logic.{⊎_elim}
-use Rattle.closure.specs.laws.Rules.{rules_of, bits, Within}
-use Rattle.closure.specs.laws.Words.{level}
-use Rattle.closure.specs.laws.Laws.{PassTo, pass-start, pass-more, pass-unchanged, pass_all, level-start, level-grown}
+use Rattle.closure.specs.laws.Rules.{rules_of}
+use Rattle.closure.specs.laws.Laws.{pass-start, pass-more, pass-unchanged, pass_all, level-start, level-grown}
 use native.Mathlib.Omega.{arith}
 use Rattle.closure.proofs.rounds.pass.Goals as goal
 use Rattle.closure.proofs.rounds.pass.Goals.{then-rule_below, else-rule_below}

@@ -1,9 +1,7 @@
 use Prim.Native.Nat.{◌-◌}
-use mathlib.Core.Logic.{⊎_elim}
 use Rattle.closure.specs.laws.Rules.{rules_of, bits, Within}
 use Rattle.closure.specs.laws.Words.{level}
-use Rattle.closure.specs.laws.Laws.{PassTo, pass-start, pass-more, pass-unchanged, pass_all, level-start, level-grown}
-use native.Mathlib.Omega.{arith}
+use Rattle.closure.specs.laws.Laws.{PassTo}
 use Rattle.closure.proofs.rounds.pass.Given as goal
 
 abbrev pub invariant-loop-i : goal.invariant-loop-i

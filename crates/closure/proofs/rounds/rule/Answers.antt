@@ -1,7 +1,6 @@
-use Prim.Native.Nat.{◌-◌}
 use native.Mathlib.Omega.{arith}
 use Rattle.closure.specs.laws.Rules.{rules_of}
-use Rattle.closure.specs.laws.Laws.{RuleTo, rule-start, rule-turn, rule-all, rule-off}
+use Rattle.closure.specs.laws.Laws.{rule-start, rule-turn, rule-all, rule-off}
 use Rattle.closure.proofs.rounds.rule.Goals as goal
 
 pub returns-then-n-i : goal.returns-then-n-i

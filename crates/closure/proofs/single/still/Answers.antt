@@ -1,9 +1,8 @@
 use mathlib.Core.Path.{ap}
 use mathlib.Core.Bool.{not}
-use Prim.Native.Nat.{◌-◌}
 use native.Mathlib.Omega.{arith}
 use Rattle.closure.specs.laws.Rules.{rules_of}
-use Rattle.closure.specs.laws.Laws.{StillTo, still-not, still-start, still-next, still-all}
+use Rattle.closure.specs.laws.Laws.{still-not, still-start, still-next, still-all}
 use Rattle.closure.proofs.single.still.Goals as goal
 
 pub returns-then-words-ne1 : goal.returns-then-words-ne1

@@ -1,7 +1,6 @@
 use Prim.Native.Nat.{◌-◌}
-use native.Mathlib.Omega.{arith}
 use Rattle.closure.specs.laws.Rules.{rules_of}
-use Rattle.closure.specs.laws.Laws.{StillTo, still-not, still-start, still-next, still-all}
+use Rattle.closure.specs.laws.Laws.{StillTo}
 use Rattle.closure.proofs.single.still.Given as goal
 
 abbrev pub invariant-loop-i : goal.invariant-loop-i

@@ -1,5 +1,4 @@
 use Prim.Native.Nat.{◌≤◌, ◌-◌}
-use native.Mathlib.Omega.{arith}
 use Rattle.closure.proofs.word_worklist.all_named.Given as goal
 
 abbrev pub invariant-loop-i : goal.invariant-loop-i

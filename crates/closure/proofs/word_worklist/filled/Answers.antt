@@ -1,7 +1,4 @@
-use Prim.Native.Nat.{◌≤◌, ◌-◌}
 use native.Mathlib.Omega.{arith}
-use mathlib.Core.Logic.{⊎_elim}
-use Rattle.closure.specs.laws.Words.{FilledOf}
 use Rattle.closure.specs.laws.Laws.{filled-start, filled-add, filled-skip, filled-end}
 use Rattle.closure.proofs.word_worklist.filled.Goals as goal
 use Rattle.closure.proofs.word_worklist.filled.Goals.{then-rows-r-ne0, else-rows-r-ne0}

@@ -1,8 +1,5 @@
 use Prim.Native.Nat.{◌≤◌, ◌-◌}
-use native.Mathlib.Omega.{arith}
-use mathlib.Core.Logic.{⊎_elim}
 use Rattle.closure.specs.laws.Words.{FilledOf}
-use Rattle.closure.specs.laws.Laws.{filled-start, filled-add, filled-skip, filled-end}
 use Rattle.closure.proofs.word_worklist.filled.Given as goal
 
 abbrev pub invariant-loop-r : goal.invariant-loop-r

@@ -1,6 +1,3 @@
-use mathlib.Core.Path.{sym, ◌∙◌, ap}
-use Rattle.word.specs.laws.Bit.{without, without-less}
-use native.Mathlib.Omega.{arith}
 use Rattle.closure.proofs.word_worklist.owned.Given as goal
 
 abbrev pub invariant-loop-m : goal.invariant-loop-m

@@ -1,7 +1,6 @@
 use mathlib.Core.Path.{◌≡◌}
 use Prim.Native.Nat.{◌-◌}
 use lib.ListN.{length}
-use native.Mathlib.Omega.{arith}
 use Rattle.closure.proofs.word_worklist.owners_of.Given as goal
 
 abbrev pub invariant-loop-j : goal.invariant-loop-j

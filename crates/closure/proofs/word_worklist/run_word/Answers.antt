@@ -1,6 +1,4 @@
-use mathlib.Core.Path.{◌≡◌}
-use lib.ListN.{length}
-use Rattle.closure.specs.laws.Rules.{rules_of, Grown}
+use Rattle.closure.specs.laws.Rules.{rules_of}
 use Rattle.closure.specs.laws.Laws.{grow-start, grow-more}
 use native.Mathlib.Omega.{arith}
 use borrow.Author.Rules.{rules}

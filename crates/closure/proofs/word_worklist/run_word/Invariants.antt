@@ -1,8 +1,6 @@
 use mathlib.Core.Path.{◌≡◌}
 use lib.ListN.{length}
 use Rattle.closure.specs.laws.Rules.{rules_of, Grown}
-use Rattle.closure.specs.laws.Laws.{grow-start, grow-more}
-use native.Mathlib.Omega.{arith}
 use Rattle.closure.proofs.word_worklist.run_word.Given as goal
 
 abbrev pub invariant-loop-fuel : goal.invariant-loop-fuel

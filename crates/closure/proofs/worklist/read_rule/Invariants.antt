@@ -1,7 +1,6 @@
 use Prim.Native.Nat.{◌-◌}
 use lib.ListN.{length}
 use mathlib.Core.Path.{◌≡◌}
-use native.Mathlib.Omega.{arith}
 use Rattle.closure.proofs.worklist.read_rule.Given as goal
 
 abbrev pub invariant-loop-k : goal.invariant-loop-k

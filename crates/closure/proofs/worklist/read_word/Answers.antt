@@ -1,5 +1,4 @@
-use mathlib.Core.Path.{◌≡◌, sym, ◌∙◌, ap}
-use lib.ListN.{length}
+use mathlib.Core.Path.{sym, ◌∙◌, ap}
 use Rattle.word.specs.laws.Bit.{without, without-less}
 use native.Mathlib.Omega.{arith}
 use Rattle.closure.proofs.worklist.read_word.Goals as goal

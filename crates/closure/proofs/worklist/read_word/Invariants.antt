@@ -1,7 +1,5 @@
-use mathlib.Core.Path.{◌≡◌, sym, ◌∙◌, ap}
+use mathlib.Core.Path.{◌≡◌}
 use lib.ListN.{length}
-use Rattle.word.specs.laws.Bit.{without, without-less}
-use native.Mathlib.Omega.{arith}
 use Rattle.closure.proofs.worklist.read_word.Given as goal
 
 abbrev pub invariant-loop-m : goal.invariant-loop-m

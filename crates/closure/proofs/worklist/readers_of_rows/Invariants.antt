@@ -1,5 +1,4 @@
 use Prim.Native.Nat.{◌-◌, ◌≤◌}
-use native.Mathlib.Omega.{arith}
 use Rattle.closure.proofs.worklist.readers_of_rows.Given as goal
 
 abbrev pub invariant-loop-r : goal.invariant-loop-r

@@ -1,10 +1,7 @@
 use mathlib.Core.Path.{ap}
 use mathlib.Core.Bool.{not}
-use mathlib.Core.Logic.{⊎_elim}
-use Rattle.graph.specs.laws.Graph.{nodes_from, edges_from}
 use native.Mathlib.Omega.{arith}
-use Prim.Native.Nat.{◌-◌}
-use Rattle.damage.specs.laws.Edges.{Bringing, bringing-none, bringing-stop, bringing-next, bringing-same, bringing-done}
+use Rattle.damage.specs.laws.Edges.{bringing-none, bringing-stop, bringing-next, bringing-same, bringing-done}
 use Rattle.damage.proofs.edges.edges_fit.Goals as goal
 use Rattle.damage.proofs.edges.edges_fit.Goals.{then-wide-b, else-wide-b}
 

@@ -1,8 +1,6 @@
-use mathlib.Core.Logic.{⊎_elim}
 use Rattle.graph.specs.laws.Graph.{nodes_from, edges_from}
-use native.Mathlib.Omega.{arith}
 use Prim.Native.Nat.{◌-◌}
-use Rattle.damage.specs.laws.Edges.{Bringing, bringing-none, bringing-stop, bringing-next, bringing-same, bringing-done}
+use Rattle.damage.specs.laws.Edges.{Bringing}
 use Rattle.damage.proofs.edges.edges_fit.Given as goal
 
 abbrev pub invariant-loop-j : goal.invariant-loop-j

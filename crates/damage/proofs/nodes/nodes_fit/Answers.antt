@@ -1,11 +1,6 @@
 use mathlib.Core.Path.{ap}
 use mathlib.Core.Bool.{not}
-use Rattle.class.specs.laws.Names.{names_of, names_from}
-use Rattle.graph.specs.laws.Graph.{nodes_from, node_at}
-use Rattle.damage.specs.Records.{node_fits}
-use Rattle.damage.specs.laws.Turns.{Judged, judged-none, nodes-next, nodes-stop, nodes-done}
-use native.Mathlib.Omega.{arith}
-use Prim.Native.Nat.{◌-◌}
+use Rattle.damage.specs.laws.Turns.{judged-none, nodes-next, nodes-stop, nodes-done}
 use Rattle.damage.proofs.nodes.nodes_fit.Goals as goal
 
 pub loop-i-init : goal.loop-i-init

@@ -1,8 +1,7 @@
 use Rattle.class.specs.laws.Names.{names_of, names_from}
 use Rattle.graph.specs.laws.Graph.{nodes_from, node_at}
 use Rattle.damage.specs.Records.{node_fits}
-use Rattle.damage.specs.laws.Turns.{Judged, judged-none, nodes-next, nodes-stop, nodes-done}
-use native.Mathlib.Omega.{arith}
+use Rattle.damage.specs.laws.Turns.{Judged}
 use Prim.Native.Nat.{◌-◌}
 use Rattle.damage.proofs.nodes.nodes_fit.Given as goal
 

@@ -1,11 +1,6 @@
 use mathlib.Core.Path.{ap}
 use mathlib.Core.Bool.{not}
-use Rattle.class.specs.laws.Names.{names_of, names_from}
-use Rattle.rt0.specs.laws.Pool.{pool_of, credential_at}
-use Rattle.damage.specs.Records.{credential_fits}
-use Rattle.damage.specs.laws.Turns.{Judged, judged-none, shown-next, shown-stop, shown-done}
-use native.Mathlib.Omega.{arith}
-use Prim.Native.Nat.{◌-◌}
+use Rattle.damage.specs.laws.Turns.{judged-none, shown-next, shown-stop, shown-done}
 use Rattle.damage.proofs.shown.shown_fit.Goals as goal
 
 pub loop-i-init : goal.loop-i-init

@@ -1,8 +1,7 @@
 use Rattle.class.specs.laws.Names.{names_of, names_from}
 use Rattle.rt0.specs.laws.Pool.{pool_of, credential_at}
 use Rattle.damage.specs.Records.{credential_fits}
-use Rattle.damage.specs.laws.Turns.{Judged, judged-none, shown-next, shown-stop, shown-done}
-use native.Mathlib.Omega.{arith}
+use Rattle.damage.specs.laws.Turns.{Judged}
 use Prim.Native.Nat.{◌-◌}
 use Rattle.damage.proofs.shown.shown_fit.Given as goal
 

@@ -1,13 +1,11 @@
 use Prim.Native.Nat.{ℕ, ◌-◌, ◌≤◌}
 use mathlib.Core.Path.{◌≡◌}
 use mathlib.Core.List.{List}
-use native.Mathlib.Omega.{arith}
 use Rattle.expression.specs.declared.Expression.{Expression}
 use Rattle.expression.specs.Form.{raw_of}
-use Rattle.rt0.specs.laws.Find.{Missed, missed-start, missed_more}
+use Rattle.rt0.specs.laws.Find.{Missed}
 use Rattle.graph.specs.laws.Graph.{nodes_from, node_at}
 use Rattle.graph.specs.Find.{is_node}
-use Rattle.graph.specs.laws.Find.{node_at_lem, node-none}
 use Rattle.graph.proofs.find.find_node.Given as goal
 
 abbrev pub invariant-loop-i : goal.invariant-loop-i

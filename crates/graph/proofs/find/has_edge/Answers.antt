@@ -1,7 +1,5 @@
-use Prim.Native.Nat.{◌-◌, ◌≤◌}
-use mathlib.Core.Path.{◌≡◌, refl}
+use mathlib.Core.Path.{refl}
 use native.Mathlib.Omega.{arith}
-use Rattle.graph.specs.laws.Graph.{edges_from}
 use Rattle.graph.specs.laws.Find.{has_edge_to, edge_more, edge-all}
 use Rattle.graph.proofs.find.has_edge.Goals as goal
 

@@ -1,8 +1,7 @@
 use Prim.Native.Nat.{◌-◌, ◌≤◌}
-use mathlib.Core.Path.{◌≡◌, refl}
-use native.Mathlib.Omega.{arith}
+use mathlib.Core.Path.{◌≡◌}
 use Rattle.graph.specs.laws.Graph.{edges_from}
-use Rattle.graph.specs.laws.Find.{has_edge_to, edge_more, edge-all}
+use Rattle.graph.specs.laws.Find.{has_edge_to}
 use Rattle.graph.proofs.find.has_edge.Given as goal
 
 abbrev pub invariant-loop-j : goal.invariant-loop-j

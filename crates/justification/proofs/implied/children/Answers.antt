@@ -1,7 +1,4 @@
-use Prim.Native.Nat.{◌≤◌, ◌-◌}
-use mathlib.Core.Logic.{⊎_elim}
 use native.Mathlib.Omega.{arith}
-use Rattle.justification.specs.laws.Implied.{Children}
 use Rattle.justification.specs.laws.ImpliedLaws.{children-none, children-add, children-skip, children-all}
 use Rattle.justification.proofs.implied.children.Goals as goal
 use Rattle.justification.proofs.implied.children.Goals.{then-edge-j-eq-IMPLICATION, else-edge-j-eq-IMPLICATION}

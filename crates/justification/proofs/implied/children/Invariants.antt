@@ -1,8 +1,5 @@
 use Prim.Native.Nat.{◌≤◌, ◌-◌}
-use mathlib.Core.Logic.{⊎_elim}
-use native.Mathlib.Omega.{arith}
 use Rattle.justification.specs.laws.Implied.{Children}
-use Rattle.justification.specs.laws.ImpliedLaws.{children-none, children-add, children-skip, children-all}
 use Rattle.justification.proofs.implied.children.Given as goal
 
 abbrev pub invariant-loop-j : goal.invariant-loop-j

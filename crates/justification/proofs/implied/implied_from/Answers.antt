@@ -1,13 +1,7 @@
 use mathlib.Core.Path.{ap}
 use mathlib.Core.Bool.{not}
 use native.Mathlib.Omega.{arith}
-use Prim.Native.Nat.{ℕ, ◌-◌}
-use mathlib.Core.List.{List}
-use Rattle.rules.specs.laws.Table.{chosen}
-use Rattle.rt0.specs.laws.Pool.{pool_of, expression_in}
-use Rattle.relation.specs.laws.Relation.{Relation, Answers}
-use Rattle.graph.specs.laws.Graph.{edges_from}
-use Rattle.justification.specs.laws.ImpliedLaws.{From, from_start, from_next, from-stop, from-done}
+use Rattle.justification.specs.laws.ImpliedLaws.{from_start, from_next, from-stop, from-done}
 use Rattle.justification.proofs.implied.implied_from.Goals as goal
 
 pub loop-j-init : goal.loop-j-init

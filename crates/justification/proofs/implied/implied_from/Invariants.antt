@@ -1,11 +1,10 @@
-use native.Mathlib.Omega.{arith}
 use Prim.Native.Nat.{ℕ, ◌-◌}
 use mathlib.Core.List.{List}
 use Rattle.rules.specs.laws.Table.{chosen}
 use Rattle.rt0.specs.laws.Pool.{pool_of, expression_in}
 use Rattle.relation.specs.laws.Relation.{Relation, Answers}
 use Rattle.graph.specs.laws.Graph.{edges_from}
-use Rattle.justification.specs.laws.ImpliedLaws.{From, from_start, from_next, from-stop, from-done}
+use Rattle.justification.specs.laws.ImpliedLaws.{From}
 use Rattle.justification.proofs.implied.implied_from.Given as goal
 
 abbrev pub invariant-loop-j : goal.invariant-loop-j

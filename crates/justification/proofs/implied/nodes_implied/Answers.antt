@@ -1,11 +1,7 @@
 use mathlib.Core.Path.{ap}
 use mathlib.Core.Bool.{not}
 use native.Mathlib.Omega.{arith}
-use Prim.Native.Nat.{◌-◌}
-use Rattle.rules.specs.laws.Table.{chosen}
-use Rattle.rt0.specs.laws.Pool.{pool_of, expression_in}
-use Rattle.graph.specs.laws.Graph.{edges_from}
-use Rattle.justification.specs.laws.ImpliedLaws.{Below, below_none, below_next, below-stop, below-done}
+use Rattle.justification.specs.laws.ImpliedLaws.{below_none, below_next, below-stop, below-done}
 use Rattle.justification.proofs.implied.nodes_implied.Goals as goal
 
 pub loop-c-init : goal.loop-c-init

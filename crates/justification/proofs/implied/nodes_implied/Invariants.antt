@@ -1,9 +1,8 @@
-use native.Mathlib.Omega.{arith}
 use Prim.Native.Nat.{◌-◌}
 use Rattle.rules.specs.laws.Table.{chosen}
 use Rattle.rt0.specs.laws.Pool.{pool_of, expression_in}
 use Rattle.graph.specs.laws.Graph.{edges_from}
-use Rattle.justification.specs.laws.ImpliedLaws.{Below, below_none, below_next, below-stop, below-done}
+use Rattle.justification.specs.laws.ImpliedLaws.{Below}
 use Rattle.justification.proofs.implied.nodes_implied.Given as goal
 
 abbrev pub invariant-loop-c : goal.invariant-loop-c

@@ -1,11 +1,8 @@
-use Prim.Native.Nat.{◌-◌}
 use native.Mathlib.Omega.{arith}
 use mathlib.Core.Path.{refl, sym}
 use borrow.Author.Tests.{ne_eqb}
-use lib.ListN.{get_or}
 use Rattle.word.specs.laws.Bools.{false-true}
-use Rattle.rt0.specs.laws.Find.{Missed, missed-start, missed_more, missed-fewer}
-use Rattle.justification.specs.laws.Justified.{linking_kind}
+use Rattle.rt0.specs.laws.Find.{missed-start, missed_more, missed-fewer}
 use Rattle.justification.proofs.linked.has_linking.Goals as goal
 
 pub loop-j-init : goal.loop-j-init

@@ -1,9 +1,7 @@
 use mathlib.Core.Path.{ap}
 use mathlib.Core.Bool.{not}
-use Rattle.graph.specs.laws.Graph.{nodes_from, edges_from}
 use native.Mathlib.Omega.{arith}
-use Prim.Native.Nat.{◌-◌}
-use Rattle.justification.specs.laws.Linked.{Monitoring, monitoring-start, says-so-far, monitoring-stop, monitoring-next, monitoring-done, edge-inside}
+use Rattle.justification.specs.laws.Linked.{monitoring-start, says-so-far, monitoring-stop, monitoring-next, monitoring-done, edge-inside}
 use Rattle.justification.proofs.linked.linked_in_turn.Goals as goal
 
 pub loop-j-init : goal.loop-j-init

@@ -1,7 +1,6 @@
 use Rattle.graph.specs.laws.Graph.{nodes_from, edges_from}
-use native.Mathlib.Omega.{arith}
 use Prim.Native.Nat.{◌-◌}
-use Rattle.justification.specs.laws.Linked.{Monitoring, monitoring-start, says-so-far, monitoring-stop, monitoring-next, monitoring-done, edge-inside}
+use Rattle.justification.specs.laws.Linked.{Monitoring}
 use Rattle.justification.proofs.linked.linked_in_turn.Given as goal
 
 abbrev pub invariant-loop-j : goal.invariant-loop-j

@@ -1,10 +1,5 @@
-use Rattle.justification.specs.Justified.{monitors}
-use Rattle.rt0.specs.laws.Find.{Missed, missed-start, missed_more}
-use Rattle.graph.specs.declared.Nodes.{Nodes}
-use Rattle.graph.specs.laws.Graph.{nodes_from, edges_from, nodes_of, edges_of, edge_at}
-use Prim.Native.Nat.{◌-◌}
-use native.Mathlib.Omega.{arith}
-use Rattle.justification.specs.laws.Justified.{Says, linked-at, linked-none}
+use Rattle.rt0.specs.laws.Find.{missed-start, missed_more}
+use Rattle.justification.specs.laws.Justified.{linked-at, linked-none}
 use Rattle.justification.proofs.monitors.is_monitored_for.Goals as goal
 
 pub loop-j-init : goal.loop-j-init

@@ -1,10 +1,9 @@
 use Rattle.justification.specs.Justified.{monitors}
-use Rattle.rt0.specs.laws.Find.{Missed, missed-start, missed_more}
+use Rattle.rt0.specs.laws.Find.{Missed}
 use Rattle.graph.specs.declared.Nodes.{Nodes}
 use Rattle.graph.specs.laws.Graph.{nodes_from, edges_from, nodes_of, edges_of, edge_at}
 use Prim.Native.Nat.{◌-◌}
-use native.Mathlib.Omega.{arith}
-use Rattle.justification.specs.laws.Justified.{Says, linked-at, linked-none}
+use Rattle.justification.specs.laws.Justified.{Says}
 use Rattle.justification.proofs.monitors.is_monitored_for.Given as goal
 
 abbrev pub invariant-loop-j : goal.invariant-loop-j

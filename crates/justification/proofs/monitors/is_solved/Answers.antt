@@ -1,10 +1,5 @@
-use Rattle.justification.specs.Justified.{solves}
-use Rattle.justification.specs.laws.Justified.{Says, solved-at, solved-none}
-use native.Mathlib.Omega.{arith}
-use Prim.Native.Nat.{◌-◌}
-use Rattle.graph.specs.declared.Nodes.{Nodes}
-use Rattle.graph.specs.laws.Graph.{nodes_from, edges_from, nodes_of, edges_of, edge_at}
-use Rattle.rt0.specs.laws.Find.{Missed, missed-start, missed_more}
+use Rattle.justification.specs.laws.Justified.{solved-at, solved-none}
+use Rattle.rt0.specs.laws.Find.{missed-start, missed_more}
 use Rattle.justification.proofs.monitors.is_solved.Goals as goal
 
 pub loop-j-init : goal.loop-j-init

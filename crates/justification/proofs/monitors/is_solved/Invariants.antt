@@ -1,10 +1,9 @@
 use Rattle.justification.specs.Justified.{solves}
-use Rattle.justification.specs.laws.Justified.{Says, solved-at, solved-none}
-use native.Mathlib.Omega.{arith}
+use Rattle.justification.specs.laws.Justified.{Says}
 use Prim.Native.Nat.{◌-◌}
 use Rattle.graph.specs.declared.Nodes.{Nodes}
 use Rattle.graph.specs.laws.Graph.{nodes_from, edges_from, nodes_of, edges_of, edge_at}
-use Rattle.rt0.specs.laws.Find.{Missed, missed-start, missed_more}
+use Rattle.rt0.specs.laws.Find.{Missed}
 use Rattle.justification.proofs.monitors.is_solved.Given as goal
 
 abbrev pub invariant-loop-j : goal.invariant-loop-j

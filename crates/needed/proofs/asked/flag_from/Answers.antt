@@ -1,13 +1,5 @@
-use Prim.Native.Nat.{ℕ, ◌-◌}
-use mathlib.Core.Path.{◌≡◌}
-use mathlib.Core.List.{List}
 use native.Mathlib.Omega.{arith}
-use lib.ListN.{length}
-use Rattle.expression.specs.declared.Role.{Role}
-use Rattle.expression.specs.Same.{same_role}
-use Rattle.expression.specs.laws.Key.{KeyOf}
 use Rattle.needed.specs.laws.Flag.{marked_all}
-use Rattle.needed.specs.laws.Flags.{Marked}
 use Rattle.needed.proofs.asked.flag_from.Goals as goal
 
 pub loop-k-init : goal.loop-k-init

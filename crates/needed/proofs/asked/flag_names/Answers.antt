@@ -1,7 +1,5 @@
-use Prim.Native.Nat.{◌-◌}
 use native.Mathlib.Omega.{arith}
 use Rattle.needed.specs.laws.Flag.{marked_start, marked_next, marked_all}
-use Rattle.needed.specs.laws.Flags.{is_named, Marked}
 use Rattle.needed.proofs.asked.flag_names.Goals as goal
 
 pub loop-i-init : goal.loop-i-init

@@ -1,8 +1,5 @@
-use Prim.Native.Nat.{◌-◌}
 use native.Mathlib.Omega.{arith}
-use Rattle.expression.specs.Same.{same_role}
 use Rattle.needed.specs.laws.Flag.{marked_start}
-use Rattle.needed.specs.laws.Flags.{Marked}
 use Rattle.needed.proofs.asked.flag_role.Goals as goal
 
 pub flag_from-requires : goal.flag_from-requires

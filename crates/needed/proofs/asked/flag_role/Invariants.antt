@@ -1,7 +1,5 @@
 use Prim.Native.Nat.{◌-◌}
-use native.Mathlib.Omega.{arith}
 use Rattle.expression.specs.Same.{same_role}
-use Rattle.needed.specs.laws.Flag.{marked_start}
 use Rattle.needed.specs.laws.Flags.{Marked}
 use Rattle.needed.proofs.asked.flag_role.Given as goal
 

@@ -1,7 +1,5 @@
 use Prim.Native.Nat.{◌-◌}
-use native.Mathlib.Omega.{arith}
 use Rattle.rt0.specs.laws.Pool.{pool_of}
-use Rattle.needed.specs.laws.Flag.{pass-start, pass-next, pass_all}
 use Rattle.needed.specs.laws.Flags.{Swept}
 use Rattle.needed.proofs.asked.pass.Given as goal
 

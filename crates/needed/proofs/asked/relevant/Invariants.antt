@@ -1,10 +1,6 @@
 use Prim.Native.Nat.{◌-◌}
-use native.Mathlib.Omega.{arith}
 use mathlib.Core.Bool.{true}
-use mathlib.Core.Path.{refl}
-use borrow.Author.Tests.{not-true}
 use Rattle.rt0.specs.laws.Pool.{pool_of}
-use Rattle.needed.specs.laws.Flag.{work_start, pass-start, pass-again, pass-closed, all_closed}
 use Rattle.needed.specs.laws.Flags.{Swept}
 use Rattle.needed.proofs.asked.relevant.Given as goal
 

@@ -1,10 +1,10 @@
-use Prim.Native.Nat.{ℕ, ◌-◌}
+use Prim.Native.Nat.{ℕ}
 use native.Mathlib.Omega.{arith}
 use mathlib.Core.Bool.{Bool}
 use Rattle.rt0.specs.declared.Pool.{Pool}
 use Rattle.rt0.specs.laws.Pool.{pool_of}
 use Rattle.needed.specs.laws.Columns.{holds_from}
-use Rattle.needed.specs.laws.Halves.{Halves, halves-start, halves-up, halves-down}
+use Rattle.needed.specs.laws.Halves.{halves-start, halves-up, halves-down}
 use Rattle.needed.specs.laws.Keeping.{halves-needed}
 use Rattle.needed.proofs.next.last_needed.Goals as goal
 use Rattle.needed.proofs.next.last_needed.Goals.{Start}

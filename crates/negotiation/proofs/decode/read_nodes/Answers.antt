@@ -3,8 +3,7 @@ use Rattle.graph.specs.declared.Node.{Node}
 use Rattle.graph.specs.laws.Columns.{node-columns}
 use Rattle.expression.specs.Form.{expression_of}
 use mathlib.Core.Path.{refl, sym, ap, ◌∙◌, subst}
-use Prim.Native.Nat.{ℕ, ◌+◌, ◌*◌, ◌-◌}
-use native.Mathlib.Omega.{arith}
+use Prim.Native.Nat.{ℕ, ◌+◌, ◌*◌}
 use native.Mathlib.Nat.{le_antisymm}
 use Rattle.rt0.specs.Pool.{up_to}
 use Rattle.negotiation.specs.Layout.{node_from}

@@ -1,13 +1,9 @@
-use mathlib.Core.Path.{◌≡◌, refl, ap, ◌∙◌}
+use mathlib.Core.Path.{◌≡◌}
 use Prim.Native.Nat.{ℕ, ◌+◌, ◌*◌, ◌-◌, ◌≤◌}
-use native.Mathlib.Omega.{arith}
-use native.Mathlib.Nat.{le_antisymm}
-use lib.ListN.{length-replicate}
 use Rattle.rt0.specs.laws.Pool.{pool_of, credentials}
 use Rattle.rt0.specs.Pool.{up_to}
 use Rattle.rt0.specs.laws.Added.{Sized}
 use Rattle.negotiation.specs.Layout.{credential_from}
-use Rattle.negotiation.specs.laws.Read.{up_to-next}
 use Rattle.negotiation.proofs.decode.read_shown.Given as goal
 
 abbrev pub invariant-loop-k : goal.invariant-loop-k

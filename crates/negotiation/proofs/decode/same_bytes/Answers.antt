@@ -1,7 +1,5 @@
-use mathlib.Core.Path.{◌≡◌, refl}
-use Prim.Native.Nat.{◌-◌, ◌≤◌}
+use mathlib.Core.Path.{refl}
 use native.Mathlib.Omega.{arith}
-use lib.ListN.{length, take}
 use Rattle.negotiation.specs.Layout.{same_bytes}
 use Rattle.negotiation.specs.laws.Read.{same_step, same-all}
 use Rattle.negotiation.proofs.decode.same_bytes.Goals as goal

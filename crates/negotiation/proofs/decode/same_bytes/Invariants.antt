@@ -1,9 +1,7 @@
-use mathlib.Core.Path.{◌≡◌, refl}
+use mathlib.Core.Path.{◌≡◌}
 use Prim.Native.Nat.{◌-◌, ◌≤◌}
-use native.Mathlib.Omega.{arith}
 use lib.ListN.{length, take}
 use Rattle.negotiation.specs.Layout.{same_bytes}
-use Rattle.negotiation.specs.laws.Read.{same_step, same-all}
 use Rattle.negotiation.proofs.decode.same_bytes.Given as goal
 
 abbrev pub invariant-loop-i : goal.invariant-loop-i

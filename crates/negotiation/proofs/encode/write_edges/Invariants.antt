@@ -1,16 +1,10 @@
-use mathlib.Core.Path.{◌≡◌, refl, ap, ◌∙◌}
-use Prim.Native.Nat.{ℕ, ◌+◌, ◌*◌, ◌-◌, ◌≤◌}
-use native.Mathlib.Omega.{arith}
-use native.Mathlib.Nat.{le_antisymm}
-use mathlib.Core.List.{List, []}
+use mathlib.Core.Path.{◌≡◌}
+use Prim.Native.Nat.{◌-◌, ◌≤◌}
 use lib.ListN.{length}
-use lib.Seq.{paste-zero}
 use Rattle.expression.specs.Bytes.{pasted}
 use Rattle.rt0.specs.Pool.{up_to}
-use Rattle.graph.specs.declared.Edges.{Edges}
-use Rattle.graph.specs.laws.Graph.{edges_from, edge_at, edges_of}
-use Rattle.negotiation.specs.Layout.{edge_bytes, records, zeros}
-use Rattle.negotiation.specs.laws.Layout.{record-next, part-written, edge-size}
+use Rattle.graph.specs.laws.Graph.{edges_from, edge_at}
+use Rattle.negotiation.specs.Layout.{edge_bytes, records}
 use Rattle.negotiation.proofs.encode.write_edges.Given as goal
 
 abbrev pub invariant-loop-j : goal.invariant-loop-j

@@ -1,18 +1,10 @@
-use mathlib.Core.Path.{◌≡◌, refl, ap, ◌∙◌}
-use Prim.Native.Nat.{ℕ, ◌+◌, ◌*◌, ◌-◌, ◌≤◌}
-use native.Mathlib.Omega.{arith}
-use native.Mathlib.Nat.{le_antisymm}
-use mathlib.Core.List.{List, []}
+use mathlib.Core.Path.{◌≡◌}
+use Prim.Native.Nat.{◌-◌, ◌≤◌}
 use lib.ListN.{length}
-use lib.Seq.{paste-zero}
 use Rattle.expression.specs.Bytes.{pasted}
 use Rattle.rt0.specs.Pool.{up_to}
-use Rattle.expression.specs.declared.Expression.{Expression}
-use Rattle.graph.specs.declared.Node.{Node}
-use Rattle.graph.specs.declared.Nodes.{Nodes}
-use Rattle.graph.specs.laws.Graph.{nodes_from, node_at, nodes_of}
-use Rattle.negotiation.specs.Layout.{node_bytes, records, zeros}
-use Rattle.negotiation.specs.laws.Layout.{record-next, part-written, node-size}
+use Rattle.graph.specs.laws.Graph.{nodes_from, node_at}
+use Rattle.negotiation.specs.Layout.{node_bytes, records}
 use Rattle.negotiation.proofs.encode.write_nodes.Given as goal
 
 abbrev pub invariant-loop-i : goal.invariant-loop-i

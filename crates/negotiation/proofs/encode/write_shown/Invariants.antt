@@ -1,17 +1,11 @@
-use mathlib.Core.Path.{◌≡◌, refl, ap, ◌∙◌}
-use Prim.Native.Nat.{ℕ, ◌+◌, ◌*◌, ◌-◌, ◌≤◌}
-use native.Mathlib.Omega.{arith}
-use native.Mathlib.Nat.{le_antisymm}
-use mathlib.Core.List.{List, []}
+use mathlib.Core.Path.{◌≡◌}
+use Prim.Native.Nat.{◌-◌, ◌≤◌}
 use lib.ListN.{length}
-use lib.Seq.{paste-zero}
 use Rattle.expression.specs.Bytes.{pasted}
 use Rattle.expression.specs.Credential.{credential_bytes}
-use Rattle.rt0.specs.declared.Pool.{Pool}
 use Rattle.rt0.specs.Pool.{up_to}
-use Rattle.rt0.specs.laws.Pool.{pool_of, credential_at, credentials}
-use Rattle.negotiation.specs.Layout.{records, zeros}
-use Rattle.negotiation.specs.laws.Layout.{record-next, part-written, credential-size}
+use Rattle.rt0.specs.laws.Pool.{pool_of, credential_at}
+use Rattle.negotiation.specs.Layout.{records}
 use Rattle.negotiation.proofs.encode.write_shown.Given as goal
 
 abbrev pub invariant-loop-k : goal.invariant-loop-k

@@ -1,9 +1,9 @@
 use native.Mathlib.Nat.{le_antisymm, sub_self}
-use mathlib.Core.Path.{◌≡◌, refl, sym, ap, ◌∙◌}
-use Prim.Native.Nat.{ℕ, ◌-◌, ◌≤◌}
+use mathlib.Core.Path.{refl, sym, ap, ◌∙◌}
+use Prim.Native.Nat.{ℕ, ◌-◌}
 use native.Mathlib.Omega.{arith}
 use mathlib.Core.List.{List}
-use lib.ListN.{length, set, length-set}
+use lib.ListN.{set, length-set}
 use lib.Seq.{paste, paste-zero}
 use Rattle.negotiation.specs.Layout.{zeros}
 use Rattle.negotiation.specs.laws.Layout.{zero-next, zeros-all}

@@ -1,12 +1,8 @@
-use native.Mathlib.Nat.{le_antisymm, sub_self}
-use mathlib.Core.Path.{◌≡◌, refl, sym, ap, ◌∙◌}
-use Prim.Native.Nat.{ℕ, ◌-◌, ◌≤◌}
-use native.Mathlib.Omega.{arith}
-use mathlib.Core.List.{List}
-use lib.ListN.{length, set, length-set}
-use lib.Seq.{paste, paste-zero}
+use mathlib.Core.Path.{◌≡◌}
+use Prim.Native.Nat.{◌-◌, ◌≤◌}
+use lib.ListN.{length}
+use lib.Seq.{paste}
 use Rattle.negotiation.specs.Layout.{zeros}
-use Rattle.negotiation.specs.laws.Layout.{zero-next, zeros-all}
 use Rattle.negotiation.proofs.encode.write_zeros.Given as goal
 
 abbrev pub invariant-loop-i : goal.invariant-loop-i

@@ -1,6 +1,5 @@
-use Prim.Native.Nat.{◌-◌, ◌≤◌}
 use native.Mathlib.Omega.{arith}
-use Rattle.propagation.specs.laws.Chains.{chain-all, Chained}
+use Rattle.propagation.specs.laws.Chains.{chain-all}
 use Rattle.propagation.proofs.chains.chain.Goals as goal
 
 pub loop-j-init : goal.loop-j-init

@@ -1,6 +1,5 @@
 use Prim.Native.Nat.{◌-◌, ◌≤◌}
-use native.Mathlib.Omega.{arith}
-use Rattle.propagation.specs.laws.Chains.{chain-all, Chained}
+use Rattle.propagation.specs.laws.Chains.{Chained}
 use Rattle.propagation.proofs.chains.chain.Given as goal
 
 abbrev pub invariant-loop-j : goal.invariant-loop-j

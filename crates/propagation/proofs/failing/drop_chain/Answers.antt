@@ -1,7 +1,5 @@
-use Prim.Native.Nat.{ℕ, ◌-◌, ◌≤◌}
+use Prim.Native.Nat.{◌-◌}
 use native.Mathlib.Omega.{arith}
-use Rattle.propagation.specs.laws.Satisfied.{graph}
-use Rattle.propagation.specs.laws.Failing.{Failing}
 use Rattle.propagation.proofs.failing.drop_chain.Goals as goal
 
 pub loop-h-init : goal.loop-h-init

@@ -1,5 +1,4 @@
-use Prim.Native.Nat.{ℕ, ◌-◌, ◌≤◌}
-use native.Mathlib.Omega.{arith}
+use Prim.Native.Nat.{ℕ, ◌≤◌}
 use Rattle.propagation.specs.laws.Satisfied.{graph}
 use Rattle.propagation.specs.laws.Failing.{Failing}
 use Rattle.propagation.proofs.failing.drop_chain.Given as goal

@@ -1,9 +1,7 @@
 use Prim.Native.Nat.{◌-◌}
-use native.Mathlib.Omega.{arith}
 use Rattle.propagation.specs.laws.Satisfied.{graph}
 use Rattle.propagation.specs.laws.Flags.{cnt, flag}
 use Rattle.propagation.specs.laws.Failed.{Sound}
-use Rattle.propagation.specs.laws.FailedLaws.{round-sound, round-last, cnt-few}
 use Rattle.propagation.proofs.failing.failed.Given as goal
 
 abbrev pub invariant-loop : goal.invariant-loop

@@ -1,8 +1,4 @@
-use Prim.Native.Nat.{ℕ, ◌-◌, ◌≤◌}
 use native.Mathlib.Omega.{arith}
-use Rattle.propagation.specs.laws.Chains.{Chained}
-use Rattle.propagation.specs.laws.Satisfied.{graph}
-use Rattle.propagation.specs.laws.Failing.{Failing}
 use Rattle.propagation.proofs.failing.run_queue.Goals as goal
 
 pub loop-q-init : goal.loop-q-init

@@ -1,5 +1,4 @@
 use Prim.Native.Nat.{ℕ, ◌-◌, ◌≤◌}
-use native.Mathlib.Omega.{arith}
 use Rattle.propagation.specs.laws.Chains.{Chained}
 use Rattle.propagation.specs.laws.Satisfied.{graph}
 use Rattle.propagation.specs.laws.Failing.{Failing}

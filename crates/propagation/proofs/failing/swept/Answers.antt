@@ -1,7 +1,4 @@
-use Prim.Native.Nat.{◌-◌}
 use native.Mathlib.Omega.{arith}
-use mathlib.Core.Logic.{⊎_elim}
-use Rattle.propagation.specs.laws.Failed.{Swept}
 use Rattle.propagation.specs.laws.FailedLaws.{sweep-start, sweep-add-at, sweep-skip-at, sweep-all, cnt-few}
 use Rattle.propagation.proofs.failing.swept.Goals as goal
 use Rattle.propagation.proofs.failing.swept.Goals.{then-fails_anew, else-fails_anew}

@@ -1,10 +1,8 @@
-use Prim.Native.Nat.{ℕ, ◌-◌, ◌/◌, ◌≤◌}
+use Prim.Native.Nat.{ℕ, ◌/◌}
 use mathlib.Core.List.{List, []}
 use native.Mathlib.Omega.{arith}
-use mathlib.Core.Logic.{⊎_elim}
 use Rattle.propagation.specs.laws.FailingLaws.{tally-start, tally-add, tally-skip, tally-all, tally-low}
 use Rattle.propagation.specs.laws.Satisfied.{Graph, graph}
-use Rattle.propagation.specs.laws.Failing.{Tallied}
 use Rattle.propagation.proofs.failing.tally.Goals as goal
 use Rattle.propagation.proofs.failing.tally.Goals.{then-from-j-lt128, else-from-j-lt128}
 

@@ -1,10 +1,7 @@
 use Prim.Native.Nat.{ℕ, ◌-◌, ◌≤◌}
 use mathlib.Core.List.{List}
-use native.Mathlib.Omega.{arith}
-use mathlib.Core.Logic.{⊎_elim}
-use Rattle.propagation.specs.laws.Satisfied.{Graph, graph}
+use Rattle.propagation.specs.laws.Satisfied.{graph}
 use Rattle.propagation.specs.laws.Failed.{Touched}
-use Rattle.propagation.specs.laws.FailedLaws.{touch-start, touch-add-at, touch-skip-at, touch-all}
 use Rattle.propagation.proofs.failing.touched.Given as goal
 
 abbrev pub invariant-loop-j : goal.invariant-loop-j

@@ -1,8 +1,5 @@
-use Prim.Native.Nat.{◌-◌, ◌≤◌}
 use native.Mathlib.Omega.{arith}
-use Rattle.propagation.specs.laws.Satisfied.{graph}
-use Rattle.propagation.specs.laws.Work.{work, Done}
-use Rattle.propagation.specs.laws.Chains.{Chained, chain-start}
+use Rattle.propagation.specs.laws.Chains.{chain-start}
 use Rattle.propagation.specs.laws.WorkLaws.{start, settled_at}
 use Rattle.propagation.proofs.satisfying.satisfied.Goals as goal
 

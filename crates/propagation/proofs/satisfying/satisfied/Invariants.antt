@@ -1,9 +1,7 @@
 use Prim.Native.Nat.{◌-◌, ◌≤◌}
-use native.Mathlib.Omega.{arith}
 use Rattle.propagation.specs.laws.Satisfied.{graph}
 use Rattle.propagation.specs.laws.Work.{work, Done}
-use Rattle.propagation.specs.laws.Chains.{Chained, chain-start}
-use Rattle.propagation.specs.laws.WorkLaws.{start, settled_at}
+use Rattle.propagation.specs.laws.Chains.{Chained}
 use Rattle.propagation.proofs.satisfying.satisfied.Given as goal
 
 abbrev pub invariant-loop-j : goal.invariant-loop-j

@@ -1,9 +1,7 @@
 use Prim.Native.Nat.{ℕ, ◌-◌}
 use mathlib.Core.List.{List}
-use native.Mathlib.Omega.{arith}
 use Rattle.propagation.specs.laws.Satisfied.{graph}
 use Rattle.propagation.specs.laws.Work.{work, Base, Full}
-use Rattle.propagation.specs.laws.WorkLaws.{mark-room, full-none, full-next, full-all, done_none}
 use Rattle.propagation.proofs.satisfying.seed.Given as goal
 
 abbrev pub invariant-loop-i : goal.invariant-loop-i

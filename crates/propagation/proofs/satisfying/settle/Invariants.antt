@@ -1,9 +1,7 @@
 use Prim.Native.Nat.{ℕ, ◌-◌}
-use native.Mathlib.Omega.{arith}
 use Rattle.propagation.specs.laws.Chains.{Chained}
 use Rattle.propagation.specs.laws.Satisfied.{graph}
 use Rattle.propagation.specs.laws.Work.{work, Done}
-use Rattle.propagation.specs.laws.WorkLaws.{settle_step, done_all, tail-few}
 use Rattle.propagation.proofs.satisfying.settle.Given as goal
 
 abbrev pub invariant-loop-q : goal.invariant-loop-q

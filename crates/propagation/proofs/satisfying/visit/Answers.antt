@@ -1,11 +1,8 @@
-use Prim.Native.Nat.{ℕ, ◌-◌}
+use Prim.Native.Nat.{◌-◌}
 use native.Mathlib.Omega.{arith}
 use mathlib.Core.Path.{ap, ◌∙◌}
 use Rattle.propagation.specs.laws.Flags.{flag}
 use Rattle.propagation.specs.laws.WorkLaws.{visit-start, visit-follow, visit-skip, visit-all}
-use Rattle.propagation.specs.laws.Chains.{Chained}
-use Rattle.propagation.specs.laws.Satisfied.{graph}
-use Rattle.propagation.specs.laws.Work.{work, Base, Full, Visited}
 use Rattle.propagation.proofs.satisfying.visit.Goals as goal
 
 pub wide-f-requires : goal.wide-f-requires

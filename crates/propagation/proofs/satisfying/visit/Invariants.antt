@@ -1,8 +1,4 @@
-use Prim.Native.Nat.{ℕ, ◌-◌}
-use native.Mathlib.Omega.{arith}
-use mathlib.Core.Path.{ap, ◌∙◌}
-use Rattle.propagation.specs.laws.Flags.{flag}
-use Rattle.propagation.specs.laws.WorkLaws.{visit-start, visit-follow, visit-skip, visit-all}
+use Prim.Native.Nat.{ℕ}
 use Rattle.propagation.specs.laws.Chains.{Chained}
 use Rattle.propagation.specs.laws.Satisfied.{graph}
 use Rattle.propagation.specs.laws.Work.{work, Base, Full, Visited}

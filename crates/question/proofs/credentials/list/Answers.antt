@@ -1,9 +1,8 @@
 use mathlib.Core.Path.{refl, sym, ◌∙◌}
-use Prim.Native.Nat.{ℕ, ◌-◌}
-use lib.ListN.{length, length-replicate}
-use Rattle.rt0.specs.laws.Pool.{pool_of, credentials}
-use Rattle.rt0.specs.laws.Added.{Sized}
-use Rattle.question.specs.laws.Credentials.{Reading, reading-start, reading-few, reading-next, list-end, list-refused, list-past}
+use Prim.Native.Nat.{ℕ}
+use lib.ListN.{length-replicate}
+use Rattle.rt0.specs.laws.Pool.{credentials}
+use Rattle.question.specs.laws.Credentials.{reading-start, reading-few, reading-next, list-end, list-refused, list-past}
 use native.Mathlib.Omega.{arith}
 use Rattle.question.proofs.credentials.list.Goals as goal
 

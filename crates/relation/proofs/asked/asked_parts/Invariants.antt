@@ -1,13 +1,10 @@
-use Prim.Native.Nat.{ℕ, ◌-◌, ◌*◌, ◌≤◌}
-use mathlib.Core.Path.{◌≡◌, ◌∙◌}
+use Prim.Native.Nat.{ℕ, ◌-◌, ◌≤◌}
+use mathlib.Core.Path.{◌≡◌}
 use mathlib.Core.List.{List}
-use lib.ListN.{length, length-replicate}
-use native.Mathlib.Omega.{arith}
-use Rattle.rt0.specs.declared.Pool.{Pool}
+use lib.ListN.{length}
 use Rattle.rt0.specs.laws.Pool.{pool_of}
 use Rattle.rules.specs.laws.Columns.{PartsTo}
 use Rattle.rules.specs.laws.Table.{row_in, row_for}
-use Rattle.rules.specs.laws.Column.{put-length, parts-start, parts_add, parts-end, row-for-small}
 use Rattle.relation.proofs.asked.asked_parts.Given as goal
 
 abbrev pub invariant-loop-i : goal.invariant-loop-i

@@ -1,13 +1,9 @@
-use Prim.Native.Nat.{ℕ, ◌-◌, ◌≤◌}
+use Prim.Native.Nat.{ℕ}
 use native.Mathlib.Omega.{arith}
-use mathlib.Core.Path.{◌≡◌}
 use mathlib.Core.List.{List}
-use mathlib.Core.Logic.{⊎_elim}
-use lib.ListN.{length, length-replicate}
+use lib.ListN.{length-replicate}
 use Rattle.rt0.specs.declared.Pool.{Pool}
 use Rattle.rt0.specs.laws.Pool.{pool_of}
-use Rattle.rules.specs.laws.Columns.{Column, head_row_in}
-use Rattle.relation.specs.laws.Question.{StartTo}
 use Rattle.relation.specs.laws.QuestionLaws.{start-start, start-add, start-skip, start-end}
 use Rattle.relation.proofs.direct.seeds.Goals as goal
 use Rattle.relation.proofs.direct.seeds.Goals.{Start}

@@ -1,10 +1,8 @@
-use Prim.Native.Nat.{ℕ, ◌-◌, ◌≤◌}
+use Prim.Native.Nat.{ℕ}
 use native.Mathlib.Omega.{arith}
-use mathlib.Core.Path.{◌≡◌, refl}
-use mathlib.Core.Bool.{false}
+use mathlib.Core.Path.{refl}
 use lib.ListN.{length-replicate}
 use Rattle.rt0.specs.laws.Pool.{pool_of}
-use Rattle.word.specs.laws.Search.{any_to}
 use Rattle.rules.specs.laws.Search.{found_at, not_at, nowhere}
 use Rattle.relation.specs.laws.Question.{leads_at}
 use Rattle.relation.proofs.forms.leads_on.Goals as goal

@@ -1,11 +1,8 @@
-use Prim.Native.Nat.{ℕ, ◌+◌, ◌-◌, ◌≤◌}
+use Prim.Native.Nat.{ℕ, ◌+◌}
 use native.Mathlib.Omega.{arith}
-use mathlib.Core.Path.{◌≡◌, ◌∙◌, ap}
-use mathlib.Core.Logic.{⊎_elim}
+use mathlib.Core.Path.{◌∙◌, ap}
 use mathlib.Core.List.{List, []}
 use lib.ListN.{length, length-replicate}
-use Rattle.expression.specs.declared.Expression.{Expression}
-use Rattle.expression.specs.Form.{raw_of}
 use Rattle.rt0.specs.declared.Pool.{Pool}
 use Rattle.rt0.specs.laws.Pool.{pool_of}
 use Rattle.relation.specs.laws.Question.{AskedTo}

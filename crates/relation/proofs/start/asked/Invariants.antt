@@ -1,15 +1,9 @@
-use Prim.Native.Nat.{ℕ, ◌+◌, ◌-◌, ◌≤◌}
-use native.Mathlib.Omega.{arith}
-use mathlib.Core.Path.{◌≡◌, ◌∙◌, ap}
-use mathlib.Core.Logic.{⊎_elim}
-use mathlib.Core.List.{List, []}
-use lib.ListN.{length, length-replicate}
+use Prim.Native.Nat.{◌-◌, ◌≤◌}
+use mathlib.Core.Path.{◌≡◌}
 use Rattle.expression.specs.declared.Expression.{Expression}
 use Rattle.expression.specs.Form.{raw_of}
-use Rattle.rt0.specs.declared.Pool.{Pool}
 use Rattle.rt0.specs.laws.Pool.{pool_of}
 use Rattle.relation.specs.laws.Question.{AskedTo}
-use Rattle.relation.specs.laws.QuestionLaws.{by-raw, asked-start, asked-add, asked-skip, asked-end}
 use Rattle.relation.proofs.start.asked.Given as goal
 
 abbrev pub invariant-loop-i : goal.invariant-loop-i

@@ -1,13 +1,6 @@
-use Prim.Native.Nat.{◌-◌}
 use native.Mathlib.Omega.{arith}
-use mathlib.Core.Path.{◌≡◌}
-use Rattle.expression.specs.declared.Credential.{Credential}
-use Rattle.expression.specs.Form.{raw_of}
-use Rattle.expression.specs.Same.{same_credential}
-use Rattle.expression.specs.laws.Key.{KeyOf}
-use Rattle.rt0.specs.laws.Pool.{pool_of, credential_at}
 use Rattle.rt0.specs.laws.Shown.{shown-at, shown-none}
-use Rattle.rt0.specs.laws.Find.{Missed, missed-start, missed_more}
+use Rattle.rt0.specs.laws.Find.{missed-start, missed_more}
 use Rattle.rt0.proofs.shown.is_shown.Goals as goal
 
 pub loop-i-init : goal.loop-i-init

@@ -1,7 +1,4 @@
-use Prim.Native.Nat.{◌-◌, ◌≤◌}
 use mathlib.Core.Path.{refl}
-use mathlib.Core.Logic.{⊎_elim}
-use Rattle.rules.specs.laws.Digits.{BodiesIn}
 use Rattle.rules.specs.laws.Digit.{bodies-start, bodies-add, bodies-skip, bodies-end}
 use native.Mathlib.Omega.{arith}
 use Rattle.rules.proofs.digits.note_bodies.Goals as goal

@@ -1,6 +1,4 @@
-use Prim.Native.Nat.{◌-◌, ◌≤◌}
 use mathlib.Core.Path.{refl}
-use Rattle.rules.specs.laws.Digits.{HeadsIn}
 use Rattle.rules.specs.laws.Digit.{heads-start, heads-add, heads-end}
 use native.Mathlib.Omega.{arith}
 use Rattle.rules.proofs.digits.note_heads.Goals as goal

@@ -1,8 +1,5 @@
 use Prim.Native.Nat.{◌-◌, ◌≤◌}
-use mathlib.Core.Path.{refl}
 use Rattle.rules.specs.laws.Digits.{HeadsIn}
-use Rattle.rules.specs.laws.Digit.{heads-start, heads-add, heads-end}
-use native.Mathlib.Omega.{arith}
 use Rattle.rules.proofs.digits.note_heads.Given as goal
 
 abbrev pub invariant-loop-j : goal.invariant-loop-j

@@ -1,10 +1,8 @@
 use Prim.Native.Nat.{◌-◌, ◌≤◌}
-use native.Mathlib.Omega.{arith}
-use mathlib.Core.Path.{◌≡◌, refl}
+use mathlib.Core.Path.{◌≡◌}
 use mathlib.Core.Bool.{false}
 use Rattle.word.specs.laws.Search.{any_to}
 use Rattle.rules.specs.laws.Columns.{has_link_in}
-use Rattle.rules.specs.laws.Search.{found_at, not_at, nowhere}
 use Rattle.rules.proofs.linking.has_links.Given as goal
 
 abbrev pub invariant-loop-i : goal.invariant-loop-i

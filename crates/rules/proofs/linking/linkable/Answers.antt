@@ -1,13 +1,11 @@
 use mathlib.Core.Path.{ap}
 use mathlib.Core.Bool.{not}
-use Prim.Native.Nat.{ℕ, ◌-◌, ◌≤◌}
+use Prim.Native.Nat.{ℕ}
 use lib.ListN.{length-replicate}
 use native.Mathlib.Omega.{arith}
-use mathlib.Core.Logic.{⊎_elim}
 use borrow.Author.Tests.{not-true}
 use Rattle.rt0.specs.declared.Pool.{Pool}
 use Rattle.rt0.specs.laws.Pool.{pool_of}
-use Rattle.rules.specs.laws.Columns.{Able}
 use Rattle.rules.specs.laws.Column.{able-start, able-off, able-add, able-skip, able-end}
 use Rattle.rules.proofs.linking.linkable.Goals as goal
 use Rattle.rules.proofs.linking.linkable.Goals.{Start}

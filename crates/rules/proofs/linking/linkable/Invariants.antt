@@ -1,12 +1,6 @@
-use Prim.Native.Nat.{ℕ, ◌-◌, ◌≤◌}
-use lib.ListN.{length-replicate}
-use native.Mathlib.Omega.{arith}
-use mathlib.Core.Logic.{⊎_elim}
-use borrow.Author.Tests.{not-true}
-use Rattle.rt0.specs.declared.Pool.{Pool}
+use Prim.Native.Nat.{◌-◌, ◌≤◌}
 use Rattle.rt0.specs.laws.Pool.{pool_of}
 use Rattle.rules.specs.laws.Columns.{Able}
-use Rattle.rules.specs.laws.Column.{able-start, able-off, able-add, able-skip, able-end}
 use Rattle.rules.proofs.linking.linkable.Given as goal
 
 abbrev pub invariant-loop-j : goal.invariant-loop-j

@@ -1,10 +1,8 @@
-use Prim.Native.Nat.{ℕ, ◌-◌, ◌≤◌}
+use Prim.Native.Nat.{ℕ}
 use mathlib.Core.List.{List, []}
 use native.Mathlib.Omega.{arith}
-use mathlib.Core.Logic.{⊎_elim}
 use Rattle.rt0.specs.declared.Pool.{Pool}
 use Rattle.rt0.specs.laws.Pool.{pool_of}
-use Rattle.rules.specs.laws.Columns.{NamedRow}
 use Rattle.rules.specs.laws.Column.{name-start, name-add, name-skip, name-end}
 use Rattle.rules.proofs.linking.name_row.Goals as goal
 use Rattle.rules.proofs.linking.name_row.Goals.{Start}

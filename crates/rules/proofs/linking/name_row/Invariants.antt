@@ -1,11 +1,7 @@
 use Prim.Native.Nat.{ℕ, ◌-◌, ◌≤◌}
-use mathlib.Core.List.{List, []}
-use native.Mathlib.Omega.{arith}
-use mathlib.Core.Logic.{⊎_elim}
-use Rattle.rt0.specs.declared.Pool.{Pool}
+use mathlib.Core.List.{List}
 use Rattle.rt0.specs.laws.Pool.{pool_of}
 use Rattle.rules.specs.laws.Columns.{NamedRow}
-use Rattle.rules.specs.laws.Column.{name-start, name-add, name-skip, name-end}
 use Rattle.rules.proofs.linking.name_row.Given as goal
 
 abbrev pub invariant-loop-j : goal.invariant-loop-j

@@ -1,10 +1,6 @@
 use Prim.Native.Nat.{◌-◌, ◌≤◌, ◌<◌}
-use mathlib.Core.Path.{sym, ◌∙◌}
-use mathlib.Core.Logic.{⊎_elim}
 use Rattle.rt0.specs.laws.Pool.{pool_of}
 use Rattle.rules.specs.laws.Columns.{NamesTo}
-use Rattle.rules.specs.laws.Column.{names-start, names-skip, names-end}
-use native.Mathlib.Omega.{arith}
 use Rattle.rules.proofs.linking.names.Given as goal
 
 abbrev pub invariant-loop-i : goal.invariant-loop-i

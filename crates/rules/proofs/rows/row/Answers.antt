@@ -1,10 +1,5 @@
-use Prim.Native.Nat.{◌-◌, ◌≤◌}
 use native.Mathlib.Omega.{arith}
-use mathlib.Core.Path.{◌≡◌, refl}
-use mathlib.Core.Bool.{false}
-use Rattle.expression.specs.declared.Role.{Role}
-use Rattle.expression.specs.laws.Key.{KeyOf}
-use Rattle.word.specs.laws.Search.{any_to}
+use mathlib.Core.Path.{refl}
 use Rattle.rules.specs.laws.Table.{is_head_in, row_in}
 use Rattle.rules.specs.laws.Search.{first-at, first-nowhere, not_at}
 use Rattle.rules.proofs.rows.row.Goals as goal

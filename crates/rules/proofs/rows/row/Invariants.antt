@@ -1,12 +1,10 @@
 use Prim.Native.Nat.{◌-◌, ◌≤◌}
-use native.Mathlib.Omega.{arith}
-use mathlib.Core.Path.{◌≡◌, refl}
+use mathlib.Core.Path.{◌≡◌}
 use mathlib.Core.Bool.{false}
 use Rattle.expression.specs.declared.Role.{Role}
 use Rattle.expression.specs.laws.Key.{KeyOf}
 use Rattle.word.specs.laws.Search.{any_to}
-use Rattle.rules.specs.laws.Table.{is_head_in, row_in}
-use Rattle.rules.specs.laws.Search.{first-at, first-nowhere, not_at}
+use Rattle.rules.specs.laws.Table.{is_head_in}
 use Rattle.rules.proofs.rows.row.Given as goal
 
 abbrev pub invariant-loop-j : goal.invariant-loop-j

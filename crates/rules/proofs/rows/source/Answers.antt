@@ -1,8 +1,5 @@
-use Prim.Native.Nat.{◌-◌, ◌≤◌}
 use native.Mathlib.Omega.{arith}
-use mathlib.Core.Path.{◌≡◌, refl}
-use mathlib.Core.Bool.{false}
-use Rattle.word.specs.laws.Search.{any_to}
+use mathlib.Core.Path.{refl}
 use Rattle.rules.specs.laws.Table.{is_body_in, bit_in}
 use Rattle.rules.specs.laws.Search.{first-at, first-nowhere, not_at}
 use Rattle.rules.proofs.rows.source.Goals as goal

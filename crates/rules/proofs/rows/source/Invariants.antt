@@ -1,10 +1,8 @@
 use Prim.Native.Nat.{◌-◌, ◌≤◌}
-use native.Mathlib.Omega.{arith}
-use mathlib.Core.Path.{◌≡◌, refl}
+use mathlib.Core.Path.{◌≡◌}
 use mathlib.Core.Bool.{false}
 use Rattle.word.specs.laws.Search.{any_to}
-use Rattle.rules.specs.laws.Table.{is_body_in, bit_in}
-use Rattle.rules.specs.laws.Search.{first-at, first-nowhere, not_at}
+use Rattle.rules.specs.laws.Table.{is_body_in}
 use Rattle.rules.proofs.rows.source.Given as goal
 
 abbrev pub invariant-loop-s : goal.invariant-loop-s

@@ -1,9 +1,7 @@
-use Prim.Native.Nat.{◌-◌, ◌≤◌}
 use native.Mathlib.Omega.{arith}
-use mathlib.Core.Logic.{⊎_elim}
 use Rattle.graph.specs.declared.Nodes.{Nodes}
 use Rattle.graph.specs.laws.Graph.{nodes_from, edges_from}
-use Rattle.states.specs.laws.Filled.{Linked, link_start, link-add, link-skip, link-all}
+use Rattle.states.specs.laws.Filled.{link_start, link-add, link-skip, link-all}
 use Rattle.states.proofs.fill.links.Goals as goal
 use Rattle.states.proofs.fill.links.Goals.{then-s-lt-NO_SLOT, else-s-lt-NO_SLOT}
 

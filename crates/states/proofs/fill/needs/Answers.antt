@@ -1,10 +1,6 @@
-use Prim.Native.Nat.{◌-◌, ◌≤◌}
 use native.Mathlib.Omega.{arith}
 use mathlib.Core.Path.{refl}
-use Rattle.graph.specs.declared.Nodes.{Nodes}
-use Rattle.graph.specs.laws.Graph.{nodes_from}
-use Rattle.states.specs.laws.Brings.{need_of}
-use Rattle.states.specs.laws.Filled.{NodeColumn, needs-start, needs-add, needs-all}
+use Rattle.states.specs.laws.Filled.{needs-start, needs-add, needs-all}
 use Rattle.states.proofs.fill.needs.Goals as goal
 
 pub loop-i-init : goal.loop-i-init

@@ -1,10 +1,8 @@
 use Prim.Native.Nat.{◌-◌, ◌≤◌}
-use native.Mathlib.Omega.{arith}
-use mathlib.Core.Path.{refl}
 use Rattle.graph.specs.declared.Nodes.{Nodes}
 use Rattle.graph.specs.laws.Graph.{nodes_from}
 use Rattle.states.specs.laws.Brings.{need_of}
-use Rattle.states.specs.laws.Filled.{NodeColumn, needs-start, needs-add, needs-all}
+use Rattle.states.specs.laws.Filled.{NodeColumn}
 use Rattle.states.proofs.fill.needs.Given as goal
 
 abbrev pub invariant-loop-i : goal.invariant-loop-i

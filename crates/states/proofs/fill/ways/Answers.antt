@@ -1,10 +1,6 @@
-use Prim.Native.Nat.{◌-◌, ◌≤◌}
 use native.Mathlib.Omega.{arith}
 use mathlib.Core.Path.{refl}
-use Rattle.graph.specs.declared.Nodes.{Nodes}
-use Rattle.graph.specs.laws.Graph.{nodes_from}
-use Rattle.states.specs.laws.Brings.{way_of}
-use Rattle.states.specs.laws.Filled.{NodeColumn, ways-start, ways-add, ways-all}
+use Rattle.states.specs.laws.Filled.{ways-start, ways-add, ways-all}
 use Rattle.states.proofs.fill.ways.Goals as goal
 
 pub loop-i-init : goal.loop-i-init

@@ -1,9 +1,8 @@
 use Prim.Native.Nat.{◌-◌}
-use native.Mathlib.Omega.{arith}
 use Rattle.expression.specs.declared.Credential.{Credential}
-use Rattle.rt0.specs.laws.Pool.{pool_of, credential_at, credentials}
-use Rattle.rt0.specs.laws.Find.{Missed, missed-start, missed_more, any_at, any_none}
-use Rattle.tables.specs.Lookup.{direct_of, holds}
+use Rattle.rt0.specs.laws.Pool.{pool_of, credential_at}
+use Rattle.rt0.specs.laws.Find.{Missed}
+use Rattle.tables.specs.Lookup.{direct_of}
 use Rattle.expression.specs.Same.{same_credential}
 use Rattle.tables.proofs.lookup.holds.Given as goal
 

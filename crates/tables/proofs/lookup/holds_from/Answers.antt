@@ -1,5 +1,3 @@
-use Prim.Native.Nat.{◌-◌, ◌≤◌}
-use native.Mathlib.Omega.{arith}
 use Rattle.expression.specs.declared.Credential.{Credential}
 use Rattle.expression.specs.Same.{same_credential}
 use Rattle.rt0.specs.laws.Pool.{pool_of, credential_at, credentials}

@@ -1,5 +1,3 @@
-use Prim.Native.Nat.{◌-◌, ◌≤◌}
-use native.Mathlib.Omega.{arith}
 use Rattle.tables.specs.Lookup.{is_sensitive}
 use Rattle.tables.specs.laws.Tables.{pairs_from, pair_at, pairs_of}
 use Rattle.tables.specs.laws.Lookup.{is_of, any_some}

@@ -1,8 +1,6 @@
-use Prim.Native.Nat.{◌-◌}
-use native.Mathlib.Omega.{arith}
-use Rattle.rt0.specs.laws.Find.{Missed, missed-start}
-use Rattle.tables.specs.laws.Tables.{pairs_from, pair_at}
-use Rattle.tables.specs.laws.Lookup.{is_of, missed-pair, other_at, other_none}
+use Rattle.rt0.specs.laws.Find.{missed-start}
+use Rattle.tables.specs.laws.Tables.{pairs_from}
+use Rattle.tables.specs.laws.Lookup.{missed-pair, other_at, other_none}
 use Rattle.tables.proofs.lookup.other_of.Goals as goal
 
 pub loop-i-init : goal.loop-i-init

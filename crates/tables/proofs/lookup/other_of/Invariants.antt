@@ -1,8 +1,7 @@
 use Prim.Native.Nat.{◌-◌}
-use native.Mathlib.Omega.{arith}
-use Rattle.rt0.specs.laws.Find.{Missed, missed-start}
+use Rattle.rt0.specs.laws.Find.{Missed}
 use Rattle.tables.specs.laws.Tables.{pairs_from, pair_at}
-use Rattle.tables.specs.laws.Lookup.{is_of, missed-pair, other_at, other_none}
+use Rattle.tables.specs.laws.Lookup.{is_of}
 use Rattle.tables.proofs.lookup.other_of.Given as goal
 
 abbrev pub invariant-loop-i : goal.invariant-loop-i

@@ -1,9 +1,7 @@
 use native.Mathlib.Omega.{arith}
 use mathlib.Core.Path.{refl}
-use Prim.Native.Nat.{◌-◌}
-use lib.ListN.{length}
 use Rattle.class.specs.laws.Names.{names_from, names_of}
-use Rattle.tables.specs.laws.NamesReading.{ReadingNames, reading-start, names-past, names-room, names-next, names-stop}
+use Rattle.tables.specs.laws.NamesReading.{reading-start, names-past, names-room, names-next, names-stop}
 use Rattle.tables.proofs.names.read_names.Goals as goal
 
 pub loop-at-init : goal.loop-at-init

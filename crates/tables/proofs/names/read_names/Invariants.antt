@@ -1,9 +1,7 @@
-use native.Mathlib.Omega.{arith}
-use mathlib.Core.Path.{refl}
 use Prim.Native.Nat.{◌-◌}
 use lib.ListN.{length}
-use Rattle.class.specs.laws.Names.{names_from, names_of}
-use Rattle.tables.specs.laws.NamesReading.{ReadingNames, reading-start, names-past, names-room, names-next, names-stop}
+use Rattle.class.specs.laws.Names.{names_from}
+use Rattle.tables.specs.laws.NamesReading.{ReadingNames}
 use Rattle.tables.proofs.names.read_names.Given as goal
 
 abbrev pub invariant-loop-at : goal.invariant-loop-at

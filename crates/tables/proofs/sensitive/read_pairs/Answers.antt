@@ -1,12 +1,7 @@
 use native.Mathlib.Omega.{arith}
 use mathlib.Core.Path.{refl}
-use Prim.Native.Nat.{◌-◌}
-use lib.ListN.{length}
-use Rattle.rt0.specs.laws.Pool.{pool_of, credentials}
-use Rattle.class.specs.laws.Names.{names_from, names_of}
 use Rattle.tables.specs.laws.Tables.{pairs_from, pairs_of}
-use Rattle.tables.specs.laws.Reading.{tables_for}
-use Rattle.tables.specs.laws.PairsReading.{ReadingPairs, pairs_start, pairs-past, pairs-room, pairs_next, pairs-stop}
+use Rattle.tables.specs.laws.PairsReading.{pairs_start, pairs-past, pairs-room, pairs_next, pairs-stop}
 use Rattle.tables.proofs.sensitive.read_pairs.Goals as goal
 
 pub loop-at-init : goal.loop-at-init

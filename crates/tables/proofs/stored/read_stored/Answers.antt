@@ -1,10 +1,7 @@
 use native.Mathlib.Omega.{arith}
 use mathlib.Core.Path.{refl}
-use Prim.Native.Nat.{◌-◌}
-use lib.ListN.{length}
 use Rattle.rt0.specs.laws.Pool.{pool_of, credentials}
-use Rattle.class.specs.laws.Names.{names_from, names_of}
-use Rattle.tables.specs.laws.StoredReading.{ReadingStored, stored-start, stored_past, stored-room, stored_next, stored-stop}
+use Rattle.tables.specs.laws.StoredReading.{stored-start, stored_past, stored-room, stored_next, stored-stop}
 use Rattle.tables.proofs.stored.read_stored.Goals as goal
 
 pub loop-at-init : goal.loop-at-init

@@ -1,10 +1,8 @@
-use native.Mathlib.Omega.{arith}
-use mathlib.Core.Path.{refl}
 use Prim.Native.Nat.{◌-◌}
 use lib.ListN.{length}
-use Rattle.rt0.specs.laws.Pool.{pool_of, credentials}
+use Rattle.rt0.specs.laws.Pool.{pool_of}
 use Rattle.class.specs.laws.Names.{names_from, names_of}
-use Rattle.tables.specs.laws.StoredReading.{ReadingStored, stored-start, stored_past, stored-room, stored_next, stored-stop}
+use Rattle.tables.specs.laws.StoredReading.{ReadingStored}
 use Rattle.tables.proofs.stored.read_stored.Given as goal
 
 abbrev pub invariant-loop-at : goal.invariant-loop-at
