@@ -4,3 +4,5 @@ pub mod Stops
 pub mod Own
 pub mod Candidates
 pub mod Members
+pub mod Known
+pub mod KnownStays

@@ -23,7 +23,7 @@ use Rattle.moves.specs.Candidates.{child_stands}
 use Rattle.moves.specs.Rules as Q
 use Rattle.moves.specs.Move.{credentials_for, edge_command, move_for}
 use Rattle.moves.specs.Carried.{carried}
-use Rattle.moves.proofs.laws.KnownStays.{Onward, step-onward}
+use Rattle.moves.specs.laws.KnownStays.{Onward, step-onward}
 use Rattle.moves.specs.laws.Own.{found_move}
 
 -- edges are added and nodes marked at node m only

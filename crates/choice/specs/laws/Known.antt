@@ -26,7 +26,7 @@ use Rattle.moves.specs.declared.Holding.TheVariants.{Absent}
 use Rattle.moves.specs.declared.Known.{Known}
 use Rattle.moves.specs.declared.Known.TheVariants.{Waiting, Seen}
 use Rattle.moves.specs.Known.{policy_of, holding_of, is_acknowledged}
-use Rattle.moves.proofs.laws.Known.{held-exact}
+use Rattle.moves.specs.laws.Known.{held-exact}
 
 -- An Ack or AC target
 

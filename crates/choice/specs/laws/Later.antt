@@ -27,7 +27,7 @@ use Rattle.applied.specs.Step.{primary_of, child_in, stepped}
 use Rattle.moves.specs.declared.Candidate.{Candidate}
 use Rattle.moves.specs.declared.Choice.{Choice}
 use Rattle.moves.specs.declared.Choice.TheVariants as C
-use Rattle.moves.proofs.laws.KnownStays.{More, Onward, found-more, more_same, more-both, step-onward, step-header}
+use Rattle.moves.specs.laws.KnownStays.{More, Onward, found-more, more_same, more-both, step-onward, step-header}
 use Rattle.moves.specs.Candidates.{first_not, child_number, child_stands, is_done}
 use Rattle.moves.specs.Carried.{carried}
 use Rattle.candidates.specs.laws.Least.{or_else}

@@ -46,7 +46,7 @@ use Rattle.moves.specs.declared.Holding.TheVariants.{Absent, Free, Guarded}
 use Rattle.moves.specs.declared.Known.{Known}
 use Rattle.moves.specs.declared.Known.TheVariants.{Waiting, Seen}
 use Rattle.moves.specs.Known.{is_acknowledged, holding_of}
-use Rattle.moves.proofs.laws.KnownStays.{found-more}
+use Rattle.moves.specs.laws.KnownStays.{found-more}
 use Rattle.moves.specs.Candidates.{ordered, first_not, mark_if, chosen_in, is_done}
 use Rattle.moves.specs.Frontiers.{bodies_of, frontier_of, oppo, simp, sens}
 use Rattle.moves.specs.Rules.{end_in, implications, to_subject, part_edges, link_rules, verifier_rules, opponent_rules}

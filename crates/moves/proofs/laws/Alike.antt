@@ -6,7 +6,8 @@ use Rattle.tables.specs.Tables.{Tables}
 use Rattle.tables.specs.Public.{Public, public_of, hidden_of}
 use Rattle.negotiation.specs.State.{State}
 use Rattle.moves.specs.Known.{known_of}
-use Rattle.moves.proofs.laws.Known.{is_disclosed, known_alike}
+use Rattle.moves.specs.laws.Known.{is_disclosed}
+use Rattle.moves.proofs.laws.Known.{known_alike}
 use Rattle.moves.specs.Rules.{end_in}
 use Rattle.moves.specs.Move.{next_move}
 

@@ -20,7 +20,7 @@ use Rattle.tables.specs.laws.Sound.{accepted-public}
 use Rattle.negotiation.specs.State.{State, within}
 use Rattle.negotiation.specs.Layout.{state_bytes}
 use Rattle.take.specs.laws.TakePublic.{take-public}
-use Rattle.moves.proofs.laws.Known.{Differs, holding-alike, is_disclosed, Disclosed, disclosed-exact}
+use Rattle.moves.specs.laws.Known.{Differs, holding-alike, is_disclosed, Disclosed, disclosed-exact}
 use Rattle.reply.specs.Reply as A
 use Rattle.runs.specs.laws.ReplyPublic.{Undisclosed, reply-public}
 use Rattle.report.specs.laws.ReportPublic.{report-public}

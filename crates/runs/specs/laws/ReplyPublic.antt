@@ -22,7 +22,7 @@ use Rattle.standing.specs.Turn as K
 use Rattle.take.specs.Take.{taken_in}
 use Rattle.take.specs.laws.TakeKept.{Took, took}
 use Rattle.moves.specs.Known.{is_acknowledged}
-use Rattle.moves.proofs.laws.Known.{is_disclosed}
+use Rattle.moves.specs.laws.Known.{is_disclosed}
 use Rattle.reply.specs.Reply.{Replied, reply_in, replied_state, reply_bytes, replied_in, behind_standing, reply_size, reply_of}
 use Rattle.runs.specs.laws.Stays.{Stays, within-kept, DisclosedIn, disclosed-kept, reply-stays, commands-stay}
 use Rattle.runs.specs.laws.TwoReplies.{replies-alike}

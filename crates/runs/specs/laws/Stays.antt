@@ -22,8 +22,8 @@ use Rattle.legal.specs.Number.{legal_number}
 use Rattle.legal.specs.laws.Room.{legal-room, step-within}
 use Rattle.message.specs.Message.{bytes_of, is_end}
 use Rattle.take.specs.Commands.{on_command, commands_from}
-use Rattle.moves.proofs.laws.Known.{is_disclosed}
-use Rattle.moves.proofs.laws.KnownStays.{disclosed-step}
+use Rattle.moves.specs.laws.Known.{is_disclosed}
+use Rattle.moves.specs.laws.KnownStays.{disclosed-step}
 use Rattle.moves.specs.Initial.{initial_state}
 use Rattle.moves.specs.Rules.{end_in}
 use Rattle.moves.specs.Move.{Move, next_move}

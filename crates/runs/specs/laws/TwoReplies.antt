@@ -16,7 +16,7 @@ use Rattle.message.specs.declared.Command.{Command}
 use Rattle.message.specs.declared.Command.TheVariants.{Open}
 use Rattle.negotiation.specs.State.{State, within}
 use Rattle.message.specs.Message.{bytes_of}
-use Rattle.moves.proofs.laws.Known.{is_disclosed}
+use Rattle.moves.specs.laws.Known.{is_disclosed}
 use Rattle.moves.specs.Initial.{initial_state}
 use Rattle.moves.specs.Rules.{end_in}
 use Rattle.moves.specs.Move.{Move, next_move}

@@ -33,7 +33,7 @@ use Rattle.negotiation.specs.State.{State, within, with_node, with_edge, with_sh
 use Rattle.applied.specs.Step.{stepped, primary_of, child_in, edge_in}
 use Rattle.graph.specs.Processed.{marked_state}
 use Rattle.moves.specs.Known.{is_acknowledged}
-use Rattle.moves.proofs.laws.Known.{is_disclosed, Disclosed, disclosed-exact}
+use Rattle.moves.specs.laws.Known.{is_disclosed, Disclosed, disclosed-exact}
 use Rattle.numbers.specs.Sizes.{MOST-NODES, MOST-EDGES, MOST-SHOWN}
 
 -- Graphs
