@@ -1,8 +1,7 @@
 // The calls for a host in C. Each answers one number, 256 times a value plus a refusal number.
 #![tactic(auto)]
 
-ghost use Rattle.std.specs.Prelude.{◌≡◌, length};
-ghost use Rattle.arrange.specs.Arrange.{arrange_of, tables_left};
+ghost use Rattle.std.specs.Prelude.{◌≡◌};
 ghost use Rattle.begin.specs.Begin.{begin_of};
 ghost use Rattle.question.specs.Question.{yes_or_no, question_of};
 ghost use Rattle.reply.specs.Reply.{reply_of, reply_left, length_of, given_state};
@@ -19,15 +18,6 @@ pub extern "C" fn lavutremo_check(tables: &[u8]) -> u64
     ensures { result ≡ check_of tables.now }
 {
     tables::check(tables)
-}
-
-// House tables from records in any order go into their buffer: 256 times their length, or a refusal number, and then nothing changes.
-#[unsafe(no_mangle)]
-pub extern "C" fn lavutremo_arrange(records: &[u8], tables: &mut [u8]) -> u64
-    ensures answered { result ≡ answer_of length (arrange_of records.now (length tables.old)) }
-    ensures left { tables.new ≡ tables_left tables.old (arrange_of records.now (length tables.old)) }
-{
-    arrange::arrange(records, tables)
 }
 
 // A fresh negotiation for the tables, the other end and the wanted role goes into its buffer: 0, or a refusal number, and then
