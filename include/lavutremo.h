@@ -40,7 +40,7 @@
  * class 3. An 0x15 record needs the credential role <- self in 0x13, and the role in 0x14.
  *
  * The calls allocate no memory. The stack that they need, in bytes, measured on x86-64 by painting it (make stack):
- *   check 8,000, begin 24,000, question 39,000, report 82,000, take 136,000, reply 135,000.
+ *   check 8,000, begin 28,000, question 43,000, report 92,000, take 180,000, reply 186,000.
  * A thread that calls them needs a stack of 256 KiB or more: 128 KiB are too small for take and reply.
  */
 #ifndef LAVUTREMO_H
