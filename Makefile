@@ -136,7 +136,7 @@ uninstall:
 	rm -f $(PROGRAMS:%=$(DESTDIR)$(BINDIR)/$(PROGRAM_PREFIX)%) $(PROGRAMS:%=$(DESTDIR)$(MANDIR)/man1/$(PROGRAM_PREFIX)%.1)
 
 clean:
-	rm -rf build target reference/target calls/target fuzz/target bench/target reading/target
+	rm -rf build target crates/*/out reference/target calls/target fuzz/target bench/target reading/target
 
 $(PROVED) $(MEASURE): target/staticlib/lib%.a: $(CRATES) | rt
 	@tools/prove $*
