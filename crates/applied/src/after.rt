@@ -7,7 +7,7 @@ ghost use Rattle.negotiation.specs.Messages.{message_count};
 ghost use Rattle.negotiation.specs.State.{within};
 ghost use Rattle.applied.specs.After.{end_of, is_stalled, idle_of, header_after, after_message};
 
-use negotiation::{Header, Negotiation, counted};
+use negotiation::{Header, Negotiation};
 use states::state_of;
 
 // Success, failed, stalled, full, in this order; else none.
@@ -42,27 +42,20 @@ fn header_after(sender: u8, primary: u8, moved: bool, full: bool, h: Header) -> 
     requires { message_count h.messages < 65535 }
     ensures { result ≡ header_after sender primary moved full h }
 {
-    let wanted = h.wanted;
     Header {
-        side: h.side,
-        own: h.own,
-        other: h.other,
-        wanted,
         end: end_of(primary, is_stalled(moved, h.idle), full),
         idle: idle_of(moved),
-        messages: counted(sender, h.messages),
+        messages: h.messages.counted(sender),
+        ..h
     }
 }
 
 // The end is judged, and the message counted for its sender.
-pub fn after_message(sender: u8, n: Negotiation, moved: bool, full: bool) -> Negotiation
-    requires { (within (state_of n) ≡ true) × (0 < n.nodes.count) × (message_count n.header.messages < 65535) × NodesFormed (nodes_of n.nodes)
-        × EdgesFormed (nodes_of n.nodes) (edges_of n.edges) }
-    ensures { state_of result ≡ after_message sender (state_of n) moved full }
+pub fn after_message(n: &mut Negotiation, sender: u8, moved: bool, full: bool)
+    requires { (within (state_of n.old) ≡ true) × (0 < n.old.nodes.count) × (message_count n.old.header.messages < 65535)
+        × NodesFormed (nodes_of n.old.nodes) × EdgesFormed (nodes_of n.old.nodes) (edges_of n.old.edges) }
+    ensures { state_of n.new ≡ after_message sender (state_of n.old) moved full }
 {
-    let h = n.header;
-    let nodes = n.nodes;
-    let edges = n.edges;
-    let primary = state_of(nodes, edges, 0);
-    n.with_header(header_after(sender, primary, moved, full, h))
+    let primary = state_of(&n.nodes, &n.edges, 0);
+    n.header = header_after(sender, primary, moved, full, n.header);
 }

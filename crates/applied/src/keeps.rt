@@ -8,7 +8,7 @@ ghost use Rattle.applied.specs.laws.KeepsStates.{brings_nothing, keeps_states};
 ghost use Rattle.numbers.specs.Sizes.{MOST-NODES, MOST-EDGES};
 
 use expression::{Expression, is_entity};
-use graph::{Edge, Edges, IMPLICATION, INTERSECTION, LINKING_IMPLICATION, Nodes, node_of};
+use graph::{Edge, Edges, IMPLICATION, INTERSECTION, LINKING_IMPLICATION, Nodes};
 use message::{Command, NewEdge};
 use word::wide;
 
@@ -18,18 +18,12 @@ const BOTH_PROCESSED: u8 = 3;
 fn is_parts(x: Expression) -> bool
     ensures { result ≡ is_parts x }
 {
-    match x {
-        Expression::Entity(_) => false,
-        Expression::Role(_) => false,
-        Expression::Linked(_, _) => false,
-        Expression::Intersection(_) => true,
-        Expression::Goal(_) => false,
-    }
+    matches!(x, Expression::Intersection(_))
 }
 
 // Whether node i stands in a column of flags.
-fn is_flagged(sat: [u8; 128], i: u8) -> bool
-    ensures { result ≡ flag sat i }
+fn is_flagged(sat: &[u8; 128], i: u8) -> bool
+    ensures { result ≡ flag sat.now i }
 {
     if 128 <= wide(i) {
         return false;
@@ -49,47 +43,45 @@ fn brings_nothing(kind: u8, state: u8, child: bool, parent: bool) -> bool
 }
 
 // A new child is satisfied only if it is an entity, whatever other nodes are.
-fn bring_keeps(nodes: Nodes, b: NewEdge) -> bool
-    requires { nodes.count ≤ MOST-NODES }
-    ensures { (sat : List ℕ) → result ≡ keeps_states (nodes_of nodes) sat (C.Bring b) }
+fn bring_keeps(nodes: &Nodes, b: NewEdge) -> bool
+    requires { nodes.now.count ≤ MOST-NODES }
+    ensures { (sat : List ℕ) → result ≡ keeps_states (nodes_of nodes.now) sat (C.Bring b) }
 {
     if nodes.count <= wide(b.parent) {
         return false;
     }
-    let y = b.expression;
-    !is_entity(y)
+    !is_entity(b.expression)
 }
 
-fn join_keeps(nodes: Nodes, sat: [u8; 128], e: Edge) -> bool
-    requires { nodes.count ≤ MOST-NODES }
-    ensures { result ≡ keeps_states (nodes_of nodes) sat (C.Join e) }
+fn join_keeps(nodes: &Nodes, sat: &[u8; 128], e: Edge) -> bool
+    requires { nodes.now.count ≤ MOST-NODES }
+    ensures { result ≡ keeps_states (nodes_of nodes.now) sat.now (C.Join e) }
 {
     if nodes.count <= wide(e.parent) {
         return false;
     }
-    let p = node_of(nodes, e.parent);
+    let p = nodes.node(e.parent as usize);
     let child = is_flagged(sat, e.child);
     let parent = is_flagged(sat, e.parent);
     brings_nothing(e.kind, p.state, child, parent)
 }
 
 // A mark matters to an intersection only, whatever nodes are satisfied.
-fn mark_keeps(nodes: Nodes, i: u8) -> bool
-    requires { nodes.count ≤ MOST-NODES }
-    ensures { (sat : List ℕ) → result ≡ keeps_states (nodes_of nodes) sat (C.Mark i) }
+fn mark_keeps(nodes: &Nodes, i: u8) -> bool
+    requires { nodes.now.count ≤ MOST-NODES }
+    ensures { (sat : List ℕ) → result ≡ keeps_states (nodes_of nodes.now) sat (C.Mark i) }
 {
     if nodes.count <= wide(i) {
         return false;
     }
-    let p = node_of(nodes, i);
-    let x = p.expression;
-    !is_parts(x)
+    let p = nodes.node(i as usize);
+    !is_parts(p.expression)
 }
 
 // Whether a command leaves the satisfied nodes as they are; sat is the column of them.
-pub fn keeps_states(nodes: Nodes, sat: [u8; 128], c: Command) -> bool
-    requires { nodes.count ≤ MOST-NODES }
-    ensures { result ≡ keeps_states (nodes_of nodes) sat c }
+pub fn keeps_states(nodes: &Nodes, sat: &[u8; 128], c: Command) -> bool
+    requires { nodes.now.count ≤ MOST-NODES }
+    ensures { result ≡ keeps_states (nodes_of nodes.now) sat.now c }
 {
     match c {
         Command::Show(_) => true,
@@ -102,16 +94,14 @@ pub fn keeps_states(nodes: Nodes, sat: [u8; 128], c: Command) -> bool
 }
 
 // Whether each edge leads into a node.
-pub fn is_inside(nodes: Nodes, edges: Edges) -> bool
-    requires { edges.count ≤ MOST-EDGES }
-    ensures { (result ≡ true) → Inside (nodes_of nodes) (edges_of edges) }
+pub fn is_inside(nodes: &Nodes, edges: &Edges) -> bool
+    requires { edges.now.count ≤ MOST-EDGES }
+    ensures { (result ≡ true) → Inside (nodes_of nodes.now) (edges_of edges.now) }
 {
-    let mut j = 0;
-    while j < edges.count {
+    for j in 0..edges.count {
         if nodes.count <= wide(edges.parent[j]) {
             return false;
         }
-        j += 1;
     }
     true
 }

@@ -9,65 +9,60 @@ ghost use Rattle.applied.specs.Step.{stepped, is_move, has_room};
 ghost use Rattle.numbers.specs.Sizes.{MOST-NODES, MOST-EDGES};
 
 pub use after::after_message;
-use graph::{Edge, marked_state, node_of};
+use graph::Edge;
 pub use keeps::{is_inside, keeps_states};
 use message::{Command, NewEdge, Opening};
 use negotiation::Negotiation;
 pub use sides::child_of;
 use sides::primary_of;
-use word::wide;
 
 mod after;
 mod keeps;
 mod sides;
 
 // The primary is added, whichever side sends it.
-fn opened(n: Negotiation, o: Opening) -> Negotiation
-    requires { n.nodes.count < MOST-NODES }
-    ensures { (side : ℕ) → state_of result ≡ stepped (state_of n) side (C.Open o) }
+fn open(n: &mut Negotiation, o: Opening)
+    requires { n.old.nodes.count < MOST-NODES }
+    ensures { (side : ℕ) → state_of n.new ≡ stepped (state_of n.old) side (C.Open o) }
 {
-    let h = n.header;
-    n.add_node(primary_of(h, o))
+    *n = n.add_node(primary_of(n.header, o));
 }
 
 // A child is added, then the edge to it, whichever side sends them.
-fn brought(n: Negotiation, b: NewEdge) -> Negotiation
-    requires { (b.parent < n.nodes.count) × (n.nodes.count < MOST-NODES) × (n.edges.count < MOST-EDGES) }
-    ensures { (side : ℕ) → state_of result ≡ stepped (state_of n) side (C.Bring b) }
+fn bring(n: &mut Negotiation, b: NewEdge)
+    requires { (b.parent < n.old.nodes.count) × (n.old.nodes.count < MOST-NODES) × (n.old.edges.count < MOST-EDGES) }
+    ensures { (side : ℕ) → state_of n.new ≡ stepped (state_of n.old) side (C.Bring b) }
 {
-    let nodes = n.nodes;
-    let p = node_of(nodes, b.parent);
+    let p = n.nodes.node(b.parent as usize);
     let e = Edge {
         kind: b.kind,
         parent: b.parent,
-        child: nodes.count as u8,
+        child: n.nodes.count as u8,
     };
-    let r = n.add_node(child_of(p, b));
-    r.add_edge(e)
+    *n = n.add_node(child_of(p, b)).add_edge(e);
 }
 
 // A node is marked as processed by a side.
-fn marked(n: Negotiation, side: u8, i: u8) -> Negotiation
-    requires { (i < n.nodes.count) × (n.nodes.count ≤ MOST-NODES) }
-    ensures { state_of result ≡ stepped (state_of n) side (C.Mark i) }
+fn mark(n: &mut Negotiation, side: u8, i: u8)
+    requires { (i < n.old.nodes.count) × (n.old.nodes.count ≤ MOST-NODES) }
+    ensures { state_of n.new ≡ stepped (state_of n.old) side (C.Mark i) }
 {
-    let nodes = n.nodes;
-    let x = node_of(nodes, i);
-    n.mark(wide(i), marked_state(side, x))
+    let x = n.nodes.node(i as usize);
+    *n = n.mark(i as usize, x.marked_state(side));
 }
 
 // What a command of the sender does.
-pub fn step(n: Negotiation, sender: u8, c: Command) -> Negotiation
-    requires { (within (state_of n) ≡ true) × (has_room (state_of n) c ≡ true) }
-    ensures { state_of result ≡ stepped (state_of n) sender c }
+pub fn step(n: &mut Negotiation, sender: u8, c: Command)
+    requires { (within (state_of n.old) ≡ true) × (has_room (state_of n.old) c ≡ true) }
+    ensures { state_of n.new ≡ stepped (state_of n.old) sender c }
 {
     match c {
-        Command::Show(d) => n.show(d),
-        Command::Open(o) => opened(n, o),
-        Command::Bring(b) => brought(n, b),
-        Command::Join(e) => n.add_edge(e),
-        Command::Mark(i) => marked(n, sender, i),
-        Command::End => n,
+        Command::Show(d) => *n = n.show(d),
+        Command::Open(o) => open(n, o),
+        Command::Bring(b) => bring(n, b),
+        Command::Join(e) => *n = n.add_edge(e),
+        Command::Mark(i) => mark(n, sender, i),
+        Command::End => {}
     }
 }
 
@@ -75,12 +70,5 @@ pub fn step(n: Negotiation, sender: u8, c: Command) -> Negotiation
 pub fn is_move(c: Command) -> bool
     ensures { result ≡ is_move c }
 {
-    match c {
-        Command::Show(_) => false,
-        Command::Open(_) => true,
-        Command::Bring(_) => true,
-        Command::Join(_) => true,
-        Command::Mark(_) => true,
-        Command::End => false,
-    }
+    !matches!(c, Command::Show(_) | Command::End)
 }

@@ -5,16 +5,15 @@ ghost use Rattle.applied.specs.Step.{primary_of, verifier_of, child_of};
 use expression::Expression;
 use graph::{CONTROL, Node};
 use message::{NewEdge, Opening};
-use negotiation::{Header, MEDIATOR, REQUESTER, requester};
+use negotiation::{Header, MEDIATOR, REQUESTER};
 
 // The primary.
 pub fn primary_of(h: Header, o: Opening) -> Node
     ensures { result ≡ primary_of h o }
 {
-    let role = o.role;
     Node {
-        expression: Expression::Role(role),
-        subject: requester(h),
+        expression: Expression::Role(o.role),
+        subject: h.requester(),
         verifier: MEDIATOR,
         state: o.state,
     }
@@ -38,9 +37,8 @@ fn verifier_of(kind: u8, p: Node) -> u8
 pub fn child_of(p: Node, n: NewEdge) -> Node
     ensures { result ≡ child_of p n }
 {
-    let expression = n.expression;
     Node {
-        expression,
+        expression: n.expression,
         subject: n.subject,
         verifier: verifier_of(n.kind, p),
         state: n.state,

@@ -18,13 +18,6 @@ mod entries;
 mod sort;
 mod write;
 
-// The records laid out, so many bytes, or one is unknown or cut.
-#[derive(Clone, Copy)]
-pub enum Laid {
-    Bytes(usize),
-    Unread,
-}
-
 // The first n entries are sorted.
 fn order(s: &[u8], entries: &mut [usize], n: usize)
     requires { (n ≤ length entries.old) × (n ≤ 1366) × Entries s.now (take n entries.old) }
@@ -34,18 +27,18 @@ fn order(s: &[u8], entries: &mut [usize], n: usize)
     sort(s, &mut entries[..n], &mut spare);
 }
 
-// The records are laid out in the order of their bytes, each once.
-fn lay_out(s: &[u8], out: &mut [u8; 4096]) -> Laid
+// The records are laid out in the order of their bytes, each once. How many bytes they are; none: one is unknown or cut.
+fn lay_out(s: &[u8], out: &mut [u8; 4096]) -> Option<usize>
     requires { (0 < length s.now) × (length s.now ≤ 4096) × (length out.old ≡ 4096) }
     ensures { Lays s.now out.new result }
 {
     let mut entries = [0usize; 1366];
     let n = split(s, &mut entries);
     if n == 0 {
-        return Laid::Unread;
+        return None;
     }
     order(s, &mut entries, n);
-    Laid::Bytes(write(s, &entries[..n], out))
+    Some(write(s, &entries[..n], out))
 }
 
 // Records laid out go into the tables where they pass the check and have room.
@@ -77,7 +70,7 @@ pub fn arrange(records: &[u8], tables: &mut [u8]) -> u64
         return LENGTH;
     }
     let mut out = [0u8; 4096];
-    let Laid::Bytes(n) = lay_out(records, &mut out) else {
+    let Some(n) = lay_out(records, &mut out) else {
         return COMMAND;
     };
     hand_over(&out[..n], tables)

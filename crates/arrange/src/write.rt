@@ -55,10 +55,8 @@ pub fn write(s: &[u8], entries: &[usize], out: &mut [u8]) -> usize
     ensures written { take result out.new ≡ joined (arranged (map (record_of s.now) entries.now)) }
 {
     let mut at = 0;
-    let mut i = 0;
-    while i < entries.len() {
+    for i in 0..entries.len() {
         at = write_next(s, entries, i, out, at);
-        i += 1;
     }
     at
 }

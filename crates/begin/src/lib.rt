@@ -57,12 +57,10 @@ pub fn begin(tables: &[u8], negotiation: &mut [u8], other: u16, entity: u16, nam
     if negotiation.len() != Negotiation::BYTES {
         return LENGTH;
     }
-    let d = decode(tables);
-    let house = d.house;
-    let own = house.own;
-    if d.refusal != 0 {
-        return d.refusal;
-    }
+    let own = match decode(tables) {
+        Ok(house) => house.own,
+        Err(k) => return k,
+    };
     let k = role_number(entity, name);
     if k != 0 {
         return k;
@@ -72,6 +70,6 @@ pub fn begin(tables: &[u8], negotiation: &mut [u8], other: u16, entity: u16, nam
         return m;
     }
     let fresh = Negotiation::fresh(side_of(entity, name), own, other, Role { entity, name });
-    write(fresh, negotiation);
+    write(&fresh, negotiation);
     0
 }

@@ -1,3 +1,4 @@
+pub mod Place
 pub mod Least
 pub mod Offers
 pub mod Skipped

@@ -1,53 +1,70 @@
 // Which edges are done, and the least that is not.
-ghost use Rattle.std.specs.Prelude.{◌≡◌, ◌≤◌};
-ghost use Rattle.graph.specs.laws.Graph.{nodes_of, edges_of};
-ghost use Rattle.moves.specs.Candidates.{precedes as precedes_of, is_done};
-ghost use Rattle.candidates.specs.laws.Done.{done_in};
+ghost use Rattle.std.specs.Prelude.{◌≡◌};
+ghost use Rattle.moves.specs.Candidates.{precedes as precedes_of};
+ghost use Rattle.moves.specs.Rules.{child_for};
+ghost use Rattle.candidates.specs.laws.Place.{Bounded, done_at};
 ghost use Rattle.candidates.specs.laws.Least.{improves as improves_of, better as better_of, or_else};
-ghost use Rattle.numbers.specs.Sizes.{MOST-NODES, MOST-EDGES};
 
-use expression::{before, same};
-use graph::{Edge, Edges, Nodes, find_node, has_edge};
+use crate::Place;
+use expression::{Expression, before, same};
+use graph::Edge;
 use moves::{Candidate, Choice};
 use word::wide;
 
-// Whether an edge into node i stands already, or would join it to itself, whatever the states.
-pub fn is_done<'a>(
-    count: usize,
-    kind: &'a [u8; 256],
-    number: &'a [u16; 1024],
-    subject: &'a [u16; 128],
-    verifier: &'a [u8; 128],
-    edges: usize,
-    edge: &'a [u8; 256],
-    parent: &'a [u8; 256],
-    child: &'a [u8; 256],
-    i: u8,
-    w: Candidate,
-) -> bool
-    requires { (count ≤ MOST-NODES) × (edges ≤ MOST-EDGES) }
-    ensures { result ≡ done_in count kind.now number.now subject.now verifier.now
-        edges edge.now parent.now child.now i w }
-{
-    let y = w.expression;
-    let c = find_node(
-        count, kind, number, subject, verifier, y, w.verifier, w.subject,
-    );
-    if count <= c {
-        return false;
+impl Place<'_> {
+    // An edge into the node, to a child of its verifier.
+    pub fn child_for(&self, kind: u8, x: Expression, b: u16) -> Candidate
+        ensures { result ≡ child_for kind self.now.node x b }
+    {
+        Candidate {
+            kind,
+            verifier: self.node.verifier,
+            expression: x,
+            subject: b,
+            direct: false,
+        }
     }
-    if wide(i) == c {
-        return true;
+
+    // Whether an edge into the node stands already, or would join it to itself.
+    pub fn is_done(&self, w: Candidate) -> bool
+        requires { Bounded self.now }
+        ensures { result ≡ done_at self.now w }
+    {
+        let nodes = &self.negotiation.nodes;
+        let edges = &self.negotiation.edges;
+        let c = nodes.find(nodes.count, w.expression, w.verifier, w.subject);
+        if nodes.count <= c {
+            return false;
+        }
+        if wide(self.number) == c {
+            return true;
+        }
+        let e = Edge {
+            kind: w.kind,
+            parent: self.number,
+            child: c as u8,
+        };
+        edges.has(edges.count, e)
     }
-    let e = Edge {
-        kind: w.kind,
-        parent: i,
-        child: c as u8,
-    };
-    has_edge(edges, edge, parent, child, e)
+
+    // The lesser of what is chosen and an edge into the node, unless that is done.
+    #[tactic(auto, unfolding(crate::specs::laws::Least::better))]
+    pub fn better(&self, best: Choice, w: Candidate) -> Choice
+        requires { Bounded self.now }
+        ensures { result ≡ better_of (done_at self.now) best w }
+    {
+        if !improves(best, w) {
+            return best;
+        }
+        if self.is_done(w) {
+            return best;
+        }
+        Choice::Edge(w)
+    }
 }
 
 // By the child's expression, then its subject.
+#[tactic(auto, unfolding(moves::specs::Candidates::precedes))]
 fn precedes(v: Candidate, w: Candidate) -> bool
     ensures { result ≡ precedes_of v w }
 {
@@ -68,60 +85,8 @@ fn improves(best: Choice, w: Candidate) -> bool
 {
     match best {
         Choice::Edge(v) => precedes(w, v),
-        Choice::Mark => true,
-        Choice::Nothing => true,
+        _ => true,
     }
-}
-
-// The lesser of what is chosen and an edge into node i, unless that is done, whatever the states.
-pub fn lesser<'a>(
-    count: usize,
-    kind: &'a [u8; 256],
-    number: &'a [u16; 1024],
-    subject: &'a [u16; 128],
-    verifier: &'a [u8; 128],
-    edges: usize,
-    edge: &'a [u8; 256],
-    parent: &'a [u8; 256],
-    child: &'a [u8; 256],
-    i: u8,
-    best: Choice,
-    w: Candidate,
-) -> Choice
-    requires { (count ≤ MOST-NODES) × (edges ≤ MOST-EDGES) }
-    ensures { result ≡ better_of (done_in count kind.now number.now subject.now
-        verifier.now edges edge.now parent.now child.now i) best w }
-{
-    if !improves(best, w) {
-        return best;
-    }
-    if is_done(
-        count, kind, number, subject, verifier, edges, edge, parent, child, i, w,
-    ) {
-        return best;
-    }
-    Choice::Edge(w)
-}
-
-// The same, of a whole graph.
-pub fn better(nodes: Nodes, edges: Edges, i: u8, best: Choice, w: Candidate) -> Choice
-    requires { (nodes.count ≤ MOST-NODES) × (edges.count ≤ MOST-EDGES) }
-    ensures { result ≡ better_of (is_done (nodes_of nodes) (edges_of edges) i) best w }
-{
-    lesser(
-        nodes.count,
-        &nodes.kind,
-        &nodes.number,
-        &nodes.subject,
-        &nodes.verifier,
-        edges.count,
-        &edges.kind,
-        &edges.parent,
-        &edges.child,
-        i,
-        best,
-        w,
-    )
 }
 
 // What is chosen, or else the rest.
@@ -129,8 +94,7 @@ pub fn or_else(a: Choice, rest: Choice) -> Choice
     ensures { result ≡ or_else a rest }
 {
     match a {
-        Choice::Edge(w) => Choice::Edge(w),
-        Choice::Mark => Choice::Mark,
         Choice::Nothing => rest,
+        _ => a,
     }
 }

@@ -1,14 +1,12 @@
 // The edges that a rule may add to a node: the first in order that is not done.
 #![tactic(auto)]
 
-pub use all::{all_edges, next_flagged};
-pub use done::{better, or_else};
+pub use done::or_else;
 use expression::Role;
-pub use frontiers::{issuer_edges, other_edges, plain_edges, rest_edges};
-pub use goals::solutions;
-pub use links::{link_rules, mark_if};
-pub use parts::part_edges;
-pub use reach::{no_reach, reach_at};
+use graph::Node;
+pub use links::mark_if;
+use negotiation::Negotiation;
+pub use reach::no_reach;
 
 mod all;
 mod done;
@@ -19,6 +17,14 @@ mod members;
 mod parts;
 mod reach;
 mod subject;
+
+// A node whose edges are sought, its number, and the negotiation in which it stands.
+#[derive(Clone, Copy)]
+pub struct Place<'a> {
+    pub negotiation: &'a Negotiation,
+    pub number: u8,
+    pub node: Node,
+}
 
 // The credentials found for the linked role of these names, once one is known.
 #[derive(Clone, Copy)]

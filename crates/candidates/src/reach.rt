@@ -8,7 +8,7 @@ ghost use Rattle.candidates.specs.laws.Reach.{LinkFound, LinkedBy, Recalls};
 
 use crate::LinkReach;
 use crate::all::{found_from_all, members};
-use class::{ISSUER_ALL, SUBJECT_ALL, class_of};
+use class::{ISSUER_ALL, SUBJECT_ALL};
 use expression::{Expression, Role, same_role};
 use graph::Node;
 use moves::Preparation;
@@ -25,69 +25,51 @@ pub fn no_reach() -> LinkReach
 }
 
 // The credentials of the members where the frontier of a role of name r is the role itself, else those that are found from their roles of name r.
-fn link_found(own: Preparation, a: Role, r: u16) -> [u8; 128]
-    requires { Prepared own }
-    ensures { LinkFound own a r result }
+fn link_found(own: &Preparation, a: Role, r: u16) -> [u8; 128]
+    requires { Prepared own.now }
+    ensures { LinkFound own.now a r result }
 {
-    let house = own.house;
-    let names = house.names;
-    let pool = house.issuer;
-    let flags = members(pool, a);
-    if class_of(names.count, &names.name, &names.class, r) == SUBJECT_ALL {
+    let house = &own.house;
+    let flags = members(&house.issuer, a);
+    if house.names.class_of(r) == SUBJECT_ALL {
         return flags;
     }
     let on = [1u8; 128];
-    found_from_all(
-        pool.count,
-        &pool.heads,
-        &pool.kinds,
-        &pool.numbers,
-        &on,
-        &own.oppo,
-        &flags,
-        r,
-    )
+    found_from_all(&house.issuer, &on, &own.oppo, &flags, r)
 }
 
-// For the linked role of these names: what was found last, if it was for this one.
-fn reach_of(own: Preparation, a: Role, r: u16, last: LinkReach) -> LinkReach
-    requires { Prepared own × Recalls own last }
-    ensures recalls { Recalls own result }
-    ensures found { class_of (names_of own.house.names) a.name ≡ 2 → LinkFound own a r result.found }
-{
-    let house = own.house;
-    let names = house.names;
-    if class_of(names.count, &names.name, &names.class, a.name) != ISSUER_ALL {
-        return last;
+impl LinkReach {
+    // It becomes what is found for the linked role of these names, unless it was found for this one.
+    fn find(&mut self, own: &Preparation, a: Role, r: u16)
+        requires { Prepared own.now × Recalls own.now self.old }
+        ensures recalls { Recalls own.now self.new }
+        ensures found { class_of (names_of own.now.house.names) a.name ≡ 2 → LinkFound own.now a r self.new.found }
+    {
+        if own.house.names.class_of(a.name) != ISSUER_ALL {
+            return;
+        }
+        if self.known & same_role(self.role, a) & (self.name == r) {
+            return;
+        }
+        *self = Self {
+            known: true,
+            role: a,
+            name: r,
+            found: link_found(own, a, r),
+        };
     }
-    let role = last.role;
-    if last.known & same_role(role, a) & (last.name == r) {
-        return last;
-    }
-    let found = link_found(own, a, r);
-    LinkReach {
-        known: true,
-        role: a,
-        name: r,
-        found,
-    }
-}
 
-// For a node that our side verifies.
-pub fn reach_at(own: Preparation, side: u8, x: Node, last: LinkReach) -> LinkReach
-    requires { Prepared own × Recalls own last }
-    ensures recalls { Recalls own result }
-    ensures found { x.verifier ≡ side → LinkedBy own x.expression result.found }
-{
-    if x.verifier != side {
-        return last;
-    }
-    let e = x.expression;
-    match e {
-        Expression::Entity(_) => last,
-        Expression::Role(_) => last,
-        Expression::Linked(a, r) => reach_of(own, a, r, last),
-        Expression::Intersection(_) => last,
-        Expression::Goal(_) => last,
+    // For a node that our side verifies.
+    pub fn visit(&mut self, own: &Preparation, side: u8, x: Node)
+        requires { Prepared own.now × Recalls own.now self.old }
+        ensures recalls { Recalls own.now self.new }
+        ensures found { x.verifier ≡ side → LinkedBy own.now x.expression self.new.found }
+    {
+        if x.verifier != side {
+            return;
+        }
+        if let Expression::Linked(a, r) = x.expression {
+            self.find(own, a, r);
+        }
     }
 }

@@ -13,68 +13,50 @@ ghost use Rattle.choice.specs.laws.Known.{known_as};
 ghost use Rattle.numbers.specs.Sizes.{MOST-NODES};
 
 use expression::{Expression, Role};
-use graph::find_node;
 use moves::{Holding, Known};
 use negotiation::Negotiation;
-use tables::{House, RoleAnswer, holds, other_of};
+use tables::House;
 
 // Whether our target for a role of the other end stands and is satisfied.
-pub fn is_acknowledged(n: Negotiation, sat: &[u8; 128], r: Role) -> bool
-    requires { (n.nodes.count ≤ MOST-NODES) × Says (nodes_of n.nodes) (edges_of n.edges) sat.now }
-    ensures { result ≡ is_acknowledged (state_of n) r }
+pub fn is_acknowledged(n: &Negotiation, sat: &[u8; 128], r: Role) -> bool
+    requires { (n.now.nodes.count ≤ MOST-NODES) × Says (nodes_of n.now.nodes) (edges_of n.now.edges) sat.now }
+    ensures { result ≡ is_acknowledged (state_of n.now) r }
 {
-    let h = n.header;
-    let nodes = n.nodes;
-    let i = find_node(
-        nodes.count,
-        &nodes.kind,
-        &nodes.number,
-        &nodes.subject,
-        &nodes.verifier,
-        Expression::Role(r),
-        h.side,
-        h.other,
-    );
-    if nodes.count <= i {
+    let count = n.nodes.count;
+    let i = n
+        .nodes
+        .find(count, Expression::Role(r), n.header.side, n.header.other);
+    if count <= i {
         return false;
     }
     sat[i] == 1
 }
 
-fn policy_of(a: RoleAnswer) -> Holding
+fn policy_of(a: Option<Role>) -> Holding
     ensures { result ≡ policy_of a }
 {
     match a {
-        RoleAnswer::Found(r) => Holding::Guarded(r),
-        RoleAnswer::Absent => Holding::Free,
+        Some(r) => Holding::Guarded(r),
+        None => Holding::Free,
     }
 }
 
 // Whether we hold a sensitive role, and under which access policy.
-fn holding_of(house: House, a: Role) -> Holding
-    requires { Housed house × (is_sensitive (tables_of house).sensitive a ≡ true) }
-    ensures { result ≡ holding_of (hidden_of (tables_of house)) a }
+fn holding_of(house: &House, a: Role) -> Holding
+    requires { Housed house.now × (is_sensitive (tables_of house.now).sensitive a ≡ true) }
+    ensures { result ≡ holding_of (hidden_of (tables_of house.now)) a }
 {
-    let pool = house.subject;
-    let access = house.access;
-    if !holds(
-        house.own,
-        pool.count,
-        &pool.heads,
-        &pool.kinds,
-        &pool.numbers,
-        a,
-    ) {
+    if !house.holds(a) {
         return Holding::Absent;
     }
-    policy_of(other_of(access.count, &access.roles, &access.others, a))
+    policy_of(house.access.other_of(a))
 }
 
 // What is known of the role a, its Ack role being given.
-pub fn known_of(house: House, n: Negotiation, sat: &[u8; 128], a: Role, ack: Role) -> Known
-    requires { Housed house × (is_sensitive (tables_of house).sensitive a ≡ true) × (n.nodes.count ≤ MOST-NODES)
-        × Says (nodes_of n.nodes) (edges_of n.edges) sat.now }
-    ensures { result ≡ known_as (state_of n) (hidden_of (tables_of house)) a ack }
+pub fn known_of(house: &House, n: &Negotiation, sat: &[u8; 128], a: Role, ack: Role) -> Known
+    requires { Housed house.now × (is_sensitive (tables_of house.now).sensitive a ≡ true) × (n.now.nodes.count ≤ MOST-NODES)
+        × Says (nodes_of n.now.nodes) (edges_of n.now.edges) sat.now }
+    ensures { result ≡ known_as (state_of n.now) (hidden_of (tables_of house.now)) a ack }
 {
     if !is_acknowledged(n, sat, ack) {
         return Known::Waiting;

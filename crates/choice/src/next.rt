@@ -15,8 +15,7 @@ ghost use Rattle.choice.specs.laws.Exhausted.{Exhausted};
 
 use crate::Turn;
 use crate::processing::choice_at;
-use candidates::{LinkReach, reach_at};
-use graph::node_at;
+use candidates::{LinkReach, Place};
 use moves::{Choice, Found, Preparation};
 use negotiation::Negotiation;
 use states::NodeStates;
@@ -34,14 +33,11 @@ const INTERSECTION: u8 = 4;
 pub fn is_nothing(c: Choice) -> bool
     ensures { result ≡ is_nothing c }
 {
-    match c {
-        Choice::Edge(_) => false,
-        Choice::Mark => false,
-        Choice::Nothing => true,
-    }
+    matches!(c, Choice::Nothing)
 }
 
 // Whether our side has not processed a node of this verifier and state.
+#[tactic(auto, unfolding(crate::specs::laws::Next::is_unprocessed))]
 fn is_unprocessed(side: u8, verifier: u8, state: u8) -> bool
     ensures { result ≡ is_unprocessed side verifier state }
 {
@@ -66,41 +62,37 @@ fn begins_at(kind: &[u8; 256], rests: usize) -> usize
 // "Nodes are tried by rising number": the first at which there is something to do. The edges of rule (4) of sensitive roles are done below `passed`, and
 // there is nothing to do below `rests`, unless that is a goal. What was found for the linked target visited last is in `last`.
 pub fn next_choice(
-    own: Preparation,
-    n: Negotiation,
-    states: NodeStates,
+    own: &Preparation,
+    n: &Negotiation,
+    states: &NodeStates,
     passed: usize,
     rests: usize,
     last: LinkReach,
 ) -> Turn
-    requires { Prepared own × (within (state_of n) ≡ true) × (0 < n.nodes.count) × NodesFormed (nodes_of n.nodes)
-        × EdgesFormed (nodes_of n.nodes) (edges_of n.edges)
-        × StateColumns (nodes_of n.nodes) (edges_of n.edges) states.satisfied states.failed
-        × Exhausted (tables_of own.house) (state_of n) passed × Resting (tables_of own.house) (state_of n) rests × Recalls own last }
-    ensures found { next_move (end_in (tables_of own.house) (state_of n)) ≡ found_move (end_in (tables_of own.house) (state_of n)) result.found }
-    ensures standing { result.found.node < n.nodes.count }
-    ensures idle { NothingBefore (end_in (tables_of own.house) (state_of n)) result.found.node }
-    ensures recalls { Recalls own result.reach }
+    requires { Prepared own.now × (within (state_of n.now) ≡ true) × (0 < n.now.nodes.count) × NodesFormed (nodes_of n.now.nodes)
+        × EdgesFormed (nodes_of n.now.nodes) (edges_of n.now.edges)
+        × StateColumns (nodes_of n.now.nodes) (edges_of n.now.edges) states.now.satisfied states.now.failed
+        × Exhausted (tables_of own.now.house) (state_of n.now) passed × Resting (tables_of own.now.house) (state_of n.now) rests
+        × Recalls own.now last }
+    ensures found { next_move (end_in (tables_of own.now.house) (state_of n.now)) ≡ found_move (end_in (tables_of own.now.house) (state_of n.now)) result.found }
+    ensures standing { result.found.node < n.now.nodes.count }
+    ensures idle { NothingBefore (end_in (tables_of own.now.house) (state_of n.now)) result.found.node }
+    ensures recalls { Recalls own.now result.reach }
 {
-    let h = n.header;
-    let nodes = n.nodes;
-    let count = nodes.count;
+    let side = n.header.side;
+    let nodes = &n.nodes;
     let mut reach = last;
-    let mut i = begins_at(&nodes.kind, rests);
-    while i < count {
-        if is_unprocessed(h.side, nodes.verifier[i], nodes.state[i]) {
+    for i in begins_at(&nodes.kind, rests)..nodes.count {
+        if is_unprocessed(side, nodes.verifier[i], nodes.state[i]) {
             let node = i as u8;
-            let x = node_at(
-                &nodes.kind,
-                &nodes.number,
-                &nodes.subject,
-                &nodes.verifier,
-                &nodes.state,
-                i,
-            );
-            let visit = reach_at(own, h.side, x, reach);
-            reach = visit;
-            let choice = choice_at(own, n, states, &reach.found, node, x, passed);
+            let x = nodes.node(i);
+            let p = Place {
+                negotiation: n,
+                number: node,
+                node: x,
+            };
+            reach.visit(own, side, x);
+            let choice = choice_at(own, states, &reach.found, &p, passed);
             if !is_nothing(choice) {
                 return Turn {
                     found: Found { node, choice },
@@ -108,7 +100,6 @@ pub fn next_choice(
                 };
             }
         }
-        i += 1;
     }
     Turn {
         found: Found {

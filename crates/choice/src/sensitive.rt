@@ -1,45 +1,36 @@
 // The choice for a sensitive role: (1) the Ack target, (2) and (3) by what is known, (4) the rest, (5) a mark.
-ghost use Rattle.std.specs.Prelude.{◌≡◌, true, ◌≤◌, ◌<◌};
+ghost use Rattle.std.specs.Prelude.{◌≡◌, ◌<◌};
 ghost use Rattle.graph.specs.laws.Graph.{nodes_of, edges_of};
 ghost use Rattle.justification.specs.laws.Justified.{Says};
 ghost use Rattle.negotiation.specs.laws.State.{state_of};
-ghost use Rattle.moves.specs.Candidates.{is_done};
+ghost use Rattle.candidates.specs.laws.Place.{Bounded, done_at};
 ghost use Rattle.candidates.specs.laws.Least.{or_else};
 ghost use Rattle.choice.specs.laws.Sensitive.{alone as alone_of, control_for, own_for, policy_choice, holding_choice, known_choice};
-ghost use Rattle.numbers.specs.Sizes.{MOST-NODES, MOST-EDGES};
 
 use crate::known::is_acknowledged;
-use candidates::{better, mark_if, or_else};
+use candidates::{Place, mark_if, or_else};
 use expression::{Expression, Role};
 use graph::{CONTROL, IMPLICATION, Node};
 use moves::{Candidate, Choice, Holding, Known};
-use negotiation::Negotiation;
 use word::wide;
 
-// An edge into node i, unless it is done.
-fn alone(n: Negotiation, i: u8, w: Candidate) -> Choice
-    requires { (n.nodes.count ≤ MOST-NODES) × (n.edges.count ≤ MOST-EDGES) }
-    ensures { result ≡ alone_of (is_done (nodes_of n.nodes) (edges_of n.edges) i) w }
+// An edge into the node, unless it is done.
+fn alone(p: &Place, w: Candidate) -> Choice
+    requires { Bounded p.now }
+    ensures { result ≡ alone_of (done_at p.now) w }
 {
-    let nodes = n.nodes;
-    let edges = n.edges;
-    better(nodes, edges, i, Choice::Nothing, w)
+    p.better(Choice::Nothing, w)
 }
 
 // "a control edge T ← ⟨O : e ← V⟩".
-fn control_edge(n: Negotiation, x: Node, r: Role) -> Candidate
-    ensures { result ≡ control_for (state_of n) x r }
+fn control_edge(p: &Place, r: Role) -> Candidate
+    ensures { result ≡ control_for (state_of p.now.negotiation.now) p.now.node r }
 {
-    let h = n.header;
-    let mut verifier = 0;
-    if x.verifier == 0 {
-        verifier = 1;
-    }
     Candidate {
         kind: CONTROL,
-        verifier,
+        verifier: (p.node.verifier == 0) as u8,
         expression: Expression::Role(r),
-        subject: h.other,
+        subject: p.negotiation.header.other,
         direct: false,
     }
 }
@@ -58,56 +49,52 @@ fn own_edge(x: Node) -> Candidate
 }
 
 // The control edge; our own edge once the AC target is satisfied; the rest; a mark.
-fn by_policy(n: Negotiation, sat: &[u8; 128], i: u8, x: Node, r: Role, rest: Choice) -> Choice
-    requires { (i < n.nodes.count) × (n.nodes.count ≤ MOST-NODES) × (n.edges.count ≤ MOST-EDGES)
-        × Says (nodes_of n.nodes) (edges_of n.edges) sat.now }
-    ensures { result ≡ policy_choice (state_of n) (is_done (nodes_of n.nodes) (edges_of n.edges) i) i x rest r }
+#[tactic(auto, unfolding(crate::specs::laws::Sensitive::policy_choice))]
+fn by_policy(p: &Place, sat: &[u8; 128], r: Role, rest: Choice) -> Choice
+    requires { let n = p.now.negotiation.now in
+        (p.now.number < n.nodes.count) × Bounded p.now × Says (nodes_of n.nodes) (edges_of n.edges) sat.now }
+    ensures { result ≡ policy_choice (state_of p.now.negotiation.now) (done_at p.now) p.now.number p.now.node rest r }
 {
-    let control = alone(n, i, control_edge(n, x, r));
-    let satisfied = sat[wide(i)] == 1;
-    if !is_acknowledged(n, sat, r) {
+    let control = alone(p, control_edge(p, r));
+    let satisfied = sat[wide(p.number)] == 1;
+    if !is_acknowledged(p.negotiation, sat, r) {
         return or_else(control, or_else(rest, mark_if(satisfied)));
     }
-    let own = alone(n, i, own_edge(x));
+    let own = alone(p, own_edge(p.node));
     or_else(control, or_else(own, or_else(rest, Choice::Mark)))
 }
 
 // By what we hold.
-fn by_holding(n: Negotiation, sat: &[u8; 128], i: u8, x: Node, h: Holding, rest: Choice) -> Choice
-    requires { (i < n.nodes.count) × (n.nodes.count ≤ MOST-NODES) × (n.edges.count ≤ MOST-EDGES)
-        × Says (nodes_of n.nodes) (edges_of n.edges) sat.now }
-    ensures { result ≡ holding_choice (state_of n) (is_done (nodes_of n.nodes) (edges_of n.edges) i) i x rest h }
+#[tactic(auto, unfolding(crate::specs::laws::Sensitive::holding_choice))]
+fn by_holding(p: &Place, sat: &[u8; 128], h: Holding, rest: Choice) -> Choice
+    requires { let n = p.now.negotiation.now in
+        (p.now.number < n.nodes.count) × Bounded p.now × Says (nodes_of n.nodes) (edges_of n.edges) sat.now }
+    ensures { result ≡ holding_choice (state_of p.now.negotiation.now) (done_at p.now) p.now.number p.now.node rest h }
 {
     match h {
         Holding::Absent => or_else(rest, Choice::Mark),
-        Holding::Free => or_else(alone(n, i, own_edge(x)), or_else(rest, Choice::Mark)),
-        Holding::Guarded(r) => by_policy(n, sat, i, x, r, rest),
+        Holding::Free => or_else(alone(p, own_edge(p.node)), or_else(rest, Choice::Mark)),
+        Holding::Guarded(r) => by_policy(p, sat, r, rest),
     }
 }
 
 // By what is known.
-pub fn by_known(
-    n: Negotiation,
-    sat: &[u8; 128],
-    i: u8,
-    x: Node,
-    known: Known,
-    rest: Choice,
-) -> Choice
-    requires { (i < n.nodes.count) × (n.nodes.count ≤ MOST-NODES) × (n.edges.count ≤ MOST-EDGES)
-        × Says (nodes_of n.nodes) (edges_of n.edges) sat.now }
-    ensures { result ≡ known_choice (state_of n) (is_done (nodes_of n.nodes) (edges_of n.edges) i) i x rest known }
+#[tactic(auto, unfolding(crate::specs::laws::Sensitive::known_choice))]
+pub fn by_known(p: &Place, sat: &[u8; 128], known: Known, rest: Choice) -> Choice
+    requires { let n = p.now.negotiation.now in
+        (p.now.number < n.nodes.count) × Bounded p.now × Says (nodes_of n.nodes) (edges_of n.edges) sat.now }
+    ensures { result ≡ known_choice (state_of p.now.negotiation.now) (done_at p.now) p.now.number p.now.node rest known }
 {
     match known {
-        Known::Waiting => or_else(rest, mark_if(sat[wide(i)] == 1)),
-        Known::Seen(h) => by_holding(n, sat, i, x, h, rest),
+        Known::Waiting => or_else(rest, mark_if(sat[wide(p.number)] == 1)),
+        Known::Seen(h) => by_holding(p, sat, h, rest),
     }
 }
 
 // The Ack target's edge comes first.
-pub fn behind_ack(n: Negotiation, i: u8, x: Node, ack: Role, rest: Choice) -> Choice
-    requires { (n.nodes.count ≤ MOST-NODES) × (n.edges.count ≤ MOST-EDGES) }
-    ensures { result ≡ or_else (alone_of (is_done (nodes_of n.nodes) (edges_of n.edges) i) (control_for (state_of n) x ack)) rest }
+pub fn behind_ack(p: &Place, ack: Role, rest: Choice) -> Choice
+    requires { Bounded p.now }
+    ensures { result ≡ or_else (alone_of (done_at p.now) (control_for (state_of p.now.negotiation.now) p.now.node ack)) rest }
 {
-    or_else(alone(n, i, control_edge(n, x, ack)), rest)
+    or_else(alone(p, control_edge(p, ack)), rest)
 }

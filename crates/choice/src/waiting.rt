@@ -3,36 +3,29 @@ ghost use Rattle.std.specs.Prelude.{◌≡◌, true, false, ◌≤◌, ◌<◌};
 ghost use Rattle.choice.specs.laws.Waits.{SameFlags, SameAt, SameSolutions, Unchanged};
 
 use graph::{Edges, SOLUTION};
+use states::NodeStates;
 use word::wide;
 
 // Whether two columns differ.
-fn differ<'a>(a: &'a [u8; 128], b: &'a [u8; 128]) -> bool
+fn differ(a: &[u8; 128], b: &[u8; 128]) -> bool
     ensures { result ≡ false → SameFlags a.now b.now 128 }
 {
     let mut found = false;
-    let mut j = 0;
-    while j < 128 {
+    for j in 0..128 {
         found = found | (a[j] != b[j]);
-        j += 1;
     }
     found
 }
 
 // Whether edge k brings a goal a solution at which the columns differ.
-fn is_changed<'a>(
-    kind: &'a [u8; 256],
-    child: &'a [u8; 256],
-    failed: &'a [u8; 128],
-    earlier: &'a [u8; 128],
-    k: usize,
-) -> bool
+fn is_changed(edges: &Edges, failed: &[u8; 128], earlier: &[u8; 128], k: usize) -> bool
     requires { k < 256 }
-    ensures { result ≡ false → SameAt kind.now child.now failed.now earlier.now k }
+    ensures { result ≡ false → SameAt edges.now.kind edges.now.child failed.now earlier.now k }
 {
-    if kind[k] != SOLUTION {
+    if edges.kind[k] != SOLUTION {
         return false;
     }
-    let c = wide(child[k]);
+    let c = wide(edges.child[k]);
     if 128 <= c {
         return false;
     }
@@ -40,45 +33,30 @@ fn is_changed<'a>(
 }
 
 // Whether the columns are alike at all solutions.
-fn is_settled<'a>(
-    m: usize,
-    kind: &'a [u8; 256],
-    child: &'a [u8; 256],
-    failed: &'a [u8; 128],
-    earlier: &'a [u8; 128],
-) -> bool
-    requires { m ≤ 256 }
-    ensures { result ≡ true → SameSolutions kind.now child.now failed.now earlier.now m }
+fn is_settled(edges: &Edges, failed: &[u8; 128], earlier: &[u8; 128]) -> bool
+    requires { edges.now.count ≤ 256 }
+    ensures { result ≡ true → SameSolutions edges.now.kind edges.now.child failed.now earlier.now edges.now.count }
 {
-    let mut k = 0;
-    while k < m {
-        if is_changed(kind, child, failed, earlier, k) {
+    for k in 0..edges.count {
+        if is_changed(edges, failed, earlier, k) {
             return false;
         }
-        k += 1;
     }
     true
 }
 
 // Targets below `waiting` still rest if the satisfied nodes and the solutions that failed are the same; else none is known to.
-pub fn resting<'a>(
-    edges: Edges,
-    sat: &'a [u8; 128],
-    last: &'a [u8; 128],
-    failed: &'a [u8; 128],
-    earlier: &'a [u8; 128],
-    waiting: usize,
-) -> usize
-    requires { edges.count ≤ 256 }
-    ensures { Unchanged edges sat.now last.now failed.now earlier.now waiting result }
+pub fn resting(edges: &Edges, states: &NodeStates, last: &NodeStates, waiting: usize) -> usize
+    requires { edges.now.count ≤ 256 }
+    ensures { Unchanged edges.now states.now.satisfied last.now.satisfied states.now.failed last.now.failed waiting result }
 {
-    if differ(sat, last) {
+    if differ(&states.satisfied, &last.satisfied) {
         return 0;
     }
-    if !differ(failed, earlier) {
+    if !differ(&states.failed, &last.failed) {
         return waiting;
     }
-    if is_settled(edges.count, &edges.kind, &edges.child, failed, earlier) {
+    if is_settled(edges, &states.failed, &last.failed) {
         return waiting;
     }
     0

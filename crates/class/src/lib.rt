@@ -2,7 +2,7 @@
 #![tactic(auto)]
 
 ghost use Rattle.std.specs.Prelude.{◌≡◌, cond, [], ◌∷◌, ◌<◌, ◌+◌, ◌-◌, ◌≤◌, ltb, get_or};
-ghost use Rattle.class.specs.laws.Names.{names_from, names_of, Ascending, Between, Placed};
+ghost use Rattle.class.specs.laws.Names.{names_of, Ascending, Between, Placed};
 ghost use Rattle.class.specs.Names.{class_of};
 ghost use Rattle.class.specs.Typing.{linked as linked_of, together, type_of, suits as suits_of, credential_number};
 ghost use Rattle.numbers.specs.Sizes.{MOST-NAMES};
@@ -40,7 +40,7 @@ pub const ISSUER_ALL: u8 = 2;
 pub const SUBJECT_ALL: u8 = 3;
 
 // The second half of the names from low on where the first, so many, are less than m, else the first.
-fn nearer<'a>(name: &'a [u16; 64], m: u16, low: usize, half: usize) -> usize
+fn nearer(name: &[u16; 64], m: u16, low: usize, half: usize) -> usize
     requires { (0 < half) × (low + half ≤ 64) }
     ensures { result ≡ cond (ltb (get_or name.now (low + half - 1) 0) m) (low + half) low }
 {
@@ -51,7 +51,7 @@ fn nearer<'a>(name: &'a [u16; 64], m: u16, low: usize, half: usize) -> usize
 }
 
 // The only place where m may stand among the names from start on, so many.
-fn place_among<'a>(name: &'a [u16; 64], m: u16, start: usize, most: usize) -> usize
+fn place_among(name: &[u16; 64], m: u16, start: usize, most: usize) -> usize
     requires { (0 < most) × (start + most ≤ 64) }
     ensures { Placed name.now m start most result }
 {
@@ -66,7 +66,7 @@ fn place_among<'a>(name: &'a [u16; 64], m: u16, start: usize, most: usize) -> us
 }
 
 // Where 32 names begin among which m stands if it stands among n names: at the first, or 32 before the end.
-fn half_place<'a>(n: usize, name: &'a [u16; 64], m: u16) -> usize
+fn half_place(n: usize, name: &[u16; 64], m: u16) -> usize
     requires { (32 ≤ n) × (n ≤ MOST-NAMES) × Ascending n name.now }
     ensures { Between n name.now m result 32 }
 {
@@ -78,7 +78,7 @@ fn half_place<'a>(n: usize, name: &'a [u16; 64], m: u16) -> usize
 }
 
 // The only place where m may stand among n names. From 32 names on the search is among 32, a fixed number: it is compiled without a loop.
-fn place<'a>(n: usize, name: &'a [u16; 64], m: u16) -> usize
+fn place(n: usize, name: &[u16; 64], m: u16) -> usize
     requires { (0 < n) × (n ≤ MOST-NAMES) × Ascending n name.now }
     ensures { Between n name.now m result 1 }
 {
@@ -89,22 +89,8 @@ fn place<'a>(n: usize, name: &'a [u16; 64], m: u16) -> usize
     place_among(name, m, half_place(n, name, m), half)
 }
 
-// The class of the name m: subject-all where it is not listed.
-pub fn class_of<'a>(n: usize, name: &'a [u16; 64], class: &'a [u8; 64], m: u16) -> u8
-    requires { (n ≤ MOST-NAMES) × Ascending n name.now }
-    ensures { result ≡ class_of (names_of (names_from n name.now class.now)) m }
-{
-    if n == 0 {
-        return SUBJECT_ALL;
-    }
-    let i = place(n, name, m);
-    if name[i] != m {
-        return SUBJECT_ALL;
-    }
-    class[i]
-}
-
 // A linked role, by the classes of its two names.
+#[tactic(auto, unfolding(crate::specs::Typing::linked))]
 fn linked(a: u8, b: u8) -> Typing
     ensures { result ≡ linked_of a b }
 {
@@ -124,6 +110,7 @@ fn linked(a: u8, b: u8) -> Typing
 }
 
 // An intersection, by the classes of its four roles; a role that is missing is given as another.
+#[tactic(auto, unfolding(crate::specs::Typing::together))]
 fn meet(a: u8, b: u8, c: u8, d: u8) -> Typing
     ensures { result ≡ together (a ∷ b ∷ c ∷ d ∷ []) }
 {
@@ -134,41 +121,6 @@ fn meet(a: u8, b: u8, c: u8, d: u8) -> Typing
         return Typing::Class(ISSUER_ALL);
     }
     Typing::Class(ISSUER_DEF)
-}
-
-// An intersection.
-fn type_of_parts<'a>(n: usize, name: &'a [u16; 64], class: &'a [u8; 64], p: Parts) -> Typing
-    requires { (n ≤ MOST-NAMES) × Ascending n name.now }
-    ensures { result ≡ type_of (names_of (names_from n name.now class.now)) (Expression.Intersection p) }
-{
-    let a = class_of(n, name, class, p.first.name);
-    let b = class_of(n, name, class, p.second.name);
-    if p.count == 2 {
-        return meet(a, b, a, a);
-    }
-    let c = class_of(n, name, class, p.third.name);
-    if p.count == 3 {
-        return meet(a, b, c, a);
-    }
-    let d = class_of(n, name, class, p.fourth.name);
-    meet(a, b, c, d)
-}
-
-// What class an expression has.
-pub fn type_of<'a>(n: usize, name: &'a [u16; 64], class: &'a [u8; 64], x: Expression) -> Typing
-    requires { (n ≤ MOST-NAMES) × Ascending n name.now }
-    ensures { result ≡ type_of (names_of (names_from n name.now class.now)) x }
-{
-    match x {
-        Expression::Entity(_) => Typing::Any,
-        Expression::Role(r) => Typing::Class(class_of(n, name, class, r.name)),
-        Expression::Linked(r, m) => linked(
-            class_of(n, name, class, r.name),
-            class_of(n, name, class, m),
-        ),
-        Expression::Intersection(p) => type_of_parts(n, name, class, p),
-        Expression::Goal(m) => Typing::Class(class_of(n, name, class, m)),
-    }
 }
 
 // Whether a body of type t may stand under a head of class k.
@@ -182,35 +134,73 @@ fn suits(t: Typing, k: u8) -> bool
     }
 }
 
-// The class rules for a credential whose head has class k: zero where it keeps them.
-pub fn number_under<'a>(
-    n: usize,
-    name: &'a [u16; 64],
-    class: &'a [u8; 64],
-    k: u8,
-    c: Credential,
-) -> u64
-    requires { (n ≤ MOST-NAMES) × Ascending n name.now × (k ≡ class_of (names_of (names_from n name.now class.now)) c.head.name) }
-    ensures { result ≡ credential_number (names_of (names_from n name.now class.now)) c }
-{
-    let body = c.body;
-    if suits(type_of(n, name, class, body), k) {
-        return 0;
+impl Names {
+    // The class of the name m: subject-all where it is not listed.
+    pub fn class_of(&self, m: u16) -> u8
+        requires { (self.now.count ≤ MOST-NAMES) × Ascending self.now.count self.now.name }
+        ensures { result ≡ class_of (names_of self.now) m }
+    {
+        if self.count == 0 {
+            return SUBJECT_ALL;
+        }
+        let i = place(self.count, &self.name, m);
+        if self.name[i] != m {
+            return SUBJECT_ALL;
+        }
+        self.class[i]
     }
-    CLASS
-}
 
-// The class rules for a credential: zero where it keeps them.
-pub fn credential_number<'a>(
-    n: usize,
-    name: &'a [u16; 64],
-    class: &'a [u8; 64],
-    c: Credential,
-) -> u64
-    requires { (n ≤ MOST-NAMES) × Ascending n name.now }
-    ensures { result ≡ credential_number (names_of (names_from n name.now class.now)) c }
-{
-    let head = c.head;
-    let k = class_of(n, name, class, head.name);
-    number_under(n, name, class, k, c)
+    // An intersection.
+    #[tactic(auto, unfolding(crate::specs::Typing::type_of, crate::specs::Typing::together, rt0::specs::From::roles_of))]
+    fn type_of_parts(&self, p: Parts) -> Typing
+        requires { (self.now.count ≤ MOST-NAMES) × Ascending self.now.count self.now.name }
+        ensures { result ≡ type_of (names_of self.now) (Expression.Intersection p) }
+    {
+        let a = self.class_of(p.first.name);
+        let b = self.class_of(p.second.name);
+        if p.count == 2 {
+            return meet(a, b, a, a);
+        }
+        let c = self.class_of(p.third.name);
+        if p.count == 3 {
+            return meet(a, b, c, a);
+        }
+        let d = self.class_of(p.fourth.name);
+        meet(a, b, c, d)
+    }
+
+    // What class an expression has.
+    #[tactic(auto, unfolding(crate::specs::Typing::type_of))]
+    pub fn type_of(&self, x: Expression) -> Typing
+        requires { (self.now.count ≤ MOST-NAMES) × Ascending self.now.count self.now.name }
+        ensures { result ≡ type_of (names_of self.now) x }
+    {
+        match x {
+            Expression::Entity(_) => Typing::Any,
+            Expression::Role(r) => Typing::Class(self.class_of(r.name)),
+            Expression::Linked(r, m) => linked(self.class_of(r.name), self.class_of(m)),
+            Expression::Intersection(p) => self.type_of_parts(p),
+            Expression::Goal(m) => Typing::Class(self.class_of(m)),
+        }
+    }
+
+    // The class rules for a credential whose head has class k: zero where it keeps them.
+    #[tactic(auto, unfolding(crate::specs::Typing::credential_number))]
+    pub fn number_under(&self, k: u8, c: Credential) -> u64
+        requires { (self.now.count ≤ MOST-NAMES) × Ascending self.now.count self.now.name × (k ≡ class_of (names_of self.now) c.head.name) }
+        ensures { result ≡ credential_number (names_of self.now) c }
+    {
+        if suits(self.type_of(c.body), k) {
+            return 0;
+        }
+        CLASS
+    }
+
+    // The class rules for a credential: zero where it keeps them.
+    pub fn credential_number(&self, c: Credential) -> u64
+        requires { (self.now.count ≤ MOST-NAMES) × Ascending self.now.count self.now.name }
+        ensures { result ≡ credential_number (names_of self.now) c }
+    {
+        self.number_under(self.class_of(c.head.name), c)
+    }
 }

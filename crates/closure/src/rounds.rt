@@ -1,20 +1,27 @@
 // One rule, and all rules once.
-ghost use Rattle.std.specs.Prelude.{◌≡◌, ℕ, ◌<◌, ◌≤◌, List, length};
-ghost use Rattle.closure.specs.laws.Rules.{rules_of, bits, mem_rows, Under, Fits, Within};
+ghost use Rattle.std.specs.Prelude.{◌≡◌, ◌+◌, ◌*◌, ◌<◌, ◌≤◌};
+ghost use Rattle.closure.specs.laws.Rules.{el, bits, mem_rows, Under, Fits, Within};
 ghost use Rattle.closure.specs.laws.Words.{LinksOf, meet_of, WordOf, TurnOf, RuleOf, PassOf, HeldOf, FullOf, level};
 
-use crate::bit;
+use crate::{Rules, bit};
 use word::{join, lowest, others, with};
 
+// The rows that membership goes by: the rows themselves where own is set, and else mem.
+pub fn membership<'a>(own: bool, rows: &'a [u64; 260], mem: &'a [u64; 260]) -> &'a [u64; 260]
+    ensures { result.now ≡ mem_rows own rows.now mem.now }
+{
+    if own { rows } else { mem }
+}
+
 // Word h of the rows base + j, for each j in the word `named` whose source is in the row `first` of mem.
-pub fn links<'a>(
+pub fn links(
     named: u64,
     base: usize,
     h: usize,
     first: usize,
-    src: &'a [usize; 128],
-    vals: &'a [u64; 260],
-    mem: &'a [u64; 260],
+    src: &[usize; 128],
+    vals: &[u64; 260],
+    mem: &[u64; 260],
 ) -> u64
     requires { (base ≤ 64) × (h < 2) × (first < 130) × Under 128 src.now }
     ensures { LinksOf named base h first src.now vals.now mem.now result }
@@ -29,87 +36,47 @@ pub fn links<'a>(
     w
 }
 
-// What four rows share of word h.
-pub fn meet<'a>(vals: &'a [u64; 260], a: usize, b: usize, c: usize, d: usize, h: usize) -> u64
-    requires { (a < 130) × (b < 130) × (c < 130) × (d < 130) × (h < 2) }
-    ensures { result ≡ meet_of vals.now a b c d h }
+// What the parts of rule i share of word h.
+pub fn meet(rules: &Rules, vals: &[u64; 260], i: usize, h: usize) -> u64
+    requires { (i < 128) × (h < 2) × Under 130 rules.now.part }
+    ensures { result ≡ meet_of vals.now (el rules.now.part (i * 4)) (el rules.now.part (i * 4 + 1)) (el rules.now.part (i * 4 + 2))
+        (el rules.now.part (i * 4 + 3)) h }
 {
+    let a = rules.part[i * 4];
+    let b = rules.part[i * 4 + 1];
+    let c = rules.part[i * 4 + 2];
+    let d = rules.part[i * 4 + 3];
     vals[a * 2 + h] & vals[b * 2 + h] & vals[c * 2 + h] & vals[d * 2 + h]
 }
 
 // What rule i gives of word h.
-pub fn word<'a>(
-    part: &'a [usize; 512],
-    first: &'a [usize; 128],
-    named: &'a [u64; 260],
-    src: &'a [usize; 128],
-    vals: &'a [u64; 260],
-    mem: &'a [u64; 260],
-    i: usize,
-    h: usize,
-) -> u64
-    requires { (i < 128) × (h < 2) × Under 130 part.now × Under 130 first.now × Under 128 src.now }
-    ensures { (n w : ℕ) (H : List ℕ) → WordOf (rules_of n w H part.now first.now named.now src.now) i h
-        vals.now mem.now result }
+fn word(rules: &Rules, vals: &[u64; 260], mem: &[u64; 260], i: usize, h: usize) -> u64
+    requires { (i < 128) × (h < 2) × Under 130 rules.now.part × Under 130 rules.now.first × Under 128 rules.now.src }
+    ensures { WordOf rules.now i h vals.now mem.now result }
 {
-    let w = meet(
-        vals,
-        part[i * 4],
-        part[i * 4 + 1],
-        part[i * 4 + 2],
-        part[i * 4 + 3],
-        h,
-    );
-    let f = first[i];
-    let lo = links(named[i * 2], 0, h, f, src, vals, mem);
-    let hi = links(named[i * 2 + 1], 64, h, f, src, vals, mem);
+    let w = meet(rules, vals, i, h);
+    let f = rules.first[i];
+    let lo = links(rules.named[i * 2], 0, h, f, &rules.src, vals, mem);
+    let hi = links(rules.named[i * 2 + 1], 64, h, f, &rules.src, vals, mem);
     w | lo | hi
 }
 
-// Membership goes by the rows themselves where own is set, and else by the rows mem.
-fn gives<'a>(
-    part: &'a [usize; 512],
-    first: &'a [usize; 128],
-    named: &'a [u64; 260],
-    src: &'a [usize; 128],
-    vals: &'a [u64; 260],
-    mem: &'a [u64; 260],
-    own: bool,
-    i: usize,
-    h: usize,
-) -> u64
-    requires { (i < 128) × (h < 2) × Under 130 part.now × Under 130 first.now × Under 128 src.now }
-    ensures { (n w : ℕ) (H : List ℕ) → WordOf (rules_of n w H part.now first.now named.now src.now) i h
-        vals.now (mem_rows own vals.now mem.now) result }
-{
-    if own {
-        return word(part, first, named, src, vals, vals, i, h);
-    }
-    word(part, first, named, src, vals, mem, i, h)
-}
-
 // Rule i, word h: whether its row grew.
-fn turn<'a>(
-    head: &'a [usize; 128],
-    part: &'a [usize; 512],
-    first: &'a [usize; 128],
-    named: &'a [u64; 260],
-    src: &'a [usize; 128],
-    mem: &'a [u64; 260],
+fn turn(
+    rules: &Rules,
+    mem: &[u64; 260],
     own: bool,
     i: usize,
     h: usize,
-    rows: &'a mut [u64; 260],
+    rows: &mut [u64; 260],
 ) -> bool
-    requires { (i < 128) × (h < 2) × Under 130 head.now × Under 130 part.now × Under 130 first.now × Under 128 src.now
-        × (length rows.old ≡ 260) }
-    ensures { (n w : ℕ) → h < w → TurnOf
-        (rules_of n w head.now part.now first.now named.now src.now)
-        own mem.now i h rows.old rows.new result }
+    requires { (i < 128) × (h < 2) × Under 130 rules.now.head × Under 130 rules.now.part × Under 130 rules.now.first
+        × Under 128 rules.now.src }
+    ensures { h < rules.now.words → TurnOf rules.now own mem.now i h rows.old rows.new result }
 {
-    let at = head[i] * 2 + h;
+    let at = rules.head[i] * 2 + h;
     let old = rows[at];
-    let w = join(old, gives(part, first, named, src, rows, mem, own, i, h));
+    let w = join(old, word(rules, rows, membership(own, rows, mem), i, h));
     if w != old {
         rows[at] = w;
         return true;
@@ -118,56 +85,42 @@ fn turn<'a>(
 }
 
 // Rule i, where it is on, in each word in use: whether its row grew.
-pub fn rule<'a>(
-    n: usize,
-    words: usize,
-    head: &'a [usize; 128],
-    part: &'a [usize; 512],
-    first: &'a [usize; 128],
-    named: &'a [u64; 260],
-    src: &'a [usize; 128],
-    on: &'a [u8; 128],
-    mem: &'a [u64; 260],
+pub fn rule(
+    rules: &Rules,
+    on: &[u8; 128],
+    mem: &[u64; 260],
     own: bool,
     i: usize,
-    rows: &'a mut [u64; 260],
+    rows: &mut [u64; 260],
 ) -> bool
-    requires { (i < 128) × Fits (rules_of n words head.now part.now first.now named.now src.now) × (length rows.old ≡ 260) }
-    ensures { RuleOf (rules_of n words head.now part.now first.now named.now src.now)
-        on.now own mem.now i rows.old rows.new result }
+    requires { (i < 128) × Fits rules.now }
+    ensures { RuleOf rules.now on.now own mem.now i rows.old rows.new result }
 {
-    if n <= i {
-        return false;
-    }
-    if on[i] != 1 {
+    if rules.count <= i || on[i] != 1 {
         return false;
     }
     let mut grew = false;
-    let mut h = 0;
-    while h < words {
-        let t = turn(head, part, first, named, src, mem, own, i, h, rows);
-        grew = grew | t;
-        h += 1;
+    for h in 0..rules.words {
+        let t = turn(rules, mem, own, i, h, rows);
+        grew |= t;
     }
     grew
 }
 
 // Word h of what the rows hold together.
-pub fn held<'a>(h: usize, rows: &'a [u64; 260]) -> u64
+pub fn held(h: usize, rows: &[u64; 260]) -> u64
     requires { h < 2 }
     ensures { HeldOf h 130 rows.now result }
 {
     let mut w = 0u64;
-    let mut r = 0;
-    while r < 130 {
-        w = w | rows[r * 2 + h];
-        r += 1;
+    for r in 0..130 {
+        w |= rows[r * 2 + h];
     }
     w
 }
 
 // Whether row r has the words lo and hi, of those in use.
-fn is_full<'a>(words: usize, lo: u64, hi: u64, r: usize, rows: &'a [u64; 260]) -> bool
+fn is_full(words: usize, lo: u64, hi: u64, r: usize, rows: &[u64; 260]) -> bool
     requires { r < 130 }
     ensures { FullOf words lo hi r rows.now result }
 {
@@ -181,64 +134,43 @@ fn is_full<'a>(words: usize, lo: u64, hi: u64, r: usize, rows: &'a [u64; 260]) -
 }
 
 // Rule i, as above; but where its row holds all that a row holds, lo and hi, there is nothing to be done.
-fn rule_below<'a>(
-    n: usize,
-    words: usize,
-    head: &'a [usize; 128],
-    part: &'a [usize; 512],
-    first: &'a [usize; 128],
-    named: &'a [u64; 260],
-    src: &'a [usize; 128],
-    on: &'a [u8; 128],
-    mem: &'a [u64; 260],
+fn rule_below(
+    rules: &Rules,
+    on: &[u8; 128],
+    mem: &[u64; 260],
     own: bool,
     i: usize,
     lo: u64,
     hi: u64,
-    rows: &'a mut [u64; 260],
+    rows: &mut [u64; 260],
 ) -> bool
-    requires { (i < 128) × Fits (rules_of n words head.now part.now first.now named.now src.now) × (length rows.old ≡ 260)
-        × Within (bits rows.old) (level lo hi) }
-    ensures { RuleOf (rules_of n words head.now part.now first.now named.now src.now)
-        on.now own mem.now i rows.old rows.new result }
+    requires { (i < 128) × Fits rules.now × Within (bits rows.old) (level lo hi) }
+    ensures { RuleOf rules.now on.now own mem.now i rows.old rows.new result }
 {
-    if is_full(words, lo, hi, head[i], rows) {
+    if is_full(rules.words, lo, hi, rules.head[i], rows) {
         return false;
     }
-    rule(
-        n, words, head, part, first, named, src, on, mem, own, i, rows,
-    )
+    rule(rules, on, mem, own, i, rows)
 }
 
 // Each rule that is on once: how many made their rows grow.
-pub fn pass<'a>(
-    n: usize,
-    words: usize,
-    head: &'a [usize; 128],
-    part: &'a [usize; 512],
-    first: &'a [usize; 128],
-    named: &'a [u64; 260],
-    src: &'a [usize; 128],
-    on: &'a [u8; 128],
-    mem: &'a [u64; 260],
+pub fn pass(
+    rules: &Rules,
+    on: &[u8; 128],
+    mem: &[u64; 260],
     own: bool,
-    rows: &'a mut [u64; 260],
+    rows: &mut [u64; 260],
 ) -> usize
-    requires { Fits (rules_of n words head.now part.now first.now named.now src.now) × (length rows.old ≡ 260) }
-    ensures { PassOf (rules_of n words head.now part.now first.now named.now src.now)
-        on.now own mem.now rows.old rows.new result }
+    requires { Fits rules.now }
+    ensures { PassOf rules.now on.now own mem.now rows.old rows.new result }
 {
     let lo = held(0, rows);
     let hi = held(1, rows);
     let mut added = 0;
-    let mut i = 0;
-    while i < n {
-        if rule_below(
-            n, words, head, part, first, named, src, on, mem, own, i, lo, hi, rows,
-        ) {
+    for i in 0..rules.count {
+        if rule_below(rules, on, mem, own, i, lo, hi, rows) {
             added += 1;
         }
-        i += 1;
     }
     added
 }

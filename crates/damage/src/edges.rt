@@ -1,99 +1,62 @@
 // The edges, but for their justification.
 ghost use Rattle.std.specs.Prelude.{◌≡◌, ℕ, ◌≤◌, ◌<◌};
-ghost use Rattle.graph.specs.laws.Graph.{nodes_from, edges_from, nodes_of, edges_of, edge_from};
+ghost use Rattle.graph.specs.laws.Graph.{nodes_from, edges_from, nodes_of, edges_of, edge_at};
 ghost use Rattle.damage.specs.Edges.{brought, placed as placed_of, formed as formed_of, edge_fits, all_brought};
 
-use graph::{Edge, edge_at, form, has_edge, node_at};
-use negotiation::{Header, entity_of};
-use word::wide;
+use graph::{Edge, Edges, Nodes, form};
+use negotiation::Header;
 
 // An edge behind which b of n nodes are brought.
 fn placed(n: usize, b: usize, e: Edge) -> bool
     ensures { result ≡ placed_of n b e }
 {
-    (wide(e.parent) < b) & (wide(e.child) <= b) & (wide(e.child) < n) & (e.parent != e.child)
+    ((e.parent as usize) < b)
+        & ((e.child as usize) <= b)
+        & ((e.child as usize) < n)
+        & (e.parent != e.child)
 }
 
 // An edge between nodes has the form of its kind, however many nodes there are.
-fn formed<'a>(
-    h: Header,
-    kind: &'a [u8; 256],
-    number: &'a [u16; 1024],
-    subject: &'a [u16; 128],
-    verifier: &'a [u8; 128],
-    state: &'a [u8; 128],
-    e: Edge,
-) -> bool
+fn formed(h: &Header, nodes: &Nodes, e: Edge) -> bool
     requires { (e.parent < 128) × (e.child < 128) }
-    ensures { (n : ℕ) → e.parent < n → e.child < n → result ≡ formed_of h (nodes_of
-        (nodes_from n kind.now number.now subject.now
-        verifier.now state.now)) e }
+    ensures { (n : ℕ) → e.parent < n → e.child < n → result ≡ formed_of h.now (nodes_of (nodes_from n
+        nodes.now.kind nodes.now.number nodes.now.subject nodes.now.verifier nodes.now.state)) e }
 {
-    let p = node_at(kind, number, subject, verifier, state, wide(e.parent));
-    let c = node_at(kind, number, subject, verifier, state, wide(e.child));
-    form(e.kind, entity_of(h, p.verifier), p, c)
+    let p = nodes.node(e.parent as usize);
+    let c = nodes.node(e.child as usize);
+    form(e.kind, h.entity_of(p.verifier), p, c)
 }
 
 // Edge j among those before it, which brought b nodes.
-fn edge_fits<'a>(
-    h: Header,
-    n: usize,
-    kind: &'a [u8; 256],
-    number: &'a [u16; 1024],
-    subject: &'a [u16; 128],
-    verifier: &'a [u8; 128],
-    state: &'a [u8; 128],
-    edge: &'a [u8; 256],
-    parent: &'a [u8; 256],
-    child: &'a [u8; 256],
-    b: usize,
-    j: usize,
-) -> bool
-    requires { (n ≤ 128) × (j < 256) × (b ≡ brought (edges_of (edges_from j edge.now parent.now child.now))) × (b ≤ n) }
-    ensures { result ≡ edge_fits h (nodes_of (nodes_from n kind.now number.now subject.now
-        verifier.now state.now)) (edges_of (edges_from j edge.now parent.now child.now))
-        (edge_from edge.now parent.now child.now j) }
+fn edge_fits(h: &Header, nodes: &Nodes, edges: &Edges, b: usize, j: usize) -> bool
+    requires { (nodes.now.count ≤ 128) × (j < 256)
+        × (b ≡ brought (edges_of (edges_from j edges.now.kind edges.now.parent edges.now.child))) × (b ≤ nodes.now.count) }
+    ensures { result ≡ edge_fits h.now (nodes_of nodes.now)
+        (edges_of (edges_from j edges.now.kind edges.now.parent edges.now.child)) (edge_at edges.now j) }
 {
-    let e = edge_at(edge, parent, child, j);
-    if !placed(n, b, e) {
+    let e = edges.edge(j);
+    if !placed(nodes.count, b, e) {
         return false;
     }
-    if !formed(h, kind, number, subject, verifier, state, e) {
+    if !formed(h, nodes, e) {
         return false;
     }
-    !has_edge(j, edge, parent, child, e)
+    !edges.has(j, e)
 }
 
 // All edges, and they brought every node.
-pub fn edges_fit<'a>(
-    h: Header,
-    n: usize,
-    kind: &'a [u8; 256],
-    number: &'a [u16; 1024],
-    subject: &'a [u16; 128],
-    verifier: &'a [u8; 128],
-    state: &'a [u8; 128],
-    m: usize,
-    edge: &'a [u8; 256],
-    parent: &'a [u8; 256],
-    child: &'a [u8; 256],
-) -> bool
-    requires { (0 < n) × (n ≤ 128) × (m ≤ 256) }
-    ensures { result ≡ all_brought h (nodes_of (nodes_from n kind.now number.now subject.now
-        verifier.now state.now)) (edges_of (edges_from m edge.now parent.now child.now)) }
+pub fn edges_fit(h: &Header, nodes: &Nodes, edges: &Edges) -> bool
+    requires { (0 < nodes.now.count) × (nodes.now.count ≤ 128) × (edges.now.count ≤ 256) }
+    ensures { result ≡ all_brought h.now (nodes_of nodes.now) (edges_of edges.now) }
 {
     let mut b = 1;
-    let mut j = 0;
-    while j < m {
-        if !edge_fits(
-            h, n, kind, number, subject, verifier, state, edge, parent, child, b, j,
-        ) {
+    for j in 0..edges.count {
+        if !edge_fits(h, nodes, edges, b, j) {
             return false;
         }
-        if wide(child[j]) == b {
+        if edges.child[j] as usize == b {
             b += 1;
         }
-        j += 1;
     }
-    b == n
+    b == nodes.count
 }

@@ -3,7 +3,7 @@ ghost use Rattle.std.specs.Prelude.{◌≡◌};
 ghost use Rattle.damage.specs.Header.{wanted_sound, header_sound, counts_agree, empty_sound, count_sound, end_sound};
 
 use expression::{Role, is_empty, is_role};
-use negotiation::{Header, MEDIATOR, Messages, message_count};
+use negotiation::{Header, MEDIATOR, Messages};
 use numbers::MOST_MESSAGES;
 
 // The wanted role of a side.
@@ -17,14 +17,13 @@ fn wanted_sound(side: u8, r: Role) -> bool
 }
 
 // Side, self, other end and wanted role.
-pub fn header_sound(own: u16, h: Header) -> bool
-    ensures { result ≡ header_sound own h }
+pub fn header_sound(own: u16, h: &Header) -> bool
+    ensures { result ≡ header_sound own h.now }
 {
-    let wanted = h.wanted;
     (h.side < 2)
         & (h.own == own)
         & ((h.other != 0) & (h.other != h.own))
-        & wanted_sound(h.side, wanted)
+        & wanted_sound(h.side, h.wanted)
 }
 
 // The counts are equal, or the mediator's is one ahead.
@@ -35,17 +34,17 @@ pub fn counts_agree(m: Messages) -> bool
 }
 
 // Where no node stands.
-pub fn empty_sound(h: Header, edges: usize, shown: usize) -> bool
-    ensures { result ≡ empty_sound h edges shown }
+pub fn empty_sound(h: &Header, edges: usize, shown: usize) -> bool
+    ensures { result ≡ empty_sound h.now edges shown }
 {
-    (message_count(h.messages) == 0) & (h.end == 0) & (h.idle == 0) & (edges == 0) & (shown == 0)
+    (h.messages.count() == 0) & (h.end == 0) & (h.idle == 0) & (edges == 0) & (shown == 0)
 }
 
 // The message count where a node stands.
 pub fn count_sound(m: Messages) -> bool
     ensures { result ≡ count_sound m }
 {
-    let n = message_count(m);
+    let n = m.count();
     (0 < n) & (n <= MOST_MESSAGES as u32)
 }
 

@@ -1,13 +1,9 @@
 -- Credentials and their 22 bytes: issuer, name, body (document 01, "Bytes", command 0x01).
-use Rattle.std.specs.Prelude.{ℕ, ◌+◌, ◌/◌, ◌%◌, List, [], ◌∷◌, ◌++◌, Bool, true, false, ◌&&◌, eqb}
+use Rattle.std.specs.Prelude.{ℕ, ◌+◌, ◌/◌, ◌%◌, List, [], ◌∷◌, ◌++◌, Bool, true, false, ◌&&◌, eqb, Option, Some, None}
 use Rattle.expression.specs.declared.Role.{Role}
 use Rattle.expression.specs.declared.Expression.{Expression}
 use Rattle.expression.specs.declared.Expression.TheVariants as x
-use Rattle.expression.specs.declared.ExpressionAnswer.{ExpressionAnswer}
-use Rattle.expression.specs.declared.ExpressionAnswer.TheVariants as e
 use Rattle.expression.specs.declared.Credential.{Credential}
-use Rattle.expression.specs.declared.CredentialAnswer.{CredentialAnswer}
-use Rattle.expression.specs.declared.CredentialAnswer.TheVariants.{Read, Wrong}
 use Rattle.expression.specs.Bytes.{number_at, raw_bytes}
 use Rattle.expression.specs.Form.{raw_of, read_of, is_role, well_formed}
 
@@ -31,7 +27,7 @@ begins_with issuer (x.Goal n) = true
 unfoldable pub well_formed_credential : Credential → Bool
 well_formed_credential c = is_role c.head && well_formed c.body && is_body c.body && begins_with c.head.entity c.body
 
-abbrev pub pick_credential : Bool → CredentialAnswer → CredentialAnswer → CredentialAnswer
+abbrev pub pick_credential : Bool → Option Credential → Option Credential → Option Credential
 pick_credential true a b = a
 pick_credential false a b = b
 
@@ -40,15 +36,15 @@ abbrev pub role_at : List ℕ → ℕ → Role
 role_at s at = record { entity = number_at s at; name = number_at s (at + 2) }
 
 -- a credential is read only if it is well formed
-abbrev pub checked_credential : Credential → CredentialAnswer
-checked_credential c = pick_credential (well_formed_credential c) (Read c) Wrong
+abbrev pub checked_credential : Credential → Option Credential
+checked_credential c = pick_credential (well_formed_credential c) (Some c) None
 
-abbrev pub credential_of : Role → ExpressionAnswer → CredentialAnswer
-credential_of h (e.Read b) = checked_credential (record { head = h; body = b })
-credential_of h e.Wrong = Wrong
+abbrev pub credential_of : Role → Option Expression → Option Credential
+credential_of h (Some b) = checked_credential (record { head = h; body = b })
+credential_of h None = None
 
 -- the operands of a credential command
-unfoldable pub read_credential : List ℕ → ℕ → CredentialAnswer
+unfoldable pub read_credential : List ℕ → ℕ → Option Credential
 read_credential s at = credential_of (role_at s at) (read_of s (at + 4))
 
 -- entity, name

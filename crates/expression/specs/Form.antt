@@ -1,19 +1,17 @@
 -- Which 18 bytes are an expression: the form of kinds 1 to 5 (document 01, "Bytes").
-use Rattle.std.specs.Prelude.{ℕ, List, Bool, true, false, ◌&&◌, ◌||◌, ltb, eqb}
+use Rattle.std.specs.Prelude.{ℕ, List, Bool, true, false, ◌&&◌, ◌||◌, ltb, eqb, Option, Some, None}
 use Rattle.expression.specs.declared.Role.{Role}
 use Rattle.expression.specs.declared.Parts.{Parts}
 use Rattle.expression.specs.declared.Raw.{Raw}
 use Rattle.expression.specs.declared.Expression.{Expression}
 use Rattle.expression.specs.declared.Expression.TheVariants as x
-use Rattle.expression.specs.declared.ExpressionAnswer.{ExpressionAnswer}
-use Rattle.expression.specs.declared.ExpressionAnswer.TheVariants.{Read, Wrong}
 use Rattle.expression.specs.Bytes.{raw_at}
 
 abbrev pub choose : Bool → Bool → Bool → Bool
 choose true a b = a
 choose false a b = b
 
-abbrev pub pick : Bool → ExpressionAnswer → ExpressionAnswer → ExpressionAnswer
+abbrev pub pick : Bool → Option Expression → Option Expression → Option Expression
 pick true a b = a
 pick false a b = b
 
@@ -95,9 +93,9 @@ same_raw a b =
     && eqb a.n3 b.n3 && eqb a.n4 b.n4 && eqb a.n5 b.n5 && eqb a.n6 b.n6 && eqb a.n7 b.n7
 
 -- numbers of a kind from 1 to 5, zero where one is unused, of a well-formed expression
-abbrev pub form_of : Raw → ExpressionAnswer
-form_of r = pick (same_raw (raw_of (expression_of r)) r && well_formed (expression_of r)) (Read (expression_of r)) Wrong
+abbrev pub form_of : Raw → Option Expression
+form_of r = pick (same_raw (raw_of (expression_of r)) r && well_formed (expression_of r)) (Some (expression_of r)) None
 
 -- the expression that stands at an index
-abbrev pub read_of : List ℕ → ℕ → ExpressionAnswer
+abbrev pub read_of : List ℕ → ℕ → Option Expression
 read_of s at = form_of (raw_at s at)

@@ -6,67 +6,52 @@ ghost use Rattle.expression.specs.Credential.{is_body, begins_with, well_formed_
 ghost use Rattle.expression.specs.Credential.{credential_bytes};
 
 use crate::{
-    Credential, CredentialAnswer, Expression, ExpressionAnswer, Role, copy_in, is_role, number_at,
-    read_expression, well_formed, write_expression,
+    Credential, Expression, Role, copy_in, is_role, number_at, read_expression, well_formed,
+    write_expression,
 };
 
 pub fn is_body(e: Expression) -> bool
     ensures { result ≡ is_body e }
 {
-    match e {
-        Expression::Entity(_) => true,
-        Expression::Role(_) => true,
-        Expression::Linked(_, _) => true,
-        Expression::Intersection(_) => true,
-        Expression::Goal(_) => false,
-    }
+    !matches!(e, Expression::Goal(_))
 }
 
 fn begins_with(issuer: u16, e: Expression) -> bool
     ensures { result ≡ begins_with issuer e }
 {
     match e {
-        Expression::Entity(_) => true,
-        Expression::Role(_) => true,
         Expression::Linked(r, _) => r.entity == issuer,
-        Expression::Intersection(_) => true,
-        Expression::Goal(_) => true,
+        _ => true,
     }
 }
 
+#[tactic(auto, unfolding(crate::specs::Credential::well_formed_credential))]
 pub fn well_formed_credential(c: Credential) -> bool
     ensures { result ≡ well_formed_credential c }
 {
-    let head = c.head;
-    let body = c.body;
-    is_role(head) & well_formed(body) & is_body(body) & begins_with(head.entity, body)
+    is_role(c.head) & well_formed(c.body) & is_body(c.body) & begins_with(c.head.entity, c.body)
 }
 
 // A credential whose body is of right form.
-fn checked(c: Credential) -> CredentialAnswer
+#[tactic(auto, unfolding(crate::specs::Credential::well_formed_credential))]
+fn checked(c: Credential) -> Option<Credential>
     requires { well_formed c.body ≡ true }
     ensures { result ≡ checked_credential c }
 {
-    let head = c.head;
-    let body = c.body;
-    if is_role(head) & is_body(body) & begins_with(head.entity, body) {
-        CredentialAnswer::Read(c)
+    if is_role(c.head) & is_body(c.body) & begins_with(c.head.entity, c.body) {
+        Some(c)
     } else {
-        CredentialAnswer::Wrong
+        None
     }
 }
 
-pub fn read_credential(s: &[u8], at: usize) -> CredentialAnswer
+#[tactic(auto, unfolding(crate::specs::Credential::read_credential))]
+pub fn read_credential(s: &[u8], at: usize) -> Option<Credential>
     requires { at + 22 ≤ length s.now }
     ensures { result ≡ read_credential s.now at }
 {
-    let head = Role {
-        entity: number_at(s, at),
-        name: number_at(s, at + 2),
-    };
-    let ExpressionAnswer::Read(body) = read_expression(s, at + 4) else {
-        return CredentialAnswer::Wrong;
-    };
+    let head = role_at(s, at);
+    let body = read_expression(s, at + 4)?;
     checked(Credential { head, body })
 }
 
@@ -96,9 +81,7 @@ pub fn write_credential(s: &mut [u8], at: usize, c: Credential)
     requires { at + 22 ≤ length s.old }
     ensures { s.new ≡ pasted s.old at (credential_bytes c) }
 {
-    let head = c.head;
-    let body = c.body;
-    let b = role_bytes(head);
+    let b = role_bytes(c.head);
     copy_in(s, at, &b);
-    write_expression(s, at + 4, body);
+    write_expression(s, at + 4, c.body);
 }

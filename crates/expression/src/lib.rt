@@ -20,7 +20,7 @@ mod kinds;
 mod order;
 
 // A role's entity and name; both zero where a field is unused.
-#[derive(Clone, Copy)]
+#[derive(Clone, Copy, PartialEq, Eq)]
 pub struct Role {
     pub entity: u16,
     pub name: u16,
@@ -46,23 +46,11 @@ pub enum Expression {
     Goal(u16),
 }
 
-#[derive(Clone, Copy)]
-pub enum ExpressionAnswer {
-    Read(Expression),
-    Wrong,
-}
-
 // head <- body; the head's entity is the issuer.
 #[derive(Clone, Copy)]
 pub struct Credential {
     pub head: Role,
     pub body: Expression,
-}
-
-#[derive(Clone, Copy)]
-pub enum CredentialAnswer {
-    Read(Credential),
-    Wrong,
 }
 
 // The 18 bytes as numbers, of right form or not: kind, part count, eight numbers.
@@ -151,12 +139,11 @@ pub fn raw_of(e: Expression) -> Raw
 pub fn expression_of(r: Raw) -> Expression
     ensures { result ≡ expression_of r }
 {
-    let kind = r.kind;
     let role = Role {
         entity: r.n0,
         name: r.n1,
     };
-    match kind {
+    match r.kind {
         1 => Expression::Entity(r.n0),
         2 => Expression::Role(role),
         3 => Expression::Linked(role, r.n2),
@@ -202,14 +189,15 @@ pub fn ascending(a: Role, b: Role) -> bool
 fn tail_formed(p: Parts) -> bool
     ensures { result ≡ tail_formed p }
 {
-    let second = p.second;
-    let third = p.third;
-    let fourth = p.fourth;
-    let count = p.count;
-    match count {
-        2 => is_empty(third) & is_empty(fourth),
-        3 => is_role(third) & ascending(second, third) & is_empty(fourth),
-        4 => is_role(third) & ascending(second, third) & is_role(fourth) & ascending(third, fourth),
+    match p.count {
+        2 => is_empty(p.third) & is_empty(p.fourth),
+        3 => is_role(p.third) & ascending(p.second, p.third) & is_empty(p.fourth),
+        4 => {
+            is_role(p.third)
+                & ascending(p.second, p.third)
+                & is_role(p.fourth)
+                & ascending(p.third, p.fourth)
+        }
         _ => false,
     }
 }
@@ -217,9 +205,7 @@ fn tail_formed(p: Parts) -> bool
 fn parts_formed(p: Parts) -> bool
     ensures { result ≡ parts_formed p }
 {
-    let first = p.first;
-    let second = p.second;
-    is_role(first) & is_role(second) & ascending(first, second) & tail_formed(p)
+    is_role(p.first) & is_role(p.second) & ascending(p.first, p.second) & tail_formed(p)
 }
 
 pub fn well_formed(e: Expression) -> bool
@@ -241,12 +227,14 @@ pub fn key_of(p: Role) -> u32
     p.entity as u32 + p.name as u32 * 65536
 }
 
+#[tactic(auto, unfolding(crate::specs::Same::same_role))]
 pub fn same_role(p: Role, q: Role) -> bool
     ensures { result ≡ same_role p q }
 {
-    (p.entity == q.entity) & (p.name == q.name)
+    p == q
 }
 
+#[tactic(auto, unfolding(crate::specs::Same::same))]
 pub fn same(x: Expression, y: Expression) -> bool
     ensures { result ≡ same_expression x y }
 {
@@ -272,8 +260,7 @@ pub fn same_raw(a: Raw, b: Raw) -> bool
 fn is_exact(r: Raw) -> bool
     ensures { result ≡ same_raw (raw_of (expression_of r)) r }
 {
-    let kind = r.kind;
-    match kind {
+    match r.kind {
         1 => same_raw(plain(1, r.n0, 0, 0), r),
         2 => same_raw(plain(2, r.n0, r.n1, 0), r),
         3 => same_raw(plain(3, r.n0, r.n1, r.n2), r),
@@ -284,18 +271,18 @@ fn is_exact(r: Raw) -> bool
 }
 
 // An expression's numbers, if they are of right form.
-pub fn form(r: Raw) -> ExpressionAnswer
+pub fn form(r: Raw) -> Option<Expression>
     ensures { result ≡ form_of r }
 {
     let e = expression_of(r);
     if is_exact(r) & well_formed(e) {
-        ExpressionAnswer::Read(e)
+        Some(e)
     } else {
-        ExpressionAnswer::Wrong
+        None
     }
 }
 
-pub fn read_expression(s: &[u8], at: usize) -> ExpressionAnswer
+pub fn read_expression(s: &[u8], at: usize) -> Option<Expression>
     requires { at + 18 ≤ length s.now }
     ensures { result ≡ read_of s.now at }
 {
@@ -332,11 +319,7 @@ pub fn copy_in(dst: &mut [u8], at: usize, src: &[u8])
     requires { at + length src.now ≤ length dst.old }
     ensures { dst.new ≡ pasted dst.old at src.now }
 {
-    let mut j = 0;
-    while j < src.len() {
-        dst[at + j] = src[j];
-        j += 1;
-    }
+    dst[at..at + src.len()].copy_from_slice(src);
 }
 
 pub fn write_expression(s: &mut [u8], at: usize, e: Expression)

@@ -26,24 +26,24 @@ fn before_raw(a: Raw, b: Raw) -> bool
     (a.kind < b.kind) | ((a.kind == b.kind) & rest)
 }
 
+#[tactic(auto, unfolding(crate::specs::Order::before_of))]
 pub fn before(x: Expression, y: Expression) -> bool
     ensures { result ≡ before_of x y }
 {
     before_raw(raw_of(x), raw_of(y))
 }
 
+#[tactic(auto, unfolding(crate::specs::Order::before_of, crate::specs::Order::before_credential))]
 pub fn before_credential(c: Credential, d: Credential) -> bool
     ensures { result ≡ before_credential c d }
 {
     let h = c.head;
     let k = d.head;
-    let body = c.body;
-    let other = d.body;
     if h.entity != k.entity {
         return h.entity < k.entity;
     }
     if h.name != k.name {
         return h.name < k.name;
     }
-    before(body, other)
+    before(c.body, d.body)
 }

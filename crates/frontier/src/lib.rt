@@ -10,142 +10,95 @@ ghost use Rattle.expression.specs.declared.Expression.TheVariants as E;
 ghost use Rattle.expression.specs.laws.Key.{KeyOf};
 ghost use Rattle.rt0.specs.laws.Pool.{pool_of};
 ghost use Rattle.frontier.specs.laws.Frontier.{Reaches};
-ghost use Rattle.frontier.specs.laws.Queue.{is_next as is_next_of, work, Queue, Joined, Entered, Followed};
+ghost use Rattle.frontier.specs.laws.Queue.{is_next as is_next_of, Queue, Joined, Entered, Followed};
 
 use expression::{Expression, Role, key_of};
-use rt0::{expression_at, has_head};
+use rt0::Pool;
 use word::wide;
 
+// The credentials found, and these in the order of their finding.
+#[derive(Clone, Copy)]
+struct Work {
+    found: [u8; 128],
+    queue: [u8; 128],
+    tail: usize,
+}
+
 // Whether credential i is on and has the head with this key.
-fn is_next<'a>(heads: &'a [u16; 256], on: &'a [u8; 128], key: u32, i: usize) -> bool
+fn is_next(pool: &Pool, on: &[u8; 128], key: u32, i: usize) -> bool
     requires { i < 128 }
-    ensures { (p : Role) → KeyOf p key → result ≡ is_next_of heads.now on.now p i }
+    ensures { (p : Role) → KeyOf p key → result ≡ is_next_of pool.now.heads on.now p i }
 {
-    if !has_head(heads, key, i) {
-        return false;
-    }
-    on[i] == 1
+    pool.has_head(key, i) && on[i] == 1
 }
 
-// Credential i, if it is on and has the head with this key, is found and joins the queue, whatever the bodies.
-fn join<'a>(
-    heads: &'a [u16; 256],
-    on: &'a [u8; 128],
-    found: &'a mut [u8; 128],
-    queue: &'a mut [u8; 128],
-    tail: usize,
-    key: u32,
-    i: usize,
-) -> usize
-    requires { (i < 128) × Queue (work found.old queue.old tail) }
-    ensures { (p : Role) → KeyOf p key → (n : ℕ) (K N : List ℕ) → i < n → Joined (pool_of n heads.now K N) on.now
-        (work found.old queue.old tail) (work found.new queue.new result) p i }
-{
-    if !is_next(heads, on, key, i) {
-        return tail;
+impl Work {
+    // Credential i, if it is on and has the head with this key, is found and joins the queue, whatever the bodies.
+    fn join(&mut self, pool: &Pool, on: &[u8; 128], key: u32, i: usize)
+        requires { (i < 128) × Queue self.old }
+        ensures { (p : Role) → KeyOf p key → (n : ℕ) (K N : List ℕ) → i < n → Joined (pool_of n pool.now.heads K N) on.now
+            self.old self.new p i }
+    {
+        if !is_next(pool, on, key, i) {
+            return;
+        }
+        if self.found[i] == 1 {
+            return;
+        }
+        self.found[i] = 1;
+        self.queue[self.tail] = i as u8;
+        self.tail += 1;
     }
-    if found[i] == 1 {
-        return tail;
-    }
-    found[i] = 1;
-    queue[tail] = i as u8;
-    tail + 1
-}
 
-// The credentials with the head p are found.
-fn enter<'a>(
-    n: usize,
-    heads: &'a [u16; 256],
-    on: &'a [u8; 128],
-    found: &'a mut [u8; 128],
-    queue: &'a mut [u8; 128],
-    tail: usize,
-    p: Role,
-) -> usize
-    requires { (n ≤ 128) × Queue (work found.old queue.old tail) }
-    ensures { (K N : List ℕ) → Entered (pool_of n heads.now K N) on.now
-        (work found.old queue.old tail) (work found.new queue.new result) (E.Role p) n }
-{
-    let key = key_of(p);
-    let mut t = tail;
-    let mut i = 0;
-    while i < n {
-        t = join(heads, on, found, queue, t, key, i);
-        i += 1;
+    // The credentials with the head p are found.
+    fn enter(&mut self, pool: &Pool, on: &[u8; 128], p: Role)
+        requires { (pool.now.count ≤ 128) × Queue self.old }
+        ensures { (K N : List ℕ) → Entered (pool_of pool.now.count pool.now.heads K N) on.now self.old self.new (E.Role p) pool.now.count }
+    {
+        let key = key_of(p);
+        for i in 0..pool.count {
+            self.join(pool, on, key, i);
+        }
     }
-    t
-}
 
-// The credentials with the head x are found: none, unless x is a role.
-fn enter_body<'a>(
-    n: usize,
-    heads: &'a [u16; 256],
-    on: &'a [u8; 128],
-    found: &'a mut [u8; 128],
-    queue: &'a mut [u8; 128],
-    tail: usize,
-    x: Expression,
-) -> usize
-    requires { (n ≤ 128) × Queue (work found.old queue.old tail) }
-    ensures { (K N : List ℕ) → Entered (pool_of n heads.now K N) on.now
-        (work found.old queue.old tail) (work found.new queue.new result) x n }
-{
-    match x {
-        Expression::Entity(_) => tail,
-        Expression::Role(p) => enter(n, heads, on, found, queue, tail, p),
-        Expression::Linked(_, _) => tail,
-        Expression::Intersection(_) => tail,
-        Expression::Goal(_) => tail,
+    // The credentials with the head x are found: none, unless x is a role.
+    fn enter_body(&mut self, pool: &Pool, on: &[u8; 128], x: Expression)
+        requires { (pool.now.count ≤ 128) × Queue self.old }
+        ensures { (K N : List ℕ) → Entered (pool_of pool.now.count pool.now.heads K N) on.now self.old self.new x pool.now.count }
+    {
+        if let Expression::Role(p) = x {
+            self.enter(pool, on, p);
+        }
     }
-}
 
-// The credentials that follow credential j are found.
-fn follow<'a>(
-    n: usize,
-    heads: &'a [u16; 256],
-    kinds: &'a [u8; 256],
-    numbers: &'a [u16; 1024],
-    on: &'a [u8; 128],
-    stop: &'a [u8; 128],
-    found: &'a mut [u8; 128],
-    queue: &'a mut [u8; 128],
-    tail: usize,
-    j: usize,
-) -> usize
-    requires { (j < 128) × (n ≤ 128) × Queue (work found.old queue.old tail) }
-    ensures { Followed (pool_of n heads.now kinds.now numbers.now) on.now stop.now
-        (work found.old queue.old tail) (work found.new queue.new result) j }
-{
-    if stop[j] == 1 {
-        return tail;
+    // The credentials that follow credential j are found.
+    fn follow(&mut self, pool: &Pool, on: &[u8; 128], stop: &[u8; 128], j: usize)
+        requires { (j < 128) × (pool.now.count ≤ 128) × Queue self.old }
+        ensures { Followed pool.now on.now stop.now self.old self.new j }
+    {
+        if stop[j] == 1 {
+            return;
+        }
+        self.enter_body(pool, on, pool.body(j));
     }
-    let x = expression_at(kinds, numbers, j);
-    enter_body(n, heads, on, found, queue, tail, x)
 }
 
 // The credentials that are found from the role e.
-pub fn reached<'a>(
-    n: usize,
-    heads: &'a [u16; 256],
-    kinds: &'a [u8; 256],
-    numbers: &'a [u16; 1024],
-    on: &'a [u8; 128],
-    stop: &'a [u8; 128],
-    e: Role,
-) -> [u8; 128]
-    requires { n ≤ 128 }
-    ensures { Reaches (pool_of n heads.now kinds.now numbers.now) on.now stop.now e result }
+pub fn reached(pool: &Pool, on: &[u8; 128], stop: &[u8; 128], e: Role) -> [u8; 128]
+    requires { pool.now.count ≤ 128 }
+    ensures { Reaches pool.now on.now stop.now e result }
 {
-    let mut found = [0u8; 128];
-    let mut queue = [0u8; 128];
-    let mut t = enter(n, heads, on, &mut found, &mut queue, 0, e);
+    let mut work = Work {
+        found: [0u8; 128],
+        queue: [0u8; 128],
+        tail: 0,
+    };
+    work.enter(pool, on, e);
     let mut q = 0;
-    while q < t {
-        let j = wide(queue[q]);
-        t = follow(
-            n, heads, kinds, numbers, on, stop, &mut found, &mut queue, t, j,
-        );
+    while q < work.tail {
+        let j = wide(work.queue[q]);
+        work.follow(pool, on, stop, j);
         q += 1;
     }
-    found
+    work.found
 }

@@ -23,13 +23,7 @@ pub const CONTROL: u8 = 6;
 fn is_standard(e: Expression) -> bool
     ensures { result ≡ is_standard e }
 {
-    match e {
-        Expression::Entity(_) => false,
-        Expression::Role(_) => true,
-        Expression::Linked(_, _) => true,
-        Expression::Intersection(_) => false,
-        Expression::Goal(_) => false,
-    }
+    matches!(e, Expression::Role(_) | Expression::Linked(_, _))
 }
 
 // The expression and the subject of a target.
@@ -38,10 +32,8 @@ fn is_target(e: Expression, s: u16) -> bool
 {
     match e {
         Expression::Entity(a) => a == s,
-        Expression::Role(_) => true,
-        Expression::Linked(_, _) => true,
-        Expression::Intersection(_) => true,
         Expression::Goal(_) => false,
+        _ => true,
     }
 }
 
@@ -49,91 +41,58 @@ fn is_target(e: Expression, s: u16) -> bool
 pub fn is_named(name: u16, e: Expression) -> bool
     ensures { result ≡ is_named name e }
 {
-    match e {
-        Expression::Entity(_) => false,
-        Expression::Role(a) => a.name == name,
-        Expression::Linked(_, _) => false,
-        Expression::Intersection(_) => false,
-        Expression::Goal(_) => false,
-    }
+    matches!(e, Expression::Role(a) if a.name == name)
 }
 
 // A.r1.r2 and ?X.r2.
 fn is_monitor(e: Expression, c: Expression) -> bool
     ensures { result ≡ is_monitor e c }
 {
-    match e {
-        Expression::Entity(_) => false,
-        Expression::Role(_) => false,
-        Expression::Linked(_, r) => same(c, Expression::Goal(r)),
-        Expression::Intersection(_) => false,
-        Expression::Goal(_) => false,
-    }
+    matches!(e, Expression::Linked(_, r) if same(c, Expression::Goal(r)))
 }
 
 // ?X.r2 and B.r2.
 fn is_solution(e: Expression, c: Expression) -> bool
     ensures { result ≡ is_solution e c }
 {
-    match e {
-        Expression::Entity(_) => false,
-        Expression::Role(_) => false,
-        Expression::Linked(_, _) => false,
-        Expression::Intersection(_) => false,
-        Expression::Goal(r) => is_named(r, c),
-    }
+    matches!(e, Expression::Goal(r) if is_named(r, c))
 }
 
 // A.r1.r2 and A.r1.
 fn is_first(e: Expression, c: Expression) -> bool
     ensures { result ≡ is_first e c }
 {
-    match e {
-        Expression::Entity(_) => false,
-        Expression::Role(_) => false,
-        Expression::Linked(a, _) => same(c, Expression::Role(a)),
-        Expression::Intersection(_) => false,
-        Expression::Goal(_) => false,
-    }
+    matches!(e, Expression::Linked(a, _) if same(c, Expression::Role(a)))
 }
 
 // One of the roles of an intersection.
+#[tactic(auto, unfolding(crate::specs::Form::has_role))]
 fn has_role(p: Parts, c: Expression) -> bool
     ensures { result ≡ has_role p c }
 {
-    let first = p.first;
-    let second = p.second;
-    let third = p.third;
-    let fourth = p.fourth;
-    if same(c, Expression::Role(first)) {
+    if same(c, Expression::Role(p.first)) {
         return true;
     }
-    if same(c, Expression::Role(second)) {
+    if same(c, Expression::Role(p.second)) {
         return true;
     }
     if p.count == 2 {
         return false;
     }
-    if same(c, Expression::Role(third)) {
+    if same(c, Expression::Role(p.third)) {
         return true;
     }
     if p.count == 3 {
         return false;
     }
-    same(c, Expression::Role(fourth))
+    same(c, Expression::Role(p.fourth))
 }
 
 // An intersection and one of its roles.
 fn is_part(e: Expression, c: Expression) -> bool
     ensures { result ≡ is_part e c }
 {
-    match e {
-        Expression::Entity(_) => false,
-        Expression::Role(_) => false,
-        Expression::Linked(_, _) => false,
-        Expression::Intersection(p) => has_role(p, c),
-        Expression::Goal(_) => false,
-    }
+    matches!(e, Expression::Intersection(p) if has_role(p, c))
 }
 
 fn same_verifier(p: Node, c: Node) -> bool
@@ -157,6 +116,7 @@ fn is_control(v: u16, p: Node, c: Node) -> bool
 }
 
 // Whether an edge of kind k from c to p has the right form; v is the entity of p's verifier.
+#[tactic(auto, unfolding(crate::specs::Form::form))]
 pub fn form(k: u8, v: u16, p: Node, c: Node) -> bool
     ensures { result ≡ form_of k v p c }
 {
@@ -174,13 +134,13 @@ pub fn form(k: u8, v: u16, p: Node, c: Node) -> bool
 }
 
 // Whether a node with this expression may start in state s.
+#[tactic(auto, unfolding(crate::specs::Form::legal_state))]
 pub fn legal_state(e: Expression, s: u8) -> bool
     ensures { result ≡ legal_state e s }
 {
     match e {
         Expression::Entity(_) => s == 3,
-        Expression::Role(_) => s < 4,
-        Expression::Linked(_, _) => s < 4,
+        Expression::Role(_) | Expression::Linked(_, _) => s < 4,
         Expression::Intersection(_) => (0 < s) & (s < 4),
         Expression::Goal(_) => (s == 1) | (s == 3),
     }

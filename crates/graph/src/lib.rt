@@ -7,12 +7,10 @@ ghost use Rattle.graph.specs.laws.Graph.{nodes_of, edges_of};
 ghost use Rattle.graph.specs.Graph.{node_in, in_state};
 
 use expression::{Expression, raw_of};
-pub use find::{edge_at, find_node, has_edge, node_at, node_of};
 pub use forms::{
     CONTROL, IMPLICATION, INTERSECTION, LINKING_IMPLICATION, MONITOR, SOLUTION, form, is_named,
     legal_state,
 };
-pub use processed::{is_processed, marked_state};
 use rt0::{store_kind, store_numbers};
 
 mod find;
@@ -58,6 +56,7 @@ pub struct Edges {
 }
 
 impl Nodes {
+    #[tactic(auto, unfolding(crate::specs::laws::Graph::nodes_of))]
     pub fn empty() -> Self
         ensures { (nodes_of result ≡ []) × NodesSized result }
     {
@@ -71,33 +70,31 @@ impl Nodes {
         }
     }
 
-    pub fn add(mut self, x: Node) -> Self
-        requires { self.count < 128 }
-        ensures { nodes_of result ≡ nodes_of self ++ (x ∷ []) }
+    pub fn push(&mut self, x: Node)
+        requires { self.old.count < 128 }
+        ensures { nodes_of self.new ≡ nodes_of self.old ++ (x ∷ []) }
     {
         let i = self.count;
-        let e = x.expression;
-        let r = raw_of(e);
+        let r = raw_of(x.expression);
         store_kind(&mut self.kind, i, r);
         store_numbers(&mut self.number, i, r);
         self.subject[i] = x.subject;
         self.verifier[i] = x.verifier;
         self.state[i] = x.state;
         self.count = i + 1;
-        self
     }
 
     // Node i goes into another state.
-    pub fn mark(mut self, i: usize, state: u8) -> Self
-        requires { (i < self.count) × (self.count ≤ 128) }
-        ensures { nodes_of result ≡ set (nodes_of self) i (in_state state (node_in (nodes_of self) i)) }
+    pub fn mark(&mut self, i: usize, state: u8)
+        requires { (i < self.old.count) × (self.old.count ≤ 128) }
+        ensures { nodes_of self.new ≡ set (nodes_of self.old) i (in_state state (node_in (nodes_of self.old) i)) }
     {
         self.state[i] = state;
-        self
     }
 }
 
 impl Edges {
+    #[tactic(auto, unfolding(crate::specs::laws::Graph::edges_of))]
     pub fn empty() -> Self
         ensures { (edges_of result ≡ []) × EdgesSized result }
     {
@@ -109,15 +106,14 @@ impl Edges {
         }
     }
 
-    pub fn add(mut self, x: Edge) -> Self
-        requires { self.count < 256 }
-        ensures { edges_of result ≡ edges_of self ++ (x ∷ []) }
+    pub fn push(&mut self, x: Edge)
+        requires { self.old.count < 256 }
+        ensures { edges_of self.new ≡ edges_of self.old ++ (x ∷ []) }
     {
         let j = self.count;
         self.kind[j] = x.kind;
         self.parent[j] = x.parent;
         self.child[j] = x.child;
         self.count = j + 1;
-        self
     }
 }

@@ -4,22 +4,26 @@ ghost use Rattle.graph.specs.Processed.{processed_by, marked_state};
 
 use crate::Node;
 
-// Whether a side has processed a node.
-pub fn is_processed(side: u8, x: Node) -> bool
-    ensures { result ≡ processed_by side x }
-{
-    if x.verifier == side {
-        return x.state % 2 == 1;
+impl Node {
+    // Whether a side has processed it.
+    #[tactic(auto, unfolding(crate::specs::Processed::processed_by))]
+    pub fn is_processed(self, side: u8) -> bool
+        ensures { result ≡ processed_by side self }
+    {
+        if self.verifier == side {
+            return self.state % 2 == 1;
+        }
+        self.state / 2 % 2 == 1
     }
-    x.state / 2 % 2 == 1
-}
 
-// Its state once the side has.
-pub fn marked_state(side: u8, x: Node) -> u8
-    ensures { result ≡ marked_state side x }
-{
-    if x.verifier == side {
-        return x.state | 1;
+    // Its state once the side has.
+    #[tactic(auto, unfolding(crate::specs::Processed::marked_state))]
+    pub fn marked_state(self, side: u8) -> u8
+        ensures { result ≡ marked_state side self }
+    {
+        if self.verifier == side {
+            return self.state | 1;
+        }
+        self.state | 2
     }
-    x.state | 2
 }

@@ -1,227 +1,148 @@
 // Implication edges of kind 1.
 ghost use Rattle.std.specs.Prelude.{◌≡◌, ℕ, ◌≤◌, ◌<◌, List, get_or};
 ghost use Rattle.rt0.specs.Lists.{all};
-ghost use Rattle.rt0.specs.laws.Pool.{pool_of, credentials, expression_in};
+ghost use Rattle.rt0.specs.laws.Pool.{credentials, expression_in};
 ghost use Rattle.graph.specs.declared.Nodes.{Nodes};
-ghost use Rattle.graph.specs.laws.Graph.{nodes_from, edges_from, edge_from, nodes_of, edges_of};
+ghost use Rattle.graph.specs.laws.Graph.{nodes_from, edge_at, nodes_of, edges_of};
 ghost use Rattle.rules.specs.laws.Table.{chosen};
 ghost use Rattle.rules.specs.laws.Ruled.{Ruled};
-ghost use Rattle.closure.specs.laws.Rules.{rules_of};
 ghost use Rattle.relation.specs.laws.Relation.{Relation, Answers};
 ghost use Rattle.justification.specs.laws.Inside.{Inside};
 ghost use Rattle.justification.specs.Justified.{implied_if};
 ghost use Rattle.justification.specs.laws.Implied.{implied_from, all_from, all_implied, Children};
 
-use closure::dependents;
+use closure::{Rules, dependents};
 use expression::Expression;
-use graph::IMPLICATION;
+use graph::{Edges, IMPLICATION, Nodes};
 use relation::{column, in_column, relation};
-use rt0::expression_at;
+use rt0::{Pool, expression_at};
 use rules::rules_of;
-use word::wide;
 
 // The children of edges of kind 1.
-fn children<'a>(m: usize, edge: &'a [u8; 256], child: &'a [u8; 256]) -> [u8; 128]
-    requires { (m ≤ 256) × ((j : ℕ) → j < m → get_or child.now j 0 < 128) }
-    ensures { Children edge.now child.now m result }
+fn children(edges: &Edges) -> [u8; 128]
+    requires { (edges.now.count ≤ 256) × ((j : ℕ) → j < edges.now.count → get_or edges.now.child j 0 < 128) }
+    ensures { Children edges.now.kind edges.now.child edges.now.count result }
 {
     let mut r = [0u8; 128];
-    let mut j = 0;
-    while j < m {
-        if edge[j] == IMPLICATION {
-            r[wide(child[j])] = 1;
+    for j in 0..edges.count {
+        if edges.kind[j] == IMPLICATION {
+            r[edges.child[j] as usize] = 1;
         }
-        j += 1;
     }
     r
 }
 
 // Whether edge j, if it is of kind 1 and from node c, is implied; e is the expression of c, and vals answers what is from it,
 // whatever credentials are on.
-fn implied_at<'a>(
-    kind: &'a [u8; 256],
-    number: &'a [u16; 1024],
-    edge: &'a [u8; 256],
-    parent: &'a [u8; 256],
-    child: &'a [u8; 256],
-    q: usize,
-    heads: &'a [u16; 256],
-    kinds: &'a [u8; 256],
-    numbers: &'a [u16; 1024],
-    mem: &'a [u64; 260],
-    vals: &'a [u64; 260],
+fn implied_at(
+    nodes: &Nodes,
+    edges: &Edges,
+    shown: &Pool,
+    mem: &[u64; 260],
+    vals: &[u64; 260],
     e: Expression,
     c: usize,
     j: usize,
 ) -> bool
-    requires { (j < 256) × (get_or parent.now j 0 < 128) × (q ≤ 128)
-        × (e ≡ expression_in kind.now number.now c) }
-    ensures { (on : List ℕ) → Relation (pool_of q heads.now kinds.now numbers.now) on mem.now
-        → Answers (pool_of q heads.now kinds.now numbers.now) on e 0 vals.now
-        → result ≡ implied_from (chosen (pool_of q heads.now kinds.now numbers.now) on)
-        (expression_in kind.now number.now) c
-        (edge_from edge.now parent.now child.now j) }
+    requires { (j < 256) × (get_or edges.now.parent j 0 < 128) × (shown.now.count ≤ 128)
+        × (e ≡ expression_in nodes.now.kind nodes.now.number c) }
+    ensures { (on : List ℕ) → Relation shown.now on mem.now → Answers shown.now on e 0 vals.now
+        → result ≡ implied_from (chosen shown.now on) (expression_in nodes.now.kind nodes.now.number) c
+        (edge_at edges.now j) }
 {
-    if (edge[j] != IMPLICATION) | (wide(child[j]) != c) {
+    if (edges.kind[j] != IMPLICATION) | (edges.child[j] as usize != c) {
         return true;
     }
-    let f = expression_at(kind, number, wide(parent[j]));
-    in_column(q, heads, kinds, numbers, mem, vals, f, e)
+    let f = expression_at(&nodes.kind, &nodes.number, edges.parent[j] as usize);
+    in_column(shown, mem, vals, f, e)
 }
 
 // Whether the edges of kind 1 from node c are implied, likewise.
-fn implied_from<'a>(
-    kind: &'a [u8; 256],
-    number: &'a [u16; 1024],
-    m: usize,
-    edge: &'a [u8; 256],
-    parent: &'a [u8; 256],
-    child: &'a [u8; 256],
-    q: usize,
-    heads: &'a [u16; 256],
-    kinds: &'a [u8; 256],
-    numbers: &'a [u16; 1024],
-    mem: &'a [u64; 260],
-    vals: &'a [u64; 260],
+fn implied_from(
+    nodes: &Nodes,
+    edges: &Edges,
+    shown: &Pool,
+    mem: &[u64; 260],
+    vals: &[u64; 260],
     e: Expression,
     c: usize,
 ) -> bool
-    requires { (m ≤ 256) × Inside 128 (edges_from m edge.now parent.now child.now) × (q ≤ 128)
-        × (e ≡ expression_in kind.now number.now c) }
-    ensures { (on : List ℕ) → Relation (pool_of q heads.now kinds.now numbers.now) on mem.now
-        → Answers (pool_of q heads.now kinds.now numbers.now) on e 0 vals.now
-        → result ≡ all_from (chosen (pool_of q heads.now kinds.now numbers.now) on)
-        (expression_in kind.now number.now)
-        (edges_of (edges_from m edge.now parent.now child.now)) c }
+    requires { (edges.now.count ≤ 256) × Inside 128 edges.now × (shown.now.count ≤ 128)
+        × (e ≡ expression_in nodes.now.kind nodes.now.number c) }
+    ensures { (on : List ℕ) → Relation shown.now on mem.now → Answers shown.now on e 0 vals.now
+        → result ≡ all_from (chosen shown.now on) (expression_in nodes.now.kind nodes.now.number) (edges_of edges.now) c }
 {
-    let mut j = 0;
-    while j < m {
-        if !implied_at(
-            kind, number, edge, parent, child, q, heads, kinds, numbers, mem, vals, e, c, j,
-        ) {
+    for j in 0..edges.count {
+        if !implied_at(nodes, edges, shown, mem, vals, e, c, j) {
             return false;
         }
-        j += 1;
     }
     true
 }
 
 // Whether the edges of kind 1 from node c are implied, the children of all being used.
-fn node_implied<'a>(
-    kind: &'a [u8; 256],
-    number: &'a [u16; 1024],
-    m: usize,
-    edge: &'a [u8; 256],
-    parent: &'a [u8; 256],
-    child: &'a [u8; 256],
-    q: usize,
-    heads: &'a [u16; 256],
-    kinds: &'a [u8; 256],
-    numbers: &'a [u16; 1024],
-    head: &'a [usize; 128],
-    part: &'a [usize; 512],
-    first: &'a [usize; 128],
-    named: &'a [u64; 260],
-    src: &'a [usize; 128],
-    deps: &'a [u64; 260],
-    on: &'a [u8; 128],
-    mem: &'a [u64; 260],
-    used: &'a [u8; 128],
+fn node_implied(
+    nodes: &Nodes,
+    edges: &Edges,
+    shown: &Pool,
+    rules: &Rules,
+    deps: &[u64; 260],
+    on: &[u8; 128],
+    mem: &[u64; 260],
+    used: &[u8; 128],
     c: usize,
 ) -> bool
-    requires { (c < 128) × (m ≤ 256) × Inside 128 (edges_from m edge.now parent.now child.now) × (q ≤ 128)
-        × ((words : ℕ) × Ruled (pool_of q heads.now kinds.now numbers.now) (rules_of q words head.now part.now first.now named.now src.now))
-        × Relation (pool_of q heads.now kinds.now numbers.now) on.now mem.now
-        × Children edge.now child.now m used.now }
-    ensures { result ≡ all_from (chosen (pool_of q heads.now kinds.now numbers.now) on.now)
-        (expression_in kind.now number.now)
-        (edges_of (edges_from m edge.now parent.now child.now)) c }
+    requires { (c < 128) × (edges.now.count ≤ 256) × Inside 128 edges.now × (shown.now.count ≤ 128)
+        × Ruled shown.now rules.now × Relation shown.now on.now mem.now
+        × Children edges.now.kind edges.now.child edges.now.count used.now }
+    ensures { result ≡ all_from (chosen shown.now on.now) (expression_in nodes.now.kind nodes.now.number)
+        (edges_of edges.now) c }
 {
     if used[c] != 1 {
         return true;
     }
-    let e = expression_at(kind, number, c);
-    let vals = column(
-        q, heads, kinds, numbers, head, part, first, named, src, deps, on, mem, e,
-    );
-    implied_from(
-        kind, number, m, edge, parent, child, q, heads, kinds, numbers, mem, &vals, e, c,
-    )
+    let e = expression_at(&nodes.kind, &nodes.number, c);
+    let vals = column(shown, rules, deps, on, mem, e);
+    implied_from(nodes, edges, shown, mem, &vals, e, c)
 }
 
-// Whether the edges of kind 1 from n nodes are implied.
-fn nodes_implied<'a>(
-    n: usize,
-    kind: &'a [u8; 256],
-    number: &'a [u16; 1024],
-    m: usize,
-    edge: &'a [u8; 256],
-    parent: &'a [u8; 256],
-    child: &'a [u8; 256],
-    q: usize,
-    heads: &'a [u16; 256],
-    kinds: &'a [u8; 256],
-    numbers: &'a [u16; 1024],
-    head: &'a [usize; 128],
-    part: &'a [usize; 512],
-    first: &'a [usize; 128],
-    named: &'a [u64; 260],
-    src: &'a [usize; 128],
-    deps: &'a [u64; 260],
-    on: &'a [u8; 128],
-    mem: &'a [u64; 260],
-    used: &'a [u8; 128],
+// Whether the edges of kind 1 from the nodes are implied.
+fn nodes_implied(
+    nodes: &Nodes,
+    edges: &Edges,
+    shown: &Pool,
+    rules: &Rules,
+    deps: &[u64; 260],
+    on: &[u8; 128],
+    mem: &[u64; 260],
+    used: &[u8; 128],
 ) -> bool
-    requires { (n ≤ 128) × Inside n (edges_from m edge.now parent.now child.now) × (m ≤ 256)
-        × Inside 128 (edges_from m edge.now parent.now child.now) × (q ≤ 128)
-        × ((words : ℕ) × Ruled (pool_of q heads.now kinds.now numbers.now) (rules_of q words head.now part.now first.now named.now src.now))
-        × Relation (pool_of q heads.now kinds.now numbers.now) on.now mem.now
-        × Children edge.now child.now m used.now }
-    ensures { result ≡ all_implied (chosen (pool_of q heads.now kinds.now numbers.now) on.now)
-        (expression_in kind.now number.now)
-        (edges_of (edges_from m edge.now parent.now child.now)) }
+    requires { (nodes.now.count ≤ 128) × Inside nodes.now.count edges.now × (edges.now.count ≤ 256)
+        × Inside 128 edges.now × (shown.now.count ≤ 128) × Ruled shown.now rules.now × Relation shown.now on.now mem.now
+        × Children edges.now.kind edges.now.child edges.now.count used.now }
+    ensures { result ≡ all_implied (chosen shown.now on.now) (expression_in nodes.now.kind nodes.now.number)
+        (edges_of edges.now) }
 {
-    let mut c = 0;
-    while c < n {
-        if !node_implied(
-            kind, number, m, edge, parent, child, q, heads, kinds, numbers, head, part, first,
-            named, src, deps, on, mem, used, c,
-        ) {
+    for c in 0..nodes.count {
+        if !node_implied(nodes, edges, shown, rules, deps, on, mem, used, c) {
             return false;
         }
-        c += 1;
     }
     true
 }
 
 // Whether every edge of kind 1 is implied by the credentials, whatever the nodes' other columns: one relation for all, and one column for each child.
-pub fn edges_implied<'a>(
-    n: usize,
-    kind: &'a [u8; 256],
-    number: &'a [u16; 1024],
-    m: usize,
-    edge: &'a [u8; 256],
-    parent: &'a [u8; 256],
-    child: &'a [u8; 256],
-    q: usize,
-    heads: &'a [u16; 256],
-    kinds: &'a [u8; 256],
-    numbers: &'a [u16; 1024],
-) -> bool
-    requires { (n ≤ 128) × (m ≤ 256) × (q ≤ 128) × Inside n (edges_from m edge.now parent.now child.now) }
-    ensures { (o : Nodes) → result ≡ all (implied_if (credentials (pool_of q heads.now kinds.now numbers.now))
-        (nodes_of (nodes_from n kind.now number.now o.subject o.verifier o.state)))
-        (edges_of (edges_from m edge.now parent.now child.now)) }
+pub fn edges_implied(nodes: &Nodes, edges: &Edges, shown: &Pool) -> bool
+    requires { (nodes.now.count ≤ 128) × (edges.now.count ≤ 256) × (shown.now.count ≤ 128)
+        × Inside nodes.now.count edges.now }
+    ensures { (o : Nodes) → result ≡ all (implied_if (credentials shown.now) (nodes_of
+        (nodes_from nodes.now.count nodes.now.kind nodes.now.number o.subject o.verifier o.state)))
+        (edges_of edges.now) }
 {
-    let used = children(m, edge, child);
-    let x = rules_of(q, heads, kinds, numbers);
-    let deps = dependents(q, &x.part, &x.first, &x.named);
+    let used = children(edges);
+    let rules = rules_of(shown);
+    let deps = dependents(&rules);
     let on = [1u8; 128];
-    let mem = relation(
-        q, kinds, numbers, x.words, &x.head, &x.part, &x.first, &x.named, &x.src, &deps, &on,
-    );
-    nodes_implied(
-        n, kind, number, m, edge, parent, child, q, heads, kinds, numbers, &x.head, &x.part,
-        &x.first, &x.named, &x.src, &deps, &on, &mem, &used,
-    )
+    let mem = relation(shown, &rules, &deps, &on);
+    nodes_implied(nodes, edges, shown, &rules, &deps, &on, &mem, &used)
 }

@@ -1,9 +1,8 @@
 -- A message as the list of its commands, and where they lead (document 01, "Bytes" and "RT0 and states"). Assumes nothing.
-use Rattle.std.specs.Prelude.{ℕ, ◌≡◌, true, false, List, [], ◌∷◌, ◌++◌, length}
+use Rattle.std.specs.Prelude.{ℕ, ◌≡◌, true, false, List, [], ◌∷◌, ◌++◌, length, Ok}
 use Rattle.class.specs.declared.Name.{Name}
 use Rattle.message.specs.declared.Command.{Command}
 use Rattle.message.specs.declared.Command.TheVariants.{End}
-use Rattle.message.specs.declared.CommandAnswer.TheVariants.{Read}
 use Rattle.message.specs.Command.{formed_command, command_at}
 use Rattle.negotiation.specs.State.{State}
 use Rattle.applied.specs.Step.{stepped}
@@ -27,7 +26,7 @@ pub record Carries (ns : List Name) (s : ℕ) (m : List ℕ) (S : State) (cs : L
 -- the command at an index is refused with k: it cannot be read, or it is not legal
 pub data Wrong (ns : List Name) (s : ℕ) (m : List ℕ) (at : ℕ) (S : State) (k : ℕ) : Type 0 where
   unreadable : Unreadable m at k → Wrong ns s m at S k
-  illegal : (c : Command) → command_at m at ≡ Read c → Illegal ns s S c k → Wrong ns s m at S k
+  illegal : (c : Command) → command_at m at ≡ Ok c → Illegal ns s S c k → Wrong ns s m at S k
 
 -- the message m begins with commands that lead from S on, and the one behind them is refused with k
 pub record RefusedAt (ns : List Name) (s : ℕ) (m : List ℕ) (S : State) (k : ℕ) : Type 0 where

@@ -1,8 +1,6 @@
 // What the credentials of a pool prove, made once and asked many times.
-ghost use Rattle.std.specs.Prelude.{◌≡◌, [], ℕ, ◌≤◌};
-ghost use Rattle.rt0.specs.Decide.{from? as from_of};
-ghost use Rattle.rt0.specs.laws.Pool.{pool_of, credentials as credentials_of};
-ghost use Rattle.closure.specs.laws.Rules.{rules_of};
+ghost use Rattle.std.specs.Prelude.{◌≡◌, [], ◌≤◌};
+ghost use Rattle.rt0.specs.laws.Pool.{credentials as credentials_of};
 ghost use Rattle.graph.specs.laws.Graph.{nodes_of};
 ghost use Rattle.message.specs.declared.Command.TheVariants as C;
 ghost use Rattle.negotiation.specs.laws.State.{state_of};
@@ -41,62 +39,21 @@ pub fn nothing_proved() -> Proved
     }
 }
 
-// Of the credentials shown.
-pub fn proved_by(n: Negotiation) -> Proved
-    requires { n.shown.count ≤ 128 }
+// Of a pool.
+pub fn proved_by(pool: &Pool) -> Proved
+    requires { pool.now.count ≤ 128 }
     ensures known { ProvedBy result.pool result.rules result.rows }
-    ensures same { result.pool ≡ n.shown }
+    ensures same { result.pool ≡ pool.now }
 {
-    let pool = n.shown;
-    let count = pool.count;
-    let rules = rules_of(count, &pool.heads, &pool.kinds, &pool.numbers);
-    let deps = dependents(count, &rules.part, &rules.first, &rules.named);
-    let on = [1u8; 128];
-    let rows = relation(
-        count,
-        &pool.kinds,
-        &pool.numbers,
-        rules.words,
-        &rules.head,
-        &rules.part,
-        &rules.first,
-        &rules.named,
-        &rules.src,
-        &deps,
-        &on,
-    );
+    let rules = rules_of(pool);
+    let deps = dependents(&rules);
+    let rows = relation(pool, &rules, &deps, &[1u8; 128]);
     Proved {
-        pool,
+        pool: *pool,
         rules,
         deps,
         rows,
     }
-}
-
-// Whether f is from e, by the columns of what is known.
-fn is_from<'a>(
-    n: usize,
-    heads: &'a [u16; 256],
-    kinds: &'a [u8; 256],
-    numbers: &'a [u16; 1024],
-    head: &'a [usize; 128],
-    part: &'a [usize; 512],
-    first: &'a [usize; 128],
-    named: &'a [u64; 260],
-    src: &'a [usize; 128],
-    deps: &'a [u64; 260],
-    rows: &'a [u64; 260],
-    f: Expression,
-    e: Expression,
-) -> bool
-    requires { (words : ℕ) × ProvedBy (pool_of n heads.now kinds.now numbers.now)
-        (rules_of n words head.now part.now first.now named.now src.now) rows.now }
-    ensures { result ≡ from_of (credentials_of (pool_of n heads.now kinds.now numbers.now)) f e }
-{
-    let on = [1u8; 128];
-    ask(
-        n, heads, kinds, numbers, head, part, first, named, src, deps, &on, rows, f, e,
-    )
 }
 
 fn no_implication() -> Implication
@@ -108,31 +65,30 @@ fn no_implication() -> Implication
     }
 }
 
-fn bring_implication(nodes: Nodes, b: NewEdge) -> Implication
-    requires { nodes.count ≤ MOST-NODES }
-    ensures { result ≡ implication_in (nodes_of nodes) (C.Bring b) }
+fn bring_implication(nodes: &Nodes, b: NewEdge) -> Implication
+    requires { nodes.now.count ≤ MOST-NODES }
+    ensures { result ≡ implication_in (nodes_of nodes.now) (C.Bring b) }
 {
-    let p = node_in(nodes, b.parent);
-    let parent = p.expression;
-    let child = b.expression;
-    Implication { parent, child }
+    Implication {
+        parent: node_in(nodes, b.parent).expression,
+        child: b.expression,
+    }
 }
 
-fn join_implication(nodes: Nodes, e: Edge) -> Implication
-    requires { nodes.count ≤ MOST-NODES }
-    ensures { result ≡ implication_in (nodes_of nodes) (C.Join e) }
+fn join_implication(nodes: &Nodes, e: Edge) -> Implication
+    requires { nodes.now.count ≤ MOST-NODES }
+    ensures { result ≡ implication_in (nodes_of nodes.now) (C.Join e) }
 {
-    let p = node_in(nodes, e.parent);
-    let c = node_in(nodes, e.child);
-    let parent = p.expression;
-    let child = c.expression;
-    Implication { parent, child }
+    Implication {
+        parent: node_in(nodes, e.parent).expression,
+        child: node_in(nodes, e.child).expression,
+    }
 }
 
 // What the edge of a command asks if it is an implication.
-fn implication_of(nodes: Nodes, c: Command) -> Implication
-    requires { nodes.count ≤ MOST-NODES }
-    ensures { result ≡ implication_in (nodes_of nodes) c }
+fn implication_of(nodes: &Nodes, c: Command) -> Implication
+    requires { nodes.now.count ≤ MOST-NODES }
+    ensures { result ≡ implication_in (nodes_of nodes.now) c }
 {
     match c {
         Command::Show(_) => no_implication(),
@@ -144,34 +100,22 @@ fn implication_of(nodes: Nodes, c: Command) -> Implication
     }
 }
 
-// Whether the credentials shown prove the edge of a command, if it is an implication: by the columns of what is known.
-pub fn is_proved<'a>(
-    n: Negotiation,
-    count: usize,
-    heads: &'a [u16; 256],
-    kinds: &'a [u8; 256],
-    numbers: &'a [u16; 1024],
-    head: &'a [usize; 128],
-    part: &'a [usize; 512],
-    first: &'a [usize; 128],
-    named: &'a [u64; 260],
-    src: &'a [usize; 128],
-    deps: &'a [u64; 260],
-    rows: &'a [u64; 260],
-    c: Command,
-) -> bool
-    requires { (n.nodes.count ≤ MOST-NODES) × ((words : ℕ) × ProvedFor c (pool_of count heads.now kinds.now numbers.now)
-        (rules_of count words head.now part.now first.now named.now src.now) rows.now n.shown) }
-    ensures { Proves (state_of n) c result }
+// Whether the credentials shown prove the edge of a command, if it is an implication: by what is known.
+pub fn is_proved(n: &Negotiation, known: &Proved, c: Command) -> bool
+    requires { (n.now.nodes.count ≤ MOST-NODES) × ProvedFor c known.now.pool known.now.rules known.now.rows n.now.shown }
+    ensures { Proves (state_of n.now) c result }
 {
     if !is_implication(c) {
         return false;
     }
-    let nodes = n.nodes;
-    let q = implication_of(nodes, c);
-    let parent = q.parent;
-    let child = q.child;
-    is_from(
-        count, heads, kinds, numbers, head, part, first, named, src, deps, rows, parent, child,
+    let q = implication_of(&n.nodes, c);
+    ask(
+        &known.pool,
+        &known.rules,
+        &known.deps,
+        &[1u8; 128],
+        &known.rows,
+        q.parent,
+        q.child,
     )
 }

@@ -14,7 +14,7 @@ ghost use Rattle.legal.specs.laws.Judged.{is_implication, is_linking, Proves, Sa
 ghost use Rattle.numbers.specs.Sizes.{MOST-NODES, MOST-EDGES};
 
 use expression::Expression;
-use graph::{Edge, Edges, IMPLICATION, LINKING_IMPLICATION, Node, Nodes, node_of};
+use graph::{Edge, Edges, IMPLICATION, LINKING_IMPLICATION, Node, Nodes};
 use justification::is_monitored_for;
 use message::Command;
 use negotiation::Negotiation;
@@ -23,27 +23,19 @@ use states::{links, needs};
 use word::wide;
 
 // Which nodes are satisfied.
-pub fn satisfied_nodes(nodes: Nodes, edges: Edges) -> [u8; 128]
-    requires { (nodes.count ≤ MOST-NODES) × (edges.count ≤ MOST-EDGES) × NodesFormed (nodes_of nodes) }
-    ensures { Says (nodes_of nodes) (edges_of edges) result }
+pub fn satisfied_nodes(nodes: &Nodes, edges: &Edges) -> [u8; 128]
+    requires { (nodes.now.count ≤ MOST-NODES) × (edges.now.count ≤ MOST-EDGES) × NodesFormed (nodes_of nodes.now) }
+    ensures { Says (nodes_of nodes.now) (edges_of edges.now) result }
 {
-    let need = needs(nodes.count, &nodes.kind, &nodes.state);
-    let x = links(
-        nodes.count,
-        &nodes.kind,
-        &nodes.number,
-        edges.count,
-        &edges.kind,
-        &edges.parent,
-        &edges.child,
-    );
-    satisfied(nodes.count, edges.count, &x.from, &x.slot, &need)
+    let need = needs(nodes);
+    let x = links(nodes, edges);
+    satisfied(nodes.count, &x, &need)
 }
 
 // Node i; a blank one where there is none.
-pub fn node_in(nodes: Nodes, i: u8) -> Node
-    requires { nodes.count ≤ MOST-NODES }
-    ensures { result ≡ node_in (nodes_of nodes) i }
+pub fn node_in(nodes: &Nodes, i: u8) -> Node
+    requires { nodes.now.count ≤ MOST-NODES }
+    ensures { result ≡ node_in (nodes_of nodes.now) i }
 {
     if nodes.count <= wide(i) {
         return Node {
@@ -53,40 +45,35 @@ pub fn node_in(nodes: Nodes, i: u8) -> Node
             state: 0,
         };
     }
-    node_of(nodes, i)
+    nodes.node(i as usize)
 }
 
 // Whether a linking implication edge into node p is justified for B.
-fn is_linked_for<'a>(n: Negotiation, sat: &'a [u8; 128], p: u8, b: u16) -> bool
-    requires { (n.nodes.count ≤ MOST-NODES) × (n.edges.count ≤ MOST-EDGES) × Says (nodes_of n.nodes) (edges_of n.edges) sat.now }
-    ensures { result ≡ any (monitors (nodes_of n.nodes) (edges_of n.edges) (node_in (nodes_of n.nodes) p).expression b p) (edges_of n.edges) }
+fn is_linked_for(n: &Negotiation, sat: &[u8; 128], p: u8, b: u16) -> bool
+    requires { (n.now.nodes.count ≤ MOST-NODES) × (n.now.edges.count ≤ MOST-EDGES)
+        × Says (nodes_of n.now.nodes) (edges_of n.now.edges) sat.now }
+    ensures { result
+        ≡ any (monitors (nodes_of n.now.nodes) (edges_of n.now.edges) (node_in (nodes_of n.now.nodes) p).expression b p)
+        (edges_of n.now.edges) }
 {
-    let nodes = n.nodes;
-    let edges = n.edges;
-    let parent = node_in(nodes, p);
-    let x = parent.expression;
+    let parent = node_in(&n.nodes, p);
     is_monitored_for(
-        nodes.count,
-        &nodes.kind,
-        &nodes.number,
-        edges.count,
-        &edges.kind,
-        &edges.parent,
-        &edges.child,
+        &n.nodes,
+        n.edges.count,
+        &n.edges,
         sat,
-        x,
+        parent.expression,
         b,
         p,
     )
 }
 
-fn is_join_linked<'a>(n: Negotiation, sat: &'a [u8; 128], e: Edge) -> bool
-    requires { (n.nodes.count ≤ MOST-NODES) × (n.edges.count ≤ MOST-EDGES) × (is_linking (C.Join e) ≡ true)
-        × Says (nodes_of n.nodes) (edges_of n.edges) sat.now }
-    ensures { result ≡ justified_in (state_of n) (C.Join e) }
+fn is_join_linked(n: &Negotiation, sat: &[u8; 128], e: Edge) -> bool
+    requires { (n.now.nodes.count ≤ MOST-NODES) × (n.now.edges.count ≤ MOST-EDGES) × (is_linking (C.Join e) ≡ true)
+        × Says (nodes_of n.now.nodes) (edges_of n.now.edges) sat.now }
+    ensures { result ≡ justified_in (state_of n.now) (C.Join e) }
 {
-    let nodes = n.nodes;
-    let child = node_in(nodes, e.child);
+    let child = node_in(&n.nodes, e.child);
     is_linked_for(n, sat, e.parent, child.subject)
 }
 
@@ -95,12 +82,9 @@ pub fn is_implication(c: Command) -> bool
     ensures { result ≡ is_implication c }
 {
     match c {
-        Command::Show(_) => false,
-        Command::Open(_) => false,
         Command::Bring(b) => b.kind == IMPLICATION,
         Command::Join(e) => e.kind == IMPLICATION,
-        Command::Mark(_) => false,
-        Command::End => false,
+        _ => false,
     }
 }
 
@@ -109,20 +93,17 @@ pub fn is_linking(c: Command) -> bool
     ensures { result ≡ is_linking c }
 {
     match c {
-        Command::Show(_) => false,
-        Command::Open(_) => false,
         Command::Bring(b) => b.kind == LINKING_IMPLICATION,
         Command::Join(e) => e.kind == LINKING_IMPLICATION,
-        Command::Mark(_) => false,
-        Command::End => false,
+        _ => false,
     }
 }
 
 // Whether the linking implication edge of a command is justified.
-fn is_linked<'a>(n: Negotiation, sat: &'a [u8; 128], c: Command) -> bool
-    requires { (n.nodes.count ≤ MOST-NODES) × (n.edges.count ≤ MOST-EDGES) × (is_linking c ≡ true)
-        × Says (nodes_of n.nodes) (edges_of n.edges) sat.now }
-    ensures { result ≡ justified_in (state_of n) c }
+fn is_linked(n: &Negotiation, sat: &[u8; 128], c: Command) -> bool
+    requires { (n.now.nodes.count ≤ MOST-NODES) × (n.now.edges.count ≤ MOST-EDGES) × (is_linking c ≡ true)
+        × Says (nodes_of n.now.nodes) (edges_of n.now.edges) sat.now }
+    ensures { result ≡ justified_in (state_of n.now) c }
 {
     match c {
         Command::Show(_) => true,
@@ -136,9 +117,10 @@ fn is_linked<'a>(n: Negotiation, sat: &'a [u8; 128], c: Command) -> bool
 
 // Whether the edge of a command is justified. Given are whether the credentials shown prove it, if it is an implication, and the satisfied nodes, if
 // it is a linking implication.
-pub fn is_justified<'a>(n: Negotiation, proved: bool, sat: &'a [u8; 128], c: Command) -> bool
-    requires { (within (state_of n) ≡ true) × Proves (state_of n) c proved × SaysFor c (nodes_of n.nodes) (edges_of n.edges) sat.now }
-    ensures { result ≡ justified_in (state_of n) c }
+pub fn is_justified(n: &Negotiation, proved: bool, sat: &[u8; 128], c: Command) -> bool
+    requires { (within (state_of n.now) ≡ true) × Proves (state_of n.now) c proved
+        × SaysFor c (nodes_of n.now.nodes) (edges_of n.now.edges) sat.now }
+    ensures { result ≡ justified_in (state_of n.now) c }
 {
     if is_linking(c) {
         return is_linked(n, sat, c);

@@ -41,9 +41,9 @@ pub struct Implication {
 }
 
 // Why a command of the sender is refused: zero where it is legal. Whether the edge that it adds is justified is given.
-pub fn legal(names: Names, sender: u8, n: Negotiation, c: Command, justified: bool) -> u64
-    requires { (names.count ≤ MOST-NAMES) × Ascending names.count names.name × (within (state_of n) ≡ true) }
-    ensures { result ≡ legal_by (names_of names) sender (state_of n) c justified }
+pub fn legal(names: &Names, sender: u8, n: &Negotiation, c: Command, justified: bool) -> u64
+    requires { (names.now.count ≤ MOST-NAMES) × Ascending names.now.count names.now.name × (within (state_of n.now) ≡ true) }
+    ensures { result ≡ legal_by (names_of names.now) sender (state_of n.now) c justified }
 {
     match c {
         Command::Show(d) => show_number(names, n, d),

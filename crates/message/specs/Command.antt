@@ -1,11 +1,7 @@
 -- The commands of a message and their bytes (document 01, "Bytes"). Assumes nothing.
-use Rattle.std.specs.Prelude.{ℕ, ◌+◌, ◌-◌, Bool, true, cond, ◌&&◌, List, [], ◌∷◌, ◌++◌, ltb, eqb, length, get_or}
+use Rattle.std.specs.Prelude.{ℕ, ◌+◌, ◌-◌, Bool, true, cond, ◌&&◌, List, [], ◌∷◌, ◌++◌, ltb, eqb, length, get_or, Option, Some, None, Result, Ok, Err}
 use Rattle.expression.specs.declared.Expression.{Expression}
 use Rattle.expression.specs.declared.Expression.TheVariants as E
-use Rattle.expression.specs.declared.ExpressionAnswer.{ExpressionAnswer}
-use Rattle.expression.specs.declared.ExpressionAnswer.TheVariants as e
-use Rattle.expression.specs.declared.CredentialAnswer.{CredentialAnswer}
-use Rattle.expression.specs.declared.CredentialAnswer.TheVariants as a
 use Rattle.expression.specs.Bytes.{number_at, raw_bytes, number_bytes}
 use Rattle.expression.specs.Form.{raw_of, read_of, is_role, well_formed}
 use Rattle.expression.specs.Credential.{well_formed_credential, role_at, read_credential, role_bytes, credential_bytes}
@@ -15,10 +11,9 @@ use Rattle.message.specs.declared.Opening.{Opening}
 use Rattle.message.specs.declared.NewEdge.{NewEdge}
 use Rattle.message.specs.declared.Command.{Command}
 use Rattle.message.specs.declared.Command.TheVariants.{Show, Open, Bring, Join, Mark, End}
-use Rattle.message.specs.declared.CommandAnswer.{CommandAnswer}
-use Rattle.message.specs.declared.CommandAnswer.TheVariants.{Read, Refused}
 use Rattle.numbers.specs.Refusals.{COMMAND, OPERAND}
 use Rattle.numbers.specs.Bytes.{CREDENTIAL-BYTES, OPEN-BYTES, NEW-EDGE-BYTES, OLD-EDGE-BYTES, MARK-BYTES, END-BYTES}
+use Rattle.expression.specs.declared.Credential.{Credential}
 
 -- "Edge kinds: 1 implication, .., 6 control"
 abbrev pub edge_kind : ℕ → Bool
@@ -42,57 +37,57 @@ formed_command (Mark n) = true
 formed_command End = true
 
 -- "2 .. cut command" ("From the input"), whatever its bytes
-abbrev pub whole : ℕ → List ℕ → ℕ → CommandAnswer → CommandAnswer
-whole size s at r = cond (ltb (length s - at) size) (Refused COMMAND) r
+abbrev pub whole : ℕ → List ℕ → ℕ → Result Command ℕ → Result Command ℕ
+whole size s at r = cond (ltb (length s - at) size) (Err COMMAND) r
 
 -- "3 an operand of wrong form, an illegal initial state"
-abbrev pub checked : Bool → Command → CommandAnswer
-checked b c = cond b (Read c) (Refused OPERAND)
+abbrev pub checked : Bool → Command → Result Command ℕ
+checked b c = cond b (Ok c) (Err OPERAND)
 
-abbrev pub shown : CredentialAnswer → CommandAnswer
-shown (a.Read c) = Read (Show c)
-shown a.Wrong = Refused OPERAND
+abbrev pub shown : Option Credential → Result Command ℕ
+shown (Some c) = Ok (Show c)
+shown None = Err OPERAND
 
 -- "0x01 credential, 23 bytes: issuer, name, body"
-unfoldable pub show_at : List ℕ → ℕ → CommandAnswer
+unfoldable pub show_at : List ℕ → ℕ → Result Command ℕ
 show_at s at = whole CREDENTIAL-BYTES s at (shown (read_credential s (at + 1)))
 
 abbrev pub opening_of : List ℕ → ℕ → Opening
 opening_of s at = record { role = role_at s (at + 1); state = get_or s (at + 5) 0 }
 
 -- "0x02 open, 6: role, state"
-unfoldable pub open_at : List ℕ → ℕ → CommandAnswer
+unfoldable pub open_at : List ℕ → ℕ → Result Command ℕ
 open_at s at = whole OPEN-BYTES s at (checked (formed_opening (opening_of s at)) (Open (opening_of s at)))
 
 abbrev pub new_of : List ℕ → ℕ → Expression → NewEdge
 new_of s at child =
     record { kind = get_or s (at + 1) 0; parent = get_or s (at + 2) 0; expression = child; subject = number_at s (at + 21); state = get_or s (at + 23) 0 }
 
-abbrev pub brought : List ℕ → ℕ → ExpressionAnswer → CommandAnswer
-brought s at (e.Read child) = checked (formed_new (new_of s at child)) (Bring (new_of s at child))
-brought s at e.Wrong = Refused OPERAND
+abbrev pub brought : List ℕ → ℕ → Option Expression → Result Command ℕ
+brought s at (Some child) = checked (formed_new (new_of s at child)) (Bring (new_of s at child))
+brought s at None = Err OPERAND
 
 -- "0x03 edge with a new child, 24: edge kind, parent, child's expression, child's subject, state"
-unfoldable pub bring_at : List ℕ → ℕ → CommandAnswer
+unfoldable pub bring_at : List ℕ → ℕ → Result Command ℕ
 bring_at s at = whole NEW-EDGE-BYTES s at (brought s at (read_of s (at + 3)))
 
 abbrev pub edge_of : List ℕ → ℕ → Edge
 edge_of s at = record { kind = get_or s (at + 1) 0; parent = get_or s (at + 2) 0; child = get_or s (at + 3) 0 }
 
 -- "0x04 edge between old nodes, 4: edge kind, parent, child"
-unfoldable pub join_at : List ℕ → ℕ → CommandAnswer
+unfoldable pub join_at : List ℕ → ℕ → Result Command ℕ
 join_at s at = whole OLD-EDGE-BYTES s at (checked (edge_kind (get_or s (at + 1) 0)) (Join (edge_of s at)))
 
 -- "0x05 mark, 2: node"
-unfoldable pub mark_at : List ℕ → ℕ → CommandAnswer
-mark_at s at = whole MARK-BYTES s at (Read (Mark (get_or s (at + 1) 0)))
+unfoldable pub mark_at : List ℕ → ℕ → Result Command ℕ
+mark_at s at = whole MARK-BYTES s at (Ok (Mark (get_or s (at + 1) 0)))
 
 -- "0x06 end, 1: stands last and only there"; "2 .. bytes after end"
-unfoldable pub end_at : List ℕ → ℕ → CommandAnswer
-end_at s at = cond (eqb (length s - at) END-BYTES) (Read End) (Refused COMMAND)
+unfoldable pub end_at : List ℕ → ℕ → Result Command ℕ
+end_at s at = cond (eqb (length s - at) END-BYTES) (Ok End) (Err COMMAND)
 
 -- the command by its first byte; "2 unknown command"
-abbrev pub by_code : ℕ → List ℕ → ℕ → CommandAnswer
+abbrev pub by_code : ℕ → List ℕ → ℕ → Result Command ℕ
 by_code code s at =
     cond (eqb code 1) (show_at s at)
     (cond (eqb code 2) (open_at s at)
@@ -100,10 +95,10 @@ by_code code s at =
     (cond (eqb code 4) (join_at s at)
     (cond (eqb code 5) (mark_at s at)
     (cond (eqb code 6) (end_at s at)
-    (Refused COMMAND))))))
+    (Err COMMAND))))))
 
 -- the command at an index; "2 .. missing end" where nothing stands there
-unfoldable pub command_at : List ℕ → ℕ → CommandAnswer
+unfoldable pub command_at : List ℕ → ℕ → Result Command ℕ
 command_at s at = whole 1 s at (by_code (get_or s at 0) s at)
 
 abbrev pub opening_bytes : Opening → List ℕ

@@ -12,8 +12,7 @@ fn write_show(s: &mut [u8], at: usize, c: Credential)
     requires { at + 23 ≤ length s.old }
     ensures { s.new ≡ pasted s.old at (1 ∷ credential_bytes c) }
 {
-    let b = [SHOW];
-    copy_in(s, at, &b);
+    copy_in(s, at, &[SHOW]);
     write_credential(s, at + 1, c);
 }
 
@@ -37,10 +36,8 @@ fn write_bring(s: &mut [u8], at: usize, e: NewEdge)
     requires { at + 24 ≤ length s.old }
     ensures { s.new ≡ pasted s.old at (3 ∷ new_bytes e) }
 {
-    let child = e.expression;
-    let b = [BRING, e.kind, e.parent];
-    copy_in(s, at, &b);
-    write_expression(s, at + 3, child);
+    copy_in(s, at, &[BRING, e.kind, e.parent]);
+    write_expression(s, at + 3, e.expression);
     let b = [(e.subject / 256) as u8, (e.subject % 256) as u8, e.state];
     copy_in(s, at + 21, &b);
 }
@@ -49,27 +46,25 @@ fn write_join(s: &mut [u8], at: usize, e: Edge)
     requires { at + 4 ≤ length s.old }
     ensures { s.new ≡ pasted s.old at (4 ∷ edge_bytes e) }
 {
-    let b = [JOIN, e.kind, e.parent, e.child];
-    copy_in(s, at, &b);
+    copy_in(s, at, &[JOIN, e.kind, e.parent, e.child]);
 }
 
 fn write_mark(s: &mut [u8], at: usize, node: u8)
     requires { at + 2 ≤ length s.old }
     ensures { s.new ≡ pasted s.old at (5 ∷ node ∷ []) }
 {
-    let b = [MARK, node];
-    copy_in(s, at, &b);
+    copy_in(s, at, &[MARK, node]);
 }
 
 fn write_end(s: &mut [u8], at: usize)
     requires { at + 1 ≤ length s.old }
     ensures { s.new ≡ pasted s.old at (6 ∷ []) }
 {
-    let b = [END];
-    copy_in(s, at, &b);
+    copy_in(s, at, &[END]);
 }
 
 // The bytes of a command, from an index.
+#[tactic(auto, unfolding(crate::specs::Command::command_bytes))]
 pub fn write_command(s: &mut [u8], at: usize, c: Command)
     requires { at + size_of c ≤ length s.old }
     ensures { s.new ≡ pasted s.old at (command_bytes c) }

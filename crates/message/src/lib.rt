@@ -43,12 +43,6 @@ pub enum Command {
     End,
 }
 
-#[derive(Clone, Copy)]
-pub enum CommandAnswer {
-    Read(Command),
-    Refused(u64),
-}
-
 // The first bytes of commands.
 pub const SHOW: u8 = 1;
 

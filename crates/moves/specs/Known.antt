@@ -1,12 +1,10 @@
 -- What is known of our sensitive roles while we reply: the only reader of what is hidden in the tables (document 01, "The reply"). Assumes nothing.
-use Rattle.std.specs.Prelude.{ℕ, Bool, cond, ◌&&◌, List, map, ltb, length}
+use Rattle.std.specs.Prelude.{ℕ, Bool, cond, ◌&&◌, List, map, ltb, length, Option, Some, None}
 use Rattle.expression.specs.declared.Role.{Role}
 use Rattle.expression.specs.declared.Expression.TheVariants as E
 use Rattle.expression.specs.Same.{same_role}
 use Rattle.rt0.specs.Lists.{any}
 use Rattle.record.specs.declared.Pair.{Pair}
-use Rattle.tables.specs.declared.RoleAnswer.{RoleAnswer}
-use Rattle.tables.specs.declared.RoleAnswer.TheVariants as A
 use Rattle.tables.specs.Lookup.{other_of}
 use Rattle.tables.specs.Public.{Hidden}
 use Rattle.propagation.specs.Flags.{at}
@@ -19,9 +17,9 @@ use Rattle.moves.specs.declared.Known.{Known}
 use Rattle.moves.specs.declared.Known.TheVariants.{Waiting, Seen}
 
 -- "A role is held if 0x13 has its direct credential; its access policy is its 0x15 record or none"
-abbrev pub policy_of : RoleAnswer → Holding
-policy_of (A.Found r) = Guarded r
-policy_of A.Absent = Free
+abbrev pub policy_of : Option Role → Holding
+policy_of (Some r) = Guarded r
+policy_of None = Free
 
 unfoldable pub holding_of : Hidden → Role → Holding
 holding_of H r = cond (any (same_role r) H.held) (policy_of (other_of H.access r)) Absent

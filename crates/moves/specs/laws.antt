@@ -1,4 +1,3 @@
-pub mod Initial
 pub mod FrontiersExact
 pub mod Stops
 pub mod Own

@@ -5,8 +5,8 @@
 
 ghost use Rattle.std.specs.Prelude.{◌≡◌, ℕ, ◌<◌, ◌≤◌, length};
 ghost use Rattle.rt0.specs.Decide.{from? as from_of};
-ghost use Rattle.rt0.specs.laws.Pool.{pool_of, credentials};
-ghost use Rattle.closure.specs.laws.Rules.{rules_of, el};
+ghost use Rattle.rt0.specs.laws.Pool.{credentials};
+ghost use Rattle.closure.specs.laws.Rules.{el};
 ghost use Rattle.rules.specs.laws.Table.{chosen};
 ghost use Rattle.rules.specs.laws.Ruled.{Ruled};
 ghost use Rattle.relation.specs.laws.Relation.{Relation};
@@ -15,10 +15,11 @@ ghost use Rattle.needed.specs.laws.Needed.{first_of, rest_of};
 ghost use Rattle.needed.specs.laws.Columns.{FirstOn, WithRest, Needed};
 
 pub use asked::relevant;
-use closure::dependents;
+use closure::{Rules, dependents};
 use expression::Expression;
-use next::next_kept;
+use next::Switched;
 use relation::relation;
+use rt0::Pool;
 use rules::rules_of;
 
 mod asked;
@@ -37,10 +38,8 @@ fn first_on(s: usize) -> [u8; 128]
     ensures { FirstOn s result }
 {
     let mut on = [0u8; 128];
-    let mut i = 0;
-    while i < s {
+    for i in 0..s {
         on[i] = 1;
-        i += 1;
     }
     on
 }
@@ -51,44 +50,31 @@ pub fn with_rest(n: usize, a: usize, kept: [u8; 128]) -> [u8; 128]
     ensures { WithRest n a kept result }
 {
     let mut r = kept;
-    let mut i = a;
-    while i < n {
+    for i in a..n {
         r[i] = 1;
-        i += 1;
     }
     r
 }
 
 // The needed ones. The first s are on, and their relation is held.
-fn keep<'a>(
-    n: usize,
-    heads: &'a [u16; 256],
-    kinds: &'a [u8; 256],
-    numbers: &'a [u16; 1024],
-    words: usize,
-    head: &'a [usize; 128],
-    part: &'a [usize; 512],
-    first: &'a [usize; 128],
-    named: &'a [u64; 260],
-    src: &'a [usize; 128],
-    deps: &'a [u64; 260],
+fn keep(
+    pool: &Pool,
+    rules: &Rules,
+    deps: &[u64; 260],
     s: usize,
-    on: &'a mut [u8; 128],
-    rows: &'a mut [u64; 260],
+    switched: &mut Switched,
     f: Expression,
     e: Expression,
 ) -> Kept
-    requires { (n ≤ 128) × (s ≤ n) × Ruled (pool_of n heads.now kinds.now numbers.now)
-        (rules_of n words head.now part.now first.now named.now src.now) × FirstOn s on.old
-        × Relation (pool_of n heads.now kinds.now numbers.now) on.old rows.old }
-    ensures { Needed (pool_of n heads.now kinds.now numbers.now) s f e result.holds result.own }
+    requires { (pool.now.count ≤ 128) × (s ≤ pool.now.count) × Ruled pool.now rules.now × FirstOn s switched.old.on
+        × Relation pool.now switched.old.on switched.old.rows }
+    ensures { Needed pool.now s f e result.holds result.own }
 {
+    let n = pool.count;
     let mut r = [0u8; 128];
     let mut a = s;
     loop {
-        let k = next_kept(
-            n, heads, kinds, numbers, words, head, part, first, named, src, deps, a, on, rows, f, e,
-        );
+        let k = switched.next_kept(pool, rules, deps, a, f, e);
         if k > n {
             return Kept {
                 holds: false,
@@ -112,31 +98,17 @@ fn keep<'a>(
     }
 }
 
-// Whether f from e holds over the n credentials, and those needed for it beside the first `shown`.
-pub fn needed<'a>(
-    n: usize,
-    heads: &'a [u16; 256],
-    kinds: &'a [u8; 256],
-    numbers: &'a [u16; 1024],
-    shown: usize,
-    f: Expression,
-    e: Expression,
-) -> Kept
-    requires { (n ≤ 128) × (shown ≤ n) }
-    ensures holds { result.holds ≡ from_of (credentials (pool_of n heads.now kinds.now numbers.now)) f e }
-    ensures own { (i : ℕ) → el result.own i ≡ 1 → (shown ≤ i) × (i < n) }
-    ensures all { chosen (pool_of n heads.now kinds.now numbers.now) result.own
-        ≡ needed_of (first_of (pool_of n heads.now kinds.now numbers.now) shown) f e
-        (rest_of (pool_of n heads.now kinds.now numbers.now) shown) }
+// Whether f from e holds over a pool, and those needed for it beside the first `shown`.
+pub fn needed(pool: &Pool, shown: usize, f: Expression, e: Expression) -> Kept
+    requires { (pool.now.count ≤ 128) × (shown ≤ pool.now.count) }
+    ensures holds { result.holds ≡ from_of (credentials pool.now) f e }
+    ensures own { (i : ℕ) → el result.own i ≡ 1 → (shown ≤ i) × (i < pool.now.count) }
+    ensures all { chosen pool.now result.own ≡ needed_of (first_of pool.now shown) f e (rest_of pool.now shown) }
 {
-    let x = rules_of(n, heads, kinds, numbers);
-    let deps = dependents(n, &x.part, &x.first, &x.named);
-    let mut on = first_on(shown);
-    let mut rows = relation(
-        n, kinds, numbers, x.words, &x.head, &x.part, &x.first, &x.named, &x.src, &deps, &on,
-    );
-    keep(
-        n, heads, kinds, numbers, x.words, &x.head, &x.part, &x.first, &x.named, &x.src, &deps,
-        shown, &mut on, &mut rows, f, e,
-    )
+    let rules = rules_of(pool);
+    let deps = dependents(&rules);
+    let on = first_on(shown);
+    let rows = relation(pool, &rules, &deps, &on);
+    let mut switched = Switched { on, rows };
+    keep(pool, &rules, &deps, shown, &mut switched, f, e)
 }

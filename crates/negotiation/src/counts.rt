@@ -5,26 +5,28 @@ ghost use Rattle.negotiation.specs.Messages.{message_count, counted as counted_f
 use crate::Messages;
 use crate::ends::MEDIATOR;
 
-// Messages accepted and replies given together.
-pub fn message_count(m: Messages) -> u32
-    ensures { result ≡ message_count m }
-{
-    m.mediator as u32 + m.requester as u32
-}
-
-// One message more of a side.
-pub fn counted(side: u8, m: Messages) -> Messages
-    requires { message_count m < 65535 }
-    ensures { result ≡ counted_for side m }
-{
-    if side == MEDIATOR {
-        return Messages {
-            mediator: m.mediator + 1,
-            requester: m.requester,
-        };
+impl Messages {
+    // Messages accepted and replies given together.
+    pub fn count(self) -> u32
+        ensures { result ≡ message_count self }
+    {
+        self.mediator as u32 + self.requester as u32
     }
-    Messages {
-        mediator: m.mediator,
-        requester: m.requester + 1,
+
+    // One message more of a side.
+    pub fn counted(self, side: u8) -> Self
+        requires { message_count self < 65535 }
+        ensures { result ≡ counted_for side self }
+    {
+        if side == MEDIATOR {
+            return Self {
+                mediator: self.mediator + 1,
+                requester: self.requester,
+            };
+        }
+        Self {
+            mediator: self.mediator,
+            requester: self.requester + 1,
+        }
     }
 }

@@ -11,12 +11,12 @@ ghost use Rattle.negotiation.specs.laws.Layout.{reading_of};
 
 use crate::encode::write;
 use crate::{
-    EDGE_BYTES, EDGES_AT, Header, Messages, NODE_BYTES, NODES_AT, Negotiation, Reading, SHOWN_AT,
+    EDGE_BYTES, EDGES_AT, Header, Messages, NODE_BYTES, NODES_AT, Negotiation, SHOWN_AT,
     SHOWN_BYTES,
 };
 use expression::{Credential, expression_of, number_at, raw_at, role_at};
-use graph::{Edges, Nodes};
-use rt0::{Pool, store, store_kind, store_numbers};
+use graph::{Edge, Edges, Node, Nodes};
+use rt0::Pool;
 
 fn header_from(s: &[u8]) -> Header
     requires { 20 ≤ length s.now }
@@ -36,6 +36,29 @@ fn header_from(s: &[u8]) -> Header
     }
 }
 
+fn node_from(s: &[u8], at: usize) -> Node
+    requires { at + 22 ≤ length s.now }
+    ensures { result ≡ node_from s.now at }
+{
+    Node {
+        expression: expression_of(raw_at(s, at)),
+        subject: number_at(s, at + 18),
+        verifier: s[at + 20],
+        state: s[at + 21],
+    }
+}
+
+fn edge_from(s: &[u8], at: usize) -> Edge
+    requires { at + 3 ≤ length s.now }
+    ensures { result ≡ edge_from s.now at }
+{
+    Edge {
+        kind: s[at],
+        parent: s[at + 1],
+        child: s[at + 2],
+    }
+}
+
 fn credential_from(s: &[u8], at: usize) -> Credential
     requires { at + 22 ≤ length s.now }
     ensures { result ≡ credential_from s.now at }
@@ -46,22 +69,13 @@ fn credential_from(s: &[u8], at: usize) -> Credential
     }
 }
 
-// The columns are filled where they stand: a method by value would copy them for each node.
 fn read_nodes(s: &[u8], count: usize) -> Nodes
     requires { (count ≤ MOST-NODES) × (EDGES-AT ≤ length s.now) }
     ensures { nodes_of result ≡ up_to count (λ (i : ℕ). node_from s.now (NODES-AT + i * 22)) }
 {
     let mut nodes = Nodes::empty();
-    while nodes.count < count {
-        let i = nodes.count;
-        let at = NODES_AT + i * NODE_BYTES;
-        let r = raw_at(s, at);
-        store_kind(&mut nodes.kind, i, r);
-        store_numbers(&mut nodes.number, i, r);
-        nodes.subject[i] = number_at(s, at + 18);
-        nodes.verifier[i] = s[at + 20];
-        nodes.state[i] = s[at + 21];
-        nodes.count = i + 1;
+    for i in 0..count {
+        nodes.push(node_from(s, NODES_AT + i * NODE_BYTES));
     }
     nodes
 }
@@ -71,13 +85,8 @@ fn read_edges(s: &[u8], count: usize) -> Edges
     ensures { edges_of result ≡ up_to count (λ (j : ℕ). edge_from s.now (EDGES-AT + j * 3)) }
 {
     let mut edges = Edges::empty();
-    while edges.count < count {
-        let j = edges.count;
-        let at = EDGES_AT + j * EDGE_BYTES;
-        edges.kind[j] = s[at];
-        edges.parent[j] = s[at + 1];
-        edges.child[j] = s[at + 2];
-        edges.count = j + 1;
+    for j in 0..count {
+        edges.push(edge_from(s, EDGES_AT + j * EDGE_BYTES));
     }
     edges
 }
@@ -86,21 +95,11 @@ fn read_shown(s: &[u8], count: usize) -> Pool
     requires { (count ≤ MOST-SHOWN) × (NEGOTIATION-BYTES ≤ length s.now) }
     ensures { credentials result ≡ up_to count (λ (k : ℕ). credential_from s.now (SHOWN-AT + k * 22)) }
 {
-    let mut heads = [0u16; 256];
-    let mut kinds = [0u8; 256];
-    let mut numbers = [0u16; 1024];
-    let mut k = 0;
-    while k < count {
-        let c = credential_from(s, SHOWN_AT + k * SHOWN_BYTES);
-        store(&mut heads, &mut kinds, &mut numbers, k, c);
-        k += 1;
+    let mut shown = Pool::empty();
+    for k in 0..count {
+        shown.push(credential_from(s, SHOWN_AT + k * SHOWN_BYTES));
     }
-    Pool {
-        count: k,
-        heads,
-        kinds,
-        numbers,
-    }
+    shown
 }
 
 fn at_most(most: usize, n: usize) -> usize
@@ -125,26 +124,24 @@ pub fn candidate(s: &[u8]) -> Negotiation
     }
 }
 
-fn same_bytes<'a>(a: &'a [u8], b: &'a [u8]) -> bool
+// All bytes are compared: the loop has no exit but its end, so that several are compared at once.
+fn same_bytes(a: &[u8], b: &[u8]) -> bool
     requires { length a.now ≡ length b.now }
     ensures { result ≡ same_bytes a.now b.now }
 {
     let mut same = true;
-    let mut i = 0;
-    while i < a.len() {
+    for i in 0..a.len() {
         same = same & (a[i] == b[i]);
-        i += 1;
     }
     same
 }
 
-pub fn read(s: &[u8]) -> Reading
+pub fn read(s: &[u8]) -> Option<Negotiation>
     requires { length s.now ≡ NEGOTIATION-BYTES }
     ensures { reading_of result ≡ read_state s.now }
 {
-    let negotiation = candidate(s);
-    let mut buf = [0u8; 5120];
-    write(negotiation, &mut buf);
-    let ok = same_bytes(s, &buf);
-    Reading { ok, negotiation }
+    let n = candidate(s);
+    let mut buf = [0u8; Negotiation::BYTES];
+    write(&n, &mut buf);
+    if same_bytes(s, &buf) { Some(n) } else { None }
 }

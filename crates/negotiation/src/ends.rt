@@ -9,15 +9,21 @@ pub const MEDIATOR: u8 = 0;
 
 pub const REQUESTER: u8 = 1;
 
-pub fn requester(h: Header) -> u16
-    ensures { result ≡ requester_of h }
-{
-    if h.side == MEDIATOR { h.other } else { h.own }
-}
+impl Header {
+    pub fn requester(&self) -> u16
+        ensures { result ≡ requester_of self.now }
+    {
+        if self.side == MEDIATOR {
+            self.other
+        } else {
+            self.own
+        }
+    }
 
-// The entity of a verifier.
-pub fn entity_of(h: Header, v: u8) -> u16
-    ensures { result ≡ entity_of h v }
-{
-    if v == h.side { h.own } else { h.other }
+    // The entity of a verifier.
+    pub fn entity_of(&self, v: u8) -> u16
+        ensures { result ≡ entity_of self.now v }
+    {
+        if v == self.side { self.own } else { self.other }
+    }
 }

@@ -3,13 +3,12 @@
 
 ghost use Rattle.std.specs.Prelude.{◌≡◌, ◌≤◌, ◌<◌};
 ghost use Rattle.negotiation.specs.laws.State.{state_of};
-ghost use Rattle.negotiation.specs.State.{fresh_state, with_node, with_edge, with_shown, with_mark, with_header};
+ghost use Rattle.negotiation.specs.State.{fresh_state, with_node, with_edge, with_shown, with_mark};
 ghost use Rattle.numbers.specs.Sizes.{MOST-NODES, MOST-EDGES, MOST-SHOWN};
 
-pub use counts::{counted, message_count};
 pub use decode::{candidate, read};
 pub use encode::{write, write_zeros};
-pub use ends::{MEDIATOR, REQUESTER, entity_of, requester};
+pub use ends::{MEDIATOR, REQUESTER};
 use expression::{Credential, Role};
 use graph::{Edge, Edges, Node, Nodes};
 use numbers::{MOST_EDGES, MOST_NODES, MOST_SHOWN, NEGOTIATION_BYTES};
@@ -99,9 +98,7 @@ impl Negotiation {
         requires { self.shown.count < MOST-SHOWN }
         ensures { state_of result ≡ with_shown (state_of self) c }
     {
-        let shown = self.shown;
-        let next = shown.add(c);
-        self.shown = next;
+        self.shown.push(c);
         self
     }
 
@@ -109,9 +106,7 @@ impl Negotiation {
         requires { self.nodes.count < MOST-NODES }
         ensures { state_of result ≡ with_node (state_of self) x }
     {
-        let nodes = self.nodes;
-        let next = nodes.add(x);
-        self.nodes = next;
+        self.nodes.push(x);
         self
     }
 
@@ -119,9 +114,7 @@ impl Negotiation {
         requires { self.edges.count < MOST-EDGES }
         ensures { state_of result ≡ with_edge (state_of self) e }
     {
-        let edges = self.edges;
-        let next = edges.add(e);
-        self.edges = next;
+        self.edges.push(e);
         self
     }
 
@@ -130,23 +123,7 @@ impl Negotiation {
         requires { (i < self.nodes.count) × (self.nodes.count ≤ MOST-NODES) }
         ensures { state_of result ≡ with_mark (state_of self) i state }
     {
-        let nodes = self.nodes;
-        let next = nodes.mark(i, state);
-        self.nodes = next;
+        self.nodes.mark(i, state);
         self
     }
-
-    pub fn with_header(mut self, h: Header) -> Self
-        ensures { state_of result ≡ with_header (state_of self) h }
-    {
-        self.header = h;
-        self
-    }
-}
-
-// The negotiation counts only where ok.
-#[derive(Clone, Copy)]
-pub struct Reading {
-    pub ok: bool,
-    pub negotiation: Negotiation,
 }

@@ -4,32 +4,25 @@
 ghost use Rattle.std.specs.Prelude.{◌≡◌, ◌*◌, length};
 ghost use Rattle.numbers.specs.Bytes.{EXPRESSION-BYTES};
 ghost use Rattle.question.specs.Question.{sized as sized_of, operand_of, yes_or_no, question_of};
+ghost use Rattle.question.specs.laws.Question.{decision_of};
 ghost use Rattle.numbers.specs.Answer.{answer_of};
 
 pub use credentials::list;
-use expression::{Credential, ExpressionAnswer, is_body, read_expression};
+use expression::{Credential, Expression, is_body, read_expression};
 use numbers::{EXPRESSION_BYTES, LENGTH, MOST_CREDENTIALS_BYTES, OPERAND};
 use relation::from;
-use rt0::Pool;
 
 mod credentials;
 
-// What stands next in a credential list: a credential, the end, or a command that is refused with a number.
+// What stands next in a credential list: a credential, or the end.
 #[derive(Clone, Copy)]
 pub enum Step {
     Taken(Credential),
     End,
-    Refused(u64),
-}
-
-// The credentials of a list where the refusal is 0; else the pool does not count.
-#[derive(Clone, Copy)]
-pub struct Listing {
-    pub refusal: u64,
-    pub pool: Pool,
 }
 
 // Whether the credentials, f and e have lengths within the sizes.
+#[tactic(auto, unfolding(crate::specs::Question::sized))]
 pub fn sized(c: usize, f: usize, e: usize) -> bool
     ensures { result ≡ sized_of c f e }
 {
@@ -44,38 +37,35 @@ fn answer(yes: bool) -> u64
 }
 
 // An expression of kinds 1 to 4.
-pub fn operand(s: &[u8]) -> ExpressionAnswer
+#[tactic(auto, unfolding(crate::specs::Question::operand_of))]
+pub fn operand(s: &[u8]) -> Option<Expression>
     requires { length s.now ≡ EXPRESSION-BYTES }
     ensures { result ≡ operand_of s.now }
 {
-    let ExpressionAnswer::Read(x) = read_expression(s, 0) else {
-        return ExpressionAnswer::Wrong;
-    };
-    if is_body(x) {
-        ExpressionAnswer::Read(x)
-    } else {
-        ExpressionAnswer::Wrong
+    let x = read_expression(s, 0)?;
+    if is_body(x) { Some(x) } else { None }
+}
+
+// Whether "f from e" over the lent credentials, or a refusal number.
+#[tactic(auto, unfolding(crate::specs::Question::sized, crate::specs::Question::question_of, crate::specs::laws::Credentials::listed_of))]
+fn decide(credentials: &[u8], f: &[u8], e: &[u8]) -> Result<bool, u64>
+    ensures { decision_of result ≡ question_of credentials.now f.now e.now }
+{
+    if !sized(credentials.len(), f.len(), e.len()) {
+        return Err(LENGTH);
     }
+    let pool = list(credentials)?;
+    let x = operand(f).ok_or(OPERAND)?;
+    let y = operand(e).ok_or(OPERAND)?;
+    Ok(from(&pool, x, y))
 }
 
 // Whether "f from e" over the lent credentials: 256 for yes, 0 for no, or a refusal number.
 pub fn question(credentials: &[u8], f: &[u8], e: &[u8]) -> u64
     ensures { result ≡ answer_of yes_or_no (question_of credentials.now f.now e.now) }
 {
-    if !sized(credentials.len(), f.len(), e.len()) {
-        return LENGTH;
+    match decide(credentials, f, e) {
+        Ok(yes) => answer(yes),
+        Err(refusal) => refusal,
     }
-    let listing = list(credentials);
-    let refusal = listing.refusal;
-    let pool = listing.pool;
-    if refusal != 0 {
-        return refusal;
-    }
-    let ExpressionAnswer::Read(x) = operand(f) else {
-        return OPERAND;
-    };
-    let ExpressionAnswer::Read(y) = operand(e) else {
-        return OPERAND;
-    };
-    answer(from(pool, x, y))
 }

@@ -1,8 +1,6 @@
 -- The records of the house tables and their bytes (document 01, "Bytes"). Assumes nothing.
-use Rattle.std.specs.Prelude.{ℕ, ◌+◌, ◌-◌, Bool, true, false, cond, ◌&&◌, ◌||◌, List, [], ◌∷◌, ◌++◌, ltb, eqb, length, get_or}
+use Rattle.std.specs.Prelude.{ℕ, ◌+◌, ◌-◌, Bool, true, false, cond, ◌&&◌, ◌||◌, List, [], ◌∷◌, ◌++◌, ltb, eqb, length, get_or, Option, Some, None, Result, Ok, Err}
 use Rattle.expression.specs.declared.Credential.{Credential}
-use Rattle.expression.specs.declared.CredentialAnswer.{CredentialAnswer}
-use Rattle.expression.specs.declared.CredentialAnswer.TheVariants as a
 use Rattle.expression.specs.Bytes.{number_at, number_bytes}
 use Rattle.expression.specs.Form.{is_role}
 use Rattle.expression.specs.Credential.{well_formed_credential, role_at, read_credential, role_bytes, credential_bytes}
@@ -10,8 +8,6 @@ use Rattle.class.specs.declared.Name.{Name}
 use Rattle.record.specs.declared.Pair.{Pair}
 use Rattle.record.specs.declared.Record.{Record}
 use Rattle.record.specs.declared.Record.TheVariants.{Own, Named, IssuerStored, SubjectStored, Sensitive, Access}
-use Rattle.record.specs.declared.RecordAnswer.{RecordAnswer}
-use Rattle.record.specs.declared.RecordAnswer.TheVariants.{Read, Refused}
 use Rattle.numbers.specs.Refusals.{COMMAND, OPERAND}
 use Rattle.numbers.specs.Bytes.{CREDENTIAL-BYTES, SELF-BYTES, NAME-BYTES, PAIR-BYTES}
 
@@ -42,36 +38,36 @@ paired true p = Access p
 paired false p = Sensitive p
 
 -- "2 .. cut command" ("From the input"), whatever its bytes
-abbrev pub whole : ℕ → List ℕ → ℕ → RecordAnswer → RecordAnswer
-whole size s at r = cond (ltb (length s - at) size) (Refused COMMAND) r
+abbrev pub whole : ℕ → List ℕ → ℕ → Result Record ℕ → Result Record ℕ
+whole size s at r = cond (ltb (length s - at) size) (Err COMMAND) r
 
 -- "3 an operand of wrong form"
-abbrev pub checked : Bool → Record → RecordAnswer
-checked b r = cond b (Read r) (Refused OPERAND)
+abbrev pub checked : Bool → Record → Result Record ℕ
+checked b r = cond b (Ok r) (Err OPERAND)
 
 -- "0x10 self (one number, once)"
-unfoldable pub own_at : List ℕ → ℕ → RecordAnswer
+unfoldable pub own_at : List ℕ → ℕ → Result Record ℕ
 own_at s at = whole SELF-BYTES s at (checked (ltb 0 (number_at s (at + 1))) (Own (number_at s (at + 1))))
 
 abbrev pub name_of : List ℕ → ℕ → Name
 name_of s at = record { name = number_at s at; class = get_or s (at + 2) 0 }
 
 -- "0x11 name, class byte"
-unfoldable pub name_at : List ℕ → ℕ → RecordAnswer
+unfoldable pub name_at : List ℕ → ℕ → Result Record ℕ
 name_at s at = whole NAME-BYTES s at (checked (formed_name (name_of s (at + 1))) (Named (name_of s (at + 1))))
 
-abbrev pub stored_of : Bool → CredentialAnswer → RecordAnswer
-stored_of subject (a.Read c) = Read (stored subject c)
-stored_of subject a.Wrong = Refused OPERAND
+abbrev pub stored_of : Bool → Option Credential → Result Record ℕ
+stored_of subject (Some c) = Ok (stored subject c)
+stored_of subject None = Err OPERAND
 
 -- "(operands of 0x01)"
-unfoldable pub stored_at : Bool → List ℕ → ℕ → RecordAnswer
+unfoldable pub stored_at : Bool → List ℕ → ℕ → Result Record ℕ
 stored_at subject s at = whole CREDENTIAL-BYTES s at (stored_of subject (read_credential s (at + 1)))
 
 abbrev pub pair_of : List ℕ → ℕ → Pair
 pair_of s at = record { role = role_at s at; other = role_at s (at + 4) }
 
-unfoldable pub pair_at : Bool → List ℕ → ℕ → RecordAnswer
+unfoldable pub pair_at : Bool → List ℕ → ℕ → Result Record ℕ
 pair_at access s at = whole PAIR-BYTES s at (checked (formed_pair (pair_of s (at + 1))) (paired access (pair_of s (at + 1))))
 
 -- how many bytes a record of a command has; zero: there is no such command
@@ -84,7 +80,7 @@ size_by code =
     0)))
 
 -- the record by its first byte; "2 unknown command"
-abbrev pub by_code : ℕ → List ℕ → ℕ → RecordAnswer
+abbrev pub by_code : ℕ → List ℕ → ℕ → Result Record ℕ
 by_code code s at =
     cond (eqb code 16) (own_at s at)
     (cond (eqb code 17) (name_at s at)
@@ -92,10 +88,10 @@ by_code code s at =
     (cond (eqb code 19) (stored_at true s at)
     (cond (eqb code 20) (pair_at false s at)
     (cond (eqb code 21) (pair_at true s at)
-    (Refused COMMAND))))))
+    (Err COMMAND))))))
 
 -- the record at an index
-unfoldable pub record_at : List ℕ → ℕ → RecordAnswer
+unfoldable pub record_at : List ℕ → ℕ → Result Record ℕ
 record_at s at = by_code (get_or s at 0) s at
 
 -- the bytes of a record

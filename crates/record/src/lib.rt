@@ -6,9 +6,7 @@ ghost use Rattle.record.specs.Record.{size_by, formed_name, formed_pair, stored 
 ghost use Rattle.record.specs.laws.Record.{stored_code, begins_stored};
 
 use class::Name;
-use expression::{
-    Credential, CredentialAnswer, Role, is_role, number_at, read_credential, role_at,
-};
+use expression::{Credential, Role, is_role, number_at, read_credential, role_at};
 use numbers::{COMMAND, CREDENTIAL_BYTES, NAME_BYTES, OPERAND, PAIR_BYTES, SELF_BYTES};
 
 // A sensitive role with its Ack role, or with its AC role.
@@ -29,13 +27,8 @@ pub enum Record {
     Access(Pair),
 }
 
-#[derive(Clone, Copy)]
-pub enum RecordAnswer {
-    Read(Record),
-    Refused(u64),
-}
-
 // How many bytes a record of a command has; zero: there is no such command.
+#[tactic(auto, unfolding(crate::specs::Record::size_by))]
 pub fn size_by(code: u8) -> usize
     ensures { result ≡ size_by code }
 {
@@ -55,18 +48,19 @@ pub fn size_by(code: u8) -> usize
 }
 
 // Self.
-fn own_at(s: &[u8], at: usize) -> RecordAnswer
+#[tactic(auto, unfolding(crate::specs::Record::own_at))]
+fn own_at(s: &[u8], at: usize) -> Result<Record, u64>
     requires { at < length s.now }
     ensures { result ≡ own_at s.now at }
 {
     if s.len() - at < SELF_BYTES {
-        return RecordAnswer::Refused(COMMAND);
+        return Err(COMMAND);
     }
     let own = number_at(s, at + 1);
     if own == 0 {
-        return RecordAnswer::Refused(OPERAND);
+        return Err(OPERAND);
     }
-    RecordAnswer::Read(Record::Own(own))
+    Ok(Record::Own(own))
 }
 
 // Whether a name is not zero and its class is 1 to 3.
@@ -77,21 +71,22 @@ fn formed_name(n: Name) -> bool
 }
 
 // A name and its class.
-fn name_at(s: &[u8], at: usize) -> RecordAnswer
+#[tactic(auto, unfolding(crate::specs::Record::name_at))]
+fn name_at(s: &[u8], at: usize) -> Result<Record, u64>
     requires { at < length s.now }
     ensures { result ≡ name_at s.now at }
 {
     if s.len() - at < NAME_BYTES {
-        return RecordAnswer::Refused(COMMAND);
+        return Err(COMMAND);
     }
     let n = Name {
         name: number_at(s, at + 1),
         class: s[at + 3],
     };
     if formed_name(n) {
-        RecordAnswer::Read(Record::Named(n))
+        Ok(Record::Named(n))
     } else {
-        RecordAnswer::Refused(OPERAND)
+        Err(OPERAND)
     }
 }
 
@@ -107,17 +102,16 @@ fn stored(subject: bool, c: Credential) -> Record
 }
 
 // A stored credential.
-fn stored_at(s: &[u8], at: usize, subject: bool) -> RecordAnswer
+#[tactic(auto, unfolding(crate::specs::Record::stored_at))]
+fn stored_at(s: &[u8], at: usize, subject: bool) -> Result<Record, u64>
     requires { at < length s.now }
     ensures { result ≡ stored_at subject s.now at }
 {
     if s.len() - at < CREDENTIAL_BYTES {
-        return RecordAnswer::Refused(COMMAND);
+        return Err(COMMAND);
     }
-    let CredentialAnswer::Read(c) = read_credential(s, at + 1) else {
-        return RecordAnswer::Refused(OPERAND);
-    };
-    RecordAnswer::Read(stored(subject, c))
+    let c = read_credential(s, at + 1).ok_or(OPERAND)?;
+    Ok(stored(subject, c))
 }
 
 // The first byte of a stored credential.
@@ -128,6 +122,7 @@ fn stored_code(subject: bool) -> u8
 }
 
 // Whether a stored credential begins at an index, and no byte of it is cut off.
+#[tactic(auto, unfolding(crate::specs::laws::Record::begins_stored))]
 pub fn begins_stored(s: &[u8], at: usize, subject: bool) -> bool
     requires { at < length s.now }
     ensures { result ≡ begins_stored subject s.now at }
@@ -156,26 +151,28 @@ fn paired(access: bool, p: Pair) -> Record
 }
 
 // A sensitive role and another role.
-fn pair_at(s: &[u8], at: usize, access: bool) -> RecordAnswer
+#[tactic(auto, unfolding(crate::specs::Record::pair_at))]
+fn pair_at(s: &[u8], at: usize, access: bool) -> Result<Record, u64>
     requires { at < length s.now }
     ensures { result ≡ pair_at access s.now at }
 {
     if s.len() - at < PAIR_BYTES {
-        return RecordAnswer::Refused(COMMAND);
+        return Err(COMMAND);
     }
     let p = Pair {
         role: role_at(s, at + 1),
         other: role_at(s, at + 5),
     };
     if formed_pair(p) {
-        RecordAnswer::Read(paired(access, p))
+        Ok(paired(access, p))
     } else {
-        RecordAnswer::Refused(OPERAND)
+        Err(OPERAND)
     }
 }
 
 // The record at an index.
-pub fn read_record(s: &[u8], at: usize) -> RecordAnswer
+#[tactic(auto, unfolding(crate::specs::Record::record_at))]
+pub fn read_record(s: &[u8], at: usize) -> Result<Record, u64>
     requires { at < length s.now }
     ensures { result ≡ record_at s.now at }
 {
@@ -187,6 +184,6 @@ pub fn read_record(s: &[u8], at: usize) -> RecordAnswer
         19 => stored_at(s, at, true),
         20 => pair_at(s, at, false),
         21 => pair_at(s, at, true),
-        _ => RecordAnswer::Refused(COMMAND),
+        _ => Err(COMMAND),
     }
 }

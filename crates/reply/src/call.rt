@@ -12,8 +12,7 @@ ghost use Rattle.reply.specs.laws.Reply.{first_open, Begins, Replies};
 ghost use Rattle.numbers.specs.Answer.{buffer_after, answer_of};
 ghost use Rattle.standing.specs.Buffers.{scratch_left};
 
-use crate::Replying;
-use crate::turns::{reply_from, replying};
+use crate::turns::reply_from;
 use applied::{after_message, step};
 use expression::{Expression, Role};
 use message::{Command, Opening, size_of, write_command};
@@ -31,59 +30,50 @@ fn fits(reply: usize, scratch: usize) -> bool
 }
 
 // The command that opens a negotiation about a role.
-fn first_open(house: House, wanted: Role) -> Command
-    requires { Housed house }
-    ensures { result ≡ first_open (tables_of house).names wanted }
+fn first_open(house: &House, wanted: Role) -> Command
+    requires { Housed house.now }
+    ensures { result ≡ first_open (tables_of house.now).names wanted }
 {
-    let names = house.names;
-    let state = initial_state(
-        names.count,
-        &names.name,
-        &names.class,
-        true,
-        Expression::Role(wanted),
-    );
     Command::Open(Opening {
         role: wanted,
-        state,
+        state: initial_state(&house.names, true, Expression::Role(wanted)),
     })
 }
 
-// The mediator's first reply starts with open.
-fn begun(house: House, n: Negotiation, s: &mut [u8]) -> Replying
-    requires { Housed house × (within (state_of n) ≡ true) × (MOST-MESSAGE-BYTES ≤ length s.old) }
-    ensures { Begins (tables_of house) (state_of n) s.old result s.new }
+// The mediator's first reply starts with open. How many bytes that is.
+fn begin(house: &House, n: &mut Negotiation, s: &mut [u8]) -> usize
+    requires { Housed house.now × (within (state_of n.old) ≡ true) × (MOST-MESSAGE-BYTES ≤ length s.old) }
+    ensures { Begins (tables_of house.now) (state_of n.old) s.old n.new result s.new }
 {
     if n.nodes.count != 0 {
-        return replying(0, n, 0, false);
+        return 0;
     }
     let h = n.header;
-    let wanted = h.wanted;
-    let c = first_open(house, wanted);
+    let c = first_open(house, h.wanted);
     write_command(s, 0, c);
-    let next = step(n, h.side, c);
-    replying(0, next, size_of(c), false)
+    step(n, h.side, c);
+    size_of(c)
 }
 
-// The moves of a reply; then the end is judged, and the end byte is written.
-fn replied_in(house: House, n: Negotiation, s: &mut [u8]) -> Replying
-    requires { Housed house × Sound (tables_of house) × (sound (tables_of house) (state_of n) ≡ true) × (within (state_of n) ≡ true)
+// The moves of a reply; then the end is judged, and the end byte is written. How many bytes the reply has, or why it is refused: then nothing changes.
+fn reply_in(house: House, n: &mut Negotiation, s: &mut [u8]) -> Result<usize, u64>
+    requires { Housed house × Sound (tables_of house) × (sound (tables_of house) (state_of n.old) ≡ true) × (within (state_of n.old) ≡ true)
         × (MOST-MESSAGE-BYTES ≤ length s.old) }
-    ensures { Replies (tables_of house) (state_of n) s.old result s.new }
+    ensures { Replies (tables_of house) (state_of n.old) s.old n.new result s.new }
 {
     let h = n.header;
     if h.end != 0 {
-        return replying(ENDED, n, 0, false);
+        return Err(ENDED);
     }
     if !sends(h.side, h.messages) {
-        return replying(TURN, n, 0, false);
+        return Err(TURN);
     }
-    let b = begun(house, n, s);
+    let begun = begin(&house, n, s);
     let own = prepare(house);
-    let r = reply_from(own, b.negotiation, b.at, s);
-    let after = after_message(h.side, r.negotiation, r.at != 0, r.full);
+    let r = reply_from(&own, n, begun, s);
+    after_message(n, h.side, r.at != 0, r.full);
     write_command(s, r.at, Command::End);
-    replying(0, after, r.at + 1, r.full)
+    Ok(r.at + 1)
 }
 
 // The negotiation goes on by our reply, which is written into its buffer: 256 times its length, or a refusal number, and then nothing changes.
@@ -99,15 +89,15 @@ pub fn reply(tables: &[u8], negotiation: &mut [u8], reply: &mut [u8], scratch: &
     if !fits(reply.len(), scratch.len()) {
         return LENGTH;
     }
-    let r = restore(tables, negotiation);
-    if r.refusal != 0 {
-        return r.refusal;
-    }
-    let t = replied_in(r.house, r.negotiation, reply);
-    if t.refusal != 0 {
-        return t.refusal;
-    }
-    write(t.negotiation, negotiation);
+    let mut r = match restore(tables, negotiation) {
+        Ok(r) => r,
+        Err(k) => return k,
+    };
+    let at = match reply_in(r.house, &mut r.negotiation, reply) {
+        Ok(at) => at,
+        Err(k) => return k,
+    };
+    write(&r.negotiation, negotiation);
     write_zeros(scratch, 0, SCRATCH_BYTES);
-    t.at as u64 * 256
+    at as u64 * 256
 }

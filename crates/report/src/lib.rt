@@ -57,25 +57,21 @@ fn pack(
 }
 
 // What is reported on node i, in one number.
-fn report_on(n: Negotiation, i: usize) -> u64
-    requires { (i < n.nodes.count) × (n.nodes.count ≤ MOST-NODES) × (n.edges.count ≤ MOST-EDGES) × (n.shown.count ≤ MOST-SHOWN)
-        × (n.header.messages.mediator < 1024) × (n.header.messages.requester < 1024)
-        × NodesFormed (nodes_of n.nodes) × EdgesFormed (nodes_of n.nodes) (edges_of n.edges) }
-    ensures { (result ≡ packed (report_on (state_of n) i)) × (result < 36028797018963968) }
+fn report_on(n: &Negotiation, i: usize) -> u64
+    requires { (i < n.now.nodes.count) × (n.now.nodes.count ≤ MOST-NODES) × (n.now.edges.count ≤ MOST-EDGES) × (n.now.shown.count ≤ MOST-SHOWN)
+        × (n.now.header.messages.mediator < 1024) × (n.now.header.messages.requester < 1024)
+        × NodesFormed (nodes_of n.now.nodes) × EdgesFormed (nodes_of n.now.nodes) (edges_of n.now.edges) }
+    ensures { (result ≡ packed (report_on (state_of n.now) i)) × (result < 36028797018963968) }
 {
-    let h = n.header;
-    let nodes = n.nodes;
-    let edges = n.edges;
-    let shown = n.shown;
-    let propagated = state_of(nodes, edges, i);
+    let propagated = state_of(&n.nodes, &n.edges, i);
     pack(
-        nodes.state[i],
+        n.nodes.state[i],
         propagated,
-        h.end,
-        nodes.count,
-        edges.count,
-        shown.count,
-        h.messages,
+        n.header.end,
+        n.nodes.count,
+        n.edges.count,
+        n.shown.count,
+        n.header.messages,
     )
 }
 
@@ -83,15 +79,13 @@ fn report_on(n: Negotiation, i: usize) -> u64
 pub fn report(tables: &[u8], negotiation: &[u8], node: u8) -> u64
     ensures { result ≡ answer_of packed (report_of tables.now negotiation.now node) }
 {
-    let r = restore(tables, negotiation);
-    if r.refusal != 0 {
-        return r.refusal;
-    }
-    let n = r.negotiation;
+    let r = match restore(tables, negotiation) {
+        Ok(r) => r,
+        Err(k) => return k,
+    };
     let i = node as usize;
-    let nodes = n.nodes;
-    if nodes.count <= i {
+    if r.negotiation.nodes.count <= i {
         return ABSENT;
     }
-    report_on(n, i) * 256
+    report_on(&r.negotiation, i) * 256
 }

@@ -4,12 +4,12 @@
 ghost use Rattle.std.specs.Prelude.{◌≡◌, false, [], ◌∷◌, ◌++◌, ◌≤◌, ◌<◌, ◌+◌, ◌*◌};
 ghost use Rattle.expression.specs.Same.{same_role};
 ghost use Rattle.expression.specs.laws.Key.{KeyOf};
-ghost use Rattle.rt0.specs.laws.Pool.{pool_of, head_in, raw_at_columns, expression_in, credentials as credentials_of};
+ghost use Rattle.rt0.specs.laws.Pool.{head_at, body_at, credential_at, raw_at_columns, expression_in, credentials as credentials_of};
 ghost use Rattle.rt0.specs.laws.Heads.{NoHead};
 ghost use Rattle.rt0.specs.laws.Added.{pair, stored, Sized, Stored};
 
 use expression::{Credential, Expression, Raw, Role, expression_of, key_of, raw_of};
-pub use shown::{is_at, is_shown, same_expression};
+pub use shown::same_expression;
 
 mod shown;
 
@@ -34,31 +34,73 @@ impl Pool {
         }
     }
 
-    pub fn add(self, c: Credential) -> Self
-        requires { self.count < 128 }
-        ensures { credentials_of result ≡ credentials_of self ++ (c ∷ []) }
+    // The credential c becomes the last one.
+    pub fn push(&mut self, c: Credential)
+        requires { self.old.count < 128 }
+        ensures added { credentials_of self.new ≡ credentials_of self.old ++ (c ∷ []) }
+        ensures stored { Stored self.old.count c self.old self.new }
     {
         let i = self.count;
-        let mut heads = self.heads;
-        let mut kinds = self.kinds;
-        let mut numbers = self.numbers;
-        store(&mut heads, &mut kinds, &mut numbers, i, c);
-        Self {
-            count: i + 1,
-            heads,
-            kinds,
-            numbers,
+        let raw = raw_of(c.body);
+        self.heads[i * 2] = c.head.entity;
+        self.heads[i * 2 + 1] = c.head.name;
+        store_kind(&mut self.kinds, i, raw);
+        store_numbers(&mut self.numbers, i, raw);
+        self.count = i + 1;
+    }
+
+    // The head of credential i.
+    pub fn head(&self, i: usize) -> Role
+        requires { i < 128 }
+        ensures { result ≡ head_at self.now i }
+    {
+        Role {
+            entity: self.heads[i * 2],
+            name: self.heads[i * 2 + 1],
         }
     }
-}
 
-// The role p goes into a column of heads as number i.
-pub fn store_head(heads: &mut [u16; 256], i: usize, p: Role)
-    requires { i < 128 }
-    ensures { heads.new ≡ pair heads.old (i * 2) p.entity p.name }
-{
-    heads[i * 2] = p.entity;
-    heads[i * 2 + 1] = p.name;
+    // The body of credential i.
+    pub fn body(&self, i: usize) -> Expression
+        requires { i < 128 }
+        ensures { result ≡ body_at self.now i }
+    {
+        expression_at(&self.kinds, &self.numbers, i)
+    }
+
+    // Credential i.
+    pub fn credential(&self, i: usize) -> Credential
+        requires { i < 128 }
+        ensures { result ≡ credential_at self.now i }
+    {
+        Credential {
+            head: self.head(i),
+            body: self.body(i),
+        }
+    }
+
+    // Whether credential i has the head with this key.
+    pub fn has_head(&self, key: u32, i: usize) -> bool
+        requires { i < 128 }
+        ensures { (p : Role) → KeyOf p key → result ≡ same_role (head_at self.now i) p }
+    {
+        key_of(self.head(i)) == key
+    }
+
+    // Whether one of the eight credentials from i on has the head with this key. All are looked at, so that they are compared at once.
+    pub fn some_head(&self, key: u32, i: usize) -> bool
+        requires { i ≤ 120 }
+        ensures { (p : Role) → KeyOf p key → result ≡ false → NoHead self.now.heads p i (i + 8) }
+    {
+        self.has_head(key, i)
+            | self.has_head(key, i + 1)
+            | self.has_head(key, i + 2)
+            | self.has_head(key, i + 3)
+            | self.has_head(key, i + 4)
+            | self.has_head(key, i + 5)
+            | self.has_head(key, i + 6)
+            | self.has_head(key, i + 7)
+    }
 }
 
 // The kind and the part count of an expression go into their column as number i.
@@ -86,61 +128,7 @@ pub fn store_numbers(numbers: &mut [u16; 1024], i: usize, r: Raw)
     numbers[at + 7] = r.n7;
 }
 
-// The credential c goes into the columns as number i.
-pub fn store<'a>(
-    heads: &'a mut [u16; 256],
-    kinds: &'a mut [u8; 256],
-    numbers: &'a mut [u16; 1024],
-    i: usize,
-    c: Credential,
-)
-    requires { (i < 128) × Sized (pool_of i heads.old kinds.old numbers.old) }
-    ensures { Stored i c (pool_of i heads.old kinds.old numbers.old)
-        (pool_of (i + 1) heads.new kinds.new numbers.new) }
-{
-    let head = c.head;
-    let body = c.body;
-    let r = raw_of(body);
-    store_head(heads, i, head);
-    store_kind(kinds, i, r);
-    store_numbers(numbers, i, r);
-}
-
-// The head of credential i.
-pub fn head_at<'a>(heads: &'a [u16; 256], i: usize) -> Role
-    requires { i < 128 }
-    ensures { result ≡ head_in heads.now i }
-{
-    Role {
-        entity: heads[i * 2],
-        name: heads[i * 2 + 1],
-    }
-}
-
-// Whether credential i has the head with this key.
-pub fn has_head<'a>(heads: &'a [u16; 256], key: u32, i: usize) -> bool
-    requires { i < 128 }
-    ensures { (p : Role) → KeyOf p key → result ≡ same_role (head_in heads.now i) p }
-{
-    key_of(head_at(heads, i)) == key
-}
-
-// Whether one of the eight credentials from i on has the head with this key. All are looked at, so that they are compared at once.
-pub fn some_head<'a>(heads: &'a [u16; 256], key: u32, i: usize) -> bool
-    requires { i ≤ 120 }
-    ensures { (p : Role) → KeyOf p key → result ≡ false → NoHead heads.now p i (i + 8) }
-{
-    has_head(heads, key, i)
-        | has_head(heads, key, i + 1)
-        | has_head(heads, key, i + 2)
-        | has_head(heads, key, i + 3)
-        | has_head(heads, key, i + 4)
-        | has_head(heads, key, i + 5)
-        | has_head(heads, key, i + 6)
-        | has_head(heads, key, i + 7)
-}
-
-fn raw_at<'a>(kinds: &'a [u8; 256], numbers: &'a [u16; 1024], i: usize) -> Raw
+fn raw_at(kinds: &[u8; 256], numbers: &[u16; 1024], i: usize) -> Raw
     requires { i < 128 }
     ensures { result ≡ raw_at_columns kinds.now numbers.now i }
 {
@@ -159,8 +147,8 @@ fn raw_at<'a>(kinds: &'a [u8; 256], numbers: &'a [u16; 1024], i: usize) -> Raw
     }
 }
 
-// The body of credential i.
-pub fn expression_at<'a>(kinds: &'a [u8; 256], numbers: &'a [u16; 1024], i: usize) -> Expression
+// Expression i of columns.
+pub fn expression_at(kinds: &[u8; 256], numbers: &[u16; 1024], i: usize) -> Expression
     requires { i < 128 }
     ensures { result ≡ expression_in kinds.now numbers.now i }
 {

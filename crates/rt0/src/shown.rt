@@ -1,22 +1,17 @@
 // A credential among those of a pool.
 ghost use Rattle.std.specs.Prelude.{◌≡◌, ◌≤◌, ◌<◌};
-ghost use Rattle.rt0.specs.laws.Pool.{pool_of, expression_in, credential_in, credentials};
+ghost use Rattle.rt0.specs.laws.Pool.{pool_of, body_at, credential_at, expression_in, credentials};
 ghost use Rattle.expression.specs.declared.Expression.{Expression};
 ghost use Rattle.expression.specs.Form.{raw_of};
 ghost use Rattle.expression.specs.Same.{same as same_of, same_credential};
 ghost use Rattle.expression.specs.laws.Key.{KeyOf};
 ghost use Rattle.rt0.specs.Shown.{is_shown};
 
-use crate::{expression_at, has_head};
+use crate::{Pool, expression_at};
 use expression::{Credential, Raw, key_of, raw_of, same_raw};
 
-// Whether body i is the expression whose numbers are those of raw.
-pub fn same_expression<'a>(
-    kinds: &'a [u8; 256],
-    numbers: &'a [u16; 1024],
-    raw: Raw,
-    i: usize,
-) -> bool
+// Whether expression i of columns is the one whose numbers are those of raw.
+pub fn same_expression(kinds: &[u8; 256], numbers: &[u16; 1024], raw: Raw, i: usize) -> bool
     requires { i < 128 }
     ensures { (e : Expression) → raw ≡ raw_of e → result ≡ same_of (expression_in kinds.now numbers.now i) e }
 {
@@ -35,46 +30,39 @@ pub fn same_expression<'a>(
     same_raw(raw_of(expression_at(kinds, numbers, i)), raw)
 }
 
-// Credential i has the head with this key, and the body whose numbers are those of raw.
-pub fn is_at<'a>(
-    heads: &'a [u16; 256],
-    kinds: &'a [u8; 256],
-    numbers: &'a [u16; 1024],
-    key: u32,
-    raw: Raw,
-    i: usize,
-) -> bool
-    requires { i < 128 }
-    ensures { (c : Credential) → KeyOf c.head key → raw ≡ raw_of c.body
-        → result ≡ same_credential (credential_in heads.now kinds.now numbers.now i) c }
-{
-    if !has_head(heads, key, i) {
-        return false;
+impl Pool {
+    // Whether body i is the expression whose numbers are those of raw.
+    pub fn is_body(&self, raw: Raw, i: usize) -> bool
+        requires { i < 128 }
+        ensures { (e : Expression) → raw ≡ raw_of e → result ≡ same_of (body_at self.now i) e }
+    {
+        same_expression(&self.kinds, &self.numbers, raw, i)
     }
-    same_expression(kinds, numbers, raw, i)
-}
 
-// Whether c is one of the first n credentials.
-pub fn is_shown<'a>(
-    n: usize,
-    heads: &'a [u16; 256],
-    kinds: &'a [u8; 256],
-    numbers: &'a [u16; 1024],
-    c: Credential,
-) -> bool
-    requires { n ≤ 128 }
-    ensures { result ≡ is_shown (credentials (pool_of n heads.now kinds.now numbers.now)) c }
-{
-    let head = c.head;
-    let key = key_of(head);
-    let body = c.body;
-    let raw = raw_of(body);
-    let mut i = 0;
-    while i < n {
-        if is_at(heads, kinds, numbers, key, raw, i) {
-            return true;
+    // Credential i has the head with this key, and the body whose numbers are those of raw.
+    pub fn is_at(&self, key: u32, raw: Raw, i: usize) -> bool
+        requires { i < 128 }
+        ensures { (c : Credential) → KeyOf c.head key → raw ≡ raw_of c.body
+            → result ≡ same_credential (credential_at self.now i) c }
+    {
+        if !self.has_head(key, i) {
+            return false;
         }
-        i += 1;
+        self.is_body(raw, i)
     }
-    false
+
+    // Whether c is one of the first n credentials.
+    pub fn is_shown(&self, n: usize, c: Credential) -> bool
+        requires { n ≤ 128 }
+        ensures { result ≡ is_shown (credentials (pool_of n self.now.heads self.now.kinds self.now.numbers)) c }
+    {
+        let key = key_of(c.head);
+        let raw = raw_of(c.body);
+        for i in 0..n {
+            if self.is_at(key, raw, i) {
+                return true;
+            }
+        }
+        false
+    }
 }

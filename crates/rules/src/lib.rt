@@ -5,20 +5,18 @@
 #![tactic(auto)]
 
 ghost use Rattle.std.specs.Prelude.{◌≡◌, ◌<◌, ◌≤◌, ◌*◌};
-ghost use Rattle.rt0.specs.laws.Pool.{pool_of};
-ghost use Rattle.rules.specs.laws.Table.{row_of, row_in, third, fourth};
-ghost use Rattle.rules.specs.laws.Columns.{four_rows, first_row, is_linked, Column, head_row_in, body_first, PartsTo};
+ghost use Rattle.rules.specs.laws.Table.{row_of, third, fourth};
+ghost use Rattle.rules.specs.laws.Columns.{four_rows, first_row, Column, head_row, body_first, PartsTo};
 ghost use Rattle.rules.specs.laws.Digits.{HeadsIn};
 ghost use Rattle.rules.specs.laws.Ruled.{Ruled};
 
 use closure::Rules;
-use digits::{find_row, note_heads};
+use digits::HeadTables;
 pub use digits::{find_source, note_bodies, open_table};
 use expression::{Expression, Parts, Role};
-use linking::{has_link, has_links, names};
-pub use linking::{linkable, name_link};
+use linking::{has_link, has_links, linkable, names};
 pub use rows::{row, source};
-use rt0::{expression_at, head_at};
+use rt0::Pool;
 
 mod digits;
 mod linking;
@@ -64,49 +62,31 @@ pub fn fourth_of(p: Parts) -> Role
 }
 
 // The rows of an intersection's roles.
-fn meet_rows<'a>(
-    n: usize,
-    heads: &'a [u16; 256],
-    entity: &'a [u64; 260],
-    name: &'a [u64; 260],
-    p: Parts,
-) -> Four
-    requires { (n ≤ 128) × HeadsIn heads.now n entity.now name.now }
-    ensures { result ≡ four_rows (row_in n heads.now) (Expression.Intersection p) }
+fn meet_rows(pool: &Pool, tables: &HeadTables, p: Parts) -> Four
+    requires { (pool.now.count ≤ 128) × HeadsIn pool.now.heads pool.now.count tables.now.entity tables.now.name }
+    ensures { result ≡ four_rows (row_of pool.now) (Expression.Intersection p) }
 {
-    let a = find_row(n, heads, entity, name, p.first);
-    let b = find_row(n, heads, entity, name, p.second);
+    let a = tables.row(pool, p.first);
+    let b = tables.row(pool, p.second);
     if p.count == 2 {
         return Four { a, b, c: a, d: a };
     }
-    let c = find_row(n, heads, entity, name, p.third);
+    let c = tables.row(pool, p.third);
     if p.count == 3 {
         return Four { a, b, c, d: a };
     }
-    let d = find_row(n, heads, entity, name, p.fourth);
+    let d = tables.row(pool, p.fourth);
     Four { a, b, c, d }
 }
 
 // The rows of the rule of x.
-pub fn rows_of<'a>(
-    n: usize,
-    heads: &'a [u16; 256],
-    entity: &'a [u64; 260],
-    name: &'a [u64; 260],
-    x: Expression,
-) -> Four
-    requires { (n ≤ 128) × HeadsIn heads.now n entity.now name.now }
-    ensures { result ≡ four_rows (row_in n heads.now) x }
+fn rows_of(pool: &Pool, tables: &HeadTables, x: Expression) -> Four
+    requires { (pool.now.count ≤ 128) × HeadsIn pool.now.heads pool.now.count tables.now.entity tables.now.name }
+    ensures { result ≡ four_rows (row_of pool.now) x }
 {
     match x {
-        Expression::Entity(_) => Four {
-            a: 128,
-            b: 128,
-            c: 128,
-            d: 128,
-        },
         Expression::Role(p) => {
-            let r = find_row(n, heads, entity, name, p);
+            let r = tables.row(pool, p);
             Four {
                 a: r,
                 b: r,
@@ -114,14 +94,8 @@ pub fn rows_of<'a>(
                 d: r,
             }
         }
-        Expression::Linked(_, _) => Four {
-            a: 128,
-            b: 128,
-            c: 128,
-            d: 128,
-        },
-        Expression::Intersection(p) => meet_rows(n, heads, entity, name, p),
-        Expression::Goal(_) => Four {
+        Expression::Intersection(p) => meet_rows(pool, tables, p),
+        _ => Four {
             a: 128,
             b: 128,
             c: 128,
@@ -131,124 +105,64 @@ pub fn rows_of<'a>(
 }
 
 // The membership row of the rule of x: that of a in a link a.m.
-pub fn first_of<'a>(
-    n: usize,
-    heads: &'a [u16; 256],
-    entity: &'a [u64; 260],
-    name: &'a [u64; 260],
-    x: Expression,
-) -> usize
-    requires { (n ≤ 128) × HeadsIn heads.now n entity.now name.now }
-    ensures { result ≡ first_row (row_in n heads.now) x }
+fn first_of(pool: &Pool, tables: &HeadTables, x: Expression) -> usize
+    requires { (pool.now.count ≤ 128) × HeadsIn pool.now.heads pool.now.count tables.now.entity tables.now.name }
+    ensures { result ≡ first_row (row_of pool.now) x }
 {
     match x {
-        Expression::Entity(_) => 128,
-        Expression::Role(_) => 128,
-        Expression::Linked(a, _) => find_row(n, heads, entity, name, a),
-        Expression::Intersection(_) => 128,
-        Expression::Goal(_) => 128,
-    }
-}
-
-// Whether x is a link.
-pub fn is_linked(x: Expression) -> bool
-    ensures { result ≡ is_linked x }
-{
-    match x {
-        Expression::Entity(_) => false,
-        Expression::Role(_) => false,
-        Expression::Linked(_, _) => true,
-        Expression::Intersection(_) => false,
-        Expression::Goal(_) => false,
+        Expression::Linked(a, _) => tables.row(pool, a),
+        _ => 128,
     }
 }
 
 // The rows of the heads.
-fn head_rows<'a>(
-    n: usize,
-    heads: &'a [u16; 256],
-    entity: &'a [u64; 260],
-    name: &'a [u64; 260],
-) -> [usize; 128]
-    requires { (n ≤ 128) × HeadsIn heads.now n entity.now name.now }
-    ensures { Column (head_row_in n heads.now) 128 130 n result }
+fn head_rows(pool: &Pool, tables: &HeadTables) -> [usize; 128]
+    requires { (pool.now.count ≤ 128) × HeadsIn pool.now.heads pool.now.count tables.now.entity tables.now.name }
+    ensures { Column (head_row pool.now) 128 130 pool.now.count result }
 {
     let mut head = [128usize; 128];
-    let mut i = 0;
-    while i < n {
-        let p = head_at(heads, i);
-        let r = find_row(n, heads, entity, name, p);
-        head[i] = r;
-        i += 1;
+    for i in 0..pool.count {
+        head[i] = tables.row(pool, pool.head(i));
     }
     head
 }
 
 // The membership row of rule i.
-fn first_at<'a>(
-    n: usize,
-    heads: &'a [u16; 256],
-    kinds: &'a [u8; 256],
-    numbers: &'a [u16; 1024],
-    entity: &'a [u64; 260],
-    name: &'a [u64; 260],
-    i: usize,
-) -> usize
-    requires { (n ≤ 128) × (i < 128) × HeadsIn heads.now n entity.now name.now }
-    ensures { result ≡ body_first (pool_of n heads.now kinds.now numbers.now) i }
+fn first_at(pool: &Pool, tables: &HeadTables, i: usize) -> usize
+    requires { (pool.now.count ≤ 128) × (i < 128) × HeadsIn pool.now.heads pool.now.count tables.now.entity tables.now.name }
+    ensures { result ≡ body_first pool.now i }
 {
-    if !has_link(kinds, i) {
+    if !has_link(pool, i) {
         return 128;
     }
-    first_of(n, heads, entity, name, expression_at(kinds, numbers, i))
+    first_of(pool, tables, pool.body(i))
 }
 
 // The membership rows of the rules.
-fn first_rows<'a>(
-    n: usize,
-    heads: &'a [u16; 256],
-    kinds: &'a [u8; 256],
-    numbers: &'a [u16; 1024],
-    entity: &'a [u64; 260],
-    name: &'a [u64; 260],
-) -> [usize; 128]
-    requires { (n ≤ 128) × HeadsIn heads.now n entity.now name.now }
-    ensures { Column (body_first (pool_of n heads.now kinds.now numbers.now)) 128 130 n result }
+fn first_rows(pool: &Pool, tables: &HeadTables) -> [usize; 128]
+    requires { (pool.now.count ≤ 128) × HeadsIn pool.now.heads pool.now.count tables.now.entity tables.now.name }
+    ensures { Column (body_first pool.now) 128 130 pool.now.count result }
 {
     let mut first = [128usize; 128];
-    let mut i = 0;
-    while i < n {
-        let r = first_at(n, heads, kinds, numbers, entity, name, i);
-        first[i] = r;
-        i += 1;
+    for i in 0..pool.count {
+        first[i] = first_at(pool, tables, i);
     }
     first
 }
 
 // The four rows of each rule.
-fn part_rows<'a>(
-    n: usize,
-    heads: &'a [u16; 256],
-    kinds: &'a [u8; 256],
-    numbers: &'a [u16; 1024],
-    entity: &'a [u64; 260],
-    name: &'a [u64; 260],
-) -> [usize; 512]
-    requires { (n ≤ 128) × HeadsIn heads.now n entity.now name.now }
-    ensures { PartsTo (row_of (pool_of n heads.now kinds.now numbers.now))
-        (pool_of n heads.now kinds.now numbers.now) n result }
+fn part_rows(pool: &Pool, tables: &HeadTables) -> [usize; 512]
+    requires { (pool.now.count ≤ 128) × HeadsIn pool.now.heads pool.now.count tables.now.entity tables.now.name }
+    ensures { PartsTo (row_of pool.now) pool.now pool.now.count result }
 {
     let mut part = [128usize; 512];
-    let mut i = 0;
-    while i < n {
-        let x = expression_at(kinds, numbers, i);
-        let r = rows_of(n, heads, entity, name, x);
+    for i in 0..pool.count {
+        let r = rows_of(pool, tables, pool.body(i));
         let at = i * 4;
         part[at] = r.a;
         part[at + 1] = r.b;
         part[at + 2] = r.c;
         part[at + 3] = r.d;
-        i += 1;
     }
     part
 }
@@ -262,34 +176,25 @@ fn words_for(n: usize) -> usize
 }
 
 // The rules of a pool.
-pub fn rules_of<'a>(
-    n: usize,
-    heads: &'a [u16; 256],
-    kinds: &'a [u8; 256],
-    numbers: &'a [u16; 1024],
-) -> Rules
-    requires { n ≤ 128 }
-    ensures { Ruled (pool_of n heads.now kinds.now numbers.now) result }
+pub fn rules_of(pool: &Pool) -> Rules
+    requires { pool.now.count ≤ 128 }
+    ensures { Ruled pool.now result }
 {
-    let mut entity = [0u64; 260];
-    let mut name = [0u64; 260];
-    note_heads(n, heads, &mut entity, &mut name);
-    let head = head_rows(n, heads, &entity, &name);
-    let part = part_rows(n, heads, kinds, numbers, &entity, &name);
-    let first = first_rows(n, heads, kinds, numbers, &entity, &name);
-    let lit = has_links(n, kinds);
-    let links = linkable(n, heads, kinds, numbers, &head, lit);
-    let src = links.src;
-    let able = links.able;
-    let named = names(n, heads, kinds, numbers, &able);
-    let words = words_for(n);
+    let tables = HeadTables::of(pool);
+    let head = head_rows(pool, &tables);
+    let part = part_rows(pool, &tables);
+    let first = first_rows(pool, &tables);
+    let lit = has_links(pool);
+    let links = linkable(pool, &head, lit);
+    let named = names(pool, &links.able);
+    let words = words_for(pool.count);
     Rules {
-        count: n,
+        count: pool.count,
         words,
         head,
         part,
         first,
         named,
-        src,
+        src: links.src,
     }
 }

@@ -1,56 +1,52 @@
 // The row of a role and the bit of an entity.
 ghost use Rattle.std.specs.Prelude.{◌≡◌, ◌<◌, ◌≤◌};
-ghost use Rattle.rules.specs.laws.Table.{is_head_in, row_in, is_body_in, bit_in};
+ghost use Rattle.rules.specs.laws.Table.{is_head, row_of, is_body, bit_of};
 
 use expression::{Role, key_of};
-use rt0::has_head;
+use rt0::Pool;
 
 // Whether credential j has p as its head.
-pub fn is_head<'a>(heads: &'a [u16; 256], p: Role, j: usize) -> bool
+pub fn is_head(pool: &Pool, p: Role, j: usize) -> bool
     requires { j < 128 }
-    ensures { result ≡ is_head_in heads.now p j }
+    ensures { result ≡ is_head pool.now p j }
 {
-    has_head(heads, key_of(p), j)
+    pool.has_head(key_of(p), j)
 }
 
 // The row of the role p.
-pub fn row<'a>(n: usize, heads: &'a [u16; 256], p: Role) -> usize
-    requires { n ≤ 128 }
-    ensures { result ≡ row_in n heads.now p }
+pub fn row(pool: &Pool, p: Role) -> usize
+    requires { pool.now.count ≤ 128 }
+    ensures { result ≡ row_of pool.now p }
 {
     let key = key_of(p);
-    let mut j = 0;
-    while j < n {
-        if has_head(heads, key, j) {
+    for j in 0..pool.count {
+        if pool.has_head(key, j) {
             return j;
         }
-        j += 1;
     }
     128
 }
 
 // Whether credential s has the entity b as its body.
-pub fn is_body<'a>(kinds: &'a [u8; 256], numbers: &'a [u16; 1024], b: u16, s: usize) -> bool
+pub fn is_body(pool: &Pool, b: u16, s: usize) -> bool
     requires { s < 128 }
-    ensures { result ≡ is_body_in kinds.now numbers.now b s }
+    ensures { result ≡ is_body pool.now b s }
 {
-    if numbers[s * 8] != b {
+    if pool.numbers[s * 8] != b {
         return false;
     }
-    kinds[s * 2] == 1
+    pool.kinds[s * 2] == 1
 }
 
 // The bit of the entity b.
-pub fn source<'a>(n: usize, kinds: &'a [u8; 256], numbers: &'a [u16; 1024], b: u16) -> usize
-    requires { n ≤ 128 }
-    ensures { result ≡ bit_in n kinds.now numbers.now b }
+pub fn source(pool: &Pool, b: u16) -> usize
+    requires { pool.now.count ≤ 128 }
+    ensures { result ≡ bit_of pool.now b }
 {
-    let mut s = 0;
-    while s < n {
-        if is_body(kinds, numbers, b, s) {
+    for s in 0..pool.count {
+        if is_body(pool, b, s) {
             return s;
         }
-        s += 1;
     }
     128
 }

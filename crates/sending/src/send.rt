@@ -12,72 +12,41 @@ ghost use Rattle.sending.specs.laws.Edge.{EdgeSent};
 
 use crate::commands::edge_command;
 use crate::credentials::{alone, direct_for, needed_for};
-use graph::{IMPLICATION, node_of};
+use crate::unshown::Unshown;
+use graph::IMPLICATION;
 use message::Command;
 use moves::{Candidate, Choice, Found, Outgoing, Preparation};
 use negotiation::Negotiation;
+use word::wide;
 
 // An edge into node i behind the credentials it needs.
-fn edge<'a>(
-    own: Preparation,
-    n: Negotiation,
-    seen: &'a mut [usize; 2],
-    issuer: &'a mut [u8; 128],
-    subject: &'a mut [u8; 128],
-    i: u8,
-    w: Candidate,
-) -> Outgoing
-    requires { Prepared own × (within (state_of n) ≡ true) × (i < n.nodes.count)
-        × Fresh (credentials n.shown) own seen.old issuer.old subject.old }
-    ensures sent { EdgeSent (end_in (tables_of own.house) (state_of n)) i w result }
-    ensures fresh { Fresh (credentials n.shown) own seen.new issuer.new subject.new }
+fn edge(own: &Preparation, n: &Negotiation, unshown: &mut Unshown, i: u8, w: Candidate) -> Outgoing
+    requires { Prepared own.now × (within (state_of n.now) ≡ true) × (i < n.now.nodes.count)
+        × Fresh (credentials n.now.shown) own.now unshown.old.seen unshown.old.issuer unshown.old.subject }
+    ensures sent { EdgeSent (end_in (tables_of own.now.house) (state_of n.now)) i w result }
+    ensures fresh { Fresh (credentials n.now.shown) own.now unshown.new.seen unshown.new.issuer unshown.new.subject }
 {
-    let house = own.house;
-    let header = n.header;
-    let nodes = n.nodes;
-    let shown = n.shown;
-    let names = house.names;
-    let command = edge_command(names, header.side, nodes, i, w);
+    let command = edge_command(&own.house.names, n.header.side, &n.nodes, i, w);
     if w.kind != IMPLICATION {
         return alone(command);
     }
-    let x = node_of(nodes, i);
+    let x = n.nodes.node(wide(i));
     if w.direct {
-        let f = x.expression;
-        return direct_for(house.own, shown, f, command);
+        return direct_for(own.house.own, &n.shown, x.expression, command);
     }
-    let e = w.expression;
-    needed_for(
-        own,
-        header.side,
-        shown,
-        seen,
-        issuer,
-        subject,
-        x,
-        e,
-        command,
-    )
+    needed_for(own, n, unshown, x, w.expression, command)
 }
 
-// The move that is found. Flags of own credentials that are not shown, and of how many of those shown they speak, are kept beside.
-pub fn outgoing<'a>(
-    own: Preparation,
-    n: Negotiation,
-    seen: &'a mut [usize; 2],
-    issuer: &'a mut [u8; 128],
-    subject: &'a mut [u8; 128],
-    found: Found,
-) -> Outgoing
-    requires { Prepared own × (within (state_of n) ≡ true) × (found.node < n.nodes.count) × ((found.choice ≡ K.Nothing) → ⊥)
-        × Fresh (credentials n.shown) own seen.old issuer.old subject.old }
-    ensures sent { commands_of result ≡ found_move (end_in (tables_of own.house) (state_of n)) found }
+// The move that is found. Which own credentials are not shown yet is kept beside.
+pub fn outgoing(own: &Preparation, n: &Negotiation, unshown: &mut Unshown, found: Found) -> Outgoing
+    requires { Prepared own.now × (within (state_of n.now) ≡ true) × (found.node < n.now.nodes.count) × ((found.choice ≡ K.Nothing) → ⊥)
+        × Fresh (credentials n.now.shown) own.now unshown.old.seen unshown.old.issuer unshown.old.subject }
+    ensures sent { commands_of result ≡ found_move (end_in (tables_of own.now.house) (state_of n.now)) found }
     ensures few { result.pool.count ≤ 128 }
-    ensures fresh { Fresh (credentials n.shown) own seen.new issuer.new subject.new }
+    ensures fresh { Fresh (credentials n.now.shown) own.now unshown.new.seen unshown.new.issuer unshown.new.subject }
 {
-    let choice = found.choice;
-    match choice {
-        Choice::Edge(w) => edge(own, n, seen, issuer, subject, found.node, w),
+    match found.choice {
+        Choice::Edge(w) => edge(own, n, unshown, found.node, w),
         Choice::Mark => alone(Command::Mark(found.node)),
         Choice::Nothing => alone(Command::End),
     }

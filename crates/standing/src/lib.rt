@@ -1,12 +1,11 @@
 // What a call finds in its tables and its negotiation, and whose turn it is.
 #![tactic(auto)]
 
-ghost use Rattle.std.specs.Prelude.{◌≡◌};
+ghost use Rattle.std.specs.Prelude.{◌≡◌, IfOk};
 ghost use Rattle.standing.specs.laws.Standing.{standing_of, Usable};
 ghost use Rattle.standing.specs.Standing.{restore_of};
 
 use damage::sound;
-use expression::Role;
 use negotiation::{Negotiation, read};
 use numbers::{DAMAGED, LENGTH};
 use tables::{House, decode};
@@ -14,49 +13,27 @@ pub use turn::{other_side, sends};
 
 mod turn;
 
-// The tables and the negotiation of a call, where the refusal is 0; else they do not count.
+// The tables and the negotiation of a call.
 #[derive(Clone, Copy)]
 pub struct Restored {
-    pub refusal: u64,
     pub house: House,
     pub negotiation: Negotiation,
 }
 
-// A refused call.
-fn refused(refusal: u64) -> Restored
-    ensures { result.refusal ≡ refusal }
-{
-    Restored {
-        refusal,
-        house: House::empty(),
-        negotiation: Negotiation::fresh(0, 0, 0, Role { entity: 0, name: 0 }),
-    }
-}
-
-// The tables, then the negotiation.
-pub fn restore(tables: &[u8], negotiation: &[u8]) -> Restored
+// The tables, then the negotiation; else the number of the refusal.
+pub fn restore(tables: &[u8], negotiation: &[u8]) -> Result<Restored, u64>
     ensures found { standing_of result ≡ restore_of tables.now negotiation.now }
-    ensures kept { Usable result }
+    ensures kept { IfOk result Usable }
 {
     if negotiation.len() != Negotiation::BYTES {
-        return refused(LENGTH);
+        return Err(LENGTH);
     }
-    let d = decode(tables);
-    if d.refusal != 0 {
-        return refused(d.refusal);
+    let house = decode(tables)?;
+    let Some(negotiation) = read(negotiation) else {
+        return Err(DAMAGED);
+    };
+    if !sound(&house, &negotiation) {
+        return Err(DAMAGED);
     }
-    let r = read(negotiation);
-    if !r.ok {
-        return refused(DAMAGED);
-    }
-    if !sound(d.house, r.negotiation) {
-        return refused(DAMAGED);
-    }
-    let house = d.house;
-    let held = r.negotiation;
-    Restored {
-        refusal: 0,
-        house,
-        negotiation: held,
-    }
+    Ok(Restored { house, negotiation })
 }

@@ -3,7 +3,7 @@ ghost use Rattle.std.specs.Prelude.{◌≡◌};
 ghost use Rattle.negotiation.specs.Ends.{other_side};
 ghost use Rattle.standing.specs.Turn.{sends as sends_at};
 
-use negotiation::{Messages, message_count};
+use negotiation::Messages;
 
 pub fn other_side(side: u8) -> u8
     ensures { result ≡ other_side side }
@@ -15,5 +15,5 @@ pub fn other_side(side: u8) -> u8
 pub fn sends(side: u8, messages: Messages) -> bool
     ensures { result ≡ sends_at side messages }
 {
-    message_count(messages) % 2 == side as u32
+    messages.count() % 2 == side as u32
 }

@@ -1,6 +1,6 @@
 -- The check of the house tables (document 01, "Classes", "From the input"): the records one after another, each by rising number. Assumes
 -- nothing.
-use Rattle.std.specs.Prelude.{ℕ, zero, suc, ◌+◌, Bool, true, false, cond, not, ◌&&◌, ◌||◌, List, [], ◌∷◌, ltb, leb, eqb, length}
+use Rattle.std.specs.Prelude.{ℕ, zero, suc, ◌+◌, Bool, true, false, cond, not, ◌&&◌, ◌||◌, List, [], ◌∷◌, ltb, leb, eqb, length, Result, Ok, Err}
 use Rattle.numbers.specs.Sizes.{MOST-NAMES, MOST-STORED, MOST-SENSITIVE, MOST-ACCESS, MOST-TABLES-BYTES}
 use Rattle.expression.specs.declared.Role.{Role}
 use Rattle.expression.specs.declared.Credential.{Credential}
@@ -13,8 +13,6 @@ use Rattle.class.specs.Typing.{credential_number}
 use Rattle.record.specs.declared.Pair.{Pair}
 use Rattle.record.specs.declared.Record.{Record}
 use Rattle.record.specs.declared.Record.TheVariants.{Own, Named, IssuerStored, SubjectStored, Sensitive, Access}
-use Rattle.record.specs.declared.RecordAnswer.{RecordAnswer}
-use Rattle.record.specs.declared.RecordAnswer.TheVariants as a
 use Rattle.record.specs.Record.{record_at, size_of}
 use Rattle.tables.specs.Tables.{Tables, unread, added}
 use Rattle.tables.specs.Lookup.{holds, is_sensitive}
@@ -91,9 +89,9 @@ order_number T r = cond (in_order T r && above T r && room T r) 0 ORDER
 unfoldable pub judge : Tables → Record → ℕ
 judge T r = or_else (class_number T r) (order_number T r)
 
-abbrev pub on_record : (ℕ → Tables → Answer Tables) → Tables → RecordAnswer → Answer Tables
-on_record next T (a.Refused k) = refused k
-on_record next T (a.Read r) = judged (judge T r) (next (size_of r) (added T r))
+abbrev pub on_record : (ℕ → Tables → Answer Tables) → Tables → Result Record ℕ → Answer Tables
+on_record next T (Err k) = refused k
+on_record next T (Ok r) = judged (judge T r) (next (size_of r) (added T r))
 
 -- the records from an index on, behind those of T. The first number is at least that of the bytes left.
 unfoldable pub records_from : ℕ → List ℕ → ℕ → Tables → Answer Tables

@@ -1,86 +1,40 @@
 // What is left behind the records of all commands.
-ghost use Rattle.std.specs.Prelude.{◌≡◌, ◌≤◌};
-ghost use Rattle.rt0.specs.laws.Pool.{pool_of, credentials};
-ghost use Rattle.class.specs.laws.Names.{names_from, names_of, Ascending};
-ghost use Rattle.tables.specs.laws.Tables.{pairs_from, pairs_of};
+ghost use Rattle.std.specs.Prelude.{◌≡◌};
 ghost use Rattle.tables.specs.Check.{class_number};
-ghost use Rattle.tables.specs.laws.Reading.{tables_for};
-ghost use Rattle.tables.specs.laws.Decoding.{left_number};
-ghost use Rattle.numbers.specs.Sizes.{MOST-NAMES, MOST-SENSITIVE};
+ghost use Rattle.tables.specs.laws.Reading.{judged_by, Judging};
+ghost use Rattle.tables.specs.laws.Decoding.{left_of};
 
-use crate::sensitive::pair_number;
 use crate::stored::stored_number;
-use crate::{or_else, refusal_of};
+use crate::{House, or_else};
 use numbers::ORDER;
-use record::{Record, RecordAnswer, read_record};
+use record::{Record, read_record};
 
-// The class rules for a record: zero where it keeps them.
-fn class_number<'a>(
-    n: usize,
-    name: &'a [u16; 64],
-    class: &'a [u8; 64],
-    own: u16,
-    c: usize,
-    heads: &'a [u16; 256],
-    kinds: &'a [u8; 256],
-    numbers: &'a [u16; 1024],
-    p: usize,
-    roles: &'a [u16; 64],
-    others: &'a [u16; 64],
-    r: Record,
-) -> u64
-    requires { (n ≤ MOST-NAMES) × Ascending n name.now × (c ≤ 128) × (p ≤ MOST-SENSITIVE) }
-    ensures { result ≡ class_number (tables_for own (names_of (names_from n name.now class.now))
-        (credentials (pool_of c heads.now kinds.now numbers.now))
-        (pairs_of (pairs_from p roles.now others.now))) r }
-{
-    match r {
-        Record::Own(_) => 0,
-        Record::Named(_) => 0,
-        Record::IssuerStored(x) => stored_number(n, name, class, false, x),
-        Record::SubjectStored(x) => stored_number(n, name, class, true, x),
-        Record::Sensitive(x) => pair_number(
-            false, n, name, class, own, c, heads, kinds, numbers, p, roles, others, x, 0,
-        ),
-        Record::Access(x) => pair_number(
-            true, n, name, class, own, c, heads, kinds, numbers, p, roles, others, x, 0,
-        ),
+impl House {
+    // The class rules for a record: zero where it keeps them.
+    #[tactic(auto, unfolding(crate::specs::Check::class_number))]
+    fn class_number(&self, r: Record) -> u64
+        requires { Judging self.now }
+        ensures { result ≡ class_number (judged_by self.now) r }
+    {
+        match r {
+            Record::IssuerStored(x) => stored_number(&self.names, false, x),
+            Record::SubjectStored(x) => stored_number(&self.names, true, x),
+            Record::Sensitive(x) => self.pair_number(false, x, 0),
+            Record::Access(x) => self.pair_number(true, x, 0),
+            _ => 0,
+        }
     }
-}
 
-// Nothing is left at an index, or a record that is out of order, with its number.
-pub fn left_over<'a>(
-    s: &'a [u8],
-    at: usize,
-    n: usize,
-    name: &'a [u16; 64],
-    class: &'a [u8; 64],
-    own: u16,
-    c: usize,
-    heads: &'a [u16; 256],
-    kinds: &'a [u8; 256],
-    numbers: &'a [u16; 1024],
-    p: usize,
-    roles: &'a [u16; 64],
-    others: &'a [u16; 64],
-) -> u64
-    requires { (n ≤ MOST-NAMES) × Ascending n name.now × (c ≤ 128) × (p ≤ MOST-SENSITIVE) }
-    ensures { result ≡ left_number s.now at
-        (tables_for own (names_of (names_from n name.now class.now))
-        (credentials (pool_of c heads.now kinds.now numbers.now))
-        (pairs_of (pairs_from p roles.now others.now))) }
-{
-    if s.len() <= at {
-        return 0;
+    // Nothing is left at an index; the number of a record there, which is out of order.
+    #[tactic(auto, unfolding(crate::specs::laws::Decoding::left_of))]
+    pub(crate) fn left_over(&self, s: &[u8], at: usize) -> Result<(), u64>
+        requires { Judging self.now }
+        ensures { result ≡ left_of s.now at (judged_by self.now) }
+    {
+        if s.len() <= at {
+            return Ok(());
+        }
+        let r = read_record(s, at)?;
+        Err(or_else(self.class_number(r), ORDER))
     }
-    let a = read_record(s, at);
-    let RecordAnswer::Read(r) = a else {
-        return refusal_of(a);
-    };
-    or_else(
-        class_number(
-            n, name, class, own, c, heads, kinds, numbers, p, roles, others, r,
-        ),
-        ORDER,
-    )
 }

@@ -1,153 +1,92 @@
 // What is looked up in the tables.
-ghost use Rattle.std.specs.Prelude.{◌≡◌, ◌<◌, ◌≤◌};
-ghost use Rattle.rt0.specs.laws.Pool.{pool_of, credential_in, credentials as credentials_of};
-ghost use Rattle.tables.specs.laws.Tables.{pairs_from, pairs_of, pair_from};
-ghost use Rattle.tables.specs.Lookup.{direct_of, holds as holds_of, is_sensitive, other_of, is_direct};
-ghost use Rattle.expression.specs.Same.{same_role, same_credential};
+ghost use Rattle.std.specs.Prelude.{◌≡◌, ◌≤◌, true, IsSome};
+ghost use Rattle.rt0.specs.laws.Pool.{credentials as credentials_of};
+ghost use Rattle.tables.specs.laws.Tables.{pairs_of};
+ghost use Rattle.tables.specs.Lookup.{holds as holds_of, is_sensitive, other_of, is_direct};
+ghost use Rattle.numbers.specs.Sizes.{MOST-SENSITIVE};
 
-use crate::RoleAnswer;
-use crate::columns::pair_at;
-use expression::{Credential, Expression, Role, same, same_role};
-use rt0::{expression_at, head_at};
+use crate::{House, Pairs};
+use expression::{Credential, Expression, Role, key_of, raw_of, same, same_role};
 
-// Whether credential i is role r from self.
-fn is_direct_at<'a>(
-    own: u16,
-    heads: &'a [u16; 256],
-    kinds: &'a [u8; 256],
-    numbers: &'a [u16; 1024],
-    r: Role,
-    i: usize,
-) -> bool
-    requires { i < 128 }
-    ensures { result ≡ same_credential (credential_in heads.now kinds.now numbers.now i) (direct_of own r) }
-{
-    if !same_role(head_at(heads, i), r) {
-        return false;
-    }
-    same(expression_at(kinds, numbers, i), Expression::Entity(own))
-}
-
-// Whether the credentials have role r from self: whether we hold the role.
-pub fn holds<'a>(
-    own: u16,
-    n: usize,
-    heads: &'a [u16; 256],
-    kinds: &'a [u8; 256],
-    numbers: &'a [u16; 1024],
-    r: Role,
-) -> bool
-    requires { n ≤ 128 }
-    ensures { result ≡ holds_of own (credentials_of (pool_of n heads.now kinds.now numbers.now)) r }
-{
-    let mut i = 0;
-    while i < n {
-        if is_direct_at(own, heads, kinds, numbers, r, i) {
-            return true;
+impl Pairs {
+    // The other role of the first pair from start on that is that of role r.
+    fn other_from(&self, r: Role, start: usize) -> Option<Role>
+        requires { self.now.count ≤ 32 }
+        ensures found { IsSome result → is_sensitive (pairs_of self.now) r ≡ true }
+        ensures first { start ≡ 0 → result ≡ other_of (pairs_of self.now) r }
+    {
+        for i in start..self.count {
+            let p = self.pair(i);
+            if same_role(p.role, r) {
+                return Some(p.other);
+            }
         }
-        i += 1;
+        None
     }
-    false
+
+    // The Ack role of a sensitive role, or its AC role, by the pairs of the one command or the other.
+    pub fn other_of(&self, r: Role) -> Option<Role>
+        requires { self.now.count ≤ 32 }
+        ensures { result ≡ other_of (pairs_of self.now) r }
+    {
+        self.other_from(r, 0)
+    }
+
+    // Whether a role stands in 0x14.
+    pub fn has(&self, r: Role) -> bool
+        requires { self.now.count ≤ 32 }
+        ensures { result ≡ is_sensitive (pairs_of self.now) r }
+    {
+        self.other_of(r).is_some()
+    }
+
+    // The same, where the pairs from start on are tried first.
+    pub(crate) fn has_from(&self, r: Role, start: usize) -> bool
+        requires { self.now.count ≤ 32 }
+        ensures { result ≡ is_sensitive (pairs_of self.now) r }
+    {
+        self.other_from(r, start).is_some() || self.has(r)
+    }
 }
 
-// Whether we hold the role, where the credentials from start on are tried first.
-pub fn holds_from<'a>(
-    own: u16,
-    n: usize,
-    heads: &'a [u16; 256],
-    kinds: &'a [u8; 256],
-    numbers: &'a [u16; 1024],
-    r: Role,
-    start: usize,
-) -> bool
-    requires { n ≤ 128 }
-    ensures { result ≡ holds_of own (credentials_of (pool_of n heads.now kinds.now numbers.now)) r }
-{
-    let mut i = start;
-    while i < n {
-        if is_direct_at(own, heads, kinds, numbers, r, i) {
-            return true;
+impl House {
+    // Whether the subject's credentials have role r from self: whether we hold the role.
+    #[tactic(auto, unfolding(crate::specs::Lookup::holds, rt0::specs::Shown::is_shown))]
+    pub fn holds(&self, r: Role) -> bool
+        requires { self.now.subject.count ≤ 128 }
+        ensures { result ≡ holds_of self.now.own (credentials_of self.now.subject) r }
+    {
+        let direct = Credential {
+            head: r,
+            body: Expression::Entity(self.own),
+        };
+        self.subject.is_shown(self.subject.count, direct)
+    }
+
+    // The same, where the credentials from start on are tried first.
+    pub(crate) fn holds_from(&self, r: Role, start: usize) -> bool
+        requires { self.now.subject.count ≤ 128 }
+        ensures { result ≡ holds_of self.now.own (credentials_of self.now.subject) r }
+    {
+        let key = key_of(r);
+        let raw = raw_of(Expression::Entity(self.own));
+        for i in start..self.subject.count {
+            if self.subject.is_at(key, raw, i) {
+                return true;
+            }
         }
-        i += 1;
+        self.holds(r)
     }
-    holds(own, n, heads, kinds, numbers, r)
-}
 
-// The Ack role of a sensitive role, or its AC role, by the pairs of the one command or the other.
-pub fn other_of<'a>(n: usize, roles: &'a [u16; 64], others: &'a [u16; 64], r: Role) -> RoleAnswer
-    requires { n ≤ 32 }
-    ensures { result ≡ other_of (pairs_of (pairs_from n roles.now others.now)) r }
-{
-    let mut i = 0;
-    while i < n {
-        let p = pair_at(roles, others, i);
-        let role = p.role;
-        let other = p.other;
-        if same_role(role, r) {
-            return RoleAnswer::Found(other);
+    // Whether a credential is the direct one of a sensitive role.
+    #[tactic(auto, unfolding(crate::specs::Lookup::is_direct))]
+    pub fn is_direct(&self, c: Credential) -> bool
+        requires { self.now.sensitive.count ≤ 32 }
+        ensures { result ≡ is_direct self.now.own (pairs_of self.now.sensitive) c }
+    {
+        if !self.sensitive.has(c.head) {
+            return false;
         }
-        i += 1;
+        same(c.body, Expression::Entity(self.own))
     }
-    RoleAnswer::Absent
-}
-
-// Whether a role stands in 0x14.
-pub fn is_sensitive<'a>(n: usize, roles: &'a [u16; 64], others: &'a [u16; 64], r: Role) -> bool
-    requires { n ≤ 32 }
-    ensures { result ≡ is_sensitive (pairs_of (pairs_from n roles.now others.now)) r }
-{
-    match other_of(n, roles, others, r) {
-        RoleAnswer::Found(_) => true,
-        RoleAnswer::Absent => false,
-    }
-}
-
-// Whether pair i is that of role r.
-fn is_pair_of<'a>(roles: &'a [u16; 64], others: &'a [u16; 64], r: Role, i: usize) -> bool
-    requires { i < 32 }
-    ensures { result ≡ same_role (pair_from roles.now others.now i).role r }
-{
-    let p = pair_at(roles, others, i);
-    let role = p.role;
-    same_role(role, r)
-}
-
-// Whether a role stands in 0x14, where the pairs from start on are tried first.
-pub fn is_sensitive_from<'a>(
-    n: usize,
-    roles: &'a [u16; 64],
-    others: &'a [u16; 64],
-    r: Role,
-    start: usize,
-) -> bool
-    requires { n ≤ 32 }
-    ensures { result ≡ is_sensitive (pairs_of (pairs_from n roles.now others.now)) r }
-{
-    let mut i = start;
-    while i < n {
-        if is_pair_of(roles, others, r, i) {
-            return true;
-        }
-        i += 1;
-    }
-    is_sensitive(n, roles, others, r)
-}
-
-// Whether a credential is the direct one of a sensitive role.
-pub fn is_direct<'a>(
-    own: u16,
-    n: usize,
-    roles: &'a [u16; 64],
-    others: &'a [u16; 64],
-    c: Credential,
-) -> bool
-    requires { n ≤ 32 }
-    ensures { result ≡ is_direct own (pairs_of (pairs_from n roles.now others.now)) c }
-{
-    let head = c.head;
-    let body = c.body;
-    if !is_sensitive(n, roles, others, head) {
-        return false;
-    }
-    same(body, Expression::Entity(own))
 }

@@ -1,5 +1,5 @@
 // The call: lengths, tables, negotiation, end and turn, then the commands.
-ghost use Rattle.std.specs.Prelude.{◌≡◌, true, ◌<◌};
+ghost use Rattle.std.specs.Prelude.{◌≡◌, true, ◌<◌, OnOk};
 ghost use Rattle.tables.specs.laws.Tables.{tables_of};
 ghost use Rattle.tables.specs.laws.Decoding.{Housed};
 ghost use Rattle.negotiation.specs.laws.State.{state_of};
@@ -12,8 +12,7 @@ ghost use Rattle.numbers.specs.Answer.{buffer_after, answer_of, no_value};
 ghost use Rattle.negotiation.specs.Layout.{state_bytes};
 ghost use Rattle.standing.specs.Buffers.{scratch_left};
 
-use crate::Taking;
-use crate::commands::{take_commands, taking};
+use crate::commands::take_commands;
 use applied::after_message;
 use negotiation::{Negotiation, write, write_zeros};
 use numbers::{ENDED, LENGTH, MOST_MESSAGE_BYTES, SCRATCH_BYTES, TURN};
@@ -26,27 +25,24 @@ fn fits(message: usize, scratch: usize) -> bool
     (1 <= message) & (message <= MOST_MESSAGE_BYTES) & (scratch == SCRATCH_BYTES)
 }
 
-// What a message does to a negotiation.
-fn taken_in(house: House, n: Negotiation, message: &[u8]) -> Taking
-    requires { Housed house × (0 < house.own) × (within (state_of n) ≡ true) × (sound (tables_of house) (state_of n) ≡ true) }
-    ensures taken { outcome_of result ≡ taken_in message.now (tables_of house) (state_of n) }
-    ensures sized { Room result }
+// What a message does to a negotiation. Where it is refused, what it has left does not count.
+fn take_in(house: &House, n: &mut Negotiation, message: &[u8]) -> Result<(), u64>
+    requires { Housed house.now × (0 < house.now.own) × (within (state_of n.old) ≡ true)
+        × (sound (tables_of house.now) (state_of n.old) ≡ true) }
+    ensures taken { outcome_of result n.new ≡ taken_in message.now (tables_of house.now) (state_of n.old) }
+    ensures sized { OnOk result (Room n.new) }
 {
     let h = n.header;
-    let names = house.names;
     if h.end != 0 {
-        return taking(ENDED, false, n);
+        return Err(ENDED);
     }
     let sender = other_side(h.side);
     if !sends(sender, h.messages) {
-        return taking(TURN, false, n);
+        return Err(TURN);
     }
-    let t = take_commands(names, sender, n, message);
-    if t.refusal != 0 {
-        return t;
-    }
-    let after = after_message(sender, t.negotiation, t.moved, false);
-    taking(0, t.moved, after)
+    let moved = take_commands(&house.names, sender, n, message)?;
+    after_message(n, sender, moved, false);
+    Ok(())
 }
 
 // The negotiation goes on by the message: 0, or a refusal number, and then nothing changes.
@@ -60,15 +56,14 @@ pub fn take(tables: &[u8], negotiation: &mut [u8], message: &[u8], scratch: &mut
     if !fits(message.len(), scratch.len()) {
         return LENGTH;
     }
-    let r = restore(tables, negotiation);
-    if r.refusal != 0 {
-        return r.refusal;
+    let mut r = match restore(tables, negotiation) {
+        Ok(r) => r,
+        Err(k) => return k,
+    };
+    if let Err(k) = take_in(&r.house, &mut r.negotiation, message) {
+        return k;
     }
-    let t = taken_in(r.house, r.negotiation, message);
-    if t.refusal != 0 {
-        return t.refusal;
-    }
-    write(t.negotiation, negotiation);
+    write(&r.negotiation, negotiation);
     write_zeros(scratch, 0, SCRATCH_BYTES);
     0
 }

@@ -1,5 +1,5 @@
 // The commands of a message, one after another.
-ghost use Rattle.std.specs.Prelude.{◌≡◌, true, false, ◌≤◌, length};
+ghost use Rattle.std.specs.Prelude.{◌≡◌, true, false, ◌≤◌, length, OnOk};
 ghost use Rattle.class.specs.laws.Names.{names_of, Ascending};
 ghost use Rattle.graph.specs.laws.Graph.{nodes_of, edges_of};
 ghost use Rattle.states.specs.laws.Brings.{NodesFormed};
@@ -12,110 +12,85 @@ ghost use Rattle.take.specs.Commands.{commands_from};
 ghost use Rattle.take.specs.laws.Commands.{taken_of, refusal_of, Room};
 ghost use Rattle.numbers.specs.Sizes.{MOST-NAMES};
 
-use crate::Taking;
-use crate::results::{carried, no_progress, ready};
+use crate::Progress;
 use applied::step;
 use class::Names;
 use legal::{is_implication, is_justified, is_proved, legal, nothing_proved, proved_by};
-use message::{Command, CommandAnswer};
+use message::Command;
 use negotiation::Negotiation;
 use numbers::COMMAND;
 use reader::next_command;
 
-// The number of a command that was not read.
-fn refusal_of(a: CommandAnswer) -> u64
+// The number of a command that was not read. Document 01 asks for let .. else where it is returned, so that `?` does not stand there.
+fn refusal_of(a: Result<Command, u64>) -> u64
     ensures { result ≡ refusal_of a }
 {
     match a {
-        CommandAnswer::Read(_) => 0,
-        CommandAnswer::Refused(k) => k,
+        Ok(_) => 0,
+        Err(k) => k,
     }
 }
 
 fn is_end(c: Command) -> bool
     ensures { result ≡ is_end c }
 {
-    match c {
-        Command::Show(_) => false,
-        Command::Open(_) => false,
-        Command::Bring(_) => false,
-        Command::Join(_) => false,
-        Command::Mark(_) => false,
-        Command::End => true,
-    }
-}
-
-pub fn taking(refusal: u64, moved: bool, negotiation: Negotiation) -> Taking
-    ensures { (result.refusal ≡ refusal) × (result.moved ≡ moved) × (result.negotiation ≡ negotiation) }
-{
-    Taking {
-        refusal,
-        moved,
-        negotiation,
-    }
+    matches!(c, Command::End)
 }
 
 // Why a command of the sender is refused: zero where it is legal.
-fn judge<'a>(
-    names: Names,
+fn judge(
+    names: &Names,
     sender: u8,
-    n: Negotiation,
+    n: &Negotiation,
     proved: bool,
-    sat: &'a [u8; 128],
+    sat: &[u8; 128],
     c: Command,
 ) -> u64
-    requires { (names.count ≤ MOST-NAMES) × Ascending names.count names.name × (within (state_of n) ≡ true) × Proves (state_of n) c proved
-        × SaysFor c (nodes_of n.nodes) (edges_of n.edges) sat.now }
-    ensures { result ≡ legal_number (names_of names) sender (state_of n) c }
+    requires { (names.now.count ≤ MOST-NAMES) × Ascending names.now.count names.now.name × (within (state_of n.now) ≡ true)
+        × Proves (state_of n.now) c proved × SaysFor c (nodes_of n.now.nodes) (edges_of n.now.edges) sat.now }
+    ensures { result ≡ legal_number (names_of names.now) sender (state_of n.now) c }
 {
     let justified = is_justified(n, proved, sat, c);
     legal(names, sender, n, c, justified)
 }
 
-// Each command is judged and carried out before the next is read. What the credentials shown prove and which nodes are satisfied is kept beside: the
-// former stands here alone, and is lent.
-pub fn take_commands(names: Names, sender: u8, start: Negotiation, message: &[u8]) -> Taking
-    requires { (names.count ≤ MOST-NAMES) × Ascending names.count names.name × (within (state_of start) ≡ true)
-        × NodesFormed (nodes_of start.nodes) }
-    ensures taken { taken_of result ≡ commands_from (length message.now) (names_of names) sender message.now 0 (state_of start) false }
-    ensures sized { Room result }
+// Each command is judged and carried out before the next is read: whether an open, an edge or a mark was among them, or why one is refused. What the
+// credentials shown prove and which nodes are satisfied is kept beside.
+pub fn take_commands(
+    names: &Names,
+    sender: u8,
+    n: &mut Negotiation,
+    message: &[u8],
+) -> Result<bool, u64>
+    requires { (names.now.count ≤ MOST-NAMES) × Ascending names.now.count names.now.name × (within (state_of n.old) ≡ true)
+        × NodesFormed (nodes_of n.old.nodes) }
+    ensures taken { taken_of result n.new
+        ≡ commands_from (length message.now) (names_of names.now) sender message.now 0 (state_of n.old) false }
+    ensures sized { OnOk result (Room n.new) }
 {
-    let mut n = start;
     let mut known = nothing_proved();
-    let mut kept = no_progress();
+    let mut kept = Progress::none();
     let mut at = 0;
     while at < message.len() {
         let next = next_command(message, at);
-        let a = next.answer;
-        let CommandAnswer::Read(c) = a else {
-            return taking(refusal_of(a), kept.moved, n);
+        let Ok(c) = next.answer else {
+            return Err(refusal_of(next.answer));
         };
         if kept.stale & is_implication(c) {
-            known = proved_by(n);
+            known = proved_by(&n.shown);
         }
-        let held = ready(kept, n, c);
-        let proved = is_proved(
-            n,
-            known.pool.count,
-            &known.pool.heads,
-            &known.pool.kinds,
-            &known.pool.numbers,
-            &known.rules.head,
-            &known.rules.part,
-            &known.rules.first,
-            &known.rules.named,
-            &known.rules.src,
-            &known.deps,
-            &known.rows,
-            c,
-        );
-        let k = judge(names, sender, n, proved, &held.sat, c);
-        if (k != 0) | is_end(c) {
-            return taking(k, held.moved, n);
+        kept.ready(n, c);
+        let proved = is_proved(n, &known, c);
+        let k = judge(names, sender, n, proved, &kept.sat, c);
+        if k != 0 {
+            return Err(k);
         }
-        kept = carried(held, n, c);
-        n = step(n, sender, c);
+        if is_end(c) {
+            return Ok(kept.moved);
+        }
+        kept.carry(n, c);
+        step(n, sender, c);
         at = next.at;
     }
-    taking(COMMAND, kept.moved, n)
+    Err(COMMAND)
 }

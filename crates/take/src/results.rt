@@ -15,82 +15,50 @@ use message::Command;
 use negotiation::Negotiation;
 
 // Whether a command shows a credential.
-pub fn is_credential(c: Command) -> bool
+fn is_credential(c: Command) -> bool
     ensures { result ≡ is_credential c }
 {
-    match c {
-        Command::Show(_) => true,
-        Command::Open(_) => false,
-        Command::Bring(_) => false,
-        Command::Join(_) => false,
-        Command::Mark(_) => false,
-        Command::End => false,
-    }
+    matches!(c, Command::Show(_))
 }
 
-// Nothing as yet.
-pub fn no_progress() -> Progress
-    ensures { (result.moved ≡ false) × (result.stale ≡ true) × (result.unsettled ≡ true) }
-{
-    Progress {
-        moved: false,
-        stale: true,
-        sat: [0; 128],
-        unsettled: true,
-    }
-}
-
-// When a command is judged: what it asks of the credentials shown is known, and the satisfied nodes are found if it asks them. Where an edge leads
-// into no node they are found each time: a new node might be satisfied.
-pub fn ready(k: Progress, n: Negotiation, c: Command) -> Progress
-    requires { (within (state_of n) ≡ true) × NodesFormed (nodes_of n.nodes)
-        × CurrentStates k.unsettled k.sat (nodes_of n.nodes) (edges_of n.edges) }
-    ensures { Ready k n c result }
-{
-    let stale = k.stale & !is_implication(c);
-    if !(k.unsettled & is_linking(c)) {
-        let sat = k.sat;
-        return Progress {
-            moved: k.moved,
-            stale,
-            sat,
-            unsettled: k.unsettled,
-        };
-    }
-    let nodes = n.nodes;
-    let edges = n.edges;
-    let sat = satisfied_nodes(nodes, edges);
-    let inside = is_inside(nodes, edges);
-    Progress {
-        moved: k.moved,
-        stale,
-        sat,
-        unsettled: !inside,
-    }
-}
-
-// Past a command.
-pub fn carried(k: Progress, n: Negotiation, c: Command) -> Progress
-    requires { n.nodes.count ≤ MOST-NODES }
-    ensures { Carried k (nodes_of n.nodes) c result }
-{
-    let sat = k.sat;
-    let moved = k.moved | is_move(c);
-    let stale = k.stale | is_credential(c);
-    if k.unsettled {
-        return Progress {
-            moved,
-            stale,
-            sat,
+impl Progress {
+    // Nothing as yet.
+    pub fn none() -> Self
+        ensures { (result.moved ≡ false) × (result.stale ≡ true) × (result.unsettled ≡ true) }
+    {
+        Self {
+            moved: false,
+            stale: true,
+            sat: [0; 128],
             unsettled: true,
-        };
+        }
     }
-    let nodes = n.nodes;
-    let keeps = keeps_states(nodes, sat, c);
-    Progress {
-        moved,
-        stale,
-        sat,
-        unsettled: !keeps,
+
+    // When a command is judged: what it asks of the credentials shown is known, and the satisfied nodes are found if it asks them. Where an edge
+    // leads into no node they are found each time: a new node might be satisfied.
+    pub fn ready(&mut self, n: &Negotiation, c: Command)
+        requires { (within (state_of n.now) ≡ true) × NodesFormed (nodes_of n.now.nodes)
+            × CurrentStates self.old.unsettled self.old.sat (nodes_of n.now.nodes) (edges_of n.now.edges) }
+        ensures { Ready self.old n.now c self.new }
+    {
+        self.stale = self.stale & !is_implication(c);
+        if !(self.unsettled & is_linking(c)) {
+            return;
+        }
+        self.sat = satisfied_nodes(&n.nodes, &n.edges);
+        self.unsettled = !is_inside(&n.nodes, &n.edges);
+    }
+
+    // Past a command.
+    pub fn carry(&mut self, n: &Negotiation, c: Command)
+        requires { n.now.nodes.count ≤ MOST-NODES }
+        ensures { Carried self.old (nodes_of n.now.nodes) c self.new }
+    {
+        self.moved = self.moved | is_move(c);
+        self.stale = self.stale | is_credential(c);
+        if self.unsettled {
+            return;
+        }
+        self.unsettled = !keeps_states(&n.nodes, &self.sat, c);
     }
 }

@@ -29,20 +29,20 @@ returns-in_default c = let s : List ℕ = c.args.records.now in
 pub slice_bounds-hand_over-end : goal.slice_bounds-hand_over-end
 slice_bounds-hand_over-end c = let s : List ℕ = c.args.records.now in
     let o = c.lay_out in
-    let w : LaidOut s o.new.out c.in-Bytes.n = subst (Lays s o.new.out) c.in-Bytes.is o.ensures in
+    let w : LaidOut s o.new.out c.in-Some.n = subst (Lays s o.new.out) c.in-Some.is o.ensures in
     sym (length-take-le _ _ w.room)
 
 pub hand_over-requires : goal.hand_over-requires
 hand_over-requires c = let s : List ℕ = c.args.records.now in
     let o = c.lay_out in
-    let w : LaidOut s o.new.out c.in-Bytes.n = subst (Lays s o.new.out) c.in-Bytes.is o.ensures in
-    let e = length-take-le c.in-Bytes.n o.new.out w.room in
+    let w : LaidOut s o.new.out c.in-Some.n = subst (Lays s o.new.out) c.in-Some.is o.ensures in
+    let e = length-take-le c.in-Some.n o.new.out w.room in
     omega (arith, w.few)
 
 pub returns : goal.returns
 returns c = let s : List ℕ = c.args.records.now in
     let o = c.lay_out in
-    let w : LaidOut s o.new.out c.in-Bytes.n = subst (Lays s o.new.out) c.in-Bytes.is o.ensures in
+    let w : LaidOut s o.new.out c.in-Some.n = subst (Lays s o.new.out) c.in-Some.is o.ensures in
     let T : List ℕ = c.args.tables.now in
     let u = judged-laid s (length T) (omega arith) (omega arith) w in
     let h = c.hand_over.ensures in

@@ -1,10 +1,8 @@
 -- What the code finds on the way is what the answer says. Assumes nothing.
-use Rattle.std.specs.Prelude.{ℕ, zero, suc, ◌<◌, ◌≤◌, ◌≡◌, refl, Bool, true, ◌&&◌, List, map, ltb, leb, length, take}
+use Rattle.std.specs.Prelude.{ℕ, zero, suc, ◌<◌, ◌≤◌, ◌≡◌, refl, Bool, true, ◌&&◌, List, map, ltb, leb, length, take, Option, Some, None}
 use Rattle.std.proofs.Common.{sym, ap, ◌∙◌, subst, arith, lt-ltb, le-leb}
 use Rattle.std.proofs.Math.Bool.{cond}
 use Rattle.std.proofs.lemmas.Bool.{lt-leb}
-use Rattle.arrange.specs.declared.Laid.{Laid}
-use Rattle.arrange.specs.declared.Laid.TheVariants.{Bytes, Unread}
 use Rattle.numbers.specs.Answer.{Answer, refused, accepted, judged, onward}
 use Rattle.numbers.specs.Refusals.{LENGTH, COMMAND, OUTPUT}
 use Rattle.numbers.specs.Sizes.{MOST-TABLES-BYTES}
@@ -27,9 +25,9 @@ pub record LaidOut (s out : List ℕ) (n : ℕ) : Type 0 where
   pub few : n ≤ 4096
   pub there : take n out ≡ joined (arranged records)
 
-abbrev pub Lays : List ℕ → List ℕ → Laid → Type 0
-Lays s out (Bytes n) = LaidOut s out n
-Lays s out Unread = records_of s ≡ refused COMMAND
+abbrev pub Lays : List ℕ → List ℕ → Option ℕ → Type 0
+Lays s out (Some n) = LaidOut s out n
+Lays s out None = records_of s ≡ refused COMMAND
 
 -- records at sorted places have the arrangement of the records
 pub laid_out : {s P Q out : List ℕ} {n : ℕ} → Listed s P → Ordered s P Q → n ≤ length out → n ≤ 4096 → take n out ≡ joined (arranged (map (record_of s) Q)) → LaidOut s out n

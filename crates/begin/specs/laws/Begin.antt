@@ -1,16 +1,15 @@
 -- What begin leads to, test by test. Assumes nothing.
-use Rattle.std.specs.Prelude.{ℕ, zero, suc, ◌≡◌, refl, Bool, true, false, ◌||◌, List, eqb, length}
+use Rattle.std.specs.Prelude.{ℕ, zero, suc, ◌≡◌, refl, Bool, true, false, ◌||◌, List, eqb, length, Result, Ok, Err}
 use Rattle.std.proofs.Math.Path.{sym, ap}
 use Rattle.std.proofs.Common.{◌∙◌, eq-eqb, ne_eqb}
 use Rattle.std.proofs.Math.Bool.{cond}
 use Rattle.numbers.specs.Sizes.{NEGOTIATION-BYTES}
 use Rattle.expression.specs.declared.Role.{Role}
 use Rattle.rt0.specs.From.{role_of}
-use Rattle.tables.specs.declared.Decoded.{Decoded}
 use Rattle.tables.specs.laws.Tables.{tables_of}
 use Rattle.tables.specs.Check.{or_else, read_tables}
 use Rattle.tables.specs.laws.Check.{outcome_of}
-use Rattle.tables.specs.laws.DecodingLaws.{outcome-refused}
+use Rattle.tables.specs.declared.House.{House}
 use Rattle.negotiation.specs.State.{State, fresh_state, within}
 use Rattle.negotiation.specs.Layout.{state_bytes}
 use Rattle.begin.specs.Begin.{is_requester, role_number, other_number, begin_number, side_of, begun_state, behind_tables, begin_of}
@@ -69,7 +68,7 @@ unfolding begin_of
 begin-outside s n other entity name h =
     leaves-refused n _ 1 (ap (λ (b : Bool). cond b (behind_tables other entity name (read_tables s)) (refused LENGTH)) (ne_eqb (length n) NEGOTIATION-BYTES h))
 
-module _ (s n : List ℕ) (other entity name : ℕ) (d : Decoded) (size : length n ≡ NEGOTIATION-BYTES) (h : outcome_of d ≡ read_tables s) where
+module _ (s n : List ℕ) (other entity name : ℕ) (d : Result House ℕ) (size : length n ≡ NEGOTIATION-BYTES) (h : outcome_of d ≡ read_tables s) where
   inside : (o : Answer Tables) → outcome_of d ≡ o → begin_of s n other entity name ≡ behind_tables other entity name o
   unfolding begin_of
   inside o q =
@@ -77,25 +76,24 @@ module _ (s n : List ℕ) (other entity name : ℕ) (d : Decoded) (size : length
       ∙ ap (behind_tables other entity name) (sym h ∙ q)
 
   -- the tables are refused
-  pub begin-tables : (d.refusal ≡ 0 → ⊥) → Leaves n (begin_of s n other entity name) d.refusal n
-  begin-tables z = leaves-refused n _ d.refusal (inside (refused d.refusal) (outcome-refused d d.refusal refl z))
+  pub begin-tables : {k : ℕ} → d ≡ Err k → Leaves n (begin_of s n other entity name) k n
+  begin-tables {k} z = leaves-refused n _ k (inside (refused k) (ap outcome_of z))
 
-  module _ (ok : d.refusal ≡ 0) {k : ℕ} (role : k ≡ role_number entity name) where
-    numbers : (m : ℕ) → begin_number (tables_of d.house) other entity name ≡ m
-        → begin_of s n other entity name ≡ judged m (accepted (begun_state (tables_of d.house) other entity name))
-    unfolding outcome_of
+  module _ {house : House} (ok : d ≡ Ok house) {k : ℕ} (role : k ≡ role_number entity name) where
+    numbers : (m : ℕ) → begin_number (tables_of house) other entity name ≡ m
+        → begin_of s n other entity name ≡ judged m (accepted (begun_state (tables_of house) other entity name))
     numbers m q =
-        inside (accepted (tables_of d.house)) (ap (λ (b : Bool). cond b (accepted (tables_of d.house)) (refused d.refusal)) (eq-eqb d.refusal 0 ok))
-        ∙ ap (λ (j : ℕ). judged j (accepted (begun_state (tables_of d.house) other entity name))) q
+        inside (accepted (tables_of house)) (ap outcome_of ok)
+        ∙ ap (λ (j : ℕ). judged j (accepted (begun_state (tables_of house) other entity name))) q
 
     -- the role is refused
     pub begin-role : (k ≡ 0 → ⊥) → Leaves n (begin_of s n other entity name) k n
     unfolding begin_number tables_of
     begin-role z =
-        leaves-refused n _ k (numbers k (ap (λ (j : ℕ). or_else j (other_number d.house.own other)) (sym role) ∙ or-else-first k _ z) ∙ judged-refused k _ z)
+        leaves-refused n _ k (numbers k (ap (λ (j : ℕ). or_else j (other_number house.own other)) (sym role) ∙ or-else-first k _ z) ∙ judged-refused k _ z)
 
-    module _ (free : k ≡ 0) {m : ℕ} (end : m ≡ other_number d.house.own other) where
-      second : begin_number (tables_of d.house) other entity name ≡ m
+    module _ (free : k ≡ 0) {m : ℕ} (end : m ≡ other_number house.own other) where
+      second : begin_number (tables_of house) other entity name ≡ m
       unfolding begin_number tables_of
       second = (λ i. or_else (sym role i) (sym end i)) ∙ or-else-second k m free
 
@@ -105,13 +103,13 @@ module _ (s n : List ℕ) (other entity name : ℕ) (d : Decoded) (size : length
 
       -- the fresh negotiation
       pub begin-fresh : m ≡ 0 → {S : State} {side : ℕ} {b : List ℕ} → side ≡ side_of entity name
-          → S ≡ fresh_state side d.house.own other (role_of entity name) → b ≡ state_bytes S
+          → S ≡ fresh_state side house.own other (role_of entity name) → b ≡ state_bytes S
           → Leaves n (begin_of s n other entity name) 0 b
       unfolding begun_state tables_of
       begin-fresh z e f w =
           let q = numbers 0 (second ∙ z) in (
             sym (ap (answer_of no_value) q),
-            w ∙ ap state_bytes (f ∙ ap (λ (x : ℕ). fresh_state x d.house.own other (role_of entity name)) e)
+            w ∙ ap state_bytes (f ∙ ap (λ (x : ℕ). fresh_state x house.own other (role_of entity name)) e)
                 ∙ sym (ap (buffer_after state_bytes n) q),
           )
 

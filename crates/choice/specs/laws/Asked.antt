@@ -1,11 +1,10 @@
 -- A role about us that is sensitive: what is asked at its node, and the choice there (section 5.4). Assumes nothing.
-use Rattle.std.specs.Prelude.{ℕ, ◌≡◌, refl, Bool, false, not, List}
-use Rattle.std.proofs.Common.{sym, ◌∙◌}
+use Rattle.std.specs.Prelude.{ℕ, ◌≡◌, refl, Bool, false, not, List, Some}
+use Rattle.std.proofs.Common.{sym}
 use Rattle.expression.specs.declared.Role.{Role}
 use Rattle.expression.specs.declared.Expression.{Expression}
 use Rattle.expression.specs.declared.Expression.TheVariants as E
 use Rattle.expression.specs.Kinds.{is_entity}
-use Rattle.tables.specs.declared.RoleAnswer.TheVariants as A
 use Rattle.tables.specs.Tables.{Tables}
 use Rattle.tables.specs.Lookup.{other_of}
 use Rattle.tables.specs.Public.{public_of, hidden_of, keep}
@@ -39,9 +38,6 @@ pub record Asked (S : State) (i : ℕ) (n : Node) (e : Expression) : Type 0 wher
   pub unprocessed : processed_by S.header.side n ≡ false
   pub opponent : n.verifier ≡ S.header.side → ⊥
 
-pub asked-as : {S : State} {i : ℕ} {n : Node} {e f : Expression} → Asked S i n e → e ≡ f → Asked S i n f
-asked-as q h = record { number = q.number; expression = q.expression ∙ h; unprocessed = q.unprocessed; opponent = q.opponent }
-
 module _ (T : Tables) (S : State) (i : ℕ) (n : Node) (a ack : Role) where
   abbrev done : Candidate → Bool
   done = is_done S.nodes S.edges i
@@ -54,7 +50,7 @@ module _ (T : Tables) (S : State) (i : ℕ) (n : Node) (a ack : Role) where
   abbrev pub sensitive_at : Choice
   sensitive_at = or_else (alone done (control_for S n ack)) (known_choice S done i n rest_at (known_as S (hidden_of T) a ack))
 
-  pub sensitive-at : Asked S i n (E.Role a) → n.subject ≡ T.own → other_of T.sensitive a ≡ A.Found ack → sensitive_at ≡ choice_at (end_in T S) i n
+  pub sensitive-at : Asked S i n (E.Role a) → n.subject ≡ T.own → other_of T.sensitive a ≡ Some ack → sensitive_at ≡ choice_at (end_in T S) i n
   sensitive-at q s f =
       let k : Known = known_as S (hidden_of T) a ack in
       let own : sensitive_at ≡ chosen_in done (own_rules (end_in T S) i n a (end_in T S).known) = sensitive-choice T S done i n a {c = sensitive_at}

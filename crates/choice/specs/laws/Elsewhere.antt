@@ -1,5 +1,5 @@
 -- A move at one node adds no edge elsewhere and marks no other node. Assumes nothing.
-use Rattle.std.specs.Prelude.{ℕ, ◌<◌, ◌≡◌, refl, Bool, true, false, cond, eqb, length, set}
+use Rattle.std.specs.Prelude.{ℕ, ◌<◌, ◌≡◌, refl, Bool, true, false, cond, eqb, length}
 use Rattle.std.proofs.Common.{arith, ◌∙◌, ap, ⊎_elim, eqb-true, eq-eqb, get_or-set_other}
 use mathlib.Core.List.Memᴰ
 use mathlib.Core.List.{List, [], ◌∷◌, ◌++◌, map, Memᴰ}

@@ -1,9 +1,8 @@
 -- The edges of rule (4) of a sensitive role: once all are done they stay done (section 5.4). Assumes nothing.
-use Rattle.std.specs.Prelude.{ℕ, ◌≤◌, ◌<◌, ◌≡◌, refl, Bool, true, false, cond, ◌||◌, List, ltb, length}
+use Rattle.std.specs.Prelude.{ℕ, ◌≤◌, ◌<◌, ◌≡◌, refl, Bool, true, false, cond, ◌||◌, List, ltb, length, Some}
 use Rattle.std.proofs.Common.{arith, sym, ◌∙◌, ap}
 use Rattle.expression.specs.declared.Role.{Role}
 use Rattle.expression.specs.declared.Expression.TheVariants as E
-use Rattle.tables.specs.declared.RoleAnswer.TheVariants as A
 use Rattle.tables.specs.Tables.{Tables}
 use Rattle.tables.specs.Lookup.{other_of}
 use Rattle.tables.specs.Public.{hidden_of}
@@ -33,7 +32,7 @@ use Rattle.numbers.specs.Sizes.{MOST-NODES}
 -- below p the edges of rule (4) of sensitive roles about us are done
 pub record Exhausted (T : Tables) (S : State) (p : ℕ) : Type 0 where
   pub stands : p ≤ length S.nodes
-  pub done : (i : ℕ) → i < p → (n : Node) (a ack : Role) → Asked S i n (E.Role a) → n.subject ≡ T.own → other_of T.sensitive a ≡ A.Found ack
+  pub done : (i : ℕ) → i < p → (n : Node) (a ack : Role) → Asked S i n (E.Role a) → n.subject ≡ T.own → other_of T.sensitive a ≡ Some ack
       → first_not (is_done S.nodes S.edges i) C.Nothing (rest_edges T n a) ≡ C.Nothing
 
 pub exhausted-none : (T : Tables) (S : State) → Exhausted T S 0
@@ -62,7 +61,7 @@ known-nothing S d i n rest (Seen (Guarded r)) h =
     (or_nothing rest (mark_if (a || satisfied_in S i)) (or_nothing o m (or_nothing (alone d (control_for S n r)) (or_else o m) h).1).1).0
 
 module _ (T : Tables) (S : State) where
-  idle-done : (i : ℕ) (n : Node) (a ack : Role) → Asked S i n (E.Role a) → n.subject ≡ T.own → other_of T.sensitive a ≡ A.Found ack
+  idle-done : (i : ℕ) (n : Node) (a ack : Role) → Asked S i n (E.Role a) → n.subject ≡ T.own → other_of T.sensitive a ≡ Some ack
       → choice_at (end_in T S) i n ≡ C.Nothing → rest_at T S i n a ack ≡ C.Nothing
   idle-done i n a ack q s f h =
       let d : Candidate → Bool = is_done S.nodes S.edges i in
@@ -79,7 +78,7 @@ module _ (T : Tables) (S : State) where
 exhausted-grown : (T : Tables) (S R : State) (p : ℕ) → Later S R → length S.nodes ≤ MOST-NODES → Exhausted T S p → Exhausted T R p
 exhausted-grown T S R p u few f = record { stands = omega (arith, f.stands, u.more.more); done = later }
   where
-    later : (i : ℕ) → i < p → (n : Node) (a ack : Role) → Asked R i n (E.Role a) → n.subject ≡ T.own → other_of T.sensitive a ≡ A.Found ack
+    later : (i : ℕ) → i < p → (n : Node) (a ack : Role) → Asked R i n (E.Role a) → n.subject ≡ T.own → other_of T.sensitive a ≡ Some ack
         → first_not (is_done R.nodes R.edges i) C.Nothing (rest_edges T n a) ≡ C.Nothing
     later i l n a ack q s k =
         let inside : i < length S.nodes = omega (arith, l, f.stands) in

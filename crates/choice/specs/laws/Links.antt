@@ -1,5 +1,5 @@
 -- A linked target at which there is nothing to do: what it looks at elsewhere in the graph (sections 5.3 and 5.4). Assumes nothing.
-use Rattle.std.specs.Prelude.{ℕ, ◌≤◌, ◌<◌, ◌≡◌, refl, ◌⊎◌, Bool, false, cond, ◌&&◌, eqb}
+use Rattle.std.specs.Prelude.{ℕ, ◌≤◌, ◌<◌, ◌≡◌, refl, Bool, false, cond, ◌&&◌, eqb}
 use Rattle.std.proofs.Common.{arith, ◌∙◌, ap, inl, inr, ⊎_elim, eqb-true, eq-eqb}
 use Rattle.std.proofs.Math.Path.{sym, subst}
 use Rattle.std.proofs.Math.Bool.{true}

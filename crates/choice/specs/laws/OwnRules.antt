@@ -1,5 +1,5 @@
 -- The rules for a role about us: by whether it is sensitive (section 5.4). Assumes nothing.
-use Rattle.std.specs.Prelude.{ℕ, ◌≡◌, Bool, ◌||◌}
+use Rattle.std.specs.Prelude.{ℕ, ◌≡◌, Bool, ◌||◌, Option, Some, None}
 use Rattle.std.proofs.Math.Path.{refl, ap}
 use Rattle.std.proofs.Common.{sym}
 use Rattle.std.proofs.Math.Bool.{true, false, not, cond}
@@ -11,8 +11,6 @@ use Rattle.expression.specs.laws.Same.{same_role-eq}
 use Rattle.expression.specs.Kinds.{is_entity}
 use Rattle.word.specs.laws.Bools.{false-true}
 use Rattle.record.specs.declared.Pair.{Pair}
-use Rattle.tables.specs.declared.RoleAnswer.{RoleAnswer}
-use Rattle.tables.specs.declared.RoleAnswer.TheVariants as A
 use Rattle.tables.specs.Lookup.{is_sensitive, other_of}
 use Rattle.tables.specs.Public.{Hidden, keep}
 use Rattle.graph.specs.declared.Node.{Node}
@@ -23,20 +21,20 @@ use Rattle.moves.specs.Candidates.{Plan}
 use Rattle.moves.specs.Rules.{End, implications, to_subject, then_mark, control_edge, sensitive_rules, sens_frontier, own_rules}
 use Rattle.choice.specs.laws.Known.{known_as}
 
-is_found : RoleAnswer → Bool
-is_found (A.Found r) = true
-is_found A.Absent = false
+is_found : Option Role → Bool
+is_found (Some r) = true
+is_found None = false
 
-other_role : Role → RoleAnswer → Role
-other_role a (A.Found r) = r
-other_role a A.Absent = a
+other_role : Role → Option Role → Role
+other_role a (Some r) = r
+other_role a None = a
 
-pub absent-sensitive : (P : List Pair) (a : Role) → other_of P a ≡ A.Absent → is_sensitive P a ≡ false
+pub absent-sensitive : (P : List Pair) (a : Role) → other_of P a ≡ None → is_sensitive P a ≡ false
 unfolding other_of is_sensitive is_found
 absent-sensitive [] a h = refl
 absent-sensitive (p ∷ ps) a h = go (same_role p.role a) h (λ k. absent-sensitive ps a k)
   where
-    go : (b : Bool) → cond b (A.Found p.other) (other_of ps a) ≡ A.Absent → (other_of ps a ≡ A.Absent → is_sensitive ps a ≡ false)
+    go : (b : Bool) → cond b (Some p.other) (other_of ps a) ≡ None → (other_of ps a ≡ None → is_sensitive ps a ≡ false)
         → (b || is_sensitive ps a) ≡ false
     go true k ih = absurd (false-true (sym (ap is_found k)))
     go false k ih = ih k
@@ -47,13 +45,13 @@ module _ (o : End) (i : ℕ) (n : Node) (a : Role) (H : Hidden) (S : State) wher
       sensitive_rules o i n (control_edge o n ack) (implications n
       (keep (λ x. not (is_entity x)) (sens_frontier o (bodies_of o.tables.subject_stored (E.Role a))))) (known_as S H a ack)
 
-  pub own-plain : (P : List Pair) → other_of P a ≡ A.Absent → own_rules o i n a (known_of H P S) ≡ then_mark (to_subject n (sens_frontier o (E.Role a ∷ [])))
+  pub own-plain : (P : List Pair) → other_of P a ≡ None → own_rules o i n a (known_of H P S) ≡ then_mark (to_subject n (sens_frontier o (E.Role a ∷ [])))
   unfolding other_of known_of is_found
   own-plain [] h = refl
   own-plain (p ∷ ps) h = go (same_role p.role a) h (λ k. own-plain ps k)
     where
-      go : (b : Bool) → cond b (A.Found p.other) (other_of ps a) ≡ A.Absent
-          → (other_of ps a ≡ A.Absent → own_rules o i n a (known_of H ps S) ≡ then_mark (to_subject n (sens_frontier o (E.Role a ∷ []))))
+      go : (b : Bool) → cond b (Some p.other) (other_of ps a) ≡ None
+          → (other_of ps a ≡ None → own_rules o i n a (known_of H ps S) ≡ then_mark (to_subject n (sens_frontier o (E.Role a ∷ []))))
           → cond b (sensitive_rules o i n (control_edge o n p.other)
           (implications n (keep (λ x. not (is_entity x)) (sens_frontier o (bodies_of o.tables.subject_stored (E.Role a)))))
           (known_as S H p.role p.other)) (own_rules o i n a (known_of H ps S))
@@ -61,13 +59,13 @@ module _ (o : End) (i : ℕ) (n : Node) (a : Role) (H : Hidden) (S : State) wher
       go true k ih = absurd (false-true (sym (ap is_found k)))
       go false k ih = ih k
 
-  pub own-sensitive : (P : List Pair) (ack : Role) → other_of P a ≡ A.Found ack → own_rules o i n a (known_of H P S) ≡ rest_plan ack
+  pub own-sensitive : (P : List Pair) (ack : Role) → other_of P a ≡ Some ack → own_rules o i n a (known_of H P S) ≡ rest_plan ack
   unfolding other_of known_of is_found other_role
   own-sensitive [] ack h = absurd (false-true (ap is_found h))
   own-sensitive (p ∷ ps) ack h = go (same_role p.role a) refl h (λ k. own-sensitive ps ack k)
     where
-      go : (b : Bool) → same_role p.role a ≡ b → cond b (A.Found p.other) (other_of ps a) ≡ A.Found ack
-          → (other_of ps a ≡ A.Found ack → own_rules o i n a (known_of H ps S) ≡ rest_plan ack)
+      go : (b : Bool) → same_role p.role a ≡ b → cond b (Some p.other) (other_of ps a) ≡ Some ack
+          → (other_of ps a ≡ Some ack → own_rules o i n a (known_of H ps S) ≡ rest_plan ack)
           → cond b (sensitive_rules o i n (control_edge o n p.other)
           (implications n (keep (λ x. not (is_entity x)) (sens_frontier o (bodies_of o.tables.subject_stored (E.Role a)))))
           (known_as S H p.role p.other)) (own_rules o i n a (known_of H ps S))

@@ -1,5 +1,5 @@
 -- The choice at a node is what the rules give, expression by expression. Assumes nothing.
-use Rattle.std.specs.Prelude.{ℕ, ◌≡◌, refl, Bool, true, eqb}
+use Rattle.std.specs.Prelude.{ℕ, ◌≡◌, refl, Bool, true, eqb, Option, Some, None}
 use Rattle.std.proofs.Math.Path.{sym}
 use Rattle.std.proofs.Common.{◌∙◌, ap, eq-eqb, ne_eqb}
 use Rattle.std.proofs.Math.Bool.{false, not, cond}
@@ -11,8 +11,6 @@ use Rattle.expression.specs.declared.Expression.TheVariants as E
 use Rattle.expression.specs.Kinds.{is_entity}
 use Rattle.rt0.specs.From.{roles_of}
 use Rattle.class.specs.Names.{class_of}
-use Rattle.tables.specs.declared.RoleAnswer.{RoleAnswer}
-use Rattle.tables.specs.declared.RoleAnswer.TheVariants as A
 use Rattle.tables.specs.Tables.{Tables}
 use Rattle.tables.specs.Lookup.{other_of}
 use Rattle.tables.specs.Public.{public_of, hidden_of, keep}
@@ -130,7 +128,7 @@ module _ (T : Tables) (S : State) (d : Candidate → Bool) (i : ℕ) (n : Node) 
         then-mark d (to_subject n (frontier_of simp (public_of T).subject_stored (E.Role a ∷ []))) p q ∙ about false (ne_eqb n.subject T.own h)
 
     -- a role about us
-    pub plain-choice : {c : Choice} → {r : RoleAnswer} → r ≡ other_of T.sensitive a → r ≡ A.Absent → {b : Choice}
+    pub plain-choice : {c : Choice} → {r : Option Role} → r ≡ other_of T.sensitive a → r ≡ None → {b : Choice}
         → b ≡ first_not d C.Nothing (to_subject n (frontier_of (sens T.sensitive) (public_of T).subject_stored (E.Role a ∷ []))) → c ≡ or_else b C.Mark
         → c ≡ chosen_in d (own_rules o i n a o.known)
     unfolding end_in public_of
@@ -138,7 +136,7 @@ module _ (T : Tables) (S : State) (d : Candidate → Bool) (i : ℕ) (n : Node) 
         then-mark d (to_subject n (frontier_of (sens T.sensitive) (public_of T).subject_stored (E.Role a ∷ []))) q u
         ∙ sym (ap (chosen_in d) (own-plain o i n a (hidden_of T) S T.sensitive (sym p ∙ h)))
 
-    pub sensitive-choice : {c : Choice} → {r : RoleAnswer} {ack : Role} → r ≡ other_of T.sensitive a → r ≡ A.Found ack
+    pub sensitive-choice : {c : Choice} → {r : Option Role} {ack : Role} → r ≡ other_of T.sensitive a → r ≡ Some ack
         → {rest : Choice} {k : Known} {b : Choice}
         → rest ≡ first_not d C.Nothing (implications n
         (keep (λ x. not (is_entity x)) (frontier_of (sens T.sensitive) (public_of T).subject_stored (bodies_of (public_of T).subject_stored (E.Role a)))))

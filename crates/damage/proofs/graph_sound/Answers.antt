@@ -1,7 +1,6 @@
-use mathlib.Core.Path.{ap}
+use mathlib.Core.Path.{refl, ap}
 use mathlib.Core.Bool.{not}
 use Rattle.graph.specs.laws.Graph.{edges_of}
-use mathlib.Core.Path.{refl}
 use Rattle.damage.specs.laws.Damage.{graph-count, graph-records, graph-edges, graph-unjustified, graph-end, records-formed, brought-fit}
 use Rattle.damage.specs.laws.Damage.{edges-inside, edges-formed}
 use Rattle.damage.proofs.graph_sound.Goals as goal
@@ -9,18 +8,12 @@ use Rattle.damage.proofs.graph_sound.Goals as goal
 pub returns-then-not-count_sound : goal.returns-then-not-count_sound
 returns-then-not-count_sound c = graph-count _ _ c.count_sound.ensures (ap not c.if-not-count_sound.true)
 
-pub records_sound-requires : goal.records_sound-requires
-records_sound-requires c = (c.requires.0, c.requires.1, c.requires.2, c.requires.3, c.requires.5)
-
 pub returns-then-not-records_sound : goal.returns-then-not-records_sound
-returns-then-not-records_sound c = graph-records _ _ c.count_sound.ensures (ap not c.if-not-count_sound.false) (c.records_sound.ensures (edges_of c.args.edges)) (ap not c.if-not-records_sound.true)
-
-pub edges_fit-requires : goal.edges_fit-requires
-edges_fit-requires c = (c.requires.2, c.requires.3, c.requires.4)
+returns-then-not-records_sound c = graph-records _ _ c.count_sound.ensures (ap not c.if-not-count_sound.false) (c.records_sound.ensures (edges_of c.args.n.now.edges)) (ap not c.if-not-records_sound.true)
 
 pub returns-then-not-edges_fit : goal.returns-then-not-edges_fit
 returns-then-not-edges_fit c =
-    graph-edges _ _ c.count_sound.ensures (ap not c.if-not-count_sound.false) (c.records_sound.ensures (edges_of c.args.edges)) (ap not c.if-not-records_sound.false)
+    graph-edges _ _ c.count_sound.ensures (ap not c.if-not-count_sound.false) (c.records_sound.ensures (edges_of c.args.n.now.edges)) (ap not c.if-not-records_sound.false)
     c.edges_fit.ensures (ap not c.if-not-edges_fit.true)
 
 pub edges_justified-requires : goal.edges_justified-requires
@@ -28,14 +21,13 @@ edges_justified-requires c = (
   c.requires.3,
   c.requires.4,
   c.requires.5,
-  records-formed _ _ _ c.requires.3 refl (c.records_sound.ensures (edges_of c.args.edges))
-      (ap not c.if-not-records_sound.false),
+  records-formed _ _ _ c.requires.3 refl (c.records_sound.ensures (edges_of c.args.n.now.edges)) (ap not c.if-not-records_sound.false),
   edges-inside _ _ _ c.requires.2 (brought-fit _ _ _ c.edges_fit.ensures (ap not c.if-not-edges_fit.false)),
 )
 
 pub returns-then-not-edges_justified : goal.returns-then-not-edges_justified
 returns-then-not-edges_justified c =
-    graph-unjustified _ _ c.count_sound.ensures (ap not c.if-not-count_sound.false) (c.records_sound.ensures (edges_of c.args.edges)) (ap not c.if-not-records_sound.false)
+    graph-unjustified _ _ c.count_sound.ensures (ap not c.if-not-count_sound.false) (c.records_sound.ensures (edges_of c.args.n.now.edges)) (ap not c.if-not-records_sound.false)
     c.edges_fit.ensures (ap not c.if-not-edges_fit.false) (c.edges_justified.ensures _) (ap not c.if-not-edges_justified.true)
 
 pub state_of-requires : goal.state_of-requires
@@ -43,13 +35,12 @@ state_of-requires c = (
   c.requires.2,
   c.requires.3,
   c.requires.4,
-  records-formed _ _ _ c.requires.3 refl (c.records_sound.ensures (edges_of c.args.edges))
-      (ap not c.if-not-records_sound.false),
+  records-formed _ _ _ c.requires.3 refl (c.records_sound.ensures (edges_of c.args.n.now.edges)) (ap not c.if-not-records_sound.false),
   edges-formed _ _ _ c.requires.2 (brought-fit _ _ _ c.edges_fit.ensures (ap not c.if-not-edges_fit.false)),
 )
 
 pub returns : goal.returns
 returns c =
-    graph-end _ _ c.count_sound.ensures (ap not c.if-not-count_sound.false) (c.records_sound.ensures (edges_of c.args.edges)) (ap not c.if-not-records_sound.false)
+    graph-end _ _ c.count_sound.ensures (ap not c.if-not-count_sound.false) (c.records_sound.ensures (edges_of c.args.n.now.edges)) (ap not c.if-not-records_sound.false)
     c.edges_fit.ensures (ap not c.if-not-edges_fit.false) (c.edges_justified.ensures _) (ap not c.if-not-edges_justified.false) c.state_of.ensures
     c.end_sound.ensures

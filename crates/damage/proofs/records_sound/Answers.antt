@@ -7,12 +7,9 @@ pub returns-then-not-nodes_fit : goal.returns-then-not-nodes_fit
 returns-then-not-nodes_fit c = λ es. records-nodes _ _ c.nodes_fit.ensures (ap not c.if-not-nodes_fit.true)
 
 pub returns-then-not-primary_sound : goal.returns-then-not-primary_sound
-returns-then-not-primary_sound c = λ es. records-primary _ _ c.nodes_fit.ensures (ap not c.if-not-nodes_fit.false) (c.node_at-primary.ensures _ c.requires.2)
+returns-then-not-primary_sound c = λ es. records-primary _ _ c.nodes_fit.ensures (ap not c.if-not-nodes_fit.false) (c.node.ensures _ c.requires.2)
     c.primary_sound.ensures (ap not c.if-not-primary_sound.true)
 
-pub shown_fit-requires : goal.shown_fit-requires
-shown_fit-requires c = (c.requires.0, c.requires.1, c.requires.4)
-
 pub returns : goal.returns
-returns c = λ es. records-shown _ _ c.nodes_fit.ensures (ap not c.if-not-nodes_fit.false) (c.node_at-primary.ensures _ c.requires.2)
+returns c = λ es. records-shown _ _ c.nodes_fit.ensures (ap not c.if-not-nodes_fit.false) (c.node.ensures _ c.requires.2)
     c.primary_sound.ensures (ap not c.if-not-primary_sound.false) c.shown_fit.ensures

@@ -11,16 +11,16 @@ returns-then-not-header_sound c = sound-header _ _ c.header_sound.ensures (ap no
 pub returns-then-not-counts_agree : goal.returns-then-not-counts_agree
 returns-then-not-counts_agree c = sound-counts _ _ c.header_sound.ensures (ap not c.if-not-header_sound.false) c.counts_agree.ensures (ap not c.if-not-counts_agree.true)
 
-pub returns-then-negotiation-eq0 : goal.returns-then-negotiation-eq0
-returns-then-negotiation-eq0 c =
+pub returns-then-n-eq0 : goal.returns-then-n-eq0
+returns-then-n-eq0 c =
     sound_empty _ _ c.header_sound.ensures (ap not c.if-not-header_sound.false) c.counts_agree.ensures (ap not c.if-not-counts_agree.false)
-    c.if-negotiation-eq0.true c.empty_sound.ensures
+    c.if-n-eq0.true c.empty_sound.ensures
 
 pub graph_sound-requires : goal.graph_sound-requires
-graph_sound-requires c = let few = within-few c.args.negotiation c.requires.1 in
-    (c.requires.0.names, c.requires.0.ascending, omega (arith, c.if-negotiation-eq0.false), few.0, few.1, omega (arith, few.2))
+graph_sound-requires c = let few = within-few c.args.n.now c.requires.1 in
+    (c.requires.0.names, c.requires.0.ascending, omega (arith, c.if-n-eq0.false), few.0, few.1, omega (arith, few.2))
 
 pub returns : goal.returns
 returns c =
     sound-graph _ _ c.header_sound.ensures (ap not c.if-not-header_sound.false) c.counts_agree.ensures (ap not c.if-not-counts_agree.false)
-    c.if-negotiation-eq0.false c.graph_sound.ensures
+    c.if-n-eq0.false c.graph_sound.ensures

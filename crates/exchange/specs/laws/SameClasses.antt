@@ -1,6 +1,6 @@
 -- Ends that give every name the same class judge a message alike, whichever names each of them lists (request 2). Assumes nothing.
 use Prim.Native.Nat.{ℕ, zero, suc, ◌+◌}
-use Rattle.std.specs.Prelude.{◌≡◌, Bool, ◌||◌, List, map}
+use Rattle.std.specs.Prelude.{◌≡◌, Bool, ◌||◌, List, map, Result, Ok, Err}
 use Rattle.std.proofs.Math.Path.{refl}
 use Rattle.std.proofs.Common.{ap}
 use Rattle.std.proofs.Math.Bool.{cond}
@@ -15,8 +15,6 @@ use Rattle.class.specs.Names.{class_of}
 use Rattle.class.specs.Typing.{linked, together, type_of, suits, credential_number}
 use Rattle.message.specs.declared.Command.{Command}
 use Rattle.message.specs.declared.Command.TheVariants.{Show, Open, Bring, Join, Mark, End}
-use Rattle.message.specs.declared.CommandAnswer.{CommandAnswer}
-use Rattle.message.specs.declared.CommandAnswer.TheVariants.{Read, Refused}
 use Rattle.message.specs.Command.{command_at, size_of}
 use Rattle.message.specs.Message.{is_end}
 use Rattle.negotiation.specs.State.{State}
@@ -57,8 +55,8 @@ module _ (ns ms : List Name) (same : (m : ℕ) → class_of ns m ≡ class_of ms
   commands-same s m zero at S v = refl
   commands-same s m (suc f) at S v = go (command_at m at) (λ j U w. commands-same s m f j U w)
     where
-      go : (x : CommandAnswer) → ((j : ℕ) (U : State) (w : Bool) → commands_from f ns s m j U w ≡ commands_from f ms s m j U w)
+      go : (x : Result Command ℕ) → ((j : ℕ) (U : State) (w : Bool) → commands_from f ns s m j U w ≡ commands_from f ms s m j U w)
           → on_command (λ n U w. commands_from f ns s m (at + n) U w) ns s S v x ≡ on_command (λ n U w. commands_from f ms s m (at + n) U w) ms s S v x
-      go (Refused k) again = refl
-      go (Read c) again =
+      go (Err k) again = refl
+      go (Ok c) again =
           λ i. judged (legal-same s S c i) (cond (is_end c) (accepted (S, v)) (again (at + size_of c) (stepped S s c) (v || is_move c) i))

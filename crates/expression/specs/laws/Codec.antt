@@ -1,12 +1,11 @@
 -- The bytes of an expression: what was written is read back, and what is read is what writing yields.
-use Rattle.std.specs.Prelude.{ℕ, zero, suc, ◌+◌, ◌*◌, ◌/◌, ◌%◌, ◌<◌, ◌≤◌, ◌≡◌, refl, List, [], ◌∷◌, ◌++◌, true, length, get_or, take, drop}
+use Rattle.std.specs.Prelude.{ℕ, zero, suc, ◌+◌, ◌*◌, ◌/◌, ◌%◌, ◌<◌, ◌≤◌, ◌≡◌, refl, List, [], ◌∷◌, ◌++◌, true, length, get_or, take, drop, Some}
 use Rattle.std.proofs.Common.{sym, ap, ◌∙◌, append_assoc, arith, add-zero, add_assoc, div-add-mod', length-append, length-take-le, drop-drop, get_or-append-add, drop-cons}
 use Rattle.std.proofs.Math.ListN.{get_or-append}
 use Rattle.std.proofs.Math.Seq.{take-length, length_paste_head}
 use Rattle.std.proofs.lemmas.List.Edits.{take-paste, drop-paste}
 use Rattle.expression.specs.declared.Raw.{Raw}
 use Rattle.expression.specs.declared.Expression.{Expression}
-use Rattle.expression.specs.declared.ExpressionAnswer.TheVariants.{Read}
 use Rattle.expression.specs.Bytes.{raw_at, raw_bytes, number_at, pasted}
 use Rattle.expression.specs.Form.{raw_of, well_formed, form_of, read_of}
 use Rattle.expression.specs.laws.Laws.{complete, canonical}
@@ -64,7 +63,7 @@ raw-back d at r room =
     λ i. record { kind = k i; count = c i; n0 = h0 i; n1 = h1 i; n2 = h2 i; n3 = h3 i; n4 = h4 i; n5 = h5 i; n6 = h6 i; n7 = h7 i }
 
 -- a well-formed expression is read back from where it was written
-pub read-write : (d : List ℕ) (at : ℕ) (e : Expression) → at + 18 ≤ length d → well_formed e ≡ true → read_of (pasted d at (raw_bytes (raw_of e))) at ≡ Read e
+pub read-write : (d : List ℕ) (at : ℕ) (e : Expression) → at + 18 ≤ length d → well_formed e ≡ true → read_of (pasted d at (raw_bytes (raw_of e))) at ≡ Some e
 read-write d at e room h = ap form_of (raw-back d at (raw_of e) room) ∙ complete e h
 
 -- the n elements from at + i on, written out
@@ -109,7 +108,7 @@ raw-only s at bytes room =
     written ∙ sym (spelled 18 s at 0 (omega arith)) ∙ ap (λ (k : ℕ). take 18 (drop k s)) (add-zero at)
 
 -- reading succeeds only on the bytes that writing yields
-pub read_only : (s : List ℕ) (at : ℕ) (e : Expression) → ((i : ℕ) → get_or s i 0 < 256) → at + 18 ≤ length s → read_of s at ≡ Read e
+pub read_only : (s : List ℕ) (at : ℕ) (e : Expression) → ((i : ℕ) → get_or s i 0 < 256) → at + 18 ≤ length s → read_of s at ≡ Some e
     → (take 18 (drop at s) ≡ raw_bytes (raw_of e)) × (well_formed e ≡ true)
 read_only s at e bytes room h =
     let c = canonical (raw_at s at) e h in

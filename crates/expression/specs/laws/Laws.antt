@@ -1,10 +1,9 @@
 -- Reading succeeds on the bytes of a well-formed expression, and on no others.
-use Rattle.std.specs.Prelude.{ℕ, ◌≡◌, refl, Bool, true, false, ◌&&◌, eqb}
+use Rattle.std.specs.Prelude.{ℕ, ◌≡◌, refl, Bool, true, false, ◌&&◌, eqb, Some, None}
 use Rattle.std.proofs.Common.{sym, ap, ◌∙◌, arith, eqb-true, eq-eqb}
 use Rattle.expression.specs.declared.Raw.{Raw}
 use Rattle.expression.specs.declared.Expression.{Expression}
 use Rattle.expression.specs.declared.Expression.TheVariants as x
-use Rattle.expression.specs.declared.ExpressionAnswer.TheVariants.{Read, Wrong}
 use Rattle.expression.specs.Form.{raw_of, same_raw, well_formed, form_of, pick, expression_of}
 
 -- a number is itself
@@ -24,10 +23,10 @@ expression-raw (x.Intersection p) = refl
 expression-raw (x.Goal n) = refl
 
 -- a well-formed expression is read back from its numbers
-pub complete : (e : Expression) → well_formed e ≡ true → form_of (raw_of e) ≡ Read e
+pub complete : (e : Expression) → well_formed e ≡ true → form_of (raw_of e) ≡ Some e
 complete e h =
-    ap (λ (f : Expression). pick (same_raw (raw_of f) (raw_of e) && well_formed f) (Read f) Wrong) (expression-raw e)
-    ∙ ap (λ (b : Bool). pick b (Read e) Wrong) (ap (λ (b : Bool). b && well_formed e) (same_refl (raw_of e)) ∙ h)
+    ap (λ (f : Expression). pick (same_raw (raw_of f) (raw_of e) && well_formed f) (Some f) None) (expression-raw e)
+    ∙ ap (λ (b : Bool). pick b (Some e) None) (ap (λ (b : Bool). b && well_formed e) (same_refl (raw_of e)) ∙ h)
 
 -- the first of two tests that both pass
 pub and_left : (a b : Bool) → a && b ≡ true → a ≡ true
@@ -63,13 +62,13 @@ same-raw a b h =
     record-eq a b tk tc.1 t0.1 t1.1 t2.1 t3.1 t4.1 t5.1 t6.1 t7.1
 
 -- what is read is well-formed, and its numbers are those that were read
-pub canonical : (r : Raw) (e : Expression) → form_of r ≡ Read e → (raw_of e ≡ r) × (well_formed e ≡ true)
+pub canonical : (r : Raw) (e : Expression) → form_of r ≡ Some e → (raw_of e ≡ r) × (well_formed e ≡ true)
 canonical r e h = at (same_raw (raw_of f) r && well_formed f) refl h
   where
     f : Expression
     f = expression_of r
 
-    at : (t : Bool) → same_raw (raw_of f) r && well_formed f ≡ t → pick t (Read f) Wrong ≡ Read e → (raw_of e ≡ r) × (well_formed e ≡ true)
+    at : (t : Bool) → same_raw (raw_of f) r && well_formed f ≡ t → pick t (Some f) None ≡ Some e → (raw_of e ≡ r) × (well_formed e ≡ true)
     at true p q =
         let same : f ≡ e = cc in (
           ap raw_of (sym same) ∙ same-raw (raw_of f) r (and_left (same_raw (raw_of f) r) (well_formed f) p),

@@ -1,34 +1,31 @@
 -- What is read from an index where certain bytes stand. Assumes nothing.
-use Rattle.std.specs.Prelude.{ℕ, ◌+◌, ◌≤◌, ◌*◌, ◌/◌, ◌%◌, ◌<◌, ◌≡◌, refl, true, Bool, false, List, ◌∷◌, ◌++◌, length, get_or, take, drop}
+use Rattle.std.specs.Prelude.{ℕ, ◌+◌, ◌≤◌, ◌*◌, ◌/◌, ◌%◌, ◌<◌, ◌≡◌, refl, true, Bool, false, List, ◌∷◌, ◌++◌, length, get_or, take, drop, Option, Some, None}
 use Rattle.std.proofs.Common.{sym, ap, ◌∙◌, arith, add-zero, div-add-mod', length-append, length-drop, take-append-drop, take-add, take_at, get_or-drop, drop-drop}
 use Rattle.std.proofs.Math.Seq.{take-length}
 use Rattle.expression.specs.declared.Credential.{Credential}
-use Rattle.expression.specs.declared.CredentialAnswer.TheVariants.{Read}
 use Rattle.expression.specs.Bytes.{pasted, number_at, number_bytes}
 use Rattle.expression.specs.Credential.{well_formed_credential, read_credential, credential_bytes, pick_credential, role_at, credential_of, role_bytes}
 use Rattle.expression.specs.laws.Credential.{credential-back}
 use Rattle.expression.specs.declared.Role.{Role}
-use Rattle.expression.specs.declared.ExpressionAnswer.{ExpressionAnswer}
-use Rattle.expression.specs.declared.ExpressionAnswer.TheVariants as e
-use Rattle.expression.specs.declared.CredentialAnswer.TheVariants as a
 use Rattle.expression.specs.Form.{read_of}
+use Rattle.expression.specs.declared.Expression.{Expression}
 
 abbrev pub Bytes : List ℕ → Type 0
 Bytes s = (i : ℕ) → get_or s i 0 < 256
 
 -- a credential that is read is well formed
-credential-formed : (h : Role) (x : ExpressionAnswer) (c : Credential) → credential_of h x ≡ a.Read c → well_formed_credential c ≡ true
-credential-formed h (e.Read b) c k = go (well_formed_credential r) refl k
+credential-formed : (h : Role) (x : Option Expression) (c : Credential) → credential_of h x ≡ Some c → well_formed_credential c ≡ true
+credential-formed h (Some b) c k = go (well_formed_credential r) refl k
   where
     r : Credential
     r = record { head = h; body = b }
 
-    go : (t : Bool) → well_formed_credential r ≡ t → pick_credential t (a.Read r) a.Wrong ≡ a.Read c → well_formed_credential c ≡ true
+    go : (t : Bool) → well_formed_credential r ≡ t → pick_credential t (Some r) None ≡ Some c → well_formed_credential c ≡ true
     go true p q = let same : r ≡ c = cc in ap well_formed_credential (sym same) ∙ p
     go false p q = let z : ◌≡◌ {A = ℕ} 0 1 = cc in absurd (omega arith)
-credential-formed h e.Wrong c k = let z : ◌≡◌ {A = ℕ} 0 1 = cc in absurd (omega arith)
+credential-formed h None c k = let z : ◌≡◌ {A = ℕ} 0 1 = cc in absurd (omega arith)
 
-pub read-formed : (s : List ℕ) (at : ℕ) (c : Credential) → read_credential s at ≡ a.Read c → well_formed_credential c ≡ true
+pub read-formed : (s : List ℕ) (at : ℕ) (c : Credential) → read_credential s at ≡ Some c → well_formed_credential c ≡ true
 unfolding read_credential
 read-formed s at c h = credential-formed (role_at s at) (read_of s (at + 4)) c h
 
@@ -61,7 +58,7 @@ module _ (s : List ℕ) (at : ℕ) (inside : at ≤ length s) where
   size-there l h = omega (arith, length-drop at s, ap length h)
 
   -- the credential
-  pub read-there : (c : Credential) (l : List ℕ) → well_formed_credential c ≡ true → drop at s ≡ credential_bytes c ++ l → read_credential s at ≡ Read c
+  pub read-there : (c : Credential) (l : List ℕ) → well_formed_credential c ≡ true → drop at s ≡ credential_bytes c ++ l → read_credential s at ≡ Some c
   read-there c l formed h =
       let b : List ℕ = credential_bytes c in
       let there : take 22 (drop at s) ≡ b = ap (take 22) h ∙ take_at b l 22 refl in

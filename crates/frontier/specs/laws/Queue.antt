@@ -9,6 +9,7 @@ use Rattle.rt0.specs.declared.Pool.{Pool}
 use Rattle.rt0.specs.laws.Pool.{head_at, body_at}
 use Rattle.closure.specs.laws.Rules.{el}
 use Rattle.propagation.specs.laws.Flags.{flag, cnt}
+use Rattle.frontier.specs.declared.Work.{Work}
 use Rattle.frontier.specs.laws.Frontier.{Chain}
 
 -- credential i is on and has the head p
@@ -22,11 +23,6 @@ pub record Next (P : Pool) (on : List ℕ) (x : Expression) (i : ℕ) : Type 0 w
   pub head : x ≡ E.Role (head_at P i)
 
 -- the credentials found, and these in the order of their finding
-pub record Work : Type 0 where
-  pub found : List ℕ
-  pub queue : List ℕ
-  pub tail : ℕ
-
 abbrev pub work : List ℕ → List ℕ → ℕ → Work
 work f q t = record { found = f; queue = q; tail = t }
 

@@ -16,7 +16,8 @@ use Rattle.closure.specs.laws.Rules.{el}
 use Rattle.propagation.specs.laws.Flags.{decided, cnt, cnt-le, cnt-one, cnt-none, cnt-room, flag, flag_same, flag-other, flag-grows, flag-cases}
 use Rattle.propagation.specs.laws.Flags.{flag-zeros, flag-past}
 use Rattle.frontier.specs.laws.Frontier.{Chain, first, next, Reaches, role-eq}
-use Rattle.frontier.specs.laws.Queue.{is_next, Next, Work, work, Queue, Later, Joined, Entered, Followed, Done, Running}
+use Rattle.frontier.specs.declared.Work.{Work}
+use Rattle.frontier.specs.laws.Queue.{is_next, Next, work, Queue, Later, Joined, Entered, Followed, Done, Running}
 
 -- One credential
 

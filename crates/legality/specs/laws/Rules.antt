@@ -4,7 +4,7 @@ use Rattle.std.proofs.Common.{arith, ◌∙◌}
 use Rattle.std.proofs.Math.Path.{◌≡◌, refl, sym, ap, subst}
 use Rattle.std.proofs.Math.Logic.{⊎_elim}
 use Rattle.std.proofs.Math.Bool.{Bool, true, false}
-use Rattle.std.specs.Prelude.{not, cond, ◌&&◌}
+use Rattle.std.specs.Prelude.{not, cond, ◌&&◌, Option, Some, None}
 use mathlib.Core.List.Memᴰ
 use mathlib.Core.List.{List, [], ◌∷◌, ◌++◌, map, Memᴰ}
 use borrow.Author.Tests.{eq-eqb, eqb-true, ltb-true, lt-ltb}
@@ -28,8 +28,6 @@ use Rattle.rt0.specs.laws.Lists.{any-find, map-find}
 use Rattle.word.specs.laws.Bools.{and_parts}
 use Rattle.class.specs.Names.{class_of}
 use Rattle.record.specs.declared.Pair.{Pair}
-use Rattle.tables.specs.declared.RoleAnswer.{RoleAnswer}
-use Rattle.tables.specs.declared.RoleAnswer.TheVariants as A
 use Rattle.tables.specs.Tables.{Tables}
 use Rattle.tables.specs.Accepted.{rising_none, rising-cons}
 use Rattle.tables.specs.Lookup.{direct_of, other_of}
@@ -131,9 +129,9 @@ module _ (T : Tables) (S : State) (g : Going T S) where
   unfolding holding_of hidden_of
   held_by r = go (any (same_role r) (held_of T.own T.sensitive T.subject_stored)) refl
     where
-      policy : Memᴰ (direct_of T.own r) T.subject_stored → (a : RoleAnswer) → other_of T.access r ≡ a → HeldBy T r (policy_of a)
-      policy m (A.Found q) e = (m, access-proper T g.tables r q e)
-      policy m A.Absent e = m
+      policy : Memᴰ (direct_of T.own r) T.subject_stored → (a : Option Role) → other_of T.access r ≡ a → HeldBy T r (policy_of a)
+      policy m (Some q) e = (m, access-proper T g.tables r q e)
+      policy m None e = m
 
       go : (b : Bool) → any (same_role r) (held_of T.own T.sensitive T.subject_stored) ≡ b → HeldBy T r (cond b (policy_of (other_of T.access r)) Absent)
       go true e =

@@ -1,5 +1,5 @@
 -- What sound tables say of their credentials, and of sensitive roles with their Ack and AC roles. Assumes nothing.
-use Rattle.std.specs.Prelude.{ℕ, ◌≡◌, refl, Bool, cond, eqb}
+use Rattle.std.specs.Prelude.{ℕ, ◌≡◌, refl, Bool, cond, eqb, Option, Some, None}
 use Rattle.std.proofs.Common.{arith, ap, eqb-true}
 use Rattle.std.proofs.Math.Path.{subst}
 use Rattle.std.proofs.Math.Bool.{true, false}
@@ -16,8 +16,6 @@ use Rattle.rt0.specs.Lists.{first_or}
 use Rattle.class.specs.Typing.{credential_number}
 use Rattle.record.specs.declared.Pair.{Pair}
 use Rattle.record.specs.Record.{formed}
-use Rattle.tables.specs.declared.RoleAnswer.{RoleAnswer}
-use Rattle.tables.specs.declared.RoleAnswer.TheVariants as A
 use Rattle.tables.specs.Tables.{Tables}
 use Rattle.tables.specs.Check.{or_else, stored_number}
 use Rattle.tables.specs.Accepted.{Rising, Sound}
@@ -42,27 +40,27 @@ stored-classes : (ns : List Name) (subject : Bool) (c : Credential) → stored_n
 unfolding stored_number
 stored-classes ns subject c h = else-none (credential_number ns c) _ h
 
-abbrev number : RoleAnswer → ℕ
-number (A.Found a) = 1
-number A.Absent = 0
+abbrev number : Option Role → ℕ
+number (Some a) = 1
+number None = 0
 
-abbrev role_in : Role → RoleAnswer → Role
-role_in r (A.Found a) = a
-role_in r A.Absent = r
+abbrev role_in : Role → Option Role → Role
+role_in r (Some a) = a
+role_in r None = r
 
 -- a pair in which a role is found
-other-find : (P : List Pair) (r q : Role) → other_of P r ≡ A.Found q → (p : Pair) × Memᴰ p P × (p.other ≡ q)
+other-find : (P : List Pair) (r q : Role) → other_of P r ≡ Some q → (p : Pair) × Memᴰ p P × (p.other ≡ q)
 unfolding other_of
 other-find P r q h = go P h
   where
     step : (p : Pair) (L : List Pair) (b : Bool) →
-        ((first_or (λ (p : Pair). same_role p.role r) (λ p. A.Found p.other) A.Absent L ≡ A.Found q) → (p : Pair) × Memᴰ p L × (p.other ≡ q))
-        → cond b (A.Found p.other) (first_or (λ (p : Pair). same_role p.role r) (λ p. A.Found p.other) A.Absent L) ≡ A.Found q
+        ((first_or (λ (p : Pair). same_role p.role r) (λ p. Some p.other) None L ≡ Some q) → (p : Pair) × Memᴰ p L × (p.other ≡ q))
+        → cond b (Some p.other) (first_or (λ (p : Pair). same_role p.role r) (λ p. Some p.other) None L) ≡ Some q
         → (s : Pair) × Memᴰ s (p ∷ L) × (s.other ≡ q)
     step p L true ih e = (p, mathlib.Core.List.Memᴰ.head refl, ap (role_in r) e)
     step p L false ih e = let w = ih e in (w.0, mathlib.Core.List.Memᴰ.tail w.1, w.2)
 
-    go : (L : List Pair) → first_or (λ (p : Pair). same_role p.role r) (λ p. A.Found p.other) A.Absent L ≡ A.Found q
+    go : (L : List Pair) → first_or (λ (p : Pair). same_role p.role r) (λ p. Some p.other) None L ≡ Some q
         → (p : Pair) × Memᴰ p L × (p.other ≡ q)
     go [] e = absurd (let z : ◌≡◌ {A = ℕ} 0 1 = ap number e in omega (arith, z))
     go (p ∷ L) e = step p L (same_role p.role r) (λ k. go L k) e
@@ -104,7 +102,7 @@ module _ (T : Tables) (t : Sound T) where
   ack-proper p m = role-proper T.names p.other (and_parts (is_role p.role) (is_role p.other) (t.sensitive.form p m)).1
 
   -- AC roles
-  pub access-proper : (r q : Role) → other_of T.access r ≡ A.Found q → Proper T.names (E.Role q)
+  pub access-proper : (r q : Role) → other_of T.access r ≡ Some q → Proper T.names (E.Role q)
   unfolding formed
   access-proper r q h =
       let w = other-find T.access r q h in

@@ -1,43 +1,10 @@
-use mathlib.Core.Path.{ap}
-use mathlib.Core.Bool.{not}
-use mathlib.Core.Path.{◌≡◌, refl, sym, ◌∙◌}
-use mathlib.Core.Logic.{inl, inr}
-use mathlib.Core.Bool.{Bool, true}
-use native.Mathlib.Omega.{arith}
-use borrow.Author.Tests.{not-true}
-use Rattle.question.specs.laws.Credentials.{listed-all, listed-refused, list-refusal}
-use Rattle.question.specs.laws.Question.{true-sized, question-outside, question-inside}
-use Rattle.measure.specs.laws.RepeatedLaws.{count_most, repeated-refused, repeated-answer}
+use Rattle.std.proofs.Common.{sym, refl, ◌∙◌, inr}
+use Rattle.question.specs.laws.Credentials.{listed-refused, list-refusal}
+use Rattle.question.specs.laws.Question.{question-inside}
+use Rattle.measure.specs.laws.RepeatedLaws.{repeated-refused}
 use Rattle.measure.proofs.measure_questions.Goals as goal
 
--- a test that holds
-inside : {b t : Bool} → b ≡ t → b ≡ true → t ≡ true
-inside e h = sym e ∙ h
-
-pub returns-then-not-sized : goal.returns-then-not-sized
-returns-then-not-sized c = repeated-refused _ _ _ (inl refl) (question-outside _ _ _ (sym c.sized.ensures ∙ not-true _ (ap not c.if-not-sized.true)))
-
-pub list-listing-requires : goal.list-listing-requires
-list-listing-requires c = (true-sized _ _ _ (inside c.sized.ensures c.if-not-sized.false)).most
-
-pub returns-then-refusal-ne0 : goal.returns-then-refusal-ne0
-returns-then-refusal-ne0 c = let read = sym c.list-listing.ensures.0 ∙ listed-refused c.list-listing.result c.if-refusal-ne0.true in
-    repeated-refused _ _ _ (inr (list-refusal _ _ read)) (question-inside _ _ _ _ _ _ (inside c.sized.ensures c.if-not-sized.false) read refl refl)
-
-pub operand-requires : goal.operand-requires
-operand-requires c = (true-sized _ _ _ (inside c.sized.ensures c.if-not-sized.false)).first
-
-pub returns-in_default : goal.returns-in_default
-returns-in_default c = repeated-refused _ _ _ (inr (inr refl)) (question-inside _ _ _ _ _ _ (inside c.sized.ensures c.if-not-sized.false) (sym c.list-listing.ensures.0 ∙ listed-all c.list-listing.result c.if-refusal-ne0.false) (sym c.operand.ensures ∙ c.in_default.is) refl)
-
-pub operand-requires-2 : goal.operand-requires-2
-operand-requires-2 c = (true-sized _ _ _ (inside c.sized.ensures c.if-not-sized.false)).second
-
-pub returns-in_default-operand : goal.returns-in_default-operand
-returns-in_default-operand c = repeated-refused _ _ _ (inr (inr refl)) (question-inside _ _ _ _ _ _ (inside c.sized.ensures c.if-not-sized.false) (sym c.list-listing.ensures.0 ∙ listed-all c.list-listing.result c.if-refusal-ne0.false) (sym c.operand.ensures ∙ c.in-Read.is) (sym c.operand-2.ensures ∙ c.in_default-operand.is))
-
-pub overflow_mul-result : goal.overflow_mul-result
-overflow_mul-result c = omega (arith, count_most _ _ _ c.from_times.ensures)
-
-pub returns : goal.returns
-returns c = repeated-answer _ _ _ _ c.from_times.ensures (question-inside _ _ _ _ _ _ (inside c.sized.ensures c.if-not-sized.false) (sym c.list-listing.ensures.0 ∙ listed-all c.list-listing.result c.if-refusal-ne0.false) (sym c.operand.ensures ∙ c.in-Read.is) (sym c.operand-2.ensures ∙ c.in-Read-operand.is))
+pub returns-in-Err : goal.returns-in-Err
+returns-in-Err c =
+    let read = sym c.in-Err.ensures.listed ∙ listed-refused refl in
+    repeated-refused _ _ _ (inr (list-refusal _ _ read)) (question-inside _ _ _ _ _ _ (sym c.sized.ensures ∙ c.if-not-sized.false) read refl refl)

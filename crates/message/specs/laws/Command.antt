@@ -1,11 +1,9 @@
 -- What a command is read as, by the tests on its bytes, and what is written in steps. Assumes nothing.
-use Rattle.std.specs.Prelude.{ℕ, ◌+◌, ◌-◌, ◌<◌, ◌≤◌, ◌≡◌, Bool, List, [], ◌∷◌, ◌++◌, eqb, length, get_or}
+use Rattle.std.specs.Prelude.{ℕ, ◌+◌, ◌-◌, ◌<◌, ◌≤◌, ◌≡◌, Bool, List, [], ◌∷◌, ◌++◌, eqb, length, get_or, Option, Some, None, Result, Ok, Err}
 use Rattle.std.proofs.Math.Path.{sym, ap}
 use Rattle.std.proofs.Common.{◌∙◌, subst, arith, lt-ltb, le-ltb, ne_eqb}
 use Rattle.std.proofs.Math.Bool.{cond}
 use Rattle.expression.specs.declared.Credential.{Credential}
-use Rattle.expression.specs.declared.CredentialAnswer.{CredentialAnswer}
-use Rattle.expression.specs.declared.ExpressionAnswer.TheVariants as e
 use Rattle.expression.specs.Bytes.{number_at, raw_bytes, pasted, number_bytes}
 use Rattle.expression.specs.Form.{raw_of, read_of}
 use Rattle.expression.specs.laws.Codec.{paste-paste}
@@ -15,8 +13,6 @@ use Rattle.message.specs.declared.Opening.{Opening}
 use Rattle.message.specs.declared.NewEdge.{NewEdge}
 use Rattle.message.specs.declared.Command.{Command}
 use Rattle.message.specs.declared.Command.TheVariants.{Open, Bring, Join, Mark, End, Show}
-use Rattle.message.specs.declared.CommandAnswer.{CommandAnswer}
-use Rattle.message.specs.declared.CommandAnswer.TheVariants.{Read, Refused}
 use Rattle.message.specs.Command.{edge_kind, formed_opening, formed_new, whole, checked, shown, show_at, opening_of, open_at, new_of, brought, bring_at}
 use Rattle.message.specs.Command.{edge_of, join_at, mark_at, end_at, by_code, command_at, new_bytes, command_bytes, size_of}
 
@@ -31,26 +27,26 @@ size-some End = omega arith
 
 module _ (size : ℕ) (s : List ℕ) (at : ℕ) where
   -- too few bytes are left
-  cut : (r : CommandAnswer) → length s - at < size → Refused 2 ≡ whole size s at r
-  cut r h = sym (ap (λ (t : Bool). cond t (Refused 2) r) (lt-ltb (length s - at) size h))
+  cut : (r : Result Command ℕ) → length s - at < size → Err 2 ≡ whole size s at r
+  cut r h = sym (ap (λ (t : Bool). cond t (Err 2) r) (lt-ltb (length s - at) size h))
 
   -- enough bytes are left
-  full : {r q : CommandAnswer} → size ≤ length s - at → q ≡ r → q ≡ whole size s at r
-  full {r} h e = e ∙ sym (ap (λ (t : Bool). cond t (Refused 2) r) (le-ltb (length s - at) size h))
+  full : {r q : Result Command ℕ} → size ≤ length s - at → q ≡ r → q ≡ whole size s at r
+  full {r} h e = e ∙ sym (ap (λ (t : Bool). cond t (Err 2) r) (le-ltb (length s - at) size h))
 
 module _ (s : List ℕ) (at : ℕ) where
   -- a credential, cut
-  pub show-cut : length s - at < 23 → Refused 2 ≡ show_at s at
+  pub show-cut : length s - at < 23 → Err 2 ≡ show_at s at
   unfolding show_at
   show-cut h = cut 23 s at _ h
 
   -- a credential, whole
-  pub show-full : (r : CredentialAnswer) → 23 ≤ length s - at → read_credential s (at + 1) ≡ r → shown r ≡ show_at s at
+  pub show-full : (r : Option Credential) → 23 ≤ length s - at → read_credential s (at + 1) ≡ r → shown r ≡ show_at s at
   unfolding show_at
   show-full r h q = full 23 s at h (ap shown (sym q))
 
   -- an open, cut
-  pub open-cut : length s - at < 6 → Refused 2 ≡ open_at s at
+  pub open-cut : length s - at < 6 → Err 2 ≡ open_at s at
   unfolding open_at
   open-cut h = cut 6 s at _ h
 
@@ -63,17 +59,17 @@ module _ (s : List ℕ) (at : ℕ) where
       full 6 s at h (λ i. checked (sym (sym (ap formed_opening same) ∙ f) i) (Open (same i)))
 
   -- an edge with a new child, cut
-  pub bring-cut : length s - at < 24 → Refused 2 ≡ bring_at s at
+  pub bring-cut : length s - at < 24 → Err 2 ≡ bring_at s at
   unfolding bring_at
   bring-cut h = cut 24 s at _ h
 
   -- an edge with a new child, its expression of wrong form
-  pub bring-wrong : 24 ≤ length s - at → read_of s (at + 3) ≡ e.Wrong → Refused 3 ≡ bring_at s at
+  pub bring-wrong : 24 ≤ length s - at → read_of s (at + 3) ≡ None → Err 3 ≡ bring_at s at
   unfolding bring_at
   bring-wrong h q = full 24 s at h (ap (brought s at) (sym q))
 
   -- an edge with a new child, whole
-  pub bring-full : (n : NewEdge) (b : Bool) → 24 ≤ length s - at → read_of s (at + 3) ≡ e.Read n.expression → n.kind ≡ get_or s (at + 1) 0
+  pub bring-full : (n : NewEdge) (b : Bool) → 24 ≤ length s - at → read_of s (at + 3) ≡ Some n.expression → n.kind ≡ get_or s (at + 1) 0
       → n.parent ≡ get_or s (at + 2) 0 → n.subject ≡ number_at s (at + 21) → n.state ≡ get_or s (at + 23) 0 → formed_new n ≡ b
       → checked b (Bring n) ≡ bring_at s at
   unfolding bring_at
@@ -82,7 +78,7 @@ module _ (s : List ℕ) (at : ℕ) where
       full 24 s at h ((λ i. checked (sym (sym (ap formed_new same) ∙ f) i) (Bring (same i))) ∙ ap (brought s at) (sym x))
 
   -- an edge between old nodes, cut
-  pub join-cut : length s - at < 4 → Refused 2 ≡ join_at s at
+  pub join-cut : length s - at < 4 → Err 2 ≡ join_at s at
   unfolding join_at
   join-cut h = cut 4 s at _ h
 
@@ -95,27 +91,27 @@ module _ (s : List ℕ) (at : ℕ) where
       full 4 s at h (λ i. checked (sym (sym (ap edge_kind k) ∙ f) i) (Join (same i)))
 
   -- a mark, cut
-  pub mark-cut : length s - at < 2 → Refused 2 ≡ mark_at s at
+  pub mark-cut : length s - at < 2 → Err 2 ≡ mark_at s at
   unfolding mark_at
   mark-cut h = cut 2 s at _ h
 
   -- a mark, whole
-  pub mark-full : (n : ℕ) → 2 ≤ length s - at → n ≡ get_or s (at + 1) 0 → Read (Mark n) ≡ mark_at s at
+  pub mark-full : (n : ℕ) → 2 ≤ length s - at → n ≡ get_or s (at + 1) 0 → Ok (Mark n) ≡ mark_at s at
   unfolding mark_at
-  mark-full n h q = full 2 s at h (ap (λ (k : ℕ). Read (Mark k)) q)
+  mark-full n h q = full 2 s at h (ap (λ (k : ℕ). Ok (Mark k)) q)
 
   -- an end, last
-  pub end-last : length s - at ≡ 1 → Read End ≡ end_at s at
+  pub end-last : length s - at ≡ 1 → Ok End ≡ end_at s at
   unfolding end_at
-  end-last h = sym (ap (λ (n : ℕ). cond (eqb n 1) (Read End) (Refused 2)) h)
+  end-last h = sym (ap (λ (n : ℕ). cond (eqb n 1) (Ok End) (Err 2)) h)
 
   -- an end that bytes follow
-  pub end-followed : (length s - at ≡ 1 → ⊥) → Refused 2 ≡ end_at s at
+  pub end-followed : (length s - at ≡ 1 → ⊥) → Err 2 ≡ end_at s at
   unfolding end_at
-  end-followed h = sym (ap (λ (t : Bool). cond t (Read End) (Refused 2)) (ne_eqb (length s - at) 1 h))
+  end-followed h = sym (ap (λ (t : Bool). cond t (Ok End) (Err 2)) (ne_eqb (length s - at) 1 h))
 
   -- nothing stands there
-  pub nothing : length s ≤ at → Refused 2 ≡ command_at s at
+  pub nothing : length s ≤ at → Err 2 ≡ command_at s at
   unfolding command_at
   nothing h = cut 1 s at _ (omega arith)
 
@@ -126,7 +122,7 @@ module _ (s : List ℕ) (at : ℕ) where
 
   -- an unknown first byte
   pub unknown : (code : ℕ) → (code ≡ 1 → ⊥) → (code ≡ 2 → ⊥) → (code ≡ 3 → ⊥) → (code ≡ 4 → ⊥) → (code ≡ 5 → ⊥) → (code ≡ 6 → ⊥)
-      → Refused 2 ≡ by_code code s at
+      → Err 2 ≡ by_code code s at
   unknown code h0 h1 h2 h3 h4 h5 = sym (simp (ne_eqb code 1 h0, ne_eqb code 2 h1, ne_eqb code 3 h2, ne_eqb code 4 h3, ne_eqb code 5 h4, ne_eqb code 6 h5))
 
 -- a credential command, written in two steps

@@ -1,6 +1,6 @@
 -- Commands are read from their own bytes and from no others, and refused for two reasons. Assumes nothing.
 use Prim.Native.Nat.{ℕ, suc, ◌+◌, ◌-◌, ◌<◌, ◌≤◌}
-use Rattle.std.specs.Prelude.{◌≡◌, ◌⊎◌, ◌↔◌, Bool, cond, ◌&&◌, ltb, take}
+use Rattle.std.specs.Prelude.{◌≡◌, ◌⊎◌, ◌↔◌, Bool, cond, ◌&&◌, ltb, take, Option, Some, None, Result, Ok, Err}
 use Rattle.std.proofs.Math.Path.{refl, sym, ap, subst}
 use Rattle.std.proofs.Common.{◌∙◌, ⊎_elim, arith, add_assoc, add-one, length-append, length-drop, take-append-drop, drop-cons, get_or-take, get_or-drop, take-add, take_at, length-take-le}
 use Rattle.std.proofs.Math.Logic.{inl, inr}
@@ -12,11 +12,7 @@ use Rattle.std.proofs.Math.ListN.{length, get_or, drop, drop_of_length-le}
 use Rattle.std.proofs.Math.Seq.{drop-drop, take-length, drop-append_seam}
 use Rattle.expression.specs.declared.Expression.{Expression}
 use Rattle.expression.specs.declared.Expression.TheVariants as E
-use Rattle.expression.specs.declared.ExpressionAnswer.{ExpressionAnswer}
-use Rattle.expression.specs.declared.ExpressionAnswer.TheVariants as e
 use Rattle.expression.specs.declared.Credential.{Credential}
-use Rattle.expression.specs.declared.CredentialAnswer.{CredentialAnswer}
-use Rattle.expression.specs.declared.CredentialAnswer.TheVariants as a
 use Rattle.expression.specs.Bytes.{number_at, raw_at, raw_bytes, pasted, number_bytes}
 use Rattle.expression.specs.Form.{raw_of, read_of, well_formed}
 use Rattle.expression.specs.laws.Laws.{canonical}
@@ -29,8 +25,6 @@ use Rattle.message.specs.declared.Opening.{Opening}
 use Rattle.message.specs.declared.NewEdge.{NewEdge}
 use Rattle.message.specs.declared.Command.{Command}
 use Rattle.message.specs.declared.Command.TheVariants.{Show, Open, Bring, Join, Mark, End}
-use Rattle.message.specs.declared.CommandAnswer.{CommandAnswer}
-use Rattle.message.specs.declared.CommandAnswer.TheVariants.{Read, Refused}
 use Rattle.message.specs.Command.{edge_kind, formed_opening, formed_new, formed_command, whole, checked, shown, show_at, opening_of, open_at, new_of}
 use Rattle.message.specs.Command.{brought, bring_at, edge_of, join_at, mark_at, end_at, by_code, command_at, opening_bytes, new_bytes, edge_bytes}
 use Rattle.message.specs.Command.{command_bytes, size_of}
@@ -98,14 +92,14 @@ module _ (s : List ℕ) (at : ℕ) where
       ∙ ap (λ (l : List ℕ). number_bytes (number_at s (at + 1)) ++ l) (number-only bytes 1 3 (omega arith))
       ∙ (λ j. number_bytes (number_at s (at + 1)) ++ (number_bytes (number_at s (sym (add_assoc at 1 2) j)) ++ next-byte 0 s at 5 (omega arith) j))
 
-  child-only : Bytes s → (child : Expression) → at + 24 ≤ length s → read_of s (at + 3) ≡ e.Read child
+  child-only : Bytes s → (child : Expression) → at + 24 ≤ length s → read_of s (at + 3) ≡ Some child
       → take 21 (drop (at + 3) s) ≡ raw_bytes (raw_of child) ++ take 3 (drop (at + 21) s)
   child-only bytes child h q =
       take-add 18 3 (drop (at + 3) s)
       ∙ (λ j. (read_only s (at + 3) child bytes (omega arith) q).0 j ++ take 3 (drop-drop 18 (at + 3) s j))
       ∙ ap (λ (k : ℕ). raw_bytes (raw_of child) ++ take 3 (drop k s)) (add_assoc at 3 18)
 
-  bring-only : Bytes s → (child : Expression) → at + 24 ≤ length s → read_of s (at + 3) ≡ e.Read child → take 23 (drop (at + 1) s) ≡ new_bytes (new_of s at child)
+  bring-only : Bytes s → (child : Expression) → at + 24 ≤ length s → read_of s (at + 3) ≡ Some child → take 23 (drop (at + 1) s) ≡ new_bytes (new_of s at child)
   bring-only bytes child h q =
       let rest : take 3 (drop (at + 21) s) ≡ number_bytes (number_at s (at + 21)) ++ (get_or s (at + 23) 0 ∷ [])
       = number-only bytes 1 21 (omega arith) ∙ ap (λ (l : List ℕ). number_bytes (number_at s (at + 21)) ++ l) (next-byte 0 s at 23 (omega arith)) in
@@ -191,21 +185,21 @@ some = record { head = record { entity = 1; name = 1 }; body = E.Entity 1 }
 
 -- what is known where an answer was found: of a command that it has room and right form, that its bytes stand there, and that nothing
 -- follows an end; that a refusal is 2 where no command stands whole, and else 3
-abbrev Sure : List ℕ → ℕ → CommandAnswer → Type 0
-Sure s at (Read c) =
+abbrev Sure : List ℕ → ℕ → Result Command ℕ → Type 0
+Sure s at (Ok c) =
     (at + size_of c ≤ length s) × (formed_command c ≡ true) × (Bytes s → take (size_of c) (drop at s) ≡ command_bytes c) × (is_end c ≡ true → length s ≡ at + 1)
-Sure s at (Refused k) = ((k ≡ COMMAND) × (Whole s at → ⊥)) ⊎ ((k ≡ OPERAND) × Whole s at)
+Sure s at (Err k) = ((k ≡ COMMAND) × (Whole s at → ⊥)) ⊎ ((k ≡ OPERAND) × Whole s at)
 
 module _ (s : List ℕ) (at : ℕ) where
-  sure-whole : (size : ℕ) (x : CommandAnswer) → (Whole s at → size ≤ length s - at) → (size ≤ length s - at → Sure s at x) → Sure s at (whole size s at x)
+  sure-whole : (size : ℕ) (x : Result Command ℕ) → (Whole s at → size ≤ length s - at) → (size ≤ length s - at → Sure s at x) → Sure s at (whole size s at x)
   sure-whole size x w k = go (ltb (length s - at) size) refl
     where
-      go : (t : Bool) → ltb (length s - at) size ≡ t → Sure s at (cond t (Refused 2) x)
+      go : (t : Bool) → ltb (length s - at) size ≡ t → Sure s at (cond t (Err 2) x)
       go true h = inl (refl, λ v. omega (arith, w v, ltb-true (length s - at) size h))
       go false h = k (ltb-false (length s - at) size h)
 
   sure-read : (code : ℕ) (l : List ℕ) (c : Command) → Has code true l c → get_or s at 0 ≡ code → suc (length l) ≤ length s - at
-      → (Bytes s → take (length l) (drop (at + 1) s) ≡ l) → (is_end c ≡ true → length s ≡ at + 1) → Sure s at (Read c)
+      → (Bytes s → take (length l) (drop (at + 1) s) ≡ l) → (is_end c ≡ true → length s ≡ at + 1) → Sure s at (Ok c)
   sure-read code l c w q h k last =
       let first : take (suc (length l)) (drop at s) ≡ get_or s at 0 ∷ take (length l) (drop (at + 1) s) = first_byte s at (length l) (omega arith) in
       (omega (arith, w.size), w.form, λ b. ap (λ (n : ℕ). take n (drop at s)) w.size ∙ first ∙ (λ i. q i ∷ k b i) ∙ sym w.bytes, last)
@@ -219,11 +213,11 @@ module _ (s : List ℕ) (at : ℕ) where
   unfolding show_at
   sure-show q = sure-whole 23 (shown (read_credential s (at + 1))) (whole-size s at 1 q) (λ h. go (read_credential s (at + 1)) refl h)
     where
-      go : (x : CredentialAnswer) → read_credential s (at + 1) ≡ x → 23 ≤ length s - at → Sure s at (shown x)
-      go (a.Read c) p h =
+      go : (x : Option Credential) → read_credential s (at + 1) ≡ x → 23 ≤ length s - at → Sure s at (shown x)
+      go (Some c) p h =
           sure-read 1 (credential_bytes c) (Show c) (show-has c true (read-formed s (at + 1) c p)) q h
           (λ b. (credential-only s (at + 1) c b (omega arith) p).0) never
-      go a.Wrong p h = inr (refl, whole_by s at 1 (credential_bytes some) _ (Show some) (show-has some _ refl) q h never)
+      go None p h = inr (refl, whole_by s at 1 (credential_bytes some) _ (Show some) (show-has some _ refl) q h never)
 
   sure-open : get_or s at 0 ≡ 2 → Sure s at (open_at s at)
   unfolding open_at
@@ -233,10 +227,10 @@ module _ (s : List ℕ) (at : ℕ) where
   unfolding bring_at
   sure-bring q = sure-whole 24 (brought s at (read_of s (at + 3))) (whole-size s at 3 q) (λ h. go (read_of s (at + 3)) refl h)
     where
-      go : (x : ExpressionAnswer) → read_of s (at + 3) ≡ x → 24 ≤ length s - at → Sure s at (brought s at x)
-      go (e.Read child) p h =
+      go : (x : Option Expression) → read_of s (at + 3) ≡ x → 24 ≤ length s - at → Sure s at (brought s at x)
+      go (Some child) p h =
           sure-checked 3 _ _ _ (bring-has (new_of s at child) (canonical (raw_at s (at + 3)) child p).1) q h (λ b. bring-only s at b child (omega arith) p) never
-      go e.Wrong p h =
+      go None p h =
           let n : NewEdge = new_of s at (E.Entity 1) in
           inr (refl, whole_by s at 3 (new_bytes n) (formed_new n) (Bring n) (bring-has n refl) q h never)
 
@@ -252,13 +246,13 @@ module _ (s : List ℕ) (at : ℕ) where
   unfolding end_at
   sure-end q = go (eqb (length s - at) 1) refl
     where
-      go : (t : Bool) → eqb (length s - at) 1 ≡ t → Sure s at (cond t (Read End) (Refused 2))
+      go : (t : Bool) → eqb (length s - at) 1 ≡ t → Sure s at (cond t (Ok End) (Err 2))
       go true h =
           let one : length s - at ≡ 1 = eqb-true (length s - at) 1 h in
           sure-read 6 [] End end-has q (omega (arith, one)) (λ b. refl) (λ z. omega (arith, one))
       go false h = inl (refl, λ w. let e = w.last (end_by w.like (sym w.code ∙ q)) in eqb-false (length s - at) 1 h (omega (arith, e)))
 
-  sure-test : (code k : ℕ) (x y : CommandAnswer) → (code ≡ k → Sure s at x) → ((code ≡ k → ⊥) → Sure s at y) → Sure s at (cond (eqb code k) x y)
+  sure-test : (code k : ℕ) (x y : Result Command ℕ) → (code ≡ k → Sure s at x) → ((code ≡ k → ⊥) → Sure s at y) → Sure s at (cond (eqb code k) x y)
   sure-test code k x y here other = go (eqb code k) refl
     where
       go : (t : Bool) → eqb code k ≡ t → Sure s at (cond t x y)
@@ -275,7 +269,7 @@ module _ (s : List ℕ) (at : ℕ) where
       sure-test code 3 _ _ sure-bring (λ n3.
       sure-test code 4 _ _ sure-join (λ n4.
       sure-test code 5 _ _ sure-mark (λ n5.
-      sure-test code 6 _ (Refused 2) sure-end (λ n6.
+      sure-test code 6 _ (Err 2) sure-end (λ n6.
       inl (
         refl,
         λ w.
@@ -285,30 +279,30 @@ module _ (s : List ℕ) (at : ℕ) where
       ))))))))
 
 -- a command is refused 2 or 3
-pub command-refusal : (s : List ℕ) (at k : ℕ) → command_at s at ≡ Refused k → (k ≡ 2) ⊎ (k ≡ 3)
+pub command-refusal : (s : List ℕ) (at k : ℕ) → command_at s at ≡ Err k → (k ≡ 2) ⊎ (k ≡ 3)
 command-refusal s at k h = ⊎_elim (λ z. inl z.0) (λ z. inr z.0) (subst (Sure s at) h (sure s at))
 
 -- a command that was read ends within the bytes
-pub command-room : (s : List ℕ) (at : ℕ) (c : Command) → command_at s at ≡ Read c → at + size_of c ≤ length s
+pub command-room : (s : List ℕ) (at : ℕ) (c : Command) → command_at s at ≡ Ok c → at + size_of c ≤ length s
 command-room s at c h = (subst (Sure s at) h (sure s at)).0
 
 -- its operands have right form
-pub command-formed : (s : List ℕ) (at : ℕ) (c : Command) → command_at s at ≡ Read c → formed_command c ≡ true
+pub command-formed : (s : List ℕ) (at : ℕ) (c : Command) → command_at s at ≡ Ok c → formed_command c ≡ true
 command-formed s at c h = (subst (Sure s at) h (sure s at)).1
 
 -- its bytes stand there
-pub command-only : (s : List ℕ) (at : ℕ) (c : Command) → ((i : ℕ) → get_or s i 0 < 256) → command_at s at ≡ Read c → take (size_of c) (drop at s) ≡ command_bytes c
+pub command-only : (s : List ℕ) (at : ℕ) (c : Command) → ((i : ℕ) → get_or s i 0 < 256) → command_at s at ≡ Ok c → take (size_of c) (drop at s) ≡ command_bytes c
 command-only s at c bytes h = (subst (Sure s at) h (sure s at)).2 bytes
 
 -- nothing stands after an end that was read
-pub command-end : (s : List ℕ) (at : ℕ) → command_at s at ≡ Read End → length s ≡ at + 1
+pub command-end : (s : List ℕ) (at : ℕ) → command_at s at ≡ Ok End → length s ≡ at + 1
 command-end s at h = (subst (Sure s at) h (sure s at)).3 refl
 
 begins : (s : List ℕ) (at code : ℕ) (l : List ℕ) → drop at s ≡ code ∷ l → at < length s
 begins s at code l h = omega (arith, length-drop at s, ap length h)
 
 expression-there : (s : List ℕ) (at : ℕ) (x : Expression) (l : List ℕ) → at + 18 ≤ length s → well_formed x ≡ true
-    → drop at s ≡ raw_bytes (raw_of x) ++ l → read_of s at ≡ e.Read x
+    → drop at s ≡ raw_bytes (raw_of x) ++ l → read_of s at ≡ Some x
 expression-there s at x l room formed h =
     let b : List ℕ = raw_bytes (raw_of x) in
     let there : take 18 (drop at s) ≡ b = ap (take 18) h ∙ take_at b l 18 refl in
@@ -319,39 +313,39 @@ and_both true y h = (refl, h)
 and_both false y h = let z : ◌≡◌ {A = ℕ} 0 1 = cc in absurd (omega arith)
 
 module _ (s : List ℕ) (at : ℕ) (l : List ℕ) (inside : at ≤ length s) where
-  show-back : (c : Credential) → drop at s ≡ (1 ∷ credential_bytes c) ++ l → well_formed_credential c ≡ true → Read (Show c) ≡ show_at s at
+  show-back : (c : Credential) → drop at s ≡ (1 ∷ credential_bytes c) ++ l → well_formed_credential c ≡ true → Ok (Show c) ≡ show_at s at
   show-back c h good =
       let room : at + 23 ≤ length s = omega (arith, size-there s at inside _ h, length-append (credential_bytes c) l) in
-      show-full s at (a.Read c) (omega arith) (read-there s (at + 1) (omega arith) c l good (skip s at 1 _ h))
+      show-full s at (Some c) (omega arith) (read-there s (at + 1) (omega arith) c l good (skip s at 1 _ h))
 
-  open-back : (o : Opening) → drop at s ≡ (2 ∷ opening_bytes o) ++ l → formed_opening o ≡ true → Read (Open o) ≡ open_at s at
+  open-back : (o : Opening) → drop at s ≡ (2 ∷ opening_bytes o) ++ l → formed_opening o ≡ true → Ok (Open o) ≡ open_at s at
   open-back o h good =
       open_full s at o true (omega (arith, size-there s at inside _ h)) (role-there s (at + 1) o.role (o.state ∷ l) (skip s at 1 _ h))
       (sym (byte-there s at 5 _ h)) good
 
-  bring-back : (n : NewEdge) → drop at s ≡ (3 ∷ new_bytes n) ++ l → well_formed n.expression && formed_new n ≡ true → Read (Bring n) ≡ bring_at s at
+  bring-back : (n : NewEdge) → drop at s ≡ (3 ∷ new_bytes n) ++ l → well_formed n.expression && formed_new n ≡ true → Ok (Bring n) ≡ bring_at s at
   bring-back n h good =
       let both = and_both (well_formed n.expression) (formed_new n) good in
       let room : at + 24 ≤ length s = omega (arith, size-there s at inside _ h) in
-      let child : read_of s (at + 3) ≡ e.Read n.expression
+      let child : read_of s (at + 3) ≡ Some n.expression
       = expression-there s (at + 3) n.expression (number_bytes n.subject ++ (n.state ∷ l)) (omega arith) both.0 (skip s at 3 _ h) in
       let subject : n.subject ≡ number_at s (at + 21) = number-there s (at + 21) n.subject (n.state ∷ l) (skip s at 21 _ h) in
       bring-full s at n true (omega arith) child (sym (byte-there s at 1 _ h)) (sym (byte-there s at 2 _ h)) subject (sym (byte-there s at 23 _ h)) both.1
 
-  join-back : (g : Edge) → drop at s ≡ (4 ∷ edge_bytes g) ++ l → edge_kind g.kind ≡ true → Read (Join g) ≡ join_at s at
+  join-back : (g : Edge) → drop at s ≡ (4 ∷ edge_bytes g) ++ l → edge_kind g.kind ≡ true → Ok (Join g) ≡ join_at s at
   join-back g h good =
       join-full s at g true (omega (arith, size-there s at inside _ h)) (sym (byte-there s at 1 _ h)) (sym (byte-there s at 2 _ h))
       (sym (byte-there s at 3 _ h)) good
 
-  mark-back : (n : ℕ) → drop at s ≡ (5 ∷ n ∷ []) ++ l → Read (Mark n) ≡ mark_at s at
+  mark-back : (n : ℕ) → drop at s ≡ (5 ∷ n ∷ []) ++ l → Ok (Mark n) ≡ mark_at s at
   mark-back n h = mark-full s at n (omega (arith, size-there s at inside _ h)) (sym (byte-there s at 1 _ h))
 
-  end_back : drop at s ≡ (6 ∷ []) ++ l → l ≡ [] → Read End ≡ end_at s at
+  end_back : drop at s ≡ (6 ∷ []) ++ l → l ≡ [] → Ok End ≡ end_at s at
   end_back h last = end-last s at (omega (arith, size-there s at inside _ h, ap length last))
 
 -- a command of right form is read back from where its bytes stand, an end where no bytes follow
 pub command-back : (s : List ℕ) (at : ℕ) (c : Command) (l : List ℕ) → drop at s ≡ command_bytes c ++ l → formed_command c ≡ true → (c ≡ End → l ≡ [])
-    → command_at s at ≡ Read c
+    → command_at s at ≡ Ok c
 unfolding command_bytes formed_command
 command-back s at (Show c) l h good last =
     let inside : at < length s = begins s at 1 _ h in
@@ -384,7 +378,7 @@ module _ (s : List ℕ) (at : ℕ) where
       ∙ ap (λ (l : List ℕ). get_or l 0 0) h
 
   -- a command of right form whose bytes stand there is read
-  there-read : Whole s at → (c : Command) → StandsAt s at c → command_at s at ≡ Read c
+  there-read : Whole s at → (c : Command) → StandsAt s at c → command_at s at ≡ Ok c
   unfolding command_bytes
   there-read w c h =
       let l : List ℕ = drop (size_of c) (drop at s) in
@@ -394,32 +388,32 @@ module _ (s : List ℕ) (at : ℕ) where
       command-back s at c l there h.form
       (λ e. ap (λ (k : Command). drop (size_of k) (drop at s)) e ∙ drop-drop 1 at s ∙ drop_of_length-le s {i = at + 1} (omega (arith, last e)))
 
-  two-answers : {k : ℕ} {c : Command} → Refused k ≡ Read c → ⊥
+  two-answers : {k : ℕ} {c : Command} → Err k ≡ Ok c → ⊥
   two-answers e = let z : ◌≡◌ {A = ℕ} 0 1 = cc in omega arith
 
   module _ (bytes : (i : ℕ) → get_or s i 0 < 256) where
     -- a command that was read stands there, and whole
-    read-there-whole : (c : Command) → command_at s at ≡ Read c → Whole s at × StandsAt s at c
+    read-there-whole : (c : Command) → command_at s at ≡ Ok c → Whole s at × StandsAt s at c
     read-there-whole c h =
         let b = command-only s at c bytes h in (
-          record { like = c; code = first-there c b; room = command-room s at c h; last = λ e. command-end s at (h ∙ ap Read e) },
+          record { like = c; code = first-there c b; room = command-room s at c h; last = λ e. command-end s at (h ∙ ap Ok e) },
           record { form = command-formed s at c h; bytes = b },
         )
 
-    refused-by : (k : ℕ) → command_at s at ≡ Refused k → Sure s at (Refused k) → Unreadable s at k
+    refused-by : (k : ℕ) → command_at s at ≡ Err k → Sure s at (Err k) → Unreadable s at k
     refused-by k h (inl z) = cut z.1 z.0
     refused-by k h (inr z) = malformed z.1 (λ c there. two-answers (sym h ∙ there-read z.1 c there)) z.0
 
-    by_answer : (x : CommandAnswer) → command_at s at ≡ x → {k : ℕ} → Unreadable s at k → Sure s at x → x ≡ Refused k
-    by_answer (Read c) h (cut n e) u = absurd (n (read-there-whole c h).0)
-    by_answer (Read c) h (malformed w n e) u = absurd (n c (read-there-whole c h).1)
-    by_answer (Refused j) h (cut n e) (inl z) = ap Refused (z.0 ∙ sym e)
-    by_answer (Refused j) h (cut n e) (inr z) = absurd (n z.1)
-    by_answer (Refused j) h (malformed w n e) (inl z) = absurd (z.1 w)
-    by_answer (Refused j) h (malformed w n e) (inr z) = ap Refused (z.0 ∙ sym e)
+    by_answer : (x : Result Command ℕ) → command_at s at ≡ x → {k : ℕ} → Unreadable s at k → Sure s at x → x ≡ Err k
+    by_answer (Ok c) h (cut n e) u = absurd (n (read-there-whole c h).0)
+    by_answer (Ok c) h (malformed w n e) u = absurd (n c (read-there-whole c h).1)
+    by_answer (Err j) h (cut n e) (inl z) = ap Err (z.0 ∙ sym e)
+    by_answer (Err j) h (cut n e) (inr z) = absurd (n z.1)
+    by_answer (Err j) h (malformed w n e) (inl z) = absurd (z.1 w)
+    by_answer (Err j) h (malformed w n e) (inr z) = ap Err (z.0 ∙ sym e)
 
     -- nothing can be read exactly where no command stands whole (2), or its operands have wrong form (3)
-    pub unreadable-exactly : (k : ℕ) → (command_at s at ≡ Refused k) ↔ Unreadable s at k
+    pub unreadable-exactly : (k : ℕ) → (command_at s at ≡ Err k) ↔ Unreadable s at k
     unreadable-exactly k = (λ h. refused-by k h (subst (Sure s at) h (sure s at)), λ u. by_answer (command_at s at) refl u (sure s at))
 
 -- what stands from where it was copied on
@@ -433,7 +427,7 @@ paste-drop d at b h =
 
 -- a command of right form is read back from where it was written, an end from the last byte
 pub command-written : (d : List ℕ) (at : ℕ) (c : Command) → at + size_of c ≤ length d → formed_command c ≡ true → (c ≡ End → length d ≡ at + 1)
-    → command_at (pasted d at (command_bytes c)) at ≡ Read c
+    → command_at (pasted d at (command_bytes c)) at ≡ Ok c
 command-written d at c room good last =
     let b : List ℕ = command_bytes c in
     let none : c ≡ End → drop (at + length b) d ≡ []

@@ -1,9 +1,5 @@
-use Prim.Native.Nat.{◌-◌, ◌≤◌}
 use Rattle.needed.specs.laws.Columns.{FirstOn}
 use Rattle.needed.proofs.first_on.Given as goal
 
 abbrev pub invariant-loop-i : goal.invariant-loop-i
-invariant-loop-i l = FirstOn l.i l.on × (l.i ≤ l.s)
-
-abbrev pub decreases-loop-i : goal.decreases-loop-i
-decreases-loop-i l = l.s - l.i
+invariant-loop-i l = FirstOn l.i l.on

@@ -1,6 +1,6 @@
 -- The parts of the layout are written one after the other. Assumes nothing.
 use Prim.Native.Nat.{ℕ, ◌+◌, ◌*◌, ◌-◌, ◌/◌, ◌%◌, suc, ◌≤◌, ◌<◌}
-use Rattle.std.specs.Prelude.{true, cond, ◌&&◌, leb, get_or, replicate, set, drop, ◌≡◌}
+use Rattle.std.specs.Prelude.{true, ◌&&◌, leb, get_or, replicate, set, drop, ◌≡◌, Option as Returned, Some, None}
 use mathlib.Core.List.{List, [], ◌∷◌, ◌++◌, append_assoc, append-nil}
 use Rattle.std.proofs.Math.Option.{Option, none, some}
 use Rattle.std.proofs.Math.ListN.{length, length-append}
@@ -12,7 +12,6 @@ use Rattle.expression.specs.Credential.{credential_bytes}
 use Rattle.rt0.specs.Pool.{up_to}
 use Rattle.graph.specs.declared.Node.{Node}
 use Rattle.graph.specs.declared.Edge.{Edge}
-use Rattle.negotiation.specs.declared.Reading.{Reading}
 use Rattle.negotiation.specs.State.{State, within}
 use Rattle.negotiation.specs.laws.State.{state_of}
 use native.Mathlib.Omega.{arith}
@@ -30,8 +29,9 @@ use Rattle.negotiation.specs.Layout.{header_bytes, node_bytes, edge_bytes, zeros
 use Rattle.numbers.specs.Sizes.{MOST-NODES, MOST-EDGES, MOST-SHOWN}
 
 -- what a reading is
-unfoldable pub reading_of : Reading → Option State
-reading_of r = cond r.ok (some (state_of r.negotiation)) none
+unfoldable pub reading_of : Returned Negotiation → Option State
+reading_of (Some n) = some (state_of n)
+reading_of None = none
 
 -- Zeros
 

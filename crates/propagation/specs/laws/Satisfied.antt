@@ -3,6 +3,7 @@ use Rattle.std.specs.Prelude.{ℕ, ◌+◌, ◌*◌, Bool, ◌&&◌, List, eqb, 
 use Rattle.propagation.specs.laws.Flags.{all_to}
 use Rattle.propagation.specs.Least.{Rule, least}
 use Rattle.word.specs.laws.Search.{any_to}
+use Rattle.propagation.specs.declared.Links.{Links}
 
 -- Edge j leads from node from[j] into slot slot[j]. Node i has the slots i * 4 to i * 4 + 3, and node[i] says what it asks of them.
 pub record Graph : Type 0 where
@@ -12,6 +13,10 @@ pub record Graph : Type 0 where
 
 abbrev pub graph : List ℕ → List ℕ → List ℕ → Graph
 graph f s n = record { from = f; slot = s; node = n }
+
+-- links, and a number for each node
+abbrev pub graph_of : Links → List ℕ → Graph
+graph_of L n = graph L.from L.slot n
 
 abbrev pub from_at : Graph → ℕ → ℕ
 from_at G j = get_or G.from j 0

@@ -1,5 +1,6 @@
 -- What the queue of satisfied nodes keeps. Assumes nothing.
 use Rattle.std.specs.Prelude.{ℕ, ◌+◌, ◌*◌, ◌≤◌, ◌<◌, ◌≡◌, Bool, true, ◌&&◌, ◌||◌, List, ltb, get_or, length}
+use Rattle.propagation.specs.declared.satisfying.Work.{Work}
 use Rattle.propagation.specs.laws.Flags.{flag, cnt}
 use Rattle.propagation.specs.Flags.{at}
 use Rattle.propagation.specs.laws.Satisfied.{Graph, from_at, slot_at, node_at, filled_by, satisfied_of}
@@ -13,12 +14,6 @@ pub record Beyond (n k : ℕ) (col : List ℕ) : Type 0 where
   pub beyond : (i : ℕ) → n ≤ i → i < 128 → get_or col i 0 ≡ k
 
 -- the slots filled, the nodes satisfied, and these in the order of their finding
-pub record Work : Type 0 where
-  pub got : List ℕ
-  pub sat : List ℕ
-  pub queue : List ℕ
-  pub tail : ℕ
-
 abbrev pub work : List ℕ → List ℕ → List ℕ → ℕ → Work
 work g s q t = record { got = g; sat = s; queue = q; tail = t }
 

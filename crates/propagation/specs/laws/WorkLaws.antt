@@ -11,7 +11,8 @@ use Rattle.propagation.specs.laws.Least.{least-closed, least-below}
 use Rattle.propagation.specs.laws.Satisfied.{Graph, from_at, slot_at, node_at, filled_by, satisfied_rule, satisfied_of}
 use Rattle.propagation.specs.laws.SatisfiedLaws.{filled-find, filled-here, filled-mono, satisfied-parts, satisfied-of, satisfied-mono, satisfied-more}
 use Rattle.propagation.specs.laws.Chains.{Chained}
-use Rattle.propagation.specs.laws.Work.{ready_at, Beyond, Work, work, Base, Full, Later, Marked, Brought, Visited, Done}
+use Rattle.propagation.specs.declared.satisfying.Work.{Work}
+use Rattle.propagation.specs.laws.Work.{ready_at, Beyond, work, Base, Full, Later, Marked, Brought, Visited, Done}
 
 -- Slots
 

@@ -1,21 +1,18 @@
 -- How the reading of a credential list goes on, and which numbers refuse it. Assumes nothing.
 use Prim.Native.Nat.{ℕ, zero, suc, ◌+◌, ◌-◌, ◌*◌, ◌<◌, ◌≤◌}
-use Rattle.std.specs.Prelude.{cond, Bool, length, get_or, take, drop, ◌≡◌, ◌⊎◌}
+use Rattle.std.specs.Prelude.{cond, Bool, length, get_or, take, drop, ◌≡◌, ◌⊎◌, Option, Some, None, Result, Ok, Err}
 use Rattle.std.proofs.Math.Bool.{true, false}
 use mathlib.Core.List.{List, [], ◌∷◌, ◌++◌}
 use Rattle.std.proofs.Math.Dec.{ltb, eqb}
-use Rattle.std.proofs.Common.{length-append, length-drop, take-append-drop, sym, ◌∙◌, subst, inl, inr, ⊎_elim, arith, add-zero}
+use Rattle.std.proofs.Common.{length-append, length-drop, take-append-drop, sym, ◌∙◌, subst, inl, inr, arith, add-zero}
 use Rattle.expression.specs.declared.Credential.{Credential}
-use Rattle.expression.specs.declared.CredentialAnswer.{CredentialAnswer}
-use Rattle.expression.specs.declared.CredentialAnswer.TheVariants as a
 use Rattle.expression.specs.Credential.{well_formed_credential, read_credential, credential_bytes}
 use Rattle.expression.specs.laws.There.{byte-there, code-there, size-there, skip, read-there}
 use Rattle.rt0.specs.laws.Pool.{credentials}
 use Rattle.question.specs.declared.Step.{Step}
-use Rattle.question.specs.declared.Step.TheVariants.{Taken, End, Refused}
-use Rattle.question.specs.declared.Listing.{Listing}
+use Rattle.question.specs.declared.Step.TheVariants.{Taken, End}
 use Rattle.std.proofs.Math.Path.{refl, ap}
-use borrow.Author.Tests.{lt-ltb, le-ltb, ltb-true, ltb-false, eq-eqb, eqb-true, eqb-false, ne_eqb}
+use borrow.Author.Tests.{lt-ltb, le-ltb, ltb-true, ltb-false, eqb-true, eqb-false, ne_eqb}
 use Rattle.numbers.specs.Bytes.{CREDENTIAL-BYTES}
 use Rattle.numbers.specs.Sizes.{MOST-CREDENTIALS, MOST-CREDENTIALS-BYTES}
 use Rattle.rt0.specs.declared.Pool.{Pool}
@@ -25,38 +22,39 @@ use Rattle.question.specs.Refused.{CredentialFirst, Whole, credential, end, Unre
 use Rattle.question.specs.Refused as R
 use Rattle.numbers.specs.Answer.{Answer, refused, accepted}
 
--- what a listing says: its refusal number, or its pool's credentials where that is zero
-unfoldable pub listed_of : Listing → Answer (List Credential)
-listed_of l = cond (eqb l.refusal 0) (accepted (credentials l.pool)) (refused l.refusal)
+-- what a listing says: its pool's credentials, or its refusal number
+unfoldable pub listed_of : Result Pool ℕ → Answer (List Credential)
+listed_of (Ok P) = accepted (credentials P)
+listed_of (Err k) = refused k
 
 -- The command at an index
 
 -- a command too short to be a credential
-pub cut : (s : List ℕ) (at : ℕ) → length s - at < CREDENTIAL-BYTES → Refused 2 ≡ credential_step s at
+pub cut : (s : List ℕ) (at : ℕ) → length s - at < CREDENTIAL-BYTES → Err 2 ≡ credential_step s at
 unfolding credential_step
-cut s at h = sym (ap (λ (t : Bool). cond t (Refused 2) (taken (read_credential s (at + 1)))) (lt-ltb (length s - at) CREDENTIAL-BYTES h))
+cut s at h = sym (ap (λ (t : Bool). cond t (Err 2) (taken (read_credential s (at + 1)))) (lt-ltb (length s - at) CREDENTIAL-BYTES h))
 
 -- a whole credential command
-pub whole : (s : List ℕ) (at : ℕ) (r : CredentialAnswer) → CREDENTIAL-BYTES ≤ length s - at → read_credential s (at + 1) ≡ r → taken r ≡ credential_step s at
+pub whole : (s : List ℕ) (at : ℕ) (r : Option Credential) → CREDENTIAL-BYTES ≤ length s - at → read_credential s (at + 1) ≡ r → taken r ≡ credential_step s at
 unfolding credential_step
 whole s at r h q =
     ap taken (sym q)
-    ∙ sym (ap (λ (t : Bool). cond t (Refused 2) (taken (read_credential s (at + 1)))) (le-ltb (length s - at) CREDENTIAL-BYTES h))
+    ∙ sym (ap (λ (t : Bool). cond t (Err 2) (taken (read_credential s (at + 1)))) (le-ltb (length s - at) CREDENTIAL-BYTES h))
 
 -- the end, where the test says whether it stands last
-pub last : (s : List ℕ) (at : ℕ) (t : Bool) → eqb (at + 1) (length s) ≡ t → cond t End (Refused 2) ≡ end_step s at
+pub last : (s : List ℕ) (at : ℕ) (t : Bool) → eqb (at + 1) (length s) ≡ t → cond t (Ok End) (Err 2) ≡ end_step s at
 unfolding end_step
-last s at t h = sym (ap (λ (b : Bool). cond b End (Refused 2)) h)
+last s at t h = sym (ap (λ (b : Bool). cond b (Ok End) (Err 2)) h)
 
 -- a byte stands at the index
 pub at_code : (s : List ℕ) (at code : ℕ) → at < length s → get_or s at 0 ≡ code → command_step s at code ≡ step_at s at
 unfolding step_at
 at_code s at code h q =
     ap (command_step s at) (sym q)
-    ∙ sym (ap (λ (t : Bool). cond t (command_step s at (get_or s at 0)) (Refused 2)) (lt-ltb at (length s) h))
+    ∙ sym (ap (λ (t : Bool). cond t (command_step s at (get_or s at 0)) (Err 2)) (lt-ltb at (length s) h))
 
 -- an unknown command
-pub unknown : (s : List ℕ) (at code : ℕ) → (code ≡ 1 → ⊥) → (code ≡ 6 → ⊥) → Refused 2 ≡ command_step s at code
+pub unknown : (s : List ℕ) (at code : ℕ) → (code ≡ 1 → ⊥) → (code ≡ 6 → ⊥) → Err 2 ≡ command_step s at code
 unknown s at code h k = sym (simp (ne_eqb code 1 h, ne_eqb code 6 k))
 
 -- Why no command can be read at an index
@@ -81,38 +79,38 @@ module _ (s : List ℕ) (at : ℕ) where
   none_left h = not-whole (λ e. omega (arith, length-drop at s, ap length e)) (λ code room. omega (arith, room))
 
   -- a credential whose operands have wrong form
-  wrong-form : at < length s → read_credential s (at + 1) ≡ a.Wrong → (d : Credential) → well_formed_credential d ≡ true
+  wrong-form : at < length s → read_credential s (at + 1) ≡ None → (d : Credential) → well_formed_credential d ≡ true
       → take CREDENTIAL-BYTES (drop at s) ≡ 1 ∷ credential_bytes d → ⊥
   wrong-form inside h d formed q =
       let rest : List ℕ = drop CREDENTIAL-BYTES (drop at s) in
       let there : drop at s ≡ (1 ∷ credential_bytes d) ++ rest = sym (take-append-drop CREDENTIAL-BYTES (drop at s)) ∙ ap (λ (l : List ℕ). l ++ rest) q in
-      let back : read_credential s (at + 1) ≡ a.Read d = read-there s (at + 1) (omega arith) d rest formed (skip s at 1 _ there) in
+      let back : read_credential s (at + 1) ≡ Some d = read-there s (at + 1) (omega arith) d rest formed (skip s at 1 _ there) in
       let z : ◌≡◌ {A = ℕ} 0 1 = cc (h, back) in
       omega arith
 
 -- what is known where a step was found: of a credential and of the end that they stand there, of a refusal its reason
-abbrev Sure : List ℕ → ℕ → Step → Type 0
-Sure s at (Taken c) = (at + CREDENTIAL-BYTES ≤ length s) × (get_or s at 0 ≡ 1) × (read_credential s (at + 1) ≡ a.Read c)
-Sure s at End = (at + 1 ≡ length s) × (get_or s at 0 ≡ 6)
-Sure s at (Refused k) = Unreadable (drop at s) k
+abbrev Sure : List ℕ → ℕ → Result Step ℕ → Type 0
+Sure s at (Ok (Taken c)) = (at + CREDENTIAL-BYTES ≤ length s) × (get_or s at 0 ≡ 1) × (read_credential s (at + 1) ≡ Some c)
+Sure s at (Ok End) = (at + 1 ≡ length s) × (get_or s at 0 ≡ 6)
+Sure s at (Err k) = Unreadable (drop at s) k
 
 module _ (s : List ℕ) (at : ℕ) (inside : at < length s) where
   sure-credential : get_or s at 0 ≡ 1 → Sure s at (credential_step s at)
   unfolding credential_step
   sure-credential code = go (ltb (length s - at) CREDENTIAL-BYTES) (read_credential s (at + 1)) refl refl
     where
-      go : (t : Bool) (r : CredentialAnswer) → ltb (length s - at) CREDENTIAL-BYTES ≡ t → read_credential s (at + 1) ≡ r
-          → Sure s at (cond t (Refused 2) (taken r))
+      go : (t : Bool) (r : Option Credential) → ltb (length s - at) CREDENTIAL-BYTES ≡ t → read_credential s (at + 1) ≡ r
+          → Sure s at (cond t (Err 2) (taken r))
       go true r h q =
           not-whole s at (λ e. omega (arith, code, code-there s at 6 [] e)) (λ c room. omega (arith, room, ltb-true (length s - at) CREDENTIAL-BYTES h))
-      go false (a.Read c) h q = (omega (arith, ltb-false (length s - at) CREDENTIAL-BYTES h), code, q)
-      go false a.Wrong h q = malformed (credential-first s at code (ltb-false (length s - at) CREDENTIAL-BYTES h)) (wrong-form s at inside q) refl
+      go false (Some c) h q = (omega (arith, ltb-false (length s - at) CREDENTIAL-BYTES h), code, q)
+      go false None h q = malformed (credential-first s at code (ltb-false (length s - at) CREDENTIAL-BYTES h)) (wrong-form s at inside q) refl
 
   sure-end : get_or s at 0 ≡ 6 → Sure s at (end_step s at)
   unfolding end_step
   sure-end code = go (eqb (at + 1) (length s)) refl
     where
-      go : (t : Bool) → eqb (at + 1) (length s) ≡ t → Sure s at (cond t End (Refused 2))
+      go : (t : Bool) → eqb (at + 1) (length s) ≡ t → Sure s at (cond t (Ok End) (Err 2))
       go true h = (eqb-true (at + 1) (length s) h, code)
       go false h =
           not-whole s at (λ e. eqb-false (at + 1) (length s) h (sym (size-there s at (omega arith) (6 ∷ []) e))) (λ c room. omega (arith, code, c))
@@ -120,7 +118,7 @@ module _ (s : List ℕ) (at : ℕ) (inside : at < length s) where
   sure-command : (code : ℕ) → get_or s at 0 ≡ code → Sure s at (command_step s at code)
   sure-command code e = go (eqb code 1) (eqb code 6) refl refl
     where
-      go : (t u : Bool) → eqb code 1 ≡ t → eqb code 6 ≡ u → Sure s at (cond t (credential_step s at) (cond u (end_step s at) (Refused 2)))
+      go : (t u : Bool) → eqb code 1 ≡ t → eqb code 6 ≡ u → Sure s at (cond t (credential_step s at) (cond u (end_step s at) (Err 2)))
       go true u h k = sure-credential (e ∙ eqb-true code 1 h)
       go false true h k = sure-end (e ∙ eqb-true code 6 k)
       go false false h k =
@@ -130,28 +128,28 @@ sure : (s : List ℕ) (at : ℕ) → Sure s at (step_at s at)
 unfolding step_at
 sure s at = go (ltb at (length s)) refl
   where
-    go : (t : Bool) → ltb at (length s) ≡ t → Sure s at (cond t (command_step s at (get_or s at 0)) (Refused 2))
+    go : (t : Bool) → ltb at (length s) ≡ t → Sure s at (cond t (command_step s at (get_or s at 0)) (Err 2))
     go true h = sure-command s at (ltb-true at (length s) h) (get_or s at 0) refl
     go false h = none_left s at (ltb-false at (length s) h)
 
 -- a credential that was taken stands there, whole
-pub taken-sure : (s : List ℕ) (at : ℕ) (c : Credential) → step_at s at ≡ Taken c
-    → (at + CREDENTIAL-BYTES ≤ length s) × (get_or s at 0 ≡ 1) × (read_credential s (at + 1) ≡ a.Read c)
+pub taken-sure : (s : List ℕ) (at : ℕ) (c : Credential) → step_at s at ≡ Ok (Taken c)
+    → (at + CREDENTIAL-BYTES ≤ length s) × (get_or s at 0 ≡ 1) × (read_credential s (at + 1) ≡ Some c)
 taken-sure s at c h = subst (Sure s at) h (sure s at)
 
 -- an end that was found stands last
-pub end-sure : (s : List ℕ) (at : ℕ) → step_at s at ≡ End → (at + 1 ≡ length s) × (get_or s at 0 ≡ 6)
+pub end-sure : (s : List ℕ) (at : ℕ) → step_at s at ≡ Ok End → (at + 1 ≡ length s) × (get_or s at 0 ≡ 6)
 end-sure s at h = subst (Sure s at) h (sure s at)
 
 -- a command is refused for its reason
-pub step-reason : (s : List ℕ) (at k : ℕ) → step_at s at ≡ Refused k → Unreadable (drop at s) k
+pub step-reason : (s : List ℕ) (at k : ℕ) → step_at s at ≡ Err k → Unreadable (drop at s) k
 step-reason s at k h = subst (Sure s at) h (sure s at)
 
 -- and by 2 or 3
 abbrev pub Refusal : ℕ → Type 0
 Refusal k = (k ≡ 2) ⊎ (k ≡ 3)
 
-pub step-refusal : (s : List ℕ) (at k : ℕ) → step_at s at ≡ Refused k → Refusal k
+pub step-refusal : (s : List ℕ) (at k : ℕ) → step_at s at ≡ Err k → Refusal k
 step-refusal s at k h = go (step-reason s at k h)
   where
     go : Unreadable (drop at s) k → Refusal k
@@ -169,11 +167,11 @@ unfolding list_from
 sure-list zero s at C = inl refl
 sure-list (suc n) s at C = go (step_at s at) (λ k h. step-refusal s at k h) (λ D. sure-list n s (at + CREDENTIAL-BYTES) D)
   where
-    go : (x : Step) → ((k : ℕ) → x ≡ Refused k → Refusal k) → ((D : List Credential) → SureList (list_from n s (at + CREDENTIAL-BYTES) D))
+    go : (x : Result Step ℕ) → ((k : ℕ) → x ≡ Err k → Refusal k) → ((D : List Credential) → SureList (list_from n s (at + CREDENTIAL-BYTES) D))
         → SureList (after (list_from n s (at + CREDENTIAL-BYTES)) C x)
-    go (Taken c) number rest = rest (C ++ (c ∷ []))
-    go End number rest = tt
-    go (Refused k) number rest = number k refl
+    go (Ok (Taken c)) number rest = rest (C ++ (c ∷ []))
+    go (Ok End) number rest = tt
+    go (Err k) number rest = number k refl
 
 -- a list is refused 2 or 3
 pub list-refusal : (s : List ℕ) (k : ℕ) → credentials_of s ≡ refused k → Refusal k
@@ -185,24 +183,17 @@ past : (n : ℕ) (s : List ℕ) (at : ℕ) (C : List Credential) → length s �
 unfolding list_from step_at
 past zero s at C h = refl
 past (suc n) s at C h =
-    ap (λ (t : Bool). after (list_from n s (at + CREDENTIAL-BYTES)) C (cond t (command_step s at (get_or s at 0)) (Refused 2))) (le-ltb at (length s) h)
+    ap (λ (t : Bool). after (list_from n s (at + CREDENTIAL-BYTES)) C (cond t (command_step s at (get_or s at 0)) (Err 2))) (le-ltb at (length s) h)
 
 -- a listing that is not refused
-pub listed-all : (l : Listing) → l.refusal ≡ 0 → listed_of l ≡ accepted (credentials l.pool)
+pub listed-all : {l : Result Pool ℕ} {P : Pool} → l ≡ Ok P → listed_of l ≡ accepted (credentials P)
 unfolding listed_of
-listed-all l h = ap (λ (t : Bool). cond t (accepted (credentials l.pool)) (refused l.refusal)) (eq-eqb l.refusal 0 h)
+listed-all h = ap listed_of h
 
 -- a listing that is refused
-pub listed-refused : (l : Listing) → (l.refusal ≡ 0 → ⊥) → listed_of l ≡ refused l.refusal
+pub listed-refused : {l : Result Pool ℕ} {k : ℕ} → l ≡ Err k → listed_of l ≡ refused k
 unfolding listed_of
-listed-refused l h = ap (λ (t : Bool). cond t (accepted (credentials l.pool)) (refused l.refusal)) (ne_eqb l.refusal 0 h)
-
--- a listing says what the bytes mean, and its pool has at most 64 credentials
-abbrev Lists : List ℕ → Listing → Type 0
-Lists s l = (listed_of l ≡ credentials_of s) × (l.pool.count ≤ MOST-CREDENTIALS)
-
-abbrev listing : ℕ → Pool → Listing
-listing k P = record { refusal = k; pool = P }
+listed-refused h = ap listed_of h
 
 -- the commands before the index at have been read into the pool P
 pub record Reading (s : List ℕ) (P : Pool) (at : ℕ) : Type 0 where
@@ -230,7 +221,7 @@ reading-few r h = omega (arith, r.counted, r.inside)
 
 module _ {s : List ℕ} {P : Pool} {at : ℕ} (r : Reading s P at) (more : at < length s) where
   -- one command more
-  turn : (x : Step) → step_at s at ≡ x → (n : ℕ) × (r.fuel ≡ suc n) × (credentials_of s ≡ after (list_from n s (at + CREDENTIAL-BYTES)) (credentials P) x)
+  turn : (x : Result Step ℕ) → step_at s at ≡ x → (n : ℕ) × (r.fuel ≡ suc n) × (credentials_of s ≡ after (list_from n s (at + CREDENTIAL-BYTES)) (credentials P) x)
   unfolding list_from
   turn x h = go r.fuel refl
     where
@@ -238,9 +229,9 @@ module _ {s : List ℕ} {P : Pool} {at : ℕ} (r : Reading s P at) (more : at < 
       go zero e = absurd (omega (arith, r.enough))
       go (suc n) e = (n, e, r.rest ∙ ap (λ (f : ℕ). list_from f s at (credentials P)) e ∙ ap (after (list_from n s (at + CREDENTIAL-BYTES)) (credentials P)) h)
 
-  pub reading-next : {c : Credential} {Q : Pool} → step_at s at ≡ Taken c → credentials Q ≡ credentials P ++ (c ∷ []) → Reading s Q (at + CREDENTIAL-BYTES)
+  pub reading-next : {c : Credential} {Q : Pool} → step_at s at ≡ Ok (Taken c) → credentials Q ≡ credentials P ++ (c ∷ []) → Reading s Q (at + CREDENTIAL-BYTES)
   reading-next {c} {Q} h q =
-      let t = turn (Taken c) h in
+      let t = turn (Ok (Taken c)) h in
       let one : Q.count ≡ P.count + 1 = sym (count-length Q) ∙ ap length q ∙ length-append (credentials P) (c ∷ [])
       ∙ ap (λ (n : ℕ). n + 1) (count-length P) in
       record {
@@ -252,18 +243,16 @@ module _ {s : List ℕ} {P : Pool} {at : ℕ} (r : Reading s P at) (more : at < 
       }
 
   -- the end: all credentials were read
-  pub list-end : step_at s at ≡ End → length s ≤ MOST-CREDENTIALS-BYTES → Lists s (listing 0 P)
+  pub list-end : step_at s at ≡ Ok End → listed_of (Ok P) ≡ credentials_of s
   unfolding listed_of
-  list-end h most = (sym (turn End h).2, reading-few r most)
+  list-end h = sym (turn (Ok End) h).2
 
   -- the first command that cannot be read
-  pub list-refused : {k : ℕ} → step_at s at ≡ Refused k → length s ≤ MOST-CREDENTIALS-BYTES → Lists s (listing k P)
-  list-refused {k} h most = (listed-refused (listing k P) (not-zero (step-refusal s at k h)) ∙ sym (turn (Refused k) h).2, reading-few r most)
-    where
-      not-zero : Refusal k → k ≡ 0 → ⊥
-      not-zero e z = ⊎_elim (λ q. omega arith) (λ q. omega arith) e
+  pub list-refused : {k : ℕ} → step_at s at ≡ Err k → listed_of (Err k) ≡ credentials_of s
+  unfolding listed_of
+  list-refused {k} h = sym (turn (Err k) h).2
 
 -- the end is missing
-pub list-past : {s : List ℕ} {P : Pool} {at : ℕ} → Reading s P at → length s ≤ at → length s ≤ MOST-CREDENTIALS-BYTES → Lists s (listing 2 P)
+pub list-past : {s : List ℕ} {P : Pool} {at : ℕ} → Reading s P at → length s ≤ at → listed_of (Err 2) ≡ credentials_of s
 unfolding listed_of
-list-past {s} {P} {at} r h most = (sym (r.rest ∙ past r.fuel s at (credentials P) h), reading-few r most)
+list-past {s} {P} {at} r h = sym (r.rest ∙ past r.fuel s at (credentials P) h)

@@ -1,18 +1,17 @@
 -- A list is accepted exactly where it is the commands of well-formed credentials and an end, and refused for the first other one. Assumes nothing.
 use Prim.Native.Nat.{ℕ, zero, suc, ◌+◌, ◌*◌, ◌<◌, ◌≤◌}
-use Rattle.std.specs.Prelude.{◌≡◌, true, get_or, take, drop}
+use Rattle.std.specs.Prelude.{◌≡◌, true, get_or, take, drop, Some, Result, Ok, Err}
 use Rattle.std.proofs.Math.Path.{refl, ap}
 use Rattle.std.proofs.Common.{sym, ◌∙◌, subst, arith, add_assoc, add-one, eq-eqb, length-append, take-append-drop, drop_of_length-le, take_at, drop_at, drop-drop, drop-cons}
 use mathlib.Core.List.{List, [], ◌∷◌, ◌++◌, append_assoc, append-nil}
 use Rattle.std.proofs.Math.ListN.{length}
 use Rattle.numbers.specs.Bytes.{CREDENTIAL-BYTES}
 use Rattle.expression.specs.declared.Credential.{Credential}
-use Rattle.expression.specs.declared.CredentialAnswer.TheVariants as a
 use Rattle.expression.specs.Credential.{well_formed_credential, credential_bytes}
 use Rattle.expression.specs.laws.Credential.{credential-only}
 use Rattle.expression.specs.laws.There.{code-there, size-there, read-there}
 use Rattle.question.specs.declared.Step.{Step}
-use Rattle.question.specs.declared.Step.TheVariants.{Taken, End, Refused}
+use Rattle.question.specs.declared.Step.TheVariants.{Taken, End}
 use Rattle.question.specs.Credentials.{step_at, after, list_from, credentials_of}
 use Rattle.question.specs.laws.Credentials.{whole, last, at_code, credential-first, none_left, taken-sure, end-sure, step-reason}
 use Rattle.question.specs.Asked.{commands_then, commands, Formed}
@@ -21,7 +20,7 @@ use Rattle.question.specs.Refused as R
 use Rattle.numbers.specs.Answer.{Answer, refused, accepted}
 
 module _ (s : List ℕ) (at : ℕ) (inside : at ≤ length s) where
-  end-there : drop at s ≡ 6 ∷ [] → step_at s at ≡ End
+  end-there : drop at s ≡ 6 ∷ [] → step_at s at ≡ Ok End
   end-there h =
       let size : length s ≡ at + 1 = size-there s at inside (6 ∷ []) h in
       sym (last s at true (eq-eqb (at + 1) (length s) (sym size)) ∙ at_code s at 6 (omega arith) (code-there s at 6 [] h))
@@ -34,11 +33,11 @@ module _ (s : List ℕ) (at : ℕ) (inside : at ≤ length s) (c : Credential) (
   rest-there : drop (at + CREDENTIAL-BYTES) s ≡ l
   rest-there = sym (drop-drop CREDENTIAL-BYTES at s) ∙ ap (drop CREDENTIAL-BYTES) h ∙ drop_at (credential_bytes c) l 22 refl
 
-  taken-there : step_at s at ≡ Taken c
+  taken-there : step_at s at ≡ Ok (Taken c)
   taken-there =
       let fits : at + CREDENTIAL-BYTES ≤ length s = fits-there in
       let next : drop (at + 1) s ≡ credential_bytes c ++ l = sym (drop-drop 1 at s) ∙ ap (drop 1) h in
-      sym (whole s at (a.Read c) (omega arith) (read-there s (at + 1) (omega arith) c l formed next) ∙ at_code s at 1 (omega arith) (code-there s at 1 _ h))
+      sym (whole s at (Some c) (omega arith) (read-there s (at + 1) (omega arith) c l formed next) ∙ at_code s at 1 (omega arith) (code-there s at 1 _ h))
 
 -- the commands of well-formed credentials are read back, and what stands behind them decides
 from-commands : (s l : List ℕ) (f : List Credential → Answer (List Credential))
@@ -79,7 +78,7 @@ pub record Rest (s : List ℕ) (at : ℕ) (D : List Credential) (x : Answer (Lis
   pub stop : Stop (D ++ listed) others x
 
 module _ (s : List ℕ) (bytes : (i : ℕ) → get_or s i 0 < 256) where
-  credential-there : (at : ℕ) (c : Credential) → step_at s at ≡ Taken c
+  credential-there : (at : ℕ) (c : Credential) → step_at s at ≡ Ok (Taken c)
       → (drop at s ≡ 1 ∷ (credential_bytes c ++ drop (at + CREDENTIAL-BYTES) s)) × (well_formed_credential c ≡ true)
   credential-there at c h =
       let w = taken-sure s at c h in
@@ -90,7 +89,7 @@ module _ (s : List ℕ) (bytes : (i : ℕ) → get_or s i 0 < 256) where
       ∙ (λ i. o.0 i ++ (drop-drop 22 (at + 1) s ∙ ap (λ (k : ℕ). drop k s) (add_assoc at 1 22)) i) in
       (drop-cons s at 0 (omega (arith, w.0)) ∙ (λ i. w.1 i ∷ next i), o.1)
 
-  one_more : (at : ℕ) (c : Credential) (D : List Credential) (x : Answer (List Credential)) → step_at s at ≡ Taken c
+  one_more : (at : ℕ) (c : Credential) (D : List Credential) (x : Answer (List Credential)) → step_at s at ≡ Ok (Taken c)
       → Rest s (at + CREDENTIAL-BYTES) (D ++ (c ∷ [])) x → Rest s at D x
   one_more at c D x h r =
       let w = credential-there at c h in
@@ -102,7 +101,7 @@ module _ (s : List ℕ) (bytes : (i : ℕ) → get_or s i 0 < 256) where
         stop = subst (λ (F : List Credential). Stop F r.others x) (append_assoc D (c ∷ []) r.listed) r.stop;
       }
 
-  end-only : (at : ℕ) → step_at s at ≡ End → drop at s ≡ 6 ∷ []
+  end-only : (at : ℕ) → step_at s at ≡ Ok End → drop at s ≡ 6 ∷ []
   end-only at h =
       let w = end-sure s at h in
       drop-cons s at 0 (omega (arith, w.0)) ∙ (λ i. w.1 i ∷ drop_of_length-le s {i = suc at} (omega (arith, w.0)) i)
@@ -115,11 +114,11 @@ module _ (s : List ℕ) (bytes : (i : ℕ) → get_or s i 0 < 256) where
   to-commands zero at D l = refused-here at 2 D (none_left s at (omega arith))
   to-commands (suc n) at D l = go (step_at s at) refl (λ F. to-commands n (at + CREDENTIAL-BYTES) F (omega arith))
     where
-      go : (x : Step) → step_at s at ≡ x → ((F : List Credential) → Rest s (at + CREDENTIAL-BYTES) F (list_from n s (at + CREDENTIAL-BYTES) F))
+      go : (x : Result Step ℕ) → step_at s at ≡ x → ((F : List Credential) → Rest s (at + CREDENTIAL-BYTES) F (list_from n s (at + CREDENTIAL-BYTES) F))
           → Rest s at D (after (list_from n s (at + CREDENTIAL-BYTES)) D x)
-      go (Taken c) q again = one_more at c D _ q (again (D ++ (c ∷ [])))
-      go End q again = record { listed = []; others = 6 ∷ []; there = end-only at q; formed = tt; stop = (sym (append-nil D), refl) }
-      go (Refused k) q again = refused-here at k D (step-reason s at k q)
+      go (Ok (Taken c)) q again = one_more at c D _ q (again (D ++ (c ∷ [])))
+      go (Ok End) q again = record { listed = []; others = 6 ∷ []; there = end-only at q; formed = tt; stop = (sym (append-nil D), refl) }
+      go (Err k) q again = refused-here at k D (step-reason s at k q)
 
   -- what the answer says of the bytes
   pub list-says : Rest s 0 [] (credentials_of s)
@@ -140,18 +139,18 @@ module _ (s : List ℕ) (bytes : (i : ℕ) → get_or s i 0 < 256) where
   one_number (malformed w n e) (R.cut m q) = absurd (m (credential w))
   one_number (malformed w n e) (malformed v m q) = e ∙ sym q
 
-  unreadable-step : (at k : ℕ) → Unreadable (drop at s) k → step_at s at ≡ Refused k
+  unreadable-step : (at k : ℕ) → Unreadable (drop at s) k → step_at s at ≡ Err k
   unreadable-step at k u = go (step_at s at) refl u
     where
-      go : (x : Step) → step_at s at ≡ x → Unreadable (drop at s) k → x ≡ Refused k
-      go (Taken c) h (R.cut n e) = let w = taken-sure s at c h in absurd (n (credential (credential-first s at w.1 (omega (arith, w.0)))))
-      go (Taken c) h (malformed w n e) =
+      go : (x : Result Step ℕ) → step_at s at ≡ x → Unreadable (drop at s) k → x ≡ Err k
+      go (Ok (Taken c)) h (R.cut n e) = let w = taken-sure s at c h in absurd (n (credential (credential-first s at w.1 (omega (arith, w.0)))))
+      go (Ok (Taken c)) h (malformed w n e) =
           let o = credential-there at c h in
           let rest : List ℕ = drop (at + CREDENTIAL-BYTES) s in
           absurd (n c o.1 (ap (take CREDENTIAL-BYTES) o.0 ∙ take_at (1 ∷ credential_bytes c) rest CREDENTIAL-BYTES refl))
-      go End h (R.cut n e) = absurd (n (end (end-only at h)))
-      go End h (malformed w n e) = absurd (omega (arith, w.code, ap (λ (l : List ℕ). get_or l 0 0) (end-only at h)))
-      go (Refused j) h v = ap Refused (one_number (step-reason s at j h) v)
+      go (Ok End) h (R.cut n e) = absurd (n (end (end-only at h)))
+      go (Ok End) h (malformed w n e) = absurd (omega (arith, w.code, ap (λ (l : List ℕ). get_or l 0 0) (end-only at h)))
+      go (Err j) h v = ap Err (one_number (step-reason s at j h) v)
 
   -- a command that cannot be read ends the list
   pub list-stopped : (C : List Credential) (l : List ℕ) (k : ℕ) → 0 < length s → s ≡ commands_then C l → Formed C → Unreadable l k → credentials_of s ≡ refused k

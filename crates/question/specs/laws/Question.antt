@@ -1,12 +1,10 @@
 -- What an answer says of the question, and that every question has one of five answers. Assumes nothing.
-use Rattle.std.specs.Prelude.{ℕ, ◌*◌, ◌≡◌, refl, ◌⊎◌, Bool, true, false, cond, ◌&&◌, List, ltb, leb, eqb, length}
+use Rattle.std.specs.Prelude.{ℕ, ◌*◌, ◌≡◌, refl, ◌⊎◌, Bool, true, false, cond, ◌&&◌, List, ltb, leb, eqb, length, Option, Some, None, Result, Ok, Err}
 use Rattle.std.proofs.Common.{sym, ap, ◌∙◌, subst, inl, inr, ⊎_elim, lt-ltb, ltb-true, le-leb, leb-true, eq-eqb, eqb-true}
 use Rattle.numbers.specs.Sizes.{MOST-CREDENTIALS-BYTES}
 use Rattle.numbers.specs.Bytes.{EXPRESSION-BYTES}
 use Rattle.expression.specs.declared.Credential.{Credential}
 use Rattle.expression.specs.declared.Expression.{Expression}
-use Rattle.expression.specs.declared.ExpressionAnswer.{ExpressionAnswer}
-use Rattle.expression.specs.declared.ExpressionAnswer.TheVariants.{Read, Wrong}
 use Rattle.expression.specs.Form.{read_of}
 use Rattle.expression.specs.Credential.{is_body}
 use Rattle.expression.specs.laws.Laws.{and_left, and_right}
@@ -19,14 +17,14 @@ use Rattle.numbers.specs.Answer.{Answer, refused, accepted, answer_of}
 use Rattle.numbers.specs.Refusals.{LENGTH}
 
 -- bytes of wrong form
-pub operand-wrong : (s : List ℕ) → read_of s 0 ≡ Wrong → Wrong ≡ operand_of s
+pub operand-wrong : (s : List ℕ) → read_of s 0 ≡ None → None ≡ operand_of s
 unfolding operand_of
 operand-wrong s h = sym (ap askable h)
 
 -- bytes of an expression, which is an operand unless it is a goal
-pub operand_read : (s : List ℕ) (x : Expression) (b : Bool) → read_of s 0 ≡ Read x → is_body x ≡ b → cond b (Read x) Wrong ≡ operand_of s
+pub operand_read : (s : List ℕ) (x : Expression) (b : Bool) → read_of s 0 ≡ Some x → is_body x ≡ b → cond b (Some x) None ≡ operand_of s
 unfolding operand_of
-operand_read s x b h k = sym (ap askable h ∙ ap (λ (t : Bool). cond t (Read x) Wrong) k)
+operand_read s x b h k = sym (ap askable h ∙ ap (λ (t : Bool). cond t (Some x) None) k)
 
 -- lengths within the sizes pass the test
 pub sized-true : {c f e : ℕ} → Sized c f e → sized c f e ≡ true
@@ -57,23 +55,28 @@ unfolding question_of
 question-outside c f e h = sym (ap (λ (t : Bool). answer_of yes_or_no (cond t (answered (credentials_of c) (operand_of f) (operand_of e)) (refused LENGTH))) h)
 
 -- lengths within the sizes: the answer by what the bytes are read as
-pub question-read : (c f e : List ℕ) (l : Answer (List Credential)) (p q : ExpressionAnswer) → sized (length c) (length f) (length e) ≡ true
+pub question-read : (c f e : List ℕ) (l : Answer (List Credential)) (p q : Option Expression) → sized (length c) (length f) (length e) ≡ true
     → credentials_of c ≡ l → operand_of f ≡ p
     → operand_of e ≡ q → answered l p q ≡ question_of c f e
 unfolding question_of
 question-read c f e l p q h u v w = λ i. cond (sym h i) (answered (sym u i) (sym v i) (sym w i)) (refused LENGTH)
 
-pub question-inside : (c f e : List ℕ) (l : Answer (List Credential)) (p q : ExpressionAnswer) → sized (length c) (length f) (length e) ≡ true
+pub question-inside : (c f e : List ℕ) (l : Answer (List Credential)) (p q : Option Expression) → sized (length c) (length f) (length e) ≡ true
     → credentials_of c ≡ l → operand_of f ≡ p
     → operand_of e ≡ q → answer_of yes_or_no (answered l p q) ≡ answer_of yes_or_no (question_of c f e)
 question-inside c f e l p q h u v w = ap (answer_of yes_or_no) (question-read c f e l p q h u v w)
+
+-- what a decision says of the question
+abbrev pub decision_of : Result Bool ℕ → Answer Bool
+decision_of (Ok b) = accepted b
+decision_of (Err k) = refused k
 
 -- the lent bytes ask whether x from y over the credentials C
 pub record Asked (c f e : List ℕ) (C : List Credential) (x y : Expression) : Type 0 where
   pub sizes : Sized (length c) (length f) (length e)
   pub credentials : credentials_of c ≡ accepted C
-  pub first : operand_of f ≡ Read x
-  pub second : operand_of e ≡ Read y
+  pub first : operand_of f ≡ Some x
+  pub second : operand_of e ≡ Some y
 
 -- the answer to a question that is asked in right form
 pub question-asked : {c f e : List ℕ} {C : List Credential} {x y : Expression} → Asked c f e C x y → question_of c f e ≡ accepted (from? C x y)
@@ -92,13 +95,13 @@ question-cases : (c f e : List ℕ) → Refused (answer_of yes_or_no (question_o
 unfolding question_of
 question-cases c f e = size (sized (length c) (length f) (length e)) refl
   where
-    read : (l : Answer (List Credential)) (p q : ExpressionAnswer) → sized (length c) (length f) (length e) ≡ true → credentials_of c ≡ l
+    read : (l : Answer (List Credential)) (p q : Option Expression) → sized (length c) (length f) (length e) ≡ true → credentials_of c ≡ l
         → operand_of f ≡ p → operand_of e ≡ q
         → Refused (answer_of yes_or_no (answered l p q)) ⊎ Asks c f e (answer_of yes_or_no (answered l p q))
     read (refused k) p q h l a b = inl (inr (list-refusal c k l))
-    read (accepted C) Wrong q h l a b = inl (inr (inr refl))
-    read (accepted C) (Read x) Wrong h l a b = inl (inr (inr refl))
-    read (accepted C) (Read x) (Read y) h l a b =
+    read (accepted C) None q h l a b = inl (inr (inr refl))
+    read (accepted C) (Some x) None h l a b = inl (inr (inr refl))
+    read (accepted C) (Some x) (Some y) h l a b =
         inr (C, x, y, record { sizes = true-sized (length c) (length f) (length e) h; credentials = l; first = a; second = b }, refl)
 
     size : (t : Bool) → sized (length c) (length f) (length e) ≡ t

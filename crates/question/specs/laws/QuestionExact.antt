@@ -1,11 +1,9 @@
 -- A question is answered exactly where the lent bytes are those of well-formed credentials and expressions. Assumes nothing.
-use Rattle.std.specs.Prelude.{ℕ, ◌<◌, ◌≡◌, refl, ◌↔◌, Bool, true, false, cond, List, [], ◌∷◌, length, get_or}
+use Rattle.std.specs.Prelude.{ℕ, ◌<◌, ◌≡◌, refl, ◌↔◌, Bool, true, false, cond, List, [], ◌∷◌, length, get_or, Option, Some, None}
 use Rattle.std.proofs.Common.{sym, ap, ◌∙◌, arith, take_all}
 use Rattle.numbers.specs.Bytes.{EXPRESSION-BYTES}
 use Rattle.expression.specs.declared.Credential.{Credential}
 use Rattle.expression.specs.declared.Expression.{Expression}
-use Rattle.expression.specs.declared.ExpressionAnswer.{ExpressionAnswer}
-use Rattle.expression.specs.declared.ExpressionAnswer.TheVariants.{Read, Wrong}
 use Rattle.expression.specs.Form.{read_of}
 use Rattle.expression.specs.Credential.{is_body}
 use Rattle.expression.specs.laws.Codec.{read-write, read_only}
@@ -17,22 +15,22 @@ use Rattle.question.specs.Refused.{Unaskable}
 use Rattle.question.specs.laws.CredentialsExact.{length-then, list_back, list-only}
 use Rattle.question.specs.Question.{askable, operand_of}
 
-operand-back : (x : Expression) → Askable x → operand_of (expression_bytes x) ≡ Read x
+operand-back : (x : Expression) → Askable x → operand_of (expression_bytes x) ≡ Some x
 unfolding operand_of
 operand-back x h =
     let b : List ℕ = expression_bytes x in
-    let back : read_of b 0 ≡ Read x = ap (λ (l : List ℕ). read_of l 0) (sym (self-paste b 0 b refl)) ∙ read-write b 0 x (omega arith) h.formed in
-    ap askable back ∙ ap (λ (t : Bool). cond t (Read x) Wrong) h.kind
+    let back : read_of b 0 ≡ Some x = ap (λ (l : List ℕ). read_of l 0) (sym (self-paste b 0 b refl)) ∙ read-write b 0 x (omega arith) h.formed in
+    ap askable back ∙ ap (λ (t : Bool). cond t (Some x) None) h.kind
 
-askable-read : (r : ExpressionAnswer) (x : Expression) → askable r ≡ Read x → (r ≡ Read x) × (is_body x ≡ true)
-askable-read (Read z) x h = go (is_body z) refl h
+askable-read : (r : Option Expression) (x : Expression) → askable r ≡ Some x → (r ≡ Some x) × (is_body x ≡ true)
+askable-read (Some z) x h = go (is_body z) refl h
   where
-    go : (t : Bool) → is_body z ≡ t → cond t (Read z) Wrong ≡ Read x → (Read z ≡ Read x) × (is_body x ≡ true)
+    go : (t : Bool) → is_body z ≡ t → cond t (Some z) None ≡ Some x → (Some z ≡ Some x) × (is_body x ≡ true)
     go true p q = let same : z ≡ x = cc in (q, ap is_body (sym same) ∙ p)
     go false p q = let n : ◌≡◌ {A = ℕ} 0 1 = cc in absurd (omega arith)
-askable-read Wrong x h = let n : ◌≡◌ {A = ℕ} 0 1 = cc in absurd (omega arith)
+askable-read None x h = let n : ◌≡◌ {A = ℕ} 0 1 = cc in absurd (omega arith)
 
-operand-only : (s : List ℕ) (x : Expression) → ((i : ℕ) → get_or s i 0 < 256) → length s ≡ EXPRESSION-BYTES → operand_of s ≡ Read x
+operand-only : (s : List ℕ) (x : Expression) → ((i : ℕ) → get_or s i 0 < 256) → length s ≡ EXPRESSION-BYTES → operand_of s ≡ Some x
     → (s ≡ expression_bytes x) × Askable x
 unfolding operand_of
 operand-only s x bytes size h =
@@ -41,15 +39,15 @@ operand-only s x bytes size h =
     (sym (take_all EXPRESSION-BYTES s (omega arith)) ∙ o.0, record { formed = o.1; kind = r.1 })
 
 -- the bytes of no expression that may be asked
-pub operand-wrong-exactly : (s : List ℕ) → ((i : ℕ) → get_or s i 0 < 256) → length s ≡ EXPRESSION-BYTES → (operand_of s ≡ Wrong) ↔ Unaskable s
+pub operand-wrong-exactly : (s : List ℕ) → ((i : ℕ) → get_or s i 0 < 256) → length s ≡ EXPRESSION-BYTES → (operand_of s ≡ None) ↔ Unaskable s
 operand-wrong-exactly s bytes size = (
   λ h x w q. let z : ◌≡◌ {A = ℕ} 0 1 = cc (h, ap operand_of q ∙ operand-back x w) in omega arith,
   λ n. go n (operand_of s) refl,
 )
   where
-    go : Unaskable s → (r : ExpressionAnswer) → operand_of s ≡ r → operand_of s ≡ Wrong
-    go n (Read x) h = let o = operand-only s x bytes size h in absurd (n x o.1 o.0)
-    go n Wrong h = h
+    go : Unaskable s → (r : Option Expression) → operand_of s ≡ r → operand_of s ≡ None
+    go n (Some x) h = let o = operand-only s x bytes size h in absurd (n x o.1 o.0)
+    go n None h = h
 
 -- at most 64 well-formed credentials and two well-formed expressions, written as bytes, ask whether x from y
 pub written-asked : {c f e : List ℕ} {C : List Credential} {x y : Expression} → Written c f e C x y → Asked c f e C x y

@@ -1,11 +1,9 @@
 -- A reader's position, test by test. Assumes nothing.
-use Rattle.std.specs.Prelude.{ℕ, ◌+◌, ◌<◌, ◌≤◌, ◌≡◌, refl, Bool, true, false, List, ltb, length}
+use Rattle.std.specs.Prelude.{ℕ, ◌+◌, ◌<◌, ◌≤◌, ◌≡◌, refl, Bool, true, false, List, ltb, length, Result, Ok, Err}
 use Rattle.std.proofs.Math.Path.{sym, ap}
 use Rattle.std.proofs.Common.{◌∙◌, lt-ltb, le-ltb}
 use Rattle.std.proofs.Math.Bool.{cond}
 use Rattle.message.specs.declared.Command.{Command}
-use Rattle.message.specs.declared.CommandAnswer.{CommandAnswer}
-use Rattle.message.specs.declared.CommandAnswer.TheVariants.{Read, Refused}
 use Rattle.message.specs.Command.{command_at, size_of}
 use Rattle.message.specs.laws.CommandExact.{command-room}
 use Rattle.reader.specs.laws.Position.{behind, behind_in, position_after}
@@ -16,11 +14,11 @@ module _ (n at : ℕ) where
   same false = refl
 
   -- nothing was read
-  pub behind-refused : {a : CommandAnswer} {k : ℕ} → a ≡ Refused k → at ≡ behind_in n at a
+  pub behind-refused : {a : Result Command ℕ} {k : ℕ} → a ≡ Err k → at ≡ behind_in n at a
   unfolding behind_in behind
   behind-refused {a} {k} h = same (ltb n at) ∙ ap (behind_in n at) (sym h)
 
-  module _ {a : CommandAnswer} {c : Command} (h : a ≡ Read c) {d : ℕ} (de : d ≡ size_of c) where
+  module _ {a : Result Command ℕ} {c : Command} (h : a ≡ Ok c) {d : ℕ} (de : d ≡ size_of c) where
     test : {b : Bool} → ltb n (at + d) ≡ b → ltb n (at + size_of c) ≡ b
     test e = ap (λ (x : ℕ). ltb n (at + x)) (sym de) ∙ e
 
@@ -40,11 +38,11 @@ pub behind-read : (m : List ℕ) (at : ℕ) → behind_in (length m) at (command
 unfolding behind_in behind position_after
 behind-read m at = go (command_at m at) refl
   where
-    go : (a : CommandAnswer) → command_at m at ≡ a → behind_in (length m) at a ≡ behind at a
-    go (Read c) h = ap (λ (b : Bool). cond b at (at + size_of c)) (le-ltb (length m) (at + size_of c) (command-room m at c h))
-    go (Refused k) h = sym (same (length m) at (ltb (length m) at))
+    go : (a : Result Command ℕ) → command_at m at ≡ a → behind_in (length m) at a ≡ behind at a
+    go (Ok c) h = ap (λ (b : Bool). cond b at (at + size_of c)) (le-ltb (length m) (at + size_of c) (command-room m at c h))
+    go (Err k) h = sym (same (length m) at (ltb (length m) at))
 
 -- behind a command that stands there
-pub position-read : (m : List ℕ) (at : ℕ) {c : Command} → command_at m at ≡ Read c → position_after m at ≡ at + size_of c
+pub position-read : (m : List ℕ) (at : ℕ) {c : Command} → command_at m at ≡ Ok c → position_after m at ≡ at + size_of c
 unfolding behind position_after
 position-read m at h = ap (behind at) h

@@ -1,22 +1,21 @@
 -- What a record is read as, by the tests on its bytes. Assumes nothing.
-use Rattle.std.specs.Prelude.{ℕ, ◌+◌, ◌-◌, ◌<◌, ◌≤◌, ◌≡◌, Bool, cond, ◌&&◌, List, ltb, leb, eqb}
+use Rattle.std.specs.Prelude.{ℕ, ◌+◌, ◌-◌, ◌<◌, ◌≤◌, ◌≡◌, Bool, cond, ◌&&◌, List, ltb, leb, eqb, Option, Result, Err}
 use Rattle.std.proofs.Math.Path.{refl, sym, ap}
 use Rattle.std.proofs.Common.{◌∙◌, add_assoc}
 use Rattle.std.proofs.Math.Bool.{true, false}
 use borrow.Author.Tests.{lt-ltb, le-ltb, leb-true, eqb-true, ne_eqb}
 use Rattle.std.proofs.Math.ListN.{length, get_or}
-use Rattle.expression.specs.declared.CredentialAnswer.{CredentialAnswer}
 use Rattle.expression.specs.Bytes.{number_at}
 use Rattle.expression.specs.Credential.{role_at, read_credential}
 use Rattle.expression.specs.laws.Laws.{and_left, and_right}
 use Rattle.class.specs.declared.Name.{Name}
+use Rattle.record.specs.declared.Record.{Record}
 use Rattle.record.specs.declared.Pair.{Pair}
 use Rattle.record.specs.declared.Record.TheVariants.{Own, Named}
-use Rattle.record.specs.declared.RecordAnswer.{RecordAnswer}
-use Rattle.record.specs.declared.RecordAnswer.TheVariants.{Refused}
 use Rattle.record.specs.Record.{formed_name, formed_pair, paired, whole, checked, own_at, name_of, name_at, stored_of, stored_at, pair_of, pair_at, by_code}
 use Rattle.record.specs.Record.{record_at}
 use Rattle.numbers.specs.Bytes.{CREDENTIAL-BYTES}
+use Rattle.expression.specs.declared.Credential.{Credential}
 
 -- the first byte of a stored credential
 abbrev pub stored_code : Bool → ℕ
@@ -28,16 +27,16 @@ begins_stored subject s at = leb CREDENTIAL-BYTES (length s - at) && eqb (get_or
 
 module _ (size : ℕ) (s : List ℕ) (at : ℕ) where
   -- too few bytes are left
-  cut : (r : RecordAnswer) → length s - at < size → Refused 2 ≡ whole size s at r
-  cut r h = sym (ap (λ (t : Bool). cond t (Refused 2) r) (lt-ltb (length s - at) size h))
+  cut : (r : Result Record ℕ) → length s - at < size → Err 2 ≡ whole size s at r
+  cut r h = sym (ap (λ (t : Bool). cond t (Err 2) r) (lt-ltb (length s - at) size h))
 
   -- enough bytes are left
-  full : {r q : RecordAnswer} → size ≤ length s - at → q ≡ r → q ≡ whole size s at r
-  full {r} h e = e ∙ sym (ap (λ (t : Bool). cond t (Refused 2) r) (le-ltb (length s - at) size h))
+  full : {r q : Result Record ℕ} → size ≤ length s - at → q ≡ r → q ≡ whole size s at r
+  full {r} h e = e ∙ sym (ap (λ (t : Bool). cond t (Err 2) r) (le-ltb (length s - at) size h))
 
 module _ (s : List ℕ) (at : ℕ) where
   -- self, cut
-  pub own-cut : length s - at < 3 → Refused 2 ≡ own_at s at
+  pub own-cut : length s - at < 3 → Err 2 ≡ own_at s at
   unfolding own_at
   own-cut h = cut 3 s at _ h
 
@@ -47,7 +46,7 @@ module _ (s : List ℕ) (at : ℕ) where
   own-full e b h p q = full 3 s at h (λ i. checked (sym (sym (ap (ltb 0) p) ∙ q) i) (Own (p i)))
 
   -- a name, cut
-  pub name-cut : length s - at < 4 → Refused 2 ≡ name_at s at
+  pub name-cut : length s - at < 4 → Err 2 ≡ name_at s at
   unfolding name_at
   name-cut h = cut 4 s at _ h
 
@@ -60,17 +59,17 @@ module _ (s : List ℕ) (at : ℕ) where
       full 4 s at h (λ i. checked (sym (sym (ap formed_name same) ∙ f) i) (Named (same i)))
 
   -- a stored credential, cut
-  pub stored_cut : (subject : Bool) → length s - at < 23 → Refused 2 ≡ stored_at subject s at
+  pub stored_cut : (subject : Bool) → length s - at < 23 → Err 2 ≡ stored_at subject s at
   unfolding stored_at
   stored_cut subject h = cut 23 s at _ h
 
   -- a stored credential, whole
-  pub stored-full : (subject : Bool) (r : CredentialAnswer) → 23 ≤ length s - at → read_credential s (at + 1) ≡ r → stored_of subject r ≡ stored_at subject s at
+  pub stored-full : (subject : Bool) (r : Option Credential) → 23 ≤ length s - at → read_credential s (at + 1) ≡ r → stored_of subject r ≡ stored_at subject s at
   unfolding stored_at
   stored-full subject r h q = full 23 s at h (ap (stored_of subject) (sym q))
 
   -- a pair, cut
-  pub pair-cut : (access : Bool) → length s - at < 9 → Refused 2 ≡ pair_at access s at
+  pub pair-cut : (access : Bool) → length s - at < 9 → Err 2 ≡ pair_at access s at
   unfolding pair_at
   pair-cut access h = cut 9 s at _ h
 
@@ -89,7 +88,7 @@ module _ (s : List ℕ) (at : ℕ) where
 
   -- an unknown first byte
   pub unknown : (code : ℕ) → (code ≡ 16 → ⊥) → (code ≡ 17 → ⊥) → (code ≡ 18 → ⊥) → (code ≡ 19 → ⊥) → (code ≡ 20 → ⊥) → (code ≡ 21 → ⊥)
-      → Refused 2 ≡ by_code code s at
+      → Err 2 ≡ by_code code s at
   unknown code h0 h1 h2 h3 h4 h5 = sym (simp (ne_eqb code 16 h0, ne_eqb code 17 h1, ne_eqb code 18 h2, ne_eqb code 19 h3, ne_eqb code 20 h4, ne_eqb code 21 h5))
 
   -- where a stored credential begins, it is the record that stands there

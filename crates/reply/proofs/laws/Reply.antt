@@ -1,5 +1,5 @@
 -- A whole reply: what the code leaves is what the rules yield. Assumes nothing.
-use Rattle.std.specs.Prelude.{ℕ, ◌+◌, ◌≤◌, ◌<◌, ◌≡◌, refl, Bool, eqb, drop}
+use Rattle.std.specs.Prelude.{ℕ, ◌+◌, ◌≤◌, ◌<◌, ◌≡◌, refl, Bool, eqb, drop, Result, Ok, Err}
 use Rattle.std.proofs.Common.{arith, ◌∙◌, subst}
 use Rattle.std.proofs.Math.Path.{sym, ap}
 use Rattle.std.proofs.Math.Bool.{true, false, not, cond}
@@ -38,7 +38,7 @@ use Rattle.moves.specs.Initial.{initial_state}
 use Rattle.moves.specs.Carried.{carried}
 use Rattle.legality.specs.laws.Going.{Going}
 use Rattle.legality.specs.laws.Kept.{sound-going, opening-going, updates-header}
-use Rattle.reply.specs.declared.Replying.{Replying}
+use Rattle.reply.specs.declared.Written.{Written}
 use Rattle.reply.specs.Reply.{Replied, opening, reply_in, replied_state, reply_bytes, replied_in}
 use Rattle.reply.specs.laws.Outgoing.{bytes-append, one-length}
 use Rattle.reply.specs.laws.Carry.{paste-length, pasted-behind}
@@ -61,35 +61,49 @@ module _ (T : Tables) (t : Sound T) (S : State) (h : sound T S ≡ true) (w : wi
           let z : length S.nodes ≡ 0 = eqb-true (length S.nodes) 0 e in opening-going T t S h w (opens-first T t S h w turn z) z
       go false e = sound-going T t S h w (eqb-false (length S.nodes) 0 e)
 
-  module _ {d₀ d₁ : List ℕ} (b : Replying) (g : Begins T S d₀ b d₁) (long : 4096 ≤ length d₀) where
+  module _ {d₀ d₁ : List ℕ} (n : Negotiation) (at : ℕ) (g : Begins T S d₀ n at d₁) (long : 4096 ≤ length d₀) where
     -- what going on from there asks
-    pub begun-ready : Going T (state_of b.negotiation) × (b.at + 1 ≤ 4096) × (4096 ≤ length d₁)
+    pub begun-ready : Going T (state_of n) × (at + 1 ≤ 4096) × (4096 ≤ length d₁)
     begun-ready = (
       subst (Going T) (sym g.state) begun-going,
       omega (arith, g.few),
       omega (arith, long, ap length g.bytes, paste-length d₀ 0 (bytes_of (opening T S)) (omega (arith, g.size, g.few, long))),
     )
 
-    pub begun-gives : {d : List ℕ} (r : Replying) → Gives T (rest_from 4096 T (state_of b.negotiation) b.at) b.at d₁ r d → Gives T (reply_in T S) 0 d₀ r d
+    pub begun-gives : {d : List ℕ} (n' : Negotiation) (r : Written) → Gives T (rest_from 4096 T (state_of n) at) at d₁ n' r d
+        → Gives T (reply_in T S) 0 d₀ n' r d
     unfolding reply_in
-    begun-gives {d} r k =
-        let rest : Replied = rest_from 4096 T (state_of b.negotiation) b.at in
+    begun-gives {d} n' r k =
+        let rest : Replied = rest_from 4096 T (state_of n) at in
         let all : reply_in T S ≡ behind (opening T S) rest = from-rest 4096 T (carried S.header.side S (opening T S)) (opening T S)
         ∙ (λ i. behind (opening T S) (rest_from 4096 T (sym g.state i) (sym g.size i))) in
         let cs : opening T S ++ rest.commands ≡ (reply_in T S).commands = sym (ap (λ (x : Replied). x.commands) all) in
-        let end : b.at ≡ 0 + length (bytes_of (opening T S)) = omega (arith, g.size) in
+        let end : at ≡ 0 + length (bytes_of (opening T S)) = omega (arith, g.size) in
         record {
           state = k.state ∙ sym (ap (λ (x : Replied). x.state) all);
           full = k.full ∙ sym (ap (λ (x : Replied). x.full) all);
           size = omega (arith, k.size, g.size, bytes-behind (opening T S) rest.commands) ∙ ap (λ (l : List Command). 0 + length (bytes_of l)) cs;
           bytes =
-              k.bytes ∙ pasted-behind d₀ d₁ 0 b.at (opening T S) rest.commands g.bytes end (omega (arith, k.size, k.most, g.size, long))
+              k.bytes ∙ pasted-behind d₀ d₁ 0 at (opening T S) rest.commands g.bytes end (omega (arith, k.size, k.most, g.size, long))
               ∙ ap (λ (l : List Command). pasted d₀ 0 (bytes_of l)) cs;
           most = k.most;
           going = k.going;
         }
 
 -- The end
+
+-- an answer of one kind is none of the other
+same-value : {a b : ℕ} → ◌≡◌ {A = Result ℕ ℕ} (Ok a) (Ok b) → a ≡ b
+same-value e = cc
+
+same-error : {a b : ℕ} → ◌≡◌ {A = Result ℕ ℕ} (Err a) (Err b) → a ≡ b
+same-error e = cc
+
+error-value : {a b : ℕ} → ◌≡◌ {A = Result ℕ ℕ} (Err a) (Ok b) → ⊥
+error-value e = cc
+
+value-error : {a b : ℕ} → ◌≡◌ {A = Result ℕ ℕ} (Ok a) (Err b) → ⊥
+value-error e = cc
 
 after-within : (v : ℕ) (S : State) (m f : Bool) {U : State} → U ≡ after_message v S m f → within S ≡ true → within U ≡ true
 unfolding after_message with_header within
@@ -110,47 +124,47 @@ module _ (T : Tables) (n : Negotiation) where
   by_tests_lem a b x y =
       λ i. cond (x i) (refused ENDED) (cond (y i) (refused TURN) (accepted (reply_bytes (reply_in T (state_of n)), replied_state (reply_in T (state_of n)))))
 
-  not-given : (d : List ℕ) (r : Replying) (k : ℕ) → replied_in T (state_of n) ≡ refused k → (k ≡ 0 → ⊥) → r.refusal ≡ k → Replies T (state_of n) d r d
-  not-given d r k q z e =
+  not-given : (d : List ℕ) (n' : Negotiation) (k : ℕ) → replied_in T (state_of n) ≡ refused k → Replies T (state_of n) d n' (Err k) d
+  not-given d n' k q =
       record {
-        refuses = λ h. (q ∙ ap refused (sym e), refl);
-        gives = λ h. absurd (z (sym e ∙ h));
-        written = λ h. absurd (z (sym e ∙ h));
-        size = λ h. absurd (z (sym e ∙ h));
-        few = λ h. absurd (z (sym e ∙ h));
-        sizes = λ h. absurd (z (sym e ∙ h));
+        refuses = λ j h. (q ∙ ap refused (same-error h), refl);
+        gives = λ at h. absurd (error-value h);
+        written = λ at h. absurd (error-value h);
+        size = λ at h. absurd (error-value h);
+        few = λ at h. absurd (error-value h);
+        sizes = λ at h. absurd (error-value h);
       }
 
   -- already ended
-  pub replied-ended : (d : List ℕ) (r : Replying) → (n.header.end ≡ 0 → ⊥) → r.refusal ≡ 22 → Replies T (state_of n) d r d
-  replied-ended d r h e = not-given d r 22 (by_tests_lem true _ (ap not (ne_eqb n.header.end 0 h)) refl) (λ z. omega (arith, z)) e
+  pub replied-ended : (d : List ℕ) (n' : Negotiation) → (n.header.end ≡ 0 → ⊥) → Replies T (state_of n) d n' (Err 22) d
+  replied-ended d n' h = not-given d n' 22 (by_tests_lem true _ (ap not (ne_eqb n.header.end 0 h)) refl)
 
   module _ (z : n.header.end ≡ 0) {b : Bool} (be : b ≡ sends n.header.side n.header.messages) where
     -- not that side's turn
-    pub replied-turn : (d : List ℕ) (r : Replying) → not b ≡ true → r.refusal ≡ 21 → Replies T (state_of n) d r d
-    replied-turn d r h e = not-given d r 21 (by_tests_lem false true (ap not (eq-eqb n.header.end 0 z)) (ap not (sym be) ∙ h)) (λ y. omega (arith, y)) e
+    pub replied-turn : (d : List ℕ) (n' : Negotiation) → not b ≡ true → Replies T (state_of n) d n' (Err 21) d
+    replied-turn d n' h = not-given d n' 21 (by_tests_lem false true (ap not (eq-eqb n.header.end 0 z)) (ap not (sym be) ∙ h))
 
     module _ (h : not b ≡ false) where
       pub in-turn : sends n.header.side n.header.messages ≡ true
       in-turn = sym be ∙ not-false b h
 
-      module _ (t : Sound T) (s : sound T (state_of n) ≡ true) (w : within (state_of n) ≡ true) {d₀ d₁ : List ℕ} (q : Replying)
-          (g : Gives T (reply_in T (state_of n)) 0 d₀ q d₁) where
-        same-header : q.negotiation.header ≡ n.header
+      module _ (t : Sound T) (s : sound T (state_of n) ≡ true) (w : within (state_of n) ≡ true) {d₀ d₁ : List ℕ} (n' : Negotiation) (q : Written)
+          (g : Gives T (reply_in T (state_of n)) 0 d₀ n' q d₁) where
+        same-header : n'.header ≡ n.header
         unfolding state_of
         same-header = ap (λ (S : State). S.header) g.state ∙ updates-header (reply-updates T t (state_of n) s w in-turn)
 
-        same-side : n.header.side ≡ (state_of q.negotiation).header.side
+        same-side : n.header.side ≡ (state_of n').header.side
         unfolding state_of
         same-side = ap (λ (x : Header). x.side) (sym same-header)
 
         -- what judging the end asks
-        pub after-ready : (within (state_of q.negotiation) ≡ true) × (0 < q.negotiation.nodes.count)
-            × (message_count q.negotiation.header.messages < 65535)
-            × NodesFormed (nodes_of q.negotiation.nodes) × EdgesFormed (nodes_of q.negotiation.nodes) (edges_of q.negotiation.edges)
+        pub after-ready : (within (state_of n') ≡ true) × (0 < n'.nodes.count)
+            × (message_count n'.header.messages < 65535)
+            × NodesFormed (nodes_of n'.nodes) × EdgesFormed (nodes_of n'.nodes) (edges_of n'.edges)
         unfolding state_of
         after-ready =
-            let r = going-ready T q.negotiation g.going in
+            let r = going-ready T n' g.going in
             (g.going.sizes, r.0, omega (arith, ap (λ (x : Header). message_count x.messages) same-header, sound-count T (state_of n) s), r.3, r.4)
 
         module _ (long : 4096 ≤ length d₀) where
@@ -164,17 +178,16 @@ module _ (T : Tables) (n : Negotiation) where
           pub end-length : {d : List ℕ} → d ≡ pasted d₁ q.at (command_bytes End) → length d ≡ length d₀
           end-length de = ap length de ∙ paste-length d₁ q.at (command_bytes End) (omega (arith, end_fits, command-length End)) ∙ same_length
 
-          pub replied-given : {d : List ℕ} (a : Negotiation) (r : Replying)
-              → state_of a ≡ after_message n.header.side (state_of q.negotiation) (not (eqb q.at 0)) q.full → d ≡ pasted d₁ q.at (command_bytes End)
-              → r.refusal ≡ 0 → r.negotiation ≡ a → r.at ≡ q.at + 1
-              → Replies T (state_of n) d₀ r d
+          pub replied-given : {d : List ℕ} (a : Negotiation)
+              → state_of a ≡ after_message n.header.side (state_of n') (not (eqb q.at 0)) q.full → d ≡ pasted d₁ q.at (command_bytes End)
+              → Replies T (state_of n) d₀ a (Ok (q.at + 1)) d
           unfolding reply_bytes replied_state
-          replied-given {d} a r ae de e ne se =
+          replied-given {d} a ae de =
               let A : Replied = reply_in T (state_of n) in
               let size : q.at ≡ length (bytes_of A.commands) = omega (arith, g.size) in
               let behindBytes : q.at ≡ 0 + length (bytes_of A.commands) = g.size in
-              let state : state_of r.negotiation ≡ replied_state A = ap state_of ne ∙ ae
-              ∙ ap (λ (v : ℕ). after_message v (state_of q.negotiation) (not (eqb q.at 0)) q.full) same-side
+              let state : state_of a ≡ replied_state A = ae
+              ∙ ap (λ (v : ℕ). after_message v (state_of n') (not (eqb q.at 0)) q.full) same-side
               ∙ (λ i. after_message (g.state i).header.side (g.state i) (reply-moved T (state_of n) size i) (g.full i)) in
               let all : length (message_bytes A.commands) ≡ length (bytes_of A.commands) + 1 = ap length (message-end A.commands)
               ∙ length-append (bytes_of A.commands) (command_bytes End) ∙ ap (λ (k : ℕ). length (bytes_of A.commands) + k) (command-length End) in
@@ -184,12 +197,12 @@ module _ (T : Tables) (n : Negotiation) where
               ∙ ap (pasted d₀ 0) (bytes-append A.commands (End ∷ [])
               ∙ ap (λ (l : List ℕ). bytes_of A.commands ++ l) (append-nil (command_bytes End)) ∙ sym (message-end A.commands)) in
               record {
-                refuses = λ h. absurd (h e);
+                refuses = λ k h. absurd (value-error h);
                 gives =
-                    λ h. by_tests_lem false false (ap not (eq-eqb n.header.end 0 z)) (ap not in-turn)
+                    λ at h. by_tests_lem false false (ap not (eq-eqb n.header.end 0 z)) (ap not in-turn)
                     ∙ ap (λ (x : State). accepted (reply_bytes A, x)) (sym state);
-                written = λ h. written ∙ pasted-front d₀ (message_bytes A.commands);
-                size = λ h. omega (arith, se, size, all);
-                few = λ h. omega (arith, se, g.most);
-                sizes = λ h. after-within n.header.side (state_of q.negotiation) (not (eqb q.at 0)) q.full (ap state_of ne ∙ ae) g.going.sizes;
+                written = λ at h. written ∙ pasted-front d₀ (message_bytes A.commands);
+                size = λ at h. omega (arith, same-value h, size, all);
+                few = λ at h. omega (arith, same-value h, g.most);
+                sizes = λ at h. after-within n.header.side (state_of n') (not (eqb q.at 0)) q.full ae g.going.sizes;
               }

@@ -1,5 +1,5 @@
 -- What the call leaves in the buffers. Assumes nothing.
-use Rattle.std.specs.Prelude.{ℕ, ◌-◌, ◌*◌, ◌≤◌, ◌≡◌, Bool, false, not, List, eqb, leb, length}
+use Rattle.std.specs.Prelude.{ℕ, ◌-◌, ◌*◌, ◌≤◌, ◌≡◌, Bool, false, not, List, eqb, leb, length, Result, Ok, Err}
 use Rattle.std.proofs.Math.Path.{refl, sym, ap}
 use Rattle.std.proofs.Common.{◌∙◌, subst}
 use Rattle.std.proofs.Math.Bool.{true, cond}
@@ -16,11 +16,11 @@ use Rattle.negotiation.specs.State.{State}
 use Rattle.negotiation.specs.laws.State.{state_of}
 use Rattle.negotiation.specs.Layout.{state_bytes, zeros}
 use Rattle.negotiation.specs.laws.Layout.{paste-whole, length-zeros}
+use Rattle.negotiation.specs.declared.Negotiation.{Negotiation}
 use Rattle.standing.specs.declared.Restored.{Restored}
 use Rattle.damage.specs.Damage.{read_sound}
 use Rattle.standing.specs.Standing as R
 use Rattle.standing.specs.laws.Standing.{standing_of}
-use Rattle.reply.specs.declared.Replying.{Replying}
 use Rattle.reply.specs.Reply.{replied_in, behind_standing, reply_size, reply_of, reply_left, length_of, given_state}
 use Rattle.reply.specs.laws.Reply.{Replies}
 use Rattle.numbers.specs.Answer.{Answer, refused, accepted, answer_of, buffer_after}
@@ -79,39 +79,35 @@ module _ (tables negotiation reply scratch : List ℕ) where
           let p = and_parts (leb 4096 (length reply)) (eqb (length scratch) SCRATCH-BYTES) sized in
           (leb-true 4096 (length reply) p.0, eqb-true (length scratch) SCRATCH-BYTES p.1)
 
-      module _ (r : Restored) (re : standing_of r ≡ R.restore_of tables negotiation) where
+      module _ (r : Result Restored ℕ) (re : standing_of r ≡ R.restore_of tables negotiation) where
         -- the tables or the negotiation
-        pub reply-unrestored : (r.refusal ≡ 0 → ⊥)
-            → Leaves negotiation reply scratch (reply_of tables negotiation reply scratch) r.refusal negotiation reply scratch
+        pub reply-unrestored : {k : ℕ} → r ≡ Err k
+            → Leaves negotiation reply scratch (reply_of tables negotiation reply scratch) k negotiation reply scratch
         unfolding standing_of
-        reply-unrestored h =
-            refuses r.refusal (by_size true sized (refused r.refusal)
-            (sym re ∙ ap (λ (b : Bool). cond b (accepted (tables_of r.house, state_of r.negotiation)) (refused r.refusal))
-            (ne_eqb r.refusal 0 h))) refl
+        reply-unrestored {k} q = refuses k (by_size true sized (refused k) (sym re ∙ ap standing_of q)) refl
 
-        module _ (rz : r.refusal ≡ 0) where
-          stands : R.restore_of tables negotiation ≡ accepted (tables_of r.house, state_of r.negotiation)
+        module _ {held : Restored} (q : r ≡ Ok held) where
+          stands : R.restore_of tables negotiation ≡ accepted (tables_of held.house, state_of held.negotiation)
           unfolding standing_of
-          stands =
-              sym re ∙ ap (λ (b : Bool). cond b (accepted (tables_of r.house, state_of r.negotiation)) (refused r.refusal)) (eq-eqb r.refusal 0 rz)
+          stands = sym re ∙ ap standing_of q
 
-          pub restored-sound : Sound (tables_of r.house)
-          restored-sound = standing-sound tables negotiation (tables_of r.house) (state_of r.negotiation) stands
+          pub restored-sound : Sound (tables_of held.house)
+          restored-sound = standing-sound tables negotiation (tables_of held.house) (state_of held.negotiation) stands
 
-          module _ (t : Replying) {p : List ℕ} (te : Replies (tables_of r.house) (state_of r.negotiation) reply t p) where
-            is-outcome : reply_of tables negotiation reply scratch ≡ replied_in (tables_of r.house) (state_of r.negotiation)
-            is-outcome = by_size true sized (accepted (tables_of r.house, state_of r.negotiation)) stands
+          module _ (n' : Negotiation) (t : Result ℕ ℕ) {p : List ℕ} (te : Replies (tables_of held.house) (state_of held.negotiation) reply n' t p) where
+            is-outcome : reply_of tables negotiation reply scratch ≡ replied_in (tables_of held.house) (state_of held.negotiation)
+            is-outcome = by_size true sized (accepted (tables_of held.house, state_of held.negotiation)) stands
 
             -- the end or the turn
-            pub reply-refused : (t.refusal ≡ 0 → ⊥)
-                → Leaves negotiation reply scratch (reply_of tables negotiation reply scratch) t.refusal negotiation p scratch
-            reply-refused h = refuses t.refusal (is-outcome ∙ (te.refuses h).0) (te.refuses h).1
+            pub reply-refused : {k : ℕ} → t ≡ Err k
+                → Leaves negotiation reply scratch (reply_of tables negotiation reply scratch) k negotiation p scratch
+            reply-refused {k} e = refuses k (is-outcome ∙ (te.refuses k e).0) (te.refuses k e).1
 
-            pub reply-given : {n s : List ℕ} → t.refusal ≡ 0 → n ≡ state_bytes (state_of t.negotiation) → s ≡ pasted scratch 0 (zeros (4096 - 0))
-                → Leaves negotiation reply scratch (reply_of tables negotiation reply scratch) (t.at * 256) n p s
-            reply-given {n} {s} tz ne se =
+            pub reply-given : {at : ℕ} {n s : List ℕ} → t ≡ Ok at → n ≡ state_bytes (state_of n') → s ≡ pasted scratch 0 (zeros (4096 - 0))
+                → Leaves negotiation reply scratch (reply_of tables negotiation reply scratch) (at * 256) n p s
+            reply-given {at} {n} {s} e ne se =
                 let l : length scratch ≡ 4096 = size-parts.1 in
-                subst (λ (o : Answer (List ℕ × State)). Leaves negotiation reply scratch o (t.at * 256) n p s) (sym (is-outcome ∙ te.gives tz)) (
-                  ap (λ (k : ℕ). k * 256) (te.size tz),
-                  (ne, (te.written tz, se ∙ paste-whole scratch (zeros 4096) (length-zeros 4096 ∙ sym l) ∙ ap zeros (sym l))),
+                subst (λ (o : Answer (List ℕ × State)). Leaves negotiation reply scratch o (at * 256) n p s) (sym (is-outcome ∙ te.gives at e)) (
+                  ap (λ (k : ℕ). k * 256) (te.size at e),
+                  (ne, (te.written at e, se ∙ paste-whole scratch (zeros 4096) (length-zeros 4096 ∙ sym l) ∙ ap zeros (sym l))),
                 )

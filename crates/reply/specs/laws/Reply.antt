@@ -1,5 +1,5 @@
 -- The call, test by test. Assumes nothing.
-use Rattle.std.specs.Prelude.{ℕ, ◌+◌, ◌≤◌, ◌<◌, ◌≡◌, refl, Bool, eqb, drop}
+use Rattle.std.specs.Prelude.{ℕ, ◌+◌, ◌≤◌, ◌<◌, ◌≡◌, refl, Bool, eqb, drop, Result, Ok, Err}
 use Rattle.std.proofs.Common.{arith, ◌∙◌, subst}
 use Rattle.std.proofs.Math.Path.{sym, ap}
 use Rattle.std.proofs.Math.Bool.{true, false, not, cond}
@@ -38,7 +38,7 @@ use Rattle.moves.specs.Initial.{initial_state}
 use Rattle.moves.specs.Carried.{carried}
 use Rattle.legality.specs.laws.Going.{Going}
 use Rattle.legality.specs.laws.Kept.{sound-going, opening-going, updates-header}
-use Rattle.reply.specs.declared.Replying.{Replying}
+use Rattle.reply.specs.declared.Written.{Written}
 use Rattle.reply.specs.Reply.{Replied, opening, reply_in, replied_state, reply_bytes, replied_in}
 use Rattle.reply.specs.laws.Outgoing.{bytes-append, one-length}
 use Rattle.reply.specs.laws.Carry.{paste-length, pasted-behind}
@@ -59,26 +59,26 @@ unfolding tables_of
 first-is H wanted e = λ i. Open (record { role = wanted; state = e i })
 
 -- a reply begins, with the mediator's open where no node stands
-pub record Begins (T : Tables) (S : State) (d₀ : List ℕ) (r : Replying) (d : List ℕ) : Type 0 where
-  pub state : state_of r.negotiation ≡ carried S.header.side S (opening T S)
-  pub size : r.at ≡ length (bytes_of (opening T S))
+pub record Begins (T : Tables) (S : State) (d₀ : List ℕ) (n : Negotiation) (at : ℕ) (d : List ℕ) : Type 0 where
+  pub state : state_of n ≡ carried S.header.side S (opening T S)
+  pub size : at ≡ length (bytes_of (opening T S))
   pub bytes : d ≡ pasted d₀ 0 (bytes_of (opening T S))
-  pub few : r.at ≤ 6
+  pub few : at ≤ 6
 
 module _ (T : Tables) (n : Negotiation) where
   opens : (b : Bool) → eqb (length (state_of n).nodes) 0 ≡ b → opening T (state_of n) ≡ cond b (first_open T.names n.header.wanted ∷ []) []
   unfolding state_of
   opens b e = ap (λ (x : Bool). cond x (first_open T.names n.header.wanted ∷ []) []) e
 
-  pub begins-none : (d : List ℕ) (r : Replying) → (n.nodes.count ≡ 0 → ⊥) → r.negotiation ≡ n → r.at ≡ 0 → Begins T (state_of n) d r d
+  pub begins-none : (d : List ℕ) → (n.nodes.count ≡ 0 → ⊥) → Begins T (state_of n) d n 0 d
   unfolding state_of
-  begins-none d r h ne ae =
+  begins-none d h =
       let z : [] ≡ opening T (state_of n) = sym (opens false (ne_eqb (length (nodes_of n.nodes)) 0 (λ y. h (sym (nodes-length n.nodes) ∙ y)))) in
       record {
-        state = ap state_of ne ∙ ap (carried n.header.side (state_of n)) z;
-        size = ae ∙ ap (λ (l : List Command). length (bytes_of l)) z;
+        state = ap (carried n.header.side (state_of n)) z;
+        size = ap (λ (l : List Command). length (bytes_of l)) z;
         bytes = paste-zero d 0 [] ∙ ap (λ (l : List Command). pasted d 0 (bytes_of l)) z;
-        few = omega (arith, ae);
+        few = omega arith;
       }
 
   module _ {c : Command} (ce : c ≡ first_open T.names n.header.wanted) where
@@ -93,17 +93,17 @@ module _ (T : Tables) (n : Negotiation) where
       unfolding has_room state_of
       open-room = ap (has_room (state_of n)) ce ∙ lt-ltb (length (nodes_of n.nodes)) 128 (omega (arith, nodes-length n.nodes, z))
 
-      pub begins-open : {d e : List ℕ} (m : Negotiation) {k : ℕ} (r : Replying) → e ≡ pasted d 0 (command_bytes c)
-          → state_of m ≡ stepped (state_of n) n.header.side c → k ≡ size_of c → r.negotiation ≡ m → r.at ≡ k → Begins T (state_of n) d r e
+      pub begins-open : {d e : List ℕ} (m : Negotiation) {k : ℕ} → e ≡ pasted d 0 (command_bytes c)
+          → state_of m ≡ stepped (state_of n) n.header.side c → k ≡ size_of c → Begins T (state_of n) d m k e
       unfolding state_of
-      begins-open {d} m r ee me ke ne ae =
+      begins-open {d} m ee me ke =
           let o : c ∷ [] ≡ opening T (state_of n) = ap (λ (x : Command). x ∷ []) ce
           ∙ sym (opens true (eq-eqb (length (nodes_of n.nodes)) 0 (nodes-length n.nodes ∙ z))) in
           record {
-            state = ap state_of ne ∙ me ∙ ap (carried n.header.side (state_of n)) o;
-            size = ae ∙ ke ∙ sym (one-length c) ∙ ap (λ (l : List Command). length (bytes_of l)) o;
+            state = me ∙ ap (carried n.header.side (state_of n)) o;
+            size = ke ∙ sym (one-length c) ∙ ap (λ (l : List Command). length (bytes_of l)) o;
             bytes = ee ∙ ap (pasted d 0) (sym (append-nil (command_bytes c))) ∙ ap (λ (l : List Command). pasted d 0 (bytes_of l)) o;
-            few = omega (arith, ae, ke, first-size);
+            few = omega (arith, ke, first-size);
           }
 
 -- A whole reply
@@ -117,15 +117,16 @@ module _ {K H : House} (e : K ≡ H) where
   pub own-going : (S : State) → Going (tables_of H) S → Going (tables_of K) S
   own-going S g = subst (λ (X : House). Going (tables_of X) S) (sym e) g
 
-  pub own-gives : (S : State) (at : ℕ) {d₀ d : List ℕ} (r : Replying) → Gives (tables_of K) (rest_from 4096 (tables_of K) S at) at d₀ r d
-      → Gives (tables_of H) (rest_from 4096 (tables_of H) S at) at d₀ r d
-  own-gives S at {d₀} {d} r g = subst (λ (X : House). Gives (tables_of X) (rest_from 4096 (tables_of X) S at) at d₀ r d) e g
+  pub own-gives : (S : State) (at : ℕ) {d₀ d : List ℕ} (n : Negotiation) (r : Written)
+      → Gives (tables_of K) (rest_from 4096 (tables_of K) S at) at d₀ n r d
+      → Gives (tables_of H) (rest_from 4096 (tables_of H) S at) at d₀ n r d
+  own-gives S at {d₀} {d} n r g = subst (λ (X : House). Gives (tables_of X) (rest_from 4096 (tables_of X) S at) at d₀ n r d) e g
 
 -- the code's answer is what a reply in this state comes to
-pub record Replies (T : Tables) (S : State) (d₀ : List ℕ) (r : Replying) (d : List ℕ) : Type 0 where
-  pub refuses : (r.refusal ≡ 0 → ⊥) → (replied_in T S ≡ refused r.refusal) × (d ≡ d₀)
-  pub gives : r.refusal ≡ 0 → replied_in T S ≡ accepted (reply_bytes (reply_in T S), state_of r.negotiation)
-  pub written : r.refusal ≡ 0 → d ≡ reply_bytes (reply_in T S) ++ drop (length (reply_bytes (reply_in T S))) d₀
-  pub size : r.refusal ≡ 0 → r.at ≡ length (reply_bytes (reply_in T S))
-  pub few : r.refusal ≡ 0 → r.at ≤ 4096
-  pub sizes : r.refusal ≡ 0 → within (state_of r.negotiation) ≡ true
+pub record Replies (T : Tables) (S : State) (d₀ : List ℕ) (n : Negotiation) (r : Result ℕ ℕ) (d : List ℕ) : Type 0 where
+  pub refuses : (k : ℕ) → r ≡ Err k → (replied_in T S ≡ refused k) × (d ≡ d₀)
+  pub gives : (at : ℕ) → r ≡ Ok at → replied_in T S ≡ accepted (reply_bytes (reply_in T S), state_of n)
+  pub written : (at : ℕ) → r ≡ Ok at → d ≡ reply_bytes (reply_in T S) ++ drop (length (reply_bytes (reply_in T S))) d₀
+  pub size : (at : ℕ) → r ≡ Ok at → at ≡ length (reply_bytes (reply_in T S))
+  pub few : (at : ℕ) → r ≡ Ok at → at ≤ 4096
+  pub sizes : (at : ℕ) → r ≡ Ok at → within (state_of n) ≡ true

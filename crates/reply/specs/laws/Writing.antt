@@ -25,7 +25,7 @@ use Rattle.moves.specs.laws.Own.{found_move}
 use Rattle.choice.specs.laws.Next.{NothingBefore, Resting}
 use Rattle.choice.specs.laws.Exhausted.{Exhausted, exhausted-both, idle-exhausted, exhausted-carried}
 use Rattle.choice.specs.laws.Waits.{Waits, Unchanged, waits-none, waits-rests, waits-carried}
-use Rattle.reply.specs.declared.Replying.{Replying}
+use Rattle.reply.specs.declared.Written.{Written}
 use Rattle.reply.specs.Reply.{Replied, stopped}
 use Rattle.legality.specs.laws.Going.{Going, going-few, going-edges}
 use Rattle.legality.specs.laws.Kept.{move-going}
@@ -33,13 +33,13 @@ use Rattle.reply.specs.laws.Carry.{paste-length, pasted-behind}
 use Rattle.reply.specs.laws.Turns.{Next, stops, goes, by_room, fits_behind, behind_move, next_in, behind, go_on, rest_from, behind-behind, bytes-behind}
 
 -- the code's answer is this reply, its bytes written from an index on
-pub record Gives (T : Tables) (R : Replied) (from : ℕ) (d₀ : List ℕ) (r : Replying) (d : List ℕ) : Type 0 where
-  pub state : state_of r.negotiation ≡ R.state
+pub record Gives (T : Tables) (R : Replied) (from : ℕ) (d₀ : List ℕ) (n : Negotiation) (r : Written) (d : List ℕ) : Type 0 where
+  pub state : state_of n ≡ R.state
   pub full : r.full ≡ R.full
   pub size : r.at ≡ from + length (bytes_of R.commands)
   pub bytes : d ≡ pasted d₀ from (bytes_of R.commands)
   pub most : r.at + 1 ≤ 4096
-  pub going : Going T (state_of r.negotiation)
+  pub going : Going T (state_of n)
 
 -- What it means that a move comes next
 
@@ -102,24 +102,24 @@ module _ (T : Tables) (S₀ : State) (from : ℕ) (d₀ : List ℕ) where
     writing-length = ap length w.bytes ∙ paste-length d₀ from (bytes_of w.out) (omega (arith, w.end, w.most, w.long))
 
     -- nothing is added
-    ended : {b : Bool} → rest_from left T (state_of n) at ≡ stopped [] (state_of n) b → (r : Replying) → (r.negotiation ≡ n) → (r.at ≡ at) → (r.full ≡ b)
-        → Gives T (rest_from 4096 T S₀ from) from d₀ r d
-    ended {b} e r ne ae fe =
+    ended : {b : Bool} → rest_from left T (state_of n) at ≡ stopped [] (state_of n) b
+        → Gives T (rest_from 4096 T S₀ from) from d₀ n (record { at = at; full = b }) d
+    ended {b} e =
         let all : rest_from 4096 T S₀ from ≡ behind w.out (stopped [] (state_of n) b) = w.same ∙ ap (behind w.out) e in
         let cs : w.out ≡ (rest_from 4096 T S₀ from).commands = sym (ap (λ (x : Replied). x.commands) all ∙ append-nil w.out) in
         record {
-          state = ap state_of ne ∙ sym (ap (λ (x : Replied). x.state) all);
-          full = fe ∙ sym (ap (λ (x : Replied). x.full) all);
-          size = ae ∙ w.end ∙ ap (λ (l : List Command). from + length (bytes_of l)) cs;
+          state = sym (ap (λ (x : Replied). x.state) all);
+          full = sym (ap (λ (x : Replied). x.full) all);
+          size = w.end ∙ ap (λ (l : List Command). from + length (bytes_of l)) cs;
           bytes = w.bytes ∙ ap (λ (l : List Command). pasted d₀ from (bytes_of l)) cs;
-          most = omega (arith, ae, w.most);
-          going = subst (λ (x : Negotiation). Going T (state_of x)) (sym ne) w.going;
+          most = w.most;
+          going = w.going;
         }
 
     -- no more moves may be made
-    pub writing-past : left ≤ 0 → (r : Replying) → (r.negotiation ≡ n) → (r.at ≡ at) → (r.full ≡ false) → Gives T (rest_from 4096 T S₀ from) from d₀ r d
+    pub writing-past : left ≤ 0 → Gives T (rest_from 4096 T S₀ from) from d₀ n (record { at = at; full = false }) d
     unfolding rest_from
-    writing-past l r ne ae fe = ended (let z : left ≡ 0 = omega (arith, l) in ap (λ (k : ℕ). rest_from k T (state_of n) at) z) r ne ae fe
+    writing-past l = ended (let z : left ≡ 0 = omega (arith, l) in ap (λ (k : ℕ). rest_from k T (state_of n) at) z)
 
     module _ (l : 0 < left) {x : Next} (te : next_in T (state_of n) at ≡ x) where
       step-one : rest_from left T (state_of n) at ≡ go_on
@@ -130,9 +130,9 @@ module _ (T : Tables) (S₀ : State) (from : ℕ) (d₀ : List ℕ) where
           ap (λ (k : ℕ). rest_from k T (state_of n) at) z
           ∙ ap (go_on (λ m. behind m (rest_from (left - 1) T (carried (state_of n).header.side (state_of n) m) (at + length (bytes_of m)))) (state_of n)) te
 
-    pub writing-stops : 0 < left → {b : Bool} → next_in T (state_of n) at ≡ stops b → (r : Replying) → (r.negotiation ≡ n) → (r.at ≡ at)
-        → (r.full ≡ b) → Gives T (rest_from 4096 T S₀ from) from d₀ r d
-    writing-stops l te r ne ae fe = ended (step-one l te) r ne ae fe
+    pub writing-stops : 0 < left → {b : Bool} → next_in T (state_of n) at ≡ stops b
+        → Gives T (rest_from 4096 T S₀ from) from d₀ n (record { at = at; full = b }) d
+    writing-stops l te = ended (step-one l te)
 
     module _ (l : 0 < left) {m : List Command} (te : next_in T (state_of n) at ≡ goes m) where
       pub writing-fits : Fits T (state_of n) at m

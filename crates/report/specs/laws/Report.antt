@@ -1,5 +1,5 @@
 -- The report, test by test, and its numbers read back. Assumes nothing.
-use Rattle.std.specs.Prelude.{ℕ, ◌+◌, ◌*◌, ◌/◌, ◌%◌, ◌≤◌, ◌<◌, zero, suc, Bool, true, false, ◌&&◌, ◌||◌, List, [], ◌∷◌, ◌++◌, ltb, eqb, leb, length, get_or, ◌≡◌, refl}
+use Rattle.std.specs.Prelude.{ℕ, ◌+◌, ◌*◌, ◌/◌, ◌%◌, ◌≤◌, ◌<◌, zero, suc, Bool, true, false, ◌&&◌, ◌||◌, List, [], ◌∷◌, ◌++◌, ltb, eqb, leb, length, get_or, ◌≡◌, refl, Result, Ok, Err}
 use Rattle.std.proofs.Math.Bool.{cond}
 use Rattle.graph.specs.Propagated.{propagated_state, satisfied_b, failed_b, complete_b}
 use Rattle.standing.specs.Standing.{restore_of}
@@ -88,21 +88,18 @@ packed-back r a b c d e f g =
 
 -- The call
 
-module _ (tables negotiation : List ℕ) (i : ℕ) (R : Restored) (e : standing_of R ≡ restore_of tables negotiation) where
+module _ (tables negotiation : List ℕ) (i : ℕ) (r : Result Restored ℕ) (e : standing_of r ≡ restore_of tables negotiation) where
   -- the tables or the negotiation are refused
-  pub report-refused : (R.refusal ≡ 0 → ⊥) → R.refusal ≡ answer_of packed (report_of tables negotiation i)
+  pub report-refused : {k : ℕ} → r ≡ Err k → k ≡ answer_of packed (report_of tables negotiation i)
   unfolding report_of standing_of
-  report-refused h =
-      sym (ap (λ (s : Answer (Tables × State)). answer_of packed (behind_negotiation i s))
-      (sym e ∙ ap (λ (b : Bool). cond b (accepted (tables_of R.house, state_held R.negotiation)) (refused R.refusal)) (ne_eqb R.refusal 0 h)))
+  report-refused q = sym (ap (λ (s : Answer (Tables × State)). answer_of packed (behind_negotiation i s)) (sym e ∙ ap standing_of q))
 
-  module _ (z : R.refusal ≡ 0) where
+  module _ {R : Restored} (z : r ≡ Ok R) where
     by-node : (b : Bool) → ltb i (length (nodes_of R.negotiation.nodes)) ≡ b
         → answer_of packed (report_of tables negotiation i) ≡ answer_of packed (cond b (accepted (report_on (state_held R.negotiation) i)) (refused 24))
     unfolding report_of standing_of state_held
     by-node b q =
-        ap (λ (s : Answer (Tables × State)). answer_of packed (behind_negotiation i s))
-        (sym e ∙ ap (λ (b : Bool). cond b (accepted (tables_of R.house, state_held R.negotiation)) (refused R.refusal)) (eq-eqb R.refusal 0 z))
+        ap (λ (s : Answer (Tables × State)). answer_of packed (behind_negotiation i s)) (sym e ∙ ap standing_of z)
         ∙ ap (λ (b : Bool). answer_of packed (cond b (accepted (report_on (state_held R.negotiation) i)) (refused 24))) q
 
     -- an absent node

@@ -1,7 +1,7 @@
 -- No call answers 4, "a name without class" (request 2: "Refusal 4 no longer occurs"). Assumes nothing.
 use Prim.Native.Nat.{ℕ, zero, suc, ◌+◌}
 use Rattle.std.proofs.Common.{arith, ◌∙◌, ⊎_elim}
-use Rattle.std.specs.Prelude.{◌≡◌, Bool, not, ◌||◌, List, eqb, length}
+use Rattle.std.specs.Prelude.{◌≡◌, Bool, not, ◌||◌, List, eqb, length, Result, Ok, Err}
 use Rattle.std.proofs.Math.Path.{refl, ap}
 use Rattle.std.proofs.Math.Bool.{true, false, cond}
 use Rattle.word.specs.laws.Bools.{false-true}
@@ -10,8 +10,6 @@ use Rattle.tables.specs.Tables.{Tables}
 use Rattle.tables.specs.Check.{read_tables, check_of}
 use Rattle.tables.specs.laws.Accepted.{check-numbers}
 use Rattle.message.specs.declared.Command.{Command}
-use Rattle.message.specs.declared.CommandAnswer.{CommandAnswer}
-use Rattle.message.specs.declared.CommandAnswer.TheVariants.{Read, Refused}
 use Rattle.message.specs.Command.{command_at, size_of}
 use Rattle.message.specs.Message.{is_end}
 use Rattle.message.specs.laws.CommandExact.{command-refusal}
@@ -73,12 +71,12 @@ module _ (ns : List Name) (s : ℕ) (m : List ℕ) where
           let z : suc k ≡ NAME = ap number_of q in
           omega (arith, z, illegal-range ((illegal-exactly ns s S c (suc k)).0 (e, λ y. omega (arith, y))))
 
-      go : (x : CommandAnswer) → command_at m at ≡ x → on_command (λ n U w. commands_from f ns s m (at + n) U w) ns s S v x ≡ refused NAME
+      go : (x : Result Command ℕ) → command_at m at ≡ x → on_command (λ n U w. commands_from f ns s m (at + n) U w) ns s S v x ≡ refused NAME
           → ((i : ℕ) (U : State) (w : Bool) → commands_from f ns s m i U w ≡ refused NAME → ⊥) → ⊥
-      go (Refused k) e q again =
+      go (Err k) e q again =
           let z : k ≡ NAME = ap number_of q in
           ⊎_elim (λ y. omega (arith, z, y)) (λ y. omega (arith, z, y)) (command-refusal m at k e)
-      go (Read c) e q again = by_number c (legal_number ns s S c) refl q again
+      go (Ok c) e q again = by_number c (legal_number ns s S c) refl q again
 
 module _ (tables negotiation message scratch : List ℕ) where
   behind-commands : (s : ℕ) (x : Answer (State × Bool)) → (x ≡ refused NAME → ⊥) → behind_commands s x ≡ refused NAME → ⊥

@@ -2,7 +2,7 @@
 -- "The graph after a call is built by the commands of all messages accepted and replies given so far"). Assumes nothing.
 use Prim.Native.Nat.{ℕ, zero, suc, ◌+◌}
 use Rattle.std.proofs.Common.{arith, ◌∙◌, ap, subst, eqb-true, lt-ltb}
-use Rattle.std.specs.Prelude.{◌≡◌, refl, Bool, cond, ◌||◌, List, [], ◌∷◌, ◌++◌, eqb, ltb, leb, length}
+use Rattle.std.specs.Prelude.{◌≡◌, refl, Bool, cond, ◌||◌, List, [], ◌∷◌, ◌++◌, eqb, ltb, leb, length, Result, Ok, Err}
 use Rattle.std.proofs.Math.Bool.{true, false}
 use Rattle.expression.specs.declared.Expression.TheVariants as E
 use Rattle.word.specs.laws.Bools.{and_parts, and_both, false-true}
@@ -11,8 +11,6 @@ use Rattle.tables.specs.Tables.{Tables}
 use Rattle.graph.specs.Propagated.{propagated_state as propagated}
 use Rattle.message.specs.declared.Command.{Command}
 use Rattle.message.specs.declared.Command.TheVariants.{Open}
-use Rattle.message.specs.declared.CommandAnswer.{CommandAnswer}
-use Rattle.message.specs.declared.CommandAnswer.TheVariants.{Read, Refused}
 use Rattle.message.specs.Command.{command_at, size_of}
 use Rattle.negotiation.specs.declared.Header.{Header}
 use Rattle.negotiation.specs.State.{State, within}
@@ -114,12 +112,12 @@ module _ {P : State → Type 0} (k : Stays P) where
   judged-stays zero t A v ih e = ih refl e
   judged-stays (suc n) t A v ih e = absurd (refused-taken e)
 
-  command-stays : (next : ℕ → State → Bool → Answer (State × Bool)) (ns : List Name) (s : ℕ) (S : State) (moved : Bool) (a : CommandAnswer)
+  command-stays : (next : ℕ → State → Bool → Answer (State × Bool)) (ns : List Name) (s : ℕ) (S : State) (moved : Bool) (a : Result Command ℕ)
       (A : State) (v : Bool)
       → ((size : ℕ) (R : State) (m : Bool) → P R → next size R m ≡ accepted (A, v) → P A)
       → P S → on_command next ns s S moved a ≡ accepted (A, v) → P A
-  command-stays next ns s S moved (Refused n) A v ih h e = absurd (refused-taken e)
-  command-stays next ns s S moved (Read c) A v ih h e =
+  command-stays next ns s S moved (Err n) A v ih h e = absurd (refused-taken e)
+  command-stays next ns s S moved (Ok c) A v ih h e =
       judged-stays (legal_number ns s S c) (cond (is_end c) (accepted (S, moved)) (next (size_of c) (stepped S s c) (moved || is_move c))) A v
       (λ l q. go (is_end c) (λ p. ih (size_of c) (stepped S s c) (moved || is_move c) (k.step S s c (legal-room S ns s c l) h) p) q) e
     where

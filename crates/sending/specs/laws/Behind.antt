@@ -7,7 +7,7 @@ use Rattle.std.proofs.lemmas.Bool.{not-true, not-false}
 use Rattle.expression.specs.declared.Credential.{Credential}
 use Rattle.rt0.specs.declared.Pool.{Pool}
 use Rattle.rt0.specs.laws.Pool.{credential_at, credentials}
-use Rattle.rt0.specs.laws.Added.{Sized, Stored, count-length, length-up_to}
+use Rattle.rt0.specs.laws.Added.{Stored, count-length, length-up_to}
 use Rattle.closure.specs.laws.Rules.{el}
 use Rattle.rules.specs.laws.Table.{chosen_to, chosen}
 use Rattle.needed.specs.laws.Needed.{first_of, rest_of}
@@ -15,15 +15,14 @@ use Rattle.needed.specs.laws.Column.{first_rest}
 
 -- the pool Q is P with the credential c behind the others where b says so
 pub record StoredIf (b : Bool) (c : Credential) (P Q : Pool) : Type 0 where
-  pub sized : Sized Q
   pub all : credentials Q ≡ credentials P ++ cond b (c ∷ []) []
 
 module _ {b : Bool} {c : Credential} {P : Pool} where
   pub is-stored : {i : ℕ} {Q : Pool} → not b ≡ false → Stored i c P Q → StoredIf b c P Q
-  is-stored h s = record { sized = s.sized; all = s.all ∙ ap (λ (x : Bool). credentials P ++ cond x (c ∷ []) []) (sym (not-false b h)) }
+  is-stored h s = record { all = s.all ∙ ap (λ (x : Bool). credentials P ++ cond x (c ∷ []) []) (sym (not-false b h)) }
 
-  pub not-stored : not b ≡ true → Sized P → StoredIf b c P P
-  not-stored h z = record { sized = z; all = sym (append-nil (credentials P)) ∙ ap (λ (x : Bool). credentials P ++ cond x (c ∷ []) []) (sym (not-true b h)) }
+  pub not-stored : not b ≡ true → StoredIf b c P P
+  not-stored h = record { all = sym (append-nil (credentials P)) ∙ ap (λ (x : Bool). credentials P ++ cond x (c ∷ []) []) (sym (not-true b h)) }
 
 -- one more is stored at most
 pub stored-few : (b : Bool) (c : Credential) (P Q : Pool) → StoredIf b c P Q → Q.count ≤ P.count + 1
@@ -36,19 +35,17 @@ stored-few b c P Q s = omega (arith, count-length P, count-length Q, ap length s
 -- the pool Q has the credentials of S and, behind them, those of the first i of P that are on
 pub record Behind (S P : Pool) (on : List ℕ) (i : ℕ) (Q : Pool) : Type 0 where
   pub within : i ≤ P.count
-  pub sized : Sized Q
   pub few : Q.count ≤ S.count + i
   pub all : credentials Q ≡ credentials S ++ chosen_to P on i
 
 module _ (S P : Pool) (on : List ℕ) where
-  pub behind-start : Sized S → Behind S P on 0 S
-  behind-start z = record { within = omega arith; sized = z; few = omega arith; all = sym (append-nil (credentials S)) }
+  pub behind-start : Behind S P on 0 S
+  behind-start = record { within = omega arith; few = omega arith; all = sym (append-nil (credentials S)) }
 
   pub behind-next : {i : ℕ} {Q R : Pool} → Behind S P on i Q → i < P.count → StoredIf (eqb (el on i) 1) (credential_at P i) Q R → Behind S P on (i + 1) R
   behind-next {i} {Q} {R} h l s =
       record {
         within = omega arith;
-        sized = s.sized;
         few = omega (arith, h.few, stored-few (eqb (el on i) 1) (credential_at P i) Q R s);
         all = s.all
             ∙ ap (λ (l : List Credential). l ++ cond (eqb (el on i) 1) (credential_at P i ∷ []) []) h.all

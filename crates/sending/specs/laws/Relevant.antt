@@ -8,7 +8,7 @@ use Rattle.rt0.specs.declared.Pool.{Pool}
 use Rattle.rt0.specs.Decide.{from?}
 use Rattle.rt0.specs.laws.Pool.{credential_at, credentials}
 use Rattle.rt0.specs.Pool.{up_to}
-use Rattle.rt0.specs.laws.Added.{Sized, Stored, up_to-same}
+use Rattle.rt0.specs.laws.Added.{Stored, up_to-same}
 use Rattle.closure.specs.laws.Rules.{el}
 use Rattle.rules.specs.laws.Table.{chosen}
 use Rattle.needed.specs.Needed.{needed}
@@ -25,7 +25,6 @@ use Rattle.sending.specs.laws.SentLaws.{sends-as}
 
 -- the pool Q has the credentials of S and, behind them, the d credentials of P from number a on with some left out, none with a flagged head
 pub record Selected (P : Pool) (flags : List ℕ) (a d : ℕ) (S Q : Pool) : Type 0 where
-  pub sized : Sized Q
   pub few : Q.count ≤ S.count + d
   pub some : List Credential
   pub all : credentials Q ≡ credentials S ++ some
@@ -44,16 +43,15 @@ module _ {v : ℕ} {c : Credential} {P : Pool} where
   pub flag-stored : {i : ℕ} {d : Credential} {Q : Pool} → v ≡ 1 → d ≡ c → Stored i d P Q → StoredIf (eqb v 1) c P Q
   flag-stored {Q = Q} h q s = subst (λ (x : Credential). StoredIf (eqb v 1) x P Q) q (is-stored (ap not (eq-eqb v 1 h)) s)
 
-  pub flag-not : (v ≡ 1 → ⊥) → Sized P → StoredIf (eqb v 1) c P P
-  flag-not h z = not-stored (ap not (ne_eqb v 1 h)) z
+  pub flag-not : (v ≡ 1 → ⊥) → StoredIf (eqb v 1) c P P
+  flag-not h = not-stored (ap not (ne_eqb v 1 h))
 
 -- one after the other
 
 module _ {P : Pool} {flags : List ℕ} {a : ℕ} {S : Pool} where
-  pub selected-start : (d : ℕ) → d ≡ 0 → Sized S → Selected P flags a d S S
-  selected-start d q z =
+  pub selected-start : (d : ℕ) → d ≡ 0 → Selected P flags a d S S
+  selected-start d q =
       record {
-        sized = z;
         few = omega arith;
         some = [];
         all = sym (append-nil (credentials S));
@@ -64,7 +62,6 @@ module _ {P : Pool} {flags : List ℕ} {a : ℕ} {S : Pool} where
       → StoredIf (eqb (el flags i) 1) (credential_at P i) Q R → Selected P flags a e S R
   selected-next {Q} {R} d e i h ie ee l s =
       record {
-        sized = s.sized;
         few = omega (arith, h.few, stored-few (eqb (el flags i) 1) (credential_at P i) Q R s);
         some = h.some ++ cond (eqb (el flags i) 1) (credential_at P i ∷ []) [];
         all =

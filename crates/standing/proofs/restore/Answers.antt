@@ -1,34 +1,32 @@
 use mathlib.Core.Path.{ap}
 use mathlib.Core.Bool.{not}
-use Rattle.standing.specs.laws.Standing.{state-within, restore-outside, restore-tables, restore-unread, restore-damaged, restore-sound}
+use Rattle.std.proofs.lemmas.Result.{err_from_is_err_and}
+use Rattle.standing.specs.laws.Standing.{state-within, restore-outside, restore-tables, restore-unread, restore-damaged, restore-sound, restore-usable}
 use Rattle.standing.proofs.restore.Goals as goal
 
-pub returns-then-negotiation-ne-BYTES : goal.returns-then-negotiation-ne-BYTES
-returns-then-negotiation-ne-BYTES c =
-    let t = restore-outside c.args.tables.now c.args.negotiation.now c.refused.result c.if-negotiation-ne-BYTES.true c.refused.ensures in
-    record { found = t.0; kept = t.1 }
+pub returns-then-negotiation-ne-BYTES-clause-found : goal.returns-then-negotiation-ne-BYTES-clause-found
+returns-then-negotiation-ne-BYTES-clause-found c = restore-outside _ _ c.if-negotiation-ne-BYTES.true
 
-pub returns-then-d-ne0 : goal.returns-then-d-ne0
-returns-then-d-ne0 c =
-    let t = restore-tables c.args.tables.now c.args.negotiation.now c.if-negotiation-ne-BYTES.false c.decode-d.result c.decode-d.ensures.0 c.refused-then-d-ne0.result c.if-d-ne0.true c.refused-then-d-ne0.ensures in
-    record { found = t.0; kept = t.1 }
+pub returns-in_err-house-clause-found : goal.returns-in_err-house-clause-found
+returns-in_err-house-clause-found c =
+    let p = err_from_is_err_and c.from_residual.result c.from_residual.ensures.1 in
+    rw (p.1, p.2) (restore-tables _ _ c.if-negotiation-ne-BYTES.false c.in_err-house.ensures.0)
 
-pub returns-then-not-r : goal.returns-then-not-r
-returns-then-not-r c =
-    let t = restore-unread c.args.tables.now c.args.negotiation.now c.if-negotiation-ne-BYTES.false c.decode-d.result c.decode-d.ensures.0 c.if-d-ne0.false c.read-r.result c.read-r.ensures c.refused-then-not-r.result c.if-not-r.true c.refused-then-not-r.ensures in
-    record { found = t.0; kept = t.1 }
+pub returns-in_default-clause-found : goal.returns-in_default-clause-found
+returns-in_default-clause-found c = restore-unread _ _ c.if-negotiation-ne-BYTES.false _ c.in_ok-house.ensures.0 c.in_default.ensures
 
 pub sound-requires : goal.sound-requires
-sound-requires c = (c.decode-d.ensures.1, state-within _ _ c.read-r.ensures c.if-not-r.false)
+sound-requires c = (c.in_ok-house.ensures.1, state-within _ _ c.in-Some.ensures)
 
-pub returns-then-not-sound : goal.returns-then-not-sound
-returns-then-not-sound c =
-    let t = restore-damaged c.args.tables.now c.args.negotiation.now c.if-negotiation-ne-BYTES.false c.decode-d.result c.decode-d.ensures.0 c.if-d-ne0.false c.read-r.result c.read-r.ensures c.if-not-r.false
-    c.sound.ensures c.refused-then-not-sound.result (ap not c.if-not-sound.true) c.refused-then-not-sound.ensures in
-    record { found = t.0; kept = t.1 }
+pub returns-then-not-sound-clause-found : goal.returns-then-not-sound-clause-found
+returns-then-not-sound-clause-found c =
+    restore-damaged _ _ c.if-negotiation-ne-BYTES.false _ c.in_ok-house.ensures.0 _ c.in-Some.ensures c.sound.ensures (ap not c.if-not-sound.true)
 
-pub returns : goal.returns
-returns c =
-    let t = restore-sound c.args.tables.now c.args.negotiation.now c.if-negotiation-ne-BYTES.false c.decode-d.result c.decode-d.ensures.0 c.if-d-ne0.false c.read-r.result c.read-r.ensures c.if-not-r.false c.sound.ensures
-    (ap not c.if-not-sound.false) c.decode-d.ensures.1 in
-    record { found = t.0; kept = t.1 }
+pub returns-clause-found : goal.returns-clause-found
+returns-clause-found c =
+    restore-sound _ _ c.if-negotiation-ne-BYTES.false _ c.in_ok-house.ensures.0 _ c.in-Some.ensures c.sound.ensures (ap not c.if-not-sound.false)
+
+pub returns-clause-kept : goal.returns-clause-kept
+returns-clause-kept c =
+    restore-usable _ _ c.if-negotiation-ne-BYTES.false _ c.in_ok-house.ensures.0 _ c.in-Some.ensures c.sound.ensures (ap not c.if-not-sound.false)
+    c.in_ok-house.ensures.1

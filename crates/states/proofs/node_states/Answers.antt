@@ -1,17 +1,17 @@
+use native.Mathlib.Omega.{arith}
 use Rattle.states.specs.laws.Filled.{needs-beyond, ways-beyond}
 use Rattle.states.specs.laws.Complete.{settled-read}
 use Rattle.states.proofs.node_states.Goals as goal
 
-pub satisfied-sat-requires : goal.satisfied-sat-requires
-satisfied-sat-requires c = (c.requires.0, c.requires.1, (c.links-e.ensures c.args.nodes).slots, needs-beyond c.args.nodes _ (c.needs-need.ensures c.args.nodes))
+pub satisfied-requires : goal.satisfied-requires
+satisfied-requires c = let n = c.args.nodes.now in
+    (c.requires.0, omega arith, (c.links-links.ensures.joined n).slots, needs-beyond n _ (c.needs-need.ensures n))
 
-pub ways-way-requires : goal.ways-way-requires
-ways-way-requires c = c.requires.0
-
-pub failed-fail-requires : goal.failed-fail-requires
-failed-fail-requires c = (c.requires.0, c.requires.1, (c.links-e.ensures c.args.nodes).slots, ways-beyond c.args.nodes _ (c.ways-way.ensures c.args.nodes))
+pub failed-requires : goal.failed-requires
+failed-requires c = let n = c.args.nodes.now in
+    (c.requires.0, omega arith, (c.links-links.ensures.joined n).slots, ways-beyond n _ (c.ways-way.ensures n))
 
 pub returns : goal.returns
-returns c =
-    settled-read c.args.nodes c.args.edges _ _ c.requires.2 (c.links-e.ensures c.args.nodes) _ _ c.requires.3 (c.needs-need.ensures c.args.nodes)
-    (c.ways-way.ensures c.args.nodes) c.satisfied-sat.ensures c.failed-fail.ensures
+returns c = let n = c.args.nodes.now in
+    settled-read n c.args.edges.now _ _ c.requires.2 (c.links-links.ensures.joined n) _ _ c.requires.3 (c.needs-need.ensures n) (c.ways-way.ensures n)
+    (rw c.links-links.ensures.count at c.satisfied.ensures) (rw c.links-links.ensures.count at c.failed.ensures)

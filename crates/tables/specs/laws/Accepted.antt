@@ -1,5 +1,5 @@
 -- Tables are accepted only where they are sound, and from their own bytes only; a refusal has a number from 1 to 6, but not 4. Assumes nothing.
-use Rattle.std.specs.Prelude.{ℕ, zero, suc, ◌+◌, ◌<◌, ◌≤◌, ◌≡◌, refl, Bool, true, false, cond, not, ◌&&◌, ltb, leb, eqb, length, get_or, take}
+use Rattle.std.specs.Prelude.{ℕ, zero, suc, ◌+◌, ◌<◌, ◌≤◌, ◌≡◌, refl, Bool, true, false, cond, not, ◌&&◌, ltb, leb, eqb, length, get_or, take, Result, Ok, Err}
 use Rattle.std.proofs.Common.{sym, ap, ◌∙◌, subst, ⊎_elim, arith, ltb-true, ltb-false, leb-true, eqb-true, length-append, take-add}
 use mathlib.Core.List.Memᴰ
 use mathlib.Core.List.{List, [], ◌∷◌, ◌++◌, append_assoc, append-nil, Memᴰ}
@@ -9,8 +9,6 @@ use Rattle.rt0.specs.Lists.{all}
 use Rattle.word.specs.laws.Bools.{false-true, and_parts}
 use Rattle.record.specs.declared.Record.{Record}
 use Rattle.record.specs.declared.Record.TheVariants.{Own, Named, IssuerStored, SubjectStored, Sensitive, Access}
-use Rattle.record.specs.declared.RecordAnswer.{RecordAnswer}
-use Rattle.record.specs.declared.RecordAnswer.TheVariants as a
 use Rattle.record.specs.Record.{formed, record_at, record_bytes, size_of}
 use Rattle.record.specs.laws.RecordExact.{some_size, record-refusal, record-room, record-formed, record-only}
 use Rattle.tables.specs.Tables.{Tables, unread, added}
@@ -235,7 +233,7 @@ sound-own e f =
 
 module _ (s : List ℕ) where
   -- the first record is self
-  first : (r : Record) → 0 < length s → record_at s 0 ≡ a.Read r → Fit unread r → SoundSoFar s (0 + size_of r) (added unread r)
+  first : (r : Record) → 0 < length s → record_at s 0 ≡ Ok r → Fit unread r → SoundSoFar s (0 + size_of r) (added unread r)
   unfolding in_order tables_bytes record_bytes
   first (Own e) more h w = record { sound = sound-own e (record-formed s 0 (Own e) h); bytes = λ b. record-only s 0 (Own e) b more h }
   first (Named n) more h w = absurd (false-true w.order)
@@ -245,7 +243,7 @@ module _ (s : List ℕ) where
   first (Access p) more h w = absurd (false-true w.order)
 
   -- a further record
-  further : (at : ℕ) (T : Tables) (r : Record) → at < length s → SoundSoFar s at T → record_at s at ≡ a.Read r → Fit T r
+  further : (at : ℕ) (T : Tables) (r : Record) → at < length s → SoundSoFar s at T → record_at s at ≡ Ok r → Fit T r
       → SoundSoFar s (at + size_of r) (added T r)
   further at T r more k h w =
       record {
@@ -259,20 +257,20 @@ module _ (s : List ℕ) where
     -- a record stands at an index that earns no number behind T, and U is accepted from the next one on
     record Next (at : ℕ) (T : Tables) : Type 0 where
       r : Record
-      read : record_at s at ≡ a.Read r
+      read : record_at s at ≡ Ok r
       good : judge T r ≡ 0
       rest : read_from s (at + size_of r) (added T r) ≡ accepted U
 
     next : (at : ℕ) (T : Tables) → at < length s → read_from s at T ≡ accepted U → Next at T
     next at T more h = go (record_at s at) refl
       where
-        by_number : (r : Record) → record_at s at ≡ a.Read r → (k : ℕ) → judge T r ≡ k → Next at T
+        by_number : (r : Record) → record_at s at ≡ Ok r → (k : ℕ) → judge T r ≡ k → Next at T
         by_number r e zero q = record { r = r; read = e; good = q; rest = sym (from-judged s at T more r 0 e q) ∙ h }
         by_number r e (suc k) q = let z = sym (from-judged s at T more r (suc k) e q) ∙ h in absurd (let y : ◌≡◌ {A = ℕ} 0 1 = cc in omega arith)
 
-        go : (x : RecordAnswer) → record_at s at ≡ x → Next at T
-        go (a.Refused k) e = let z = sym (from-refused s at T more k e) ∙ h in absurd (let y : ◌≡◌ {A = ℕ} 0 1 = cc in omega arith)
-        go (a.Read r) e = by_number r e (judge T r) refl
+        go : (x : Result Record ℕ) → record_at s at ≡ x → Next at T
+        go (Err k) e = let z = sym (from-refused s at T more k e) ∙ h in absurd (let y : ◌≡◌ {A = ℕ} 0 1 = cc in omega arith)
+        go (Ok r) e = by_number r e (judge T r) refl
 
     -- no byte is left
     end : (at : ℕ) (T : Tables) → at ≡ length s → SoundSoFar s at T → read_from s at T ≡ accepted U → SoundSoFar s (length s) U
@@ -357,12 +355,12 @@ from-numbers (suc n) s at T k h = go (ltb at (length s)) (record_at s at) refl h
         let w = l (λ z. omega (arith, z)) in
         (omega arith, omega (arith, w.1), λ z. omega (arith, z, w.0))
 
-    go : (b : Bool) (x : RecordAnswer) → record_at s at ≡ x → cond b (on_record (λ size U. records_from n s (at + size) U) T x) (accepted T) ≡ refused k
+    go : (b : Bool) (x : Result Record ℕ) → record_at s at ≡ x → cond b (on_record (λ size U. records_from n s (at + size) U) T x) (accepted T) ≡ refused k
         → ((m : ℕ) (U : Tables) → records_from n s m U ≡ refused k → Numbered k) → Numbered k
-    go true (a.Refused m) e q again =
+    go true (Err m) e q again =
         let z : m ≡ k = cc in
         ⊎_elim (λ w. (omega arith, omega arith, λ y. omega (arith, y))) (λ w. (omega arith, omega arith, λ y. omega (arith, y))) (record-refusal s at m e)
-    go true (a.Read r) e q again = by-judge (judge T r) _ (judge-numbers T r) q (again (at + size_of r) (added T r))
+    go true (Ok r) e q again = by-judge (judge T r) _ (judge-numbers T r) q (again (at + size_of r) (added T r))
     go false x e q again = absurd (let y : ◌≡◌ {A = ℕ} 0 1 = cc in omega arith)
 
 -- tables are refused by a number from 1 to 6, and never by 4

@@ -1,5 +1,5 @@
 -- Which records can no longer stand in order where the records of some commands have been read. Assumes nothing.
-use Rattle.std.specs.Prelude.{ℕ, suc, ◌<◌, ◌≡◌, refl, Bool, true, false, not, ◌&&◌, List, [], ◌∷◌, eqb, length}
+use Rattle.std.specs.Prelude.{ℕ, suc, ◌<◌, ◌≡◌, refl, Bool, true, false, not, ◌&&◌, List, [], ◌∷◌, eqb, length, Ok}
 use Rattle.std.proofs.Common.{ap, ◌∙◌, subst, arith, eqb-true}
 use Rattle.std.proofs.lemmas.Bool.{eqb-false}
 use Rattle.expression.specs.declared.Credential.{Credential}
@@ -7,7 +7,6 @@ use Rattle.class.specs.declared.Name.{Name}
 use Rattle.record.specs.declared.Pair.{Pair}
 use Rattle.record.specs.declared.Record.{Record}
 use Rattle.record.specs.declared.Record.TheVariants.{Own, Named, IssuerStored, SubjectStored, Sensitive, Access}
-use Rattle.record.specs.declared.RecordAnswer.TheVariants as a
 use Rattle.record.specs.Record.{record_at}
 use Rattle.tables.specs.Tables.{Tables}
 use Rattle.tables.specs.Check.{none, in_order}
@@ -26,7 +25,7 @@ rank_of (Access p) = 5
 -- no record of the first commands, so many, is in order at an index
 pub record BehindRecords (k : ℕ) (s : List ℕ) (at : ℕ) (T : Tables) : Type 0 where
   pub begun : eqb T.own 0 ≡ false
-  pub out : at < length s → (r : Record) → record_at s at ≡ a.Read r → rank_of r < k → in_order T r ≡ false
+  pub out : at < length s → (r : Record) → record_at s at ≡ Ok r → rank_of r < k → in_order T r ≡ false
 
 -- a command by its number: its records are those of that number, and where it has one, no earlier command is in order
 pub record Ranked {A : Type 0} (G : Group A) (k : ℕ) : Type 0 where
@@ -41,14 +40,14 @@ pub passed-next : {A : Type 0} {G : Group A} {k : ℕ} → Ranked G k → {num :
 passed-next {A} {G} {k} ranked {num} {s} {start} {L} {at} {T} first p g =
     record { begun = ap (λ (e : ℕ). eqb e 0) (ranked.same T L) ∙ p.begun; out = λ more r h l. by_rank more r h l (eqb (rank_of r) k) refl }
   where
-    earlier : (M : List A) → L ≡ M → at < length s → (r : Record) → record_at s at ≡ a.Read r → rank_of r < k → in_order (G.put T M) r ≡ false
+    earlier : (M : List A) → L ≡ M → at < length s → (r : Record) → record_at s at ≡ Ok r → rank_of r < k → in_order (G.put T M) r ≡ false
     earlier [] e more r h l =
         let still : at ≡ start = g.still (ap none e) in
-        ap (λ (U : Tables). in_order U r) first ∙ p.out (subst (λ (j : ℕ). j < length s) still more) r (subst (λ (j : ℕ). record_at s j ≡ a.Read r) still h) l
+        ap (λ (U : Tables). in_order U r) first ∙ p.out (subst (λ (j : ℕ). j < length s) still more) r (subst (λ (j : ℕ). record_at s j ≡ Ok r) still h) l
     earlier (x ∷ M) e more r h l = ranked.blocks T (x ∷ M) r p.begun refl l
 
-    by_rank : at < length s → (r : Record) → record_at s at ≡ a.Read r → rank_of r < suc k → (b : Bool) → eqb (rank_of r) k ≡ b → in_order (G.put T L) r ≡ false
-    by_rank more r h l true e = let x = ranked.own r (eqb-true (rank_of r) k e) in absurd (g.stop refl more x.0 (h ∙ ap a.Read x.1))
+    by_rank : at < length s → (r : Record) → record_at s at ≡ Ok r → rank_of r < suc k → (b : Bool) → eqb (rank_of r) k ≡ b → in_order (G.put T L) r ≡ false
+    by_rank more r h l true e = let x = ranked.own r (eqb-true (rank_of r) k e) in absurd (g.stop refl more x.0 (h ∙ ap Ok x.1))
     by_rank more r h l false e = earlier L refl more r h (omega (arith, eqb-false (rank_of r) k e))
 
 -- The commands

@@ -1,11 +1,9 @@
 -- How the reading of tables goes on from one record to the next. Assumes nothing.
-use Rattle.std.specs.Prelude.{ℕ, zero, suc, ◌+◌, ◌<◌, ◌≤◌, Bool, cond, List, ltb, eqb, length, ◌≡◌, refl}
+use Rattle.std.specs.Prelude.{ℕ, zero, suc, ◌+◌, ◌<◌, ◌≤◌, Bool, cond, List, ltb, length, ◌≡◌, refl, Result, Ok, Err}
 use Rattle.record.specs.declared.Record.{Record}
-use Rattle.record.specs.declared.RecordAnswer.{RecordAnswer}
-use Rattle.record.specs.declared.RecordAnswer.TheVariants as a
 use Rattle.record.specs.Record.{record_at, size_of}
 use Rattle.record.specs.laws.RecordExact.{some_size}
-use Rattle.tables.specs.declared.Decoded.{Decoded}
+use Rattle.tables.specs.declared.House.{House}
 use Rattle.tables.specs.Tables.{Tables, added}
 use Rattle.tables.specs.laws.Tables.{tables_of}
 use Rattle.std.proofs.Common.{sym, ap, ◌∙◌, arith, lt-ltb, le-ltb}
@@ -13,8 +11,9 @@ use Rattle.tables.specs.Check.{judge, on_record, records_from}
 use Rattle.numbers.specs.Answer.{Answer, refused, accepted, judged}
 
 -- what decoded tables say
-unfoldable pub outcome_of : Decoded → Answer Tables
-outcome_of d = cond (eqb d.refusal 0) (accepted (tables_of d.house)) (refused d.refusal)
+abbrev pub outcome_of : Result House ℕ → Answer Tables
+outcome_of (Ok H) = accepted (tables_of H)
+outcome_of (Err k) = refused k
 
 -- no byte is left
 records-past : (n : ℕ) (s : List ℕ) (at : ℕ) (T : Tables) → length s ≤ at → records_from n s at T ≡ accepted T
@@ -24,10 +23,10 @@ records-past (suc n) s at T h =
     ap (λ (t : Bool). cond t (on_record (λ size U. records_from n s (at + size) U) T (record_at s at)) (accepted T)) (le-ltb at (length s) h)
 
 -- what comes after a record is the same where it is the same for each size that a record has
-same_next : (f g : ℕ → Tables → Answer Tables) (T : Tables) → ((r : Record) (U : Tables) → f (size_of r) U ≡ g (size_of r) U) → (x : RecordAnswer)
+same_next : (f g : ℕ → Tables → Answer Tables) (T : Tables) → ((r : Record) (U : Tables) → f (size_of r) U ≡ g (size_of r) U) → (x : Result Record ℕ)
     → on_record f T x ≡ on_record g T x
-same_next f g T h (a.Refused k) = refl
-same_next f g T h (a.Read r) = ap (judged (judge T r)) (h r (added T r))
+same_next f g T h (Err k) = refl
+same_next f g T h (Ok r) = ap (judged (judge T r)) (h r (added T r))
 
 -- a larger number than that of the bytes left changes nothing
 records-enough : (n m : ℕ) (s : List ℕ) (at : ℕ) (T : Tables) → length s ≤ n + at → length s ≤ m + at → records_from n s at T ≡ records_from m s at T
@@ -62,11 +61,11 @@ from-record s at T h = go (length s) refl
 
 module _ (s : List ℕ) (at : ℕ) (T : Tables) (more : at < length s) where
   -- a record that cannot be read
-  pub from-refused : (k : ℕ) → record_at s at ≡ a.Refused k → read_from s at T ≡ refused k
+  pub from-refused : (k : ℕ) → record_at s at ≡ Err k → read_from s at T ≡ refused k
   from-refused k h = from-record s at T more ∙ ap (on_record (λ size U. read_from s (at + size) U) T) h
 
   -- a record that is read, judged
-  pub from-judged : (r : Record) (k : ℕ) → record_at s at ≡ a.Read r → judge T r ≡ k → read_from s at T ≡ judged k (read_from s (at + size_of r) (added T r))
+  pub from-judged : (r : Record) (k : ℕ) → record_at s at ≡ Ok r → judge T r ≡ k → read_from s at T ≡ judged k (read_from s (at + size_of r) (added T r))
   from-judged r k h q =
       from-record s at T more
       ∙ ap (on_record (λ size U. read_from s (at + size) U) T) h

@@ -1,6 +1,6 @@
 -- Names and pairs in columns, with one more. Assumes nothing.
-use Rattle.std.specs.Prelude.{ℕ, ◌+◌, ◌*◌, ◌<◌, ◌≡◌, [], ◌∷◌, ◌++◌, get_or, length, set}
-use Rattle.std.proofs.Common.{arith, length-set, get_or-set_same, get_or-set_other}
+use Rattle.std.specs.Prelude.{ℕ, ◌+◌, ◌*◌, ◌<◌, ◌≡◌, refl, [], ◌∷◌, ◌++◌, get_or, length, set}
+use Rattle.std.proofs.Common.{arith, get_or-set_same, get_or-set_other}
 use Rattle.rt0.specs.laws.Added.{pair, snoc-up_to, pair-before, pair-first, pair-second, length-up_to}
 use Rattle.class.specs.declared.Name.{Name}
 use Rattle.class.specs.declared.Names.{Names}
@@ -18,7 +18,7 @@ pub record NamesSized (N : Names) : Type 0 where
 
 -- the columns Q are those of P with the name x behind
 pub record NamesStored (x : Name) (P Q : Names) : Type 0 where
-  pub sized : NamesSized Q
+  pub counted : Q.count ≡ P.count + 1
   pub all : names_of Q ≡ names_of P ++ (x ∷ [])
   pub kept : (i : ℕ) → i < P.count → get_or Q.name i 0 ≡ get_or P.name i 0
   pub last : get_or Q.name P.count 0 ≡ x.name
@@ -35,7 +35,7 @@ stored-name N x room z =
     let name-last : get_or (set N.name n x.name) n 0 ≡ x.name = get_or-set_same N.name n x.name 0 (omega (arith, z.name)) in
     let class-last : get_or (set N.class n x.class) n 0 ≡ x.class = get_or-set_same N.class n x.class 0 (omega (arith, z.class)) in
     record {
-      sized = record { name = simp length-set z.name; class = simp length-set z.class };
+      counted = refl;
       all = snoc-up_to n (name_at (added_name N x)) (name_at N) x
           (λ i l j. record { name = name-kept i l j; class = get_or-set_other N.class n i x.class 0 (λ e. omega arith) j })
           (λ j. record { name = name-last j; class = class-last j });
@@ -51,7 +51,7 @@ pub record PairsSized (P : Pairs) : Type 0 where
 
 -- the columns Q are those of P with the pair p behind
 pub record PairsStored (p : Pair) (P Q : Pairs) : Type 0 where
-  pub sized : PairsSized Q
+  pub counted : Q.count ≡ P.count + 1
   pub all : pairs_of Q ≡ pairs_of P ++ (p ∷ [])
 
 abbrev added_pair : Pairs → Pair → Pairs
@@ -67,7 +67,7 @@ unfolding pairs_of
 stored-pair P p room z =
     let at : ℕ = P.count * 2 in
     record {
-      sized = record { roles = simp length-set z.roles; others = simp length-set z.others };
+      counted = refl;
       all = snoc-up_to P.count (pair_at (added_pair P p)) (pair_at P) p
           (λ i l j.
           record {

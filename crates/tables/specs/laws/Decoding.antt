@@ -1,47 +1,38 @@
 -- The reading of whole tables, part by part. Assumes nothing.
-use Rattle.std.specs.Prelude.{ℕ, ◌≤◌, ◌≡◌, cond, List, [], ltb, length}
+use Rattle.std.specs.Prelude.{ℕ, ◌≤◌, ◌≡◌, cond, List, [], ltb, length, Result, Ok, Err}
 use Rattle.numbers.specs.Sizes.{MOST-NAMES, MOST-STORED, MOST-SENSITIVE, MOST-ACCESS}
 use Rattle.expression.specs.declared.Credential.{Credential}
-use Rattle.rt0.specs.declared.Pool.{Pool}
-use Rattle.rt0.specs.laws.Pool.{credentials}
 use Rattle.class.specs.declared.Name.{Name}
-use Rattle.class.specs.declared.Names.{Names}
-use Rattle.class.specs.laws.Names.{names_of, Ascending}
+use Rattle.class.specs.laws.Names.{Ascending}
+use Rattle.record.specs.declared.Record.{Record}
 use Rattle.record.specs.declared.Record.TheVariants.{Own, Named, IssuerStored, SubjectStored, Sensitive, Access}
-use Rattle.record.specs.declared.RecordAnswer.{RecordAnswer}
-use Rattle.record.specs.declared.RecordAnswer.TheVariants as a
 use Rattle.record.specs.Record.{record_at}
-use Rattle.tables.specs.declared.OwnAnswer.{OwnAnswer}
-use Rattle.tables.specs.declared.OwnAnswer.TheVariants as o
 use Rattle.tables.specs.declared.House.{House}
-use Rattle.tables.specs.declared.Pairs.{Pairs}
-use Rattle.tables.specs.declared.PairCounts.{PairCounts}
-use Rattle.tables.specs.declared.StoredCounts.{StoredCounts}
-use Rattle.tables.specs.declared.Counts.{Counts}
-use Rattle.tables.specs.declared.Decoded.{Decoded}
 use Rattle.tables.specs.Tables.{Tables, unread}
-use Rattle.tables.specs.Check.{or_else, class_number, judge}
-use Rattle.tables.specs.laws.Check.{outcome_of, read_from}
+use Rattle.tables.specs.Check.{or_else, class_number, judge, read_tables}
+use Rattle.tables.specs.laws.Tables.{tables_of}
+use Rattle.tables.specs.laws.Check.{read_from}
+use Rattle.numbers.specs.Answer.{accepted, refused}
 use Rattle.tables.specs.laws.BehindRecords.{BehindRecords}
 
 -- the first record: self, or the number of another
-abbrev pub first_record : RecordAnswer → OwnAnswer
-first_record (a.Refused k) = o.Refused k
-first_record (a.Read (Own e)) = o.Read e
-first_record (a.Read (Named n)) = o.Refused (judge unread (Named n))
-first_record (a.Read (IssuerStored c)) = o.Refused (judge unread (IssuerStored c))
-first_record (a.Read (SubjectStored c)) = o.Refused (judge unread (SubjectStored c))
-first_record (a.Read (Sensitive p)) = o.Refused (judge unread (Sensitive p))
-first_record (a.Read (Access p)) = o.Refused (judge unread (Access p))
+abbrev pub first_record : Result Record ℕ → Result ℕ ℕ
+first_record (Err k) = Err k
+first_record (Ok (Own e)) = Ok e
+first_record (Ok (Named n)) = Err (judge unread (Named n))
+first_record (Ok (IssuerStored c)) = Err (judge unread (IssuerStored c))
+first_record (Ok (SubjectStored c)) = Err (judge unread (SubjectStored c))
+first_record (Ok (Sensitive p)) = Err (judge unread (Sensitive p))
+first_record (Ok (Access p)) = Err (judge unread (Access p))
 
 -- the number of a record that is out of order
-abbrev pub out_of_order : Tables → RecordAnswer → ℕ
-out_of_order T (a.Refused k) = k
-out_of_order T (a.Read r) = or_else (class_number T r) 6
+abbrev pub out_of_order : Tables → Result Record ℕ → ℕ
+out_of_order T (Err k) = k
+out_of_order T (Ok r) = or_else (class_number T r) 6
 
 -- what is left behind the records of all commands: nothing, or a record that is out of order
-unfoldable pub left_number : List ℕ → ℕ → Tables → ℕ
-left_number s at T = cond (ltb at (length s)) (out_of_order T (record_at s at)) 0
+unfoldable pub left_of : List ℕ → ℕ → Tables → Result (Unit {0}) ℕ
+left_of s at T = cond (ltb at (length s)) (Err (out_of_order T (record_at s at))) (Ok (tt {0}))
 
 -- tables of self, names and credentials
 abbrev pub without_pairs : ℕ → List Name → List Credential → List Credential → Tables
@@ -56,32 +47,16 @@ pub record Housed (H : House) : Type 0 where
   pub sensitive : H.sensitive.count ≤ MOST-SENSITIVE
   pub access : H.access.count ≤ MOST-ACCESS
 
--- the reading from an index on, behind the records of T, leads to the decoded tables
-pub record Decodes (s : List ℕ) (at : ℕ) (T : Tables) (d : Decoded) : Type 0 where
-  pub same : outcome_of d ≡ read_from s at T
-  pub housed : Housed d.house
+-- the reading has come to an index, behind the records of T, which are of m commands
+pub record Come (s : List ℕ) (at m : ℕ) (T : Tables) : Type 0 where
+  pub same : read_tables s ≡ read_from s at T
+  pub behind : BehindRecords m s at T
 
--- decoded tables, from their columns
-abbrev pub decoded_of : ℕ → ℕ → Names → Pool → Pool → Pairs → Pairs → Decoded
-decoded_of k own N I S P Q = record { refusal = k; house = record { own = own; names = N; issuer = I; subject = S; sensitive = P; access = Q } }
+-- the tables are refused, and k is their number
+abbrev pub Wrong : List ℕ → ℕ → Type 0
+Wrong s k = refused k ≡ read_tables s
 
--- the reading of pairs, with any issuer-stored credentials
-pub record DecodesPairs (s : List ℕ) (at own : ℕ) (N : Names) (S : Pool) (r : PairCounts) (P Q : Pairs) : Type 0 where
-  pub behind : (I : Pool) → I.count ≤ MOST-STORED → BehindRecords 4 s at (without_pairs own (names_of N) (credentials I) (credentials S))
-      → Decodes s at (without_pairs own (names_of N) (credentials I) (credentials S)) (decoded_of r.refusal own N I S P Q)
-
--- the reading of credentials and pairs
-pub record DecodesStored (s : List ℕ) (at own : ℕ) (N : Names) (r : StoredCounts) (I S : Pool) (P Q : Pairs) : Type 0 where
-  pub behind : BehindRecords 2 s at (without_pairs own (names_of N) [] [])
-      → Decodes s at (without_pairs own (names_of N) [] []) (decoded_of r.refusal own N I S P Q)
-
--- the reading of names, credentials and pairs
-pub record DecodesNames (s : List ℕ) (own : ℕ) (r : Counts) (N : Names) (I S : Pool) (P Q : Pairs) : Type 0 where
-  pub behind : BehindRecords 1 s 3 (without_pairs own [] [] []) → Decodes s 3 (without_pairs own [] [] []) (decoded_of r.refusal own N I S P Q)
-
--- no credentials and no pairs
-pub record Countless (r : StoredCounts) : Type 0 where
-  pub issuer : r.issuer ≡ 0
-  pub subject : r.subject ≡ 0
-  pub sensitive : r.sensitive ≡ 0
-  pub access : r.access ≡ 0
+-- the tables stand in the house, or they are refused
+abbrev pub Filled : List ℕ → Result (Unit {0}) ℕ → House → Type 0
+Filled s (Ok u) H = (accepted (tables_of H) ≡ read_tables s) × Housed H
+Filled s (Err k) H = Wrong s k

@@ -1,14 +1,11 @@
 -- The records of one command, read one after another: a law family for every command but self. Assumes nothing.
-use Rattle.std.specs.Prelude.{ℕ, zero, suc, ◌+◌, ◌<◌, ◌≤◌, ◌≡◌, refl, ◌⊎◌, Bool, true, false, cond, ◌&&◌, ◌||◌, List, [], ◌∷◌, ◌++◌, ltb, eqb, length}
-use Rattle.std.proofs.Common.{sym, ◌∙◌, subst, ⊎_elim, arith, ltb-true, ne_eqb, length-append}
+use Rattle.std.specs.Prelude.{ℕ, zero, suc, ◌+◌, ◌<◌, ◌≤◌, ◌≡◌, refl, ◌⊎◌, Bool, true, false, cond, ◌&&◌, ◌||◌, List, [], ◌∷◌, ◌++◌, ltb, eqb, length, Option, Some, None, Result, Ok, Err}
+use Rattle.std.proofs.Common.{sym, ◌∙◌, ⊎_elim, arith, ltb-true, ne_eqb, length-append}
 use Rattle.std.proofs.Math.Path.{ap}
-use Rattle.std.proofs.Math.Option.{Option, none as absent, some}
 use Rattle.std.proofs.lemmas.Bool.{eqb-false}
 use Rattle.rt0.specs.Lists.{all}
 use Rattle.word.specs.laws.Bools.{and_parts, false-true}
 use Rattle.record.specs.declared.Record.{Record}
-use Rattle.record.specs.declared.RecordAnswer.{RecordAnswer}
-use Rattle.record.specs.declared.RecordAnswer.TheVariants as a
 use Rattle.record.specs.Record.{record_at, size_of}
 use Rattle.record.specs.laws.RecordExact.{record-refusal}
 use Rattle.tables.specs.Tables.{Tables, added}
@@ -32,8 +29,8 @@ rising up count most = cond (up && ltb count most) 0 6
 
 -- what holds of such a command
 pub record Lawful {A : Type 0} (G : Group A) : Type 0 where
-  pub picked : (r : Record) (x : A) → G.pick r ≡ some x → r ≡ G.wrap x
-  pub wrapped : (x : A) → G.pick (G.wrap x) ≡ some x
+  pub picked : (r : Record) (x : A) → G.pick r ≡ Some x → r ≡ G.wrap x
+  pub wrapped : (x : A) → G.pick (G.wrap x) ≡ Some x
   pub sized : (x : A) → size_of (G.wrap x) ≡ G.size
   pub more : (T : Tables) (L : List A) (x : A) → added (G.put T L) (G.wrap x) ≡ G.put T (L ++ (x ∷ []))
   pub judges : (T : Tables) (L : List A) (x : A) → in_order T (G.wrap x) ≡ true
@@ -98,89 +95,21 @@ behind G k count last x = or_else k (rising (eqb count 0 || G.before last x) cou
 abbrev pub number_behind : {A : Type 0} → Group A → (A → ℕ) → ℕ → A → A → ℕ
 number_behind G num count last x = behind G (num x) count last x
 
--- the number of a record that was not read
-abbrev pub refusal_of : RecordAnswer → ℕ
-refusal_of (a.Read r) = 0
-refusal_of (a.Refused k) = k
-
--- what stands next: a record of the command that is taken, or a stop, with a refusal number or at a record of another command with zero
-pub data Step (A : Type 0) : Type 0 where
-  taken : A → Step A
-  stop : ℕ → Step A
+-- what stands next: a record of the command that is taken, nothing where another command's record stands, or a refusal number
+abbrev pub Step : Type 0 → Type 0
+Step A = Result (Option A) ℕ
 
 abbrev pub judged_step : {A : Type 0} → ℕ → A → Step A
-judged_step zero x = taken x
-judged_step (suc k) x = stop (suc k)
+judged_step zero x = Ok (Some x)
+judged_step (suc k) x = Err (suc k)
 
 abbrev pub picked_step : {A : Type 0} → (A → ℕ) → Option A → Step A
-picked_step number absent = stop 0
-picked_step number (some x) = judged_step (number x) x
+picked_step number None = Ok None
+picked_step number (Some x) = judged_step (number x) x
 
-abbrev pub step_of : {A : Type 0} → Group A → (A → ℕ) → RecordAnswer → Step A
-step_of G number (a.Refused k) = stop k
-step_of G number (a.Read r) = picked_step number (G.pick r)
-
--- a step by its number
-pub step-zero : {A : Type 0} (x : A) {k m : ℕ} → k ≡ m → k ≡ 0 → taken x ≡ judged_step m x
-step-zero x h z = ap (λ (n : ℕ). judged_step n x) (sym z ∙ h)
-
-pub step-number : {A : Type 0} (x : A) {k m : ℕ} → k ≡ m → (k ≡ 0 → ⊥) → stop k ≡ judged_step m x
-step-number {A} x {k} {m} h z = go k z ∙ ap (λ (n : ℕ). judged_step n x) h
-  where
-    go : (n : ℕ) → (n ≡ 0 → ⊥) → ◌≡◌ {A = Step A} (stop n) (judged_step n x)
-    go zero w = absurd (w refl)
-    go (suc n) w = refl
-
--- a record that was not read
-pub step-unread : {A : Type 0} (G : Group A) (number : A → ℕ) {x y : RecordAnswer} {k m : ℕ} → x ≡ y → x ≡ a.Refused k → m ≡ refusal_of x
-    → stop m ≡ step_of G number y
-step-unread G number h q e = ap stop (e ∙ ap refusal_of q) ∙ ap (step_of G number) (sym q ∙ h)
-
--- a record that was read: one of the command, which earns k by the class rules, is judged behind the others; at another one the reading stops
-module _ {A : Type 0} (G : Group A) (num : A → ℕ) (count : ℕ) (last : A) {x y : RecordAnswer} {r : Record} {w : Step A} (h : x ≡ y) (q : x ≡ a.Read r)
-    (e : w ≡ picked_step (λ v. 0) (G.pick r)) where
-  step-read : {z : Step A} → z ≡ picked_step (number_behind G num count last) (G.pick r) → z ≡ step_of G (number_behind G num count last) y
-  step-read t = t ∙ ap (step_of G (number_behind G num count last)) (sym q ∙ h)
-
-  pub step-some : {v : A} {k : ℕ} {z : Step A} → w ≡ taken v → k ≡ num v → z ≡ judged_step (behind G k count last v) v
-      → z ≡ step_of G (number_behind G num count last) y
-  step-some {v} {k} {z} t n d = step-read (go (G.pick r) (sym t ∙ e))
-    where
-      go : (o : Option A) → taken v ≡ picked_step (λ u. 0) o → z ≡ picked_step (number_behind G num count last) o
-      go absent u = absurd (let p : ◌≡◌ {A = ℕ} 0 1 = cc in omega arith)
-      go (some m) u =
-          let p : v ≡ m = cc in d ∙ (λ i. judged_step (behind G (n i) count last v) v) ∙ (λ i. judged_step (number_behind G num count last (p i)) (p i))
-
-  pub step-none : {k : ℕ} → w ≡ stop k → stop 0 ≡ step_of G (number_behind G num count last) y
-  step-none {k} t = step-read (go (G.pick r) (sym t ∙ e))
-    where
-      go : (o : Option A) → stop k ≡ picked_step (λ u. 0) o → stop 0 ≡ picked_step (number_behind G num count last) o
-      go absent u = refl
-      go (some m) u = absurd (let p : ◌≡◌ {A = ℕ} 0 1 = cc in omega arith)
-
--- a record whose class and order were left to test
-module _ {A : Type 0} (G : Group A) (number : A → ℕ) (y : RecordAnswer) {w : Step A} (h : w ≡ step_of G (λ v. 0) y) where
-  pub step_then : {v : A} {z : Step A} → w ≡ taken v → z ≡ judged_step (number v) v → z ≡ step_of G number y
-  step_then {v} {z} t d = go y (sym t ∙ h)
-    where
-      picked : (o : Option A) → taken v ≡ picked_step (λ u. 0) o → z ≡ picked_step number o
-      picked absent u = absurd (let p : ◌≡◌ {A = ℕ} 0 1 = cc in omega arith)
-      picked (some m) u = let p : v ≡ m = cc in d ∙ (λ i. judged_step (number (p i)) (p i))
-
-      go : (x : RecordAnswer) → taken v ≡ step_of G (λ u. 0) x → z ≡ step_of G number x
-      go (a.Refused k) u = absurd (let p : ◌≡◌ {A = ℕ} 0 1 = cc in omega arith)
-      go (a.Read r) u = picked (G.pick r) u
-
-  pub step-stop : {k : ℕ} → w ≡ stop k → stop k ≡ step_of G number y
-  step-stop {k} t = go y (sym t ∙ h)
-    where
-      picked : (o : Option A) → stop k ≡ picked_step (λ u. 0) o → stop k ≡ picked_step number o
-      picked absent u = u
-      picked (some m) u = absurd (let p : ◌≡◌ {A = ℕ} 0 1 = cc in omega arith)
-
-      go : (x : RecordAnswer) → stop k ≡ step_of G (λ u. 0) x → stop k ≡ step_of G number x
-      go (a.Refused m) u = u
-      go (a.Read r) u = picked (G.pick r) u
+abbrev pub step_of : {A : Type 0} → Group A → (A → ℕ) → Result Record ℕ → Step A
+step_of G number (Err k) = Err k
+step_of G number (Ok r) = picked_step number (G.pick r)
 
 -- an empty list has no element
 none-length : {A : Type 0} (L : List A) → none L ≡ eqb (length L) 0
@@ -199,7 +128,18 @@ pub record Gone {A : Type 0} (G : Group A) (num : A → ℕ) (s : List ℕ) (sta
   pub same : (T : Tables) → Open G num T → read_from s start T ≡ judged refusal (read_from s at (G.put T L))
   pub few : length L ≤ G.most
   pub still : none L ≡ true → at ≡ start
-  pub stop : refusal ≡ 0 → at < length s → (x : A) → record_at s at ≡ a.Read (G.wrap x) → ⊥
+  pub stop : refusal ≡ 0 → at < length s → (x : A) → record_at s at ≡ Ok (G.wrap x) → ⊥
+
+-- a record of the command is refused
+pub record Refused {A : Type 0} (G : Group A) (num : A → ℕ) (s : List ℕ) (start : ℕ) (L : List A) (k : ℕ) : Type 0 where
+  pub at : ℕ
+  pub gone : Gone G num s start L k at
+  pub some : k ≡ 0 → ⊥
+
+-- how the reading of the command's records ends: at an index behind them, or with a refusal number
+abbrev pub Ends : {A : Type 0} → Group A → (A → ℕ) → List ℕ → ℕ → List A → Result ℕ ℕ → Type 0
+Ends G num s start L (Ok at) = Gone G num s start L 0 at
+Ends G num s start L (Err k) = Refused G num s start L k
 
 -- a number that is not zero refuses
 pub judged-refused : (k : ℕ) (o : Answer Tables) → (k ≡ 0 → ⊥) → judged k o ≡ refused k
@@ -226,12 +166,12 @@ rising-zero up count most h = go up (ltb count most) refl h
 pub some-refusal : (k : ℕ) → (k ≡ 2) ⊎ (k ≡ 3) → k ≡ 0 → ⊥
 some-refusal k h z = ⊎_elim (λ e. omega arith) (λ e. omega arith) h
 
-read_same : {r t : Record} → a.Read r ≡ a.Read t → r ≡ t
+read_same : {r t : Record} → ◌≡◌ {A = Result Record ℕ} (Ok r) (Ok t) → r ≡ t
 read_same h = cc
 
 -- an element is not absent
-pub none-some : {A : Type 0} {x : A} → absent ≡ some x → ⊥
-none-some h = let z : ◌≡◌ {A = ℕ} 0 1 = cc in omega arith
+pub none-some : {A : Type 0} {x : A} → None ≡ Some x → ⊥
+none-some h = cc
 
 module _ {A : Type 0} {G : Group A} {num : A → ℕ} {s : List ℕ} {start : ℕ} where
   pub going_start : (last : A) → Going G num s start [] last start
@@ -242,13 +182,13 @@ module _ {A : Type 0} {G : Group A} {num : A → ℕ} {s : List ℕ} {start : �
   gone-past g h = record { same = g.same; few = g.few; still = g.still; stop = λ e more x q. absurd (omega arith) }
 
   -- a record of another command
-  pub gone-other : {L : List A} {last : A} {at : ℕ} → Going G num s start L last at → ((x : A) → record_at s at ≡ a.Read (G.wrap x) → ⊥)
+  pub gone-other : {L : List A} {last : A} {at : ℕ} → Going G num s start L last at → ((x : A) → record_at s at ≡ Ok (G.wrap x) → ⊥)
       → Gone G num s start L 0 at
   gone-other g h = record { same = g.same; few = g.few; still = g.still; stop = λ e more x q. h x q }
 
   module _ {L : List A} {last : A} {at : ℕ} (g : Going G num s start L last at) (more : at < length s) where
     -- a record that cannot be read
-    pub gone-refused : (k : ℕ) → (k ≡ 0 → ⊥) → record_at s at ≡ a.Refused k → Gone G num s start L k at
+    pub gone-refused : (k : ℕ) → (k ≡ 0 → ⊥) → record_at s at ≡ Err k → Gone G num s start L k at
     gone-refused k z h =
         record {
           same = λ T o. g.same T o ∙ from-refused s at (G.put T L) more k h ∙ sym (judged-refused k _ z);
@@ -257,7 +197,7 @@ module _ {A : Type 0} {G : Group A} {num : A → ℕ} {s : List ℕ} {start : �
           stop = λ e. absurd (z e);
         }
 
-    module _ (l : Lawful G) (x : A) (h : record_at s at ≡ a.Read (G.wrap x)) where
+    module _ (l : Lawful G) (x : A) (h : record_at s at ≡ Ok (G.wrap x)) where
       number-there : (T : Tables) → Open G num T → judge (G.put T L) (G.wrap x) ≡ number_behind G num (length L) last x
       unfolding behind
       number-there T o =
@@ -306,48 +246,65 @@ module _ {A : Type 0} {G : Group A} {num : A → ℕ} {s : List ℕ} {start : �
       resized x k q = ap (λ (n : ℕ). number_behind G num n last x) size ∙ q
 
       -- the step takes x: it stands there, and it earns no number
-      judged-taken : (k : ℕ) (x y : A) → judged_step k x ≡ taken y → (x ≡ y) × (k ≡ 0)
+      judged-taken : (k : ℕ) (x y : A) → judged_step k x ≡ Ok (Some y) → (x ≡ y) × (k ≡ 0)
       judged-taken zero x y e = let q : x ≡ y = cc in (q, refl)
-      judged-taken (suc k) x y e = absurd (let z : ◌≡◌ {A = ℕ} 0 1 = cc in omega arith)
+      judged-taken (suc k) x y e = cc
 
-      step-taken : (r : RecordAnswer) (x : A) → step_of G number r ≡ taken x → (r ≡ a.Read (G.wrap x)) × (number x ≡ 0)
-      step-taken (a.Refused k) x e = absurd (let z : ◌≡◌ {A = ℕ} 0 1 = cc in omega arith)
-      step-taken (a.Read r) x e = go (G.pick r) refl e
+      step-taken : (r : Result Record ℕ) (x : A) → step_of G number r ≡ Ok (Some x) → (r ≡ Ok (G.wrap x)) × (number x ≡ 0)
+      step-taken (Err k) x e = cc
+      step-taken (Ok r) x e = go (G.pick r) refl e
         where
-          go : (o : Option A) → G.pick r ≡ o → picked_step number o ≡ taken x → (a.Read r ≡ a.Read (G.wrap x)) × (number x ≡ 0)
-          go absent p q = absurd (let z : ◌≡◌ {A = ℕ} 0 1 = cc in omega arith)
-          go (some y) p q =
+          go : (o : Option A) → G.pick r ≡ o → picked_step number o ≡ Ok (Some x) → (◌≡◌ {A = Result Record ℕ} (Ok r) (Ok (G.wrap x))) × (number x ≡ 0)
+          go None p q = cc
+          go (Some y) p q =
               let t = judged-taken (number y) y x q in
-              (ap a.Read (l.picked r y p ∙ ap G.wrap t.0), sym (ap number t.0) ∙ t.1)
+              (ap Ok (l.picked r y p ∙ ap G.wrap t.0), sym (ap number t.0) ∙ t.1)
 
       -- a record is taken
-      pub going_next : (x : A) → step_of G number (record_at s at) ≡ taken x → Going G num s start (L ++ (x ∷ [])) x (at + G.size)
+      pub going_next : (x : A) → step_of G number (record_at s at) ≡ Ok (Some x) → Going G num s start (L ++ (x ∷ [])) x (at + G.size)
       going_next x e = let t = step-taken (record_at s at) x e in next l x t.0 (resized x 0 t.1)
 
       -- such a record comes after all before it, and there was room for it
-      pub going-above : (x : A) → step_of G number (record_at s at) ≡ taken x → (all (λ y. G.before y x) L ≡ true) × (count < G.most)
+      pub going-above : (x : A) → step_of G number (record_at s at) ≡ Ok (Some x) → (all (λ y. G.before y x) L ≡ true) × (count < G.most)
       going-above x e =
           let t = step-taken (record_at s at) x e in
           let u = next-rising l x t.0 (resized x 0 t.1) in
           (u.0, omega (arith, u.1))
 
-      judged-stop : (k : ℕ) (x : A) (m : ℕ) → judged_step k x ≡ stop m → (k ≡ m) × (m ≡ 0 → ⊥)
-      judged-stop zero x m e = absurd (let z : ◌≡◌ {A = ℕ} 0 1 = cc in omega arith)
+      -- a record of another command stands there
+      pub going-other : step_of G number (record_at s at) ≡ Ok None → Gone G num s start L 0 at
+      going-other e = go (record_at s at) refl e
+        where
+          judged-some : (k : ℕ) (x : A) → ◌≡◌ {A = Step A} (judged_step k x) (Ok None) → ⊥
+          judged-some zero x q = cc
+          judged-some (suc k) x q = cc
+
+          pick : (r : Record) → record_at s at ≡ Ok r → (o : Option A) → G.pick r ≡ o → picked_step number o ≡ Ok None → Gone G num s start L 0 at
+          pick r h None p q =
+              gone-other g (λ x w. let v : r ≡ G.wrap x = read_same (sym h ∙ w) in none-some (sym p ∙ (ap G.pick v ∙ l.wrapped x)))
+          pick r h (Some y) p q = absurd (judged-some (number y) y q)
+
+          go : (r : Result Record ℕ) → record_at s at ≡ r → step_of G number r ≡ Ok None → Gone G num s start L 0 at
+          go (Err m) h q = cc
+          go (Ok r) h q = pick r h (G.pick r) refl q
+
+      judged-stop : (k : ℕ) (x : A) (m : ℕ) → judged_step k x ≡ Err m → (k ≡ m) × (m ≡ 0 → ⊥)
+      judged-stop zero x m e = cc
       judged-stop (suc k) x m e = let q : suc k ≡ m = cc in (q, λ z. omega arith)
 
-      -- the reading stops
-      pub going-stop : (k : ℕ) → step_of G number (record_at s at) ≡ stop k → Gone G num s start L k at
+      -- one that is refused, or that cannot be read
+      pub going-stop : (k : ℕ) → step_of G number (record_at s at) ≡ Err k → Refused G num s start L k
       going-stop k e = go (record_at s at) refl e
         where
-          pick : (r : Record) → record_at s at ≡ a.Read r → (o : Option A) → G.pick r ≡ o → picked_step number o ≡ stop k → Gone G num s start L k at
-          pick r h absent p q =
-              let z : 0 ≡ k = cc in
-              subst (λ (n : ℕ). Gone G num s start L n at) z
-              (gone-other g (λ x w. let v : r ≡ G.wrap x = read_same (sym h ∙ w) in none-some (sym p ∙ (ap G.pick v ∙ l.wrapped x))))
-          pick r h (some y) p q =
+          pick : (r : Record) → record_at s at ≡ Ok r → (o : Option A) → G.pick r ≡ o → picked_step number o ≡ Err k → Refused G num s start L k
+          pick r h None p q = cc
+          pick r h (Some y) p q =
               let t = judged-stop (number y) y k q in
-              gone-judged l y (h ∙ ap a.Read (l.picked r y p)) k (resized y k t.0) t.1
+              record { at = at; gone = gone-judged l y (h ∙ ap Ok (l.picked r y p)) k (resized y k t.0) t.1; some = t.1 }
 
-          go : (r : RecordAnswer) → record_at s at ≡ r → step_of G number r ≡ stop k → Gone G num s start L k at
-          go (a.Refused m) h q = let z : m ≡ k = cc in gone-refused k (some-refusal k (record-refusal s at k (h ∙ ap a.Refused z))) (h ∙ ap a.Refused z)
-          go (a.Read r) h q = pick r h (G.pick r) refl q
+          go : (r : Result Record ℕ) → record_at s at ≡ r → step_of G number r ≡ Err k → Refused G num s start L k
+          go (Err m) h q =
+              let z : m ≡ k = cc in
+              let o = some-refusal k (record-refusal s at k (h ∙ ap Err z)) in
+              record { at = at; gone = gone-refused k o (h ∙ ap Err z); some = o }
+          go (Ok r) h q = pick r h (G.pick r) refl q

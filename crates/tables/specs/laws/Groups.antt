@@ -1,7 +1,6 @@
 -- The commands of the tables as groups: names, the credentials of each storage, sensitive roles and AC records. Assumes nothing.
-use Rattle.std.specs.Prelude.{ℕ, ◌≡◌, refl, Bool, true, false, cond, ◌&&◌, ltb}
+use Rattle.std.specs.Prelude.{ℕ, ◌≡◌, refl, Bool, true, false, cond, ◌&&◌, ltb, Option, Some, None}
 use Rattle.std.proofs.Common.{ap}
-use Rattle.std.proofs.Math.Option.{Option, none as absent, some}
 use Rattle.numbers.specs.Sizes.{MOST-NAMES, MOST-STORED, MOST-SENSITIVE, MOST-ACCESS}
 use Rattle.expression.specs.declared.Credential.{Credential}
 use Rattle.expression.specs.Form.{ascends}
@@ -19,28 +18,28 @@ use Rattle.tables.specs.laws.Group.{Group, Lawful, none-some}
 -- The groups
 
 abbrev pub pick_name : Record → Option Name
-pick_name (Own e) = absent
-pick_name (Named n) = some n
-pick_name (IssuerStored c) = absent
-pick_name (SubjectStored c) = absent
-pick_name (Sensitive p) = absent
-pick_name (Access p) = absent
+pick_name (Own e) = None
+pick_name (Named n) = Some n
+pick_name (IssuerStored c) = None
+pick_name (SubjectStored c) = None
+pick_name (Sensitive p) = None
+pick_name (Access p) = None
 
 abbrev pub pick_stored : Bool → Record → Option Credential
-pick_stored subject (Own e) = absent
-pick_stored subject (Named n) = absent
-pick_stored subject (IssuerStored c) = cond subject absent (some c)
-pick_stored subject (SubjectStored c) = cond subject (some c) absent
-pick_stored subject (Sensitive p) = absent
-pick_stored subject (Access p) = absent
+pick_stored subject (Own e) = None
+pick_stored subject (Named n) = None
+pick_stored subject (IssuerStored c) = cond subject None (Some c)
+pick_stored subject (SubjectStored c) = cond subject (Some c) None
+pick_stored subject (Sensitive p) = None
+pick_stored subject (Access p) = None
 
 abbrev pub pick_pair : Bool → Record → Option Pair
-pick_pair access (Own e) = absent
-pick_pair access (Named n) = absent
-pick_pair access (IssuerStored c) = absent
-pick_pair access (SubjectStored c) = absent
-pick_pair access (Sensitive p) = cond access absent (some p)
-pick_pair access (Access p) = cond access (some p) absent
+pick_pair access (Own e) = None
+pick_pair access (Named n) = None
+pick_pair access (IssuerStored c) = None
+pick_pair access (SubjectStored c) = None
+pick_pair access (Sensitive p) = cond access None (Some p)
+pick_pair access (Access p) = cond access (Some p) None
 
 -- 0x11
 unfoldable pub names : Group Name
@@ -79,10 +78,10 @@ pairs access =
       size = 9;
     }
 
-same_some : {A : Type 0} {x y : A} → some x ≡ some y → x ≡ y
+same_some : {A : Type 0} {x y : A} → Some x ≡ Some y → x ≡ y
 same_some h = cc
 
-picked-name : (r : Record) (x : Name) → pick_name r ≡ some x → r ≡ Named x
+picked-name : (r : Record) (x : Name) → pick_name r ≡ Some x → r ≡ Named x
 picked-name (Own e) x h = absurd (none-some h)
 picked-name (Named n) x h = ap Named (same_some h)
 picked-name (IssuerStored c) x h = absurd (none-some h)
@@ -90,7 +89,7 @@ picked-name (SubjectStored c) x h = absurd (none-some h)
 picked-name (Sensitive p) x h = absurd (none-some h)
 picked-name (Access p) x h = absurd (none-some h)
 
-picked-stored : (b : Bool) (r : Record) (x : Credential) → pick_stored b r ≡ some x → r ≡ stored b x
+picked-stored : (b : Bool) (r : Record) (x : Credential) → pick_stored b r ≡ Some x → r ≡ stored b x
 picked-stored b (Own e) x h = absurd (none-some h)
 picked-stored b (Named n) x h = absurd (none-some h)
 picked-stored true (IssuerStored c) x h = absurd (none-some h)
@@ -100,7 +99,7 @@ picked-stored false (SubjectStored c) x h = absurd (none-some h)
 picked-stored b (Sensitive p) x h = absurd (none-some h)
 picked-stored b (Access p) x h = absurd (none-some h)
 
-picked_pair : (b : Bool) (r : Record) (x : Pair) → pick_pair b r ≡ some x → r ≡ paired b x
+picked_pair : (b : Bool) (r : Record) (x : Pair) → pick_pair b r ≡ Some x → r ≡ paired b x
 picked_pair b (Own e) x h = absurd (none-some h)
 picked_pair b (Named n) x h = absurd (none-some h)
 picked_pair b (IssuerStored c) x h = absurd (none-some h)

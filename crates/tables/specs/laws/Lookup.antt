@@ -1,5 +1,5 @@
 -- What a look-up finds, by the first index that passes its test. Assumes nothing.
-use Rattle.std.specs.Prelude.{ℕ, zero, suc, ◌+◌, ◌≤◌, ◌<◌, ◌≡◌, refl, Bool, true, false, cond, not, ◌&&◌, ◌||◌, List, [], ◌∷◌, eqb}
+use Rattle.std.specs.Prelude.{ℕ, zero, suc, ◌+◌, ◌≤◌, ◌<◌, ◌≡◌, refl, Bool, true, false, cond, not, ◌&&◌, ◌||◌, List, [], ◌∷◌, eqb, Some, None, is_some}
 use Rattle.std.proofs.Math.Path.{sym, ap}
 use Rattle.std.proofs.Common.{◌∙◌, arith, eqb-true, add-one}
 use Rattle.std.proofs.lemmas.Bool.{eqb-false}
@@ -11,8 +11,6 @@ use Rattle.rt0.specs.Pool.{up_to}
 use Rattle.rt0.specs.laws.Find.{Missed, missed_more, missed-fewer, first-at, first-none, any-first, any-more}
 use Rattle.record.specs.declared.Pair.{Pair}
 use Rattle.tables.specs.declared.Pairs.{Pairs}
-use Rattle.tables.specs.declared.RoleAnswer.{RoleAnswer}
-use Rattle.tables.specs.declared.RoleAnswer.TheVariants.{Found, Absent}
 use Rattle.tables.specs.laws.Tables.{pair_at, pairs_of}
 use Rattle.tables.specs.Lookup.{is_sensitive, other_of}
 
@@ -64,31 +62,17 @@ module _ (P : Pairs) (r : Role) {j : ℕ} {p : Pair} {b : Bool} where
   missed-pair h q e m = missed_more h (e ∙ ap (is_of r) q) m
 
   -- pair j is the first one of r
-  pub other_at : Missed (is_of r) (pair_at P) j → j < P.count → p ≡ pair_at P j → b ≡ same_role p.role r → b ≡ true → Found p.other ≡ other_of (pairs_of P) r
+  pub other_at : Missed (is_of r) (pair_at P) j → j < P.count → p ≡ pair_at P j → b ≡ same_role p.role r → b ≡ true → Some p.other ≡ other_of (pairs_of P) r
   unfolding other_of pairs_of
   other_at h l q e m =
-      ap (λ (x : Pair). Found x.other) q ∙ sym (first-at (λ (x : Pair). Found x.other) Absent P.count h l (sym (e ∙ ap (is_of r) q) ∙ m))
+      ap (λ (x : Pair). Some x.other) q ∙ sym (first-at (λ (x : Pair). Some x.other) None P.count h l (sym (e ∙ ap (is_of r) q) ∙ m))
 
 -- no pair is that of r
-pub other_none : (P : Pairs) (r : Role) {j : ℕ} → Missed (is_of r) (pair_at P) j → P.count ≤ j → Absent ≡ other_of (pairs_of P) r
+pub other_none : (P : Pairs) (r : Role) {j : ℕ} → Missed (is_of r) (pair_at P) j → P.count ≤ j → None ≡ other_of (pairs_of P) r
 unfolding other_of pairs_of
-other_none P r h l = sym (first-none (λ (x : Pair). Found x.other) Absent P.count (missed-fewer h l))
-
--- whether a look-up finds a role
-abbrev is_found : RoleAnswer → Bool
-is_found (Found q) = true
-is_found Absent = false
+other_none P r h l = sym (first-none (λ (x : Pair). Some x.other) None P.count (missed-fewer h l))
 
 -- a role is sensitive where its Ack role is found
-found-sensitive : (P : List Pair) (r : Role) → is_found (other_of P r) ≡ is_sensitive P r
+pub found-sensitive : (P : List Pair) (r : Role) → is_some (other_of P r) ≡ is_sensitive P r
 unfolding other_of is_sensitive
-found-sensitive P r = first-image is_found (is_of r) (λ p. Found p.other) Absent P ∙ sym (any-first (is_of r) P)
-
-module _ (P : List Pair) (r : Role) {a : RoleAnswer} where
-  -- an Ack role is found
-  pub sensitive-yes : {q : Role} → a ≡ other_of P r → a ≡ Found q → true ≡ is_sensitive P r
-  sensitive-yes e f = ap is_found (sym f ∙ e) ∙ found-sensitive P r
-
-  -- none is found
-  pub sensitive-not : a ≡ other_of P r → a ≡ Absent → false ≡ is_sensitive P r
-  sensitive-not e f = ap is_found (sym f ∙ e) ∙ found-sensitive P r
+found-sensitive P r = first-image is_some (is_of r) (λ p. Some p.other) None P ∙ sym (any-first (is_of r) P)

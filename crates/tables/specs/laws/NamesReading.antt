@@ -1,5 +1,5 @@
 -- The names read so far, in columns. Assumes nothing.
-use Rattle.std.specs.Prelude.{ℕ, zero, suc, ◌+◌, ◌<◌, ◌≤◌, ◌≡◌, refl, Bool, true, false, ltb, eqb, length, get_or}
+use Rattle.std.specs.Prelude.{ℕ, zero, suc, ◌+◌, ◌<◌, ◌≤◌, ◌≡◌, refl, Bool, true, false, ltb, eqb, length, get_or, Option, Some, None, Result, Ok, Err}
 use Rattle.std.proofs.Math.Path.{sym, ap, subst}
 use Rattle.std.proofs.Common.{◌∙◌, arith, ltb-true, eqb-true}
 use mathlib.Core.List.{List, []}
@@ -12,12 +12,10 @@ use Rattle.class.specs.declared.Name.{Name}
 use Rattle.class.specs.declared.Names.{Names}
 use Rattle.class.specs.laws.Names.{name_at, names_of, Ascending}
 use Rattle.record.specs.Record.{record_at}
-use Rattle.tables.specs.declared.NameStep.{NameStep}
-use Rattle.tables.specs.declared.NameStep.TheVariants as y
-use Rattle.tables.specs.laws.Group.{Going, number_behind, step_of, going_start, going_next, going-above, going-stop, gone-past, all_append}
+use Rattle.tables.specs.laws.Group.{Going, number_behind, step_of, going_start, going_next, going-above, going-other, going-stop, all_append}
 use Rattle.tables.specs.laws.Groups.{names, names-lawful}
-use Rattle.tables.specs.laws.Columns.{NamesSized, NamesStored, names-length}
-use Rattle.tables.specs.laws.Reading.{name_step, no_number, NamesGone}
+use Rattle.tables.specs.laws.Columns.{NamesStored, names-length}
+use Rattle.tables.specs.laws.Reading.{no_number, NamesGone}
 
 -- what holds of all of a list from columns holds at each index
 all-at : {A : Type 0} (t : A → Bool) (n : ℕ) (g : ℕ → A) → all t (up_to n g) ≡ true → (i : ℕ) → i < n → t (g i) ≡ true
@@ -52,48 +50,45 @@ ascending-add N M x h z u = record { less = λ i j l k. go i j l k (eqb j N.coun
 pub record ReadingNames (s : List ℕ) (start : ℕ) (N : Names) (last : Name) (at : ℕ) : Type 0 where
   pub going : Going names no_number s start (names_of N) last at
   pub ascending : Ascending N.count N.name
-  pub sized : NamesSized N
 
-pub reading-start : (s : List ℕ) (start : ℕ) (N : Names) (last : Name) → N.count ≡ 0 → names_of N ≡ [] → NamesSized N → ReadingNames s start N last start
-reading-start s start N last e h z =
+pub reading-start : (s : List ℕ) (start : ℕ) (N : Names) (last : Name) → names_of N ≡ [] → ReadingNames s start N last start
+reading-start s start N last h =
     record {
-      going = going-empty;
-      ascending = record { less = λ i j l k. absurd (omega arith) };
-      sized = z;
+      going = subst (λ (L : List Name). Going names no_number s start L last start) (sym h) (going_start last);
+      ascending = record { less = λ i j l k. absurd (omega (arith, ap length h, names-length N)) };
     }
-  where
-    going-empty : Going names no_number s start (names_of N) last start
-    going-empty = subst (λ (L : List Name). Going names no_number s start L last start) (sym h) (going_start last)
 
 module _ {s : List ℕ} {start : ℕ} {N : Names} {last : Name} {at : ℕ} (r : ReadingNames s start N last at) where
-  -- no byte is left
-  pub names-past : length s ≤ at → NamesGone s start (record { refusal = 0; at = at; count = N.count }) N
-  names-past h = record { gone = gone-past r.going h; ascending = r.ascending }
-
-  module _ (more : at < length s) {x : NameStep} (h : name_step x ≡ step_of names (number_behind names no_number N.count last) (record_at s at)) where
+  module _ (more : at < length s) {x : Result (Option Name) ℕ} (h : x ≡ step_of names (number_behind names no_number N.count last) (record_at s at)) where
     -- a name is taken
-    pub names-room : (n : Name) → x ≡ y.Taken n → N.count < 64
+    pub names-room : (n : Name) → x ≡ Ok (Some n) → N.count < 64
     unfolding names
-    names-room n e = (going-above r.going more names-lawful N.count (names-length N) n (sym h ∙ ap name_step e)).1
+    names-room n e = (going-above r.going more names-lawful N.count (names-length N) n (sym h ∙ e)).1
 
-    pub names-next : (n : Name) → x ≡ y.Taken n → {M : Names} → M.count ≡ N.count + 1 → NamesStored n N M → ReadingNames s start M n (at + 4)
+    pub names-next : (n : Name) → x ≡ Ok (Some n) → {M : Names} → NamesStored n N M → ReadingNames s start M n (at + 4)
     unfolding names
-    names-next n e {M} c z =
-        let step = sym h ∙ ap name_step e in
+    names-next n e {M} z =
+        let step = sym h ∙ e in
         record {
           going =
               subst (λ (L : List Name). Going names no_number s start L n (at + 4)) (sym z.all)
               (going_next r.going more names-lawful N.count (names-length N) n step);
           ascending =
-              subst (λ (k : ℕ). Ascending k M.name) (sym c)
+              subst (λ (k : ℕ). Ascending k M.name) (sym z.counted)
               (ascending-add N M n r.ascending z (going-above r.going more names-lawful N.count (names-length N) n step).0);
-          sized = z.sized;
         }
 
-    -- the reading of names stops
-    pub names-stop : (k : ℕ) → x ≡ y.Stop k → NamesGone s start (record { refusal = k; at = at; count = N.count }) N
+    -- the record of another command stands there
+    pub names-other : x ≡ Ok None → NamesGone s start (Ok at) N
+    names-other e = record {
+      gone = going-other r.going more names-lawful N.count (names-length N) (sym h ∙ e);
+      ascending = r.ascending;
+    }
+
+    -- a name is refused
+    pub names-stop : (k : ℕ) → x ≡ Err k → NamesGone s start (Err k) N
     names-stop k e = record {
-      gone = going-stop r.going more names-lawful N.count (names-length N) k (sym h ∙ ap name_step e);
+      gone = going-stop r.going more names-lawful N.count (names-length N) k (sym h ∙ e);
       ascending = r.ascending;
     }
 

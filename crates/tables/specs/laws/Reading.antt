@@ -1,5 +1,6 @@
 -- What each part of the reading gives: the records of one command, and how the reading goes on behind them. Assumes nothing.
-use Rattle.std.specs.Prelude.{ℕ, Bool, List, []}
+use Rattle.std.specs.Prelude.{ℕ, ◌≤◌, Bool, List, [], Result}
+use Rattle.numbers.specs.Sizes.{MOST-NAMES, MOST-SENSITIVE}
 use Rattle.expression.specs.declared.Credential.{Credential}
 use Rattle.rt0.specs.declared.Pool.{Pool}
 use Rattle.rt0.specs.laws.Pool.{credentials}
@@ -7,32 +8,13 @@ use Rattle.class.specs.declared.Name.{Name}
 use Rattle.class.specs.declared.Names.{Names}
 use Rattle.class.specs.laws.Names.{names_of, Ascending}
 use Rattle.record.specs.declared.Pair.{Pair}
-use Rattle.tables.specs.declared.NameStep.{NameStep}
-use Rattle.tables.specs.declared.NameStep.TheVariants as n
-use Rattle.tables.specs.declared.StoredStep.{StoredStep}
-use Rattle.tables.specs.declared.StoredStep.TheVariants as c
-use Rattle.tables.specs.declared.PairStep.{PairStep}
-use Rattle.tables.specs.declared.PairStep.TheVariants as p
-use Rattle.tables.specs.declared.Reached.{Reached}
+use Rattle.tables.specs.declared.House.{House}
 use Rattle.tables.specs.declared.Pairs.{Pairs}
 use Rattle.tables.specs.Tables.{Tables}
 use Rattle.tables.specs.laws.Tables.{pairs_of}
 use Rattle.tables.specs.Check.{stored_number, pair_number}
-use Rattle.tables.specs.laws.Group.{Step, taken, stop, Gone}
+use Rattle.tables.specs.laws.Group.{Ends}
 use Rattle.tables.specs.laws.Groups.{names, credentials_of, pairs}
-
--- the steps of the code, case by case
-abbrev pub name_step : NameStep → Step Name
-name_step (n.Taken x) = taken x
-name_step (n.Stop k) = stop k
-
-abbrev pub stored_step : StoredStep → Step Credential
-stored_step (c.Taken x) = taken x
-stored_step (c.Stop k) = stop k
-
-abbrev pub pair_step : PairStep → Step Pair
-pair_step (p.Taken x) = taken x
-pair_step (p.Stop k) = stop k
 
 -- a name earns neither 4 nor 5
 abbrev pub no_number : Name → ℕ
@@ -42,15 +24,26 @@ no_number x = 0
 abbrev pub tables_for : ℕ → List Name → List Credential → List Pair → Tables
 tables_for own ns C P = record { own = own; names = ns; issuer_stored = []; subject_stored = C; sensitive = P; access = [] }
 
+-- those of a house
+abbrev pub judged_by : House → Tables
+judged_by H = tables_for H.own (names_of H.names) (credentials H.subject) (pairs_of H.sensitive)
+
+-- what a house has where pairs are judged by it
+pub record Judging (H : House) : Type 0 where
+  pub names : H.names.count ≤ MOST-NAMES
+  pub ascending : Ascending H.names.count H.names.name
+  pub subject : H.subject.count ≤ 128
+  pub sensitive : H.sensitive.count ≤ MOST-SENSITIVE
+
 -- the names from an index on
-pub record NamesGone (s : List ℕ) (start : ℕ) (r : Reached) (N : Names) : Type 0 where
-  pub gone : Gone names no_number s start (names_of N) r.refusal r.at
+pub record NamesGone (s : List ℕ) (start : ℕ) (r : Result ℕ ℕ) (N : Names) : Type 0 where
+  pub gone : Ends names no_number s start (names_of N) r
   pub ascending : Ascending N.count N.name
 
 -- the credentials of a storage
-abbrev pub StoredGone : List Name → Bool → List ℕ → ℕ → Reached → Pool → Type 0
-StoredGone ns subject s start r P = Gone (credentials_of subject) (stored_number ns subject) s start (credentials P) r.refusal r.at
+abbrev pub StoredGone : List Name → Bool → List ℕ → ℕ → Result ℕ ℕ → Pool → Type 0
+StoredGone ns subject s start r P = Ends (credentials_of subject) (stored_number ns subject) s start (credentials P) r
 
 -- the sensitive roles, or the AC records
-abbrev pub PairsGone : Tables → Bool → List ℕ → ℕ → Reached → Pairs → Type 0
-PairsGone U access s start r P = Gone (pairs access) (pair_number access U) s start (pairs_of P) r.refusal r.at
+abbrev pub PairsGone : Tables → Bool → List ℕ → ℕ → Result ℕ ℕ → Pairs → Type 0
+PairsGone U access s start r P = Ends (pairs access) (pair_number access U) s start (pairs_of P) r

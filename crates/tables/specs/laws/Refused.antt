@@ -1,12 +1,10 @@
 -- Tables are accepted exactly where all their records keep the rules, and refused exactly for the first that does not. Assumes nothing.
-use Rattle.std.specs.Prelude.{ℕ, zero, suc, ◌+◌, ◌<◌, ◌≤◌, ◌≡◌, ◌↔◌, Bool, List, ltb, leb, length, get_or}
+use Rattle.std.specs.Prelude.{ℕ, zero, suc, ◌+◌, ◌<◌, ◌≤◌, ◌≡◌, ◌↔◌, Bool, List, ltb, leb, length, get_or, Result, Ok, Err}
 use Rattle.std.proofs.Common.{arith, sym, ◌∙◌, subst, ⊎_elim, lt-ltb, ltb-true, ltb-false, le-leb, leb-true}
 use Rattle.std.proofs.Math.Path.{refl, ap}
 use Rattle.std.proofs.Math.Bool.{true, false, cond}
 use Rattle.word.specs.laws.Bools.{false-true, and_parts, and_both}
 use Rattle.record.specs.declared.Record.{Record}
-use Rattle.record.specs.declared.RecordAnswer.{RecordAnswer}
-use Rattle.record.specs.declared.RecordAnswer.TheVariants as a
 use Rattle.record.specs.Record.{record_at, size_of}
 use Rattle.record.specs.Unreadable.{cut, malformed}
 use Rattle.record.specs.laws.RecordExact.{some_size, record-room}
@@ -44,10 +42,10 @@ module _ (s : List ℕ) (bytes : (i : ℕ) → get_or s i 0 < 256) where
   module _ (inside : Sized (length s)) where
     record-says : (at : ℕ) (T : Tables) → at < length s → Reads s at T
         → ((r : Record) → at + size_of r ≤ length s → Reads s (at + size_of r) (added T r) → Says (read_from s (at + size_of r) (added T r)))
-        → (x : RecordAnswer) → record_at s at ≡ x → Says (read_from s at T)
-    record-says at T more w again (a.Refused k) h =
+        → (x : Result Record ℕ) → record_at s at ≡ x → Says (read_from s at T)
+    record-says at T more w again (Err k) h =
         subst Says (sym (from-refused s at T more k h)) (stopped inside w more (unreadable ((unreadable-exactly s at bytes k).0 h)))
-    record-says at T more w again (a.Read r) h =
+    record-says at T more w again (Ok r) h =
         let there = (stands-exactly s at bytes r).0 h in
         ⊎_elim (λ f. subst Says (sym (from-judged s at T more r 0 h ((fit-exactly T r).1 f))) (again r (record-room s at r more h) (next w there f)))
         (λ b. subst Says (sym (from-judged s at T more r (judge T r) h refl ∙ judged-refused (judge T r) _ (breaks-some T r b)))

@@ -1,31 +1,25 @@
 -- The credentials of a storage read so far, in columns. Assumes nothing.
-use Rattle.std.specs.Prelude.{ℕ, ◌+◌, ◌<◌, ◌≤◌, ◌≡◌, refl, Bool, true, false, cond, ◌||◌, eqb, length}
+use Rattle.std.specs.Prelude.{ℕ, ◌+◌, ◌<◌, ◌≤◌, ◌≡◌, refl, Bool, true, false, cond, ◌||◌, eqb, length, Option, Some, None, Result, Ok, Err}
 use Rattle.std.proofs.Common.{sym, ◌∙◌, arith, eqb-true}
 use Rattle.std.proofs.Math.Path.{ap, subst}
-use mathlib.Core.List.{List, []}
+use mathlib.Core.List.{List, [], ◌∷◌, ◌++◌}
 use Rattle.numbers.specs.Sizes.{MOST-STORED}
 use Rattle.numbers.specs.Refusals.{OPERAND}
 use Rattle.expression.specs.declared.Credential.{Credential}
-use Rattle.expression.specs.declared.CredentialAnswer.{CredentialAnswer}
-use Rattle.expression.specs.declared.CredentialAnswer.TheVariants as answer
 use Rattle.expression.specs.Order.{before_credential}
 use Rattle.rt0.specs.declared.Pool.{Pool}
 use Rattle.rt0.specs.laws.Pool.{credentials}
-use Rattle.rt0.specs.laws.Added.{Sized, Stored, count-length}
+use Rattle.rt0.specs.laws.Added.{count-length}
 use Rattle.class.specs.declared.Name.{Name}
 use Rattle.class.specs.Names.{class_of}
 use Rattle.class.specs.Typing.{credential_number}
 use Rattle.record.specs.declared.Record.{Record}
-use Rattle.record.specs.declared.RecordAnswer.{RecordAnswer}
-use Rattle.record.specs.declared.RecordAnswer.TheVariants as a
 use Rattle.record.specs.Record.{record_at, stored_of}
-use Rattle.tables.specs.declared.StoredStep.{StoredStep}
-use Rattle.tables.specs.declared.StoredStep.TheVariants as y
 use Rattle.tables.specs.Check.{or_else, suits_storage, stored_number}
-use Rattle.tables.specs.laws.Group.{rising, behind, Step, taken, stop, picked_step, step_of, Going, number_behind}
-use Rattle.tables.specs.laws.Group.{going_start, going_next, going-above, going-stop, gone-past}
-use Rattle.tables.specs.laws.Groups.{credentials_of, credentials-lawful, pick_stored}
-use Rattle.tables.specs.laws.Reading.{stored_step, StoredGone}
+use Rattle.tables.specs.laws.Group.{rising, behind, Step, step_of, Going, number_behind}
+use Rattle.tables.specs.laws.Group.{going_next, going-above, going-other, going-stop}
+use Rattle.tables.specs.laws.Groups.{credentials_of, credentials-lawful}
+use Rattle.tables.specs.laws.Reading.{StoredGone}
 
 or_else_none : (k : ℕ) → k ≡ or_else k 0
 or_else_none k = go (eqb k 0) refl
@@ -54,66 +48,48 @@ pub stored-behind : (ns : List Name) (subject : Bool) (count : ℕ) (last c : Cr
 unfolding behind credentials_of
 stored-behind ns subject count last c h n q e = e ∙ (λ i. or_else (n i) ((q ∙ ap (λ (u : Bool). rising (eqb count 0 || u) count MOST-STORED) h) i))
 
--- a record that was read, where a credential of the storage may stand
-pub stored-picked : (subject : Bool) {x t : RecordAnswer} (r : Record) {z : Step Credential} → x ≡ t → x ≡ a.Read r
-    → z ≡ picked_step (λ c. 0) (pick_stored subject r) → z ≡ step_of (credentials_of subject) (λ c. 0) t
-unfolding credentials_of
-stored-picked subject r h q e = e ∙ ap (step_of (credentials_of subject) (λ c. 0)) (sym q ∙ h)
-
 -- a credential that was read without the record around it, or not
-abbrev pub answer_step : CredentialAnswer → Step Credential
-answer_step (answer.Read c) = taken c
-answer_step answer.Wrong = stop OPERAND
+abbrev pub answer_step : Option Credential → Step Credential
+answer_step (Some c) = Ok (Some c)
+answer_step None = Err OPERAND
 
-pub stored-read : (subject : Bool) (r : CredentialAnswer) (t : RecordAnswer) → t ≡ stored_of subject r
+pub stored-read : (subject : Bool) (r : Option Credential) (t : Result Record ℕ) → t ≡ stored_of subject r
     → answer_step r ≡ step_of (credentials_of subject) (λ c. 0) t
 unfolding credentials_of
 stored-read subject r t h = go subject r ∙ ap (step_of (credentials_of subject) (λ c. 0)) (sym h)
   where
-    go : (b : Bool) (x : CredentialAnswer) → answer_step x ≡ step_of (credentials_of b) (λ c. 0) (stored_of b x)
-    go true (answer.Read c) = refl
-    go false (answer.Read c) = refl
-    go true answer.Wrong = refl
-    go false answer.Wrong = refl
+    go : (b : Bool) (x : Option Credential) → answer_step x ≡ step_of (credentials_of b) (λ c. 0) (stored_of b x)
+    go true (Some c) = refl
+    go false (Some c) = refl
+    go true None = refl
+    go false None = refl
 
 -- the credentials between two indices stand in the pool
-pub record ReadingStored (ns : List Name) (subject : Bool) (s : List ℕ) (start : ℕ) (P : Pool) (last : Credential) (at : ℕ) : Type 0 where
-  pub going : Going (credentials_of subject) (stored_number ns subject) s start (credentials P) last at
-  pub sized : Sized P
+abbrev pub ReadingStored : List Name → Bool → List ℕ → ℕ → Pool → Credential → ℕ → Type 0
+ReadingStored ns subject s start P last at = Going (credentials_of subject) (stored_number ns subject) s start (credentials P) last at
 
-pub stored-start : (ns : List Name) (subject : Bool) (s : List ℕ) (start : ℕ) (P : Pool) (last : Credential) → credentials P ≡ [] → Sized P
-    → ReadingStored ns subject s start P last start
-stored-start ns subject s start P last h z =
-    record {
-      going = subst (λ (L : List Credential). Going (credentials_of subject) (stored_number ns subject) s start L last start) (sym h) (going_start last);
-      sized = z;
-    }
-
-module _ {ns : List Name} {subject : Bool} {s : List ℕ} {start : ℕ} {P : Pool} {last : Credential} {at : ℕ}
+module _ (ns : List Name) (subject : Bool) {s : List ℕ} {start : ℕ} (P : Pool) {last : Credential} {at : ℕ}
     (r : ReadingStored ns subject s start P last at) where
-  -- no byte is left
-  pub stored_past : length s ≤ at → StoredGone ns subject s start (record { refusal = 0; at = at; count = P.count }) P
-  stored_past h = gone-past r.going h
-
-  module _ (more : at < length s) {x : StoredStep}
-      (h : stored_step x ≡ step_of (credentials_of subject) (number_behind (credentials_of subject) (stored_number ns subject) P.count last) (record_at s at)) where
+  module _ (more : at < length s) {x : Result (Option Credential) ℕ}
+      (h : x ≡ step_of (credentials_of subject) (number_behind (credentials_of subject) (stored_number ns subject) P.count last) (record_at s at)) where
     -- a credential is taken
-    pub stored-room : (c : Credential) → x ≡ y.Taken c → P.count < MOST-STORED
+    pub stored-room : (c : Credential) → x ≡ Ok (Some c) → P.count < MOST-STORED
     unfolding credentials_of
-    stored-room c e = (going-above r.going more (credentials-lawful subject) P.count (count-length P) c (sym h ∙ ap stored_step e)).1
+    stored-room c e = (going-above r more (credentials-lawful subject) P.count (count-length P) c (sym h ∙ e)).1
 
-    pub stored_next : (c : Credential) → x ≡ y.Taken c → {i : ℕ} {Q : Pool} → Stored i c P Q → ReadingStored ns subject s start Q c (at + 23)
+    pub stored_next : (c : Credential) → x ≡ Ok (Some c) → (Q : Pool) → credentials Q ≡ credentials P ++ (c ∷ []) → ReadingStored ns subject s start Q c (at + 23)
     unfolding credentials_of
-    stored_next c e z =
-        record {
-          going = subst (λ (L : List Credential). Going (credentials_of subject) (stored_number ns subject) s start L c (at + 23)) (sym z.all)
-              (going_next r.going more (credentials-lawful subject) P.count (count-length P) c (sym h ∙ ap stored_step e));
-          sized = z.sized;
-        }
+    stored_next c e Q z =
+        subst (λ (L : List Credential). Going (credentials_of subject) (stored_number ns subject) s start L c (at + 23)) (sym z)
+        (going_next r more (credentials-lawful subject) P.count (count-length P) c (sym h ∙ e))
 
-    -- the reading of credentials stops
-    pub stored-stop : (k : ℕ) → x ≡ y.Stop k → StoredGone ns subject s start (record { refusal = k; at = at; count = P.count }) P
-    stored-stop k e = going-stop r.going more (credentials-lawful subject) P.count (count-length P) k (sym h ∙ ap stored_step e)
+    -- the record of another command stands there
+    pub stored-other : x ≡ Ok None → StoredGone ns subject s start (Ok at) P
+    stored-other e = going-other r more (credentials-lawful subject) P.count (count-length P) (sym h ∙ e)
+
+    -- a credential is refused
+    pub stored-stop : (k : ℕ) → x ≡ Err k → StoredGone ns subject s start (Err k) P
+    stored-stop k e = going-stop r more (credentials-lawful subject) P.count (count-length P) k (sym h ∙ e)
 
 -- a pool counts its credentials
 pub stored-few : (P : Pool) → length (credentials P) ≤ MOST-STORED → P.count ≤ MOST-STORED

@@ -1,17 +1,14 @@
 -- The commands of a message, test by test. Assumes nothing.
 use Prim.Native.Nat.{ℕ, zero, suc, ◌+◌, ◌-◌, ◌≤◌, ◌<◌}
-use Rattle.std.specs.Prelude.{Bool, false, ◌||◌, not, List, eqb, ◌≡◌, ◌⊎◌, length}
+use Rattle.std.specs.Prelude.{Bool, false, ◌||◌, not, List, eqb, ◌≡◌, ◌⊎◌, length, Result, Ok, Err}
 use Rattle.std.proofs.Math.Bool.{true, cond}
 use Rattle.class.specs.declared.Name.{Name}
 use Rattle.message.specs.declared.Command.{Command}
-use Rattle.message.specs.declared.CommandAnswer.{CommandAnswer}
-use Rattle.message.specs.declared.CommandAnswer.TheVariants.{Read, Refused}
 use Rattle.message.specs.Command.{command_at, size_of}
 use Rattle.negotiation.specs.State.{State, within}
 use Rattle.negotiation.specs.laws.State.{state_of}
 use Rattle.reader.specs.laws.Position.{position_after}
 use Rattle.reader.specs.laws.PositionLaws.{position-read}
-use Rattle.take.specs.declared.Taking.{Taking}
 use Rattle.applied.specs.Step.{stepped, is_move, has_room}
 use Rattle.legal.specs.Number.{legal_number}
 use Rattle.std.proofs.Common.{arith, ◌∙◌, ⊎_elim, eq-eqb, ne_eqb, eqb-true}
@@ -21,7 +18,7 @@ use Rattle.word.specs.laws.Bools.{false-true}
 use Rattle.graph.specs.laws.Graph.{nodes_of}
 use Rattle.states.specs.laws.Brings.{NodesFormed}
 use Rattle.message.specs.laws.Command.{nothing, size-some}
-use Rattle.message.specs.laws.CommandExact.{command-formed, command-room, command-refusal}
+use Rattle.message.specs.laws.CommandExact.{command-formed, command-room}
 use Rattle.negotiation.specs.declared.Negotiation.{Negotiation}
 use Rattle.legal.specs.laws.Room.{legal-room, step-within}
 use Rattle.applied.specs.laws.StepFormed.{step-formed}
@@ -29,22 +26,23 @@ use Rattle.take.specs.Commands.{on_command, commands_from}
 use Rattle.message.specs.Message.{is_end}
 use Rattle.numbers.specs.Answer.{Answer, refused, accepted, judged}
 
--- what the code's answer is
-unfoldable pub taken_of : Taking → Answer (State × Bool)
-taken_of r = cond (eqb r.refusal 0) (accepted (state_of r.negotiation, r.moved)) (refused r.refusal)
+-- what the code's answer is, with the negotiation that it left
+unfoldable pub taken_of : Result Bool ℕ → Negotiation → Answer (State × Bool)
+taken_of (Ok moved) n = accepted (state_of n, moved)
+taken_of (Err k) n = refused k
 
 -- the number of a command that was not read
-abbrev pub refusal_of : CommandAnswer → ℕ
-refusal_of (Read c) = 0
-refusal_of (Refused k) = k
+abbrev pub refusal_of : Result Command ℕ → ℕ
+refusal_of (Ok c) = 0
+refusal_of (Err k) = k
 
--- an accepted message keeps the sizes, and its nodes have their forms
-pub record Room (r : Taking) : Type 0 where
-  pub sizes : r.refusal ≡ 0 → within (state_of r.negotiation) ≡ true
-  pub formed : r.refusal ≡ 0 → NodesFormed (nodes_of r.negotiation.nodes)
+-- a negotiation within the sizes, whose nodes have their forms
+pub record Room (n : Negotiation) : Type 0 where
+  pub sizes : within (state_of n) ≡ true
+  pub formed : NodesFormed (nodes_of n.nodes)
 
 -- fewer bytes are left behind it
-pub fewer-left : (m : List ℕ) (at : ℕ) {i : ℕ} {a : CommandAnswer} {c : Command} → a ≡ command_at m at → a ≡ Read c → i ≡ position_after m at
+pub fewer-left : (m : List ℕ) (at : ℕ) {i : ℕ} {a : Result Command ℕ} {c : Command} → a ≡ command_at m at → a ≡ Ok c → i ≡ position_after m at
     → length m - i < length m - at
 fewer-left m at {i} {a} {c} ae h ie = omega (arith, ie ∙ position-read m at (sym ae ∙ h), command-room m at c (sym ae ∙ h), size-some c)
 
@@ -64,45 +62,36 @@ module _ (ns : List Name) (s : ℕ) (m : List ℕ) where
       record { fuel = length m; enough = omega arith; same = ap (commands_from (length m) ns s m 0 (state_of n)) (sym e); sizes = w; formed = f }
 
   -- one command
-  one : (f at : ℕ) (S : State) (v : Bool) {a : CommandAnswer} → command_at m at ≡ a → 0 < f
+  one : (f at : ℕ) (S : State) (v : Bool) {a : Result Command ℕ} → command_at m at ≡ a → 0 < f
       → (g : ℕ) × (f ≡ suc g) × (commands_from f ns s m at S v ≡ on_command (λ size T w. commands_from g ns s m (at + size) T w) ns s S v a)
   unfolding commands_from
   one zero at S v e l = absurd (omega arith)
   one (suc g) at S v e l = (g, refl, ap (on_command (λ size T w. commands_from g ns s m (at + size) T w) ns s S v) e)
 
   module _ {S₀ : State} {n : Negotiation} {at : ℕ} {v : Bool} (r : Reading ns s m S₀ n at v) where
-    -- the answer is a refusal
-    answers-refused : (t : Taking) (k : ℕ) → t.refusal ≡ k → (k ≡ 0 → ⊥) → commands_from (length m) ns s m 0 S₀ false ≡ refused k
-        → (taken_of t ≡ commands_from (length m) ns s m 0 S₀ false) × Room t
-    unfolding taken_of
-    answers-refused t k e z q = (
-      ap (λ (b : Bool). cond b (accepted (state_of t.negotiation, t.moved)) (refused t.refusal)) (ne_eqb t.refusal 0 (λ w. z (sym e ∙ w)))
-          ∙ ap refused e ∙ sym q,
-      record { sizes = λ w. absurd (z (sym e ∙ w)); formed = λ w. absurd (z (sym e ∙ w)) },
-    )
-
-    past : (f : ℕ) → command_at m at ≡ Refused 2 → commands_from f ns s m at (state_of n) v ≡ refused 2
+    past : (f : ℕ) → command_at m at ≡ Err 2 → commands_from f ns s m at (state_of n) v ≡ refused 2
     unfolding commands_from
     past zero h = refl
     past (suc f) h = ap (on_command (λ size T w. commands_from f ns s m (at + size) T w) ns s (state_of n) v) h
 
     -- no command stands there, and no end has come
-    pub reading-past : (t : Taking) → length m ≤ at → t.refusal ≡ 2 → (taken_of t ≡ commands_from (length m) ns s m 0 S₀ false) × Room t
-    reading-past t l e = answers-refused t 2 e (λ z. omega arith) (r.same ∙ past r.fuel (sym (nothing m at l)))
+    pub reading-past : (n' : Negotiation) → length m ≤ at → taken_of (Err 2) n' ≡ commands_from (length m) ns s m 0 S₀ false
+    unfolding taken_of
+    reading-past n' l = sym (r.same ∙ past r.fuel (sym (nothing m at l)))
 
-    module _ (l : at < length m) {a : CommandAnswer} (ae : a ≡ command_at m at) where
+    module _ (l : at < length m) {a : Result Command ℕ} (ae : a ≡ command_at m at) where
       step-one : (g : ℕ) × (r.fuel ≡ suc g) × (commands_from r.fuel ns s m at (state_of n) v
           ≡ on_command (λ size T w. commands_from g ns s m (at + size) T w) ns s (state_of n) v a)
       step-one = one r.fuel at (state_of n) v (sym ae) (omega (arith, r.enough))
 
       -- a command that cannot be read
-      pub reading-unread : (t : Taking) {k j : ℕ} → a ≡ Refused k → j ≡ refusal_of a → t.refusal ≡ j
-          → (taken_of t ≡ commands_from (length m) ns s m 0 S₀ false) × Room t
-      reading-unread t {k} {j} h q e =
-          answers-refused t k (e ∙ q ∙ ap refusal_of h) (λ z. ⊎_elim (λ w. omega (arith, w)) (λ w. omega (arith, w)) (command-refusal m at k (sym ae ∙ h)))
-          (r.same ∙ step-one.2 ∙ ap (on_command (λ size T w. commands_from step-one.0 ns s m (at + size) T w) ns s (state_of n) v) h)
+      pub reading-unread : (n' : Negotiation) {k j : ℕ} → a ≡ Err k → j ≡ refusal_of a → taken_of (Err j) n' ≡ commands_from (length m) ns s m 0 S₀ false
+      unfolding taken_of
+      reading-unread n' h q =
+          ap refused (q ∙ ap refusal_of h)
+          ∙ sym (r.same ∙ step-one.2 ∙ ap (on_command (λ size T w. commands_from step-one.0 ns s m (at + size) T w) ns s (state_of n) v) h)
 
-      module _ {c : Command} (h : a ≡ Read c) {k : ℕ} (ke : k ≡ legal_number ns s (state_of n) c) where
+      module _ {c : Command} (h : a ≡ Ok c) {k : ℕ} (ke : k ≡ legal_number ns s (state_of n) c) where
         by_number : commands_from (length m) ns s m 0 S₀ false
             ≡ judged k (cond (is_end c) (accepted (state_of n, v)) (commands_from step-one.0 ns s m (at + size_of c) (stepped (state_of n) s c) (v || is_move c)))
         by_number =
@@ -115,8 +104,9 @@ module _ (ns : List Name) (s : ℕ) (m : List ℕ) where
         judged-refused (suc i) x z = refl
 
         -- one that is not legal
-        pub reading-illegal : (t : Taking) → (k ≡ 0 → ⊥) → t.refusal ≡ k → (taken_of t ≡ commands_from (length m) ns s m 0 S₀ false) × Room t
-        reading-illegal t z e = answers-refused t k e z (by_number ∙ judged-refused k _ z)
+        pub reading-illegal : (n' : Negotiation) → (k ≡ 0 → ⊥) → taken_of (Err k) n' ≡ commands_from (length m) ns s m 0 S₀ false
+        unfolding taken_of
+        reading-illegal n' z = sym (by_number ∙ judged-refused k _ z)
 
         module _ (z : k ≡ 0) {b : Bool} (be : b ≡ is_end c) where
           by_end : commands_from (length m) ns s m 0 S₀ false
@@ -128,20 +118,12 @@ module _ (ns : List Name) (s : ℕ) (m : List ℕ) where
               (commands_from step-one.0 ns s m (at + size_of c) (stepped (state_of n) s c) (v || is_move c))) (sym be)
 
           -- the end
-          pub reading-end : (t : Taking) → b ≡ true → t.refusal ≡ 0 → t.moved ≡ v → t.negotiation ≡ n
-              → (taken_of t ≡ commands_from (length m) ns s m 0 S₀ false) × Room t
+          pub reading-end : {w : Bool} → b ≡ true → w ≡ v → taken_of (Ok w) n ≡ commands_from (length m) ns s m 0 S₀ false
           unfolding taken_of
-          reading-end t q e w x = (
-            ap (λ (d : Bool). cond d (accepted (state_of t.negotiation, t.moved)) (refused t.refusal)) (eq-eqb t.refusal 0 e)
-                ∙ (λ i. accepted (state_of (x i), w i))
-                ∙ sym (by_end ∙ ap (λ (d : Bool). cond d (accepted (state_of n, v))
-                (commands_from step-one.0 ns s m (at + size_of c) (stepped (state_of n) s c) (v || is_move c))) q),
-            record {
-              sizes = λ y. subst (λ (g : Negotiation). within (state_of g) ≡ true) (sym x) r.sizes;
-              formed = λ y. subst
-                  (λ (g : Negotiation). NodesFormed (nodes_of g.nodes)) (sym x) r.formed;
-            },
-          )
+          reading-end q x =
+              (λ i. accepted (state_of n, x i))
+              ∙ sym (by_end ∙ ap (λ (d : Bool). cond d (accepted (state_of n, v))
+              (commands_from step-one.0 ns s m (at + size_of c) (stepped (state_of n) s c) (v || is_move c))) q)
 
           -- the next command
           pub reading-next : {n' : Negotiation} {v' : Bool} {i : ℕ} → b ≡ false → state_of n' ≡ stepped (state_of n) s c → v' ≡ (v || is_move c)
@@ -163,20 +145,3 @@ module _ (ns : List Name) (s : ℕ) (m : List ℕ) where
                 formed =
                     subst (λ (S : State). NodesFormed S.nodes) (sym e) (step-formed (state_of n) s c r.formed room (command-formed m at c (sym ae ∙ h)));
               }
-
-        -- one that is not legal, or the end
-        pub reading-stop : {b : Bool} → b ≡ is_end c → (t : Taking) → (not (eqb k 0) || b) ≡ true → t.refusal ≡ k → t.moved ≡ v → t.negotiation ≡ n
-            → (taken_of t ≡ commands_from (length m) ns s m 0 S₀ false) × Room t
-        reading-stop {b} be t z e w x = go (eqb k 0) refl z
-          where
-            go : (d : Bool) → eqb k 0 ≡ d → (not d || b) ≡ true → (taken_of t ≡ commands_from (length m) ns s m 0 S₀ false) × Room t
-            go true q y = reading-end (eqb-true k 0 q) be t y (e ∙ eqb-true k 0 q) w x
-            go false q y = reading-illegal t (eqb-false k 0 q) e
-
--- neither
-pub stop-left : (k : ℕ) (b : Bool) → (not (eqb k 0) || b) ≡ false → (k ≡ 0) × (b ≡ false)
-stop-left k b h = go (eqb k 0) refl h
-  where
-    go : (d : Bool) → eqb k 0 ≡ d → (not d || b) ≡ false → (k ≡ 0) × (b ≡ false)
-    go true q y = (eqb-true k 0 q, y)
-    go false q y = absurd (false-true (sym y))

@@ -1,7 +1,7 @@
 -- The commands of an accepted message keep the graph of a negotiation undamaged. Assumes nothing.
 use Prim.Native.Nat.{ℕ, zero, suc, ◌+◌}
 use Rattle.std.proofs.Common.{arith, sym, ◌∙◌, ap, eq-eqb}
-use Rattle.std.specs.Prelude.{◌≡◌, Bool, true, false, cond, ◌||◌, List, [], ◌∷◌, length}
+use Rattle.std.specs.Prelude.{◌≡◌, Bool, true, false, cond, ◌||◌, List, [], ◌∷◌, length, Result, Ok, Err}
 use Rattle.std.proofs.Math.Path.{refl, subst}
 use Rattle.std.proofs.Math.Bool.{or-true}
 use Rattle.std.proofs.Math.ListN.{length-append}
@@ -11,8 +11,6 @@ use Rattle.class.specs.Typing.{type_of, credential_number}
 use Rattle.message.specs.declared.Opening.{Opening}
 use Rattle.message.specs.declared.Command.{Command}
 use Rattle.message.specs.declared.Command.TheVariants.{Show, Open, Bring, Join, Mark, End}
-use Rattle.message.specs.declared.CommandAnswer.{CommandAnswer}
-use Rattle.message.specs.declared.CommandAnswer.TheVariants.{Read, Refused}
 use Rattle.message.specs.Command.{command_at, size_of}
 use Rattle.message.specs.laws.CommandExact.{command-formed}
 use Rattle.negotiation.specs.State.{State, within, with_node}
@@ -74,7 +72,7 @@ module _ (ns : List Name) (s : ℕ) (m : List ℕ) where
   -- one command, and those behind it
   module _ (f : ℕ) (T : State) (w : Bool) (next : Leads f T w) (at : ℕ) (S : State) (v : Bool) (g : GraphKept ns S) (some : length S.nodes ≡ 0 → ⊥)
       (wi : within S ≡ true) where
-    led-end : (c : Command) → command_at m at ≡ Read c → legal_number ns s S c ≡ 0 → (b : Bool)
+    led-end : (c : Command) → command_at m at ≡ Ok c → legal_number ns s S c ≡ 0 → (b : Bool)
         → cond b (accepted (S, v)) (commands_from f ns s m (at + size_of c) (stepped S s c) (v || is_move c)) ≡ accepted (T, w) → Led ns S v T w
     led-end c e l true q =
         let t : S ≡ T = ap (first_of S) q in
@@ -86,15 +84,15 @@ module _ (ns : List Name) (s : ℕ) (m : List ℕ) where
         (next (at + size_of c) (stepped S s c) (v || is_move c) (step_kept ns s S c g some (command-formed m at c e) l) (step-some S s c some)
         (step-within S wi s c (legal-room S ns s c l)) q)
 
-    led-number : (c : Command) → command_at m at ≡ Read c → (k : ℕ) → legal_number ns s S c ≡ k
+    led-number : (c : Command) → command_at m at ≡ Ok c → (k : ℕ) → legal_number ns s S c ≡ k
         → judged k (cond (is_end c) (accepted (S, v)) (commands_from f ns s m (at + size_of c) (stepped S s c) (v || is_move c))) ≡ accepted (T, w) → Led ns S v T w
     led-number c e zero l q = led-end c e l (is_end c) q
     led-number c e (suc k) l q = absurd (false-true (ap is_accepted q))
 
-    led-answer : (a : CommandAnswer) → command_at m at ≡ a → on_command (λ size U x. commands_from f ns s m (at + size) U x) ns s S v a ≡ accepted (T, w)
+    led-answer : (a : Result Command ℕ) → command_at m at ≡ a → on_command (λ size U x. commands_from f ns s m (at + size) U x) ns s S v a ≡ accepted (T, w)
         → Led ns S v T w
-    led-answer (Refused k) e q = absurd (false-true (ap is_accepted q))
-    led-answer (Read c) e q = led-number c e (legal_number ns s S c) refl q
+    led-answer (Err k) e q = absurd (false-true (ap is_accepted q))
+    led-answer (Ok c) e q = led-number c e (legal_number ns s S c) refl q
 
   pub commands-led : (f : ℕ) (T : State) (w : Bool) → Leads f T w
   unfolding commands_from
@@ -127,7 +125,7 @@ module _ (ns : List Name) (m : List ℕ) (S : State) (side : S.header.side ≡ 1
   -- what stands behind the first command
   abbrev Behind : ℕ → ℕ → Bool → State → Bool → Command → Type 0
   Behind f at v T w c =
-      command_at m at ≡ Read c → legal_number ns 0 S c ≡ 0
+      command_at m at ≡ Ok c → legal_number ns 0 S c ≡ 0
       → cond (is_end c) (accepted (S, v)) (commands_from f ns 0 m (at + size_of c) (stepped S 0 c) (v || is_move c)) ≡ accepted (T, w) → Led ns S v T w × (w ≡ true)
 
   behind-open : (f at : ℕ) (v : Bool) (T : State) (w : Bool) (o : Opening) → Behind f at v T w (Open o)
@@ -142,14 +140,14 @@ module _ (ns : List Name) (m : List ℕ) (S : State) (side : S.header.side ≡ 1
   opening-led zero at v T w h = absurd (false-true (ap is_accepted h))
   opening-led (suc f) at v T w h = by_answer (command_at m at) refl h
     where
-      by_number : (c : Command) → command_at m at ≡ Read c → (k : ℕ) → legal_number ns 0 S c ≡ k
+      by_number : (c : Command) → command_at m at ≡ Ok c → (k : ℕ) → legal_number ns 0 S c ≡ k
           → judged k (cond (is_end c) (accepted (S, v)) (commands_from f ns 0 m (at + size_of c) (stepped S 0 c) (v || is_move c))) ≡ accepted (T, w)
           → Led ns S v T w × (w ≡ true)
       by_number c e zero l q =
           let o = fresh-open ns 0 S (eq-eqb (length S.nodes) 0 no_Node) c l in subst (Behind f at v T w) (sym o.1) (behind-open f at v T w o.0) e l q
       by_number c e (suc k) l q = absurd (false-true (ap is_accepted q))
 
-      by_answer : (a : CommandAnswer) → command_at m at ≡ a
+      by_answer : (a : Result Command ℕ) → command_at m at ≡ a
           → on_command (λ size U x. commands_from f ns 0 m (at + size) U x) ns 0 S v a ≡ accepted (T, w) → Led ns S v T w × (w ≡ true)
-      by_answer (Refused k) e q = absurd (false-true (ap is_accepted q))
-      by_answer (Read c) e q = by_number c e (legal_number ns 0 S c) refl q
+      by_answer (Err k) e q = absurd (false-true (ap is_accepted q))
+      by_answer (Ok c) e q = by_number c e (legal_number ns 0 S c) refl q

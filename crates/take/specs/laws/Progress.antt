@@ -8,7 +8,6 @@ use Rattle.std.proofs.lemmas.Bool.{not-true, not-false}
 use Rattle.word.specs.laws.Bools.{false-true, or-neither}
 use Rattle.rt0.specs.declared.Pool.{Pool}
 use Rattle.rt0.specs.laws.Pool.{credentials}
-use Rattle.closure.specs.laws.Rules.{rules_of}
 use Rattle.graph.specs.declared.Node.{Node}
 use Rattle.graph.specs.declared.Edge.{Edge}
 use Rattle.graph.specs.laws.Graph.{nodes_of, edges_of}
@@ -19,7 +18,7 @@ use Rattle.negotiation.specs.declared.Negotiation.{Negotiation}
 use Rattle.negotiation.specs.State.{State, with_node, with_edge, with_mark}
 use Rattle.negotiation.specs.laws.State.{state_of}
 use Rattle.legal.specs.declared.Proved.{Proved}
-use Rattle.legal.specs.laws.Proved.{ProvedBy, proved-columns}
+use Rattle.legal.specs.laws.Proved.{ProvedBy}
 use Rattle.applied.specs.Step.{stepped, is_move}
 use Rattle.legal.specs.laws.Judged.{is_implication, is_linking, ProvedFor, SaysFor}
 use Rattle.applied.specs.laws.SameStates.{Inside}
@@ -103,12 +102,10 @@ module _ (known : Proved) (stale : Bool) (c : Command) (pool : Pool) where
   pub current-by : {A B : Type 0} → (A → CurrentFor stale c known pool) → (B → CurrentFor stale c known pool) → A ⊎ B → CurrentFor stale c known pool
   current-by f g h = ⊎_elim f g h
 
-  pub proved-for : CurrentFor stale c known pool → ProvedFor c known.pool
-      (rules_of known.pool.count known.rules.words known.rules.head known.rules.part known.rules.first known.rules.named
-      known.rules.src) known.rows pool
+  pub proved-for : CurrentFor stale c known pool → ProvedFor c known.pool known.rules known.rows pool
   proved-for h =
       let fresh : is_implication c ≡ true → (stale && not (is_implication c)) ≡ false = λ y. ap (λ (x : Bool). stale && not x) y ∙ none stale in
-      record { knows = λ y. proved-columns known.pool known.rules (h.knows (fresh y)); same = λ y. h.same (fresh y) }
+      record { knows = λ y. h.knows (fresh y); same = λ y. h.same (fresh y) }
     where
       none : (x : Bool) → (x && false) ≡ false
       none true = refl

@@ -1,15 +1,13 @@
 -- A call is refused exactly where one of the reasons holds, in their order, and by its number. Assumes nothing.
 use Prim.Native.Nat.{ℕ, zero, suc, ◌+◌, ◌≤◌, ◌<◌}
 use Rattle.std.proofs.Common.{arith, sym, ◌∙◌, subst, append_assoc, eqb-true, length-append, length-drop, take-append-drop, drop_at, drop-drop}
-use Rattle.std.specs.Prelude.{◌↔◌, ◌≡◌, Bool, true, false, not, ◌||◌, List, [], ◌∷◌, ◌++◌, eqb, length, get_or, drop}
+use Rattle.std.specs.Prelude.{◌↔◌, ◌≡◌, Bool, true, false, not, ◌||◌, List, [], ◌∷◌, ◌++◌, eqb, length, get_or, drop, Result, Ok, Err}
 use Rattle.std.proofs.Math.Path.{refl, ap}
 use Rattle.std.proofs.Math.Bool.{cond}
 use Rattle.std.proofs.lemmas.Bool.{eqb-false}
 use Rattle.word.specs.laws.Bools.{false-true}
 use Rattle.class.specs.declared.Name.{Name}
 use Rattle.message.specs.declared.Command.{Command}
-use Rattle.message.specs.declared.CommandAnswer.{CommandAnswer}
-use Rattle.message.specs.declared.CommandAnswer.TheVariants.{Read, Refused}
 use Rattle.message.specs.Command.{command_at, size_of, command_bytes}
 use Rattle.message.specs.laws.Command.{nothing, size-some}
 use Rattle.message.specs.laws.CommandExact.{command-length, command-room, command-formed, command-only, command-back, unreadable-exactly}
@@ -45,7 +43,7 @@ module _ (ns : List Name) (s : ℕ) (m : List ℕ) (bytes : (i : ℕ) → get_or
   refused-here : (f at : ℕ) (S : State) (v : Bool) (k : ℕ) → length m ≤ f + at → Wrong ns s m at S k → C.commands_from f ns s m at S v ≡ refused k
   unfolding C.commands_from
   refused-here zero at S v k l (unreadable u) =
-      ap (λ (a : CommandAnswer). refused (refusal_of a)) (nothing m at (omega arith) ∙ (unreadable-exactly m at bytes k).1 u)
+      ap (λ (a : Result Command ℕ). refused (refusal_of a)) (nothing m at (omega arith) ∙ (unreadable-exactly m at bytes k).1 u)
   refused-here zero at S v k l (illegal c e r) = absurd (omega (arith, l, command-room m at c e, size-some c))
   refused-here (suc f) at S v k l (unreadable u) =
       ap (C.on_command (λ size T w. C.commands_from f ns s m (at + size) T w) ns s S v) ((unreadable-exactly m at bytes k).1 u)
@@ -102,7 +100,7 @@ module _ (ns : List Name) (s : ℕ) (m : List ℕ) (bytes : (i : ℕ) → get_or
               (λ (n : ℕ). Wrong ns s m n S k) z w;
         }
 
-    rest-next : (at : ℕ) (S : State) (c : Command) → is_end c ≡ false → command_at m at ≡ Read c → Legal ns s S c → Rest (at + size_of c) (stepped S s c)
+    rest-next : (at : ℕ) (S : State) (c : Command) → is_end c ≡ false → command_at m at ≡ Ok c → Legal ns s S c → Rest (at + size_of c) (stepped S s c)
         → Rest at S
     rest-next at S c b e l r =
         let z : at + size_of c + length (bytes_of r.before)
@@ -122,27 +120,27 @@ module _ (ns : List Name) (s : ℕ) (m : List ℕ) (bytes : (i : ℕ) → get_or
     Leads f = (at : ℕ) (S : State) (v : Bool) → length m ≤ f + at → C.commands_from f ns s m at S v ≡ refused k → Rest at S
 
     module _ (f : ℕ) (behind : Leads f) (at : ℕ) (S : State) (v : Bool) (enough : length m ≤ suc f + at) where
-      rest-command : (c : Command) → command_at m at ≡ Read c → Legal ns s S c → (b : Bool) → is_end c ≡ b
+      rest-command : (c : Command) → command_at m at ≡ Ok c → Legal ns s S c → (b : Bool) → is_end c ≡ b
           → cond b (accepted (S, v)) (C.commands_from f ns s m (at + size_of c) (stepped S s c) (v || is_move c)) ≡ refused k → Rest at S
       rest-command c e l true b q = absurd (false-true (ap is_refused q))
       rest-command c e l false b q = rest-next at S c b e l (behind (at + size_of c) (stepped S s c) (v || is_move c) (omega (arith, enough, size-some c)) q)
 
-      rest-number : (c : Command) → command_at m at ≡ Read c → (j : ℕ) → legal_number ns s S c ≡ j
+      rest-number : (c : Command) → command_at m at ≡ Ok c → (j : ℕ) → legal_number ns s S c ≡ j
           → judged j (cond (is_end c) (accepted (S, v)) (C.commands_from f ns s m (at + size_of c) (stepped S s c) (v || is_move c))) ≡ refused k → Rest at S
       rest-number c e zero l q = rest-command c e ((legal-exactly ns s S c).0 l) (is_end c) refl q
       rest-number c e (suc j) l q =
           let z : suc j ≡ k = ap number_of q in
           rest-here at S (illegal c e ((illegal-exactly ns s S c k).0 (l ∙ z, λ y. omega (arith, y, z))))
 
-      rest-answer : (a : CommandAnswer) → command_at m at ≡ a
+      rest-answer : (a : Result Command ℕ) → command_at m at ≡ a
           → C.on_command (λ size U x. C.commands_from f ns s m (at + size) U x) ns s S v a ≡ refused k → Rest at S
-      rest-answer (Refused j) e q = rest-here at S (unreadable ((unreadable-exactly m at bytes k).0 (e ∙ ap Refused (ap number_of q))))
-      rest-answer (Read c) e q = rest-number c e (legal_number ns s S c) refl q
+      rest-answer (Err j) e q = rest-here at S (unreadable ((unreadable-exactly m at bytes k).0 (e ∙ ap Err (ap number_of q))))
+      rest-answer (Ok c) e q = rest-number c e (legal_number ns s S c) refl q
 
     rest_all : (f : ℕ) → Leads f
     unfolding C.commands_from
     rest_all zero at S v l h =
-        rest-here at S (unreadable ((unreadable-exactly m at bytes k).0 (sym (nothing m at (omega arith)) ∙ ap Refused (ap number_of h))))
+        rest-here at S (unreadable ((unreadable-exactly m at bytes k).0 (sym (nothing m at (omega arith)) ∙ ap Err (ap number_of h))))
     rest_all (suc f) at S v l h = rest-answer f (rest_all f) at S v l (command_at m at) refl h
 
     -- the commands of a message are refused exactly where one of them is, those before it being legal

@@ -1,5 +1,5 @@
 -- The call, test by test. Assumes nothing.
-use Rattle.std.specs.Prelude.{ℕ, ◌-◌, ◌≤◌, ◌<◌, Bool, not, ◌&&◌, List, eqb, length, ◌≡◌, refl}
+use Rattle.std.specs.Prelude.{ℕ, ◌-◌, ◌≤◌, ◌<◌, Bool, not, ◌&&◌, List, eqb, length, ◌≡◌, refl, Result, Ok, Err}
 use Rattle.std.proofs.Math.Bool.{cond, false, true}
 use Rattle.std.proofs.Math.Dec.{leb}
 use Rattle.negotiation.specs.Messages.{message_count}
@@ -10,7 +10,6 @@ use Rattle.standing.specs.Standing as R
 use Rattle.standing.specs.laws.Standing.{standing_of}
 use Rattle.negotiation.specs.Ends.{other_side}
 use Rattle.applied.specs.After.{after_message}
-use Rattle.take.specs.declared.Taking.{Taking}
 use Rattle.take.specs.Commands as C
 use Rattle.take.specs.laws.Commands.{taken_of, Room}
 use Rattle.std.proofs.Common.{arith, ◌∙◌, ⊎_elim}
@@ -42,24 +41,12 @@ use Rattle.standing.specs.Buffers.{scratch_left}
 use Rattle.numbers.specs.Refusals.{LENGTH, TURN, ENDED}
 use Rattle.numbers.specs.Sizes.{SCRATCH-BYTES}
 
--- what the code's answer is
-unfoldable pub outcome_of : Taking → Answer State
-outcome_of r = cond (eqb r.refusal 0) (accepted (state_of r.negotiation)) (refused r.refusal)
+-- what the code's answer is, with the negotiation that it left
+unfoldable pub outcome_of : {A : Type 0} → Result A ℕ → Negotiation → Answer State
+outcome_of (Ok x) n = accepted (state_of n)
+outcome_of (Err k) n = refused k
 
 -- A negotiation and a message
-
--- a refused one
-outcome-refused : (r : Taking) (k : ℕ) → r.refusal ≡ k → (k ≡ 0 → ⊥) → outcome_of r ≡ refused k
-unfolding outcome_of
-outcome-refused r k e z =
-    ap (λ (b : Bool). cond b (accepted (state_of r.negotiation)) (refused r.refusal)) (ne_eqb r.refusal 0 (λ w. z (sym e ∙ w))) ∙ ap refused e
-
-pub outcome-accepted : (r : Taking) → r.refusal ≡ 0 → outcome_of r ≡ accepted (state_of r.negotiation)
-unfolding outcome_of
-outcome-accepted r e = ap (λ (b : Bool). cond b (accepted (state_of r.negotiation)) (refused r.refusal)) (eq-eqb r.refusal 0 e)
-
-no_room : (r : Taking) (k : ℕ) → r.refusal ≡ k → (k ≡ 0 → ⊥) → Room r
-no_room r k e z = record { sizes = λ w. absurd (z (sym e ∙ w)); formed = λ w. absurd (z (sym e ∙ w)) }
 
 module _ (m : List ℕ) (H : House) (n : Negotiation) where
   by_tests_lem : (a b : Bool) → not (eqb n.header.end 0) ≡ a → not (sends (other_side n.header.side) n.header.messages) ≡ b
@@ -69,79 +56,73 @@ module _ (m : List ℕ) (H : House) (n : Negotiation) where
   by_tests_lem a b x y t z = λ i. cond (x i) (refused ENDED) (cond (y i) (refused TURN) (behind_commands (other_side n.header.side) (z i)))
 
   -- already ended
-  pub taken-ended : (r : Taking) → (n.header.end ≡ 0 → ⊥) → r.refusal ≡ 22 → (outcome_of r ≡ taken_in m (tables_of H) (state_of n)) × Room r
-  taken-ended r h e =
-      (outcome-refused r 22 e (λ z. omega arith) ∙ sym (by_tests_lem true _ (ap not (ne_eqb n.header.end 0 h)) refl _ refl), no_room r 22 e (λ z. omega arith))
+  pub taken-ended : (n' : Negotiation) → (n.header.end ≡ 0 → ⊥) → outcome_of {A = Unit {0}} (Err 22) n' ≡ taken_in m (tables_of H) (state_of n)
+  unfolding outcome_of
+  taken-ended n' h = sym (by_tests_lem true _ (ap not (ne_eqb n.header.end 0 h)) refl _ refl)
 
   module _ (z : n.header.end ≡ 0) {s : ℕ} (se : s ≡ other_side n.header.side) {b : Bool} (be : b ≡ sends s n.header.messages) where
     sent : b ≡ sends (other_side n.header.side) n.header.messages
     sent = be ∙ ap (λ (k : ℕ). sends k n.header.messages) se
 
     -- not that side's turn
-    pub taken-turn : (r : Taking) → not b ≡ true → r.refusal ≡ 21 → (outcome_of r ≡ taken_in m (tables_of H) (state_of n)) × Room r
-    taken-turn r h e = (
-      outcome-refused r 21 e (λ z. omega arith)
-          ∙ sym (by_tests_lem false true (ap not (eq-eqb n.header.end 0 z)) (ap not (sym sent) ∙ h) _ refl),
-      no_room r 21 e (λ z. omega arith),
-    )
+    pub taken-turn : (n' : Negotiation) → not b ≡ true → outcome_of {A = Unit {0}} (Err 21) n' ≡ taken_in m (tables_of H) (state_of n)
+    unfolding outcome_of
+    taken-turn n' h = sym (by_tests_lem false true (ap not (eq-eqb n.header.end 0 z)) (ap not (sym sent) ∙ h) _ refl)
 
-    module _ (bh : not b ≡ false) (t : Taking) (te : taken_of t ≡ C.commands_from (length m) (names_of H.names) s m 0 (state_of n) false) where
-      by-commands : taken_in m (tables_of H) (state_of n) ≡ behind_commands (other_side n.header.side) (taken_of t)
+    module _ (bh : not b ≡ false) (t : Result Bool ℕ) (n' : Negotiation)
+        (te : taken_of t n' ≡ C.commands_from (length m) (names_of H.names) s m 0 (state_of n) false) where
+      by-commands : taken_in m (tables_of H) (state_of n) ≡ behind_commands (other_side n.header.side) (taken_of t n')
       by-commands =
-          by_tests_lem false false (ap not (eq-eqb n.header.end 0 z)) (ap not (sym sent) ∙ bh) (taken_of t)
+          by_tests_lem false false (ap not (eq-eqb n.header.end 0 z)) (ap not (sym sent) ∙ bh) (taken_of t n')
           (ap (λ (k : ℕ). C.commands_from (length m) (names_of H.names) k m 0 (state_of n) false) (sym se) ∙ sym te)
 
       -- a command is refused
-      pub taken_refused : (r : Taking) → r ≡ t → (t.refusal ≡ 0 → ⊥) → (outcome_of r ≡ taken_in m (tables_of H) (state_of n)) × Room r
-      unfolding taken_of
-      taken_refused r q h = (
-        outcome-refused r t.refusal (ap (λ (x : Taking). x.refusal) q) h
-            ∙ sym (by-commands
-            ∙ ap (λ (b : Bool). behind_commands (other_side n.header.side) (cond b (accepted (state_of t.negotiation, t.moved)) (refused t.refusal)))
-            (ne_eqb t.refusal 0 h)),
-        no_room r t.refusal (ap (λ (x : Taking). x.refusal) q) h,
-      )
+      pub taken_refused : {k : ℕ} → t ≡ Err k → outcome_of {A = Unit {0}} (Err k) n' ≡ taken_in m (tables_of H) (state_of n)
+      unfolding outcome_of taken_of
+      taken_refused q = sym (by-commands ∙ ap (λ (x : Result Bool ℕ). behind_commands (other_side n.header.side) (taken_of x n')) q)
 
-      module _ (tz : t.refusal ≡ 0) where
-        is-taken : taken_of t ≡ accepted (state_of t.negotiation, t.moved)
+      module _ {v : Bool} (tz : t ≡ Ok v) where
+        is-taken : taken_of t n' ≡ accepted (state_of n', v)
         unfolding taken_of
-        is-taken = ap (λ (b : Bool). cond b (accepted (state_of t.negotiation, t.moved)) (refused t.refusal)) (eq-eqb t.refusal 0 tz)
+        is-taken = ap (λ (x : Result Bool ℕ). taken_of x n') tz
 
         -- all are carried out
-        pub taken-after : (a : Negotiation) (r : Taking) → Room t → state_of a ≡ after_message s (state_of t.negotiation) t.moved false
-            → r.refusal ≡ 0 → r.negotiation ≡ a → (outcome_of r ≡ taken_in m (tables_of H) (state_of n)) × Room r
+        pub taken-after : (a : Negotiation) (x : Unit {0}) → state_of a ≡ after_message s (state_of n') v false
+            → outcome_of (Ok x) a ≡ taken_in m (tables_of H) (state_of n)
+        unfolding outcome_of
+        taken-after a x ae =
+            ap accepted (ae ∙ ap (λ (k : ℕ). after_message k (state_of n') v false) se)
+            ∙ sym (by-commands ∙ ap (behind_commands (other_side n.header.side)) is-taken)
+
+        pub after-room : (a : Negotiation) → Room n' → state_of a ≡ after_message s (state_of n') v false → Room a
         unfolding after_message with_header state_of within
-        taken-after a r room ae e q = (
-          outcome-accepted r e ∙ ap accepted (ap state_of q ∙ ae ∙ ap (λ (k : ℕ). after_message k (state_of t.negotiation) t.moved false) se)
-              ∙ sym (by-commands ∙ ap (behind_commands (other_side n.header.side)) is-taken),
-          record {
-            sizes = λ w. ap within (ap state_of q ∙ ae) ∙ room.sizes tz;
-            formed = λ w. subst (λ (S : State). NodesFormed S.nodes) (sym (ap state_of q ∙ ae)) (room.formed tz);
-          },
-        )
+        after-room a room ae =
+            record {
+              sizes = ap within ae ∙ room.sizes;
+              formed = subst (λ (S : State). NodesFormed S.nodes) (sym ae) room.formed;
+            }
 
         -- what the commands led to
         pub led : sound (tables_of H) (state_of n) ≡ true → within (state_of n) ≡ true → 0 < H.own
-            → Led (names_of H.names) (state_of n) false (state_of t.negotiation) t.moved
+            → Led (names_of H.names) (state_of n) false (state_of n') v
         unfolding tables_of state_of
         led h w own =
-            (turn-led (tables_of H) (state_of n) h w own m (sym sent ∙ not-false b bh) (state_of t.negotiation) t.moved
+            (turn-led (tables_of H) (state_of n) h w own m (sym sent ∙ not-false b bh) (state_of n') v
             (ap (λ (k : ℕ). C.commands_from (length m) (names_of H.names) k m 0 (state_of n) false) (sym se) ∙ sym te ∙ is-taken)).0
 
         -- what judging the end asks of it
-        pub led-ready : sound (tables_of H) (state_of n) ≡ true → within (state_of n) ≡ true → 0 < H.own → Room t
-            → (within (state_of t.negotiation) ≡ true) × (0 < t.negotiation.nodes.count) × (message_count t.negotiation.header.messages < 65535)
-            × NodesFormed (nodes_of t.negotiation.nodes) × EdgesFormed (nodes_of t.negotiation.nodes) (edges_of t.negotiation.edges)
+        pub led-ready : sound (tables_of H) (state_of n) ≡ true → within (state_of n) ≡ true → 0 < H.own → Room n'
+            → (within (state_of n') ≡ true) × (0 < n'.nodes.count) × (message_count n'.header.messages < 65535)
+            × NodesFormed (nodes_of n'.nodes) × EdgesFormed (nodes_of n'.nodes) (edges_of n'.edges)
         unfolding state_of
         led-ready h w own room =
             let l = led h w own in
-            let some : 0 < t.negotiation.nodes.count = omega (arith, nodes-length t.negotiation.nodes, l.some) in (
-              room.sizes tz,
+            let some : 0 < n'.nodes.count = omega (arith, nodes-length n'.nodes, l.some) in (
+              room.sizes,
               some,
               omega (arith, ap (λ (x : Header). message_count x.messages) l.header, sound-count (tables_of H) (state_of n) h),
-              room.formed
-                  tz,
-              led-edges (names_of H.names) (state_of n) false t.negotiation t.moved l some,
+              room.formed,
+              led-edges (names_of H.names) (state_of n) false n' v l some,
             )
 
 -- the nodes of an undamaged negotiation have their forms, where none stands too
@@ -186,27 +167,25 @@ module _ (tables negotiation message scratch : List ℕ) where
           let q = and_parts (leb 1 (length message)) (leb (length message) 4096) p.0 in
           (leb-true 1 (length message) q.0, leb-true (length message) 4096 q.1, eqb-true (length scratch) SCRATCH-BYTES p.1)
 
-      module _ (r : Restored) (re : standing_of r ≡ R.restore_of tables negotiation) where
-        pub take-unrestored : (r.refusal ≡ 0 → ⊥) → Leaves negotiation scratch (take_of tables negotiation message scratch) r.refusal negotiation scratch
+      module _ (r : Result Restored ℕ) (re : standing_of r ≡ R.restore_of tables negotiation) where
+        pub take-unrestored : {k : ℕ} → r ≡ Err k → Leaves negotiation scratch (take_of tables negotiation message scratch) k negotiation scratch
         unfolding standing_of
-        take-unrestored h =
-            refuses r.refusal (by_size true sized (refused r.refusal)
-            (sym re ∙ ap (λ (b : Bool). cond b (accepted (tables_of r.house, state_of r.negotiation)) (refused r.refusal)) (ne_eqb r.refusal 0 h)))
+        take-unrestored {k} q = refuses k (by_size true sized (refused k) (sym re ∙ ap standing_of q))
 
-        module _ (rz : r.refusal ≡ 0) (t : Taking) (te : outcome_of t ≡ taken_in message (tables_of r.house) (state_of r.negotiation)) where
-          is-outcome : take_of tables negotiation message scratch ≡ outcome_of t
+        module _ {held : Restored} (q : r ≡ Ok held) {A : Type 0} (t : Result A ℕ) (n' : Negotiation)
+            (te : outcome_of t n' ≡ taken_in message (tables_of held.house) (state_of held.negotiation)) where
+          is-outcome : take_of tables negotiation message scratch ≡ outcome_of t n'
           unfolding standing_of
-          is-outcome =
-              by_size true sized (accepted (tables_of r.house, state_of r.negotiation))
-              (sym re ∙ ap (λ (b : Bool). cond b (accepted (tables_of r.house, state_of r.negotiation)) (refused r.refusal))
-              (eq-eqb r.refusal 0 rz)) ∙ sym te
+          is-outcome = by_size true sized (accepted (tables_of held.house, state_of held.negotiation)) (sym re ∙ ap standing_of q) ∙ sym te
 
-          pub take-refused : (t.refusal ≡ 0 → ⊥) → Leaves negotiation scratch (take_of tables negotiation message scratch) t.refusal negotiation scratch
-          take-refused h = refuses t.refusal (is-outcome ∙ outcome-refused t t.refusal refl h)
+          pub take-refused : {k : ℕ} → t ≡ Err k → Leaves negotiation scratch (take_of tables negotiation message scratch) k negotiation scratch
+          unfolding outcome_of
+          take-refused {k} e = refuses k (is-outcome ∙ ap (λ (x : Result A ℕ). outcome_of x n') e)
 
-          pub take-accepted : {n s : List ℕ} → t.refusal ≡ 0 → n ≡ state_bytes (state_of t.negotiation) → s ≡ pasted scratch 0 (zeros (4096 - 0))
+          pub take-accepted : {x : A} {n s : List ℕ} → t ≡ Ok x → n ≡ state_bytes (state_of n') → s ≡ pasted scratch 0 (zeros (4096 - 0))
               → Leaves negotiation scratch (take_of tables negotiation message scratch) 0 n s
-          take-accepted {n} {s} tz ne se =
+          unfolding outcome_of
+          take-accepted {x} {n} {s} e ne se =
               let l : length scratch ≡ 4096 = size-parts.2 in
-              subst (λ (o : Answer State). Leaves negotiation scratch o 0 n s) (sym (is-outcome ∙ outcome-accepted t tz))
+              subst (λ (o : Answer State). Leaves negotiation scratch o 0 n s) (sym (is-outcome ∙ ap (λ (y : Result A ℕ). outcome_of y n') e))
               (refl, (ne, se ∙ paste-whole scratch (zeros 4096) (length-zeros 4096 ∙ sym l) ∙ ap zeros (sym l)))

@@ -1,7 +1,7 @@
 -- A message is taken exactly where it consists of legal commands and an end, and leads where they lead. Assumes nothing.
 use Prim.Native.Nat.{ℕ, zero, suc, ◌+◌, ◌≤◌, ◌<◌}
 use Rattle.std.proofs.Common.{arith, sym, ◌∙◌, subst, eq-eqb, eqb-true, ne_eqb, length-drop, take-append-drop, drop-drop, take_all}
-use Rattle.std.specs.Prelude.{◌↔◌, ◌≡◌, Bool, true, false, not, ◌||◌, eqb, length, get_or, drop}
+use Rattle.std.specs.Prelude.{◌↔◌, ◌≡◌, Bool, true, false, not, ◌||◌, eqb, length, get_or, drop, Result, Ok, Err}
 use Rattle.std.proofs.Math.Path.{refl, ap}
 use Rattle.std.proofs.Math.Bool.{cond, or-false, or_assoc}
 use mathlib.Core.List.{List, [], ◌∷◌, ◌++◌, append-nil}
@@ -11,8 +11,6 @@ use Rattle.word.specs.laws.Bools.{false-true}
 use Rattle.class.specs.declared.Name.{Name}
 use Rattle.message.specs.declared.Command.{Command}
 use Rattle.message.specs.declared.Command.TheVariants.{Show, Open, Bring, Join, Mark, End}
-use Rattle.message.specs.declared.CommandAnswer.{CommandAnswer}
-use Rattle.message.specs.declared.CommandAnswer.TheVariants.{Read, Refused}
 use Rattle.message.specs.Command.{command_at, size_of, formed_command, command_bytes}
 use Rattle.message.specs.laws.CommandExact.{command-length, command-formed, command-only, command-end, command-back}
 use Rattle.tables.specs.Tables.{Tables}
@@ -48,7 +46,7 @@ module _ (ns : List Name) (s : ℕ) (m : List ℕ) where
   -- Legal commands are taken
 
   -- one command, carried out
-  pub taken-one : (f at : ℕ) (S : State) (v : Bool) (c : Command) → command_at m at ≡ Read c → Legal ns s S c
+  pub taken-one : (f at : ℕ) (S : State) (v : Bool) (c : Command) → command_at m at ≡ Ok c → Legal ns s S c
       → C.commands_from (suc f) ns s m at S v ≡ cond (is_end c) (accepted (S, v)) (C.commands_from f ns s m (at + size_of c) (stepped S s c) (v || is_move c))
   unfolding C.commands_from
   taken-one f at S v c e l =
@@ -88,7 +86,7 @@ module _ (ns : List Name) (s : ℕ) (m : List ℕ) where
     Leads f T w = (at : ℕ) (S : State) (v : Bool) → C.commands_from f ns s m at S v ≡ accepted (T, w) → Rest at S v T w
 
     -- an end, the last byte
-    rest_end : (at : ℕ) (S : State) (v : Bool) → command_at m at ≡ Read End → Legal ns s S End → Rest at S v S v
+    rest_end : (at : ℕ) (S : State) (v : Bool) → command_at m at ≡ Ok End → Legal ns s S End → Rest at S v S v
     rest_end at S v e l =
         let size : length (drop at m) ≤ 1 = omega (arith, length-drop at m, command-end m at e) in
         record {
@@ -101,7 +99,7 @@ module _ (ns : List Name) (s : ℕ) (m : List ℕ) where
         }
 
     -- another command, and those behind it
-    rest-next : (at : ℕ) (S : State) (v : Bool) (T : State) (w : Bool) (c : Command) → is_end c ≡ false → command_at m at ≡ Read c → Legal ns s S c
+    rest-next : (at : ℕ) (S : State) (v : Bool) (T : State) (w : Bool) (c : Command) → is_end c ≡ false → command_at m at ≡ Ok c → Legal ns s S c
         → Rest (at + size_of c) (stepped S s c) (v || is_move c) T w → Rest at S v T w
     rest-next at S v T w c b e l r =
         record {
@@ -113,25 +111,25 @@ module _ (ns : List Name) (s : ℕ) (m : List ℕ) where
         }
 
     module _ (f : ℕ) (T : State) (w : Bool) (behind : Leads f T w) (at : ℕ) (S : State) (v : Bool) where
-      rest-command : (c : Command) → command_at m at ≡ Read c → Legal ns s S c → (b : Bool) → is_end c ≡ b
+      rest-command : (c : Command) → command_at m at ≡ Ok c → Legal ns s S c → (b : Bool) → is_end c ≡ b
           → cond b (accepted (S, v)) (C.commands_from f ns s m (at + size_of c) (stepped S s c) (v || is_move c)) ≡ accepted (T, w) → Rest at S v T w
       rest-command c e l true b q =
           let t : S ≡ T = ap (first_of S) q in
           let u : v ≡ w = ap moved_taken q in
           let z : c ≡ End = only_end c b in
-          subst (λ (U : State). Rest at S v U w) t (subst (Rest at S v S) u (rest_end at S v (e ∙ ap Read z) (subst (Legal ns s S) z l)))
+          subst (λ (U : State). Rest at S v U w) t (subst (Rest at S v S) u (rest_end at S v (e ∙ ap Ok z) (subst (Legal ns s S) z l)))
       rest-command c e l false b q = rest-next at S v T w c b e l (behind (at + size_of c) (stepped S s c) (v || is_move c) q)
 
-      rest-number : (c : Command) → command_at m at ≡ Read c → (k : ℕ) → legal_number ns s S c ≡ k
+      rest-number : (c : Command) → command_at m at ≡ Ok c → (k : ℕ) → legal_number ns s S c ≡ k
           → judged k (cond (is_end c) (accepted (S, v)) (C.commands_from f ns s m (at + size_of c) (stepped S s c) (v || is_move c))) ≡ accepted (T, w)
           → Rest at S v T w
       rest-number c e zero l q = rest-command c e ((legal-exactly ns s S c).0 l) (is_end c) refl q
       rest-number c e (suc k) l q = absurd (false-true (ap is_accepted q))
 
-      rest-answer : (a : CommandAnswer) → command_at m at ≡ a
+      rest-answer : (a : Result Command ℕ) → command_at m at ≡ a
           → C.on_command (λ size U x. C.commands_from f ns s m (at + size) U x) ns s S v a ≡ accepted (T, w) → Rest at S v T w
-      rest-answer (Refused k) e q = absurd (false-true (ap is_accepted q))
-      rest-answer (Read c) e q = rest-number c e (legal_number ns s S c) refl q
+      rest-answer (Err k) e q = absurd (false-true (ap is_accepted q))
+      rest-answer (Ok c) e q = rest-number c e (legal_number ns s S c) refl q
 
     rest_all : (f : ℕ) (T : State) (w : Bool) → Leads f T w
     unfolding C.commands_from

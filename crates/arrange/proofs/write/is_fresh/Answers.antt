@@ -5,12 +5,6 @@ use lib.ListN.{length}
 use Rattle.arrange.specs.laws.Merge.{entries_at}
 use Rattle.arrange.proofs.write.is_fresh.Goals as goal
 
-pub returns-then-i-eq0 : goal.returns-then-i-eq0
-returns-then-i-eq0 c = record { first = λ e. refl; later = λ h. absurd (omega arith) }
-
 pub less-requires : goal.less-requires
 less-requires c = let h : c.args.i - 1 < length c.args.entries.now = omega arith in
     (entries_at c.requires.1 _ _ h refl, entries_at c.requires.1 _ _ c.requires.0 refl)
-
-pub returns : goal.returns
-returns c = record { first = λ e. absurd (omega arith); later = λ h. c.less.ensures }

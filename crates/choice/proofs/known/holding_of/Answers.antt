@@ -6,10 +6,10 @@ use Rattle.choice.proofs.known.holding_of.Goals as goal
 
 pub returns-then-not-holds : goal.returns-then-not-holds
 unfolding tables_of
-returns-then-not-holds c = holding-absent (tables_of c.args.house) c.args.a c.requires.1 c.holds.ensures (ap not c.if-not-holds.true)
+returns-then-not-holds c = holding-absent (tables_of c.args.house.now) c.args.a c.requires.1 c.holds.ensures (ap not c.if-not-holds.true)
 
 pub returns : goal.returns
 unfolding tables_of
 returns c =
-    holding-policy (tables_of c.args.house) c.args.a c.requires.1 c.holds.ensures (ap not c.if-not-holds.false)
+    holding-policy (tables_of c.args.house.now) c.args.a c.requires.1 c.holds.ensures (ap not c.if-not-holds.false)
     c.other_of.ensures c.policy_of.ensures

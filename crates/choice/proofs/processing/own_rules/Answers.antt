@@ -11,33 +11,22 @@ pub plain_edges-requires : goal.plain_edges-requires
 unfolding tables_of
 plain_edges-requires c = (
   c.requires.0.prepared,
-  c.requires.0.nodes,
-  c.requires.0.edges,
+  (c.requires.0.nodes, c.requires.0.edges),
   absent-sensitive _ _
-      (sym c.other_of-answer.ensures ∙ c.in_default.is),
+      (sym c.other_of.ensures ∙ c.in_default.is),
 )
 
 pub returns-in_default : goal.returns-in_default
 unfolding tables_of
 returns-in_default c =
-    plain-choice (tables_of c.args.own.house) (state_of c.args.n) _ c.args.i c.args.x c.args.a
-    c.other_of-answer.ensures c.in_default.is c.plain_edges.ensures c.or_else.ensures
-
-pub rest_of-rest-requires : goal.rest_of-rest-requires
-unfolding tables_of state_of
-rest_of-rest-requires c = (
-  c.requires.0.prepared,
-  c.requires.0.nodes,
-  c.requires.0.edges,
-  λ l. c.requires.2.done c.args.i l c.args.x c.args.a _
-      c.requires.3 c.requires.4 (sym c.other_of-answer.ensures ∙ c.in-Found.is),
-)
+    plain-choice (tables_of c.args.own.now.house) (state_of c.args.p.now.negotiation.now) _ c.args.p.now.number c.args.p.now.node c.args.a
+    c.other_of.ensures c.in_default.is c.plain_edges.ensures c.or_else.ensures
 
 pub known_of-known-requires : goal.known_of-known-requires
 unfolding tables_of
 known_of-known-requires c = (
   c.requires.0.prepared.housed,
-  found-sensitive _ _ _ (sym c.other_of-answer.ensures ∙ c.in-Found.is),
+  found-sensitive _ _ _ (sym c.other_of.ensures ∙ c.in-Some.is),
   c.requires.0.nodes,
   ready-says c.requires.0,
 )
@@ -45,5 +34,5 @@ known_of-known-requires c = (
 pub returns : goal.returns
 unfolding tables_of
 returns c =
-    sensitive-choice (tables_of c.args.own.house) (state_of c.args.n) _ c.args.i c.args.x c.args.a
-    c.other_of-answer.ensures c.in-Found.is c.rest_of-rest.ensures c.known_of-known.ensures c.by_known.ensures c.behind_ack.ensures
+    sensitive-choice (tables_of c.args.own.now.house) (state_of c.args.p.now.negotiation.now) _ c.args.p.now.number c.args.p.now.node c.args.a
+    c.other_of.ensures c.in-Some.is c.rest_of-rest.ensures c.known_of-known.ensures c.by_known.ensures c.behind_ack.ensures

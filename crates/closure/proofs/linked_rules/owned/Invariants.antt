@@ -1,8 +1,5 @@
-use Prim.Native.Nat.{◌≤◌}
+use Prim.Native.Nat.{◌+◌}
 use Rattle.closure.proofs.linked_rules.owned.Given as goal
 
-abbrev pub invariant-loop-fuel : goal.invariant-loop-fuel
-invariant-loop-fuel l = l.fuel ≤ 128
-
-abbrev pub decreases-loop-fuel : goal.decreases-loop-fuel
-decreases-loop-fuel l = l.fuel
+abbrev pub decreases-loop-s : goal.decreases-loop-s
+decreases-loop-s l = l.sources.lo + l.sources.hi

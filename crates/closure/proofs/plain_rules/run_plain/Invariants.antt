@@ -1,8 +1,8 @@
-use Rattle.closure.specs.laws.Rules.{rules_of, Grown}
+use Rattle.closure.specs.laws.Rules.{Grown}
 use Rattle.closure.proofs.plain_rules.run_plain.Given as goal
 
 abbrev pub invariant-loop-fuel : goal.invariant-loop-fuel
-invariant-loop-fuel l = Grown (rules_of l.n l.words l.head l.part l.first l.named l.src) l.on l.own l.mem l.initial.rows l.rows
+invariant-loop-fuel l = Grown l.rules l.on l.own l.mem l.initial.rows l.rows
 
 abbrev pub decreases-loop-fuel : goal.decreases-loop-fuel
 decreases-loop-fuel l = l.fuel

@@ -1,9 +1,5 @@
-use Prim.Native.Nat.{◌≤◌, ◌-◌}
 use Rattle.closure.specs.laws.Words.{HeldOf}
 use Rattle.closure.proofs.rounds.held.Given as goal
 
 abbrev pub invariant-loop-r : goal.invariant-loop-r
-invariant-loop-r l = HeldOf l.h l.r l.rows l.w × (l.r ≤ 130)
-
-abbrev pub decreases-loop-r : goal.decreases-loop-r
-decreases-loop-r l = 130 - l.r
+invariant-loop-r l = HeldOf l.h l.r l.rows l.w

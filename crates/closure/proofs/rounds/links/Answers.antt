@@ -6,9 +6,6 @@ use Rattle.closure.proofs.rounds.links.Goals as goal
 pub loop-m-init : goal.loop-m-init
 loop-m-init c = links-start _ _ _ _ _ _ _
 
-pub bit-requires : goal.bit-requires
-bit-requires c = (c.requires.2, c.requires.3.under _)
-
 pub loop-m-smaller : goal.loop-m-smaller
 loop-m-smaller c =
     rw (c.others-m.ensures ∙ ap (without _) (sym c.lowest.ensures.2))

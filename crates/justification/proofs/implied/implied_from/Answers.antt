@@ -1,19 +1,10 @@
 use mathlib.Core.Path.{ap}
 use mathlib.Core.Bool.{not}
-use native.Mathlib.Omega.{arith}
 use Rattle.justification.specs.laws.ImpliedLaws.{from_start, from_next, from-stop, from-done}
 use Rattle.justification.proofs.implied.implied_from.Goals as goal
 
 pub loop-j-init : goal.loop-j-init
 loop-j-init c on m h = from_start _ _ _ _
-
-pub implied_at-requires : goal.implied_at-requires
-implied_at-requires c = (
-  omega (arith, c.loop-j-test.true, c.requires.0),
-  c.requires.1.parent _ c.loop-j-test.true,
-  c.requires.2,
-  c.requires.3,
-)
 
 pub returns-then-not-implied_at : goal.returns-then-not-implied_at
 returns-then-not-implied_at c on m h = from-stop _ _ _ _ (c.loop-j.invariant on m h) c.loop-j-test.true (c.implied_at.ensures on m h) (ap not c.if-not-implied_at.true)

@@ -4,6 +4,3 @@ use Rattle.justification.proofs.implied.node_implied.Goals as goal
 
 pub returns-then-used-c-ne1 : goal.returns-then-used-c-ne1
 returns-then-used-c-ne1 c = from-none _ _ _ _ (omega arith) c.requires.6 c.if-used-c-ne1.true
-
-pub returns : goal.returns
-returns c = c.implied_from.ensures _ c.requires.5 c.column-vals.ensures

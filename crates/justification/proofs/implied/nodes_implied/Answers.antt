@@ -1,22 +1,10 @@
 use mathlib.Core.Path.{ap}
 use mathlib.Core.Bool.{not}
-use native.Mathlib.Omega.{arith}
 use Rattle.justification.specs.laws.ImpliedLaws.{below_none, below_next, below-stop, below-done}
 use Rattle.justification.proofs.implied.nodes_implied.Goals as goal
 
 pub loop-c-init : goal.loop-c-init
 loop-c-init c = below_none _ _ _ _
-
-pub node_implied-requires : goal.node_implied-requires
-node_implied-requires c = (
-  omega arith,
-  c.requires.2,
-  c.requires.3,
-  c.requires.4,
-  c.requires.5,
-  c.requires.6,
-  c.requires.7,
-)
 
 pub returns-then-not-node_implied : goal.returns-then-not-node_implied
 returns-then-not-node_implied c = below-stop _ _ _ c.loop-c.invariant c.node_implied.ensures (ap not c.if-not-node_implied.true)

@@ -1,53 +1,42 @@
 use mathlib.Core.Path.{ap}
 use mathlib.Core.Bool.{not}
-use Rattle.graph.specs.declared.Nodes.{Nodes}
-use Rattle.graph.specs.declared.Edges.{Edges}
-use Rattle.graph.specs.laws.Graph.{nodes_from, edges_from}
+use native.Mathlib.Omega.{arith}
 use Rattle.states.specs.laws.Filled.{needs-beyond}
-use Rattle.justification.specs.laws.Linked.{none-linking}
-use Rattle.propagation.specs.laws.Chains.{chain-start}
-use Rattle.propagation.specs.laws.WorkLaws.{start}
+use Rattle.justification.specs.laws.Linked.{none-linking, monitoring-start, says-so-far, monitoring-stop, monitoring-next, monitoring-done, edge-inside}
 use Rattle.justification.proofs.linked.links_justified.Goals as goal
-use Rattle.justification.proofs.linked.links_justified.Goals.{Start}
-
--- the nodes and the edges of the columns
-abbrev N : Start → Nodes
-N s =
-    nodes_from s.args.n s.args.kind.now s.args.number.now s.args.subject.now s.args.verifier.now s.args.state.now
-
-abbrev E : Start → Edges
-E s = edges_from s.args.m s.args.edge.now s.args.parent.now s.args.child.now
-
-pub has_linking-requires : goal.has_linking-requires
-has_linking-requires c = c.requires.1
 
 pub returns-then-not-has_linking : goal.returns-then-not-has_linking
-returns-then-not-has_linking c = none-linking _ (E c.before.before) c.has_linking.ensures (ap not c.if-not-has_linking.true)
+returns-then-not-has_linking c = none-linking _ c.args.edges.now c.has_linking.ensures (ap not c.if-not-has_linking.true)
 
-pub needs-need-requires : goal.needs-need-requires
-needs-need-requires c = c.requires.0
+pub new-settling-requires : goal.new-settling-requires
+new-settling-requires c = (c.requires.0, needs-beyond c.args.nodes.now _ (c.needs-need.ensures c.args.nodes.now))
 
-pub links-x-requires : goal.links-x-requires
-links-x-requires c = (c.requires.0, c.requires.1)
+pub loop-j-init : goal.loop-j-init
+loop-j-init c =
+    let start = c.new-settling.ensures _ _ (c.links-links.ensures.joined c.args.nodes.now).slots in
+    monitoring-start _ _ _ _ _ start.0 start.1
 
-pub seed-t-requires : goal.seed-t-requires
-seed-t-requires c = (
+pub is_monitored_if-requires : goal.is_monitored_if-requires
+is_monitored_if-requires c = let inside = edge-inside _ _ c.requires.3 c.loop-j-test.true (c.edge.ensures _ c.loop-j-test.true) in (
   c.requires.0,
-  needs-beyond (N c.before.before.before.before.before.before.before.before) _ (c.needs-need.ensures (N c.before.before.before.before.before.before.before.before)),
-  (c.links-x.result.from, c.links-x.result.slot, start _ (c.links-x.ensures (N c.before.before.before.before.before.before.before.before)).slots),
+  omega arith,
+  inside.0,
+  inside.1,
+  says-so-far _ _ _ _ _ c.loop-j.invariant c.requires.2 (c.links-links.ensures.joined c.args.nodes.now) (c.needs-need.ensures c.args.nodes.now),
 )
 
-pub linked_in_turn-requires : goal.linked_in_turn-requires
-linked_in_turn-requires c = (
-  c.requires.0,
-  c.requires.1,
-  c.requires.2,
-  c.requires.3,
-  c.links-x.ensures (N c.before.before.before.before.before.before.before.before.before.before.before.before.before.before.before.before.before),
-  c.needs-need.ensures (N c.before.before.before.before.before.before.before.before.before.before.before.before.before.before.before.before.before),
-  chain-start _,
-  c.seed-t.ensures _ _ (start _ (c.links-x.ensures (N c.before.before.before.before.before.before.before.before.before.before.before.before.before.before.before.before.before)).slots),
-)
+pub returns-then-not-is_monitored_if : goal.returns-then-not-is_monitored_if
+returns-then-not-is_monitored_if c =
+    monitoring-stop _ _ _ _ _ c.loop-j.invariant c.loop-j-test.true (c.edge.ensures _ c.loop-j-test.true)
+    c.is_monitored_if.ensures (ap not c.if-not-is_monitored_if.true)
+
+pub insert-requires : goal.insert-requires
+insert-requires c = (omega arith, c.loop-j.invariant.chained, c.loop-j.invariant.done)
+
+pub loop-j-preserved : goal.loop-j-preserved
+loop-j-preserved c =
+    monitoring-next _ _ _ _ _ c.loop-j.invariant c.loop-j-test.true (c.edge.ensures _ c.loop-j-test.true)
+    c.is_monitored_if.ensures (ap not c.if-not-is_monitored_if.false) c.insert.ensures.0 c.insert.ensures.1
 
 pub returns : goal.returns
-returns c = c.linked_in_turn.ensures
+returns c = monitoring-done _ _ _ _ _ c.loop-j.invariant c.loop-j-test.false

@@ -8,26 +8,26 @@ pub returns-then-k-ne0 : goal.returns-then-k-ne0
 unfolding show_number state_of
 returns-then-k-ne0 c = first_stops _ _ _ c.credential_number-k.ensures c.if-k-ne0.true
 
-pub returns-then-nodes-eq0 : goal.returns-then-nodes-eq0
+pub returns-then-n-eq0 : goal.returns-then-n-eq0
 unfolding show_number state_of
-returns-then-nodes-eq0 c = first_passes _ _ _ c.credential_number-k.ensures c.if-k-ne0.false (stops _ _ _ (fresh-yes c.args.n c.if-nodes-eq0.true))
+returns-then-n-eq0 c = first_passes _ _ _ c.credential_number-k.ensures c.if-k-ne0.false (stops _ _ _ (fresh-yes c.args.n.now c.if-n-eq0.true))
 
 pub returns-then-is_shown : goal.returns-then-is_shown
 unfolding show_number state_of
 returns-then-is_shown c =
     first_passes _ _ _ c.credential_number-k.ensures c.if-k-ne0.false
-    (passes _ _ _ (fresh-no c.args.n c.if-nodes-eq0.false) (stops _ _ _ (sym c.is_shown.ensures ∙ c.if-is_shown.true)))
+    (passes _ _ _ (fresh-no c.args.n.now c.if-n-eq0.false) (stops _ _ _ (sym c.is_shown.ensures ∙ c.if-is_shown.true)))
 
-pub returns-then-shown-ge-SHOWN : goal.returns-then-shown-ge-SHOWN
+pub returns-then-n-ge-SHOWN : goal.returns-then-n-ge-SHOWN
 unfolding show_number state_of
-returns-then-shown-ge-SHOWN c =
+returns-then-n-ge-SHOWN c =
     first_passes _ _ _ c.credential_number-k.ensures c.if-k-ne0.false
-    (passes _ _ _ (fresh-no c.args.n c.if-nodes-eq0.false)
-    (passes _ _ _ (sym c.is_shown.ensures ∙ c.if-is_shown.false) (stops _ _ _ (shown-full c.args.n c.if-shown-ge-SHOWN.true))))
+    (passes _ _ _ (fresh-no c.args.n.now c.if-n-eq0.false)
+    (passes _ _ _ (sym c.is_shown.ensures ∙ c.if-is_shown.false) (stops _ _ _ (shown-full c.args.n.now c.if-n-ge-SHOWN.true))))
 
 pub returns : goal.returns
 unfolding show_number state_of
 returns c =
     first_passes _ _ _ c.credential_number-k.ensures c.if-k-ne0.false
-    (passes _ _ _ (fresh-no c.args.n c.if-nodes-eq0.false)
-    (passes _ _ _ (sym c.is_shown.ensures ∙ c.if-is_shown.false) (passes _ _ _ (shown-room c.args.n c.if-shown-ge-SHOWN.false) refl)))
+    (passes _ _ _ (fresh-no c.args.n.now c.if-n-eq0.false)
+    (passes _ _ _ (sym c.is_shown.ensures ∙ c.if-is_shown.false) (passes _ _ _ (shown-room c.args.n.now c.if-n-ge-SHOWN.false) refl)))

@@ -14,53 +14,49 @@ use Rattle.legal.specs.laws.Edge.{added_number}
 use Rattle.legal.specs.laws.Number.{first_stops, first_passes, stops, passes, fresh-yes, fresh-no, absent-yes, absent-no, sizes-same}
 use borrow.Author.Rules.{rules}
 use Rattle.legal.proofs.edges.bring_number.Goals as goal
-use Rattle.legal.proofs.edges.bring_number.Goals.{After-bring_wrong, Else-nodes-wide}
+use Rattle.legal.proofs.edges.bring_number.Goals.{After-bring_wrong, Else-count-wide}
 
--- the parent stands
-parent-stands : (c : Else-nodes-wide) → c.args.b.parent < c.args.n.nodes.count
-parent-stands c = omega (arith, c.wide.ensures, c.if-nodes-wide.false)
-
-wrong : (c : After-bring_wrong) → c.bring_wrong.result ≡ bring_wrong (state_of c.args.n) c.args.b
+wrong : (c : After-bring_wrong) → c.bring_wrong.result ≡ bring_wrong (state_of c.args.n.now) c.args.b
 unfolding state_of
 wrong c =
-    c.bring_wrong.ensures c.args.n.nodes.state _
-    (record { header = refl; nodes = refl; parent = c.node_at-parent.ensures _ (parent-stands c.before.before.before.before.before.before.before.before.before.before.before.before) })
+    c.bring_wrong.ensures c.args.n.now.nodes.state _
+    (record { header = refl; nodes = refl; parent = c.node-parent.ensures c.args.n.now.nodes.count (omega (arith, c.wide.ensures, c.if-count-wide.false)) })
 
 -- what the rules behind the form say
 abbrev behind : After-bring_wrong → ℕ
 behind c =
-    added_number c.args.side (node_in (state_of c.args.n).nodes c.args.b.parent) c.args.justified
-    (leb MOST-NODES (length (state_of c.args.n).nodes) || leb MOST-EDGES (length (state_of c.args.n).edges))
+    added_number c.args.side (node_in (state_of c.args.n.now).nodes c.args.b.parent) c.args.justified
+    (leb MOST-NODES (length (state_of c.args.n.now).nodes) || leb MOST-EDGES (length (state_of c.args.n.now).edges))
 
 -- no rule before the form refuses the edge
 unrefused : (c : After-bring_wrong) {r : ℕ}
-    → r ≡ refuse (bring_wrong (state_of c.args.n) c.args.b) PRESENT (behind c)
-    → r ≡ bring_number (names_of c.args.names) c.args.side (state_of c.args.n) c.args.b c.args.justified
+    → r ≡ refuse (bring_wrong (state_of c.args.n.now) c.args.b) PRESENT (behind c)
+    → r ≡ bring_number (names_of c.args.names.now) c.args.side (state_of c.args.n.now) c.args.b c.args.justified
 unfolding bring_number state_of
 unrefused c last =
     first_passes _ _ _ (c.type_number-k.ensures ∙ ap type_number c.type_of.ensures) c.if-k-ne0.false
-    (passes _ _ _ (fresh-no c.args.n c.if-nodes-eq0.false)
-    (passes _ _ _ (absent-no c.args.n _ (parent-stands c.before.before.before.before.before.before.before.before.before.before.before.before)) last))
+    (passes _ _ _ (fresh-no c.args.n.now c.if-count-eq0.false)
+    (passes _ _ _ (absent-no c.args.n.now _ (omega (arith, c.wide.ensures, c.if-count-wide.false))) last))
 
 pub returns-then-k-ne0 : goal.returns-then-k-ne0
 unfolding bring_number state_of
 returns-then-k-ne0 c = first_stops _ _ _ (c.type_number-k.ensures ∙ ap type_number c.type_of.ensures) c.if-k-ne0.true
 
-pub returns-then-nodes-eq0 : goal.returns-then-nodes-eq0
+pub returns-then-count-eq0 : goal.returns-then-count-eq0
 unfolding bring_number state_of
-returns-then-nodes-eq0 c =
+returns-then-count-eq0 c =
     first_passes _ _ _ (c.type_number-k.ensures ∙ ap type_number c.type_of.ensures) c.if-k-ne0.false
-    (stops _ _ _ (fresh-yes c.args.n c.if-nodes-eq0.true))
+    (stops _ _ _ (fresh-yes c.args.n.now c.if-count-eq0.true))
 
-pub returns-then-nodes-wide : goal.returns-then-nodes-wide
+pub returns-then-count-wide : goal.returns-then-count-wide
 unfolding bring_number state_of
-returns-then-nodes-wide c =
+returns-then-count-wide c =
     first_passes _ _ _ (c.type_number-k.ensures ∙ ap type_number c.type_of.ensures) c.if-k-ne0.false
-    (passes _ _ _ (fresh-no c.args.n c.if-nodes-eq0.false)
-    (stops _ _ _ (absent-yes c.args.n _ (omega (arith, c.wide.ensures, c.if-nodes-wide.true)))))
+    (passes _ _ _ (fresh-no c.args.n.now c.if-count-eq0.false)
+    (stops _ _ _ (absent-yes c.args.n.now _ (omega (arith, c.wide.ensures, c.if-count-wide.true)))))
 
-pub node_at-parent-requires : goal.node_at-parent-requires
-node_at-parent-requires c = omega (arith, parent-stands c.before.before.before.before.before.before, c.requires.2)
+pub node-parent-requires : goal.node-parent-requires
+node-parent-requires c = omega (arith, c.wide.ensures, c.if-count-wide.false, c.requires.2)
 
 pub bring_wrong-requires : goal.bring_wrong-requires
 bring_wrong-requires c = c.requires.2
@@ -70,6 +66,6 @@ returns-then-bring_wrong c = unrefused c.before (stops _ _ _ (sym (wrong c.befor
 
 pub returns : goal.returns
 unfolding state_of
-returns c = unrefused c.before.before.before (passes _ _ _ (sym (wrong c.before.before.before) ∙ c.if-bring_wrong.false)
+returns c = unrefused c.before.before (passes _ _ _ (sym (wrong c.before.before) ∙ c.if-bring_wrong.false)
     (c.added_number.ensures
-    ∙ (λ i. added_number c.args.side (c.node_at-parent.ensures _ (parent-stands c.before.before.before.before.before.before.before.before.before.before.before.before.before.before.before) i) c.args.justified (sizes-same c.args.n i))))
+    ∙ (λ i. added_number c.args.side (c.node-parent.ensures c.args.n.now.nodes.count (omega (arith, c.wide.ensures, c.if-count-wide.false)) i) c.args.justified (sizes-same c.args.n.now i))))

@@ -9,4 +9,4 @@ returns-then-not-formed_as c = λ state S j.
 
 pub returns : goal.returns
 returns c = λ state S j. bring-there _ _ _ _ _ _ c.child_of-c.ensures c.formed_as.ensures j c.requires (ap not c.if-not-formed_as.false)
-    (c.find_node.ensures state)
+    (c.find.ensures state)

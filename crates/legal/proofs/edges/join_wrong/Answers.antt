@@ -11,4 +11,4 @@ returns-then-e c = λ S j.
     join-self _ _ _ _ _ _ c.formed_as.ensures j (ap not c.if-not-formed_as.false) c.if-e.true
 
 pub returns : goal.returns
-returns c = λ S j. join-there _ _ _ _ _ _ c.formed_as.ensures j (ap not c.if-not-formed_as.false) c.if-e.false c.has_edge.ensures
+returns c = λ S j. join-there _ _ _ _ _ _ c.formed_as.ensures j (ap not c.if-not-formed_as.false) c.if-e.false c.has.ensures

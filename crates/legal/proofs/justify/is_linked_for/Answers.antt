@@ -4,5 +4,5 @@ use Rattle.legal.proofs.justify.is_linked_for.Goals as goal
 
 pub returns : goal.returns
 returns c =
-    monitored-at (nodes_of c.args.n.nodes) (edges_of c.args.n.edges) c.args.p c.args.b c.node_in-parent.ensures
-    (c.is_monitored_for.ensures c.args.n.nodes c.requires.2)
+    monitored-at (nodes_of c.args.n.now.nodes) (edges_of c.args.n.now.edges) c.args.p c.args.b c.node_in-parent.ensures
+    (c.is_monitored_for.ensures c.args.n.now.nodes c.requires.2)

@@ -4,4 +4,4 @@ use Rattle.negotiation.proofs.Negotiation.add_edge.Goals as goal
 
 pub returns : goal.returns
 unfolding state_of with_edge
-returns c = rw c.add-next.ensures
+returns c = rw c.push.ensures

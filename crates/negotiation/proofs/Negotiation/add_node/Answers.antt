@@ -4,4 +4,4 @@ use Rattle.negotiation.proofs.Negotiation.add_node.Goals as goal
 
 pub returns : goal.returns
 unfolding state_of with_node
-returns c = rw c.add-next.ensures
+returns c = rw c.push.ensures

@@ -4,4 +4,4 @@ use Rattle.negotiation.proofs.Negotiation.mark.Goals as goal
 
 pub returns : goal.returns
 unfolding state_of with_mark
-returns c = rw c.mark-next.ensures
+returns c = rw c.mark.ensures

@@ -4,4 +4,4 @@ use Rattle.negotiation.proofs.Negotiation.show.Goals as goal
 
 pub returns : goal.returns
 unfolding state_of with_shown
-returns c = rw c.add-next.ensures
+returns c = rw c.push.ensures.added

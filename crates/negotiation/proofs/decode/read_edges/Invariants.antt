@@ -1,9 +1,8 @@
-use Prim.Native.Nat.{◌-◌}
-use Rattle.negotiation.specs.laws.Read.{EdgesRead}
+use Rattle.std.specs.Prelude.{◌≡◌, ℕ, ◌+◌, ◌*◌}
+use Rattle.rt0.specs.Pool.{up_to}
+use Rattle.graph.specs.laws.Graph.{edges_of}
+use Rattle.negotiation.specs.Layout.{edge_from}
 use Rattle.negotiation.proofs.decode.read_edges.Given as goal
 
-abbrev pub invariant-loop-edges : goal.invariant-loop-edges
-invariant-loop-edges l = EdgesRead l.s l.count l.edges
-
-abbrev pub decreases-loop-edges : goal.decreases-loop-edges
-decreases-loop-edges l = l.count - l.edges.count
+abbrev pub invariant-loop-j : goal.invariant-loop-j
+invariant-loop-j l = edges_of l.edges ≡ up_to l.j (λ (j : ℕ). edge_from l.s (2944 + j * 3))

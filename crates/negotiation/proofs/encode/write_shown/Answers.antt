@@ -8,36 +8,27 @@ use Rattle.expression.specs.Bytes.{pasted}
 use Rattle.expression.specs.Credential.{credential_bytes}
 use Rattle.rt0.specs.declared.Pool.{Pool}
 use Rattle.rt0.specs.Pool.{up_to}
-use Rattle.rt0.specs.laws.Pool.{pool_of, credential_at, credentials}
+use Rattle.rt0.specs.laws.Pool.{credential_at, credentials}
 use Rattle.negotiation.specs.Layout.{records, zeros}
 use Rattle.negotiation.specs.laws.Layout.{record-next, part-written, credential-size}
 use Rattle.negotiation.proofs.encode.write_shown.Goals as goal
 
 pub loop-k-init : goal.loop-k-init
-loop-k-init c = (omega arith, refl, paste-zero c.args.buf.now 3712 [])
+loop-k-init c = paste-zero c.args.buf.now 3712 []
 
 pub loop-k-preserved : goal.loop-k-preserved
-loop-k-preserved c = let P : Pool = pool_of c.args.count c.args.heads.now c.args.kinds.now c.args.numbers.now in
-    let k : ℕ = c.loop-k.k in (
-      omega arith,
-      c.write_credential.auto.s ∙ c.loop-k.invariant.1,
-      c.write_credential.ensures
-          ∙ (λ t. pasted (c.loop-k.invariant.2 t) (3712 + k * 22) (credential_bytes (record { head = c.head_at.ensures t; body = c.expression_at.ensures t })))
-          ∙ record-next credential_bytes 22 credential-size c.args.buf.now 3712 k (credential_at P) (omega arith),
-    )
-
-pub write_zeros-requires : goal.write_zeros-requires
-write_zeros-requires c = (omega arith, omega arith)
-
-pub shape_of-buf : goal.shape_of-buf
-shape_of-buf c = c.write_zeros.auto.buf ∙ c.loop-k.invariant.1
+loop-k-preserved c = let P : Pool = c.args.shown.now in
+    let k : ℕ = c.loop-k.k in
+    c.write_credential.ensures
+    ∙ (λ t. pasted (c.loop-k.invariant t) (3712 + k * 22) (credential_bytes (c.credential.ensures t)))
+    ∙ record-next credential_bytes 22 credential-size c.args.buf.now 3712 k (credential_at P) (omega arith)
 
 pub returns : goal.returns
 unfolding credentials
-returns c = let P : Pool = pool_of c.args.count c.args.heads.now c.args.kinds.now c.args.numbers.now in
-    let n : ℕ = c.args.count in
-    let all : c.loop-k.k ≡ n = le_antisymm c.loop-k.invariant.0 c.loop-k-test.false in
+returns c = let P : Pool = c.args.shown.now in
+    let n : ℕ = P.count in
+    let all : c.loop-k.k ≡ n = le_antisymm c.loop-k.auto.k-end c.loop-k-test.false in
     c.write_zeros.ensures
     ∙ ap (λ (l : List ℕ). pasted l (3712 + n * 22) (zeros (5120 - (3712 + n * 22))))
-    (c.loop-k.invariant.2 ∙ ap (λ (m : ℕ). pasted c.args.buf.now 3712 (records credential_bytes (up_to m (credential_at P)))) all)
+    (c.loop-k.invariant ∙ ap (λ (m : ℕ). pasted c.args.buf.now 3712 (records credential_bytes (up_to m (credential_at P)))) all)
     ∙ part-written credential_bytes 22 credential-size c.args.buf.now 3712 (3712 + n * 22) 5120 n (credential_at P) refl (omega arith) (omega arith)

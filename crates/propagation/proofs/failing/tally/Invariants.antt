@@ -1,11 +1,8 @@
-use Prim.Native.Nat.{ℕ, ◌-◌, ◌≤◌}
 use mathlib.Core.List.{List}
-use Rattle.propagation.specs.laws.Satisfied.{graph}
+use Prim.Native.Nat.{ℕ}
+use Rattle.propagation.specs.laws.Satisfied.{graph_of}
 use Rattle.propagation.specs.laws.Failing.{Tallied}
 use Rattle.propagation.proofs.failing.tally.Given as goal
 
 abbrev pub invariant-loop-j : goal.invariant-loop-j
-invariant-loop-j l = (l.j ≤ l.m) × ((W : List ℕ) → Tallied l.j (graph l.from l.slot W) l.left)
-
-abbrev pub decreases-loop-j : goal.decreases-loop-j
-decreases-loop-j l = l.m - l.j
+invariant-loop-j l = (W : List ℕ) → Tallied l.j (graph_of l.links W) l.left

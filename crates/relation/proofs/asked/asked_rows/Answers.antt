@@ -4,17 +4,11 @@ use Rattle.rules.specs.laws.Table.{row_of, row_for}
 use Rattle.rules.specs.laws.Columns.{four_rows}
 use Rattle.relation.proofs.asked.asked_rows.Goals as goal
 
-pub returns-in-Entity : goal.returns-in-Entity
-returns-in-Entity c = λ P h. h ∙ rw c.in-Entity.is
-
 pub returns-in-Role : goal.returns-in-Role
 returns-in-Role c = λ P h.
     let e = c.in-Role.is in
     let q = c.asked_row-r.ensures P (ap (λ (r : Four). r.a) (h ∙ ap (four_rows (row_of P)) e)) in
     rw e (λ i. record { a = q i; b = q i; c = q i; d = q i })
-
-pub returns-in-Linked : goal.returns-in-Linked
-returns-in-Linked c = λ P h. h ∙ rw c.in-Linked.is
 
 pub returns-in-Intersection : goal.returns-in-Intersection
 returns-in-Intersection c = λ P h.
@@ -29,6 +23,3 @@ returns-in-Intersection c = λ P h.
           (c.asked_row-d.ensures P (ap (λ (r : Four). r.d) k ∙ ap (row_of P) (sym c.fourth_of.ensures))
           ∙ ap (row_for P c.args.e) c.fourth_of.ensures) i;
     })
-
-pub returns-in-Goal : goal.returns-in-Goal
-returns-in-Goal c = λ P h. h ∙ rw c.in-Goal.is

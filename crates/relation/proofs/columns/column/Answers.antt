@@ -1,21 +1,24 @@
-use Rattle.rt0.specs.declared.Pool.{Pool}
-use Rattle.rt0.specs.laws.Pool.{pool_of}
+use mathlib.Core.Path.{refl}
+use borrow.Author.Tests.{eqb-true, not-false}
+use Rattle.word.specs.laws.Bools.{or-neither}
 use Rattle.rules.specs.laws.Ruled.{row_same, parts_same}
 use Rattle.relation.proofs.columns.column.Goals as goal
-use Rattle.relation.proofs.columns.column.Goals.{Start}
-
-abbrev pool : (c : Start) → Pool
-pool c = pool_of c.args.n c.args.heads.now c.args.kinds.now c.args.numbers.now
 
 pub returns-in-Entity : goal.returns-in-Entity
 returns-in-Entity c = rw c.in-Entity.is (c.entity_column.ensures _ _ c.requires.2)
 
 pub rule_column-requires : goal.rule_column-requires
-rule_column-requires c = let ruled = c.requires.1.1 in
-    (c.requires.0, (c.requires.1.0, c.args.part.now, ruled), c.asked_parts-aimed.ensures _ ruled.part, c.requires.2)
+rule_column-requires c = let ruled = c.requires.1 in
+    (c.requires.0, refl, (c.args.rules.now.words, c.args.rules.now.part, ruled), c.asked_parts.ensures _ ruled.part, c.requires.2)
 
 pub rule_column-requires-2 : goal.rule_column-requires-2
-rule_column-requires-2 c = let ruled = c.requires.1.1 in
-    let same = row_same (pool c.before.before.before) c.args.e (c.has_new_row.ensures c.if-has_new_row.false) in
-    let parts = parts_same (pool c.before.before.before) c.args.e same c.args.n c.args.part.now ruled.part in
-    (c.requires.0, (c.requires.1.0, c.args.part.now, ruled), parts, c.requires.2)
+rule_column-requires-2 c = let P = c.args.pool.now in
+    let X = c.args.rules.now in
+    let ruled = c.requires.1 in
+    let own = or-neither _ c.has_new_row.result c.if-rules-has_new_row.false in (
+      c.requires.0,
+      eqb-true X.words 1 (not-false _ own.0),
+      (X.words, X.part, ruled),
+      parts_same P c.args.e (row_same P c.args.e (c.has_new_row.ensures own.1)) P.count X.part ruled.part,
+      c.requires.2,
+    )

@@ -1,9 +1,5 @@
-use Prim.Native.Nat.{◌-◌, ◌≤◌}
 use Rattle.relation.specs.laws.Answer.{Moved}
 use Rattle.relation.proofs.columns.entity_column.Given as goal
 
 abbrev pub invariant-loop-r : goal.invariant-loop-r
-invariant-loop-r l = Moved l.mem l.s l.r l.rows × (l.r ≤ l.n)
-
-abbrev pub decreases-loop-r : goal.decreases-loop-r
-decreases-loop-r l = l.n - l.r
+invariant-loop-r l = Moved l.mem l.s l.r l.rows

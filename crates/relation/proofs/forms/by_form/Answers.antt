@@ -1,24 +1,33 @@
-use Rattle.rt0.specs.declared.Pool.{Pool}
-use Rattle.rt0.specs.laws.Pool.{pool_of}
+use mathlib.Core.List.{List}
+use mathlib.Core.Path.{◌≡◌, refl}
+use mathlib.Core.Bool.{Bool}
+use Prim.Native.Nat.{ℕ}
+use Rattle.expression.specs.declared.Role.{Role}
+use Rattle.expression.specs.declared.Parts.{Parts}
+use Rattle.expression.specs.declared.Credential.{Credential}
+use Rattle.expression.specs.declared.Expression.{Expression}
+use Rattle.expression.specs.declared.Expression.TheVariants as E
+use Rattle.expression.specs.Same.{same}
+use Rattle.rt0.specs.Decide.{from?}
 use Rattle.rules.specs.laws.Table.{chosen}
 use Rattle.relation.specs.laws.Reached.{entity-from, goal-from}
 use Rattle.relation.proofs.forms.by_form.Goals as goal
-use Rattle.relation.proofs.forms.by_form.Goals.{Start}
 
-abbrev pool : (c : Start) → Pool
-pool c = pool_of c.args.n c.args.heads.now c.args.kinds.now c.args.numbers.now
-
-pub returns-in-Entity : goal.returns-in-Entity
-returns-in-Entity c on m h = entity-from (chosen (pool c.before.before) on) c.args.f _ c.args.e c.in-Entity.is c.same.ensures
+-- what is no role, link or intersection is from itself alone
+alone : (C : List Credential) (f e : Expression) {t : Bool} → ((p : Role) → f ≡ E.Role p → ⊥) → ((a : Role) (m : ℕ) → f ≡ E.Linked a m → ⊥)
+    → ((p : Parts) → f ≡ E.Intersection p → ⊥) → t ≡ same f e → t ≡ from? C f e
+alone C (E.Entity b) e r l i h = entity-from C (E.Entity b) b e refl h
+alone C (E.Role p) e r l i h = absurd (r p refl)
+alone C (E.Linked a m) e r l i h = absurd (l a m refl)
+alone C (E.Intersection p) e r l i h = absurd (i p refl)
+alone C (E.Goal m) e r l i h = goal-from C (E.Goal m) m e refl h
 
 pub returns-in-Role : goal.returns-in-Role
 returns-in-Role c on m h = rw c.in-Role.is (c.role_from.ensures _ _ on h)
 
-pub returns-in-Linked : goal.returns-in-Linked
-returns-in-Linked c on m h = rw c.in-Linked.is (c.link_from.ensures on m h)
-
 pub returns-in-Intersection : goal.returns-in-Intersection
 returns-in-Intersection c on m h = rw c.in-Intersection.is (c.meet_from.ensures _ _ on h)
 
-pub returns-in-Goal : goal.returns-in-Goal
-returns-in-Goal c on m h = goal-from (chosen (pool c.before.before) on) c.args.f _ c.args.e c.in-Goal.is c.same-in-Goal.ensures
+pub returns-in_default : goal.returns-in_default
+returns-in_default c on m h =
+    alone (chosen c.args.pool.now on) c.args.f c.args.e c.in_default.not-Role c.in_default.not-Linked c.in_default.not-Intersection c.same.ensures

@@ -2,12 +2,12 @@ use Rattle.negotiation.specs.laws.State.{state_of}
 use Rattle.reply.specs.laws.Carry.{carry-room, carry-fits, carry-within, carry-step, carry-behind, carry-led}
 use Rattle.reply.proofs.carry.carry.Goals as goal
 
-pub show_all-m-requires : goal.show_all-m-requires
-show_all-m-requires c = (
+pub show_all-requires : goal.show_all-requires
+show_all-requires c = (
   c.requires.1,
-  carry-room c.args.n.header.side (state_of c.args.n) c.args.out c.args.s.now c.args.at c.requires.2
+  carry-room c.args.n.now.header.side (state_of c.args.n.now) c.args.out.now c.args.s.now c.args.at c.requires.2
       c.requires.3 c.requires.4,
-  carry-fits c.args.n.header.side (state_of c.args.n) c.args.out c.args.s.now c.args.at
+  carry-fits c.args.n.now.header.side (state_of c.args.n.now) c.args.out.now c.args.s.now c.args.at
       c.requires.2 c.requires.3 c.requires.4,
   c.requires.4,
 )
@@ -17,20 +17,20 @@ count_on-requires c = c.requires.1
 
 pub write_command-requires : goal.write_command-requires
 write_command-requires c =
-    carry-behind c.args.n.header.side (state_of c.args.n) c.args.out c.args.s.now c.args.at c.requires.2
-    c.requires.3 c.requires.4 c.show_all-m.ensures.shown c.show_all-m.ensures.written c.count_on.ensures.counted
+    carry-behind c.args.n.now.header.side (state_of c.args.n.now) c.args.out.now c.args.s.now c.args.at c.requires.2
+    c.requires.3 c.requires.4 c.show_all.ensures.shown c.show_all.ensures.written c.count_on.ensures.counted
 
 pub step-requires : goal.step-requires
 step-requires c = (
-  carry-within c.args.n.header.side (state_of c.args.n) c.args.out c.args.s.now c.args.at c.requires.2
-      c.requires.3 c.requires.4 c.show_all-m.ensures.shown c.show_all-m.ensures.written c.requires.0,
-  carry-step c.args.n.header.side
-      (state_of c.args.n) c.args.out c.args.s.now c.args.at c.requires.2 c.requires.3 c.requires.4
-      c.show_all-m.ensures.shown c.show_all-m.ensures.written,
+  carry-within c.args.n.now.header.side (state_of c.args.n.now) c.args.out.now c.args.s.now c.args.at c.requires.2
+      c.requires.3 c.requires.4 c.show_all.ensures.shown c.show_all.ensures.written c.requires.0,
+  carry-step c.args.n.now.header.side
+      (state_of c.args.n.now) c.args.out.now c.args.s.now c.args.at c.requires.2 c.requires.3 c.requires.4
+      c.show_all.ensures.shown c.show_all.ensures.written,
 )
 
 pub returns : goal.returns
 returns c =
-    let t = carry-led c.args.n.header.side (state_of c.args.n) c.args.out c.args.s.now c.args.at c.requires.2 c.requires.3
-    c.requires.4 c.show_all-m.ensures.shown c.show_all-m.ensures.written c.count_on.ensures.counted c.write_command.ensures c.step.ensures in
+    let t = carry-led c.args.n.now.header.side (state_of c.args.n.now) c.args.out.now c.args.s.now c.args.at c.requires.2 c.requires.3
+    c.requires.4 c.show_all.ensures.shown c.show_all.ensures.written c.count_on.ensures.counted c.write_command.ensures c.step.ensures in
     record { led = t.0; written = t.1 }

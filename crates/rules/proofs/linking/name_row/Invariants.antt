@@ -1,11 +1,8 @@
-use Prim.Native.Nat.{ℕ, ◌-◌, ◌≤◌}
+use Prim.Native.Nat.{ℕ}
 use mathlib.Core.List.{List}
 use Rattle.rt0.specs.laws.Pool.{pool_of}
 use Rattle.rules.specs.laws.Columns.{NamedRow}
 use Rattle.rules.proofs.linking.name_row.Given as goal
 
 abbrev pub invariant-loop-j : goal.invariant-loop-j
-invariant-loop-j l = ((K N : List ℕ) → NamedRow (pool_of l.n l.heads K N) l.able l.i l.m l.j l.initial.named l.named) × (l.j ≤ l.n)
-
-abbrev pub decreases-loop-j : goal.decreases-loop-j
-decreases-loop-j l = l.n - l.j
+invariant-loop-j l = (K N : List ℕ) → NamedRow (pool_of l.pool.count l.pool.heads K N) l.able l.i l.m l.j l.initial.named l.named

@@ -1,4 +1,3 @@
-use Prim.Native.Nat.{◌-◌, ◌≤◌}
 use mathlib.Core.Path.{◌≡◌}
 use mathlib.Core.Bool.{false}
 use Rattle.expression.specs.declared.Role.{Role}
@@ -8,7 +7,4 @@ use Rattle.rules.specs.laws.Table.{is_head_in}
 use Rattle.rules.proofs.rows.row.Given as goal
 
 abbrev pub invariant-loop-j : goal.invariant-loop-j
-invariant-loop-j l = (l.j ≤ l.n) × ((p : Role) → KeyOf p l.key → any_to l.j (is_head_in l.heads p) ≡ false)
-
-abbrev pub decreases-loop-j : goal.decreases-loop-j
-decreases-loop-j l = l.n - l.j
+invariant-loop-j l = (p : Role) → KeyOf p l.key → any_to l.j (is_head_in l.pool.heads p) ≡ false

@@ -11,6 +11,9 @@ use Rattle.sending.proofs.credentials.needed_for.Goals as goal
 pub needed_of-requires : goal.needed_of-requires
 needed_of-requires c = (behind-count _ _ _ c.side_pool-pool.ensures.all, c.side_pool-pool.ensures.few)
 
-pub returns : goal.returns
-returns c = let l = credentials c.args.shown in
-    let set = side-chosen c.args.own c.requires.0 _ c.args.side c.args.x refl in record { sent = sends-whole c.args.shown _ _ _ _ (c.side_pool-pool.ensures.all ∙ ap (λ (cs : List Credential). l ++ unshown_of l cs) set) c.needed_of.ensures; fresh = c.side_pool-pool.ensures.fresh }
+pub returns-clause-sent : goal.returns-clause-sent
+returns-clause-sent c =
+    let l = credentials c.args.n.now.shown in
+    let set = side-chosen c.args.own.now c.requires.0 _ c.args.n.now.header.side c.args.x refl in
+    sends-whole c.args.n.now.shown _ _ _ _ (c.side_pool-pool.ensures.all ∙ ap (λ (cs : List Credential). l ++ unshown_of l cs) set)
+    c.needed_of.ensures

@@ -6,4 +6,4 @@ use Rattle.standing.proofs.turn.sends.Goals as goal
 
 pub returns : goal.returns
 unfolding sends
-returns c = ap (λ (n : ℕ). eqb (n % 2) c.args.side) c.message_count.ensures
+returns c = ap (λ (n : ℕ). eqb (n % 2) c.args.side) c.count.ensures

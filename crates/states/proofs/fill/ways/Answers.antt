@@ -4,10 +4,10 @@ use Rattle.states.specs.laws.Filled.{ways-start, ways-add, ways-all}
 use Rattle.states.proofs.fill.ways.Goals as goal
 
 pub loop-i-init : goal.loop-i-init
-loop-i-init c = (omega arith, λ o. ways-start _)
+loop-i-init c o = ways-start _
 
 pub loop-i-preserved : goal.loop-i-preserved
-loop-i-preserved c = (omega arith, λ o. ways-add _ (omega arith) refl c.way_of.ensures (c.loop-i.invariant.1 o))
+loop-i-preserved c o = ways-add _ (omega arith) refl c.way_of.ensures (c.loop-i.invariant o)
 
 pub returns : goal.returns
-returns c = λ o. ways-all _ c.loop-i.invariant.0 c.loop-i-test.false (c.loop-i.invariant.1 o)
+returns c o = ways-all _ (omega arith) (omega arith) (c.loop-i.invariant o)

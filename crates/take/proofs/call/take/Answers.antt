@@ -10,28 +10,19 @@ returns-then-not-fits c =
     let t = take-size c.args.tables.now c.args.negotiation.now c.args.message.now c.args.scratch.now c.fits.ensures (ap not c.if-not-fits.true) in
     record { answered = t.0; left = t.1.0; cleared = t.1.1 }
 
-pub returns-then-r-ne0 : goal.returns-then-r-ne0
-returns-then-r-ne0 c =
+pub returns-in-Err : goal.returns-in-Err
+returns-in-Err c =
     let t = take-unrestored c.args.tables.now c.args.negotiation.now c.args.message.now c.args.scratch.now c.fits.ensures
-    (ap not c.if-not-fits.false) c.restore-r.result c.restore-r.ensures.found c.if-r-ne0.true in
+    (ap not c.if-not-fits.false) c.restore.result c.restore.ensures.found c.in-Err.is in
     record { answered = t.0; left = t.1.0; cleared = t.1.1 }
 
-pub taken_in-t-requires : goal.taken_in-t-requires
-taken_in-t-requires c = (
-  c.restore-r.ensures.kept.housed c.if-r-ne0.false,
-  restored-own _ _ _ c.restore-r.ensures.found c.if-r-ne0.false,
-  c.restore-r.ensures.kept.within-sizes c.if-r-ne0.false,
-  c.restore-r.ensures.kept.is-sound c.if-r-ne0.false,
+pub take_in-requires : goal.take_in-requires
+take_in-requires c = (
+  c.in-Ok.ensures.kept.housed,
+  restored-own _ _ _ c.in-Ok.ensures.found,
+  c.in-Ok.ensures.kept.within-sizes,
+  c.in-Ok.ensures.kept.is-sound,
 )
-
-pub returns-then-t-ne0 : goal.returns-then-t-ne0
-returns-then-t-ne0 c =
-    let t = take-refused c.args.tables.now c.args.negotiation.now c.args.message.now c.args.scratch.now c.fits.ensures
-    (ap not c.if-not-fits.false) c.restore-r.result c.restore-r.ensures.found c.if-r-ne0.false c.taken_in-t.result c.taken_in-t.ensures.taken c.if-t-ne0.true in
-    record { answered = t.0; left = t.1.0; cleared = t.1.1 }
-
-pub write-requires : goal.write-requires
-write-requires c = (c.taken_in-t.ensures.sized.sizes c.if-t-ne0.false, restored-length _ _ _ c.restore-r.ensures.found c.if-r-ne0.false)
 
 pub write_zeros-requires : goal.write_zeros-requires
 write_zeros-requires c = (
@@ -43,9 +34,19 @@ write_zeros-requires c = (
   ),
 )
 
+pub returns-in-Err-take_in : goal.returns-in-Err-take_in
+returns-in-Err-take_in c =
+    let t = take-refused c.args.tables.now c.args.negotiation.now c.args.message.now c.args.scratch.now c.fits.ensures
+    (ap not c.if-not-fits.false) c.restore.result c.restore.ensures.found c.in-Ok.is c.take_in.result c.take_in.new.n c.take_in.ensures.taken
+    c.in-Err-take_in.is in
+    record { answered = t.0; left = t.1.0; cleared = t.1.1 }
+
+pub write-requires : goal.write-requires
+write-requires c = (c.in_default.ensures.sized.sizes, restored-length _ _ _ c.in-Ok.ensures.found)
+
 pub returns : goal.returns
 returns c =
     let t = take-accepted c.args.tables.now c.args.negotiation.now c.args.message.now c.args.scratch.now c.fits.ensures
-    (ap not c.if-not-fits.false) c.restore-r.result c.restore-r.ensures.found c.if-r-ne0.false c.taken_in-t.result c.taken_in-t.ensures.taken c.if-t-ne0.false c.write.ensures
-    c.write_zeros.ensures in
+    (ap not c.if-not-fits.false) c.restore.result c.restore.ensures.found c.in-Ok.is c.take_in.result c.take_in.new.n c.take_in.ensures.taken
+    c.in_default.is c.write.ensures c.write_zeros.ensures in
     record { answered = t.0; left = t.1.0; cleared = t.1.1 }

@@ -1,4 +1,0 @@
-use Rattle.candidates.proofs.members.with_frontier.Goals as goal
-
-pub returns : goal.returns
-returns c = record { found = _; reaches = c.reached-found.ensures; best = c.with_members.ensures _ }

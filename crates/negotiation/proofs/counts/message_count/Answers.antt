@@ -1,7 +1,0 @@
-use mathlib.Core.Path.{refl}
-use Rattle.negotiation.specs.Messages.{message_count}
-use Rattle.negotiation.proofs.counts.message_count.Goals as goal
-
-pub returns : goal.returns
-unfolding message_count
-returns c = refl
