@@ -56,6 +56,7 @@ fn begin(house: &House, n: &mut Negotiation, s: &mut [u8]) -> usize
 }
 
 // The moves of a reply; then the end is judged, and the end byte is written. How many bytes the reply has, or why it is refused: then nothing changes.
+#[inline(never)]
 fn reply_in(house: House, n: &mut Negotiation, s: &mut [u8]) -> Result<usize, u64>
     requires { Housed house × Sound (tables_of house) × (sound (tables_of house) (state_of n.old) ≡ true) × (within (state_of n.old) ≡ true)
         × (MOST-MESSAGE-BYTES ≤ length s.old) }

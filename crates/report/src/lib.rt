@@ -79,9 +79,10 @@ fn report_on(n: &Negotiation, i: usize) -> u64
 pub fn report(tables: &[u8], negotiation: &[u8], node: u8) -> u64
     ensures { result ≡ answer_of packed (report_of tables.now negotiation.now node) }
 {
-    let r = match restore(tables, negotiation) {
+    let found = restore(tables, negotiation);
+    let r = match &found {
         Ok(r) => r,
-        Err(k) => return k,
+        Err(k) => return *k,
     };
     let i = node as usize;
     if r.negotiation.nodes.count <= i {

@@ -26,6 +26,7 @@ fn fits(message: usize, scratch: usize) -> bool
 }
 
 // What a message does to a negotiation. Where it is refused, what it has left does not count.
+#[inline(never)]
 fn take_in(house: &House, n: &mut Negotiation, message: &[u8]) -> Result<(), u64>
     requires { Housed house.now × (0 < house.now.own) × (within (state_of n.old) ≡ true)
         × (sound (tables_of house.now) (state_of n.old) ≡ true) }

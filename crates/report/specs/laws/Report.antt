@@ -3,7 +3,7 @@ use Rattle.std.specs.Prelude.{ℕ, ◌+◌, ◌*◌, ◌/◌, ◌%◌, ◌≤◌
 use Rattle.std.proofs.Math.Bool.{cond}
 use Rattle.graph.specs.Propagated.{propagated_state, satisfied_b, failed_b, complete_b}
 use Rattle.standing.specs.Standing.{restore_of}
-use Rattle.std.proofs.Common.{arith, ◌∙◌, ⊎_elim, eq-eqb, ne_eqb, lt-ltb, le-ltb, eqb-true, leb-true}
+use Rattle.std.proofs.Common.{arith, ◌∙◌, ⊎_elim, lt-ltb, le-ltb, eqb-true, leb-true}
 use Rattle.std.proofs.Math.Path.{sym, ap}
 use Rattle.rt0.specs.laws.Pool.{credentials, credential_at}
 use Rattle.rt0.specs.laws.Added.{length-up_to}
@@ -14,7 +14,6 @@ use Rattle.graph.specs.declared.Edge.{Edge}
 use Rattle.graph.specs.laws.Graph.{nodes_of, edges_of}
 use Rattle.graph.specs.laws.Columns.{nodes-length, edges-length, node_in_lem}
 use Rattle.graph.specs.laws.Form.{legal-few}
-use Rattle.tables.specs.laws.Tables.{tables_of}
 use Rattle.negotiation.specs.declared.Messages.{Messages}
 use Rattle.negotiation.specs.declared.Negotiation.{Negotiation}
 use Rattle.negotiation.specs.State.{State, within}
