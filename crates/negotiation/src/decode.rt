@@ -1,12 +1,13 @@
 // Bytes become a negotiation, if they are the bytes of one.
-ghost use Rattle.std.specs.Prelude.{◌≡◌, ℕ, ◌+◌, ◌*◌, ◌≤◌, length};
+ghost use Rattle.std.specs.Prelude.{◌≡◌, true, ℕ, ◌+◌, ◌*◌, ◌≤◌, length};
 ghost use Rattle.rt0.specs.Pool.{up_to};
 ghost use Rattle.rt0.specs.laws.Pool.{credentials};
 ghost use Rattle.graph.specs.laws.Graph.{nodes_of, edges_of};
+ghost use Rattle.negotiation.specs.State.{within};
 ghost use Rattle.negotiation.specs.laws.State.{state_of};
 ghost use Rattle.numbers.specs.Sizes.{MOST-NODES, MOST-EDGES, MOST-SHOWN, NEGOTIATION-BYTES};
 ghost use Rattle.negotiation.specs.Layout.{NODES-AT, EDGES-AT, SHOWN-AT};
-ghost use Rattle.negotiation.specs.Layout.{header_from, node_from, edge_from, credential_from, few, candidate_of, same_bytes, read_state};
+ghost use Rattle.negotiation.specs.Layout.{header_from, node_from, edge_from, credential_from, few, candidate_of, same_bytes, state_bytes, read_state};
 ghost use Rattle.negotiation.specs.laws.Layout.{reading_of};
 
 use crate::encode::write;
@@ -136,12 +137,20 @@ fn same_bytes(a: &[u8], b: &[u8]) -> bool
     same
 }
 
+// Whether these are the bytes of a negotiation.
+pub fn has_bytes(n: &Negotiation, s: &[u8]) -> bool
+    requires { (within (state_of n.now) ≡ true) × (length s.now ≡ NEGOTIATION-BYTES) }
+    ensures { result ≡ same_bytes s.now (state_bytes (state_of n.now)) }
+{
+    let mut buf = [0u8; Negotiation::BYTES];
+    write(n, &mut buf);
+    same_bytes(s, &buf)
+}
+
 pub fn read(s: &[u8]) -> Option<Negotiation>
     requires { length s.now ≡ NEGOTIATION-BYTES }
     ensures { reading_of result ≡ read_state s.now }
 {
     let n = candidate(s);
-    let mut buf = [0u8; Negotiation::BYTES];
-    write(&n, &mut buf);
-    if same_bytes(s, &buf) { Some(n) } else { None }
+    if has_bytes(&n, s) { Some(n) } else { None }
 }

@@ -6,7 +6,7 @@ ghost use Rattle.negotiation.specs.laws.State.{state_of};
 ghost use Rattle.negotiation.specs.State.{fresh_state, with_node, with_edge, with_shown, with_mark};
 ghost use Rattle.numbers.specs.Sizes.{MOST-NODES, MOST-EDGES, MOST-SHOWN};
 
-pub use decode::{candidate, read};
+pub use decode::{candidate, has_bytes, read};
 pub use encode::{write, write_zeros};
 pub use ends::{MEDIATOR, REQUESTER};
 use expression::{Credential, Role};

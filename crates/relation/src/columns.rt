@@ -52,7 +52,8 @@ fn rule_column(
     vals
 }
 
-// The rows that answer what is from e over the credentials that are on, whose relation is mem. Bit 0 needs one word of a row.
+// The rows that answer what is from e over the credentials that are on, whose relation is mem. Bit 0 needs one word of a row, so the rules' number of
+// words does not matter.
 pub fn column(
     pool: &Pool,
     rules: &Rules,
@@ -61,7 +62,8 @@ pub fn column(
     mem: &[u64; 260],
     e: Expression,
 ) -> [u64; 260]
-    requires { (pool.now.count ≤ 128) × Ruled pool.now rules.now × Relation pool.now on.now mem.now }
+    requires { (pool.now.count ≤ 128) × ((words : ℕ) × Ruled pool.now (record rules.now { words = words }))
+        × Relation pool.now on.now mem.now }
     ensures { Answers pool.now on.now e 0 result }
 {
     if let Expression::Entity(b) = e {

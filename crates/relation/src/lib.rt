@@ -124,7 +124,8 @@ pub fn ask(
     f: Expression,
     e: Expression,
 ) -> bool
-    requires { (pool.now.count ≤ 128) × Ruled pool.now rules.now × Relation pool.now on.now mem.now }
+    requires { (pool.now.count ≤ 128) × ((words : ℕ) × Ruled pool.now (record rules.now { words = words }))
+        × Relation pool.now on.now mem.now }
     ensures { result ≡ from_of (chosen pool.now on.now) f e }
 {
     if let Expression::Entity(b) = e {
