@@ -1,8 +1,9 @@
 // The credential list of an RT0 question.
-ghost use Rattle.std.specs.Prelude.{◌≡◌, ◌≤◌, ◌<◌, length, IfOk};
+ghost use Rattle.std.specs.Prelude.{◌≡◌, [], ◌≤◌, ◌<◌, length, IfOk, OnOk};
+ghost use Rattle.rt0.specs.laws.Pool.{credentials};
 ghost use Rattle.numbers.specs.Sizes.{MOST-CREDENTIALS, MOST-CREDENTIALS-BYTES};
 ghost use Rattle.question.specs.Credentials.{credential_step, end_step, step_at, credentials_of};
-ghost use Rattle.question.specs.laws.Credentials.{listed_of};
+ghost use Rattle.question.specs.laws.Credentials.{listed_of, filled_of};
 
 use crate::Step;
 use expression::read_credential;
@@ -47,13 +48,12 @@ fn step(s: &[u8], at: usize) -> Result<Step, u64>
     }
 }
 
-// The commands are read left to right, and the first that cannot be taken ends the reading.
-pub fn list(s: &[u8]) -> Result<Pool, u64>
-    requires { length s.now ≤ MOST-CREDENTIALS-BYTES }
-    ensures listed { listed_of result ≡ credentials_of s.now }
-    ensures few { IfOk result (λ pool. pool.count ≤ MOST-CREDENTIALS) }
+// The commands are read left to right into an empty pool, and the first that cannot be taken ends the reading.
+pub fn fill(s: &[u8], pool: &mut Pool) -> Result<(), u64>
+    requires { (length s.now ≤ MOST-CREDENTIALS-BYTES) × (credentials pool.old ≡ []) }
+    ensures listed { filled_of result pool.new ≡ credentials_of s.now }
+    ensures few { OnOk result (pool.new.count ≤ MOST-CREDENTIALS) }
 {
-    let mut pool = Pool::empty();
     let mut at = 0;
     while at < s.len() {
         match step(s, at)? {
@@ -61,8 +61,19 @@ pub fn list(s: &[u8]) -> Result<Pool, u64>
                 pool.push(c);
                 at += CREDENTIAL_BYTES;
             }
-            Step::End => return Ok(pool),
+            Step::End => return Ok(()),
         }
     }
     Err(COMMAND)
+}
+
+// The pool of a list.
+pub fn list(s: &[u8]) -> Result<Pool, u64>
+    requires { length s.now ≤ MOST-CREDENTIALS-BYTES }
+    ensures listed { listed_of result ≡ credentials_of s.now }
+    ensures few { IfOk result (λ pool. pool.count ≤ MOST-CREDENTIALS) }
+{
+    let mut pool = Pool::empty();
+    fill(s, &mut pool)?;
+    Ok(pool)
 }

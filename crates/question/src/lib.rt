@@ -7,10 +7,11 @@ ghost use Rattle.question.specs.Question.{sized as sized_of, operand_of, yes_or_
 ghost use Rattle.question.specs.laws.Question.{decision_of};
 ghost use Rattle.numbers.specs.Answer.{answer_of};
 
-pub use credentials::list;
+pub use credentials::{fill, list};
 use expression::{Credential, Expression, is_body, read_expression};
 use numbers::{EXPRESSION_BYTES, LENGTH, MOST_CREDENTIALS_BYTES, OPERAND};
 use relation::from;
+use rt0::Pool;
 
 mod credentials;
 
@@ -47,14 +48,15 @@ pub fn operand(s: &[u8]) -> Option<Expression>
 }
 
 // Whether "f from e" over the lent credentials, or a refusal number.
-#[tactic(auto, unfolding(crate::specs::Question::sized, crate::specs::Question::question_of, crate::specs::laws::Credentials::listed_of))]
+#[tactic(auto, unfolding(crate::specs::Question::sized, crate::specs::Question::question_of, crate::specs::laws::Credentials::listed_of, crate::specs::laws::Credentials::filled_of))]
 fn decide(credentials: &[u8], f: &[u8], e: &[u8]) -> Result<bool, u64>
     ensures { decision_of result ≡ question_of credentials.now f.now e.now }
 {
     if !sized(credentials.len(), f.len(), e.len()) {
         return Err(LENGTH);
     }
-    let pool = list(credentials)?;
+    let mut pool = Pool::empty();
+    fill(credentials, &mut pool)?;
     let x = operand(f).ok_or(OPERAND)?;
     let y = operand(e).ok_or(OPERAND)?;
     Ok(from(&pool, x, y))

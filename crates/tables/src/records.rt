@@ -35,8 +35,8 @@ fn own_of(s: &[u8]) -> Result<u16, u64>
 }
 
 impl House {
-    // The records of tables go into an empty house.
-    fn fill(&mut self, s: &[u8]) -> Result<(), u64>
+    // The records of tables go into an empty house. Where they are refused, what it then holds does not count.
+    pub fn fill(&mut self, s: &[u8]) -> Result<(), u64>
         requires { tables_of self.old ≡ unread }
         ensures { Filled s.now result self.new }
     {
@@ -71,6 +71,9 @@ pub fn decode(s: &[u8]) -> Result<House, u64>
 pub fn check(s: &[u8]) -> u64
     ensures { result ≡ check_of s.now }
 {
+    if !sized(s.len()) {
+        return LENGTH;
+    }
     let mut house = House::empty();
     match house.fill(s) {
         Ok(()) => 0,

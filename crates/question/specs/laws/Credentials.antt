@@ -27,6 +27,21 @@ unfoldable pub listed_of : Result Pool ℕ → Answer (List Credential)
 listed_of (Ok P) = accepted (credentials P)
 listed_of (Err k) = refused k
 
+-- where the credentials go into a pool that is lent: those of the pool, or the refusal number
+unfoldable pub filled_of : Result (Unit {0}) ℕ → Pool → Answer (List Credential)
+filled_of (Ok u) P = accepted (credentials P)
+filled_of (Err k) P = refused k
+
+-- the same of the pool itself
+pub filled-list : (u : Unit {0}) (P : Pool) → filled_of (Ok u) P ≡ listed_of (Ok P)
+unfolding filled_of listed_of
+filled-list u P = refl
+
+-- a list that is refused, whatever the pool
+pub refused-list : (P : Pool) (k : ℕ) → filled_of (Err k) P ≡ listed_of (Err k)
+unfolding filled_of listed_of
+refused-list P k = refl
+
 -- The command at an index
 
 -- a command too short to be a credential
