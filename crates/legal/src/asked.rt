@@ -1,5 +1,5 @@
 // What the credentials of a pool prove, made once and asked many times.
-ghost use Rattle.std.specs.Prelude.{◌≡◌, [], ◌≤◌};
+ghost use Rattle.std.specs.Prelude.{◌≡◌, ℕ, [], ◌≤◌};
 ghost use Rattle.rt0.specs.laws.Pool.{credentials as credentials_of};
 ghost use Rattle.graph.specs.laws.Graph.{nodes_of};
 ghost use Rattle.message.specs.declared.Command.TheVariants as C;
@@ -102,7 +102,8 @@ fn implication_of(nodes: &Nodes, c: Command) -> Implication
 
 // Whether the credentials shown prove the edge of a command, if it is an implication: by what is known.
 pub fn is_proved(n: &Negotiation, known: &Proved, c: Command) -> bool
-    requires { (n.now.nodes.count ≤ MOST-NODES) × ProvedFor c known.now.pool known.now.rules known.now.rows n.now.shown }
+    requires { (n.now.nodes.count ≤ MOST-NODES)
+        × ((words : ℕ) × ProvedFor c known.now.pool (record known.now.rules { words = words }) known.now.rows n.now.shown) }
     ensures { Proves (state_of n.now) c result }
 {
     if !is_implication(c) {

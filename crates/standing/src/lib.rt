@@ -1,20 +1,17 @@
 // What a call finds in its tables and its negotiation, and whose turn it is.
 #![tactic(auto)]
 
-ghost use Rattle.tables.specs.Check.{read_tables};
-ghost use Rattle.tables.specs.laws.Check.{outcome_of};
-ghost use Rattle.tables.specs.laws.Decoding.{Housed};
-ghost use Rattle.negotiation.specs.Layout.{read_state};
-ghost use Rattle.negotiation.specs.laws.Layout.{reading_of};
-ghost use Rattle.numbers.specs.Sizes.{NEGOTIATION-BYTES};
-ghost use Rattle.std.specs.Prelude.{length, ◌≡◌, IfOk, Ok};
-ghost use Rattle.standing.specs.laws.Standing.{standing_of, Usable};
+ghost use Rattle.tables.specs.Tables.{unread};
+ghost use Rattle.tables.specs.laws.Tables.{tables_of};
+ghost use Rattle.std.specs.Prelude.{◌≡◌, IfOk, OnOk};
+ghost use Rattle.standing.specs.laws.Standing.{standing_of, found_of, Usable};
 ghost use Rattle.standing.specs.Standing.{restore_of};
 
 use damage::sound;
-use negotiation::{Negotiation, read};
+use expression::Role;
+use negotiation::{Negotiation, candidate, has_bytes};
 use numbers::{DAMAGED, LENGTH};
-use tables::{House, decode};
+use tables::House;
 pub use turn::{other_side, sends};
 
 mod turn;
@@ -26,32 +23,36 @@ pub struct Restored {
     pub negotiation: Negotiation,
 }
 
-// The tables. Apart from its caller: what it needs of the stack is given back before the negotiation is judged.
-#[inline(never)]
-fn house_of(tables: &[u8]) -> Result<House, u64>
-    ensures { (outcome_of result ≡ read_tables tables.now) × IfOk result Housed }
-{
-    decode(tables)
-}
+impl Restored {
+    // No tables, and no negotiation.
+    pub fn empty() -> Self
+        ensures { tables_of result.house ≡ unread }
+    {
+        Self {
+            house: House::empty(),
+            negotiation: Negotiation::fresh(0, 0, 0, Role { entity: 0, name: 0 }),
+        }
+    }
 
-// The negotiation that bytes hold, likewise.
-#[inline(never)]
-fn held_in(negotiation: &[u8]) -> Option<Negotiation>
-    requires { length negotiation.now ≡ NEGOTIATION-BYTES }
-    ensures { reading_of result ≡ read_state negotiation.now }
-{
-    read(negotiation)
-}
-
-// Both, for the caller of an accepted call: apart, so that no copy of them lies beside the judgement.
-#[inline(never)]
-fn accepted(house: &House, negotiation: &Negotiation) -> Result<Restored, u64>
-    ensures { result ≡ Ok (record { house = house.now; negotiation = negotiation.now }) }
-{
-    Ok(Restored {
-        house: *house,
-        negotiation: *negotiation,
-    })
+    // The tables, then the negotiation, each where it lies; else the number of the refusal, and what it then holds does not count.
+    pub fn find(&mut self, tables: &[u8], negotiation: &[u8]) -> Result<(), u64>
+        requires { tables_of self.old.house ≡ unread }
+        ensures found { found_of result self.new ≡ restore_of tables.now negotiation.now }
+        ensures kept { OnOk result (Usable self.new) }
+    {
+        if negotiation.len() != Negotiation::BYTES {
+            return Err(LENGTH);
+        }
+        self.house.fill(tables)?;
+        self.negotiation = candidate(negotiation);
+        if !has_bytes(&self.negotiation, negotiation) {
+            return Err(DAMAGED);
+        }
+        if !sound(&self.house, &self.negotiation) {
+            return Err(DAMAGED);
+        }
+        Ok(())
+    }
 }
 
 // The tables, then the negotiation; else the number of the refusal.
@@ -59,20 +60,7 @@ pub fn restore(tables: &[u8], negotiation: &[u8]) -> Result<Restored, u64>
     ensures found { standing_of result ≡ restore_of tables.now negotiation.now }
     ensures kept { IfOk result Usable }
 {
-    if negotiation.len() != Negotiation::BYTES {
-        return Err(LENGTH);
-    }
-    let decoded = house_of(tables);
-    let house = match &decoded {
-        Ok(house) => house,
-        Err(k) => return Err(*k),
-    };
-    let held = held_in(negotiation);
-    let Some(n) = &held else {
-        return Err(DAMAGED);
-    };
-    if !sound(house, n) {
-        return Err(DAMAGED);
-    }
-    accepted(house, n)
+    let mut found = Restored::empty();
+    found.find(tables, negotiation)?;
+    Ok(found)
 }

@@ -33,6 +33,19 @@ unfoldable pub standing_of : Result Restored ℕ → Answer (Tables × State)
 standing_of (Ok r) = accepted (tables_of r.house, state_of r.negotiation)
 standing_of (Err k) = refused k
 
+-- the same where what is found lies beside the answer
+unfoldable pub found_of : Result (Unit {0}) ℕ → Restored → Answer (Tables × State)
+found_of (Ok u) r = standing_of (Ok r)
+found_of (Err k) r = standing_of (Err k)
+
+pub found-standing : (u : Unit {0}) (r : Restored) → found_of (Ok u) r ≡ standing_of (Ok r)
+unfolding found_of
+found-standing u r = refl
+
+pub refused-standing : (k : ℕ) (r : Restored) → found_of (Err k) r ≡ standing_of (Err k)
+unfolding found_of
+refused-standing k r = refl
+
 -- what an accepted call can rely on
 pub record Usable (r : Restored) : Type 0 where
   pub housed : Housed r.house
