@@ -3,7 +3,7 @@
 
 ghost use Rattle.std.specs.Prelude.{◌≡◌, ◌≤◌, ◌<◌};
 ghost use Rattle.negotiation.specs.laws.State.{state_of};
-ghost use Rattle.negotiation.specs.State.{fresh_state, with_node, with_edge, with_shown, with_mark};
+ghost use Rattle.negotiation.specs.State.{fresh_state, with_node, with_edge, with_shown, with_mark, with_header};
 ghost use Rattle.numbers.specs.Sizes.{MOST-NODES, MOST-EDGES, MOST-SHOWN};
 
 pub use decode::{candidate, has_bytes, read};
@@ -124,6 +124,13 @@ impl Negotiation {
         ensures { state_of result ≡ with_mark (state_of self) i state }
     {
         self.nodes.mark(i, state);
+        self
+    }
+
+    pub fn with_header(mut self, h: Header) -> Self
+        ensures { state_of result ≡ with_header (state_of self) h }
+    {
+        self.header = h;
         self
     }
 }

@@ -1,19 +1,77 @@
--- What is read, and the comparison of bytes. Assumes nothing.
-use Rattle.std.specs.Prelude.{ℕ, zero, suc, ◌+◌, ◌*◌, ◌≤◌, ◌<◌, ◌≡◌, refl, Bool, true, false, cond, ◌&&◌, List, [], ◌∷◌, eqb, leb, length, get_or, take, Some, None}
+-- What is read one record after the other, and the comparison of bytes. Assumes nothing.
+use Rattle.std.specs.Prelude.{ℕ, zero, suc, ◌+◌, ◌*◌, ◌≤◌, ◌<◌, ◌≡◌, refl, Bool, true, false, cond, ◌&&◌, List, [], ◌∷◌, ◌++◌, eqb, leb, length, get_or, take, Some, None}
 use Rattle.std.proofs.Common.{arith, add-one, sym, ◌∙◌, ap, eqb-true, eq-eqb, leb-true, le-leb, take_all}
 use Rattle.std.proofs.Math.Bool.{and-true, and_assoc}
 use Rattle.std.proofs.Math.Option.{none, some}
+use Rattle.expression.specs.declared.Raw.{Raw}
 use Rattle.expression.specs.Bytes.{number_at}
+use Rattle.expression.specs.Form.{expression_of}
 use Rattle.expression.specs.laws.Laws.{and_left, and_right}
 use Rattle.rt0.specs.Pool.{up_to}
 use Rattle.rt0.specs.laws.Pool.{credentials}
 use Rattle.rt0.specs.laws.Added.{length-up_to}
+use Rattle.graph.specs.declared.Node.{Node}
+use Rattle.graph.specs.declared.Edge.{Edge}
+use Rattle.graph.specs.declared.Nodes.{Nodes}
+use Rattle.graph.specs.declared.Edges.{Edges}
 use Rattle.graph.specs.laws.Graph.{nodes_of, edges_of}
 use Rattle.negotiation.specs.declared.Negotiation.{Negotiation}
 use Rattle.negotiation.specs.laws.State.{state_of}
 use Rattle.negotiation.specs.State.{within}
+use Rattle.graph.specs.laws.Columns.{NodesSized, EdgesSized, added_node, add-node, added-node-sized, nodes-length, added_edge, add-edge, added-edge-sized}
+use Rattle.graph.specs.laws.Columns.{edges-length}
 use Rattle.negotiation.specs.Layout.{header_from, node_from, edge_from, credential_from, few, candidate_of, state_bytes, same_bytes, read_state}
 use Rattle.negotiation.specs.laws.Layout.{reading_of}
+
+-- Columns that are filled
+
+-- one element more
+pub up_to-next : {A : Type 0} (l m : List A) (n : ℕ) (f : ℕ → A) (x : A) → l ≡ up_to n f → x ≡ f n → m ≡ l ++ (x ∷ []) → m ≡ up_to (n + 1) f
+up_to-next l m n f x e h k = k ∙ (λ i. e i ++ (h i ∷ [])) ∙ ap (λ (j : ℕ). up_to j f) (sym (add-one n))
+
+-- the nodes at the start of the bytes s, as far as they are read
+pub record NodesRead (s : List ℕ) (count : ℕ) (N : Nodes) : Type 0 where
+  pub few : N.count ≤ count
+  pub sized : NodesSized N
+  pub all : nodes_of N ≡ up_to N.count (λ (i : ℕ). node_from s (128 + i * 22))
+
+pub no-nodes-read : (s : List ℕ) (count : ℕ) (N : Nodes) → nodes_of N ≡ [] → NodesSized N → NodesRead s count N
+no-nodes-read s count N e z =
+    let empty : N.count ≡ 0 = sym (nodes-length N) ∙ ap length e in
+    record { few = omega arith; sized = z; all = e ∙ ap (λ (n : ℕ). up_to n (λ (i : ℕ). node_from s (128 + i * 22))) (sym empty) }
+
+pub node-read : (s : List ℕ) (count : ℕ) (N : Nodes) (x : Node) (r : Raw) → count ≤ 128 → NodesRead s count N → N.count < count
+    → expression_of r ≡ x.expression → x ≡ node_from s (128 + N.count * 22) → NodesRead s count (added_node N x r)
+node-read s count N x r most h l e k =
+    record {
+      few = omega arith;
+      sized = added-node-sized N x r h.sized;
+      all =
+          up_to-next (nodes_of N) (nodes_of (added_node N x r)) N.count (λ (i : ℕ). node_from s (128 + i * 22)) x h.all k
+          (add-node N x r h.sized (omega arith) e);
+    }
+
+pub record EdgesRead (s : List ℕ) (count : ℕ) (E : Edges) : Type 0 where
+  pub few : E.count ≤ count
+  pub sized : EdgesSized E
+  pub all : edges_of E ≡ up_to E.count (λ (j : ℕ). edge_from s (2944 + j * 3))
+
+pub no-edges-read : (s : List ℕ) (count : ℕ) (E : Edges) → edges_of E ≡ [] → EdgesSized E → EdgesRead s count E
+no-edges-read s count E e z =
+    let empty : E.count ≡ 0 = sym (edges-length E) ∙ ap length e in
+    record { few = omega arith; sized = z; all = e ∙ ap (λ (n : ℕ). up_to n (λ (j : ℕ). edge_from s (2944 + j * 3))) (sym empty) }
+
+pub edge-read : (s : List ℕ) (count : ℕ) (E : Edges) → count ≤ 256 → EdgesRead s count E → E.count < count
+    → EdgesRead s count (added_edge E (edge_from s (2944 + E.count * 3)))
+edge-read s count E most h l =
+    let x : Edge = edge_from s (2944 + E.count * 3) in
+    record {
+      few = omega arith;
+      sized = added-edge-sized E x h.sized;
+      all =
+          up_to-next (edges_of E) (edges_of (added_edge E x)) E.count (λ (j : ℕ). edge_from s (2944 + j * 3)) x h.all refl
+          (add-edge E x h.sized (omega arith));
+    }
 
 -- Counts
 
