@@ -1,6 +1,6 @@
 -- How the reading of a credential list goes on, and which numbers refuse it. Assumes nothing.
 use Prim.Native.Nat.{ℕ, zero, suc, ◌+◌, ◌-◌, ◌*◌, ◌<◌, ◌≤◌}
-use Rattle.std.specs.Prelude.{cond, Bool, length, get_or, take, drop, ◌≡◌, ◌⊎◌, Option, Some, None, Result, Ok, Err}
+use Rattle.std.specs.Prelude.{cond, Bool, length, get_or, take, drop, ◌≡◌, ◌⊎◌, Option, Some, None, Result, Ok, Err, IfOk}
 use Rattle.std.proofs.Math.Bool.{true, false}
 use mathlib.Core.List.{List, [], ◌∷◌, ◌++◌}
 use Rattle.std.proofs.Math.Dec.{ltb, eqb}
@@ -210,6 +210,10 @@ pub listed-refused : {l : Result Pool ℕ} {k : ℕ} → l ≡ Err k → listed_
 unfolding listed_of
 listed-refused h = ap listed_of h
 
+-- a listing says what the bytes mean, and its pool has at most 64 credentials
+abbrev Lists : List ℕ → Result Pool ℕ → Type 0
+Lists s l = (listed_of l ≡ credentials_of s) × (IfOk l (λ P. P.count ≤ MOST-CREDENTIALS))
+
 -- the commands before the index at have been read into the pool P
 pub record Reading (s : List ℕ) (P : Pool) (at : ℕ) : Type 0 where
   pub counted : at ≡ CREDENTIAL-BYTES * P.count
@@ -262,12 +266,23 @@ module _ {s : List ℕ} {P : Pool} {at : ℕ} (r : Reading s P at) (more : at < 
   unfolding listed_of
   list-end h = sym (turn (Ok End) h).2
 
+  -- and they are at most 64
+  pub end-lists : step_at s at ≡ Ok End → length s ≤ MOST-CREDENTIALS-BYTES → Lists s (Ok P)
+  end-lists h most = (list-end h, reading-few r most)
+
   -- the first command that cannot be read
   pub list-refused : {k : ℕ} → step_at s at ≡ Err k → listed_of (Err k) ≡ credentials_of s
   unfolding listed_of
   list-refused {k} h = sym (turn (Err k) h).2
 
+  pub refused-lists : {k : ℕ} → step_at s at ≡ Err k → length s ≤ MOST-CREDENTIALS-BYTES → Lists s (Err k) × (P.count ≤ MOST-CREDENTIALS)
+  refused-lists h most = ((list-refused h, tt), reading-few r most)
+
 -- the end is missing
 pub list-past : {s : List ℕ} {P : Pool} {at : ℕ} → Reading s P at → length s ≤ at → listed_of (Err 2) ≡ credentials_of s
 unfolding listed_of
 list-past {s} {P} {at} r h = sym (r.rest ∙ past r.fuel s at (credentials P) h)
+
+pub past-lists : {s : List ℕ} {P : Pool} {at : ℕ} → Reading s P at → length s ≤ at → length s ≤ MOST-CREDENTIALS-BYTES
+    → Lists s (Err 2) × (P.count ≤ MOST-CREDENTIALS)
+past-lists r h most = ((list-past r h, tt), reading-few r most)
