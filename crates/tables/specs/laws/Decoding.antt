@@ -1,5 +1,5 @@
 -- The reading of whole tables, part by part. Assumes nothing.
-use Rattle.std.specs.Prelude.{ℕ, ◌≤◌, ◌≡◌, cond, List, [], ltb, length, Result, Ok, Err}
+use Rattle.std.specs.Prelude.{ℕ, ◌≤◌, ◌≡◌, cond, List, [], ltb, length, Result, Ok, Err, IfOk}
 use Rattle.numbers.specs.Sizes.{MOST-NAMES, MOST-STORED, MOST-SENSITIVE, MOST-ACCESS}
 use Rattle.expression.specs.declared.Credential.{Credential}
 use Rattle.class.specs.declared.Name.{Name}
@@ -11,7 +11,7 @@ use Rattle.tables.specs.declared.House.{House}
 use Rattle.tables.specs.Tables.{Tables, unread}
 use Rattle.tables.specs.Check.{or_else, class_number, judge, read_tables}
 use Rattle.tables.specs.laws.Tables.{tables_of}
-use Rattle.tables.specs.laws.Check.{read_from}
+use Rattle.tables.specs.laws.Check.{outcome_of, read_from}
 use Rattle.numbers.specs.Answer.{accepted, refused}
 use Rattle.tables.specs.laws.BehindRecords.{BehindRecords}
 
@@ -31,6 +31,10 @@ out_of_order T (Err k) = k
 out_of_order T (Ok r) = or_else (class_number T r) 6
 
 -- what is left behind the records of all commands: nothing, or a record that is out of order
+unfoldable pub left_number : List ℕ → ℕ → Tables → ℕ
+left_number s at T = cond (ltb at (length s)) (out_of_order T (record_at s at)) 0
+
+-- the same, as a result
 unfoldable pub left_of : List ℕ → ℕ → Tables → Result (Unit {0}) ℕ
 left_of s at T = cond (ltb at (length s)) (Err (out_of_order T (record_at s at))) (Ok (tt {0}))
 
@@ -46,6 +50,11 @@ pub record Housed (H : House) : Type 0 where
   pub subject : H.subject.count ≤ MOST-STORED
   pub sensitive : H.sensitive.count ≤ MOST-SENSITIVE
   pub access : H.access.count ≤ MOST-ACCESS
+
+-- the reading from an index on, behind the records of T, leads to the decoded tables
+pub record Decodes (s : List ℕ) (at : ℕ) (T : Tables) (d : Result House ℕ) : Type 0 where
+  pub same : outcome_of d ≡ read_from s at T
+  pub housed : IfOk d Housed
 
 -- the reading has come to an index, behind the records of T, which are of m commands
 pub record Come (s : List ℕ) (at m : ℕ) (T : Tables) : Type 0 where

@@ -1,10 +1,10 @@
 -- The parts of the reading put together. Assumes nothing.
-use Rattle.std.specs.Prelude.{ℕ, suc, ◌<◌, ◌≤◌, ◌≡◌, Bool, not, ◌&&◌, leb, eqb, length, Result, Ok, Err, MatchResult}
+use Rattle.std.specs.Prelude.{ℕ, suc, ◌<◌, ◌≤◌, ◌≡◌, Bool, not, ◌&&◌, leb, eqb, length, Result, Ok, Err, IfOk, MatchResult}
 use Rattle.std.proofs.Math.Path.{refl, sym, ap}
-use Rattle.std.proofs.Common.{◌∙◌, arith}
+use Rattle.std.proofs.Common.{◌∙◌, subst, arith}
 use Rattle.std.proofs.Math.Bool.{true, false, cond}
 use mathlib.Core.List.{List, []}
-use borrow.Author.Tests.{ltb-true, ltb-false, eqb-false, ne_eqb, not-false, not-true}
+use borrow.Author.Tests.{lt-ltb, le-ltb, ltb-true, ltb-false, eqb-false, ne_eqb, not-false, not-true}
 use Rattle.std.proofs.Math.Dec.{ltb}
 use Rattle.numbers.specs.Sizes.{MOST-STORED, MOST-TABLES-BYTES}
 use Rattle.expression.specs.declared.Credential.{Credential}
@@ -29,13 +29,14 @@ use Rattle.tables.specs.laws.Tables.{pairs_of, tables_of}
 use Rattle.class.specs.laws.Names.{names_of}
 use Rattle.tables.specs.laws.Columns.{pairs-length}
 use Rattle.tables.specs.Check.{or_else, stored_number, pair_number, class_number, in_order, above, room, order_number, judge, read_tables, records_from, sized}
-use Rattle.tables.specs.laws.Check.{read_from, from_past, from-refused, from-judged}
-use Rattle.tables.specs.laws.Group.{Group, Open, Gone, Refused, judged-refused, some-refusal}
+use Rattle.tables.specs.Check.{check_of}
+use Rattle.tables.specs.laws.Check.{outcome_of, read_from, from_past, from-refused, from-judged}
+use Rattle.tables.specs.laws.Group.{Group, Open, Gone, Refused, refusal_of, judged-refused, some-refusal}
 use Rattle.tables.specs.laws.Groups.{names, credentials_of, pairs}
 use Rattle.tables.specs.laws.Reading.{no_number, tables_for}
 use Rattle.tables.specs.laws.BehindRecords.{rank_of, BehindRecords, Ranked, passed-next}
-use Rattle.tables.specs.laws.Decoding.{first_record, out_of_order, left_of, without_pairs, Come, Wrong}
-use Rattle.numbers.specs.Answer.{refused, accepted}
+use Rattle.tables.specs.laws.Decoding.{first_record, out_of_order, left_number, left_of, without_pairs, Housed, Decodes, Come, Wrong}
+use Rattle.numbers.specs.Answer.{refused, accepted, answer_of, no_value, judged}
 use Rattle.numbers.specs.Refusals.{LENGTH}
 
 -- a pool without credentials counts none
@@ -45,6 +46,10 @@ empty-pool P h = omega (arith, sym (count-length P) ∙ ap length h)
 -- and so do columns without pairs
 pub empty-pairs : (P : Pairs) → pairs_of P ≡ [] → P.count ≤ 32
 empty-pairs P h = omega (arith, sym (pairs-length P) ∙ ap length h)
+
+-- refused tables
+pub outcome-refused : (d : Result House ℕ) (k : ℕ) → d ≡ Err k → outcome_of d ≡ refused k
+outcome-refused d k h = ap outcome_of h
 
 -- a house with no record
 module _ (H : House) (h : tables_of H ≡ unread) where
@@ -112,6 +117,10 @@ first-own-only (IssuerStored c) e h = absurd (let z : ◌≡◌ {A = ℕ} 0 1 = 
 first-own-only (SubjectStored c) e h = absurd (let z : ◌≡◌ {A = ℕ} 0 1 = cc in omega arith)
 first-own-only (Sensitive p) e h = absurd (let z : ◌≡◌ {A = ℕ} 0 1 = cc in omega arith)
 first-own-only (Access p) e h = absurd (let z : ◌≡◌ {A = ℕ} 0 1 = cc in omega arith)
+
+-- a first record that cannot be read
+pub first-unread : {x y : Result Record ℕ} {k m : ℕ} → x ≡ y → x ≡ Err k → m ≡ refusal_of x → Err m ≡ first_record y
+first-unread h q e = ap Err (e ∙ ap refusal_of q) ∙ ap first_record (sym q ∙ h)
 
 -- a first record that is not taken
 first-refused : (s : List ℕ) (k : ℕ) → 0 < length s → Err k ≡ first_record (record_at s 0) → (read_from s 0 unread ≡ refused k) × (k ≡ 0 → ⊥)
@@ -184,6 +193,23 @@ module _ (own : ℕ) (begun : eqb own 0 ≡ false) where
 
 -- The records of a command and what comes behind them
 
+module _ {A : Type 0} {G : Group A} {num : A → ℕ} {s : List ℕ} {start : ℕ} {L : List A} {k at : ℕ} {T : Tables} (g : Gone G num s start L k at)
+    (w : Open G num T) where
+  -- one of them is refused
+  pub decodes-refused : {d : Result House ℕ} → (k ≡ 0 → ⊥) → d ≡ Err k → Decodes s start T d
+  decodes-refused {d} z h =
+      record {
+        same = outcome-refused d k h ∙ sym (g.same T w ∙ judged-refused k _ z);
+        housed = subst (λ (r : Result House ℕ). IfOk r Housed) (sym h) tt;
+      }
+
+  -- the reading goes on
+  pub decodes-on : {d : Result House ℕ} → k ≡ 0 → Decodes s at (G.put T L) d → Decodes s start T d
+  decodes-on {d} z h = record { same = h.same ∙ sym (g.same T w ∙ ap (λ (m : ℕ). judged m (read_from s at (G.put T L))) z); housed = h.housed }
+
+  pub passed_on : {m : ℕ} → k ≡ 0 → Ranked G m → BehindRecords m s start T → BehindRecords (suc m) s at (G.put T L)
+  passed_on z ranked p = passed-next ranked w.first p (subst (λ (j : ℕ). Gone G num s start L j at) z g)
+
 module _ {A : Type 0} {G : Group A} {num : A → ℕ} {s : List ℕ} {start m : ℕ} {L : List A} {T : Tables} (c : Come s start m T) (w : Open G num T) where
   -- one of them is refused
   pub come-wrong : {k : ℕ} → Refused G num s start L k → Wrong s k
@@ -247,6 +273,24 @@ module _ (s : List ℕ) (at : ℕ) (T U : Tables) (same : (r : Record) → class
   left-outcome (Ok u) h = left-nothing h
   left-outcome (Err k) h = left-wrong h
 
+-- the number of what is left: zero, that of a record that cannot be read, or that of a record that is read
+pub left-none : (s : List ℕ) (at : ℕ) (U : Tables) → length s ≤ at → 0 ≡ left_number s at U
+unfolding left_number
+left-none s at U h = sym (ap (λ (b : Bool). cond b (out_of_order U (record_at s at)) 0) (le-ltb at (length s) h))
+
+left_there : (s : List ℕ) (at : ℕ) (U : Tables) → at < length s → {x : Result Record ℕ} → x ≡ record_at s at → out_of_order U x ≡ left_number s at U
+unfolding left_number
+left_there s at U more h = ap (out_of_order U) h ∙ sym (ap (λ (b : Bool). cond b (out_of_order U (record_at s at)) 0) (lt-ltb at (length s) more))
+
+pub left-unread : (s : List ℕ) (at : ℕ) (U : Tables) → at < length s → {x : Result Record ℕ} {k m : ℕ} → x ≡ record_at s at → x ≡ Err k
+    → m ≡ refusal_of x → m ≡ left_number s at U
+left-unread s at U more h q e = e ∙ ap refusal_of q ∙ ap (out_of_order U) (sym q) ∙ left_there s at U more h
+
+pub left-number : (s : List ℕ) (at : ℕ) (U : Tables) → at < length s → {x : Result Record ℕ} {r : Record} {k m : ℕ} → x ≡ record_at s at → x ≡ Ok r
+    → k ≡ class_number U r → m ≡ or_else k 6
+    → m ≡ left_number s at U
+left-number s at U more h q e w = w ∙ ap (λ (n : ℕ). or_else n 6) e ∙ ap (out_of_order U) (sym q) ∙ left_there s at U more h
+
 -- the class rules look at self, names, subject-stored credentials and sensitive roles only
 pub class_same : (own : ℕ) (ns : List Name) (I S : List Credential) (P Q : List Pair) (r : Record)
     → class_number (tables_for own ns S P) r ≡ class_number (with_pairs true (with_pairs false (without_pairs own ns I S) P) Q) r
@@ -282,3 +326,26 @@ module _ (s : List ℕ) {b : Bool} (h : b ≡ sized (length s)) (n : not b ≡ f
   -- behind self
   pub tables-own : {own : ℕ} → Ok own ≡ first_record (record_at s 0) → Come s 3 1 (without_pairs own [] [] [])
   tables-own {own} e = record { same = inside ∙ first-own s own some_bytes e; behind = passed-own s own some_bytes e }
+
+  pub passed_first : {x : Result ℕ ℕ} {own : ℕ} → x ≡ first_record (record_at s 0) → x ≡ Ok own → BehindRecords 1 s 3 (without_pairs own [] [] [])
+  passed_first {x} {own} e q = passed-own s own some_bytes (sym q ∙ e)
+
+  -- the same, for the check
+  pub check-refused : {x : Result ℕ ℕ} {k : ℕ} → x ≡ first_record (record_at s 0) → x ≡ Err k → k ≡ check_of s
+  unfolding check_of
+  check-refused {x} {k} e q = sym (ap (answer_of no_value) (inside ∙ (first-refused s k some_bytes (sym q ∙ e)).0))
+
+  pub check-behind : {x : Result ℕ ℕ} {own k : ℕ} → x ≡ first_record (record_at s 0) → x ≡ Ok own
+      → k ≡ answer_of no_value (read_from s 3 (without_pairs own [] [] [])) → k ≡ check_of s
+  unfolding check_of
+  check-behind {x} {own} e q h = h ∙ sym (ap (answer_of no_value) (inside ∙ first-own s own some_bytes (sym q ∙ e)))
+
+pub check-outside : (s : List ℕ) {b : Bool} → b ≡ sized (length s) → not b ≡ true → 1 ≡ check_of s
+unfolding check_of read_tables
+check-outside s {b} h n =
+    sym (ap (λ (t : Bool). answer_of no_value (cond t (records_from (length s) s 0 unread) (refused LENGTH))) (sym h ∙ not-true b n))
+
+-- the number of decoded tables
+pub number-outcome : (d : Result House ℕ) → MatchResult d (λ H. 0 ≡ answer_of no_value (outcome_of d)) (λ k. k ≡ answer_of no_value (outcome_of d))
+number-outcome (Ok H) = refl
+number-outcome (Err k) = refl

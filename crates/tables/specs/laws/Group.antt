@@ -95,6 +95,11 @@ behind G k count last x = or_else k (rising (eqb count 0 || G.before last x) cou
 abbrev pub number_behind : {A : Type 0} → Group A → (A → ℕ) → ℕ → A → A → ℕ
 number_behind G num count last x = behind G (num x) count last x
 
+-- the number of a record that was not read
+abbrev pub refusal_of : Result Record ℕ → ℕ
+refusal_of (Ok r) = 0
+refusal_of (Err k) = k
+
 -- what stands next: a record of the command that is taken, nothing where another command's record stands, or a refusal number
 abbrev pub Step : Type 0 → Type 0
 Step A = Result (Option A) ℕ
@@ -110,6 +115,76 @@ picked_step number (Some x) = judged_step (number x) x
 abbrev pub step_of : {A : Type 0} → Group A → (A → ℕ) → Result Record ℕ → Step A
 step_of G number (Err k) = Err k
 step_of G number (Ok r) = picked_step number (G.pick r)
+
+-- a step by its number
+pub step-zero : {A : Type 0} (x : A) {k m : ℕ} → k ≡ m → k ≡ 0 → Ok (Some x) ≡ judged_step m x
+step-zero x h z = ap (λ (n : ℕ). judged_step n x) (sym z ∙ h)
+
+pub step-number : {A : Type 0} (x : A) {k m : ℕ} → k ≡ m → (k ≡ 0 → ⊥) → Err k ≡ judged_step m x
+step-number {A} x {k} {m} h z = go k z ∙ ap (λ (n : ℕ). judged_step n x) h
+  where
+    go : (n : ℕ) → (n ≡ 0 → ⊥) → ◌≡◌ {A = Step A} (Err n) (judged_step n x)
+    go zero w = absurd (w refl)
+    go (suc n) w = refl
+
+-- a record that was not read
+pub step-unread : {A : Type 0} (G : Group A) (number : A → ℕ) {x y : Result Record ℕ} {k m : ℕ} → x ≡ y → x ≡ Err k → m ≡ refusal_of x
+    → Err m ≡ step_of G number y
+step-unread G number h q e = ap Err (e ∙ ap refusal_of q) ∙ ap (step_of G number) (sym q ∙ h)
+
+-- a record that was read: one of the command, which earns k by the class rules, is judged behind the others; at another one the reading stops
+module _ {A : Type 0} (G : Group A) (num : A → ℕ) (count : ℕ) (last : A) {x y : Result Record ℕ} {r : Record} {w : Step A} (h : x ≡ y) (q : x ≡ Ok r)
+    (e : w ≡ picked_step (λ v. 0) (G.pick r)) where
+  step-read : {z : Step A} → z ≡ picked_step (number_behind G num count last) (G.pick r) → z ≡ step_of G (number_behind G num count last) y
+  step-read t = t ∙ ap (step_of G (number_behind G num count last)) (sym q ∙ h)
+
+  pub step-some : {v : A} {k : ℕ} {z : Step A} → w ≡ Ok (Some v) → k ≡ num v → z ≡ judged_step (behind G k count last v) v
+      → z ≡ step_of G (number_behind G num count last) y
+  step-some {v} {k} {z} t n d = step-read (go (G.pick r) (sym t ∙ e))
+    where
+      go : (o : Option A) → Ok (Some v) ≡ picked_step (λ u. 0) o → z ≡ picked_step (number_behind G num count last) o
+      go None u = cc
+      go (Some m) u =
+          let p : v ≡ m = cc in d ∙ (λ i. judged_step (behind G (n i) count last v) v) ∙ (λ i. judged_step (number_behind G num count last (p i)) (p i))
+
+  pub step-none : w ≡ Ok None → Ok None ≡ step_of G (number_behind G num count last) y
+  step-none t = step-read (go (G.pick r) (sym t ∙ e))
+    where
+      go : (o : Option A) → ◌≡◌ {A = Step A} (Ok None) (picked_step (λ u. 0) o) → ◌≡◌ {A = Step A} (Ok None) (picked_step (number_behind G num count last) o)
+      go None u = refl
+      go (Some m) u = cc
+
+-- a record whose class and order were left to test
+module _ {A : Type 0} (G : Group A) (number : A → ℕ) (y : Result Record ℕ) {w : Step A} (h : w ≡ step_of G (λ v. 0) y) where
+  pub step_then : {v : A} {z : Step A} → w ≡ Ok (Some v) → z ≡ judged_step (number v) v → z ≡ step_of G number y
+  step_then {v} {z} t d = go y (sym t ∙ h)
+    where
+      picked : (o : Option A) → Ok (Some v) ≡ picked_step (λ u. 0) o → z ≡ picked_step number o
+      picked None u = cc
+      picked (Some m) u = let p : v ≡ m = cc in d ∙ (λ i. judged_step (number (p i)) (p i))
+
+      go : (x : Result Record ℕ) → Ok (Some v) ≡ step_of G (λ u. 0) x → z ≡ step_of G number x
+      go (Err k) u = cc
+      go (Ok r) u = picked (G.pick r) u
+
+  -- it stops, with a refusal number or at a record of another command
+  module _ {z : Step A} (n : (v : A) → z ≡ Ok (Some v) → ⊥) where
+    stays : w ≡ z → z ≡ step_of G number y
+    stays t = go y (sym t ∙ h)
+      where
+        picked : (o : Option A) → z ≡ picked_step (λ u. 0) o → z ≡ picked_step number o
+        picked None u = u
+        picked (Some m) u = absurd (n m u)
+
+        go : (x : Result Record ℕ) → z ≡ step_of G (λ u. 0) x → z ≡ step_of G number x
+        go (Err m) u = u
+        go (Ok r) u = picked (G.pick r) u
+
+  pub step-stop : {k : ℕ} → w ≡ Err k → Err k ≡ step_of G number y
+  step-stop t = stays (λ v u. cc) t
+
+  pub step-other : w ≡ Ok None → Ok None ≡ step_of G number y
+  step-other t = stays (λ v u. cc) t
 
 -- an empty list has no element
 none-length : {A : Type 0} (L : List A) → none L ≡ eqb (length L) 0
@@ -293,18 +368,26 @@ module _ {A : Type 0} {G : Group A} {num : A → ℕ} {s : List ℕ} {start : �
       judged-stop (suc k) x m e = let q : suc k ≡ m = cc in (q, λ z. omega arith)
 
       -- one that is refused, or that cannot be read
-      pub going-stop : (k : ℕ) → step_of G number (record_at s at) ≡ Err k → Refused G num s start L k
-      going-stop k e = go (record_at s at) refl e
+      stops : (k : ℕ) → step_of G number (record_at s at) ≡ Err k → (Gone G num s start L k at) × (k ≡ 0 → ⊥)
+      stops k e = go (record_at s at) refl e
         where
-          pick : (r : Record) → record_at s at ≡ Ok r → (o : Option A) → G.pick r ≡ o → picked_step number o ≡ Err k → Refused G num s start L k
+          pick : (r : Record) → record_at s at ≡ Ok r → (o : Option A) → G.pick r ≡ o → picked_step number o ≡ Err k
+              → (Gone G num s start L k at) × (k ≡ 0 → ⊥)
           pick r h None p q = cc
           pick r h (Some y) p q =
               let t = judged-stop (number y) y k q in
-              record { at = at; gone = gone-judged l y (h ∙ ap Ok (l.picked r y p)) k (resized y k t.0) t.1; some = t.1 }
+              (gone-judged l y (h ∙ ap Ok (l.picked r y p)) k (resized y k t.0) t.1, t.1)
 
-          go : (r : Result Record ℕ) → record_at s at ≡ r → step_of G number r ≡ Err k → Refused G num s start L k
+          go : (r : Result Record ℕ) → record_at s at ≡ r → step_of G number r ≡ Err k → (Gone G num s start L k at) × (k ≡ 0 → ⊥)
           go (Err m) h q =
               let z : m ≡ k = cc in
               let o = some-refusal k (record-refusal s at k (h ∙ ap Err z)) in
-              record { at = at; gone = gone-refused k o (h ∙ ap Err z); some = o }
+              (gone-refused k o (h ∙ ap Err z), o)
           go (Ok r) h q = pick r h (G.pick r) refl q
+
+      pub going-stop : (k : ℕ) → step_of G number (record_at s at) ≡ Err k → Refused G num s start L k
+      going-stop k e = let t = stops k e in record { at = at; gone = t.0; some = t.1 }
+
+      -- the reading stops at this index
+      pub going-stop-at : (k : ℕ) → step_of G number (record_at s at) ≡ Err k → Gone G num s start L k at
+      going-stop-at k e = (stops k e).0

@@ -1,5 +1,5 @@
 -- What a look-up finds, by the first index that passes its test. Assumes nothing.
-use Rattle.std.specs.Prelude.{ℕ, zero, suc, ◌+◌, ◌≤◌, ◌<◌, ◌≡◌, refl, Bool, true, false, cond, not, ◌&&◌, ◌||◌, List, [], ◌∷◌, eqb, Some, None, is_some}
+use Rattle.std.specs.Prelude.{ℕ, zero, suc, ◌+◌, ◌≤◌, ◌<◌, ◌≡◌, refl, Bool, true, false, cond, not, ◌&&◌, ◌||◌, List, [], ◌∷◌, eqb, Option, Some, None, is_some}
 use Rattle.std.proofs.Math.Path.{sym, ap}
 use Rattle.std.proofs.Common.{◌∙◌, arith, eqb-true, add-one}
 use Rattle.std.proofs.lemmas.Bool.{eqb-false}
@@ -76,3 +76,12 @@ other_none P r h l = sym (first-none (λ (x : Pair). Some x.other) None P.count 
 pub found-sensitive : (P : List Pair) (r : Role) → is_some (other_of P r) ≡ is_sensitive P r
 unfolding other_of is_sensitive
 found-sensitive P r = first-image is_some (is_of r) (λ p. Some p.other) None P ∙ sym (any-first (is_of r) P)
+
+module _ (P : List Pair) (r : Role) {a : Option Role} where
+  -- an Ack role is found
+  pub sensitive-yes : {q : Role} → a ≡ other_of P r → a ≡ Some q → true ≡ is_sensitive P r
+  sensitive-yes e f = ap is_some (sym f ∙ e) ∙ found-sensitive P r
+
+  -- none is found
+  pub sensitive-not : a ≡ other_of P r → a ≡ None → false ≡ is_sensitive P r
+  sensitive-not e f = ap is_some (sym f ∙ e) ∙ found-sensitive P r

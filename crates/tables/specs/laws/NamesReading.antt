@@ -12,7 +12,7 @@ use Rattle.class.specs.declared.Name.{Name}
 use Rattle.class.specs.declared.Names.{Names}
 use Rattle.class.specs.laws.Names.{name_at, names_of, Ascending}
 use Rattle.record.specs.Record.{record_at}
-use Rattle.tables.specs.laws.Group.{Going, number_behind, step_of, going_start, going_next, going-above, going-other, going-stop, all_append}
+use Rattle.tables.specs.laws.Group.{Going, number_behind, step_of, Gone, going_start, going_next, going-above, going-other, going-stop, going-stop-at, gone-past, all_append}
 use Rattle.tables.specs.laws.Groups.{names, names-lawful}
 use Rattle.tables.specs.laws.Columns.{NamesStored, names-length}
 use Rattle.tables.specs.laws.Reading.{no_number, NamesGone}
@@ -59,6 +59,10 @@ reading-start s start N last h =
     }
 
 module _ {s : List ℕ} {start : ℕ} {N : Names} {last : Name} {at : ℕ} (r : ReadingNames s start N last at) where
+  -- no byte is left
+  pub names-past : length s ≤ at → NamesGone s start (Ok at) N
+  names-past h = record { gone = gone-past r.going h; ascending = r.ascending }
+
   module _ (more : at < length s) {x : Result (Option Name) ℕ} (h : x ≡ step_of names (number_behind names no_number N.count last) (record_at s at)) where
     -- a name is taken
     pub names-room : (n : Name) → x ≡ Ok (Some n) → N.count < 64
@@ -91,6 +95,10 @@ module _ {s : List ℕ} {start : ℕ} {N : Names} {last : Name} {at : ℕ} (r : 
       gone = going-stop r.going more names-lawful N.count (names-length N) k (sym h ∙ e);
       ascending = r.ascending;
     }
+
+    -- the reading of names stops at this index
+    pub names-stop-at : (k : ℕ) → x ≡ Err k → (Gone names no_number s start (names_of N) k at) × (Ascending N.count N.name)
+    names-stop-at k e = (going-stop-at r.going more names-lawful N.count (names-length N) k (sym h ∙ e), r.ascending)
 
 -- columns count their names
 pub names-few : (N : Names) → length (names_of N) ≤ MOST-NAMES → N.count ≤ MOST-NAMES

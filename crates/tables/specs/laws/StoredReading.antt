@@ -9,16 +9,16 @@ use Rattle.expression.specs.declared.Credential.{Credential}
 use Rattle.expression.specs.Order.{before_credential}
 use Rattle.rt0.specs.declared.Pool.{Pool}
 use Rattle.rt0.specs.laws.Pool.{credentials}
-use Rattle.rt0.specs.laws.Added.{count-length}
+use Rattle.rt0.specs.laws.Added.{Sized, count-length}
 use Rattle.class.specs.declared.Name.{Name}
 use Rattle.class.specs.Names.{class_of}
 use Rattle.class.specs.Typing.{credential_number}
 use Rattle.record.specs.declared.Record.{Record}
 use Rattle.record.specs.Record.{record_at, stored_of}
 use Rattle.tables.specs.Check.{or_else, suits_storage, stored_number}
-use Rattle.tables.specs.laws.Group.{rising, behind, Step, step_of, Going, number_behind}
-use Rattle.tables.specs.laws.Group.{going_next, going-above, going-other, going-stop}
-use Rattle.tables.specs.laws.Groups.{credentials_of, credentials-lawful}
+use Rattle.tables.specs.laws.Group.{rising, behind, Step, picked_step, step_of, Going, Gone, number_behind}
+use Rattle.tables.specs.laws.Group.{going_start, going_next, going-above, going-other, going-stop, going-stop-at, gone-past}
+use Rattle.tables.specs.laws.Groups.{credentials_of, credentials-lawful, pick_stored}
 use Rattle.tables.specs.laws.Reading.{StoredGone}
 
 or_else_none : (k : ℕ) → k ≡ or_else k 0
@@ -48,6 +48,12 @@ pub stored-behind : (ns : List Name) (subject : Bool) (count : ℕ) (last c : Cr
 unfolding behind credentials_of
 stored-behind ns subject count last c h n q e = e ∙ (λ i. or_else (n i) ((q ∙ ap (λ (u : Bool). rising (eqb count 0 || u) count MOST-STORED) h) i))
 
+-- a record that was read, where a credential of the storage may stand
+pub stored-picked : (subject : Bool) {x t : Result Record ℕ} (r : Record) {z : Step Credential} → x ≡ t → x ≡ Ok r
+    → z ≡ picked_step (λ c. 0) (pick_stored subject r) → z ≡ step_of (credentials_of subject) (λ c. 0) t
+unfolding credentials_of
+stored-picked subject r h q e = e ∙ ap (step_of (credentials_of subject) (λ c. 0)) (sym q ∙ h)
+
 -- a credential that was read without the record around it, or not
 abbrev pub answer_step : Option Credential → Step Credential
 answer_step (Some c) = Ok (Some c)
@@ -68,8 +74,17 @@ stored-read subject r t h = go subject r ∙ ap (step_of (credentials_of subject
 abbrev pub ReadingStored : List Name → Bool → List ℕ → ℕ → Pool → Credential → ℕ → Type 0
 ReadingStored ns subject s start P last at = Going (credentials_of subject) (stored_number ns subject) s start (credentials P) last at
 
+pub stored-start : (ns : List Name) (subject : Bool) (s : List ℕ) (start : ℕ) (P : Pool) (last : Credential) → credentials P ≡ [] → Sized P
+    → ReadingStored ns subject s start P last start
+stored-start ns subject s start P last h z =
+    subst (λ (L : List Credential). Going (credentials_of subject) (stored_number ns subject) s start L last start) (sym h) (going_start last)
+
 module _ (ns : List Name) (subject : Bool) {s : List ℕ} {start : ℕ} (P : Pool) {last : Credential} {at : ℕ}
     (r : ReadingStored ns subject s start P last at) where
+  -- no byte is left
+  pub stored_past : length s ≤ at → StoredGone ns subject s start (Ok at) P
+  stored_past h = gone-past r h
+
   module _ (more : at < length s) {x : Result (Option Credential) ℕ}
       (h : x ≡ step_of (credentials_of subject) (number_behind (credentials_of subject) (stored_number ns subject) P.count last) (record_at s at)) where
     -- a credential is taken
@@ -90,6 +105,10 @@ module _ (ns : List Name) (subject : Bool) {s : List ℕ} {start : ℕ} (P : Poo
     -- a credential is refused
     pub stored-stop : (k : ℕ) → x ≡ Err k → StoredGone ns subject s start (Err k) P
     stored-stop k e = going-stop r more (credentials-lawful subject) P.count (count-length P) k (sym h ∙ e)
+
+    -- the reading of credentials stops at this index
+    pub stored-stop-at : (k : ℕ) → x ≡ Err k → Gone (credentials_of subject) (stored_number ns subject) s start (credentials P) k at
+    stored-stop-at k e = going-stop-at r more (credentials-lawful subject) P.count (count-length P) k (sym h ∙ e)
 
 -- a pool counts its credentials
 pub stored-few : (P : Pool) → length (credentials P) ≤ MOST-STORED → P.count ≤ MOST-STORED
