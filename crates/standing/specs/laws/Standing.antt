@@ -1,5 +1,5 @@
 -- What a call finds, test by test. Assumes nothing.
-use Rattle.std.specs.Prelude.{ℕ, ◌<◌, Bool, not, List, ◌≡◌, Some, None, Result, Ok, Err}
+use Rattle.std.specs.Prelude.{ℕ, ◌<◌, Bool, not, List, ◌≡◌, Option as Returned, Some, None, Result, Ok, Err, IfOk, MatchOption}
 use Rattle.std.proofs.Math.Bool.{cond, true, false}
 use Rattle.std.proofs.Math.Option.{Option, none, some}
 use Rattle.std.proofs.Math.Dec.{eqb}
@@ -52,6 +52,14 @@ pub record Usable (r : Restored) : Type 0 where
   pub within-sizes : within (state_of r.negotiation) ≡ true
   pub is-sound : sound (tables_of r.house) (state_of r.negotiation) ≡ true
 
+-- a refused call
+usable-refused : (r : Result Restored ℕ) {k : ℕ} → r ≡ Err k → IfOk r Usable
+usable-refused r h = subst (λ (x : Result Restored ℕ). IfOk x Usable) (sym h) tt
+
+standing-refused : (r : Result Restored ℕ) {k : ℕ} → r ≡ Err k → standing_of r ≡ refused k
+unfolding standing_of
+standing-refused r h = ap standing_of h
+
 -- a state that is read is within the sizes
 pub state-within : (s : List ℕ) (n : Negotiation) → reading_of (Some n) ≡ read_state s → within (state_of n) ≡ true
 unfolding reading_of
@@ -63,14 +71,25 @@ module _ (tables negotiation : List ℕ) where
   unfolding restore_of
   by_length b e = ap (λ (b : Bool). cond b (behind_tables negotiation (read_tables tables)) (refused LENGTH)) e
 
+  -- a refusal that the meaning has
+  gives : (r : Result Restored ℕ) (k : ℕ) → r ≡ Err k → restore_of tables negotiation ≡ refused k
+      → (standing_of r ≡ restore_of tables negotiation) × (IfOk r Usable)
+  gives r k e h = (standing-refused r e ∙ sym h, usable-refused r e)
+
+  -- what is read of the state
+  reads : (R : Returned Negotiation) → reading_of R ≡ read_state negotiation
+      → MatchOption R (read_state negotiation ≡ none) (λ n. read_state negotiation ≡ some (state_of n))
+  unfolding reading_of
+  reads (Some n) e = sym e
+  reads None e = sym e
+
   pub restore-outside : (length negotiation ≡ NEGOTIATION-BYTES → ⊥) → standing_of (Err 1) ≡ restore_of tables negotiation
-  unfolding standing_of
-  restore-outside h = sym (by_length false (ne_eqb (length negotiation) NEGOTIATION-BYTES h))
+  restore-outside h = (gives (Err 1) 1 refl (by_length false (ne_eqb (length negotiation) NEGOTIATION-BYTES h))).0
 
   module _ (l : length negotiation ≡ NEGOTIATION-BYTES) where
     pub restore-tables : {k : ℕ} → refused k ≡ read_tables tables → standing_of (Err k) ≡ restore_of tables negotiation
-    unfolding standing_of
-    restore-tables e = sym (by_length true (eq-eqb (length negotiation) NEGOTIATION-BYTES l) ∙ ap (behind_tables negotiation) (sym e))
+    restore-tables {k} e =
+        (gives (Err k) k refl (by_length true (eq-eqb (length negotiation) NEGOTIATION-BYTES l) ∙ ap (behind_tables negotiation) (sym e))).0
 
     module _ (H : House) (accepts : accepted (tables_of H) ≡ read_tables tables) where
       by_state : (x : Option State) → if_sound (tables_of H) (read_state negotiation) ≡ x
@@ -81,19 +100,16 @@ module _ (tables negotiation : List ℕ) where
 
       -- no state has these bytes
       pub restore-unread : reading_of None ≡ read_state negotiation → standing_of (Err 20) ≡ restore_of tables negotiation
-      unfolding standing_of reading_of
-      restore-unread e = sym (by_state none (ap (if_sound (tables_of H)) (sym e)))
+      restore-unread e = (gives (Err 20) 20 refl (by_state none (ap (if_sound (tables_of H)) (reads None e)))).0
 
       module _ (n : Negotiation) (held : reading_of (Some n) ≡ read_state negotiation) {b : Bool} (be : b ≡ sound (tables_of H) (state_of n)) where
         by_sound : (t : Bool) → t ≡ sound (tables_of H) (state_of n) → restore_of tables negotiation ≡ behind_damage (tables_of H) (cond t (some (state_of n)) none)
-        unfolding reading_of
         by_sound t e = by_state (cond t (some (state_of n)) none)
-            (ap (if_sound (tables_of H)) (sym held) ∙ ap (λ (t : Bool). cond t (some (state_of n)) none) (sym e))
+            (ap (if_sound (tables_of H)) (reads (Some n) held) ∙ ap (λ (t : Bool). cond t (some (state_of n)) none) (sym e))
 
         -- it is damaged
         pub restore-damaged : not b ≡ true → standing_of (Err 20) ≡ restore_of tables negotiation
-        unfolding standing_of
-        restore-damaged h = sym (by_sound false (sym (not-true b h) ∙ be))
+        restore-damaged h = (gives (Err 20) 20 refl (by_sound false (sym (not-true b h) ∙ be))).0
 
         pub restore-sound : not b ≡ false → standing_of (Ok (record { house = H; negotiation = n })) ≡ restore_of tables negotiation
         unfolding standing_of
