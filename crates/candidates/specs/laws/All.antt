@@ -1,7 +1,7 @@
 -- The edges of a linked target A.r1.r2 whose first name is issuer-traces-all: to the frontiers of the roles B.r2, for "each entity B such that
 -- A.r1 ← B" (section 5.3). Assumes nothing.
 use Rattle.std.specs.Prelude.{ℕ, ◌≤◌, ◌≡◌, refl, ◌⊎◌, Bool, false, ◌&&◌, replicate}
-use Rattle.std.proofs.Common.{◌∙◌, inl}
+use Rattle.std.proofs.Common.{arith, ◌∙◌, inl}
 use Rattle.std.proofs.Math.Path.{sym, ap, subst}
 use Rattle.std.proofs.Math.Logic.{inr, ⊎_elim}
 use Rattle.std.proofs.Math.Bool.{true, cond}
@@ -58,9 +58,21 @@ all_edges T n a r = implications n (frontier_of (oppo T.names) T.issuer_stored (
 unfoldable pub is_from : List Credential → Role → Expression → Bool
 is_from I a x = is_entity x && from_of I (E.Role a) x
 
+module _ (I : List Credential) (a : Role) {x : Expression} where
+  pub from-entity : {b : ℕ} {t : Bool} → x ≡ E.Entity b → t ≡ from_of I (E.Role a) x → t ≡ is_from I a x
+  unfolding is_from
+  from-entity e h = h ∙ sym (ap (λ (y : Bool). y && from_of I (E.Role a) x) (ap is_entity e))
+
+  pub from-other : {y : Expression} → x ≡ y → is_entity y ≡ false → false ≡ is_from I a x
+  unfolding is_from
+  from-other e h = sym (ap (λ (z : Bool). z && from_of I (E.Role a) x) (ap is_entity e ∙ h))
+
 pub told-on : (P : Pool) (a : Role) {k : ℕ} {F : List ℕ} → P.count ≤ 128 → Told (is_from (chosen P (replicate 128 1)) a) P k F
     → Told (is_from (credentials P) a) P k F
 told-on P a {k} {F} l t = subst (λ (I : List Credential). Told (is_from I a) P k F) (all-on P l) t
+
+pub told-count : {pred : Expression → Bool} {P : Pool} {k m : ℕ} {F : List ℕ} → Told pred P k F → m ≤ k → k ≤ m → Told pred P m F
+told-count {pred} {P} {k} {m} {F} t h l = let z : k ≡ m = omega arith in subst (λ (j : ℕ). Told pred P j F) z t
 
 entity-in : (x : Expression) {b : ℕ} → Memᴰ b (entities_in x) → x ≡ E.Entity b
 entity-in (E.Entity a) m = ⊎_elim (λ e. ap E.Entity (sym e)) (λ k. absurd (mathlib.Core.List.Memᴰ.not-nil k)) (mathlib.Core.List.Memᴰ.cases_cons m)
@@ -119,6 +131,9 @@ module _ (d : Candidate → Bool) (n : Node) (r : ℕ) (b : Choice) {x : Express
       → c ≡ offer_role d n r b x
   unfolding offer_role
   offer-entity e f q = q ∙ (ap (better d b) f ∙ ap (offer_role d n r b) (sym e))
+
+  pub offer-other : {y : Expression} → x ≡ y → is_entity y ≡ false → b ≡ offer_role d n r b x
+  offer-other {y} e z = sym (offer-none d n r b x (ap is_entity e ∙ z))
 
 -- w is the edge to B.r for the body B of credential k
 record Leads (P : Pool) (n : Node) (r k : ℕ) (w : Candidate) : Type 0 where

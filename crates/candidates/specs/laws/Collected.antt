@@ -9,9 +9,9 @@ use Rattle.expression.specs.Kinds.{is_entity}
 use Rattle.rt0.specs.declared.Pool.{Pool}
 use Rattle.rt0.specs.From.{role_of}
 use Rattle.rt0.specs.laws.Pool.{body_at}
-use Rattle.word.specs.laws.Bools.{false-true}
+use Rattle.word.specs.laws.Bools.{false-true, or_cases, or_left, or_right}
 use Rattle.propagation.specs.laws.Flags.{flag, flag-zeros, decided}
-use Rattle.frontier.specs.laws.Frontier.{Chain}
+use Rattle.frontier.specs.laws.Frontier.{Chain, Reaches, chain-below}
 use Rattle.candidates.specs.laws.Skipped.{Skipped}
 
 pub entity-eq : {a b : ℕ} → E.Entity a ≡ E.Entity b → a ≡ b
@@ -59,6 +59,9 @@ pub record Added (k : ℕ) (all found out : List ℕ) : Type 0 where
   pub joined : (i : ℕ) → i < k → flag out i ≡ (flag all i || flag found i)
   pub kept : (i : ℕ) → k ≤ i → flag out i ≡ flag all i
 
+pub added-start : (all found : List ℕ) → length all ≡ 128 → Added 0 all found all
+added-start all found l = record { sized = l; joined = λ i h. absurd (omega arith); kept = λ i h. refl }
+
 pub added_next : {k v : ℕ} {all found out next : List ℕ} {b : Bool} → Added k all found out → k < 128 → b ≡ (flag out k || flag found k)
     → v ≡ cond b 1 0 → next ≡ set out k v → Added (k + 1) all found next
 added_next {k} {v} {all} {found} {out} {next} {b} A l e f q =
@@ -84,6 +87,9 @@ added_next {k} {v} {all} {found} {out} {next} {b} A l e f q =
     other : (i : ℕ) → (i ≡ k → ⊥) → flag next i ≡ flag out i
     other i h = ap (λ (x : List ℕ). flag x i) q ∙ ap (λ (x : ℕ). eqb x 1) (get_or-set_other out k i v 0 h)
 
+pub added-count : {k m : ℕ} {all found out : List ℕ} → Added k all found out → m ≤ k → k ≤ m → Added m all found out
+added-count {k} {m} {all} {found} {out} A h l = let z : k ≡ m = omega arith in subst (λ (j : ℕ). Added j all found out) z A
+
 -- The credentials that are found
 
 -- the credentials found from B.r are flagged too, if x is an entity B
@@ -92,6 +98,28 @@ pub record Grown (P : Pool) (on stop : List ℕ) (r : ℕ) (x : Expression) (all
   pub grows : (i : ℕ) → flag all i ≡ true → flag out i ≡ true
   pub seen : (b i : ℕ) → x ≡ E.Entity b → Chain P on stop (role_of b r) i → flag out i ≡ true
   pub only : (i : ℕ) → flag out i ≡ true → (flag all i ≡ true) ⊎ ((b : ℕ) × (x ≡ E.Entity b) × Chain P on stop (role_of b r) i)
+
+module _ {P : Pool} {on stop : List ℕ} {r : ℕ} {x : Expression} {all : List ℕ} where
+  pub grown-entity : {a : ℕ} {found out : List ℕ} → x ≡ E.Entity a → Reaches P on stop (role_of a r) found → Added P.count all found out
+      → Grown P on stop r x all out
+  grown-entity {a} {found} {out} e R A =
+      record {
+        sized = A.sized;
+        grows =
+            λ i h. ⊎_elim (λ z. A.joined i (ltb-true i P.count z) ∙ or_left (flag all i) (flag found i) h)
+            (λ z. A.kept i (ltb-false i P.count z) ∙ h) (decided (ltb i P.count));
+        seen = λ b i q c.
+            let z : Chain P on stop (role_of a r) i = subst (λ (t : ℕ). Chain P on stop (role_of t r) i) (entity-eq (sym q ∙ e)) c in
+            A.joined i (chain-below z) ∙ or_right (flag all i) (flag found i) (R.complete i z);
+        only = λ i h.
+            ⊎_elim
+            (λ z. ⊎_elim (λ t. inl t) (λ t. inr (a, e, R.sound i t)) (or_cases (flag all i) (flag found i) (sym (A.joined i (ltb-true i P.count z)) ∙ h)))
+            (λ z. inl (sym (A.kept i (ltb-false i P.count z)) ∙ h))
+            (decided (ltb i P.count));
+      }
+
+  pub grown-other : {y : Expression} → length all ≡ 128 → x ≡ y → is_entity y ≡ false → Grown P on stop r x all all
+  grown-other l e z = record { sized = l; grows = λ i h. h; seen = λ b i q c. absurd (other-entity e z q); only = λ i h. inl h }
 
 -- the column flags the credentials found from the roles B.r of the members among the first k bodies, and no other
 pub record Collected (P : Pool) (on stop F : List ℕ) (r k : ℕ) (all : List ℕ) : Type 0 where

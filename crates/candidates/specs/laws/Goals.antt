@@ -1,9 +1,9 @@
 -- The edges to the solutions of a goal: "any A.r2 ∈ sensitiveRoles or A.r2 defined by a credential" (section 5.4). Assumes nothing.
-use Rattle.std.specs.Prelude.{ℕ, ◌≡◌, ◌⊎◌, Bool, ◌&&◌, get_or}
+use Rattle.std.specs.Prelude.{ℕ, ◌≡◌, ◌⊎◌, Bool, false, ◌&&◌, get_or}
 use Rattle.std.proofs.Common.{sym, ◌∙◌}
 use Rattle.std.proofs.Math.Path.{ap, subst}
 use Rattle.std.proofs.Math.Logic.{inl, inr, ⊎_elim}
-use Rattle.std.proofs.Math.Bool.{cond}
+use Rattle.std.proofs.Math.Bool.{true, cond}
 use mathlib.Core.List.Memᴰ
 use mathlib.Core.List.{List, ◌++◌, map, Memᴰ}
 use borrow.Author.Tests.{eqb-true, eq-eqb, ne_eqb}
@@ -31,7 +31,7 @@ use Rattle.moves.specs.declared.Choice.TheVariants as C
 use Rattle.moves.specs.Candidates.{ordered, first_not}
 use Rattle.moves.specs.Rules.{child_for}
 use Rattle.candidates.specs.laws.Least.{better, Uniform, Best, best-start, best-same, best-first}
-use Rattle.candidates.specs.laws.Offers.{folded, offer, offer-left, Among, Is, offers-best}
+use Rattle.candidates.specs.laws.Offers.{folded, offer, offer-taken, offer-left, Among, Is, offers-best}
 
 abbrev pub solution_edge : Node → Role → Candidate
 solution_edge n a = child_for 3 n (E.Role a) n.subject
@@ -52,6 +52,17 @@ head_edge P n k = solution_edge n (head_at P k)
 
 -- What one turn of a loop finds
 
+module _ (d : Candidate → Bool) (Q : Pairs) (n : Node) (r : ℕ) (b : Choice) (k : ℕ) {a : Role} (p : a ≡ (pair_at Q k).role) where
+  pub pair-other : (a.name ≡ r → ⊥) → b ≡ offer d (is_named_pair Q r) (pair_edge Q n) b k
+  unfolding is_named_pair
+  pair-other h = offer-left d (is_named_pair Q r) (pair_edge Q n) b k (ne_eqb (pair_at Q k).role.name r (λ z. h (ap (λ (x : Role). x.name) p ∙ z)))
+
+  pub pair-edge : a.name ≡ r → {w : Candidate} {c : Choice} → w ≡ solution_edge n a → c ≡ better d b w → c ≡ offer d (is_named_pair Q r) (pair_edge Q n) b k
+  unfolding is_named_pair pair_edge
+  pair-edge h f q =
+      offer-taken d (is_named_pair Q r) (pair_edge Q n) b k (eq-eqb (pair_at Q k).role.name r (sym (ap (λ (x : Role). x.name) p) ∙ h))
+      (q ∙ ap (better d b) (f ∙ ap (solution_edge n) p))
+
 pub pair-named : (d : Candidate → Bool) (Q : Pairs) (n : Node) (r : ℕ) (b : Choice) (k : ℕ) {a : Role} {c : Choice} → a ≡ (pair_at Q k).role
     → c ≡ cond (eqb a.name r) (better d b (solution_edge n a)) b → c ≡ offer d (is_named_pair Q r) (pair_edge Q n) b k
 unfolding offer is_named_pair pair_edge
@@ -61,6 +72,20 @@ module _ (d : Candidate → Bool) (P : Pool) (on : List ℕ) (n : Node) (r : ℕ
   pub head-off : (get_or on k 0 ≡ 1 → ⊥) → b ≡ offer d (is_named_head P on r) (head_edge P n) b k
   unfolding is_named_head
   head-off h = offer-left d (is_named_head P on r) (head_edge P n) b k (ap (λ (x : Bool). x && eqb (head_at P k).name r) (ne_eqb (get_or on k 0) 1 h))
+
+  module _ (h : get_or on k 0 ≡ 1) {a : Role} (p : a ≡ head_at P k) where
+    named : (x : Bool) → eqb (head_at P k).name r ≡ x → is_named_head P on r k ≡ x
+    unfolding is_named_head
+    named x e = λ i. eq-eqb (get_or on k 0) 1 h i && e i
+
+    pub head-other : (a.name ≡ r → ⊥) → b ≡ offer d (is_named_head P on r) (head_edge P n) b k
+    head-other z = offer-left d (is_named_head P on r) (head_edge P n) b k (named false (ne_eqb (head_at P k).name r (λ y. z (ap (λ (x : Role). x.name) p ∙ y))))
+
+    pub head-edge : a.name ≡ r → {w : Candidate} {c : Choice} → w ≡ solution_edge n a → c ≡ better d b w → c ≡ offer d (is_named_head P on r) (head_edge P n) b k
+    unfolding head_edge
+    head-edge z f q =
+        offer-taken d (is_named_head P on r) (head_edge P n) b k (named true (eq-eqb (head_at P k).name r (sym (ap (λ (x : Role). x.name) p) ∙ z)))
+        (q ∙ ap (better d b) (f ∙ ap (solution_edge n) p))
 
   pub head-named : get_or on k 0 ≡ 1 → {a : Role} {c : Choice} → a ≡ head_at P k → c ≡ cond (eqb a.name r) (better d b (solution_edge n a)) b
       → c ≡ offer d (is_named_head P on r) (head_edge P n) b k

@@ -7,7 +7,7 @@ use Rattle.std.proofs.Math.Path.{sym, ap, subst}
 use Rattle.std.proofs.Math.Bool.{false, cond}
 use mathlib.Core.List.Memᴰ
 use mathlib.Core.List.{List, [], ◌∷◌, map, Memᴰ}
-use borrow.Author.Tests.{eqb-true, eqb-false, eq-eqb, ltb-true, lt-ltb, leb-false, lt-leb, not-true, not-false}
+use borrow.Author.Tests.{eqb-true, eqb-false, eq-eqb, ne_eqb, ltb-true, lt-ltb, leb-false, lt-leb, not-true, not-false}
 use Rattle.std.proofs.Math.Dec.{eqb, leb}
 use Rattle.std.proofs.Math.ListN.{get_or}
 use Rattle.std.proofs.lemmas.List.{length-replicate}
@@ -42,7 +42,7 @@ use Rattle.moves.specs.laws.FrontiersExact.{gather-mem, gather-find}
 use Rattle.moves.specs.Candidates.{ordered, first_not, mark_if, chosen_in, is_done}
 use Rattle.moves.specs.Rules.{End, owners_in, child_for, children_by, is_satisfied, solutions_of, link_rules}
 use Rattle.candidates.specs.laws.Least.{better, Uniform, or_else, first_rest}
-use Rattle.candidates.specs.laws.Offers.{folded, offer, offer-left, Among, Is, offers-first}
+use Rattle.candidates.specs.laws.Offers.{folded, offer, offer-taken, offer-left, Among, Is, offers-first}
 use Rattle.numbers.specs.Sizes.{MOST-NODES}
 
 -- The goals that a node monitors
@@ -107,6 +107,12 @@ module _ (E : Edges) (i : ℕ) where
         (and_both (eqb (get_or E.kind k 0) 2) (eqb (get_or E.parent k 0) i) (eq-eqb (get_or E.kind k 0) 2 a)
         (eq-eqb (get_or E.parent k 0) i b)) (lt-ltb c 128 (omega (arith, e, l))))))
 
+pub monitoring-room : (E : Edges) (i k c : ℕ) → (eqb (get_or E.kind k 0) 2 && eqb (get_or E.parent k 0) i && ltb c 128) ≡ true → c < 128
+monitoring-room E i k c h = ltb-true c 128 (and_parts (eqb (get_or E.kind k 0) 2 && eqb (get_or E.parent k 0) i) (ltb c 128) h).1
+
+pub monitoring-all : (E : Edges) (i : ℕ) {k m : ℕ} {r : List ℕ} → Monitoring E i k r → m ≤ k → k ≤ m → Monitoring E i m r
+monitoring-all E i {k} {m} {r} M l h = subst (λ (j : ℕ). Monitoring E i j r) (omega arith) M
+
 -- The satisfied solutions
 
 -- the entity of a role
@@ -151,6 +157,25 @@ module _ (n : ℕ) (K P C mon sat : List ℕ) (j : ℕ) where
   -- edge j brings a goal that is monitored a satisfied solution; both are below n
   unfoldable pub is_solution : Bool
   is_solution = behind (eqb (get_or K j 0) 3) (leb n (get_or P j 0) || leb n (get_or C j 0)) (flag mon (get_or P j 0) && flag sat (get_or C j 0))
+
+  pub solution-kind : (get_or K j 0 ≡ 3 → ⊥) → false ≡ is_solution
+  unfolding is_solution
+  solution-kind h =
+      sym (ap (λ (b : Bool). behind b (leb n (get_or P j 0) || leb n (get_or C j 0)) (flag mon (get_or P j 0) && flag sat (get_or C j 0))) (ne_eqb (get_or K j 0) 3 h))
+
+  module _ (k : get_or K j 0 ≡ 3) {g c : ℕ} (p : g ≡ get_or P j 0) (q : c ≡ get_or C j 0) where
+    by-room : (b : Bool) → (leb n g || leb n c) ≡ b → cond b false (flag mon g && flag sat c) ≡ is_solution
+    unfolding is_solution
+    by-room b h =
+        let o : (leb n (get_or P j 0) || leb n (get_or C j 0)) ≡ b = sym (λ i. leb n (p i) || leb n (q i)) ∙ h in
+        sym (ap (λ (x : Bool). behind x (leb n (get_or P j 0) || leb n (get_or C j 0)) (flag mon (get_or P j 0) && flag sat (get_or C j 0)))
+        (eq-eqb (get_or K j 0) 3 k) ∙ (λ i. cond (o i) false (sym (λ t. flag mon (p t) && flag sat (q t)) i)))
+
+    pub solution-outside : (leb n g || leb n c) ≡ true → false ≡ is_solution
+    solution-outside h = by-room true h
+
+    pub solution-flags : (leb n g || leb n c) ≡ false → {b : Bool} → b ≡ (flag mon g && flag sat c) → b ≡ is_solution
+    solution-flags h e = e ∙ by-room false h
 
   -- what it says
   pub solution-parts : is_solution ≡ true → (get_or K j 0 ≡ 3) × (get_or P j 0 < n) × (get_or C j 0 < n) × (flag mon (get_or P j 0) ≡ true)
@@ -210,6 +235,21 @@ solution_edge N n a c = link_edge n a (entity_in (node_at N c).expression)
 
 unfoldable pub solved_edge : Nodes → Edges → Node → Role → ℕ → Candidate
 solved_edge N X n a j = solution_edge N n a (get_or X.child j 0)
+
+module _ (d : Candidate → Bool) (N : Nodes) (n : Node) (a : Role) (r c : ℕ) (b : Choice) {x : Expression} (e : x ≡ (node_at N c).expression) {t : Bool}
+    (p : t ≡ is_named r x) where
+  named : t ≡ is_named_at N r c
+  unfolding is_named_at
+  named = p ∙ ap (is_named r) e
+
+  pub named_other : not t ≡ true → b ≡ offer d (is_named_at N r) (solution_edge N n a) b c
+  named_other h = offer-left d (is_named_at N r) (solution_edge N n a) b c (sym named ∙ not-true t h)
+
+  pub named-edge : not t ≡ false → {o : ℕ} {w : Candidate} {z : Choice} → o ≡ entity_in x → w ≡ link_edge n a o → z ≡ better d b w
+      → z ≡ offer d (is_named_at N r) (solution_edge N n a) b c
+  unfolding solution_edge
+  named-edge h u v q =
+      offer-taken d (is_named_at N r) (solution_edge N n a) b c (sym named ∙ not-false t h) (q ∙ ap (better d b) (v ∙ ap (link_edge n a) (u ∙ ap entity_in e)))
 
 module _ (d : Candidate → Bool) (N : Nodes) (E : Edges) (mon sat : List ℕ) (r : ℕ) (n : Node) (a : Role) (j : ℕ) where
   -- an edge that brings a solution offers what the solution does

@@ -42,6 +42,11 @@ module _ (f : Choice → ℕ → Choice) (b : Choice) where
 unfoldable pub offer : (Candidate → Bool) → (ℕ → Bool) → (ℕ → Candidate) → Choice → ℕ → Choice
 offer d is edge b k = cond (is k) (better d b (edge k)) b
 
+pub offer-taken : (d : Candidate → Bool) (is : ℕ → Bool) (edge : ℕ → Candidate) (b : Choice) (k : ℕ) {r : Choice} → is k ≡ true
+    → r ≡ better d b (edge k) → r ≡ offer d is edge b k
+unfolding offer
+offer-taken d is edge b k h e = e ∙ sym (ap (λ (x : Bool). cond x (better d b (edge k)) b) h)
+
 pub offer-left : (d : Candidate → Bool) (is : ℕ → Bool) (edge : ℕ → Candidate) (b : Choice) (k : ℕ) → is k ≡ false → b ≡ offer d is edge b k
 unfolding offer
 offer-left d is edge b k h = sym (ap (λ (x : Bool). cond x (better d b (edge k)) b) h)

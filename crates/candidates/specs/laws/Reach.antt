@@ -1,5 +1,5 @@
 -- What the edges of a linked target A.r1.r2 come from, where its first name is issuer-traces-all (section 5.3). Assumes nothing.
-use Rattle.std.specs.Prelude.{ℕ, ◌≡◌, Bool, true, false, ◌&&◌, List, eqb, replicate}
+use Rattle.std.specs.Prelude.{ℕ, ◌≡◌, refl, Bool, true, false, ◌&&◌, List, eqb, replicate}
 use Rattle.std.proofs.Common.{sym, ◌∙◌, ap, subst, eqb-true}
 use Rattle.expression.specs.declared.Role.{Role}
 use Rattle.expression.specs.declared.Expression.{Expression}
@@ -9,6 +9,7 @@ use Rattle.expression.specs.laws.Same.{same_role-eq}
 use Rattle.word.specs.laws.Bools.{false-true, and_parts}
 use Rattle.rt0.specs.declared.Pool.{Pool}
 use Rattle.rt0.specs.laws.Pool.{credentials}
+use Rattle.rules.specs.laws.Columns.{is_linked}
 use Rattle.class.specs.laws.Names.{names_of}
 use Rattle.class.specs.Names.{class_of}
 use Rattle.tables.specs.laws.Tables.{tables_of}
@@ -44,6 +45,15 @@ pub record LinkedBy (o : Preparation) (e : Expression) (found : List ℕ) : Type
 
 -- Found, and kept
 
+module _ (o : Preparation) (a : Role) (r : ℕ) {F : List ℕ} {k : ℕ}
+    (T : Told (is_from (credentials o.house.issuer) a) o.house.issuer o.house.issuer.count F) (p : k ≡ class_of (names_of o.house.names) r) where
+  pub found-roles : k ≡ 3 → LinkFound o a r F
+  found-roles h = record { members = F; told = T; roles = λ z. refl; others = λ z. absurd (z (sym p ∙ h)) }
+
+  pub found-others : (k ≡ 3 → ⊥) → {found : List ℕ} → Collected o.house.issuer (replicate 128 1) o.oppo F r o.house.issuer.count found
+      → LinkFound o a r found
+  found-others h C = record { members = F; told = T; roles = λ z. absurd (h (p ∙ z)); others = λ z. C }
+
 pub recalls-none : (o : Preparation) (l : LinkReach) → l.known ≡ false → Recalls o l
 recalls-none o l h = record { last = λ k. absurd (false-true (sym h ∙ k)) }
 
@@ -55,6 +65,26 @@ recalls-same o l a r {s} K e h =
     let role : l.role ≡ a = same_role-eq l.role a (sym e ∙ u.1) in
     let name : l.name ≡ r = eqb-true l.name r t.1 in
     subst (λ (m : ℕ). LinkFound o a m l.found) name (subst (λ (b : Role). LinkFound o b l.name l.found) role (K.last u.0))
+
+-- Of one kind of expression
+
+pub linked-by : (o : Preparation) {e : Expression} {b : Role} {s : ℕ} {found : List ℕ} → e ≡ E.Linked b s
+    → (class_of (names_of o.house.names) b.name ≡ 2 → LinkFound o b s found) → LinkedBy o e found
+linked-by o {e} {b} {s} {found} h L = record { by = by }
+  where
+    by : (a : Role) (r : ℕ) → e ≡ E.Linked a r → class_of (names_of o.house.names) a.name ≡ 2 → LinkFound o a r found
+    by a r q k =
+        let x : E.Linked b s ≡ E.Linked a r = sym h ∙ q in
+        let role : b ≡ a = cc in
+        let name : s ≡ r = cc in
+        subst (λ (m : ℕ). LinkFound o a m found) name
+        (subst (λ (c : Role). LinkFound o c s found) role (L (ap (λ (c : Role). class_of (names_of o.house.names) c.name) role ∙ k)))
+
+pub linked-other : (o : Preparation) {e f : Expression} {found : List ℕ} → e ≡ f → is_linked f ≡ false → LinkedBy o e found
+linked-other o h n = record { by = λ a r q k. absurd (false-true (sym n ∙ (ap is_linked (sym h) ∙ ap is_linked q))) }
+
+pub linked-same : (o : Preparation) {e f : Expression} {found : List ℕ} → LinkedBy o e found → e ≡ f → LinkedBy o f found
+linked-same o L h = record { by = λ a r q k. L.by a r (h ∙ q) k }
 
 -- The edges
 

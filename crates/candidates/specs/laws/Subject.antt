@@ -1,5 +1,5 @@
 -- The edge to the subject where a frontier has it, else those to what is no entity (section 5.4). Assumes nothing.
-use Rattle.std.specs.Prelude.{ℕ, ◌≡◌, refl, Bool, false, not, cond, ◌&&◌, List, [], ◌∷◌}
+use Rattle.std.specs.Prelude.{ℕ, ◌≡◌, refl, Bool, false, not, cond, ◌&&◌, ◌||◌, List, [], ◌∷◌, eqb, get_or}
 use Rattle.std.proofs.Math.Path.{sym, ap}
 use Rattle.std.proofs.Common.{◌∙◌}
 use Rattle.std.proofs.Math.Bool.{true}
@@ -28,6 +28,7 @@ use Rattle.moves.specs.Rules.{child_for, implications, to_subject}
 use Rattle.candidates.specs.laws.Least.{better}
 use Rattle.candidates.specs.laws.Offers.{folded, offer}
 use Rattle.candidates.specs.laws.Members.{no-entities, is_member, member_edge, Reads, members-first}
+use Rattle.candidates.specs.laws.MembersLaws.{flags-none, flags-both}
 
 -- credential k was found, and its body is a stop and the entity s
 unfoldable pub is_subject_at : Pool → List ℕ → List ℕ → ℕ → ℕ → Bool
@@ -35,6 +36,16 @@ is_subject_at P stop r s k = flag r k && flag stop k && same (body_at P k) (E.En
 
 unfoldable pub has_subject : Pool → List ℕ → List ℕ → ℕ → Bool
 has_subject P stop r s = any (is_subject_at P stop r s) (up_to P.count (λ k. k))
+
+module _ (P : Pool) (stop found : List ℕ) (s k : ℕ) where
+  pub subject-none : (not (eqb (get_or found k 0) 1) || not (eqb (get_or stop k 0) 1)) ≡ true → false ≡ is_subject_at P stop found s k
+  unfolding is_subject_at
+  subject-none h = sym (flags-none (flag found k) (flag stop k) (same (body_at P k) (E.Entity s)) h)
+
+  pub subject-same : (not (eqb (get_or found k 0) 1) || not (eqb (get_or stop k 0) 1)) ≡ false → {x : Expression} {r : Bool} → x ≡ body_at P k
+      → r ≡ same x (E.Entity s) → r ≡ is_subject_at P stop found s k
+  unfolding is_subject_at
+  subject-same h p q = q ∙ (ap (λ (y : Expression). same y (E.Entity s)) p ∙ sym (flags-both (flag found k) (flag stop k) (same (body_at P k) (E.Entity s)) h))
 
 -- the choice among the edges of a frontier
 pub record SubjectLeads (d : Candidate → Bool) (P : Pool) (on stop : List ℕ) (n : Node) (e : Role) (r : Choice) : Type 0 where
