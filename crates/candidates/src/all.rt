@@ -6,12 +6,14 @@ ghost use Rattle.rules.specs.laws.Table.{chosen};
 ghost use Rattle.rules.specs.laws.Ruled.{Ruled};
 ghost use Rattle.relation.specs.laws.Relation.{Relation};
 ghost use Rattle.tables.specs.laws.Tables.{tables_of};
+ghost use Rattle.propagation.specs.laws.Flags.{flag};
 ghost use Rattle.moves.specs.declared.Choice.TheVariants as C;
 ghost use Rattle.moves.specs.laws.Own.{Prepared};
 ghost use Rattle.moves.specs.laws.Stops.{Told};
 ghost use Rattle.moves.specs.Candidates.{first_not};
 ghost use Rattle.candidates.specs.laws.Place.{Bounded, done_at};
 ghost use Rattle.candidates.specs.laws.Offers.{folded};
+ghost use Rattle.candidates.specs.laws.Skipped.{Skipped};
 ghost use Rattle.candidates.specs.laws.Collected.{Added, Grown, Collected};
 ghost use Rattle.candidates.specs.laws.All.{is_from, offer_role, offer_roles, all_edges};
 ghost use Rattle.candidates.specs.laws.Reach.{LinkFound};
@@ -121,6 +123,19 @@ pub fn found_from_all(
         }
     }
     all
+}
+
+// The next flagged credential from an index on, or m.
+pub fn next_flagged(m: usize, flags: &[u8; 128], from: usize) -> usize
+    requires { (m ≤ 128) × (from ≤ m) }
+    ensures { Skipped (flag flags.now) from m result × (result < m → flag flags.now result ≡ true) }
+{
+    for k in from..m {
+        if flags[k] == 1 {
+            return k;
+        }
+    }
+    m
 }
 
 impl Place<'_> {

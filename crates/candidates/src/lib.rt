@@ -1,6 +1,7 @@
 // The edges that a rule may add to a node: the first in order that is not done.
 #![tactic(auto)]
 
+pub use all::next_flagged;
 pub use done::or_else;
 use expression::Role;
 use graph::Node;
