@@ -12,7 +12,7 @@ ghost use Rattle.numbers.specs.Sizes.{MOST-EDGES, MOST-NODES, MOST-SHOWN};
 
 use negotiation::{Messages, Negotiation};
 use numbers::ABSENT;
-use standing::restore;
+use standing::Restored;
 use states::state_of;
 
 fn wide(x: u8) -> u64
@@ -79,11 +79,10 @@ fn report_on(n: &Negotiation, i: usize) -> u64
 pub fn report(tables: &[u8], negotiation: &[u8], node: u8) -> u64
     ensures { result ≡ answer_of packed (report_of tables.now negotiation.now node) }
 {
-    let found = restore(tables, negotiation);
-    let r = match &found {
-        Ok(r) => r,
-        Err(k) => return *k,
-    };
+    let mut r = Restored::empty();
+    if let Err(k) = r.find(tables, negotiation) {
+        return k;
+    }
     let i = node as usize;
     if r.negotiation.nodes.count <= i {
         return ABSENT;
