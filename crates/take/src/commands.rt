@@ -1,5 +1,5 @@
 // The commands of a message, one after another.
-ghost use Rattle.std.specs.Prelude.{◌≡◌, true, false, ◌≤◌, length, OnOk};
+ghost use Rattle.std.specs.Prelude.{◌≡◌, true, false, ◌≤◌, length, OnOk, OnErr};
 ghost use Rattle.class.specs.laws.Names.{names_of, Ascending};
 ghost use Rattle.graph.specs.laws.Graph.{nodes_of, edges_of};
 ghost use Rattle.states.specs.laws.Brings.{NodesFormed};
@@ -54,9 +54,9 @@ fn judge(
     legal(names, sender, n, c, justified)
 }
 
-// Each command is judged and carried out before the next is read: whether an open, an edge or a mark was among them, or why one is refused. What the
-// credentials shown prove and which nodes are satisfied is kept beside.
-pub fn take_commands(
+// Each command is judged and carried out before the next is read: whether an open, an edge or a mark was among them, or why one is refused, those before it
+// being carried out. What the credentials shown prove and which nodes are satisfied is kept beside.
+fn carry_out(
     names: &Names,
     sender: u8,
     n: &mut Negotiation,
@@ -93,4 +93,24 @@ pub fn take_commands(
         at = next.at;
     }
     Err(COMMAND)
+}
+
+// The commands of a message: whether an open, an edge or a mark was among them, or why one is refused. Then the negotiation is as it was.
+pub fn take_commands(
+    names: &Names,
+    sender: u8,
+    n: &mut Negotiation,
+    message: &[u8],
+) -> Result<bool, u64>
+    requires { (names.now.count ≤ MOST-NAMES) × Ascending names.now.count names.now.name × (within (state_of n.old) ≡ true)
+        × NodesFormed (nodes_of n.old.nodes) }
+    ensures taken { taken_of result n.new
+        ≡ commands_from (length message.now) (names_of names.now) sender message.now 0 (state_of n.old) false }
+    ensures sized { OnOk result (Room n.new) }
+    ensures kept { OnErr result (n.new ≡ n.old) }
+{
+    let mut after = *n;
+    let moved = carry_out(names, sender, &mut after, message)?;
+    *n = after;
+    Ok(moved)
 }
