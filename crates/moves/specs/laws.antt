@@ -1,3 +1,4 @@
+pub mod Initial
 pub mod FrontiersExact
 pub mod Stops
 pub mod Own

@@ -1,23 +1,70 @@
 -- Where a frontier stops: the bodies of which its predicate is true. Assumes nothing.
-use Rattle.std.specs.Prelude.{ℕ, ◌+◌, ◌≤◌, ◌<◌, ◌≡◌, Bool, true, cond, List, eqb, length, set}
+use Rattle.std.specs.Prelude.{ℕ, ◌+◌, ◌≤◌, ◌<◌, ◌≡◌, Bool, true, false, cond, List, eqb, length, set}
 use Rattle.std.proofs.Common.{arith, sym, ◌∙◌, ⊎_elim, eqb-true, length-set, get_or-set_same, get_or-set_other}
-use Rattle.std.proofs.Math.Path.{ap}
+use Rattle.std.proofs.Math.Path.{refl, ap}
 use Rattle.std.proofs.lemmas.Bool.{eqb-false}
+use Rattle.expression.specs.declared.Role.{Role}
 use Rattle.expression.specs.declared.Expression.{Expression}
+use Rattle.expression.specs.declared.Expression.TheVariants as E
+use Rattle.expression.specs.Kinds.{is_role_expression}
+use Rattle.word.specs.laws.Bools.{false-true}
 use Rattle.rt0.specs.declared.Pool.{Pool}
 use Rattle.rt0.specs.laws.Pool.{body_at}
 use Rattle.class.specs.declared.Name.{Name}
 use Rattle.record.specs.declared.Pair.{Pair}
+use Rattle.tables.specs.Lookup.{is_sensitive}
 use Rattle.propagation.specs.laws.Flags.{flag, decided, flag_is}
 use Rattle.frontier.specs.laws.Frontier.{Stops}
 use Rattle.moves.specs.declared.Predicate.{Predicate}
 use Rattle.moves.specs.declared.Predicate.TheVariants.{Oppo, Simp, Sens}
+use Rattle.moves.specs.Initial.{is_subject_all}
 use Rattle.moves.specs.Frontiers.{oppo, simp, sens}
 
 unfoldable pub predicate_of : Predicate → List Name → List Pair → Expression → Bool
 predicate_of Oppo ns P x = oppo ns x
 predicate_of Simp ns P x = simp x
 predicate_of Sens ns P x = sens P x
+
+-- of a role
+module _ (p : Predicate) (ns : List Name) (P : List Pair) (a : Role) {b : Bool} where
+  pub oppo-at : p ≡ Oppo → b ≡ is_subject_all ns a.name → b ≡ predicate_of p ns P (E.Role a)
+  unfolding predicate_of
+  oppo-at h e = e ∙ ap (λ (q : Predicate). predicate_of q ns P (E.Role a)) (sym h)
+
+  pub simp-at : p ≡ Simp → b ≡ false → b ≡ predicate_of p ns P (E.Role a)
+  unfolding predicate_of
+  simp-at h e = e ∙ ap (λ (q : Predicate). predicate_of q ns P (E.Role a)) (sym h)
+
+  pub sens-at : p ≡ Sens → b ≡ is_sensitive P a → b ≡ predicate_of p ns P (E.Role a)
+  unfolding predicate_of
+  sens-at h e = e ∙ ap (λ (q : Predicate). predicate_of q ns P (E.Role a)) (sym h)
+
+-- every predicate is true of what is no role
+module _ (ns : List Name) (P : List Pair) where
+  no-role : (p : Predicate) (x : Expression) → is_role_expression x ≡ false → true ≡ predicate_of p ns P x
+  unfolding predicate_of
+  no-role Oppo (E.Entity a) h = refl
+  no-role Oppo (E.Role a) h = absurd (false-true (sym h))
+  no-role Oppo (E.Linked a r) h = refl
+  no-role Oppo (E.Intersection q) h = refl
+  no-role Oppo (E.Goal r) h = refl
+  no-role Simp (E.Entity a) h = refl
+  no-role Simp (E.Role a) h = absurd (false-true (sym h))
+  no-role Simp (E.Linked a r) h = refl
+  no-role Simp (E.Intersection q) h = refl
+  no-role Simp (E.Goal r) h = refl
+  no-role Sens (E.Entity a) h = refl
+  no-role Sens (E.Role a) h = absurd (false-true (sym h))
+  no-role Sens (E.Linked a r) h = refl
+  no-role Sens (E.Intersection q) h = refl
+  no-role Sens (E.Goal r) h = refl
+
+  module _ (p : Predicate) (e : Expression) where
+    pub stop-other : (x : Expression) → e ≡ x → is_role_expression x ≡ false → true ≡ predicate_of p ns P e
+    stop-other x h z = no-role p e (ap is_role_expression h ∙ z)
+
+    pub stop-role : {a : Role} {b : Bool} → e ≡ E.Role a → b ≡ predicate_of p ns P (E.Role a) → b ≡ predicate_of p ns P e
+    stop-role h be = be ∙ ap (predicate_of p ns P) (sym h)
 
 -- the first i are told
 pub record Told (pred : Expression → Bool) (P : Pool) (i : ℕ) (r : List ℕ) : Type 0 where
