@@ -1,6 +1,6 @@
 -- A role about us that is sensitive: what is asked at its node, and the choice there (section 5.4). Assumes nothing.
 use Rattle.std.specs.Prelude.{ℕ, ◌≡◌, refl, Bool, false, not, List, Some}
-use Rattle.std.proofs.Common.{sym}
+use Rattle.std.proofs.Common.{sym, ◌∙◌}
 use Rattle.expression.specs.declared.Role.{Role}
 use Rattle.expression.specs.declared.Expression.{Expression}
 use Rattle.expression.specs.declared.Expression.TheVariants as E
@@ -37,6 +37,9 @@ pub record Asked (S : State) (i : ℕ) (n : Node) (e : Expression) : Type 0 wher
   pub expression : n.expression ≡ e
   pub unprocessed : processed_by S.header.side n ≡ false
   pub opponent : n.verifier ≡ S.header.side → ⊥
+
+pub asked-as : {S : State} {i : ℕ} {n : Node} {e f : Expression} → Asked S i n e → e ≡ f → Asked S i n f
+asked-as q h = record { number = q.number; expression = q.expression ∙ h; unprocessed = q.unprocessed; opponent = q.opponent }
 
 module _ (T : Tables) (S : State) (i : ℕ) (n : Node) (a ack : Role) where
   abbrev done : Candidate → Bool

@@ -78,3 +78,10 @@ module _ (T : Tables) (a : Role) (s : is_sensitive T.sensitive a ≡ true) {b : 
 
 abbrev pub known_as : State → Hidden → Role → Role → Known
 known_as S H a ack = cond (is_acknowledged S ack) (Seen (holding_of H a)) Waiting
+
+module _ (S : State) (H : Hidden) (a ack : Role) {b : Bool} (p : b ≡ is_acknowledged S ack) where
+  pub known-waiting : not b ≡ true → Waiting ≡ known_as S H a ack
+  known-waiting h = sym (ap (λ (x : Bool). cond x (Seen (holding_of H a)) Waiting) (sym p ∙ not-true b h))
+
+  pub known-seen : not b ≡ false → {h : Holding} → h ≡ holding_of H a → Seen h ≡ known_as S H a ack
+  known-seen z e = ap Seen e ∙ sym (ap (λ (x : Bool). cond x (Seen (holding_of H a)) Waiting) (sym p ∙ not-false b z))

@@ -3,10 +3,10 @@ use Prim.Native.Nat.{ℕ, zero, suc, ◌+◌, ◌*◌, ◌/◌, ◌%◌, ◌≤�
 use native.Mathlib.Omega.{arith}
 use Rattle.std.specs.Prelude.{◌≡◌, ◌⊎◌, Bool, true, not, cond, ◌&&◌, eqb, length, get_or}
 use Rattle.std.proofs.Math.Path.{refl, sym, ap}
-use Rattle.std.proofs.Common.{◌∙◌, subst, ⊎_elim}
+use Rattle.std.proofs.Common.{◌∙◌, subst, inl, inr, ⊎_elim}
 use Rattle.std.proofs.Math.Bool.{false}
 use mathlib.Core.List.{List, [], ◌∷◌, ◌++◌, map}
-use borrow.Author.Tests.{eqb-true, eqb-false, not-true, not-false}
+use borrow.Author.Tests.{eqb-true, eqb-false, eq-eqb, ne_eqb, not-true, not-false}
 use Rattle.expression.specs.declared.Raw.{Raw}
 use Rattle.expression.specs.declared.Expression.{Expression}
 use Rattle.expression.specs.declared.Expression.TheVariants as E
@@ -98,6 +98,14 @@ open-not s n h = go (eqb n.verifier s) (eqb (n.state % 2) 1) (eqb (n.state / 2 %
     go true b c k = not-false b k
     go false b c k = not-false c k
 
+pub open_own : (s v t : ℕ) → v ≡ s → not (eqb (t % 2) 1) ≡ is_unprocessed s v t
+unfolding is_unprocessed
+open_own s v t h = sym (ap (λ (b : Bool). cond b (not (eqb (t % 2) 1)) (not (eqb (t / 2 % 2) 1))) (eq-eqb v s h))
+
+pub open-other : (s v t : ℕ) → (v ≡ s → ⊥) → not (eqb (t / 2 % 2) 1) ≡ is_unprocessed s v t
+unfolding is_unprocessed
+open-other s v t h = sym (ap (λ (b : Bool). cond b (not (eqb (t % 2) 1)) (not (eqb (t / 2 % 2) 1))) (ne_eqb v s h))
+
 -- nothing is to be done at the nodes below i
 pub record NothingBefore (o : End) (i : ℕ) : Type 0 where
   pub none : (j : ℕ) → j < i → choice_at o j (node_in o.state.nodes j) ≡ C.Nothing
@@ -178,6 +186,12 @@ goal-node N i h = goal-kind (raw_at_columns N.kind N.number i) h
 -- the search begins at q, or at the first node where q is a goal
 pub record BeginsAt (K : List ℕ) (q r : ℕ) : Type 0 where
   pub begins : (r ≡ 0) ⊎ ((r ≡ q) × (is_goal_kind (get_or K (q * 2) 0) ≡ false))
+
+pub begins-first : {K : List ℕ} {q : ℕ} → BeginsAt K q 0
+begins-first = record { begins = inl refl }
+
+pub begins-there : {K : List ℕ} {q : ℕ} → is_goal_kind (get_or K (q * 2) 0) ≡ false → BeginsAt K q q
+begins-there h = record { begins = inr (refl, h) }
 
 pub nothing-begins : (T : Tables) (n : Negotiation) {q r : ℕ} → Resting T (state_of n) q → BeginsAt n.nodes.kind q r
     → NothingBefore (end_in T (state_of n)) r × (r ≤ n.nodes.count)

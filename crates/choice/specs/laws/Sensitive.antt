@@ -3,7 +3,7 @@ use Rattle.std.specs.Prelude.{ℕ, ◌≡◌, not, cond, ◌||◌}
 use Rattle.std.proofs.Math.Path.{refl, sym, ap}
 use Rattle.std.proofs.Common.{◌∙◌}
 use Rattle.std.proofs.Math.Bool.{Bool, true, false}
-use borrow.Author.Tests.{not-true}
+use borrow.Author.Tests.{not-true, not-false}
 use mathlib.Core.List.{List, [], ◌∷◌, ◌++◌}
 use Rattle.expression.specs.declared.Role.{Role}
 use Rattle.expression.specs.declared.Expression.TheVariants as E
@@ -106,6 +106,23 @@ module _ (S : State) (d : Candidate → Bool) (i : ℕ) (n : Node) (rest : Choic
   unfolding known_choice
   by-waiting e p q r = r ∙ (ap (or_else rest) (q ∙ ap mark_if p) ∙ sym (ap (known_choice S d i n rest) e))
 
+  pub by-seen : {k : Known} {h : Holding} → k ≡ Seen h → c ≡ holding_choice S d i n rest h → c ≡ known_choice S d i n rest k
+  unfolding known_choice
+  by-seen e p = p ∙ sym (ap (known_choice S d i n rest) e)
+
+  pub by-absent : {h : Holding} → h ≡ Absent → c ≡ or_else rest C.Mark → c ≡ holding_choice S d i n rest h
+  unfolding holding_choice
+  by-absent e p = p ∙ sym (ap (holding_choice S d i n rest) e)
+
+  pub by-free : {a b : Choice} {w : Candidate} {h : Holding} → h ≡ Free → w ≡ own_for n → a ≡ alone d w → b ≡ or_else rest C.Mark → c ≡ or_else a b
+      → c ≡ holding_choice S d i n rest h
+  unfolding holding_choice
+  by-free e w p q r = r ∙ ((λ t. or_else ((p ∙ ap (alone d) w) t) (q t)) ∙ sym (ap (holding_choice S d i n rest) e))
+
+  pub by-guarded : {h : Holding} {r : Role} → h ≡ Guarded r → c ≡ policy_choice S d i n rest r → c ≡ holding_choice S d i n rest h
+  unfolding holding_choice
+  by-guarded e p = p ∙ sym (ap (holding_choice S d i n rest) e)
+
   module _ (r : Role) {w : Candidate} {control : Choice} (we : w ≡ control_for S n r) (ce : control ≡ alone d w) {a : Bool} (ae : a ≡ is_acknowledged S r) where
     pub policy-waits : {s : Bool} {m b : Choice} → not a ≡ true → s ≡ satisfied_in S i → m ≡ mark_if s → b ≡ or_else rest m → c ≡ or_else control b
         → c ≡ policy_choice S d i n rest r
@@ -114,6 +131,14 @@ module _ (S : State) (d : Candidate → Bool) (i : ℕ) (n : Node) (rest : Choic
         v ∙ ((λ t. or_else ((ce ∙ ap (alone d) we) t) ((u ∙ ap (or_else rest) (q ∙ ap mark_if p)) t))
         ∙ sym (ap (λ (x : Bool). or_else (alone d (control_for S n r))
         (or_else (cond x (alone d (own_for n)) C.Nothing) (or_else rest (mark_if (x || satisfied_in S i))))) (sym ae ∙ not-true a h)))
+
+    pub policy-met : {o : Candidate} {own b e : Choice} → not a ≡ false → o ≡ own_for n → own ≡ alone d o → b ≡ or_else rest C.Mark → e ≡ or_else own b
+        → c ≡ or_else control e → c ≡ policy_choice S d i n rest r
+    unfolding policy_choice
+    policy-met h p q u f v =
+        v ∙ ((λ t. or_else ((ce ∙ ap (alone d) we) t) ((f ∙ (λ z. or_else ((q ∙ ap (alone d) p) z) (u z))) t))
+        ∙ sym (ap (λ (x : Bool). or_else (alone d (control_for S n r))
+        (or_else (cond x (alone d (own_for n)) C.Nothing) (or_else rest (mark_if (x || satisfied_in S i))))) (sym ae ∙ not-false a h)))
 
 pub control-verifier : (S : State) (n : Node) (r : Role) {v : ℕ} → v ≡ other_side n.verifier
     → record { kind = 6; verifier = v; expression = E.Role r; subject = S.header.other; direct = false } ≡ control_for S n r

@@ -1,6 +1,6 @@
 -- A target at which there is nothing to do goes on waiting while what it looks at is the same (sections 5.3 and 5.4). Assumes nothing.
 use Rattle.std.specs.Prelude.{ℕ, ◌+◌, ◌≤◌, ◌<◌, ◌≡◌, refl, ◌⊎◌, Bool, not, cond, ◌&&◌, ◌||◌, eqb, ltb, length, get_or, Option, Some, None}
-use Rattle.std.proofs.Common.{arith, ◌∙◌, ap, subst, eqb-true, lt-ltb, le-ltb, ltb-true}
+use Rattle.std.proofs.Common.{arith, ◌∙◌, ap, subst, inl, inr, eqb-true, lt-ltb, le-ltb, ltb-true}
 use Rattle.std.proofs.Math.Path.{sym}
 use Rattle.std.proofs.Math.Logic.{⊎_elim}
 use Rattle.std.proofs.Math.Bool.{true, false}
@@ -354,6 +354,9 @@ pub record SameFlags (sat last : List ℕ) (n : ℕ) : Type 0 where
 pub record Compared (sat last : List ℕ) (n : ℕ) (found : Bool) : Type 0 where
   pub alike : found ≡ false → SameFlags sat last n
 
+pub compared-start : (sat last : List ℕ) → Compared sat last 0 false
+compared-start sat last = record { alike = λ e. record { same = λ j l. absurd (omega (arith, l)) } }
+
 pub compared-next : {sat last : List ℕ} {n : ℕ} {b : Bool} → Compared sat last n b → Compared sat last (n + 1) (b || not (eqb (get_or sat n 0) (get_or last n 0)))
 compared-next {sat} {last} {n} {b} f = record { alike = λ e. next (or-neither b (not (eqb (get_or sat n 0) (get_or last n 0))) e) }
   where
@@ -365,13 +368,32 @@ compared-next {sat} {last} {n} {b} f = record { alike = λ e. next (or-neither b
               (λ z. (f.alike p.0).same j (omega (arith, l, eqb-false j n z))) (decided (eqb j n));
         }
 
+pub compared-all : {sat last : List ℕ} {n m : ℕ} {b : Bool} → Compared sat last n b → m ≤ n → b ≡ false → SameFlags sat last m
+compared-all f l e = record { same = λ j k. (f.alike e).same j (omega (arith, l, k)) }
+
 -- two columns are alike at the solution that edge k brings a goal
 pub record SameAt (K D failed earlier : List ℕ) (k : ℕ) : Type 0 where
   pub same : get_or K k 0 ≡ 3 → get_or D k 0 < 128 → get_or failed (get_or D k 0) 0 ≡ get_or earlier (get_or D k 0) 0
 
+pub same-other : {K D failed earlier : List ℕ} {k : ℕ} → (get_or K k 0 ≡ 3 → ⊥) → SameAt K D failed earlier k
+same-other o = record { same = λ h l. absurd (o h) }
+
+pub same-outside : {K D failed earlier : List ℕ} {k c : ℕ} → c ≡ get_or D k 0 → 128 ≤ c → SameAt K D failed earlier k
+same-outside e o = record { same = λ h l. absurd (omega (arith, e, o, l)) }
+
+pub same_here : {K D failed earlier : List ℕ} {k c : ℕ} → c ≡ get_or D k 0 → not (eqb (get_or failed c 0) (get_or earlier c 0)) ≡ false → SameAt K D failed earlier k
+same_here {failed = F} {earlier = B} {c = c} e h =
+    record {
+      same = λ z l. ap (λ (j : ℕ). get_or F j 0) (sym e) ∙ (eqb-true (get_or F c 0) (get_or B c 0) (not-false (eqb (get_or F c 0) (get_or B c 0)) h)
+          ∙ ap (λ (j : ℕ). get_or B j 0) e);
+    }
+
 -- at the solutions of the first m edges
 pub record SameSolutions (K D failed earlier : List ℕ) (m : ℕ) : Type 0 where
   pub each : (k : ℕ) → k < m → SameAt K D failed earlier k
+
+pub solutions-start : {K D failed earlier : List ℕ} → SameSolutions K D failed earlier 0
+solutions-start = record { each = λ k l. absurd (omega (arith, l)) }
 
 pub solutions-next : {K D failed earlier : List ℕ} {m : ℕ} → SameSolutions K D failed earlier m → SameAt K D failed earlier m
     → SameSolutions K D failed earlier (m + 1)
@@ -381,9 +403,22 @@ solutions-next {K} {D} {failed} {earlier} {m} s a =
           (decided (eqb k m));
     }
 
+pub solutions-all : {K D failed earlier : List ℕ} {m n : ℕ} → SameSolutions K D failed earlier m → n ≤ m → SameSolutions K D failed earlier n
+solutions-all s l = record { each = λ k h. s.each k (omega (arith, l, h)) }
+
+pub flags-solutions : {K D failed earlier : List ℕ} {m : ℕ} → SameFlags failed earlier 128 → SameSolutions K D failed earlier m
+flags-solutions {D = D} f = record { each = λ k l. record { same = λ h i. f.same (get_or D k 0) i } }
+
 -- q where the columns are alike, or none
 pub record Unchanged (X : Edges) (sat last failed earlier : List ℕ) (q r : ℕ) : Type 0 where
   pub rests : (r ≡ 0) ⊎ ((r ≡ q) × SameFlags sat last 128 × SameSolutions X.kind X.child failed earlier X.count)
+
+pub unchanged-none : {X : Edges} {sat last failed earlier : List ℕ} {q : ℕ} → Unchanged X sat last failed earlier q 0
+unchanged-none = record { rests = inl refl }
+
+pub unchanged-all : {X : Edges} {sat last failed earlier : List ℕ} {q : ℕ} → SameFlags sat last 128
+    → SameSolutions X.kind X.child failed earlier X.count → Unchanged X sat last failed earlier q q
+unchanged-all f s = record { rests = inr (refl, f, s) }
 
 pub waits-rests : (T : Tables) (n : Negotiation) {sat last failed earlier : List ℕ} {q r : ℕ} → 0 < n.nodes.count → n.nodes.count ≤ 128
     → EdgesFormed (nodes_of n.nodes) (edges_of n.edges) → StateColumns (nodes_of n.nodes) (edges_of n.edges) sat failed
