@@ -1,6 +1,6 @@
 -- The commands of a message, test by test. Assumes nothing.
 use Prim.Native.Nat.{ℕ, zero, suc, ◌+◌, ◌-◌, ◌≤◌, ◌<◌}
-use Rattle.std.specs.Prelude.{Bool, false, ◌||◌, not, List, eqb, ◌≡◌, ◌⊎◌, length, Result, Ok, Err}
+use Rattle.std.specs.Prelude.{Bool, false, ◌||◌, not, List, eqb, ◌≡◌, ◌⊎◌, length, Result, Ok, Err, OnOk}
 use Rattle.std.proofs.Math.Bool.{true, cond}
 use Rattle.class.specs.declared.Name.{Name}
 use Rattle.message.specs.declared.Command.{Command}
@@ -69,6 +69,16 @@ module _ (ns : List Name) (s : ℕ) (m : List ℕ) where
   one (suc g) at S v e l = (g, refl, ap (on_command (λ size T w. commands_from g ns s m (at + size) T w) ns s S v) e)
 
   module _ {S₀ : State} {n : Negotiation} {at : ℕ} {v : Bool} (r : Reading ns s m S₀ n at v) where
+    -- the negotiation read so far is within the sizes, and its nodes have their forms
+    pub reading-room : Room n
+    reading-room = record { sizes = r.sizes; formed = r.formed }
+
+    -- the answer is a refusal
+    answers-refused : (t : Result Bool ℕ) (n' : Negotiation) (k : ℕ) → t ≡ Err k → commands_from (length m) ns s m 0 S₀ false ≡ refused k
+        → (taken_of t n' ≡ commands_from (length m) ns s m 0 S₀ false) × OnOk t (Room n')
+    unfolding taken_of
+    answers-refused t n' k e q = (ap (λ (x : Result Bool ℕ). taken_of x n') e ∙ sym q, subst (λ (x : Result Bool ℕ). OnOk x (Room n')) (sym e) tt)
+
     past : (f : ℕ) → command_at m at ≡ Err 2 → commands_from f ns s m at (state_of n) v ≡ refused 2
     unfolding commands_from
     past zero h = refl
@@ -76,8 +86,7 @@ module _ (ns : List Name) (s : ℕ) (m : List ℕ) where
 
     -- no command stands there, and no end has come
     pub reading-past : (n' : Negotiation) → length m ≤ at → taken_of (Err 2) n' ≡ commands_from (length m) ns s m 0 S₀ false
-    unfolding taken_of
-    reading-past n' l = sym (r.same ∙ past r.fuel (sym (nothing m at l)))
+    reading-past n' l = (answers-refused (Err 2) n' 2 refl (r.same ∙ past r.fuel (sym (nothing m at l)))).0
 
     module _ (l : at < length m) {a : Result Command ℕ} (ae : a ≡ command_at m at) where
       step-one : (g : ℕ) × (r.fuel ≡ suc g) × (commands_from r.fuel ns s m at (state_of n) v
@@ -86,10 +95,9 @@ module _ (ns : List Name) (s : ℕ) (m : List ℕ) where
 
       -- a command that cannot be read
       pub reading-unread : (n' : Negotiation) {k j : ℕ} → a ≡ Err k → j ≡ refusal_of a → taken_of (Err j) n' ≡ commands_from (length m) ns s m 0 S₀ false
-      unfolding taken_of
-      reading-unread n' h q =
-          ap refused (q ∙ ap refusal_of h)
-          ∙ sym (r.same ∙ step-one.2 ∙ ap (on_command (λ size T w. commands_from step-one.0 ns s m (at + size) T w) ns s (state_of n) v) h)
+      reading-unread n' {k} {j} h q =
+          (answers-refused (Err j) n' k (ap Err (q ∙ ap refusal_of h))
+          (r.same ∙ step-one.2 ∙ ap (on_command (λ size T w. commands_from step-one.0 ns s m (at + size) T w) ns s (state_of n) v) h)).0
 
       module _ {c : Command} (h : a ≡ Ok c) {k : ℕ} (ke : k ≡ legal_number ns s (state_of n) c) where
         by_number : commands_from (length m) ns s m 0 S₀ false
@@ -105,8 +113,7 @@ module _ (ns : List Name) (s : ℕ) (m : List ℕ) where
 
         -- one that is not legal
         pub reading-illegal : (n' : Negotiation) → (k ≡ 0 → ⊥) → taken_of (Err k) n' ≡ commands_from (length m) ns s m 0 S₀ false
-        unfolding taken_of
-        reading-illegal n' z = sym (by_number ∙ judged-refused k _ z)
+        reading-illegal n' z = (answers-refused (Err k) n' k refl (by_number ∙ judged-refused k _ z)).0
 
         module _ (z : k ≡ 0) {b : Bool} (be : b ≡ is_end c) where
           by_end : commands_from (length m) ns s m 0 S₀ false
@@ -145,3 +152,23 @@ module _ (ns : List Name) (s : ℕ) (m : List ℕ) where
                 formed =
                     subst (λ (S : State). NodesFormed S.nodes) (sym e) (step-formed (state_of n) s c r.formed room (command-formed m at c (sym ae ∙ h)));
               }
+
+        -- one that is not legal, or the end
+        pub reading-stop : {b : Bool} → b ≡ is_end c → (t : Result Bool ℕ) (n' : Negotiation) → (not (eqb k 0) || b) ≡ true
+            → t ≡ cond (eqb k 0) (Ok v) (Err k) → n' ≡ n → (taken_of t n' ≡ commands_from (length m) ns s m 0 S₀ false) × Room n'
+        reading-stop {b} be t n' z e x = (
+          ap (λ (u : Result Bool ℕ). taken_of u n') e ∙ ap (taken_of (cond (eqb k 0) (Ok v) (Err k))) x ∙ go (eqb k 0) refl z,
+          subst Room (sym x) reading-room,
+        )
+          where
+            go : (d : Bool) → eqb k 0 ≡ d → (not d || b) ≡ true → taken_of (cond d (Ok v) (Err k)) n ≡ commands_from (length m) ns s m 0 S₀ false
+            go true q y = reading-end (eqb-true k 0 q) be y refl
+            go false q y = reading-illegal n (eqb-false k 0 q)
+
+-- neither
+pub stop-left : (k : ℕ) (b : Bool) → (not (eqb k 0) || b) ≡ false → (k ≡ 0) × (b ≡ false)
+stop-left k b h = go (eqb k 0) refl h
+  where
+    go : (d : Bool) → eqb k 0 ≡ d → (not d || b) ≡ false → (k ≡ 0) × (b ≡ false)
+    go true q y = (eqb-true k 0 q, y)
+    go false q y = absurd (false-true (sym y))

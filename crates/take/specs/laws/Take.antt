@@ -1,5 +1,5 @@
 -- The call, test by test. Assumes nothing.
-use Rattle.std.specs.Prelude.{ℕ, ◌-◌, ◌≤◌, ◌<◌, Bool, not, ◌&&◌, List, eqb, length, ◌≡◌, refl, Result, Ok, Err}
+use Rattle.std.specs.Prelude.{ℕ, ◌-◌, ◌≤◌, ◌<◌, Bool, not, ◌&&◌, List, eqb, length, ◌≡◌, refl, Result, Ok, Err, OnOk}
 use Rattle.std.proofs.Math.Bool.{cond, false, true}
 use Rattle.std.proofs.Math.Dec.{leb}
 use Rattle.negotiation.specs.Messages.{message_count}
@@ -47,6 +47,18 @@ outcome_of (Ok x) n = accepted (state_of n)
 outcome_of (Err k) n = refused k
 
 -- A negotiation and a message
+
+-- a refused one
+outcome-refused : {A : Type 0} (r : Result A ℕ) (n : Negotiation) (k : ℕ) → r ≡ Err k → outcome_of r n ≡ refused k
+unfolding outcome_of
+outcome-refused {A} r n k e = ap (λ (x : Result A ℕ). outcome_of x n) e
+
+pub outcome-accepted : {A : Type 0} (r : Result A ℕ) (n : Negotiation) {x : A} → r ≡ Ok x → outcome_of r n ≡ accepted (state_of n)
+unfolding outcome_of
+outcome-accepted {A} r n e = ap (λ (y : Result A ℕ). outcome_of y n) e
+
+no_room : {A : Type 0} (r : Result A ℕ) (n : Negotiation) (k : ℕ) → r ≡ Err k → OnOk r (Room n)
+no_room {A} r n k e = subst (λ (x : Result A ℕ). OnOk x (Room n)) (sym e) tt
 
 module _ (m : List ℕ) (H : House) (n : Negotiation) where
   by_tests_lem : (a b : Bool) → not (eqb n.header.end 0) ≡ a → not (sends (other_side n.header.side) n.header.messages) ≡ b
@@ -179,13 +191,11 @@ module _ (tables negotiation message scratch : List ℕ) where
           is-outcome = by_size true sized (accepted (tables_of held.house, state_of held.negotiation)) (sym re ∙ ap standing_of q) ∙ sym te
 
           pub take-refused : {k : ℕ} → t ≡ Err k → Leaves negotiation scratch (take_of tables negotiation message scratch) k negotiation scratch
-          unfolding outcome_of
-          take-refused {k} e = refuses k (is-outcome ∙ ap (λ (x : Result A ℕ). outcome_of x n') e)
+          take-refused {k} e = refuses k (is-outcome ∙ outcome-refused t n' k e)
 
           pub take-accepted : {x : A} {n s : List ℕ} → t ≡ Ok x → n ≡ state_bytes (state_of n') → s ≡ pasted scratch 0 (zeros (4096 - 0))
               → Leaves negotiation scratch (take_of tables negotiation message scratch) 0 n s
-          unfolding outcome_of
           take-accepted {x} {n} {s} e ne se =
               let l : length scratch ≡ 4096 = size-parts.2 in
-              subst (λ (o : Answer State). Leaves negotiation scratch o 0 n s) (sym (is-outcome ∙ ap (λ (y : Result A ℕ). outcome_of y n') e))
+              subst (λ (o : Answer State). Leaves negotiation scratch o 0 n s) (sym (is-outcome ∙ outcome-accepted t n' e))
               (refl, (ne, se ∙ paste-whole scratch (zeros 4096) (length-zeros 4096 ∙ sym l) ∙ ap zeros (sym l)))
