@@ -1,6 +1,6 @@
 -- The commands of a message, test by test. Assumes nothing.
 use Prim.Native.Nat.{ℕ, zero, suc, ◌+◌, ◌-◌, ◌≤◌, ◌<◌}
-use Rattle.std.specs.Prelude.{Bool, false, ◌||◌, not, List, eqb, ◌≡◌, ◌⊎◌, length, Result, Ok, Err, OnOk}
+use Rattle.std.specs.Prelude.{Bool, false, ◌||◌, not, List, eqb, ◌≡◌, length, Result, Ok, Err, OnOk}
 use Rattle.std.proofs.Math.Bool.{true, cond}
 use Rattle.class.specs.declared.Name.{Name}
 use Rattle.message.specs.declared.Command.{Command}
@@ -11,7 +11,7 @@ use Rattle.reader.specs.laws.Position.{position_after}
 use Rattle.reader.specs.laws.PositionLaws.{position-read}
 use Rattle.applied.specs.Step.{stepped, is_move, has_room}
 use Rattle.legal.specs.Number.{legal_number}
-use Rattle.std.proofs.Common.{arith, ◌∙◌, ⊎_elim, eq-eqb, ne_eqb, eqb-true}
+use Rattle.std.proofs.Common.{arith, ◌∙◌, eqb-true}
 use Rattle.std.proofs.Math.Path.{refl, sym, ap, subst}
 use Rattle.std.proofs.lemmas.Bool.{eqb-false}
 use Rattle.word.specs.laws.Bools.{false-true}
