@@ -42,8 +42,7 @@ impl Pool {
     {
         let i = self.count;
         let raw = raw_of(c.body);
-        self.heads[i * 2] = c.head.entity;
-        self.heads[i * 2 + 1] = c.head.name;
+        store_head(&mut self.heads, i, c.head);
         store_kind(&mut self.kinds, i, raw);
         store_numbers(&mut self.numbers, i, raw);
         self.count = i + 1;
@@ -101,6 +100,15 @@ impl Pool {
             | self.has_head(key, i + 6)
             | self.has_head(key, i + 7)
     }
+}
+
+// The role p goes into a column of heads as number i.
+pub fn store_head(heads: &mut [u16; 256], i: usize, p: Role)
+    requires { i < 128 }
+    ensures { heads.new ≡ pair heads.old (i * 2) p.entity p.name }
+{
+    heads[i * 2] = p.entity;
+    heads[i * 2 + 1] = p.name;
 }
 
 // The kind and the part count of an expression go into their column as number i.
