@@ -6,7 +6,7 @@
 
 ghost use Rattle.std.specs.Prelude.{◌≡◌, ◌<◌, ◌≤◌, ◌*◌};
 ghost use Rattle.rules.specs.laws.Table.{row_of, third, fourth};
-ghost use Rattle.rules.specs.laws.Columns.{four_rows, first_row, Column, head_row, body_first, PartsTo};
+ghost use Rattle.rules.specs.laws.Columns.{four_rows, first_row, is_linked, Column, head_row, body_first, PartsTo};
 ghost use Rattle.rules.specs.laws.Digits.{HeadsIn};
 ghost use Rattle.rules.specs.laws.Ruled.{Ruled};
 
@@ -14,7 +14,8 @@ use closure::Rules;
 use digits::HeadTables;
 pub use digits::{find_source, note_bodies, open_table};
 use expression::{Expression, Parts, Role};
-use linking::{has_link, has_links, linkable, names};
+pub use linking::linkable;
+use linking::{has_link, has_links, names};
 pub use rows::{row, source};
 use rt0::Pool;
 
@@ -113,6 +114,13 @@ fn first_of(pool: &Pool, tables: &HeadTables, x: Expression) -> usize
         Expression::Linked(a, _) => tables.row(pool, a),
         _ => 128,
     }
+}
+
+// Whether x is a link.
+pub fn is_linked(x: Expression) -> bool
+    ensures { result ≡ is_linked x }
+{
+    matches!(x, Expression::Linked(_, _))
 }
 
 // The rows of the heads.
