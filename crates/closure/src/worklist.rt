@@ -1,5 +1,5 @@
 // Which rules and rows to look at first.
-ghost use Rattle.std.specs.Prelude.{◌≡◌, ◌<◌, ◌≤◌, ◌+◌, IfSome};
+ghost use Rattle.std.specs.Prelude.{◌≡◌, ◌<◌, ◌≤◌, ◌+◌, IfSome, length};
 ghost use Rattle.closure.specs.laws.Rules.{Under};
 
 use crate::{Rules, mark};
@@ -93,6 +93,7 @@ impl Dirty {
 // Rule i reads the rows base + j, for each j in the word `named`; where there are few rules, it is only noted that it names rows.
 fn read_word(named: u64, base: usize, i: usize, few: bool, rows: &mut [u64; 260])
     requires { (base ≤ 64) × (i < 128) }
+    ensures { length rows.new ≡ 260 }
 {
     if named == 0 {
         return;
@@ -111,6 +112,7 @@ fn read_word(named: u64, base: usize, i: usize, few: bool, rows: &mut [u64; 260]
 // The rows that rule i reads.
 fn read_rule(rules: &Rules, i: usize, rows: &mut [u64; 260])
     requires { Under 130 rules.now.part × Under 130 rules.now.first × (i < 128) }
+    ensures { length rows.new ≡ 260 }
 {
     let few = rules.count <= 64;
     mark(rows, rules.first[i], i);
