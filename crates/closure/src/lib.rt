@@ -7,6 +7,7 @@
 ghost use Rattle.std.specs.Prelude.{◌≡◌, ◌<◌};
 ghost use Rattle.closure.specs.laws.Rules.{bits, Fits, Grown, Closed, Marked};
 
+pub use linked_rules::Work;
 use linked_rules::run_linked;
 use plain_rules::run_plain;
 use rounds::pass;

@@ -157,11 +157,11 @@ fn filled(own: bool, rows: &[u64; 260]) -> Dirty {
 
 // Rules to be run in this round and in the next, rows that grew in the round before, and rows that grew in this one.
 #[derive(Clone, Copy)]
-struct Work {
-    now: Dirty,
-    later: Dirty,
-    rows: Dirty,
-    grew: Dirty,
+pub struct Work {
+    pub now: Dirty,
+    pub later: Dirty,
+    pub rows: Dirty,
+    pub grew: Dirty,
 }
 
 impl Work {
