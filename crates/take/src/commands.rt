@@ -56,12 +56,7 @@ fn judge(
 
 // Each command is judged and carried out before the next is read: whether an open, an edge or a mark was among them, or why one is refused, those before it
 // being carried out. What the credentials shown prove and which nodes are satisfied is kept beside.
-fn carry_out(
-    names: &Names,
-    sender: u8,
-    n: &mut Negotiation,
-    message: &[u8],
-) -> Result<bool, u64>
+fn carry_out(names: &Names, sender: u8, n: &mut Negotiation, message: &[u8]) -> Result<bool, u64>
     requires { (names.now.count ≤ MOST-NAMES) × Ascending names.now.count names.now.name × (within (state_of n.old) ≡ true)
         × NodesFormed (nodes_of n.old.nodes) }
     ensures taken { taken_of result n.new
