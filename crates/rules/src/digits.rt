@@ -21,20 +21,15 @@ pub struct HeadTables {
 }
 
 impl HeadTables {
-    // The tables of the heads of a pool.
-    pub fn of(pool: &Pool) -> Self
+    // Tables of no head take in the heads of a pool.
+    pub fn note_heads(&mut self, pool: &Pool)
         requires { pool.now.count ≤ 128 }
-        ensures { HeadsIn pool.now.heads pool.now.count result.entity result.name }
+        ensures { HeadsIn pool.now.heads pool.now.count self.new.entity self.new.name }
     {
-        let mut tables = Self {
-            entity: [0u64; 260],
-            name: [0u64; 260],
-        };
         for j in 0..pool.count {
-            note(&mut tables.entity, pool.heads[j * 2], j);
-            note(&mut tables.name, pool.heads[j * 2 + 1], j);
+            note(&mut self.entity, pool.heads[j * 2], j);
+            note(&mut self.name, pool.heads[j * 2 + 1], j);
         }
-        tables
     }
 
     // The row of the role p.

@@ -188,7 +188,11 @@ pub fn rules_of(pool: &Pool) -> Rules
     requires { pool.now.count ≤ 128 }
     ensures { Ruled pool.now result }
 {
-    let tables = HeadTables::of(pool);
+    let mut tables = HeadTables {
+        entity: [0u64; 260],
+        name: [0u64; 260],
+    };
+    tables.note_heads(pool);
     let head = head_rows(pool, &tables);
     let part = part_rows(pool, &tables);
     let first = first_rows(pool, &tables);
