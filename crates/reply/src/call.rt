@@ -20,7 +20,7 @@ use moves::initial_state;
 use negotiation::{Negotiation, write, write_zeros};
 use numbers::{ENDED, LEAST_REPLY_BYTES, LENGTH, SCRATCH_BYTES, TURN};
 use sending::prepare;
-use standing::{restore, sends};
+use standing::{Restored, sends};
 use tables::House;
 
 fn fits(reply: usize, scratch: usize) -> bool
@@ -90,10 +90,10 @@ pub fn reply(tables: &[u8], negotiation: &mut [u8], reply: &mut [u8], scratch: &
     if !fits(reply.len(), scratch.len()) {
         return LENGTH;
     }
-    let mut r = match restore(tables, negotiation) {
-        Ok(r) => r,
-        Err(k) => return k,
-    };
+    let mut r = Restored::empty();
+    if let Err(k) = r.find(tables, negotiation) {
+        return k;
+    }
     let at = match reply_in(r.house, &mut r.negotiation, reply) {
         Ok(at) => at,
         Err(k) => return k,

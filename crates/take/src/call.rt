@@ -16,7 +16,7 @@ use crate::commands::take_commands;
 use applied::after_message;
 use negotiation::{Negotiation, write, write_zeros};
 use numbers::{ENDED, LENGTH, MOST_MESSAGE_BYTES, SCRATCH_BYTES, TURN};
-use standing::{other_side, restore, sends};
+use standing::{Restored, other_side, sends};
 use tables::House;
 
 fn fits(message: usize, scratch: usize) -> bool
@@ -57,10 +57,10 @@ pub fn take(tables: &[u8], negotiation: &mut [u8], message: &[u8], scratch: &mut
     if !fits(message.len(), scratch.len()) {
         return LENGTH;
     }
-    let mut r = match restore(tables, negotiation) {
-        Ok(r) => r,
-        Err(k) => return k,
-    };
+    let mut r = Restored::empty();
+    if let Err(k) = r.find(tables, negotiation) {
+        return k;
+    }
     if let Err(k) = take_in(&r.house, &mut r.negotiation, message) {
         return k;
     }

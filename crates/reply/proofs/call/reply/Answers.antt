@@ -1,7 +1,8 @@
-use mathlib.Core.Path.{ap}
+use mathlib.Core.Path.{refl, ap, sym, ◌∙◌}
+use Rattle.std.specs.Prelude.{Ok, Err}
 use mathlib.Core.Bool.{not}
 use native.Mathlib.Omega.{arith}
-use Rattle.standing.specs.laws.Standing.{restored-length}
+use Rattle.standing.specs.laws.Standing.{found-standing, refused-standing, restored-length}
 use Rattle.reply.specs.laws.Call.{reply-size, size-parts, reply-unrestored, restored-sound, reply-refused, reply-given}
 use Rattle.reply.proofs.call.reply.Goals as goal
 
@@ -13,28 +14,28 @@ returns-then-not-fits c =
 pub returns-in-Err : goal.returns-in-Err
 returns-in-Err c =
     let t = reply-unrestored c.args.tables.now c.args.negotiation.now c.args.reply.now c.args.scratch.now c.fits.ensures
-    (ap not c.if-not-fits.false) c.restore.result c.restore.ensures.found c.in-Err.is in
+    (ap not c.if-not-fits.false) (Err _) (sym (refused-standing _ _) ∙ c.in-Err.ensures.found) refl in
     record { answered = t.0; left = t.1.0; written = t.1.1.0; cleared = t.1.1.1 }
 
 pub reply_in-requires : goal.reply_in-requires
 reply_in-requires c = (
-  c.in-Ok.ensures.kept.housed,
+  c.in_default.ensures.kept.housed,
   restored-sound c.args.tables.now c.args.negotiation.now c.args.reply.now c.args.scratch.now c.fits.ensures
-      (ap not c.if-not-fits.false) c.restore.result c.restore.ensures.found c.in-Ok.is,
-  c.in-Ok.ensures.kept.is-sound,
-  c.in-Ok.ensures.kept.within-sizes,
+      (ap not c.if-not-fits.false) (Ok c.find.new.self) (sym (found-standing _ _) ∙ c.in_default.ensures.found) refl,
+  c.in_default.ensures.kept.is-sound,
+  c.in_default.ensures.kept.within-sizes,
   (size-parts c.args.tables.now c.args.negotiation.now c.args.reply.now c.args.scratch.now c.fits.ensures (ap not c.if-not-fits.false)).0,
 )
 
 pub returns-in-Err-reply_in : goal.returns-in-Err-reply_in
 returns-in-Err-reply_in c =
     let t = reply-refused c.args.tables.now c.args.negotiation.now c.args.reply.now c.args.scratch.now c.fits.ensures
-    (ap not c.if-not-fits.false) c.restore.result c.restore.ensures.found c.in-Ok.is c.reply_in.new.n c.reply_in.result c.reply_in.ensures
+    (ap not c.if-not-fits.false) (Ok c.find.new.self) (sym (found-standing _ _) ∙ c.in_default.ensures.found) refl c.reply_in.new.n c.reply_in.result c.reply_in.ensures
     c.in-Err-reply_in.is in
     record { answered = t.0; left = t.1.0; written = t.1.1.0; cleared = t.1.1.1 }
 
 pub write-requires : goal.write-requires
-write-requires c = (c.reply_in.ensures.sizes _ c.in-Ok-reply_in.is, restored-length _ _ _ c.in-Ok.ensures.found)
+write-requires c = (c.reply_in.ensures.sizes _ c.in-Ok-reply_in.is, restored-length _ _ c.find.new.self (sym (found-standing _ _) ∙ c.in_default.ensures.found))
 
 pub write_zeros-requires : goal.write_zeros-requires
 write_zeros-requires c =
@@ -47,6 +48,6 @@ overflow_mul-result c = omega (arith, c.reply_in.ensures.few _ c.in-Ok-reply_in.
 pub returns : goal.returns
 returns c =
     let t = reply-given c.args.tables.now c.args.negotiation.now c.args.reply.now c.args.scratch.now c.fits.ensures
-    (ap not c.if-not-fits.false) c.restore.result c.restore.ensures.found c.in-Ok.is c.reply_in.new.n c.reply_in.result c.reply_in.ensures
+    (ap not c.if-not-fits.false) (Ok c.find.new.self) (sym (found-standing _ _) ∙ c.in_default.ensures.found) refl c.reply_in.new.n c.reply_in.result c.reply_in.ensures
     c.in-Ok-reply_in.is c.write.ensures c.write_zeros.ensures in
     record { answered = t.0; left = t.1.0; written = t.1.1.0; cleared = t.1.1.1 }

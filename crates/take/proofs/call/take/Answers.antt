@@ -1,7 +1,8 @@
-use mathlib.Core.Path.{ap}
+use mathlib.Core.Path.{refl, ap, sym, ◌∙◌}
+use Rattle.std.specs.Prelude.{Ok, Err}
 use mathlib.Core.Bool.{not}
 use native.Mathlib.Omega.{arith}
-use Rattle.standing.specs.laws.Standing.{restored-own, restored-length}
+use Rattle.standing.specs.laws.Standing.{found-standing, refused-standing, restored-own, restored-length}
 use Rattle.take.specs.laws.Take.{take-size, size-parts, take-unrestored, take-refused, take-accepted}
 use Rattle.take.proofs.call.take.Goals as goal
 
@@ -13,15 +14,15 @@ returns-then-not-fits c =
 pub returns-in-Err : goal.returns-in-Err
 returns-in-Err c =
     let t = take-unrestored c.args.tables.now c.args.negotiation.now c.args.message.now c.args.scratch.now c.fits.ensures
-    (ap not c.if-not-fits.false) c.restore.result c.restore.ensures.found c.in-Err.is in
+    (ap not c.if-not-fits.false) (Err _) (sym (refused-standing _ _) ∙ c.in-Err.ensures.found) refl in
     record { answered = t.0; left = t.1.0; cleared = t.1.1 }
 
 pub take_in-requires : goal.take_in-requires
 take_in-requires c = (
-  c.in-Ok.ensures.kept.housed,
-  restored-own _ _ _ c.in-Ok.ensures.found,
-  c.in-Ok.ensures.kept.within-sizes,
-  c.in-Ok.ensures.kept.is-sound,
+  c.in_default.ensures.kept.housed,
+  restored-own _ _ c.find.new.self (sym (found-standing _ _) ∙ c.in_default.ensures.found),
+  c.in_default.ensures.kept.within-sizes,
+  c.in_default.ensures.kept.is-sound,
 )
 
 pub write_zeros-requires : goal.write_zeros-requires
@@ -37,16 +38,19 @@ write_zeros-requires c = (
 pub returns-in-Err-take_in : goal.returns-in-Err-take_in
 returns-in-Err-take_in c =
     let t = take-refused c.args.tables.now c.args.negotiation.now c.args.message.now c.args.scratch.now c.fits.ensures
-    (ap not c.if-not-fits.false) c.restore.result c.restore.ensures.found c.in-Ok.is c.take_in.result c.take_in.new.n c.take_in.ensures.taken
+    (ap not c.if-not-fits.false) (Ok c.find.new.self) (sym (found-standing _ _) ∙ c.in_default.ensures.found) refl c.take_in.result c.take_in.new.n c.take_in.ensures.taken
     c.in-Err-take_in.is in
     record { answered = t.0; left = t.1.0; cleared = t.1.1 }
 
 pub write-requires : goal.write-requires
-write-requires c = (c.in_default.ensures.sized.sizes, restored-length _ _ _ c.in-Ok.ensures.found)
+write-requires c = (
+  c.in_default-take_in.ensures.sized.sizes,
+  restored-length _ _ c.find.new.self (sym (found-standing _ _) ∙ c.in_default.ensures.found),
+)
 
 pub returns : goal.returns
 returns c =
     let t = take-accepted c.args.tables.now c.args.negotiation.now c.args.message.now c.args.scratch.now c.fits.ensures
-    (ap not c.if-not-fits.false) c.restore.result c.restore.ensures.found c.in-Ok.is c.take_in.result c.take_in.new.n c.take_in.ensures.taken
-    c.in_default.is c.write.ensures c.write_zeros.ensures in
+    (ap not c.if-not-fits.false) (Ok c.find.new.self) (sym (found-standing _ _) ∙ c.in_default.ensures.found) refl c.take_in.result c.take_in.new.n c.take_in.ensures.taken
+    c.in_default-take_in.is c.write.ensures c.write_zeros.ensures in
     record { answered = t.0; left = t.1.0; cleared = t.1.1 }
