@@ -35,7 +35,8 @@ returns-in-Err-reply_in c =
     record { answered = t.0; left = t.1.0; written = t.1.1.0; cleared = t.1.1.1 }
 
 pub write-requires : goal.write-requires
-write-requires c = (c.reply_in.ensures.sizes _ c.in-Ok-reply_in.is, restored-length _ _ c.find.new.self (sym (found-standing _ _) ∙ c.in_default.ensures.found))
+write-requires c =
+    (c.reply_in.ensures.sizes _ c.in-Ok.is, restored-length _ _ c.find.new.self (sym (found-standing _ _) ∙ c.in_default.ensures.found))
 
 pub write_zeros-requires : goal.write_zeros-requires
 write_zeros-requires c =
@@ -43,11 +44,11 @@ write_zeros-requires c =
     (omega arith, omega (arith, sizes.1))
 
 pub overflow_mul-result : goal.overflow_mul-result
-overflow_mul-result c = omega (arith, c.reply_in.ensures.few _ c.in-Ok-reply_in.is)
+overflow_mul-result c = omega (arith, c.reply_in.ensures.few _ c.in-Ok.is)
 
 pub returns : goal.returns
 returns c =
     let t = reply-given c.args.tables.now c.args.negotiation.now c.args.reply.now c.args.scratch.now c.fits.ensures
     (ap not c.if-not-fits.false) (Ok c.find.new.self) (sym (found-standing _ _) ∙ c.in_default.ensures.found) refl c.reply_in.new.n c.reply_in.result c.reply_in.ensures
-    c.in-Ok-reply_in.is c.write.ensures c.write_zeros.ensures in
+    c.in-Ok.is c.write.ensures c.write_zeros.ensures in
     record { answered = t.0; left = t.1.0; written = t.1.1.0; cleared = t.1.1.1 }
