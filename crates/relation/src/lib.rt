@@ -135,21 +135,14 @@ pub fn ask(
     in_column(pool, mem, &vals, f, e)
 }
 
-// Whether f is from e over the credentials of the pool, by its rules: lent, so that no copy of them is made.
-fn from_rules(pool: &Pool, rules: &Rules, f: Expression, e: Expression) -> bool
-    requires { (pool.now.count ≤ 128) × Ruled pool.now rules.now }
-    ensures { result ≡ from_of (credentials_of pool.now) f e }
-{
-    let deps = dependents(rules);
-    let on = [1u8; 128];
-    let mem = relation(pool, rules, &deps, &on);
-    ask(pool, rules, &deps, &on, &mem, f, e)
-}
-
 // Whether f is from e over the credentials of the pool.
 pub fn from(pool: &Pool, f: Expression, e: Expression) -> bool
     requires { pool.now.count ≤ 128 }
     ensures { result ≡ from_of (credentials_of pool.now) f e }
 {
-    from_rules(pool, &rules_of(pool), f, e)
+    let rules = rules_of(pool);
+    let deps = dependents(&rules);
+    let on = [1u8; 128];
+    let mem = relation(pool, &rules, &deps, &on);
+    ask(pool, &rules, &deps, &on, &mem, f, e)
 }

@@ -3,7 +3,11 @@
 
 ghost use Rattle.tables.specs.Tables.{unread};
 ghost use Rattle.tables.specs.laws.Tables.{tables_of};
-ghost use Rattle.std.specs.Prelude.{◌≡◌, IfOk, OnOk};
+ghost use Rattle.tables.specs.laws.Decoding.{Housed};
+ghost use Rattle.negotiation.specs.State.{within};
+ghost use Rattle.negotiation.specs.laws.State.{state_of};
+ghost use Rattle.damage.specs.Damage.{sound as is_sound};
+ghost use Rattle.std.specs.Prelude.{◌≡◌, true, IfOk, OnOk};
 ghost use Rattle.standing.specs.laws.Standing.{standing_of, found_of, Usable};
 ghost use Rattle.standing.specs.Standing.{restore_of};
 
@@ -21,6 +25,15 @@ mod turn;
 pub struct Restored {
     pub house: House,
     pub negotiation: Negotiation,
+}
+
+// Whether a negotiation is sound, judged apart: what that needs of the stack is given back.
+#[inline(never)]
+fn judged(house: &House, n: &Negotiation) -> bool
+    requires { Housed house.now × (within (state_of n.now) ≡ true) }
+    ensures { result ≡ is_sound (tables_of house.now) (state_of n.now) }
+{
+    sound(house, n)
 }
 
 impl Restored {
@@ -48,7 +61,7 @@ impl Restored {
         if !has_bytes(&self.negotiation, negotiation) {
             return Err(DAMAGED);
         }
-        if !sound(&self.house, &self.negotiation) {
+        if !judged(&self.house, &self.negotiation) {
             return Err(DAMAGED);
         }
         Ok(())

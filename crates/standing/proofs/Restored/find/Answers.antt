@@ -24,23 +24,23 @@ returns-then-not-has_bytes-clause-found c =
     refused-standing _ _ ∙ restore-unread _ _ c.if-negotiation-ne-BYTES.false _ c.in_ok-fill.ensures.0
     (no-reading _ _ _ c.candidate-self.ensures refl c.has_bytes.ensures (not-true _ (ap not c.if-not-has_bytes.true)))
 
-pub sound-requires : goal.sound-requires
-sound-requires c = (c.in_ok-fill.ensures.1, ap within c.candidate-self.ensures ∙ candidate-within c.args.negotiation.now)
+pub judged-requires : goal.judged-requires
+judged-requires c = (c.in_ok-fill.ensures.1, ap within c.candidate-self.ensures ∙ candidate-within c.args.negotiation.now)
 
-pub returns-then-not-sound-clause-found : goal.returns-then-not-sound-clause-found
-returns-then-not-sound-clause-found c =
+pub returns-then-not-judged-clause-found : goal.returns-then-not-judged-clause-found
+returns-then-not-judged-clause-found c =
     refused-standing _ _ ∙ restore-damaged _ _ c.if-negotiation-ne-BYTES.false _ c.in_ok-fill.ensures.0 _
     (reading _ _ _ c.candidate-self.ensures refl c.has_bytes.ensures (not-false _ (ap not c.if-not-has_bytes.false)))
-    c.sound.ensures (ap not c.if-not-sound.true)
+    c.judged.ensures (ap not c.if-not-judged.true)
 
 pub returns-clause-found : goal.returns-clause-found
 returns-clause-found c =
     found-standing _ _ ∙ restore-sound _ _ c.if-negotiation-ne-BYTES.false _ c.in_ok-fill.ensures.0 _
     (reading _ _ _ c.candidate-self.ensures refl c.has_bytes.ensures (not-false _ (ap not c.if-not-has_bytes.false)))
-    c.sound.ensures (ap not c.if-not-sound.false)
+    c.judged.ensures (ap not c.if-not-judged.false)
 
 pub returns-clause-kept : goal.returns-clause-kept
 returns-clause-kept c =
     restore-usable _ _ c.if-negotiation-ne-BYTES.false _ c.in_ok-fill.ensures.0 _
     (reading _ _ _ c.candidate-self.ensures refl c.has_bytes.ensures (not-false _ (ap not c.if-not-has_bytes.false)))
-    c.sound.ensures (ap not c.if-not-sound.false) c.in_ok-fill.ensures.1
+    c.judged.ensures (ap not c.if-not-judged.false) c.in_ok-fill.ensures.1
