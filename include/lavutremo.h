@@ -40,8 +40,8 @@
  * class 3. An 0x15 record needs the credential role <- self in 0x13, and the role in 0x14.
  *
  * The calls allocate no memory. The stack that they need, in bytes, measured on x86-64 by painting it (make stack):
- *   check 8,000, begin 8,000, question 57,000, report 131,000, take 131,000, reply 135,000.
- * A thread that calls them needs a stack of 256 KiB or more: 128 KiB are too small for reply.
+ *   check 8,000, begin 8,000, question 57,000, report 86,000, take 122,000, reply 129,000.
+ * A thread that calls them needs a stack of 256 KiB or more: of 128 KiB a take and a reply leave next to nothing.
  */
 #ifndef LAVUTREMO_H
 #define LAVUTREMO_H

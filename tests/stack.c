@@ -22,7 +22,7 @@
 enum call { CHECK, BEGIN, TAKE, REPLY, REPORT, QUESTION, CALLS };
 
 static const char *const call_words[CALLS] = {"check", "begin", "take", "reply", "report", "question"};
-static const size_t said[CALLS] = {8000, 8000, 131000, 135000, 131000, 57000}; /* by include/lavutremo.h */
+static const size_t said[CALLS] = {8000, 8000, 122000, 129000, 86000, 57000}; /* by include/lavutremo.h */
 static size_t most[CALLS];
 
 /* What a call runs on. */
